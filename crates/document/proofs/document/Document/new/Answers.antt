@@ -1,0 +1,6 @@
+use Rattle.document.proofs.KeptFacts.{kept_first}
+use Rattle.document.proofs.document.Document.new.Goals as goal
+
+pub invariant_of-result : goal.invariant_of-result
+invariant_of-result c =
+    rw (c.new-2.ensures.items, c.new-3.ensures.items, c.in_ok-applied.ensures {u = tt}) (kept_first _ _ c.len.ensures.distinct c.len.ensures.length)

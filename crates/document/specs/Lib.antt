@@ -1,0 +1,3 @@
+-- What a document holds, and what it answers.
+pub mod Rank
+pub mod Documents

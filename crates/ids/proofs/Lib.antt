@@ -1,0 +1,3 @@
+-- members and their order
+pub mod InOrder
+pub mod Tables

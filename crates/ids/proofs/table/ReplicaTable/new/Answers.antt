@@ -1,0 +1,11 @@
+use Rattle.std.proofs.Common.{◌≡◌, ◌≤◌, length, rules, arith, sym, ◌∙◌}
+use Rattle.ids.specs.Members.{in_order}
+use Rattle.ids.proofs.InOrder.{put_all-done}
+use Rattle.ids.proofs.Tables.{members_make_a_table}
+use Rattle.ids.proofs.table.ReplicaTable.new.Goals as goal
+
+pub invariant_of-result : goal.invariant_of-result
+invariant_of-result c =
+    let done : length c.args.members.now ≤ c.loop-member.member-index = omega arith in
+    let same : c.loop-member.numbers.items ≡ in_order c.args.members.now = sym (put_all-done _ _ _ done) ∙ c.loop-member.invariant in
+    rw same (members_make_a_table c.args.members.now (search rules))

@@ -1,0 +1,5 @@
+-- What contracts say of names and limits.
+pub mod Refusals
+pub mod Members
+pub mod Configurations
+pub mod Tables

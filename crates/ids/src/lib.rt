@@ -1,0 +1,13 @@
+//! Names that everything else speaks in: the ids of operations, the table of replicas, why a call is refused, and the configuration of an engine.
+#![tactic(auto)]
+
+mod config;
+mod id;
+mod members;
+mod refusal;
+mod table;
+
+pub use config::Config;
+pub use id::{OpId, ReplicaId};
+pub use refusal::Refusal;
+pub use table::ReplicaTable;

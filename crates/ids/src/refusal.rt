@@ -1,0 +1,99 @@
+//! Why a call is refused.
+
+ghost use Rattle.std.specs.Prelude.{◌≡◌};
+
+use std::alloc::{AllocError, AllocFailed};
+use std::fmt;
+
+/// Why a call is refused. Every refusal leaves its object as it was, but where a call says otherwise.
+#[derive(Clone, Copy, Debug, PartialEq, Eq)]
+pub enum Refusal {
+    /// A growth was refused.
+    NoMemory = 1,
+    /// A step, a question, an assign or a delete at the head of a list.
+    AtHead = 2,
+    /// An index past the last visible item.
+    PastEnd = 3,
+    /// An insert at neither an item nor a head.
+    NotInList = 4,
+    /// A path of more than 32 keys.
+    TooDeep = 5,
+    /// A map key of more than 256 bytes.
+    KeyTooLong = 6,
+    /// A text of more than 4,096 bytes.
+    TextTooLong = 7,
+    /// The history has all the operations that it may hold.
+    HistoryFull = 8,
+    /// The queue was full.
+    QueueFull = 9,
+    /// The client has used all its serials.
+    SerialEnd = 10,
+    /// A ticket that this client was not given.
+    Foreign = 11,
+    /// The history is shorter than what the client had seen.
+    BadFloor = 12,
+    /// A replica that is no member.
+    UnknownReplica = 13,
+    /// The counter isn't 1 plus the greatest of the vector.
+    BadCounter = 14,
+    /// The own counter of the vector isn't the greatest that was applied.
+    BrokenChain = 15,
+    /// A counter in the vector is that of no applied operation.
+    NamesNothing = 16,
+    /// An operation that the vector names has a vector that isn't at most this.
+    NotClosed = 17,
+    /// An element of the place isn't covered by the vector, or was inserted into no such list.
+    BadPlace = 18,
+    /// No place is left for an operation that waits.
+    InboxFull = 19,
+    /// An operation of the own replica that isn't applied here.
+    OwnName = 20,
+    /// A number that isn't whole, where a value is expected.
+    NotWhole = 21,
+    /// A line or a value that has no form.
+    BadLine = 22,
+    /// The published copies gave no place for a reader.
+    NoReaderPlace = 23,
+    /// A configuration outside the limits.
+    BadConfig = 24,
+    /// The published copies gave no reading.
+    NoReading = 25,
+}
+
+impl Refusal {
+    ghost use Rattle.ids.specs.Refusals.{number_of};
+
+    /// The number that a refusal is printed by, as in `E22`.
+    pub fn number(self) -> u8
+        ensures { result ≡ number_of self }
+    {
+        self as u8
+    }
+}
+
+impl fmt::Display for Refusal {
+    fn fmt<W: fmt::Write>(&self, f: &mut fmt::Formatter<W>) -> fmt::Result {
+        let number = self.number();
+        write!(f, "E{number}")
+    }
+}
+
+impl From<AllocError> for Refusal {
+    ghost use Rattle.ids.specs.declared.refusal.Refusal.TheVariants.{NoMemory};
+
+    ghost from_gives = { λ _ e. e ≡ NoMemory };
+
+    fn from(_e: AllocError) -> Refusal {
+        Refusal::NoMemory
+    }
+}
+
+impl<T: Drop> From<AllocFailed<T>> for Refusal {
+    ghost use Rattle.ids.specs.declared.refusal.Refusal.TheVariants.{NoMemory};
+
+    ghost from_gives = { λ _ e. e ≡ NoMemory };
+
+    fn from(_e: AllocFailed<T>) -> Refusal {
+        Refusal::NoMemory
+    }
+}

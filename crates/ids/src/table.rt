@@ -1,0 +1,94 @@
+//! The table of an engine's replicas.
+
+ghost use Rattle.std.specs.Prelude.{◌≡◌, ◌≤◌, ◌↔◌, ◌⊎◌, nat_lt, length, slice_get, Some, Err, IsTrue, IsFalse, IfOk, OnOk, IfErr, IfSome, IsNone};
+ghost use Rattle.std.specs.List.{position};
+ghost use Rattle.ids.specs.Members.{AreDistinct, is_member, in_order, put_number};
+ghost use Rattle.ids.specs.Configurations.{are_members};
+
+use crate::members::are_members;
+use crate::{Refusal, ReplicaId};
+use std::alloc::{AllocError, AllocFailed, Global};
+use std::marker::Model;
+
+/// The replicas of an engine: from 1 to 64 different numbers, rising. Contracts see the list of the numbers.
+#[derive(Debug, Drop)]
+pub struct ReplicaTable {
+    numbers: Vec<u32>,
+}
+
+impl Model for ReplicaTable {
+    ghost use Rattle.std.specs.Prelude.{ℕ, List};
+
+    ghost Value = { List ℕ };
+
+    ghost use Rattle.ids.specs.Tables.{IsTable};
+
+    ghost view = { λ t. t.numbers.items };
+
+    ghost invariant = { λ t. IsTable t.numbers.items };
+}
+
+impl ReplicaTable {
+    ghost use Rattle.ids.specs.declared.refusal.Refusal.TheVariants.{NoMemory, BadConfig};
+
+    /// The table of these members, in order. Each member is compared with all others.
+    ///
+    /// # Errors
+    /// `BadConfig` where they aren't from 1 to 64 different numbers above 0, and otherwise `NoMemory` where a growth was refused.
+    pub fn new(alloc: Global, members: &[u32]) -> Result<ReplicaTable, Refusal>
+        ensures table { IfOk result (λ table. table ≡ in_order members.now) }
+        ensures members { OnOk result (IsTrue (are_members members.now)) }
+        ensures bad_config { (result ≡ Err BadConfig) ↔ IsFalse (are_members members.now) }
+        ensures other { IfErr result (λ why. (why ≡ BadConfig) ⊎ (why ≡ NoMemory)) }
+    {
+        if !are_members(members) {
+            return Err(Refusal::BadConfig);
+        }
+        let mut numbers = Vec::with_capacity(alloc, members.len())?;
+        for &member in members {
+            put_number(&mut numbers, member)?;
+        }
+        Ok(ReplicaTable { numbers })
+    }
+
+    /// Where a replica stands in the table. Takes a number of comparisons that grows with the logarithm of the table's length.
+    pub fn index_of(&self, replica: ReplicaId) -> Option<usize>
+        ensures found { IfSome result (λ index. slice_get self.now index ≡ Some replica) }
+        ensures none { IsNone result ↔ IsFalse (is_member self.now replica) }
+    {
+        self.numbers.binary_search(&replica.number()).ok()
+    }
+
+    /// The replica at a place of the table.
+    pub fn at(&self, index: usize) -> Option<ReplicaId>
+        ensures { result ≡ slice_get self.now index }
+    {
+        let number = *self.numbers.get(index)?;
+        ReplicaId::new(number)
+    }
+
+    /// How many replicas there are.
+    pub fn len(&self) -> usize
+        ensures length { result ≡ length self.now }
+        ensures any { 1 ≤ result }
+        ensures few { result ≤ 64 }
+        ensures distinct { AreDistinct self.now }
+    {
+        self.numbers.len()
+    }
+}
+
+/// Puts a number before the first that is greater. Compares it with those before that one, and moves those after it.
+fn put_number(numbers: &mut Vec<u32>, number: u32) -> Result<(), AllocFailed<u32>>
+    ensures { OnOk result (numbers.new.items ≡ put_number number numbers.old.items) }
+{
+    let place = first_greater(numbers, number).unwrap_or(numbers.len());
+    numbers.insert(place, number)
+}
+
+/// Where the first greater number stands.
+fn first_greater(numbers: &[u32], number: u32) -> Option<usize>
+    ensures { result ≡ position (λ other. nat_lt number other) numbers.now }
+{
+    numbers.iter().position(|&other| number < other)
+}

@@ -1,0 +1,2 @@
+-- What the types of this crate mean.
+pub mod Meanings

@@ -1,0 +1,35 @@
+//! Commands, and the entries of a history that are made of them.
+
+ghost use Rattle.std.specs.Prelude.{◌≡◌};
+
+use crate::cursor::Expr;
+use crate::op::Op;
+use crate::value::Val;
+use std::alloc::AllocError;
+
+/// What a client wants done; for now a value assigned.
+#[derive(Debug, Drop)]
+pub enum Command {
+    Assign(Expr, Val),
+}
+
+impl Clone for Command {
+    ghost is_clone = { λ s t. t ≡ s };
+
+    fn clone(&self) -> Result<Command, AllocError> {
+        match self {
+            Command::Assign(expression, value) => Ok(Command::Assign(expression.clone()?, *value)),
+        }
+    }
+}
+
+/// An operation of a history, with where it came from; for now each is made of a command of an own client.
+#[derive(Debug, Drop)]
+pub enum Entry {
+    Own {
+        client: u32,
+        serial: u32,
+        command: Command,
+        op: Op,
+    },
+}

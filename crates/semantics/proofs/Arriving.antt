@@ -1,0 +1,100 @@
+-- An operation whose dependencies are there is applied by its delivery.
+use Rattle.std.proofs.Common.{◌≡◌, ◌⊎◌, inl, inr, ℕ, ◌≤◌, true, false, ◌||◌, ◌==◌, nat_lt, List, [], ◌∷◌, None, refl, sym, ap, ◌∙◌, subst, true≢false, arith, length}
+use Rattle.std.proofs.lemmas.Bool.{and_parts, or_cases, or_from, ltb-false, le-ltb, false_from_ne_true, eqb-true}
+use Rattle.semantics.specs.Ids.{OpId, is_same_id}
+use Rattle.semantics.specs.Operations.{Operation}
+use Rattle.semantics.specs.LegalHistory.{IsLegal, has_id, IsAmong}
+use Rattle.semantics.specs.Vectors.{covers}
+use Rattle.semantics.specs.Stamped.{Stamped, operation_after, operations_of, MayFollow, IsLegalStamped, Means}
+use Rattle.semantics.specs.Faults.{is_ready, fault_of, is_of_members, alone_fault}
+use Rattle.semantics.specs.Making.{is_full}
+use Rattle.semantics.specs.Entries.{Entry, stamped_of}
+use Rattle.semantics.specs.Replica.{Replica, operations, IsRunning}
+use Rattle.semantics.specs.Delivery.{Kept, is_waiting, put_waiting, answer_after, answer_to, kept_by}
+use Rattle.semantics.specs.Drain.{drain, receive, IsDrained}
+use Rattle.semantics.specs.OneWorld.{AreWithin, IsOfWorld, IsReplicaOf}
+use Rattle.semantics.proofs.Orders.{ids_from_test}
+use Rattle.semantics.proofs.LegalFacts.{same_operation}
+use Rattle.semantics.proofs.NamedOperations.{means_first, meaning_of, ready_where_follows}
+use Rattle.semantics.proofs.VectorCounters.{ready-from}
+use Rattle.semantics.proofs.FollowsFaultless.{no_fault_where_follows}
+use Rattle.semantics.proofs.ReadyThere.{may_follow_in, ready_where_there}
+use Rattle.semantics.proofs.EntryHistories.{entries_legal}
+use Rattle.semantics.proofs.Drained.{drained}
+use Rattle.semantics.proofs.Delivered.{delivered}
+use Rattle.semantics.proofs.Waiting.{in_put}
+use Rattle.semantics.proofs.LawfulAlone.{no_fault_alone, length_operations, length_stamped}
+use Rattle.semantics.proofs.OneDelivery.{kept_by_tests}
+use Rattle.semantics.proofs.GrowingWorld.{legal_entries}
+use Rattle.semantics.proofs.NoneDropped.{keeps_for}
+use Rattle.semantics.proofs.ReachedWorlds.{has_more}
+use Rattle.semantics.proofs.Room.{in_put_itself}
+use Rattle.semantics.proofs.Staying.{stay_for}
+
+waiting_one : (W : List Stamped) (a : OpId) → is_waiting W a ≡ true → (x : Stamped) × IsAmong x W × (x.id ≡ a)
+waiting_one [] a h = absurd (true≢false (sym h))
+waiting_one (y ∷ W) a h = elim (or_cases (is_same_id y.id a) (is_waiting W a) h) [
+  | inl e ↦ (y, inl refl, ids_from_test y.id a e)
+  | inr e ↦ (let r = waiting_one W a e in (r.0, inr r.1, r.2))
+]
+
+module _ (K : List Operation) (lk : IsLegal K) (p : ℕ) (r : Replica) (w : IsReplicaOf K p r) (end : IsDrained r) (le : length r.waiting ≤ 4096)
+    (s : Stamped) (F : List Stamped) (l : IsLegalStamped (s ∷ F)) (wf : AreWithin (operations_of (s ∷ F)) K) (known : is_of_members r.members s ≡ true)
+    (there : (a : OpId) → has_id (operations_of F) a ≡ true → has_id (operations r) a ≡ true) (few : is_full r.entries ≡ false) (new : has_id (operations r) s.id ≡ false) where
+  abbrev o : Operation
+  o = operation_after (operations_of F) s
+
+  before : (a : OpId) → o.deps a ≡ true → has_id (operations r) a ≡ true
+  before a d = there a (and_parts (has_id (operations_of F) a) (covers s.vector a) d).0
+
+  means : Means (operations_of (s ∷ F)) s o
+  means = means_first F s l
+
+  none_under_id : is_waiting r.waiting s.id ≡ false
+  none_under_id = false_from_ne_true (is_waiting r.waiting s.id) (λ e.
+      let x = waiting_one r.waiting s.id e in
+      let of = w.waits x.0 x.1 in
+      let q = meaning_of of.history of.legal x.0 of.there in
+      let same : q.0 ≡ o = same_operation K lk q.0 o (of.within q.0 q.1.among) (wf o means.among) (q.1.id ∙ x.2) in
+      let ready : is_ready (operations r) x.0 ≡ true =
+      ready_where_there K lk (operations r) (operations_of of.history) (legal_entries r w.running) w.within of.within x.0 q.0 q.1
+      (λ a d. before a (ap (λ (y : Operation). y.deps a) (sym same) ∙ d)) in
+      elim end [ inl f ↦ absurd (true≢false (sym f ∙ few)) | inr f ↦ absurd (true≢false (sym ready ∙ f x.0 x.1)) ])
+
+  may : MayFollow (operations r) s
+  may = may_follow_in K lk (operations r) (operations_of (s ∷ F)) (legal_entries r w.running) w.within wf s o means new before
+
+  is_kept : answer_to r s ≡ Kept
+  is_kept =
+      let ld : IsLegal (operations r) = legal_entries r w.running in
+      let n : length (operations r) ≡ length r.entries = length_operations (stamped_of r.entries) ∙ length_stamped r.entries in
+      let room : length r.entries ≤ 1048575 = ltb-false 1048575 (length r.entries) few in
+      let alone : alone_fault r.members s ≡ None = no_fault_alone r.members (operations r) s ld (omega (arith, n, room)) may known in
+      let other : (s.id.replica == r.own) ≡ false =
+      false_from_ne_true (s.id.replica == r.own) (λ t. true≢false (sym (w.made o (wf o means.among) (eqb-true s.id.replica r.own t ∙ w.own)) ∙ new)) in
+      ap (answer_after r s) alone
+      ∙ kept_by_tests (has_id (operations r) s.id || is_waiting r.waiting s.id) (s.id.replica == r.own) (is_full r.entries) (is_ready (operations r) s) (nat_lt 4096 (length r.waiting)) (fault_of (stamped_of r.entries) s) _
+      (or_from (has_id (operations r) s.id) (is_waiting r.waiting s.id) new none_under_id) other few
+      (ready-from (operations r) s (ready_where_follows may)) (le-ltb 4096 (length r.waiting) (omega (arith, le)))
+      (no_fault_where_follows (stamped_of r.entries) s (entries_legal r.own r.entries w.running.history) may)
+
+  pub comes_in : (is_full (receive r s).entries ≡ true) ⊎ (has_id (operations (receive r s)) s.id ≡ true)
+  comes_in =
+      let q : Replica = record r { waiting = put_waiting s r.waiting } in
+      let same : receive r s ≡ drain q = ap (λ a. drain (kept_by r s a)) is_kept in
+      let run : IsRunning q = subst IsRunning (ap (kept_by r s) is_kept) (delivered r s w.running) in
+      let of : (x : Stamped) → IsAmong x q.waiting → IsOfWorld K x = λ x m. elim (in_put s r.waiting x m)
+      [ inl e ↦ subst (IsOfWorld K) (sym e) (record { history = s ∷ F; legal = l; within = wf; there = inl refl }) | inr n ↦ w.waits x n ] in
+      let stay = stay_for K lk (length q.waiting) q run w.within of s (inl (in_put_itself s r.waiting)) in
+      let done = drained q run in
+      let keeps = keeps_for K lk (length q.waiting) q run w.within of in
+      let more : (a : OpId) → has_id (operations r) a ≡ true → has_id (operations (drain q)) a ≡ true = λ a t.
+      subst (λ (G : List Entry). has_id (operations_of (stamped_of G)) a ≡ true) (sym done.1.entries) (has_more done.1.appended r.entries a t) in
+      subst (λ (d : Replica). (is_full d.entries ≡ true) ⊎ (has_id (operations d) s.id ≡ true)) (sym same)
+      (elim stay [
+        | inr t ↦ inr t
+        | inl m ↦ elim done.2 [
+          | inl f ↦ inl f
+          | inr f ↦ absurd (true≢false (sym (ready_where_there K lk (operations (drain q)) (operations_of (s ∷ F)) (legal_entries (drain q) done.0) keeps.within wf s o means (λ a d. more a (before a d))) ∙ f s m))
+        ]
+      ])

@@ -1,0 +1,70 @@
+-- ids, names and paths
+pub mod Orders
+pub mod ElementPaths
+-- the document is the view
+pub mod CollectedEntries
+pub mod AbsentIds
+pub mod LegalFacts
+pub mod LiveEntries
+pub mod Reaching
+pub mod SkipOrder
+pub mod TreePreorder
+pub mod ListOrder
+pub mod SameCollections
+pub mod SameView
+pub mod DocumentIsView
+-- the tree of inserts
+pub mod Grafting
+pub mod TreeLaw
+pub mod Grounded
+-- vectors
+pub mod VectorCounters
+pub mod NamedOperations
+pub mod LooseApply
+pub mod SameStamped
+pub mod RaisedVectors
+pub mod TableVectors
+pub mod CanonicalVectors
+pub mod AppliedVectors
+pub mod ColumnComparison
+-- the checks decide
+pub mod ItemTests
+pub mod NamedCounters
+pub mod FaultlessFollows
+pub mod FollowsFaultless
+pub mod AloneTests
+pub mod LawfulAlone
+-- what is made, and entry histories
+pub mod ListedItems
+pub mod MadeLawful
+pub mod EntryHistories
+pub mod Replies
+pub mod OwnReplies
+-- deliveries and drains
+pub mod Waiting
+pub mod Taken
+pub mod Drained
+pub mod EarlyEnd
+pub mod Delivered
+pub mod Room
+-- one world
+pub mod OneOperation
+pub mod SameWorld
+pub mod ReadyThere
+pub mod GrowingWorld
+pub mod NoneDropped
+pub mod Settled
+pub mod ReachedWorlds
+pub mod RunsAgree
+-- exchanges
+pub mod OneDelivery
+pub mod UnionExchange
+pub mod Staying
+pub mod Growing
+pub mod Arriving
+pub mod CompleteExchange
+-- examples
+pub mod LegalExample
+pub mod ExchangeWitness
+pub mod DocumentExamples
+pub mod DeliveryExamples

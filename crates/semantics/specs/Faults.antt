@@ -1,0 +1,110 @@
+-- What a received operation is tested for: first alone, then against the history.
+use Rattle.std.specs.Prelude.{◌≡◌, ℕ, suc, Bool, true, false, not, ◌&&◌, ◌==◌, nat_le, nat_lt, IsTrue, List, Option, Some, None, is_some}
+use Rattle.std.specs.List.{list_all, list_any}
+use Rattle.semantics.specs.Ids.{OpId, id_at, is_same_id}
+use Rattle.semantics.specs.Elements.{Element, Doc, Field, Item, Place, At, HeadOf}
+use Rattle.semantics.specs.Operations.{Operation, Mutation, Assign, Insert, Delete, element_of, inserted_after}
+use Rattle.ids.specs.declared.refusal.Refusal.{Refusal}
+use Rattle.ids.specs.declared.refusal.Refusal.TheVariants.{NotInList, UnknownReplica, BadCounter, BrokenChain, NamesNothing, NotClosed, BadPlace}
+use Rattle.semantics.specs.LegalHistory.{IsFormed, has_id}
+use Rattle.semantics.specs.NamedIds.{greatest_counter}
+use Rattle.semantics.specs.Vectors.{Vector, at, greatest, covers, is_at_most}
+use Rattle.ids.specs.Members.{is_member}
+use Rattle.semantics.specs.Stamped.{Stamped, operations_of}
+
+-- each id on the way down to e is covered
+abbrev pub items_covered : Vector → Element → Bool
+items_covered v Doc = true
+items_covered v (Field e n) = items_covered v e
+items_covered v (Item l a) = covers v a && items_covered v l
+
+-- what can be seen of a lawful operation without any history
+pub record StandsAlone (s : Stamped) : Type 0 where
+  pub counter : s.id.counter ≡ suc (greatest s.vector)
+  pub form : IsFormed s.mutation s.place
+  pub covered : IsTrue (items_covered s.vector (element_of s.place))
+
+-- each id on the way down to e is a member's
+abbrev pub items_of_members : List ℕ → Element → Bool
+items_of_members ps Doc = true
+items_of_members ps (Field e n) = items_of_members ps e
+items_of_members ps (Item l a) = is_member ps a.replica && items_of_members ps l
+
+-- s names only members, in its id, its vector and its place
+abbrev pub is_of_members : List ℕ → Stamped → Bool
+is_of_members ps s = is_member ps s.id.replica && list_all (λ a. is_member ps a.replica) s.vector && items_of_members ps (element_of s.place)
+
+-- the counter is 1 plus the greatest of the vector, and isn't past the last one
+abbrev pub has_counter : Stamped → Bool
+has_counter s = (s.id.counter == suc (greatest s.vector)) && nat_lt (greatest s.vector) 4611686018427387904
+
+-- an insert stands at a head or an item
+abbrev pub is_in_list : Mutation → Place → Bool
+is_in_list (Insert v) (At (Item l a)) = true
+is_in_list (Insert v) (At Doc) = false
+is_in_list (Insert v) (At (Field e n)) = false
+is_in_list (Insert v) (HeadOf l) = true
+is_in_list (Assign v) p = true
+is_in_list Delete p = true
+
+-- an assign or delete stands at no head
+abbrev pub is_at_element : Mutation → Place → Bool
+is_at_element (Insert v) p = true
+is_at_element (Assign v) (At e) = true
+is_at_element (Assign v) (HeadOf l) = false
+is_at_element Delete (At e) = true
+is_at_element Delete (HeadOf l) = false
+
+-- the first of these tests that fails
+abbrev pub first_failed : Bool → Bool → Bool → Bool → Option Refusal
+first_failed false b c d = Some UnknownReplica
+first_failed true false c d = Some BadCounter
+first_failed true true false d = Some NotInList
+first_failed true true true false = Some BadPlace
+first_failed true true true true = None
+
+-- the first fault that can be seen of s alone
+abbrev pub alone_fault : List ℕ → Stamped → Option Refusal
+alone_fault ps s = first_failed (is_of_members ps s) (has_counter s) (is_in_list s.mutation s.place) (is_at_element s.mutation s.place && items_covered s.vector (element_of s.place))
+
+-- all that the vector names is at most what was applied
+abbrev pub is_ready : List Operation → Stamped → Bool
+is_ready H s = list_all (λ a. nat_le a.counter (greatest_counter H a.replica)) s.vector
+
+-- the own counter isn't the greatest that was applied
+abbrev pub breaks_chain : List Operation → Stamped → Bool
+breaks_chain H s = not (at s.vector s.id.replica == greatest_counter H s.id.replica)
+
+-- the counter named of p is that of no applied operation
+abbrev pub is_missing : List Operation → Vector → ℕ → Bool
+is_missing H v p = not (at v p == 0) && not (has_id H (id_at (at v p) p))
+
+-- a counter in the vector is that of no applied operation
+abbrev pub names_nothing : List Operation → Stamped → Bool
+names_nothing H s = list_any (λ a. is_missing H s.vector a.replica) s.vector
+
+-- an operation whose counter is the one named of its replica has a vector that isn't at most this
+abbrev pub is_open : List Stamped → Vector → Bool
+is_open G v = list_any (λ x. (x.id.counter == at v x.id.replica) && not (is_at_most x.vector v)) G
+
+-- a is the id of an operation that inserted into the list at l
+abbrev pub is_item_of : List Operation → Element → OpId → Bool
+is_item_of H l a = list_any (λ x. is_same_id x.id a && is_some (inserted_after x l)) H
+
+-- each item on the way down to e was inserted into that very list
+abbrev pub items_stand : List Operation → Element → Bool
+items_stand H Doc = true
+items_stand H (Field e n) = items_stand H e
+items_stand H (Item l a) = is_item_of H l a && items_stand H l
+
+-- the first of these that holds
+abbrev pub first_fault : Bool → Bool → Bool → Bool → Option Refusal
+first_fault true b c d = Some BrokenChain
+first_fault false true c d = Some NamesNothing
+first_fault false false true d = Some NotClosed
+first_fault false false false true = Some BadPlace
+first_fault false false false false = None
+
+-- the first fault of a ready operation against the history
+abbrev pub fault_of : List Stamped → Stamped → Option Refusal
+fault_of G s = first_fault (breaks_chain (operations_of G) s) (names_nothing (operations_of G) s) (is_open G s.vector) (not (items_stand (operations_of G) (element_of s.place)))

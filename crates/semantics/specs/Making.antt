@@ -1,0 +1,50 @@
+-- The operation that a replica makes of a command.
+use Rattle.std.specs.Prelude.{ℕ, suc, Bool, true, cond, nat_le, List, length, Result, Ok, Err}
+use Rattle.semantics.specs.Ids.{id_at}
+use Rattle.semantics.specs.Elements.{Doc, Field, Item, Place, At, HeadOf}
+use Rattle.semantics.specs.Operations.{Operation, Mutation, Assign, Insert, Delete}
+use Rattle.ids.specs.declared.refusal.Refusal.{Refusal}
+use Rattle.ids.specs.declared.refusal.Refusal.TheVariants.{AtHead, NotInList, HistoryFull}
+use Rattle.semantics.specs.LegalHistory.{has_id, greatest_of}
+use Rattle.semantics.specs.Context.{doc}
+use Rattle.semantics.specs.Questions.{Step, resolve}
+use Rattle.semantics.specs.DocumentAnswer.{visible_items}
+
+-- what is to be done, and an expression for where
+pub record Command : Type 0 where
+  pub expression : List Step
+  pub mutation : Mutation
+
+-- an assign or a delete at a head is refused, and an insert at neither a head nor an item
+abbrev pub place_for : Mutation → Place → Result Place Refusal
+place_for (Insert v) (HeadOf l) = Ok (HeadOf l)
+place_for (Insert v) (At (Item l a)) = Ok (At (Item l a))
+place_for (Insert v) (At Doc) = Err NotInList
+place_for (Insert v) (At (Field e n)) = Err NotInList
+place_for (Assign v) (At e) = Ok (At e)
+place_for (Assign v) (HeadOf l) = Err AtHead
+place_for Delete (At e) = Ok (At e)
+place_for Delete (HeadOf l) = Err AtHead
+
+-- the place, unless the expression or the mutation there is refused
+abbrev pub then_place : Mutation → Result Place Refusal → Result Place Refusal
+then_place m (Err r) = Err r
+then_place m (Ok p) = place_for m p
+
+-- p's operation at a place: its counter is the next, and it depends on all that was applied
+abbrev pub operation_at : List Operation → ℕ → Mutation → Result Place Refusal → Result Operation Refusal
+operation_at H p m (Err r) = Err r
+operation_at H p m (Ok place) = Ok (record {
+  id = id_at (suc (greatest_of (λ a. true) H)) p;
+  deps = has_id H;
+  place = place;
+  mutation = m;
+})
+
+-- a history holds 1,048,576 operations at most
+abbrev pub is_full : {X : Type 0} → List X → Bool
+is_full H = nat_le 1048576 (length H)
+
+-- what p makes of the command after H; a full history is refused first
+abbrev pub make : List Operation → ℕ → Command → Result Operation Refusal
+make H p c = cond (is_full H) (Err HistoryFull) (operation_at H p c.mutation (then_place c.mutation (resolve (visible_items (doc H)) c.expression)))

@@ -1,0 +1,37 @@
+//! What the answers of a replica are worth.
+
+ghost use Rattle.std.specs.Prelude.{◌≡◌, ◌≤◌, ℕ, List, ◌∷◌, length, Some, Err};
+ghost use Rattle.semantics.specs.Stamped.{Stamped};
+ghost use Rattle.ids.specs.declared.refusal.Refusal.{Refusal};
+ghost use Rattle.semantics.specs.Making.{Command, make};
+ghost use Rattle.semantics.specs.Entries.{Entry, Own, IsEntryHistory, IsAbove, applied, entry_at};
+ghost use Rattle.semantics.specs.LegalAnswer.{Submitted, Reply, Made, NotMade, IsLegalAnswer, IsLegalReading, Asked, Reading};
+ghost use Rattle.semantics.specs.Ids.{OpId};
+
+/// What a replica itself replies is legal: the id of what it appended, or the refusal of its rules.
+pub fn own_replies_are_legal()
+    ensures made { (p : ℕ) (G : List Entry) (x : Submitted) (s : Stamped) →
+        IsLegalAnswer p (Own x.client x.serial x.command s ∷ G) x (Made s.id (length G)) }
+    ensures refused { (p : ℕ) (G : List Entry) (x : Submitted) (why : Refusal) → IsAbove x.client x.serial G →
+        make (applied G) p x.command ≡ Err why → IsLegalAnswer p G x (NotMade why (length G)) }
+{}
+
+/// A legal reply stays legal as the history grows.
+pub fn replies_stay_legal()
+    ensures made { (p : ℕ) (G : List Entry) (e : Entry) (x : Submitted) (a : OpId) (n : ℕ) →
+        IsLegalAnswer p G x (Made a n) → IsLegalAnswer p (e ∷ G) x (Made a n) }
+    ensures refused { (p : ℕ) (G : List Entry) (e : Entry) (x : Submitted) (why : Refusal) (m : ℕ) →
+        IsLegalAnswer p G x (NotMade why m) → IsLegalAnswer p (e ∷ G) x (NotMade why m) }
+{}
+
+/// A legal reading stays legal as the history grows.
+pub fn readings_stay_legal()
+    ensures { (G : List Entry) (e : Entry) (m : ℕ) (q : Asked) (r : Reading) →
+        IsLegalReading G m q r → IsLegalReading (e ∷ G) m q r }
+{}
+
+/// A command stands in an entry history once: a client's serial is that of one entry.
+pub fn serials_stand_once()
+    ensures { (p : ℕ) (G : List Entry) (client serial n m : ℕ) (c d : Command) (s t : Stamped) → IsEntryHistory p G →
+        entry_at n G ≡ Some (Own client serial c s) → entry_at m G ≡ Some (Own client serial d t) → n ≡ m }
+{}

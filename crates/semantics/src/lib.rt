@@ -1,0 +1,13 @@
+//! What the engine means, as definitions over plain values, and the laws about them.
+//! A law is a public function with an empty body, whose contract is the law.
+#![tactic(auto)]
+
+pub mod answers;
+pub mod convergence;
+pub mod exchange;
+pub mod legality;
+pub mod list_order;
+pub mod replica;
+pub mod vectors;
+pub mod one_world;
+

@@ -1,0 +1,58 @@
+//! The steps of a world and what they reply.
+
+use document::{Question, Reading};
+use ids::{OpId, Refusal};
+use operation::Command;
+
+/// A step of one engine. Engines are numbered from 0, as are an engine's clients; its tokens are the clients', then the readers'.
+#[derive(Debug, Drop)]
+pub enum WorldStep {
+    /// A client submits a command.
+    Push {
+        engine: usize,
+        client: usize,
+        command: Command,
+    },
+    /// The writer takes up to a batch of items and handles them, publishes, and then sets their answers.
+    Step { engine: usize },
+    /// A client polls one of its serials.
+    Poll {
+        engine: usize,
+        client: usize,
+        serial: u64,
+    },
+    /// A token asks.
+    Ask {
+        engine: usize,
+        token: usize,
+        question: Question,
+    },
+}
+
+/// The answer to a command.
+#[derive(Clone, Copy, Debug, PartialEq, Eq)]
+pub enum Reply {
+    /// The operation of this id, which stands at this place of the history, counted from 0.
+    Made(OpId, u64),
+    /// Why the command was refused, with the length of the history then.
+    Refused(Refusal, u64),
+}
+
+/// What a step replies.
+#[derive(Debug, Drop)]
+pub enum WorldReply {
+    /// The command was submitted under this serial.
+    Ticket(u64),
+    /// The command wasn't taken, or the serial isn't the client's.
+    Denied(Refusal),
+    /// So many items were answered.
+    Published(u64),
+    /// There was nothing to do.
+    Idle,
+    /// There is no answer yet.
+    Unanswered,
+    /// The answer to a command.
+    Replied(Reply),
+    /// How many entries the token has seen, and what they answer.
+    Read(u64, Reading),
+}
