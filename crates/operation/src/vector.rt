@@ -2,6 +2,7 @@
 
 ghost use Rattle.std.specs.Prelude.{◌≡◌, ◌<◌, max, length, OnOk, IfOk, MatchResult, replicate, slice_index, slice_set};
 ghost use Rattle.ids.specs.declared.refusal.Refusal.TheVariants.{NoMemory};
+ghost use Rattle.semantics.specs.Tables.{greatest_in};
 
 use ids::Refusal;
 use std::alloc::{AllocError, Global};
@@ -39,6 +40,13 @@ impl VersionVector {
         self.counters[index]
     }
 
+    /// The greatest counter, 0 where there is none. Looks at each.
+    pub fn greatest(&self) -> u64
+        ensures { result ≡ greatest_in self.now }
+    {
+        greatest(&self.counters)
+    }
+
     /// The replica's counter becomes this one, unless it is greater.
     pub fn raise(&mut self, index: usize, counter: u64)
         requires { index < length self.old }
@@ -48,6 +56,17 @@ impl VersionVector {
             self.counters[index] = counter;
         }
     }
+}
+
+/// The greatest of these counters, 0 of none.
+fn greatest(counters: &[u64]) -> u64
+    ensures { result ≡ greatest_in counters.now }
+{
+    let mut most = 0;
+    for counter in counters {
+        most = most.max(*counter);
+    }
+    most
 }
 
 impl Clone for VersionVector {

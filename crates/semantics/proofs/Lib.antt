@@ -63,6 +63,25 @@ pub mod Staying
 pub mod Growing
 pub mod Arriving
 pub mod CompleteExchange
+-- runs of a world
+pub mod SetElements
+pub mod ClientCells
+pub mod Beginnings
+pub mod HandledItems
+pub mod GrownEngines
+pub mod MovedTokens
+pub mod SoundEngines
+pub mod ItemsInTurn
+pub mod SoundClients
+pub mod SoundSeeing
+pub mod SoundSubmitting
+pub mod SoundGiving
+pub mod SoundGrowing
+pub mod SoundTaking
+pub mod SoundPublishing
+pub mod SoundSteps
+pub mod SoundWorlds
+pub mod WorldReplies
 -- examples
 pub mod LegalExample
 pub mod ExchangeWitness

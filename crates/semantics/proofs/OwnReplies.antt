@@ -13,7 +13,7 @@ newest_at e G = ap (λ b. cond b (Some e) (entry_at (length G) G)) (eq-eqb (leng
 pub own_made : (p : ℕ) (G : List Entry) (x : Submitted) (s : Stamped) → IsLegalAnswer p (Own x.client x.serial x.command s ∷ G) x (Made s.id (length G))
 own_made p G x s = (s, newest_at (Own x.client x.serial x.command s) G, refl)
 
-all_first : (G : List Entry) → first_entries (length G) G ≡ G
+pub all_first : (G : List Entry) → first_entries (length G) G ≡ G
 all_first [] = refl
 all_first (e ∷ G) = ap (λ b. cond b (e ∷ G) (first_entries (suc (length G)) G)) (le-leb (suc (length G)) (suc (length G)) (omega arith))
 

@@ -17,12 +17,12 @@ entry_below n (f ∷ G) e h = at_test (entry_below n G e) (length G == n) refl h
     at_test rest true t k = let is : length G ≡ n = eqb-true (length G) n t in omega arith
     at_test rest false t k = let below : n < length G = rest k in omega arith
 
-entry_stays : (n : ℕ) (G : List Entry) (f e : Entry) → entry_at n G ≡ Some e → entry_at n (f ∷ G) ≡ Some e
+pub entry_stays : (n : ℕ) (G : List Entry) (f e : Entry) → entry_at n G ≡ Some e → entry_at n (f ∷ G) ≡ Some e
 entry_stays n G f e h =
     let below : n < length G = entry_below n G e h in
     ap (λ b. cond b (Some f) (entry_at n G)) (ne_eqb (length G) n (λ is. absurd (omega arith))) ∙ h
 
-first_stay : (m : ℕ) (G : List Entry) (f : Entry) → m ≤ length G → first_entries m (f ∷ G) ≡ first_entries m G
+pub first_stay : (m : ℕ) (G : List Entry) (f : Entry) → m ≤ length G → first_entries m (f ∷ G) ≡ first_entries m G
 first_stay m G f h = ap (λ b. cond b (f ∷ G) (first_entries m G)) (lt-false (nat_lt (length G) m) refl)
   where
     lt-false : (b : Bool) → nat_lt (length G) m ≡ b → nat_lt (length G) m ≡ false
@@ -43,7 +43,7 @@ reading_stays G e m q r h = (let l : m ≤ length G = h.0 in omega arith, h.1 �
 
 -- ---- serials
 
-before : (p : ℕ) (e : Entry) (G : List Entry) → IsEntryHistory p (e ∷ G) → IsEntryHistory p G
+pub before : (p : ℕ) (e : Entry) (G : List Entry) → IsEntryHistory p (e ∷ G) → IsEntryHistory p G
 before p (Own k n c s) G h = h.0
 before p (Peer s) G h = h.0
 

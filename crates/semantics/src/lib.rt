@@ -7,7 +7,7 @@ pub mod convergence;
 pub mod exchange;
 pub mod legality;
 pub mod list_order;
+pub mod one_world;
 pub mod replica;
 pub mod vectors;
-pub mod one_world;
-
+pub mod world;

@@ -1,0 +1,79 @@
+-- An engine stays sound where a token sees more of what is published: at a poll and at a question.
+use Rattle.std.proofs.Common.{◌≡◌, ℕ, zero, suc, ◌-◌, ◌<◌, ◌≤◌, Bool, true, false, cond, nat_le, List, [], ◌∷◌, length, get_or, Option, Some, None, refl, arith, slice_get, slice_set}
+use Rattle.std.proofs.lemmas.Bool.{leb-false}
+use Rattle.semantics.specs.LegalAnswer.{Asked}
+use Rattle.semantics.specs.Engine.{Engine, Client, Cell, Given, cell_at, poll_cell, poll, see_published, ask}
+use Rattle.semantics.proofs.GrownEngines.{grown_refl}
+use Rattle.semantics.proofs.MovedTokens.{with_client, with_reader, grown_by_client, grown_by_reader}
+use Rattle.semantics.proofs.SoundEngines.{IsSoundCell, IsSoundClient, IsSound, IsLater}
+use Rattle.semantics.proofs.SoundClients.{cell_moved, sound_by_client}
+
+pub later_refl : (E : Engine) → IsSound E → IsLater E E
+later_refl E s = record { sound = s; grown = grown_refl E }
+
+-- a client sees
+client_sees : (E : Engine) (c : ℕ) (k : Client) (m : ℕ) → IsSound E → slice_get E.clients c ≡ Some k → k.seen ≤ m → m ≤ E.published → IsLater E (with_client E E.queue E.due c (record k { seen = m }))
+client_sees E c k m s h l u = record {
+  sound = sound_by_client E E.queue E.due c k (record k { seen = m }) s h seen_more s.turns
+      (λ x w. cell_moved E E.queue E.due c k (record k { seen = m }) h x.client x.serial (record { submitted = x; answer = None }) (s.unanswered x w) (λ e q. q))
+      s.queued s.due;
+  grown = grown_by_client E E.queue E.due c k (record k { seen = m }) h (record { seen = l; cells = λ n cell q. (cell, q, refl, λ g w. w) });
+}
+  where
+    seen_more : IsSoundClient E.replica.own E.replica.entries E.published c (record k { seen = m })
+    seen_more = record { seen = u; above = (s.clients c k h).above; cells = (s.clients c k h).cells }
+
+-- A poll keeps an engine sound.
+pub polled : (E : Engine) (c serial : ℕ) → IsSound E → IsLater E (poll E c serial).engine
+polled E c serial s = at_client (slice_get E.clients c) refl
+  where
+    -- it has then seen what was published with the answer
+    at_seen : (k : Client) → slice_get E.clients c ≡ Some k → (g : Given) → g.published ≤ E.published → (b : Bool) → nat_le g.published k.seen ≡ b
+        → IsLater E (with_client E E.queue E.due c (record k { seen = cond b k.seen g.published }))
+    at_seen k h g l true e = client_sees E c k k.seen s h (omega arith) (s.clients c k h).seen
+    at_seen k h g l false e = client_sees E c k g.published s h (let b : k.seen < g.published = leb-false g.published k.seen e in omega arith) l
+
+    at_answer : (k : Client) → slice_get E.clients c ≡ Some k → (cell : Cell) → IsSoundCell E.replica.own E.replica.entries E.published c serial cell → (o : Option Given) → cell.answer ≡ o
+        → IsLater E (poll_cell E c k (Some cell)).engine
+    at_answer k h cell w None e = rw e (later_refl E s)
+    at_answer k h cell w (Some g) e = rw e (at_seen k h g (w.given g e).0 (nat_le g.published k.seen) refl)
+
+    at_cell : (k : Client) → slice_get E.clients c ≡ Some k → (o : Option Cell) → cell_at k.cells serial ≡ o → IsLater E (poll_cell E c k o).engine
+    at_cell k h None e = later_refl E s
+    at_cell k h (Some cell) e = at_answer k h cell ((s.clients c k h).cells serial cell e) cell.answer refl
+
+    at_client : (o : Option Client) → slice_get E.clients c ≡ o → IsLater E (poll E c serial).engine
+    at_client None e = rw e (later_refl E s)
+    at_client (Some k) e = rw e (at_cell k e (cell_at k.cells serial) refl)
+
+-- a reader sees
+reader_sees : (E : Engine) (i : ℕ) → IsSound E → IsLater E (with_reader E i E.published)
+reader_sees E i s = record {
+  sound = record {
+    history = s.history;
+    published = s.published;
+    readers = λ j. below E.readers i j E.published s.readers;
+    clients = s.clients;
+    turns = s.turns;
+    unanswered = s.unanswered;
+    queued = s.queued;
+    handled = s.handled;
+    due = s.due;
+  };
+  grown = grown_by_reader E i E.published (s.readers i);
+}
+  where
+    below : (seen : List ℕ) (i j m : ℕ) → ((n : ℕ) → get_or seen n 0 ≤ m) → get_or (slice_set seen i m) j 0 ≤ m
+    below [] i j m h = omega arith
+    below (n ∷ seen) zero zero m h = omega arith
+    below (n ∷ seen) zero (suc j) m h = h (suc j)
+    below (n ∷ seen) (suc i) zero m h = h 0
+    below (n ∷ seen) (suc i) (suc j) m h = below seen i j m (λ q. h (suc q))
+
+-- A question keeps an engine sound.
+pub asked : (E : Engine) (t : ℕ) (q : Asked) → IsSound E → IsLater E (ask E t q).engine
+asked E t q s = at_client (slice_get E.clients t) refl
+  where
+    at_client : (o : Option Client) → slice_get E.clients t ≡ o → IsLater E (see_published E t)
+    at_client None e = rw e (reader_sees E (t - length E.clients) s)
+    at_client (Some k) e = rw e (client_sees E t k E.published s e (s.clients t k e).seen (omega arith))

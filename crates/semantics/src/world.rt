@@ -1,0 +1,64 @@
+//! What holds of every run of a world, over every list of steps.
+
+ghost use Rattle.std.specs.Prelude.{◌≡◌, ◌≤◌, ℕ, suc, List, ◌++◌, length, Some, slice_get};
+ghost use Rattle.ids.specs.Configurations.{Configuration};
+ghost use Rattle.semantics.specs.Ids.{OpId};
+ghost use Rattle.semantics.specs.Questions.{Question};
+ghost use Rattle.semantics.specs.View.{view};
+ghost use Rattle.semantics.specs.Stamped.{Stamped};
+ghost use Rattle.semantics.specs.Making.{Command};
+ghost use Rattle.semantics.specs.Entries.{IsEntryHistory, Own, applied, entry_at, first_entries};
+ghost use Rattle.semantics.specs.LegalAnswer.{Submitted, Reply, Made, Asked, OfDocument, Reading, Answered, IsLegalAnswer, reading_of};
+ghost use Rattle.semantics.specs.Engine.{Engine, Client, Ticket, Replied, Read, next_item, push, poll, ask};
+ghost use Rattle.semantics.specs.World.{WorldStep};
+ghost use Rattle.semantics.specs.WorldHistory.{IsEngineAfter, published_entries, BeginsWith, WasSubmitted, seen_by, IsNotBelow, HasGrown};
+
+/// Each history is an entry history of its replica. What is published is a beginning of it, and no token has seen more than that.
+pub fn histories_are_entry_histories()
+    ensures history { (cs : List Configuration) (steps : List WorldStep) (e : ℕ) (E : Engine) → IsEngineAfter cs steps e E →
+        IsEntryHistory E.replica.own E.replica.entries }
+    ensures published { (cs : List Configuration) (steps : List WorldStep) (e : ℕ) (E : Engine) → IsEngineAfter cs steps e E →
+        E.published ≤ length E.replica.entries }
+    ensures seen { (cs : List Configuration) (steps : List WorldStep) (e : ℕ) (E : Engine) → IsEngineAfter cs steps e E →
+        (t : ℕ) → seen_by E t ≤ E.published }
+{}
+
+/// A ticket is for what was submitted: the client's command, with its next serial and with what its token has seen as the floor.
+pub fn tickets_are_for_what_was_submitted()
+    ensures { (E : Engine) (c : ℕ) (command : Command) (serial : ℕ) → (push E c command).reply ≡ Ticket serial →
+        (k : Client) × (slice_get E.clients c ≡ Some k) × (serial ≡ suc (length k.cells))
+        × WasSubmitted (push E c command).engine c serial (next_item c k command) }
+{}
+
+/// Each reply to a poll is a legal answer, in the published history, to what was submitted under that serial, and not below its floor.
+pub fn polls_reply_legally()
+    ensures { (cs : List Configuration) (steps : List WorldStep) (e : ℕ) (E : Engine) → IsEngineAfter cs steps e E →
+        (c serial : ℕ) (r : Reply) → (poll E c serial).reply ≡ Replied r →
+        (x : Submitted) × WasSubmitted E c serial x × (x.client ≡ c) × (x.serial ≡ serial)
+        × IsLegalAnswer E.replica.own (published_entries E) x r × IsNotBelow x.floor r }
+{}
+
+/// A command that was answered Made stands in the history at the place that the answer names, as submitted, and nowhere else.
+pub fn made_commands_stand_once()
+    ensures { (cs : List Configuration) (steps : List WorldStep) (e : ℕ) (E : Engine) → IsEngineAfter cs steps e E →
+        (c serial : ℕ) (x : Submitted) (a : OpId) (n : ℕ) → WasSubmitted E c serial x → (poll E c serial).reply ≡ Replied (Made a n) →
+        (s : Stamped) × (entry_at n (published_entries E) ≡ Some (Own c serial x.command s)) × (s.id ≡ a)
+        × ((m : ℕ) (other : Command) (t : Stamped) → entry_at m E.replica.entries ≡ Some (Own c serial other t) → m ≡ n) }
+{}
+
+/// Each reading is what a published history answers that begins with what its token had seen: the document's answer, and the view of its operations as a set.
+pub fn readings_are_of_what_is_published()
+    ensures reading { (cs : List Configuration) (steps : List WorldStep) (e : ℕ) (E : Engine) → IsEngineAfter cs steps e E →
+        (t : ℕ) (q : Asked) (n : ℕ) (R : Reading) → (ask E t q).reply ≡ Read n R →
+        (n ≡ length (published_entries E)) × (R ≡ reading_of (published_entries E) q)
+        × BeginsWith (published_entries E) (first_entries (seen_by E t) E.replica.entries) }
+    ensures view { (cs : List Configuration) (steps : List WorldStep) (e : ℕ) (E : Engine) → IsEngineAfter cs steps e E →
+        (t : ℕ) (q : Question) (n : ℕ) (R : Reading) → (ask E t (OfDocument q)).reply ≡ Read n R →
+        R ≡ Answered (view (applied (published_entries E)) q) }
+{}
+
+/// Nothing that was seen goes away: histories, what is published of them and what tokens have seen only grow, and what was submitted and answered stays.
+pub fn worlds_only_grow()
+    ensures { (cs : List Configuration) (steps more : List WorldStep) (e : ℕ) (E : Engine) (F : Engine) →
+        IsEngineAfter cs steps e E → IsEngineAfter cs (steps ++ more) e F → HasGrown E F }
+{}
