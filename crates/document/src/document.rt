@@ -1,11 +1,12 @@
 //! The history of a replica, with what it leaves at each key.
 
-ghost use Rattle.std.specs.Prelude.{◌≡◌, ◌≤◌, ◌⊎◌, ◌↔◌, ◌∷◌, [], List, IsTrue, IsFalse, length, IfOk, OnOk, IfErr, Err};
+ghost use Rattle.std.specs.Prelude.{◌≡◌, ◌≤◌, ◌⊎◌, ◌↔◌, ◌∷◌, [], List, true, IsTrue, IsFalse, length, IfOk, OnOk, IfErr, Err};
 ghost use Rattle.ids.specs.declared.refusal.Refusal.TheVariants.{NoMemory, BadConfig};
 ghost use Rattle.ids.specs.Members.{AreDistinct, in_order, is_member};
 ghost use Rattle.ids.specs.Configurations.{are_members};
 ghost use Rattle.semantics.specs.NamedIds.{vector_of};
-ghost use Rattle.semantics.specs.Tables.{by_table};
+ghost use Rattle.semantics.specs.Tables.{by_table, greatest_in};
+ghost use Rattle.semantics.specs.LegalHistory.{greatest_of};
 ghost use Rattle.semantics.specs.Entries.{applied, stamped_in};
 ghost use Rattle.semantics.specs.DocumentAnswer.{document_answer};
 ghost use Rattle.semantics.specs.Questions.{Question as TheQuestion};
@@ -46,7 +47,7 @@ impl Model for Document {
 }
 
 impl Document {
-    ghost use Rattle.document.specs.Documents.{HasRoomFor, MayFollowEntries, question_of, answer_of};
+    ghost use Rattle.document.specs.Documents.{HasRoomFor, MayFollowEntries, history, question_of, answer_of};
 
     /// A document with no history, of a replica with these members.
     ///
@@ -86,6 +87,8 @@ impl Document {
     pub fn applied(&self) -> &VersionVector
         ensures width { length result.now ≡ length self.now.table }
         ensures all { by_table self.now.table result.now ≡ vector_of (applied self.now.entries) }
+        ensures greatest { greatest_in result.now ≡ greatest_of (λ a. true) (applied self.now.entries) }
+        ensures few { greatest_in result.now ≤ length self.now.entries }
     {
         &self.applied
     }
@@ -155,7 +158,9 @@ impl Document {
     }
 
     /// The entries, the oldest first. Takes no memory.
-    pub fn into_entries(self) -> Vec<Entry> {
+    pub fn into_entries(self) -> Vec<Entry>
+        ensures { history self.table result.items ≡ self.entries }
+    {
         self.entries
     }
 }

@@ -27,8 +27,8 @@ impl Clone for Command {
 #[derive(Debug, Drop)]
 pub enum Entry {
     Own {
-        client: u32,
-        serial: u32,
+        client: usize,
+        serial: u64,
         command: Command,
         op: Op,
     },

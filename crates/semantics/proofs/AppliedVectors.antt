@@ -1,11 +1,12 @@
 -- The vector of all that was applied.
-use Rattle.std.proofs.Common.{◌≡◌, ◌≢◌, ℕ, max, cond, ◌==◌, List, [], ◌∷◌, refl, sym, ap, ◌∙◌, inl, inr, arith}
+use Rattle.std.proofs.Common.{◌≡◌, ◌≢◌, ℕ, ◌≤◌, max, true, cond, ◌==◌, List, [], ◌∷◌, length, refl, sym, ap, ◌∙◌, inl, inr, arith}
 use Rattle.semantics.specs.Ids.{OpId}
 use Rattle.semantics.specs.Operations.{Operation}
 use Rattle.semantics.specs.LegalHistory.{IsAmong, IsLegal, HaveSameOperations, greatest_of}
-use Rattle.semantics.specs.Vectors.{at, IsCanonical}
+use Rattle.semantics.specs.Vectors.{at, greatest, IsCanonical}
 use Rattle.semantics.specs.NamedIds.{greatest_counter, vector_of}
-use Rattle.semantics.proofs.RaisedVectors.{at-raise, canonical_raise}
+use Rattle.semantics.proofs.RaisedVectors.{at-raise, canonical_raise, greatest-raise}
+use Rattle.semantics.proofs.LegalFacts.{greatest_cases, counter_within}
 use Rattle.semantics.proofs.CanonicalVectors.{same_vectors}
 use Rattle.semantics.proofs.SameCollections.{greatest_same}
 
@@ -30,3 +31,15 @@ pub vector_same : (H O : List Operation) → HaveSameOperations O H → ((o : Op
 vector_same H O same h =
     same_vectors (vector_of H) (vector_of O) (canonical-vector_of H h) (canonical-vector_of O (λ o m. h o ((same o).0 m)))
     (λ p. at-vector_of H p ∙ sym (greatest_same (λ a. a.replica == p) O H same) ∙ sym (at-vector_of O p))
+
+-- its greatest counter is that of the history
+pub greatest-vector_of : (H : List Operation) → greatest (vector_of H) ≡ greatest_of (λ a. true) H
+greatest-vector_of [] = refl
+greatest-vector_of (o ∷ H) = greatest-raise o.id (vector_of H) ∙ ap (max o.id.counter) (greatest-vector_of H)
+
+-- and at most the history's length
+pub greatest_within : (H : List Operation) → IsLegal H → greatest_of (λ a. true) H ≤ length H
+greatest_within H l = elim (greatest_cases (λ a. true) H) [
+  | inl z ↦ omega arith
+  | inr r ↦ (let c : r.0.id.counter ≤ length H = counter_within H l r.0 r.1 in let e : r.0.id.counter ≡ greatest_of (λ a. true) H = r.3 in omega arith)
+]

@@ -1,5 +1,5 @@
 -- An entry history is legal, and the vector of all that was applied stands for it.
-use Rattle.std.proofs.Common.{◌≡◌, inl, inr, ℕ, ◌≤◌, Bool, true, false, ◌&&◌, List, [], ◌∷◌, Ok, refl, sym, ◌∙◌, subst}
+use Rattle.std.proofs.Common.{◌≡◌, inl, inr, ℕ, suc, ◌≤◌, Bool, true, false, ◌&&◌, List, [], ◌∷◌, length, Ok, refl, sym, ap, ◌∙◌, subst}
 use Rattle.semantics.specs.Ids.{IdSet, id_at}
 use Rattle.semantics.specs.Operations.{Operation}
 use Rattle.semantics.specs.LegalHistory.{IsLegal, has_id}
@@ -40,3 +40,8 @@ entries_legal p (Own client serial c s ∷ G) h =
     let before = entries_legal p G h.0 in
     (before, own_may_follow (operations_of (stamped_of G)) s (legal (stamped_of G) before) h.1 p c h.2)
 entries_legal p (Peer s ∷ G) h = (entries_legal p G h.0, h.1)
+
+-- each entry has one operation
+pub length-applied : (G : List Entry) → length (operations_of (stamped_of G)) ≡ length G
+length-applied [] = refl
+length-applied (e ∷ G) = ap suc (length-applied G)

@@ -29,7 +29,7 @@ pub record IsHandled (r : Replica) (x : Submitted) (t : Replica) (reply : Reply)
   pub above : (client serial : ℕ) → IsAbove client serial r.entries → (x.client ≡ client → x.serial < serial) → IsAbove client serial t.entries
 
 -- the vector of all that was applied says what the operation depends on
-as_stamped : (r : Replica) (x : Submitted) (o : Operation) → IsEntryHistory r.own r.entries → make (operations r) r.own x.command ≡ Ok o → o ≡ operation_after (operations r) (stamp r o)
+as_stamped : (r : Replica) (x : Submitted) (o : Operation) → IsEntryHistory r.own r.entries → make (operations r) r.own x.command ≡ Ok o → o ≡ operation_after (operations r) (stamp (operations r) o)
 as_stamped r x o h e = λ i. record { id = o.id; deps = λ a. deps a i; place = o.place; mutation = o.mutation }
   where
     deps : (a : OpId) → o.deps a ≡ names (operations r) (vector_of (operations r)) a
@@ -47,9 +47,9 @@ made r x h above floor (Err why) e = record {
 }
 made r x h above floor (Ok o) e = record {
   own = refl;
-  entries = (Own x.client x.serial x.command (stamp r o) ∷ [], refl);
+  entries = (Own x.client x.serial x.command (stamp (operations r) o) ∷ [], refl);
   history = (h, at-vector_of (operations r), e ∙ (λ i. Ok (as_stamped r x o h e i)), above);
-  good = (own_made r.own r.entries x (stamp r o), floor);
+  good = (own_made r.own r.entries x (stamp (operations r) o), floor);
   above = λ client serial a l. (l, a);
 }
 

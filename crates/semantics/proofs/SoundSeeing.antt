@@ -1,6 +1,6 @@
 -- An engine stays sound where a token sees more of what is published: at a poll and at a question.
-use Rattle.std.proofs.Common.{◌≡◌, ℕ, zero, suc, ◌-◌, ◌<◌, ◌≤◌, Bool, true, false, cond, nat_le, List, [], ◌∷◌, length, get_or, Option, Some, None, refl, arith, slice_get, slice_set}
-use Rattle.std.proofs.lemmas.Bool.{leb-false}
+use Rattle.std.proofs.Common.{◌≡◌, ℕ, zero, suc, ◌-◌, ◌<◌, ◌≤◌, max, List, [], ◌∷◌, length, get_or, Option, Some, None, refl, arith, slice_get, slice_set}
+use Rattle.std.proofs.Math.Nat.{le-max_left, max-le}
 use Rattle.semantics.specs.LegalAnswer.{Asked}
 use Rattle.semantics.specs.Engine.{Engine, Client, Cell, Given, cell_at, poll_cell, poll, see_published, ask}
 use Rattle.semantics.proofs.GrownEngines.{grown_refl}
@@ -28,15 +28,14 @@ pub polled : (E : Engine) (c serial : ℕ) → IsSound E → IsLater E (poll E c
 polled E c serial s = at_client (slice_get E.clients c) refl
   where
     -- it has then seen what was published with the answer
-    at_seen : (k : Client) → slice_get E.clients c ≡ Some k → (g : Given) → g.published ≤ E.published → (b : Bool) → nat_le g.published k.seen ≡ b
-        → IsLater E (with_client E E.queue E.due c (record k { seen = cond b k.seen g.published }))
-    at_seen k h g l true e = client_sees E c k k.seen s h (omega arith) (s.clients c k h).seen
-    at_seen k h g l false e = client_sees E c k g.published s h (let b : k.seen < g.published = leb-false g.published k.seen e in omega arith) l
+    at_seen : (k : Client) → slice_get E.clients c ≡ Some k → (g : Given) → g.published ≤ E.published
+        → IsLater E (with_client E E.queue E.due c (record k { seen = max k.seen g.published }))
+    at_seen k h g l = client_sees E c k (max k.seen g.published) s h (le-max_left k.seen g.published) (max-le (s.clients c k h).seen l)
 
     at_answer : (k : Client) → slice_get E.clients c ≡ Some k → (cell : Cell) → IsSoundCell E.replica.own E.replica.entries E.published c serial cell → (o : Option Given) → cell.answer ≡ o
         → IsLater E (poll_cell E c k (Some cell)).engine
     at_answer k h cell w None e = rw e (later_refl E s)
-    at_answer k h cell w (Some g) e = rw e (at_seen k h g (w.given g e).0 (nat_le g.published k.seen) refl)
+    at_answer k h cell w (Some g) e = rw e (at_seen k h g (w.given g e).0)
 
     at_cell : (k : Client) → slice_get E.clients c ≡ Some k → (o : Option Cell) → cell_at k.cells serial ≡ o → IsLater E (poll_cell E c k o).engine
     at_cell k h None e = later_refl E s

@@ -1,5 +1,5 @@
 -- One engine on one thread: what it holds, and each of its steps. A step that can do nothing leaves it as it was and replies so.
-use Rattle.std.specs.Prelude.{ℕ, zero, suc, Bool, true, false, cond, not, ◌||◌, ◌&&◌, ◌+◌, ◌-◌, ◌==◌, nat_le, nat_lt, List, [], ◌∷◌, ◌++◌, length, Option, Some, None, Result, Ok, Err, slice_get, slice_set}
+use Rattle.std.specs.Prelude.{ℕ, zero, suc, max, cond, not, ◌||◌, ◌-◌, ◌==◌, nat_le, nat_lt, List, [], ◌∷◌, ◌++◌, length, Option, Some, None, Result, Ok, Err, slice_get, slice_set}
 use Rattle.ids.specs.declared.refusal.Refusal.{Refusal}
 use Rattle.ids.specs.declared.refusal.Refusal.TheVariants.{QueueFull, SerialEnd, Foreign, BadFloor}
 use Rattle.semantics.specs.Operations.{Operation}
@@ -7,7 +7,7 @@ use Rattle.semantics.specs.NamedIds.{vector_of}
 use Rattle.semantics.specs.DocumentAnswer.{is_any}
 use Rattle.semantics.specs.Stamped.{Stamped}
 use Rattle.semantics.specs.Making.{Command, make}
-use Rattle.semantics.specs.Entries.{Entry, first_entries}
+use Rattle.semantics.specs.Entries.{first_entries}
 use Rattle.semantics.specs.LegalAnswer.{Submitted, Reply, Made, NotMade, Asked, Reading, reading_of}
 use Rattle.semantics.specs.Replica.{Replica, operations, commit_own}
 
@@ -103,14 +103,14 @@ push e c command = at_client (slice_get e.clients c)
 
 -- ---- handling
 
--- an operation as it is kept, with the vector of all that was applied
-abbrev pub stamp : Replica → Operation → Stamped
-stamp r o = record { id = o.id; vector = vector_of (operations r); place = o.place; mutation = o.mutation }
+-- an operation made after H as it is kept, with the vector of all that was applied
+abbrev pub stamp : List Operation → Operation → Stamped
+stamp H o = record { id = o.id; vector = vector_of H; place = o.place; mutation = o.mutation }
 
 -- the replica after what its rules make of an item
 abbrev pub after_made : Replica → Submitted → Result Operation Refusal → Replica
 after_made r x (Err why) = r
-after_made r x (Ok o) = commit_own r x.client x.serial x.command (stamp r o)
+after_made r x (Ok o) = commit_own r x.client x.serial x.command (stamp (operations r) o)
 
 -- the reply to what its rules make of an item
 abbrev pub reply_made : Replica → Result Operation Refusal → Reply
@@ -209,7 +209,7 @@ poll_cell e c k (Some cell) = at_answer cell.answer
   where
     at_answer : Option Given → Turn
     at_answer None = record { engine = e; reply = Unanswered }
-    at_answer (Some g) = record { engine = record e { clients = slice_set e.clients c (record k { seen = cond (nat_le g.published k.seen) k.seen g.published }) }; reply = Replied g.reply }
+    at_answer (Some g) = record { engine = record e { clients = slice_set e.clients c (record k { seen = max k.seen g.published }) }; reply = Replied g.reply }
 
 abbrev pub poll : Engine → ℕ → ℕ → Turn
 poll e c serial = at_client (slice_get e.clients c)
