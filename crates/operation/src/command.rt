@@ -3,7 +3,7 @@
 ghost use Rattle.std.specs.Prelude.{◌≡◌};
 
 use crate::cursor::Expr;
-use crate::op::Op;
+use crate::op::{Mutation, Op};
 use crate::value::Val;
 use std::alloc::AllocError;
 
@@ -11,6 +11,26 @@ use std::alloc::AllocError;
 #[derive(Debug, Drop)]
 pub enum Command {
     Assign(Expr, Val),
+}
+
+impl Command {
+    ghost use Rattle.operation.specs.Meanings.{command_of, mutation_of};
+
+    /// Where it is to be done.
+    pub fn expression(&self) -> &Expr
+        ensures { result.now ≡ (command_of self.now).expression }
+    {
+        let Command::Assign(expression, _) = self;
+        expression
+    }
+
+    /// What is to be done there.
+    pub fn mutation(&self) -> Mutation
+        ensures { mutation_of result ≡ (command_of self.now).mutation }
+    {
+        let Command::Assign(_, value) = self;
+        Mutation::Assign(*value)
+    }
 }
 
 impl Clone for Command {

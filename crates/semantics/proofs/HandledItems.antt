@@ -29,7 +29,7 @@ pub record IsHandled (r : Replica) (x : Submitted) (t : Replica) (reply : Reply)
   pub above : (client serial : ℕ) → IsAbove client serial r.entries → (x.client ≡ client → x.serial < serial) → IsAbove client serial t.entries
 
 -- the vector of all that was applied says what the operation depends on
-as_stamped : (r : Replica) (x : Submitted) (o : Operation) → IsEntryHistory r.own r.entries → make (operations r) r.own x.command ≡ Ok o → o ≡ operation_after (operations r) (stamp (operations r) o)
+pub as_stamped : (r : Replica) (x : Submitted) (o : Operation) → IsEntryHistory r.own r.entries → make (operations r) r.own x.command ≡ Ok o → o ≡ operation_after (operations r) (stamp (operations r) o)
 as_stamped r x o h e = λ i. record { id = o.id; deps = λ a. deps a i; place = o.place; mutation = o.mutation }
   where
     deps : (a : OpId) → o.deps a ≡ names (operations r) (vector_of (operations r)) a

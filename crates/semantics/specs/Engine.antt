@@ -151,19 +151,19 @@ with_answer k serial g = record k { cells = answered (slice_get k.cells (serial 
     answered None = k.cells
     answered (Some cell) = slice_set k.cells (serial - 1) (record cell { answer = Some g })
 
--- the clients after the answer to an item is set
-abbrev pub give_to : List Client → Submitted → Given → List Client
-give_to clients x g = at_client (slice_get clients x.client)
+-- the clients after the answer to client c's serial is set
+abbrev pub give_to : List Client → ℕ → ℕ → Given → List Client
+give_to clients c serial g = at_client (slice_get clients c)
   where
     at_client : Option Client → List Client
     at_client None = clients
-    at_client (Some k) = slice_set clients x.client (with_answer k x.serial g)
+    at_client (Some k) = slice_set clients c (with_answer k serial g)
 
 -- the writer sets the answer to the oldest published item
 abbrev pub give_oldest : Engine → List Handled → Turn
 give_oldest e [] = record { engine = e; reply = Idle }
 give_oldest e (h ∷ due) =
-    record { engine = record e { due = due; clients = give_to e.clients h.submitted (record { reply = h.reply; published = e.published }) }; reply = Gave h.submitted.client h.submitted.serial }
+    record { engine = record e { due = due; clients = give_to e.clients h.submitted.client h.submitted.serial (record { reply = h.reply; published = e.published }) }; reply = Gave h.submitted.client h.submitted.serial }
 
 abbrev pub give : Engine → Turn
 give e = give_oldest e e.due

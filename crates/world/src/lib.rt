@@ -1,10 +1,9 @@
 //! A world: engines on one thread, moved by a list of steps.
 #![tactic(auto)]
 
+mod client;
 mod engine;
 mod replica;
 mod step;
-mod world;
 
 pub use step::{Reply, WorldReply, WorldStep};
-pub use world::World;

@@ -1,0 +1,30 @@
+-- What single steps of an engine leave where there is something to do.
+use Rattle.std.proofs.Common.{◌≡◌, ℕ, max, ◌-◌, ◌≤◌, ◌<◌, false, nat_le, cond, List, [], ◌∷◌, ◌++◌, map, length, get_or, Option, Some, None, option_map, refl, sym, ap, ◌∙◌, slice_get, slice_set}
+use Rattle.std.proofs.lemmas.Option.{slice_get-map, slice_get_read}
+use Rattle.semantics.specs.Making.{Command}
+use Rattle.semantics.specs.Engine.{Engine, Client, Cell, Given, Turn, Ticket, Replied, with_answer, give_to, with_cell, next_item, push, poll, cell_at, see_published}
+
+-- what stands at a place of a list, as its image
+pub read_mapped : {A B : Type 0} (f : A → B) (xs : List A) (i : ℕ) (x : A) → i < length xs → x ≡ get_or xs i x → slice_get (map f xs) i ≡ Some (f x)
+read_mapped f xs i x h e = slice_get-map f xs i ∙ ap (option_map f) (slice_get_read xs (length xs) i x refl h e)
+
+pub with_answer-there : (k : Client) (serial : ℕ) (g : Given) (cell : Cell) → slice_get k.cells (serial - 1) ≡ Some cell
+    → with_answer k serial g ≡ record k { cells = slice_set k.cells (serial - 1) (record cell { answer = Some g }) }
+with_answer-there k serial g cell e = rw e refl
+
+pub give_to-there : (ks : List Client) (c serial : ℕ) (g : Given) (k : Client) → slice_get ks c ≡ Some k → give_to ks c serial g ≡ slice_set ks c (with_answer k serial g)
+give_to-there ks c serial g k e = rw e refl
+
+pub poll-there : (E : Engine) (c serial : ℕ) (k : Client) (cell : Cell) (g : Given) → slice_get E.clients c ≡ Some k → cell_at k.cells serial ≡ Some cell → cell.answer ≡ Some g
+    → poll E c serial ≡ record { engine = record E { clients = slice_set E.clients c (record k { seen = max k.seen g.published }) }; reply = Replied g.reply }
+poll-there E c serial k cell g e f h = rw (e, f, h) refl
+
+pub push-there : (E : Engine) (c : ℕ) (command : Command) (k : Client) → slice_get E.clients c ≡ Some k → nat_le E.serials (length k.cells) ≡ false → nat_le E.places (length E.queue) ≡ false
+    → push E c command ≡ record { engine = record E { queue = E.queue ++ next_item c k command ∷ []; clients = slice_set E.clients c (with_cell k (next_item c k command)) }; reply = Ticket (next_item c k command).serial }
+push-there E c command k e f h = rw (e, f, h) refl
+
+pub see-client : (E : Engine) (t : ℕ) (k : Client) → slice_get E.clients t ≡ Some k → see_published E t ≡ record E { clients = slice_set E.clients t (record k { seen = E.published }) }
+see-client E t k e = rw e refl
+
+pub see-reader : (E : Engine) (t : ℕ) → slice_get E.clients t ≡ None → see_published E t ≡ record E { readers = slice_set E.readers (t - length E.clients) E.published }
+see-reader E t e = rw e refl

@@ -1,0 +1,3 @@
+-- What the types of this crate mean, and what its functions leave.
+pub mod Meanings
+pub mod Turns

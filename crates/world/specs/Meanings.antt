@@ -1,0 +1,69 @@
+-- Steps, replies, replicas and clients of the program as those of the definitions.
+use Rattle.std.specs.Prelude.{◌≡◌, ℕ, List, [], map, option_map, Option, Ok, Result}
+use Rattle.semantics.specs.Operations.{Operation}
+use Rattle.semantics.specs.Stamped.{Stamped}
+use Rattle.semantics.specs.Making.{Command as TheCommand, make}
+use Rattle.semantics.specs.Entries.{Entry as TheEntry, applied}
+use Rattle.semantics.specs.LegalAnswer.{Submitted, Reply as TheReply, Made as MadeAs, NotMade, Asked, OfDocument, Answered}
+use Rattle.semantics.specs.Replica.{Replica as TheReplica}
+use Rattle.semantics.specs.Engine as engine
+use Rattle.semantics.specs.World as world
+use Rattle.operation.specs.Meanings.{command_of}
+use Rattle.document.specs.Documents.{question_of, answer_of}
+use Rattle.world.specs.declared.step.WorldStep.{WorldStep}
+use Rattle.world.specs.declared.step.WorldStep.TheVariants as step
+use Rattle.world.specs.declared.step.Reply.{Reply}
+use Rattle.world.specs.declared.step.Reply.TheVariants as reply
+use Rattle.world.specs.declared.step.WorldReply.{WorldReply}
+use Rattle.world.specs.declared.step.WorldReply.TheVariants as said
+use Rattle.world.specs.declared.replica.Item.{Item}
+use Rattle.world.specs.declared.replica.Replica.{Replica}
+use Rattle.world.specs.declared.client.Given.{Given}
+use Rattle.world.specs.declared.client.Cell.{Cell}
+use Rattle.world.specs.declared.client.Client.{Client}
+
+-- a step
+abbrev pub step_of : WorldStep → world.WorldStep
+step_of (step.Push e c command) = world.Push e c (command_of command)
+step_of (step.Step e) = world.Whole e
+step_of (step.Poll e c serial) = world.Poll e c serial
+step_of (step.Ask e t q) = world.Ask e t (OfDocument (question_of q))
+
+-- the answer to a command
+abbrev pub answer_to : Reply → TheReply
+answer_to (reply.Made a n) = MadeAs a n
+answer_to (reply.Refused why m) = NotMade why m
+
+-- what a step replies
+abbrev pub reply_of : WorldReply → engine.StepReply
+reply_of (said.Ticket serial) = engine.Ticket serial
+reply_of (said.Denied why) = engine.Denied why
+reply_of (said.Published n) = engine.Published n
+reply_of said.Idle = engine.Idle
+reply_of said.Unanswered = engine.Unanswered
+reply_of (said.Replied r) = engine.Replied (answer_to r)
+reply_of (said.Read n reading) = engine.Read n (Answered (answer_of reading))
+
+-- what was submitted
+abbrev pub submitted_of : Item → Submitted
+submitted_of x = record { client = x.client; serial = x.serial; command = command_of x.command; floor = x.floor }
+
+-- a replica, in which nothing waits yet
+abbrev pub replica_of : Replica → TheReplica
+replica_of r = record { own = r.own; members = r.document.table; entries = r.document.entries; waiting = []; dropped = 0 }
+
+-- s is what replica p makes of the command after G, with the vector of all that was applied
+abbrev pub IsMade : List TheEntry → ℕ → TheCommand → Stamped → Type 0
+IsMade G p command s = (o : Operation) × (make (applied G) p command ≡ Ok o) × (s ≡ engine.stamp (applied G) o)
+
+-- an answer that was set
+abbrev pub given_of : Given → engine.Given
+given_of g = record { reply = answer_to g.reply; published = g.published }
+
+-- what was submitted under a serial, with its answer
+abbrev pub cell_of : Cell → engine.Cell
+cell_of cell = record { submitted = submitted_of cell.item; answer = option_map given_of cell.answer }
+
+-- a client
+abbrev pub client_of : Client → engine.Client
+client_of k = record { seen = k.seen; cells = map cell_of k.cells.items }

@@ -1,0 +1,212 @@
+//! One engine on one thread: its clients submit to a queue, its writer takes from it in batches, and tokens read what is published.
+
+ghost use Rattle.std.specs.Prelude.{◌≡◌, ◌∷◌, OnOk, IfOk, IfErr, IsTrue, map, [], length};
+ghost use Rattle.ids.specs.declared.refusal.Refusal.TheVariants.{NoMemory};
+ghost use Rattle.semantics.specs.Engine.{Engine as TheEngine, push, whole_step, poll, ask, see_published};
+ghost use Rattle.semantics.specs.LegalAnswer.{OfDocument};
+ghost use Rattle.operation.specs.Meanings.{command_of};
+ghost use Rattle.document.specs.Documents.{question_of};
+ghost use Rattle.world.specs.Meanings.{reply_of, client_of};
+ghost use Rattle.world.specs.Turns.{IsResting, HasTaken, told_of, give_each};
+ghost use Rattle.ids.specs.Members.{is_member};
+
+use crate::client::{Client, Given};
+use crate::replica::{Item, Replica};
+use crate::step::{Reply, WorldReply};
+use document::Question;
+use ids::Refusal;
+use operation::Command;
+use std::alloc::Global;
+use std::collections::VecDeque;
+use std::marker::Model;
+
+/// An item that was handled: whom to answer, and what.
+#[derive(Clone, Copy, Debug)]
+pub struct Handled {
+    pub client: usize,
+    pub serial: u64,
+    pub reply: Reply,
+}
+
+/// An engine between whole steps, so that nothing is handled and not answered. Contracts see the engine of the definitions.
+#[derive(Debug, Drop)]
+pub struct Engine {
+    places: usize,
+    batch: usize,
+    serials: u64,
+    replica: Replica,
+    queue: VecDeque<Item>,
+    published: usize,
+    clients: Vec<Client>,
+    readers: Vec<usize>,
+}
+
+impl Model for Engine {
+    ghost use Rattle.std.specs.Prelude.{map, []};
+    ghost use Rattle.std.specs.Coded.{codes};
+    ghost use Rattle.semantics.specs.Codes.{coded_element};
+    ghost use Rattle.semantics.specs.Engine.{Engine as TheEngine};
+    ghost use Rattle.world.specs.Meanings.{replica_of, submitted_of, client_of};
+
+    ghost Value = { TheEngine };
+
+    ghost coded = { Prim.hlevel (codes, coded_element) };
+
+    ghost view = { λ e. record { places = e.places; batch = e.batch; serials = e.serials; replica = replica_of e.replica; queue = map submitted_of e.queue.items; handled = []; due = []; published = e.published; clients = map client_of e.clients.items; readers = e.readers.items } };
+}
+
+impl Engine {
+    /// A client submits a command. Copies it once for the client and once for the queue.
+    ///
+    /// # Errors
+    /// `NoMemory` where a growth was refused.
+    pub fn push(&mut self, client: usize, command: &Command) -> Result<WorldReply, Refusal>
+        ensures engine { OnOk result (self.new ≡ (push self.old client (command_of command.now)).engine) }
+        ensures reply { IfOk result (λ r. reply_of r ≡ (push self.old client (command_of command.now)).reply) }
+        ensures err { IfErr result (λ why. why ≡ NoMemory) }
+    {
+        if client >= self.clients.len() {
+            return Ok(WorldReply::Idle);
+        }
+        let k = &self.clients[client];
+        if k.cells.len() as u64 >= self.serials {
+            return Ok(WorldReply::Denied(Refusal::SerialEnd));
+        }
+        if self.queue.len() >= self.places {
+            return Ok(WorldReply::Denied(Refusal::QueueFull));
+        }
+        let kept = k.next_item(client, command)?;
+        let queued = k.next_item(client, command)?;
+        let serial = kept.serial;
+        self.queue.push_back(queued)?;
+        let k = &mut self.clients[client];
+        k.keep(kept)?;
+        Ok(WorldReply::Ticket(serial))
+    }
+
+    /// A client polls one of its serials. It has then seen all that was published with the answer.
+    pub fn poll(&mut self, client: usize, serial: u64) -> WorldReply
+        ensures engine { self.new ≡ (poll self.old client serial).engine }
+        ensures reply { reply_of result ≡ (poll self.old client serial).reply }
+    {
+        if client >= self.clients.len() {
+            return WorldReply::Idle;
+        }
+        let Some(cell) = self.clients[client].cell(serial) else {
+            return WorldReply::Denied(Refusal::Foreign);
+        };
+        let Some(given) = cell.answer else {
+            return WorldReply::Unanswered;
+        };
+        let k = &mut self.clients[client];
+        k.seen = k.seen.max(given.published);
+        WorldReply::Replied(given.reply)
+    }
+
+    /// A token asks, and sees all that is published. Copies what is answered.
+    ///
+    /// # Errors
+    /// `NoMemory` where a growth was refused.
+    pub fn ask(
+        &mut self,
+        alloc: Global,
+        token: usize,
+        question: &Question,
+    ) -> Result<WorldReply, Refusal>
+        requires { self.old.published ≡ length self.old.replica.entries }
+        ensures engine { OnOk result (self.new ≡ (ask self.old token (OfDocument (question_of question.now))).engine) }
+        ensures reply { IfOk result (λ r. reply_of r ≡ (ask self.old token (OfDocument (question_of question.now))).reply) }
+        ensures err { IfErr result (λ why. why ≡ NoMemory) }
+    {
+        let reading = self.replica.document.ask(alloc, question)?;
+        let published = self.published;
+        see(&mut self.clients, &mut self.readers, token, published);
+        Ok(WorldReply::Read(published as u64, reading))
+    }
+
+    /// The writer takes up to a batch of items and handles each, publishes, and then sets the answer to each.
+    ///
+    /// # Errors
+    /// `NoMemory` where a growth was refused: some items may be handled then, and are not answered.
+    pub fn step(&mut self, alloc: Global) -> Result<WorldReply, Refusal>
+        requires { IsResting self.old }
+        ensures engine { OnOk result (self.new ≡ (whole_step self.old).engine) }
+        ensures reply { IfOk result (λ r. reply_of r ≡ (whole_step self.old).reply) }
+        ensures shown { OnOk result (self.new.published ≡ length self.new.replica.entries) }
+        ensures member { OnOk result (IsTrue (is_member self.new.replica.members self.new.replica.own)) }
+        ensures err { IfErr result (λ why. why ≡ NoMemory) }
+    {
+        let handled = self.take_all(alloc)?;
+        if handled.is_empty() {
+            return Ok(WorldReply::Idle);
+        }
+        let published = self.replica.document.len();
+        self.published = published;
+        give_each(&mut self.clients, &handled, published);
+        Ok(WorldReply::Published(handled.len() as u64))
+    }
+
+    // Takes up to a batch of items, and handles each.
+    fn take_all(&mut self, alloc: Global) -> Result<Vec<Handled>, Refusal>
+        requires { IsResting self.old }
+        ensures taken { IfOk result (λ handled. HasTaken self.old self.new (map told_of handled.items)) }
+        ensures err { IfErr result (λ why. why ≡ NoMemory) }
+    {
+        let mut handled = Vec::new(alloc);
+        while handled.len() < self.batch {
+            let Some(item) = self.queue.pop_front() else {
+                break;
+            };
+            let client = item.client;
+            let serial = item.serial;
+            let reply = self.replica.handle(item)?;
+            handled.push(Handled {
+                client,
+                serial,
+                reply,
+            })?;
+        }
+        Ok(handled)
+    }
+}
+
+/// Token `token` sees all that is published; the tokens are the clients', then the readers'.
+fn see(clients: &mut Vec<Client>, readers: &mut Vec<usize>, token: usize, published: usize)
+    ensures { (E : TheEngine) → E.clients ≡ map client_of clients.old.items → E.readers ≡ readers.old.items → E.published ≡ published →
+        see_published E token ≡ record E { clients = map client_of clients.new.items; readers = readers.new.items } }
+{
+    if token < clients.len() {
+        let k = &mut clients[token];
+        k.seen = published;
+        return;
+    }
+    let reader = token - clients.len();
+    if reader < readers.len() {
+        readers[reader] = published;
+    }
+}
+
+/// Sets the answer to each of these.
+fn give_each(clients: &mut Vec<Client>, handled: &[Handled], published: usize)
+    ensures { map client_of clients.new.items ≡ give_each (map client_of clients.old.items) (map told_of handled.now) published }
+{
+    for h in handled {
+        give(clients, *h, published);
+    }
+}
+
+/// Sets the answer to one.
+fn give(clients: &mut Vec<Client>, handled: Handled, published: usize)
+    ensures { map client_of clients.new.items ≡ give_each (map client_of clients.old.items) (told_of handled ∷ []) published }
+{
+    if handled.client < clients.len() {
+        let client = &mut clients[handled.client];
+        client.answer(
+            handled.serial,
+            Given {
+                reply: handled.reply,
+                published,
+            },
+        );
+    }
+}
