@@ -1,10 +1,10 @@
 -- Numbers put in order: nothing is lost, and different numbers rise.
-use Rattle.std.proofs.Common.{◌≡◌, ℕ, suc, ◌+◌, ◌<◌, ◌≤◌, Bool, true, false, cond, not, ◌&&◌, ◌||◌, eqb, ltb, leb, IsTrue, IsFalse, ◌⊎◌, inl, inr, List, [], ◌∷◌, length, refl, sym, ◌∙◌, ap, one-add, drop, arith}
+use Rattle.std.proofs.Common.{◌≡◌, ℕ, suc, ◌+◌, ◌<◌, ◌≤◌, Bool, true, false, not, ◌||◌, eqb, ltb, IsTrue, IsFalse, ◌⊎◌, inl, inr, List, [], ◌∷◌, length, refl, ◌∙◌, ap, one-add, drop, arith}
 use Rattle.std.proofs.lemmas.List.{drop_all}
-use Rattle.std.specs.List.{list_any, list_all, insert, position, position_or_len}
+use Rattle.std.specs.List.{insert, position, position_or_len}
 use Rattle.std.specs.Option.{unwrap_or}
 use Rattle.std.proofs.lemmas.List.Sums.{prefix_len-le-length}
-use Rattle.std.proofs.lemmas.Bool.{cases_Bool, both_ways, not-true, ltb-true, ltb-false, leb-true, eq-eqb, eqb-true, eqb-false, ne_eqb, and_parts, or_parts, or_cases, or_left, or_right, false_from_ne_true}
+use Rattle.std.proofs.lemmas.Bool.{cases_Bool, both_ways, not-true, ltb-true, ltb-false, eq-eqb, eqb-true, eqb-false, ne_eqb, and_parts, or_parts, or_left, or_right, false_from_ne_true}
 use Rattle.ids.specs.Members.{is_member, AreDistinct, are_distinct, put_number, put_all, in_order}
 use Rattle.ids.specs.Tables.{IsBelowAll, AreRising}
 
@@ -132,6 +132,7 @@ apart_after p table ps new apart q m = is_member-put_number p table q ∙ neithe
   where
     same : p ≡ q → IsTrue (is_member ps p)
     same e = rw e m
+
     neither : IsFalse (is_member table q) → eqb p q ≡ false → eqb p q || is_member table q ≡ false
     neither h e = rw (e, h) refl
 

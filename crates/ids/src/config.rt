@@ -57,3 +57,79 @@ impl Config {
         }
     }
 }
+
+#[cfg(test)]
+mod tests {
+    use super::*;
+    use std::alloc::Global;
+    use std::test::Fail;
+
+    /// Three members, and every other number at its limit.
+    fn greatest(alloc: Global) -> Result<Config, Fail> {
+        Ok(Config {
+            own: 2,
+            members: vec![in alloc; 1, 2, 4_294_967_295]?,
+            clients: 64,
+            readers: 64,
+            queue: 65_536,
+            batch: 256,
+            serials: 4_294_967_295,
+        })
+    }
+
+    #[test]
+    fn numbers_are_within_limits(rt: HostRuntime) -> Result<(), Fail> {
+        let refused = Err(Refusal::BadConfig);
+        for (number, own, size, queue, batch, serials) in [
+            (0, refused, refused, refused, refused, refused),
+            (1, Ok(()), Ok(()), Ok(()), Ok(()), Ok(())),
+            (3, refused, Ok(()), Ok(()), Ok(()), Ok(())),
+            (64, refused, Ok(()), Ok(()), Ok(()), Ok(())),
+            (65, refused, refused, Ok(()), Ok(()), Ok(())),
+            (256, refused, refused, Ok(()), Ok(()), Ok(())),
+            (257, refused, refused, Ok(()), refused, Ok(())),
+            (65_536, refused, refused, Ok(()), refused, Ok(())),
+            (65_537, refused, refused, refused, refused, Ok(())),
+            (4_294_967_295, Ok(()), refused, refused, refused, Ok(())),
+        ] {
+            let mut config = greatest(rt.alloc())?;
+            config.own = number;
+            assert_eq!(rt; config.check(), own, "own number {number}");
+            let mut config = greatest(rt.alloc())?;
+            config.clients = number;
+            assert_eq!(rt; config.check(), size, "{number} clients");
+            let mut config = greatest(rt.alloc())?;
+            config.readers = number;
+            assert_eq!(rt; config.check(), size, "{number} readers");
+            let mut config = greatest(rt.alloc())?;
+            config.queue = number;
+            assert_eq!(rt; config.check(), queue, "{number} places of the queue");
+            let mut config = greatest(rt.alloc())?;
+            config.batch = number;
+            assert_eq!(rt; config.check(), batch, "{number} items in a batch");
+            let mut config = greatest(rt.alloc())?;
+            config.serials = number;
+            assert_eq!(rt; config.check(), serials, "{number} serials");
+        }
+        Ok(())
+    }
+
+    #[test]
+    fn members_are_different_and_few(rt: HostRuntime) -> Result<(), Fail> {
+        let refused = Err(Refusal::BadConfig);
+        let mut config = greatest(rt.alloc())?;
+        config.members = Vec::new(rt.alloc());
+        assert_eq!(rt; config.check(), refused, "no member");
+        for member in 1..=64 {
+            config.members.push(member)?;
+        }
+        assert_eq!(rt; config.check(), Ok(()), "64 members");
+        config.members.push(65)?;
+        assert_eq!(rt; config.check(), refused, "65 members");
+        config.members = vec![in rt.alloc(); 2, 3, 2]?;
+        assert_eq!(rt; config.check(), refused, "twice the same member");
+        config.members = vec![in rt.alloc(); 2, 0]?;
+        assert_eq!(rt; config.check(), refused, "a member numbered 0");
+        Ok(())
+    }
+}

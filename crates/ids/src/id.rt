@@ -1,7 +1,10 @@
 //! The ids of operations.
 
-ghost use Rattle.std.specs.Prelude.{◌≡◌, ◌<◌, Ok, IsTrue, ◌↔◌, MatchOption};
+ghost use Rattle.std.specs.Prelude.{◌≡◌, ◌<◌, MatchOption};
+ghost use Rattle.std.specs.Ordering.{nat_cmp, ordering_then};
+ghost use Rattle.ids.specs.declared.id.OpId.{OpId};
 
+use std::fmt;
 use std::marker::Model;
 
 /// The number of a replica, from 1 to 4,294,967,295. Contracts see the number.
@@ -23,7 +26,7 @@ impl Model for ReplicaId {
 }
 
 impl ReplicaId {
-    /// The replica with this number; none has the number 0.
+    /// The replica with this number. None has the number 0.
     pub fn new(number: u32) -> Option<ReplicaId>
         ensures { MatchOption result (number ≡ 0) (λ r. (r ≡ number) × (0 < number)) }
     {
@@ -33,6 +36,7 @@ impl ReplicaId {
         Some(ReplicaId { number })
     }
 
+    /// The number, never 0.
     pub fn number(self) -> u32
         ensures number { result ≡ self }
         ensures above_zero { 0 < result }
@@ -46,4 +50,64 @@ impl ReplicaId {
 pub struct OpId {
     pub counter: u64,
     pub replica: ReplicaId,
+}
+
+impl fmt::Display for OpId {
+    fn fmt<W: fmt::Write>(&self, f: &mut fmt::Formatter<W>) -> fmt::Result {
+        write!(f, "{}@{}", self.counter, self.replica.number())
+    }
+}
+
+/// Ids are ordered by counter, ties by replica.
+pub fn ids_are_ordered_by_counter()
+    ensures { (a b : OpId) → ⟦<OpId as Ord>⟧.cmp a b ≡ ordering_then (nat_cmp a.counter b.counter) (nat_cmp a.replica b.replica) }
+{}
+
+#[cfg(test)]
+mod tests {
+    use super::*;
+    use std::test::Fail;
+
+    fn id(counter: u64, replica: u32) -> Option<OpId> {
+        let replica = ReplicaId::new(replica)?;
+        Some(OpId { counter, replica })
+    }
+
+    #[test]
+    fn replicas_are_numbered_from_one(rt: HostRuntime) {
+        for (number, want) in [
+            (0, None),
+            (1, Some(1)),
+            (4_294_967_295, Some(4_294_967_295)),
+        ] {
+            assert_eq!(rt;
+                ReplicaId::new(number).map(|replica| replica.number()),
+                want,
+                "at {number}"
+            );
+        }
+    }
+
+    #[test]
+    fn ids_rise_by_counter_then_replica(rt: HostRuntime) {
+        let rising = [
+            id(1, 1),
+            id(1, 2),
+            id(1, 4_294_967_295),
+            id(2, 1),
+            id(4_611_686_018_427_387_904, 1),
+        ];
+        for (earlier, a) in rising.iter().enumerate() {
+            for (later, b) in rising.iter().enumerate() {
+                assert_eq!(rt; a.cmp(b), earlier.cmp(&later), "at {earlier} and {later}");
+            }
+        }
+    }
+
+    #[test]
+    fn ids_are_printed(rt: HostRuntime) -> Result<(), Fail> {
+        let id = id(12, 3).ok_or("no replica")?;
+        assert_eq!(rt; format!(in rt.alloc(); "{id}")?.as_str(), "12@3");
+        Ok(())
+    }
 }

@@ -8,6 +8,6 @@ mod refusal;
 mod table;
 
 pub use config::Config;
-pub use id::{OpId, ReplicaId};
+pub use id::{OpId, ReplicaId, ids_are_ordered_by_counter};
 pub use refusal::Refusal;
 pub use table::ReplicaTable;

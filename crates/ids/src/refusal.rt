@@ -3,6 +3,7 @@
 ghost use Rattle.std.specs.Prelude.{◌≡◌};
 
 use std::alloc::{AllocError, AllocFailed};
+use std::error::Error;
 use std::fmt;
 
 /// Why a call is refused. Every refusal leaves its object as it was, but where a call says otherwise.
@@ -78,22 +79,73 @@ impl fmt::Display for Refusal {
     }
 }
 
+impl Error for Refusal {}
+
 impl From<AllocError> for Refusal {
+    ghost use Rattle.std.specs.Prelude.{◌≡◌};
     ghost use Rattle.ids.specs.declared.refusal.Refusal.TheVariants.{NoMemory};
 
-    ghost from_gives = { λ _ e. e ≡ NoMemory };
+    ghost from_gives = { λ _ why. why ≡ NoMemory };
 
-    fn from(_e: AllocError) -> Refusal {
+    fn from(_error: AllocError) -> Refusal {
         Refusal::NoMemory
     }
 }
 
 impl<T: Drop> From<AllocFailed<T>> for Refusal {
+    ghost use Rattle.std.specs.Prelude.{◌≡◌};
     ghost use Rattle.ids.specs.declared.refusal.Refusal.TheVariants.{NoMemory};
 
-    ghost from_gives = { λ _ e. e ≡ NoMemory };
+    ghost from_gives = { λ _ why. why ≡ NoMemory };
 
-    fn from(_e: AllocFailed<T>) -> Refusal {
+    fn from(_error: AllocFailed<T>) -> Refusal {
         Refusal::NoMemory
+    }
+}
+
+#[cfg(test)]
+mod tests {
+    use super::*;
+    use std::test::Fail;
+
+    #[test]
+    fn refusals_are_printed_by_their_numbers(rt: HostRuntime) -> Result<(), Fail> {
+        let cases = [
+            (Refusal::NoMemory, 1, "E1"),
+            (Refusal::AtHead, 2, "E2"),
+            (Refusal::PastEnd, 3, "E3"),
+            (Refusal::NotInList, 4, "E4"),
+            (Refusal::TooDeep, 5, "E5"),
+            (Refusal::KeyTooLong, 6, "E6"),
+            (Refusal::TextTooLong, 7, "E7"),
+            (Refusal::HistoryFull, 8, "E8"),
+            (Refusal::QueueFull, 9, "E9"),
+            (Refusal::SerialEnd, 10, "E10"),
+            (Refusal::Foreign, 11, "E11"),
+            (Refusal::BadFloor, 12, "E12"),
+            (Refusal::UnknownReplica, 13, "E13"),
+            (Refusal::BadCounter, 14, "E14"),
+            (Refusal::BrokenChain, 15, "E15"),
+            (Refusal::NamesNothing, 16, "E16"),
+            (Refusal::NotClosed, 17, "E17"),
+            (Refusal::BadPlace, 18, "E18"),
+            (Refusal::InboxFull, 19, "E19"),
+            (Refusal::OwnName, 20, "E20"),
+            (Refusal::NotWhole, 21, "E21"),
+            (Refusal::BadLine, 22, "E22"),
+            (Refusal::NoReaderPlace, 23, "E23"),
+            (Refusal::BadConfig, 24, "E24"),
+            (Refusal::NoReading, 25, "E25"),
+        ];
+        for (refusal, number, text) in cases {
+            assert_eq!(rt; refusal.number(), number);
+            assert_eq!(rt; format!(in rt.alloc(); "{refusal}")?.as_str(), text);
+        }
+        Ok(())
+    }
+
+    #[test]
+    fn want_of_memory_is_a_refusal(rt: HostRuntime) {
+        assert_eq!(rt; Refusal::from(AllocError), Refusal::NoMemory);
     }
 }

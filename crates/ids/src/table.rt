@@ -7,7 +7,7 @@ ghost use Rattle.ids.specs.Configurations.{are_members};
 
 use crate::members::are_members;
 use crate::{Refusal, ReplicaId};
-use std::alloc::{AllocError, AllocFailed, Global};
+use std::alloc::{AllocFailed, Global};
 use std::marker::Model;
 
 /// The replicas of an engine: from 1 to 64 different numbers, rising. Contracts see the list of the numbers.
@@ -31,10 +31,10 @@ impl Model for ReplicaTable {
 impl ReplicaTable {
     ghost use Rattle.ids.specs.declared.refusal.Refusal.TheVariants.{NoMemory, BadConfig};
 
-    /// The table of these members, in order. Each member is compared with all others.
+    /// The table of these members, in order. Compares each two of them at most twice.
     ///
     /// # Errors
-    /// `BadConfig` where they aren't from 1 to 64 different numbers above 0, and otherwise `NoMemory` where a growth was refused.
+    /// `BadConfig` where these aren't from 1 to 64 different numbers above 0. Otherwise `NoMemory` where a growth was refused.
     pub fn new(alloc: Global, members: &[u32]) -> Result<ReplicaTable, Refusal>
         ensures table { IfOk result (λ table. table ≡ in_order members.now) }
         ensures members { OnOk result (IsTrue (are_members members.now)) }
@@ -51,7 +51,7 @@ impl ReplicaTable {
         Ok(ReplicaTable { numbers })
     }
 
-    /// Where a replica stands in the table. Takes a number of comparisons that grows with the logarithm of the table's length.
+    /// Where a replica stands, or nothing where it is no member. Searches by halves, so compares at most 7 numbers.
     pub fn index_of(&self, replica: ReplicaId) -> Option<usize>
         ensures found { IfSome result (λ index. slice_get self.now index ≡ Some replica) }
         ensures none { IsNone result ↔ IsFalse (is_member self.now replica) }
@@ -59,7 +59,7 @@ impl ReplicaTable {
         self.numbers.binary_search(&replica.number()).ok()
     }
 
-    /// The replica at a place of the table.
+    /// The replica at a place, or nothing past the end.
     pub fn at(&self, index: usize) -> Option<ReplicaId>
         ensures { result ≡ slice_get self.now index }
     {
@@ -67,7 +67,7 @@ impl ReplicaTable {
         ReplicaId::new(number)
     }
 
-    /// How many replicas there are.
+    /// How many replicas there are, from 1 to 64.
     pub fn len(&self) -> usize
         ensures length { result ≡ length self.now }
         ensures any { 1 ≤ result }
@@ -91,4 +91,50 @@ fn first_greater(numbers: &[u32], number: u32) -> Option<usize>
     ensures { result ≡ position (λ other. nat_lt number other) numbers.now }
 {
     numbers.iter().position(|&other| number < other)
+}
+
+#[cfg(test)]
+mod tests {
+    use super::*;
+    use std::test::Fail;
+
+    #[test]
+    fn members_stand_in_order(rt: HostRuntime) -> Result<(), Fail> {
+        let table = ReplicaTable::new(rt.alloc(), &[7, 4_294_967_295, 1, 5])?;
+        assert_eq!(rt; table.len(), 4);
+        for (index, number) in [(0, 1), (1, 5), (2, 7), (3, 4_294_967_295)] {
+            let replica = ReplicaId::new(number);
+            assert_eq!(rt; table.at(index), replica);
+            assert_eq!(rt;
+                replica.and_then(|replica| table.index_of(replica)),
+                Some(index)
+            );
+        }
+        assert_eq!(rt; table.at(4), None);
+        for number in [2, 6, 4_294_967_294] {
+            let replica = ReplicaId::new(number).ok_or("numbered 0")?;
+            assert_eq!(rt; table.index_of(replica), None, "at {number}");
+        }
+        Ok(())
+    }
+
+    #[test]
+    fn tables_are_within_limits(rt: HostRuntime) -> Result<(), Fail> {
+        let mut members = Vec::new(rt.alloc());
+        for length in 0..=65 {
+            let made = ReplicaTable::new(rt.alloc(), &members).map(|table| table.len());
+            let want = if length == 0 || length == 65 {
+                Err(Refusal::BadConfig)
+            } else {
+                Ok(length)
+            };
+            assert_eq!(rt; made, want, "of {length} members");
+            members.push(100 - length as u32)?;
+        }
+        for members in [[0, 1], [3, 3]] {
+            let made = ReplicaTable::new(rt.alloc(), &members).map(|table| table.len());
+            assert_eq!(rt; made, Err(Refusal::BadConfig));
+        }
+        Ok(())
+    }
 }

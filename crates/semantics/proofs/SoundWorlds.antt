@@ -13,7 +13,7 @@ use Rattle.semantics.proofs.SoundSeeing.{later_refl}
 use Rattle.semantics.proofs.SoundSteps.{stepped}
 
 -- all engines of the world are sound
-abbrev IsSoundWorld : World → Type 0
+abbrev pub IsSoundWorld : World → Type 0
 IsSoundWorld W = (e : ℕ) (E : Engine) → slice_get W.engines e ≡ Some E → IsSound E
 
 -- ---- opened
@@ -35,7 +35,7 @@ sound_new_client p c k e = subst (IsSoundClient p [] 0 c) (sym e) (record { seen
     none zero cell w = cc
     none (suc n) cell w = (let l : suc n ≤ 0 = cell_within [] (suc n) cell w in omega arith)
 
-sound_opened_engine : (c : Configuration) → IsSound (opened_engine c)
+pub sound_opened_engine : (c : Configuration) → IsSound (opened_engine c)
 sound_opened_engine c = record {
   history = tt;
   published = omega arith;
@@ -48,7 +48,7 @@ sound_opened_engine c = record {
   due = λ h m. absurd m;
 }
 
-sound_opened : (cs : List Configuration) → IsSoundWorld (opened cs)
+pub sound_opened : (cs : List Configuration) → IsSoundWorld (opened cs)
 sound_opened [] e E h = cc
 sound_opened (c ∷ cs) zero E h = (let is : opened_engine c ≡ E = cc in subst IsSound is (sound_opened_engine c))
 sound_opened (c ∷ cs) (suc e) E h = sound_opened cs e E h

@@ -3,3 +3,6 @@ pub mod MadeOperations
 pub mod HandledCommands
 pub mod SingleSteps
 pub mod WholeSteps
+pub mod RestingEngines
+pub mod TurnedWorlds
+pub mod OpenedEngines

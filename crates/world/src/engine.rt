@@ -1,20 +1,21 @@
 //! One engine on one thread: its clients submit to a queue, its writer takes from it in batches, and tokens read what is published.
 
-ghost use Rattle.std.specs.Prelude.{◌≡◌, ◌∷◌, OnOk, IfOk, IfErr, IsTrue, map, [], length};
-ghost use Rattle.ids.specs.declared.refusal.Refusal.TheVariants.{NoMemory};
+ghost use Rattle.std.specs.Prelude.{◌≡◌, ◌∷◌, ◌↔◌, ◌⊎◌, OnOk, IfOk, IfErr, Err, IsTrue, IsFalse, map, [], length, replicate};
+ghost use Rattle.ids.specs.declared.refusal.Refusal.TheVariants.{NoMemory, BadConfig};
+ghost use Rattle.ids.specs.Configurations.{is_within_limits};
 ghost use Rattle.semantics.specs.Engine.{Engine as TheEngine, push, whole_step, poll, ask, see_published};
 ghost use Rattle.semantics.specs.LegalAnswer.{OfDocument};
 ghost use Rattle.operation.specs.Meanings.{command_of};
 ghost use Rattle.document.specs.Documents.{question_of};
-ghost use Rattle.world.specs.Meanings.{reply_of, client_of};
+ghost use Rattle.world.specs.Meanings.{reply_of, step_of, client_of};
+ghost use Rattle.semantics.specs.World.{engine_step, opened_engine};
 ghost use Rattle.world.specs.Turns.{IsResting, HasTaken, told_of, give_each};
-ghost use Rattle.ids.specs.Members.{is_member};
 
 use crate::client::{Client, Given};
 use crate::replica::{Item, Replica};
-use crate::step::{Reply, WorldReply};
-use document::Question;
-use ids::Refusal;
+use crate::step::{Reply, WorldReply, WorldStep};
+use document::{Document, Question};
+use ids::{Config, Refusal, ReplicaId};
 use operation::Command;
 use std::alloc::Global;
 use std::collections::VecDeque;
@@ -56,6 +57,59 @@ impl Model for Engine {
 }
 
 impl Engine {
+    /// A new engine.
+    ///
+    /// # Errors
+    /// `BadConfig` where the configuration is outside the limits, else `NoMemory` where a growth was refused.
+    pub fn open(alloc: Global, config: &Config) -> Result<Engine, Refusal>
+        ensures new { OnOk result (IsTrue (is_within_limits config.now)) }
+        ensures engine { IfOk result (λ e. e ≡ opened_engine config.now) }
+        ensures bad_config { (result ≡ Err BadConfig) ↔ IsFalse (is_within_limits config.now) }
+        ensures err { IfErr result (λ why. (why ≡ BadConfig) ⊎ (why ≡ NoMemory)) }
+    {
+        config.check()?;
+        let Some(own) = ReplicaId::new(config.own) else {
+            return Err(Refusal::BadConfig);
+        };
+        let document = Document::new(alloc, &config.members)?;
+        let clients = new_clients(alloc, config.clients as usize)?;
+        let mut readers = Vec::new(alloc);
+        readers.resize(config.readers as usize, 0)?;
+        Ok(Engine {
+            places: config.queue as usize,
+            batch: config.batch as usize,
+            serials: u64::from(config.serials),
+            replica: Replica { own, document },
+            queue: VecDeque::new(alloc),
+            published: 0,
+            clients,
+            readers,
+        })
+    }
+
+    /// One step.
+    ///
+    /// # Errors
+    /// `NoMemory` where a growth was refused: the step may be done in part then.
+    pub fn turn(&mut self, alloc: Global, step: &WorldStep) -> Result<WorldReply, Refusal>
+        requires { IsResting self.old }
+        ensures engine { OnOk result (self.new ≡ (engine_step (step_of step.now) self.old).engine) }
+        ensures reply { IfOk result (λ r. reply_of r ≡ (engine_step (step_of step.now) self.old).reply) }
+        ensures resting { OnOk result (IsResting self.new) }
+        ensures err { IfErr result (λ why. why ≡ NoMemory) }
+    {
+        match step {
+            WorldStep::Push {
+                client, command, ..
+            } => self.push(*client, command),
+            WorldStep::Step { .. } => self.step(alloc),
+            WorldStep::Poll { client, serial, .. } => Ok(self.poll(*client, *serial)),
+            WorldStep::Ask {
+                token, question, ..
+            } => self.ask(alloc, *token, question),
+        }
+    }
+
     /// A client submits a command. Copies it once for the client and once for the queue.
     ///
     /// # Errors
@@ -132,8 +186,7 @@ impl Engine {
         requires { IsResting self.old }
         ensures engine { OnOk result (self.new ≡ (whole_step self.old).engine) }
         ensures reply { IfOk result (λ r. reply_of r ≡ (whole_step self.old).reply) }
-        ensures shown { OnOk result (self.new.published ≡ length self.new.replica.entries) }
-        ensures member { OnOk result (IsTrue (is_member self.new.replica.members self.new.replica.own)) }
+        ensures resting { OnOk result (IsResting self.new) }
         ensures err { IfErr result (λ why. why ≡ NoMemory) }
     {
         let handled = self.take_all(alloc)?;
@@ -168,6 +221,21 @@ impl Engine {
         }
         Ok(handled)
     }
+}
+
+/// So many clients that have seen and submitted nothing.
+fn new_clients(alloc: Global, count: usize) -> Result<Vec<Client>, Refusal>
+    ensures clients { IfOk result (λ v. map client_of v.items ≡ replicate count (record { seen = 0; cells = [] })) }
+    ensures err { IfErr result (λ why. why ≡ NoMemory) }
+{
+    let mut clients = Vec::with_capacity(alloc, count)?;
+    for _ in 0..count {
+        clients.push(Client {
+            seen: 0,
+            cells: Vec::new(alloc),
+        })?;
+    }
+    Ok(clients)
 }
 
 /// Token `token` sees all that is published; the tokens are the clients', then the readers'.

@@ -5,5 +5,7 @@ mod client;
 mod engine;
 mod replica;
 mod step;
+mod world;
 
 pub use step::{Reply, WorldReply, WorldStep};
+pub use world::World;

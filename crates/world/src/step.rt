@@ -29,6 +29,24 @@ pub enum WorldStep {
     },
 }
 
+impl WorldStep {
+    ghost use Rattle.std.specs.Prelude.{◌≡◌};
+    ghost use Rattle.semantics.specs.World.{mover};
+    ghost use Rattle.world.specs.Meanings.{step_of};
+
+    /// The engine that moves.
+    pub fn engine(&self) -> usize
+        ensures { result ≡ mover (step_of self.now) }
+    {
+        match self {
+            WorldStep::Push { engine, .. }
+            | WorldStep::Step { engine }
+            | WorldStep::Poll { engine, .. }
+            | WorldStep::Ask { engine, .. } => *engine,
+        }
+    }
+}
+
 /// The answer to a command.
 #[derive(Clone, Copy, Debug, PartialEq, Eq)]
 pub enum Reply {

@@ -1,4 +1,3 @@
-use Rattle.std.proofs.Common.{rules}
 use Rattle.ids.proofs.Tables.{search_decides}
 use Rattle.ids.proofs.table.ReplicaTable.index_of.Goals as goal
 

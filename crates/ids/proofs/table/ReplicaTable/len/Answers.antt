@@ -1,4 +1,3 @@
-use Rattle.std.proofs.Common.{rules}
 use Rattle.ids.proofs.InOrder.{distinct_from_rising}
 use Rattle.ids.proofs.table.ReplicaTable.len.Goals as goal
 

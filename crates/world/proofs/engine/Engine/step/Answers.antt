@@ -1,11 +1,14 @@
-use Rattle.std.proofs.Common.{◌≡◌, ℕ, ◌≤◌, List, [], ◌∷◌, map, length, refl, sym, ap, ◌∙◌, arith}
+use Rattle.std.proofs.Common.{◌≡◌, ℕ, ◌≤◌, List, [], ◌∷◌, map, length, vec_len, refl, sym, ap, ◌∙◌, subst, arith}
+use Rattle.std.specs.Prelude.{IsTrue}
 use Rattle.std.proofs.lemmas.List.{length-map}
-use Rattle.std.proofs.lemmas.Bool.{eqb-false}
+use Rattle.std.proofs.lemmas.Bool.{eqb-true, eqb-false}
+use Rattle.ids.specs.Members.{is_member}
 use Rattle.semantics.specs.Engine.{Engine as TheEngine, Turn}
 use Rattle.world.specs.Meanings.{client_of}
 use Rattle.world.specs.Turns.{Told, HasTaken, told_of, give_each}
 use Rattle.world.specs.contracts.engine.Engine.{the_view}
 use Rattle.world.proofs.WholeSteps.{whole_told}
+use Rattle.world.proofs.RestingEngines.{resting_idle, resting_published}
 use Rattle.world.proofs.engine.Engine.step.Goals as goal
 
 pub returns-clause-engine : goal.returns-clause-engine
@@ -21,3 +24,20 @@ returns-clause-engine c =
     (λ i. record V { published = published i; clients = clients i })
     ∙ ap (λ (G : TheEngine). record G { published = length G.replica.entries; clients = give_each G.clients tell (length G.replica.entries) }) c.self.view_is
     ∙ sym (ap (λ (t : Turn). t.engine) (whole_told c.args.self.now F tell some c.in_ok-handled.ensures.taken))
+
+none_of : {X : Type 0} (xs : List X) → length xs ≡ 0 → xs ≡ []
+none_of [] e = refl
+none_of (x ∷ xs) e = absurd (omega arith)
+
+pub returns-then-is_empty-clause-resting : goal.returns-then-is_empty-clause-resting
+returns-then-is_empty-clause-resting c =
+    let none : map told_of c.in_ok-handled.handled.items ≡ [] =
+    (let empty : vec_len c.in_ok-handled.handled ≡ 0 = eqb-true _ _ (sym c.is_empty.ensures ∙ c.if-is_empty.true) in ap (map told_of) (none_of c.in_ok-handled.handled.items (omega arith))) in
+    resting_idle c.args.self.now c.take_all.new.self c.requires (subst (HasTaken c.args.self.now c.take_all.new.self) none c.in_ok-handled.ensures.taken)
+
+pub returns-clause-resting : goal.returns-clause-resting
+returns-clause-resting c =
+    let F : TheEngine = c.take_all.new.self in
+    let member : IsTrue (is_member c.self.inside.replica.document.table c.self.inside.replica.own) =
+    subst (λ (G : TheEngine). IsTrue (is_member G.replica.members G.replica.own)) (sym c.self.view_is) c.in_ok-handled.ensures.taken.member in
+    resting_published c.args.self.now _ c.requires (returns-clause-engine c) refl refl c.len-published.ensures member

@@ -1,0 +1,163 @@
+//! Engines on one thread, as a list of steps moves them.
+
+ghost use Rattle.std.specs.Prelude.{◌≡◌, ◌≤◌, ◌+◌, ◌↔◌, ◌⊎◌, OnOk, OnErr, IfOk, IfErr, Err, IsFalse, true, false, min, map, length, List};
+ghost use Rattle.std.specs.List.{list_all};
+ghost use Rattle.ids.specs.declared.refusal.Refusal.TheVariants.{NoMemory, BadConfig};
+ghost use Rattle.ids.specs.Configurations.{is_within_limits};
+ghost use Rattle.semantics.specs.World.{opened, opened_engine, world_step, world_after, replies_of};
+ghost use Rattle.world.specs.Meanings.{step_of, reply_of};
+ghost use Rattle.world.specs.Worlds.{AllResting, world, world_of};
+
+use crate::engine::Engine;
+use crate::step::{WorldReply, WorldStep};
+use ids::{Config, Refusal};
+use std::alloc::Global;
+use std::marker::Model;
+
+/// Engines on one thread. Once a growth was refused the world has failed, and answers nothing else from then on.
+///
+/// Contracts see the engines of the definitions, how many steps were done, and whether the world has failed.
+#[derive(Debug, Drop)]
+pub struct World {
+    engines: Vec<Engine>,
+    done: u64,
+    failed: bool,
+}
+
+impl Model for World {
+    ghost use Rattle.std.specs.Prelude.{◌≡◌, false};
+    ghost use Rattle.std.specs.Coded.{codes};
+    ghost use Rattle.semantics.specs.Codes.{coded_element};
+    ghost use Rattle.world.specs.Worlds.{Running, AllResting};
+
+    ghost Value = { Running };
+
+    ghost coded = { Prim.hlevel (codes, coded_element) };
+
+    ghost view = { λ w. record { engines = w.engines.items; done = w.done; failed = w.failed } };
+
+    ghost invariant = { λ w. w.failed ≡ false → AllResting w.engines.items };
+}
+
+impl World {
+    /// New engines, numbered from 0.
+    ///
+    /// # Errors
+    /// `BadConfig` where a configuration is outside the limits, else `NoMemory` where a growth was refused.
+    pub fn new(alloc: Global, configs: &[Config]) -> Result<World, Refusal>
+        ensures engines { IfOk result (λ w. world_of w ≡ opened configs.now) }
+        ensures started { IfOk result (λ w. (w.done ≡ 0) × (w.failed ≡ false)) }
+        ensures bad_config { (result ≡ Err BadConfig) ↔ IsFalse (list_all is_within_limits configs.now) }
+        ensures err { IfErr result (λ why. (why ≡ BadConfig) ⊎ (why ≡ NoMemory)) }
+    {
+        check_all(configs)?;
+        let engines = open_all(alloc, configs)?;
+        Ok(World {
+            engines,
+            done: 0,
+            failed: false,
+        })
+    }
+
+    /// Runs the steps in order, and gives the reply to each. A step of an engine that isn't there replies Idle.
+    ///
+    /// # Errors
+    /// `NoMemory` where a growth was refused, and at each call after that: `steps_done` steps were done whole, the next may be done in part.
+    pub fn run(&mut self, alloc: Global, steps: &[WorldStep]) -> Result<Vec<WorldReply>, Refusal>
+        ensures replies { IfOk result (λ rs. map reply_of rs.items ≡ replies_of (world_of self.old) (map step_of steps.now)) }
+        ensures world { OnOk result (world_of self.new ≡ world_after (world_of self.old) (map step_of steps.now)) }
+        ensures done { OnOk result (self.new.done ≡ min (self.old.done + length steps.now) 18446744073709551615) }
+        ensures running { OnOk result ((self.old.failed ≡ false) × (self.new.failed ≡ false)) }
+        ensures err { IfErr result (λ why. (why ≡ NoMemory) × (self.new.failed ≡ true)) }
+        ensures fewer { OnErr result ((self.old.done ≤ self.new.done) × (self.new.done ≤ self.old.done + length steps.now)) }
+        ensures failed { self.old.failed ≡ true → (result ≡ Err NoMemory) × (self.new ≡ self.old) }
+    {
+        if self.failed {
+            return Err(Refusal::NoMemory);
+        }
+        self.failed = true;
+        let mut whole = 0;
+        let outcome = run_all(alloc, &mut self.engines, &mut whole, steps);
+        self.done = self.done.saturating_add(whole as u64);
+        let replies = outcome?;
+        self.failed = false;
+        Ok(replies)
+    }
+
+    /// How many steps were done whole, by all runs; a count that stays at 18446744073709551615.
+    pub fn steps_done(&self) -> u64
+        ensures { result ≡ self.now.done }
+    {
+        self.done
+    }
+}
+
+/// Whether each configuration is within the limits.
+fn check_all(configs: &[Config]) -> Result<(), Refusal>
+    ensures ok { OnOk result (list_all is_within_limits configs.now ≡ true) }
+    ensures err { IfErr result (λ why. (why ≡ BadConfig) × IsFalse (list_all is_within_limits configs.now)) }
+{
+    for config in configs {
+        config.check()?;
+    }
+    Ok(())
+}
+
+/// A new engine for each configuration.
+fn open_all(alloc: Global, configs: &[Config]) -> Result<Vec<Engine>, Refusal>
+    requires { list_all is_within_limits configs.now ≡ true }
+    ensures engines { IfOk result (λ v. v.items ≡ map opened_engine configs.now) }
+    ensures resting { IfOk result (λ v. AllResting v.items) }
+    ensures err { IfErr result (λ why. why ≡ NoMemory) }
+{
+    let mut engines = Vec::with_capacity(alloc, configs.len())?;
+    for config in configs {
+        engines.push(Engine::open(alloc, config)?)?;
+    }
+    Ok(engines)
+}
+
+/// Runs the steps in order, and counts those that were done whole.
+fn run_all(
+    alloc: Global,
+    engines: &mut Vec<Engine>,
+    whole: &mut usize,
+    steps: &[WorldStep],
+) -> Result<Vec<WorldReply>, Refusal>
+    requires resting { AllResting engines.old.items }
+    requires none { whole.old ≡ 0 }
+    ensures replies { IfOk result (λ rs. map reply_of rs.items ≡ replies_of (world engines.old.items) (map step_of steps.now)) }
+    ensures world { OnOk result (world engines.new.items ≡ world_after (world engines.old.items) (map step_of steps.now)) }
+    ensures resting { OnOk result (AllResting engines.new.items) }
+    ensures whole { OnOk result (whole.new ≡ length steps.now) }
+    ensures err { IfErr result (λ why. why ≡ NoMemory) }
+    ensures fewer { whole.new ≤ length steps.now }
+{
+    let mut replies = Vec::with_capacity(alloc, steps.len())?;
+    for step in steps {
+        let reply = turn(alloc, engines, step)?;
+        replies.push(reply)?;
+        *whole += 1;
+    }
+    Ok(replies)
+}
+
+/// One step: its engine moves, and the others stay.
+fn turn(
+    alloc: Global,
+    engines: &mut Vec<Engine>,
+    step: &WorldStep,
+) -> Result<WorldReply, Refusal>
+    requires { AllResting engines.old.items }
+    ensures world { OnOk result (world engines.new.items ≡ (world_step (world engines.old.items) (step_of step.now)).world) }
+    ensures reply { IfOk result (λ r. reply_of r ≡ (world_step (world engines.old.items) (step_of step.now)).reply) }
+    ensures resting { OnOk result (AllResting engines.new.items) }
+    ensures err { IfErr result (λ why. why ≡ NoMemory) }
+{
+    let mover = step.engine();
+    if mover >= engines.len() {
+        return Ok(WorldReply::Idle);
+    }
+    let engine = &mut engines[mover];
+    engine.turn(alloc, step)
+}
