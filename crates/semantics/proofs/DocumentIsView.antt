@@ -6,14 +6,14 @@ use Rattle.semantics.specs.LegalHistory.{IsLegal, HaveSameOperations}
 use Rattle.semantics.specs.Context.{doc, put_name}
 use Rattle.semantics.specs.Questions.{AppliedVector, Question, Values, Keys, Items, Conflicts, ValuesAre, KeysAre, ItemsAre, ConflictsAre, resolve, answer_at}
 use Rattle.semantics.specs.DocumentAnswer.{document_answer, visible_items, visible_names, is_any}
-use Rattle.semantics.specs.View.{view, live_items, live_names, names_of}
+use Rattle.semantics.specs.View.{view, live_items, live_names, field_names}
 use Rattle.semantics.proofs.LiveEntries.{presence_live, register_live}
 use Rattle.semantics.proofs.ListOrder.{order_is}
 use Rattle.semantics.proofs.LegalFacts.{same_operation}
 use Rattle.semantics.proofs.SameView.{view_same}
 use Rattle.semantics.proofs.AppliedVectors.{legal_counters}
 
-names_are : (H : List Operation) (e : Element) → (doc H).fields e ≡ names_of H e
+names_are : (H : List Operation) (e : Element) → (doc H).fields e ≡ field_names H e
 names_are [] e = refl
 names_are (o ∷ H) e = ap (put_name (name_given o e)) (names_are H e)
 

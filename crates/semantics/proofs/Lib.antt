@@ -82,8 +82,23 @@ pub mod SoundPublishing
 pub mod SoundSteps
 pub mod SoundWorlds
 pub mod WorldReplies
--- examples
+-- the premises of the laws are met
 pub mod LegalExample
 pub mod ExchangeWitness
-pub mod DocumentExamples
-pub mod DeliveryExamples
+-- worked examples, by computation
+pub mod ExampleWords
+pub mod ShoppingList
+pub mod DeletedItem
+pub mod ConcurrentAssigns
+pub mod ConcurrentLists
+pub mod DeletedMap
+pub mod MapAndList
+pub mod MissingOperations
+pub mod RefusedPlaces
+pub mod OutOfOrder
+pub mod ForgedVectors
+pub mod DroppedOperation
+pub mod FullInbox
+pub mod NextIds
+pub mod OneEngineWorld
+pub mod SingleSteps

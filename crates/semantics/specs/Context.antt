@@ -7,7 +7,7 @@ use Rattle.semantics.specs.Ids.{OpId, IdSet, id_cmp, is_same_id, is_smaller_id}
 use Rattle.semantics.specs.Elements.{Element, Scalar, Tag, Name, name_cmp, is_under}
 use Rattle.semantics.specs.Operations.{Operation, target, tag_given, scalar_given, name_given, inserted_after}
 
--- What stands at each element: its presence, its register, the names of its map's fields, and the order of its list.
+-- What stands at each element: its presence, its register, the names that fields of its map ever had, and the order of its list.
 -- A presence and a register are finite maps, as lists of entries that rise by id.
 pub record Context : Type 0 where
   pub presence : Element → List (OpId × Tag)
@@ -45,7 +45,7 @@ abbrev pub skip : OpId → List OpId → List OpId
 skip a [] = a ∷ []
 skip a (b ∷ bs) = cond (is_smaller_id b a) (a ∷ b ∷ bs) (b ∷ skip a bs)
 
--- a goes after p, or after the head, past each next element that is greater
+-- a goes after p, or after the head, past each next item that is greater
 abbrev pub insert_after : Option OpId → OpId → List OpId → List OpId
 insert_after None a bs = skip a bs
 insert_after (Some p) a [] = []
@@ -60,7 +60,7 @@ insert_some (Some p) a bs = insert_after p a bs
 abbrev pub link : Context → Operation → Context
 link C o = record C { order = λ l. insert_some (inserted_after o l) o.id (C.order l) }
 
--- o's id goes to the presence of its target and of each element on the way down to it, and its scalar into the target's register; a delete writes nothing
+-- o's id goes to the presence of its target and of each element on the way down to it, and its scalar into the target's register, and the names of the fields on the way are noted; a delete writes nothing
 abbrev pub write : Context → Operation → Context
 write C o = record C {
   presence = λ e. put_some id_cmp o.id (tag_given o e) (C.presence e);
@@ -68,7 +68,7 @@ write C o = record C {
   fields = λ e. put_name (name_given o e) (C.fields e);
 }
 
--- an insert is linked in; then the target is cleared of what the operation depends on; then the operation writes
+-- an insert is linked in; then the target is cleared of what the operation depends on (nothing stands yet at an insert's new item); then the operation writes
 abbrev pub apply : Context → Operation → Context
 apply C o = write (clear (link C o) (target o) o.deps) o
 

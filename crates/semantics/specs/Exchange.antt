@@ -26,7 +26,7 @@ pub record CanReceive (r : Replica) (F : List Stamped) (v : Vector) : Type 0 whe
   -- it lacks nothing of its own
   pub own : (s : Stamped) → IsAmong s F → s.id.replica ≡ r.own → IsTrue (has_id (operations r) s.id)
   pub members : (s : Stamped) → IsAmong s F → IsTrue (is_of_members r.members s)
-  -- the vector is that of a beginning of r's history
+  -- the vector names no more than r has applied
   pub vector : (p : ℕ) → at v p ≤ greatest_counter (operations r) p
   pub room : length r.entries + length (lacking (operations r) F) ≤ 1048576
 

@@ -71,7 +71,7 @@ alone_fault ps s = first_failed (is_of_members ps s) (has_counter s) (is_in_list
 abbrev pub is_ready : List Operation → Stamped → Bool
 is_ready H s = list_all (λ a. nat_le a.counter (greatest_counter H a.replica)) s.vector
 
--- the own counter isn't the greatest that was applied
+-- the counter named of the sender isn't the greatest that was applied of it
 abbrev pub breaks_chain : List Operation → Stamped → Bool
 breaks_chain H s = not (at s.vector s.id.replica == greatest_counter H s.id.replica)
 

@@ -9,7 +9,7 @@ use Rattle.semantics.specs.Vectors.{Vector, at, covers, raise}
 abbrev pub greatest_counter : List Operation → ℕ → ℕ
 greatest_counter H p = greatest_of (λ a. a.replica == p) H
 
--- the vector of all that was applied, in canonical form
+-- the vector of all that was applied; that of a legal history is canonical
 abbrev pub vector_of : List Operation → Vector
 vector_of [] = []
 vector_of (o ∷ H) = raise o.id (vector_of H)

@@ -36,14 +36,14 @@ is_live O e a = is_some (find id_cmp a (live O e))
 abbrev pub live_scalars : List Operation → Element → List (OpId × Scalar)
 live_scalars O e = filter (λ x. is_live O e x.0) (collect id_cmp (λ o. scalar_given o e) O)
 
--- the names of the fields of e that an operation reaches
-abbrev pub names_of : List Operation → Element → List (Name × Unit {0})
-names_of [] e = []
-names_of (o ∷ O) e = put_name (name_given o e) (names_of O e)
+-- the names of the fields of e that an operation other than a delete reaches
+abbrev pub field_names : List Operation → Element → List (Name × Unit {0})
+field_names [] e = []
+field_names (o ∷ O) e = put_name (name_given o e) (field_names O e)
 
 -- the names of the fields at which an id is live
 abbrev pub live_names : List Operation → Element → List Name
-live_names O e = filter (λ n. is_any (live O (Field e n))) (map (λ x. x.0) (names_of O e))
+live_names O e = filter (λ n. is_any (live O (Field e n))) (map (λ x. x.0) (field_names O e))
 
 -- the inserts into the list at l with what each was inserted after, the greatest id first
 abbrev pub inserts : List Operation → Element → List (OpId × Option OpId)
