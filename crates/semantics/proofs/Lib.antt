@@ -82,6 +82,7 @@ pub mod SoundPublishing
 pub mod SoundSteps
 pub mod SoundWorlds
 pub mod WorldReplies
+pub mod SeenReadings
 -- the premises of the laws are met
 pub mod LegalExample
 pub mod ExchangeWitness

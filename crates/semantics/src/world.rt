@@ -1,6 +1,6 @@
 //! What holds of every run of a world, over every list of steps.
 
-ghost use Rattle.std.specs.Prelude.{◌≡◌, ◌≤◌, ℕ, suc, List, ◌++◌, length, Some, slice_get};
+ghost use Rattle.std.specs.Prelude.{◌≡◌, ◌+◌, ◌<◌, ◌≤◌, ℕ, suc, List, ◌++◌, length, Some, slice_get};
 ghost use Rattle.ids.specs.Configurations.{Configuration};
 ghost use Rattle.semantics.specs.Ids.{OpId};
 ghost use Rattle.semantics.specs.Questions.{Question};
@@ -9,9 +9,9 @@ ghost use Rattle.semantics.specs.Stamped.{Stamped};
 ghost use Rattle.semantics.specs.Making.{Command};
 ghost use Rattle.semantics.specs.Entries.{IsEntryHistory, Own, applied, entry_at, first_entries};
 ghost use Rattle.semantics.specs.LegalAnswer.{Submitted, Reply, Made, Asked, OfDocument, Reading, Answered, IsLegalAnswer, reading_of};
-ghost use Rattle.semantics.specs.Engine.{Engine, Client, Ticket, Replied, Read, next_item, push, poll, ask};
+ghost use Rattle.semantics.specs.Engine.{Engine, Client, Given, Ticket, Replied, Read, next_item, push, poll, ask};
 ghost use Rattle.semantics.specs.World.{WorldStep};
-ghost use Rattle.semantics.specs.WorldHistory.{IsEngineAfter, published_entries, BeginsWith, WasSubmitted, seen_by, IsNotBelow, HasGrown};
+ghost use Rattle.semantics.specs.WorldHistory.{IsEngineAfter, published_entries, BeginsWith, WasSubmitted, WasGiven, seen_by, IsNotBelow, HasGrown};
 
 /// Each history is an entry history of its replica. What is published is a beginning of it, and no token has seen more than that.
 pub fn histories_are_entry_histories()
@@ -55,6 +55,16 @@ pub fn readings_are_of_what_is_published()
     ensures view { (cs : List Configuration) (steps : List WorldStep) (e : ℕ) (E : Engine) → IsEngineAfter cs steps e E →
         (t : ℕ) (q : Question) (n : ℕ) (R : Reading) → (ask E t (OfDocument q)).reply ≡ Read n R →
         R ≡ Answered (view (applied (published_entries E)) q) }
+{}
+
+/// What a token reads, it has seen: after a question all that is published, after a poll at least what was published with the answer.
+pub fn tokens_see_what_they_read()
+    ensures client { (E : Engine) (c : ℕ) (k : Client) (q : Asked) → slice_get E.clients c ≡ Some k →
+        seen_by (ask E c q).engine c ≡ E.published }
+    ensures reader { (E : Engine) (i : ℕ) (q : Asked) → i < length E.readers →
+        seen_by (ask E (length E.clients + i) q).engine (length E.clients + i) ≡ E.published }
+    ensures polled { (E : Engine) (c serial : ℕ) (g : Given) → WasGiven E c serial g →
+        g.published ≤ seen_by (poll E c serial).engine c }
 {}
 
 /// Nothing that was seen goes away: histories, what is published of them and what tokens have seen only grow, and what was submitted and answered stays.
