@@ -1,0 +1,5 @@
+pub mod UnlessMemory
+pub mod StepsLeft
+pub mod CutLines
+pub mod NoFloats
+pub mod WrongLengths

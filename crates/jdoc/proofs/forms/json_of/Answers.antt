@@ -1,0 +1,27 @@
+-- The JSON that a line has, from what the reader of JSON says of its text.
+use Rattle.std.proofs.Common.{◌≡◌, ℕ, List, Bool, true, false, Option, Some, None, Ok, Err, inl, refl, sym, if◌then◌else◌}
+use Rattle.std.specs.Prelude.{IsUtf8}
+use Rattle.std.specs.Option.{ok_or}
+use Rattle.std.specs.Str.{is_utf8}
+use Rattle.std.proofs.lemmas.Str.{IsUtf8-from_is_utf8, is_utf8-from_IsUtf8}
+use Rattle.ids.specs.declared.refusal.Refusal.TheVariants.{BadLine}
+use Rattle.serde_json.specs.Data.{Data}
+use Rattle.serde_json.specs.Read.{read}
+use Rattle.jdoc.specs.Forms.{json_form}
+use Rattle.jdoc.proofs.forms.json_of.Goals as goal
+
+json_form-read : (text : List ℕ) (d : Data) → IsUtf8 text → read text ≡ Some d → json_form text ≡ Ok d
+json_form-read text d u e = rw (is_utf8-from_IsUtf8 text u, e) refl
+
+json_form-unread : (text : List ℕ) → (IsUtf8 text → read text ≡ None) → json_form text ≡ Err BadLine
+json_form-unread text h = of (is_utf8 text) refl where
+  of : (b : Bool) → is_utf8 text ≡ b → json_form text ≡ Err BadLine
+  of true e = rw (e, h (IsUtf8-from_is_utf8 text e)) refl
+  of false e = rw e refl
+
+pub returns-in-Ok : goal.returns-in-Ok
+returns-in-Ok c = json_form-read _ _ c.in-Ok.ensures.ok.0 c.in-Ok.ensures.ok.1
+
+pub returns-else-is_memory : goal.returns-else-is_memory
+returns-else-is_memory c =
+    inl (sym (json_form-unread _ (c.in-Err.ensures.err (λ m. let t : false ≡ true = c.if-is_memory.ensures.1 m in absurd (cc)))))

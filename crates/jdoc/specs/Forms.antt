@@ -1,0 +1,42 @@
+-- What a line of a script and its parts are, as JSON. A part that has no such form is `BadLine`.
+use Rattle.std.specs.Prelude.{◌≡◌, ◌⊎◌, ℕ, List, [], ◌∷◌, Option, Some, None, option_and_then, Result, Ok, Err, if◌then◌else◌}
+use Rattle.std.specs.Option.{ok_or}
+use Rattle.std.specs.Str.{is_utf8}
+use Rattle.ids.specs.declared.refusal.Refusal.{Refusal}
+use Rattle.ids.specs.declared.refusal.Refusal.TheVariants.{NoMemory, BadLine}
+use Rattle.serde_json.specs.Data.{Data, Items, no_items, item}
+use Rattle.serde_json.specs.Find.{as_number, as_str, as_array, as_u64}
+use Rattle.serde_json.specs.Read.{read}
+
+-- this answer, or want of memory
+abbrev pub IsUnlessMemory : {T : Type 0} → Result T Refusal → Result T Refusal → Type 0
+IsUnlessMemory r wanted = (r ≡ wanted) ⊎ (r ≡ Err NoMemory)
+
+-- the next answer, unless this one is a refusal
+abbrev pub and_then : {A B : Type 0} → (A → Result B Refusal) → Result A Refusal → Result B Refusal
+and_then next (Ok x) = next x
+and_then next (Err why) = Err why
+
+-- the JSON of a line
+abbrev pub json_form : List ℕ → Result Data Refusal
+json_form text = if is_utf8 text then ok_or (read text) BadLine else Err BadLine
+
+abbrev pub number_form : Data → Result ℕ Refusal
+number_form d = ok_or (option_and_then as_u64 (as_number d)) BadLine
+
+abbrev pub text_form : Data → Result (List ℕ) Refusal
+text_form d = ok_or (as_str d) BadLine
+
+abbrev pub list_form : Data → Result Items Refusal
+list_form d = ok_or (as_array d) BadLine
+
+abbrev pub with_parts : Items → List ℕ → Result (List ℕ × Items) Refusal
+with_parts parts word = Ok (word, parts)
+
+abbrev pub phrase_of : Items → Result (List ℕ × Items) Refusal
+phrase_of no_items = Err BadLine
+phrase_of (item first parts) = and_then (with_parts parts) (text_form first)
+
+-- a list's first word and its other parts
+abbrev pub phrase_form : Data → Result (List ℕ × Items) Refusal
+phrase_form d = and_then phrase_of (list_form d)

@@ -1,0 +1,10 @@
+pub mod Engines
+pub mod Faults
+pub mod Forms
+pub mod Lines
+pub mod Replies
+pub mod Runs
+pub mod Scripts
+pub mod Statuses
+pub mod Steps
+pub mod Words

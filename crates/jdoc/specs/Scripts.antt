@@ -1,0 +1,43 @@
+-- What a whole script is: an engine and steps. The first bad line, by its number, decides.
+use Rattle.std.specs.Prelude.{◌≡◌, ◌⊎◌, ℕ, ◌+◌, List, [], ◌∷◌, Result, Ok, Err}
+use Rattle.ids.specs.Configurations.{Configuration}
+use Rattle.ids.specs.declared.refusal.Refusal.{Refusal}
+use Rattle.ids.specs.declared.refusal.Refusal.TheVariants.{BadLine}
+use Rattle.world.specs.declared.step.WorldStep.{WorldStep}
+use Rattle.jdoc.specs.Lines.{Cut, cut}
+use Rattle.jdoc.specs.Engines.{engine_line}
+use Rattle.jdoc.specs.Steps.{step_line}
+
+-- the number of a bad line, and why it is bad
+abbrev pub Bad : Type 0
+Bad = ℕ × Refusal
+
+-- what follows an answer, unless that is bad
+abbrev pub unless_bad : {A B : Type 0} → (A → Result B Bad) → Result A Bad → Result B Bad
+unless_bad next (Ok x) = next x
+unless_bad next (Err bad) = Err bad
+
+-- what a line of this number is
+abbrev pub on_line : {A : Type 0} → ℕ → Result A Refusal → Result A Bad
+on_line number (Ok x) = Ok x
+on_line number (Err why) = Err (number, why)
+
+-- the steps on lines from this number on; bytes after the last line are a bad line
+abbrev pub steps_from : List Configuration → ℕ → List (List ℕ) → List ℕ → Result (List WorldStep) Bad
+steps_from engines number [] [] = Ok []
+steps_from engines number [] (b ∷ tail) = Err (number, BadLine)
+steps_from engines number (l ∷ ls) tail =
+    unless_bad (λ s. unless_bad (λ ss. Ok (s ∷ ss)) (steps_from engines (number + 1) ls tail)) (on_line number (step_line engines l))
+
+-- the steps in what is left of a script, after so many lines
+abbrev pub steps_left : List Configuration → ℕ → List ℕ → Result (List WorldStep) Bad
+steps_left engines taken rest = steps_from engines (taken + 1) (cut rest).lines (cut rest).tail
+
+abbrev pub script_of : List (List ℕ) → List ℕ → Result (Configuration × List WorldStep) Bad
+script_of [] tail = Err (1, BadLine)
+script_of (l ∷ ls) tail =
+    unless_bad (λ g. unless_bad (λ ss. Ok (g, ss)) (steps_from (g ∷ []) 2 ls tail)) (on_line 1 (engine_line l))
+
+-- the engine and the steps of a script, whether or not the configuration is within the limits
+abbrev pub script_form : List ℕ → Result (Configuration × List WorldStep) Bad
+script_form bytes = script_of (cut bytes).lines (cut bytes).tail

@@ -1,0 +1,114 @@
+//! Why a run ends without its replies, and the statuses that a run ends with.
+
+ghost use Rattle.std.specs.Prelude.{◌≡◌, ◌≢◌, ◌⊎◌};
+ghost use Rattle.std.specs.IoError.{error_kind};
+ghost use Rattle.jdoc.specs.Statuses.{status_of};
+ghost use Rattle.jdoc.specs.declared.fault.Status.TheVariants.{NotWritten};
+
+use ids::Refusal;
+use std::alloc::{AllocError, AllocFailed};
+use std::io;
+use std::io::{ErrorKind, Write};
+use thiserror::Error;
+
+/// How a run ended, by the status that the process exits with.
+#[derive(Clone, Copy, Debug, PartialEq, Eq)]
+pub enum Status {
+    Done = 0,
+    /// Bad words, or a script that is bad or can't be read.
+    BadInput = 2,
+    NoMemory = 4,
+    /// A write failed; nothing more is written after that.
+    NotWritten = 5,
+}
+
+/// Why a run has no replies, as it is told on standard error.
+#[derive(Debug, Drop, Error)]
+pub enum Fault<'a> {
+    /// The first line of the script that is bad, counted from 1, and why.
+    #[error("jdoc: line {line}: {refusal}")]
+    BadLine { line: u64, refusal: Refusal },
+    #[error("jdoc: cannot read {0}")]
+    CannotRead(&'a str),
+    #[error("jdoc: a word is no text")]
+    BadWord,
+    #[error("jdoc: no memory")]
+    NoMemory,
+}
+
+impl<'a> Fault<'a> {
+    ghost use Rattle.jdoc.specs.declared.fault.Fault.TheVariants.{NoMemory, CannotRead, BadWord};
+    ghost use Rattle.jdoc.specs.Faults.{fault_of};
+
+    /// Why the line of this number has no meaning.
+    pub fn of_line(line: u64, refusal: Refusal) -> Fault<'a>
+        ensures { result ≡ fault_of line refusal }
+    {
+        match refusal {
+            Refusal::NoMemory => Fault::NoMemory,
+            refusal => Fault::BadLine { line, refusal },
+        }
+    }
+
+    /// Why what has this name wasn't read.
+    pub fn of_read(name: &'a str, error: &io::Error) -> Fault<'a>
+        ensures memory { error_kind error.now ≡ ErrorKind.OutOfMemory → result ≡ NoMemory }
+        ensures other { error_kind error.now ≢ ErrorKind.OutOfMemory → result ≡ CannotRead name.entry }
+    {
+        match error.kind() {
+            ErrorKind::OutOfMemory => Fault::NoMemory,
+            _ => Fault::CannotRead(name),
+        }
+    }
+
+    /// Why the program's words weren't read.
+    pub fn of_words(error: &io::Error) -> Fault<'a>
+        ensures memory { error_kind error.now ≡ ErrorKind.OutOfMemory → result ≡ NoMemory }
+        ensures other { error_kind error.now ≢ ErrorKind.OutOfMemory → result ≡ BadWord }
+    {
+        match error.kind() {
+            ErrorKind::OutOfMemory => Fault::NoMemory,
+            _ => Fault::BadWord,
+        }
+    }
+
+    /// The status of a run that ends so.
+    pub fn status(&self) -> Status
+        ensures { result ≡ status_of self.now }
+    {
+        match self {
+            Fault::NoMemory => Status::NoMemory,
+            _ => Status::BadInput,
+        }
+    }
+
+    /// Tells it, and gives the status of the run.
+    pub fn report<W: Write>(&self, faults: &mut W) -> Status
+        ensures { (result ≡ status_of self.now) ⊎ (result ≡ NotWritten) }
+    {
+        match writeln!(faults, "{self}") {
+            Ok(()) => self.status(),
+            Err(_) => Status::NotWritten,
+        }
+    }
+}
+
+impl From<AllocError> for Fault<'_> {
+    ghost use Rattle.jdoc.specs.declared.fault.Fault.TheVariants.{NoMemory};
+
+    ghost from_gives = { λ _ f. f ≡ NoMemory };
+
+    fn from(_e: AllocError) -> Self {
+        Fault::NoMemory
+    }
+}
+
+impl<T: Drop> From<AllocFailed<T>> for Fault<'_> {
+    ghost use Rattle.jdoc.specs.declared.fault.Fault.TheVariants.{NoMemory};
+
+    ghost from_gives = { λ _ f. f ≡ NoMemory };
+
+    fn from(_e: AllocFailed<T>) -> Self {
+        Fault::NoMemory
+    }
+}

@@ -1,0 +1,76 @@
+//! The program: it runs a script of engines and prints what each step replies.
+#![tactic(auto)]
+
+mod configuration;
+mod fault;
+mod forms;
+mod replies;
+mod run;
+mod script;
+mod lines;
+mod steps;
+mod words;
+
+use fault::Fault;
+use run::run_script;
+use std::alloc::AllocError;
+use std::process::ExitCode;
+use std::{env, fs, io};
+use words::{Job, read_words};
+
+fn main(rt: HostRuntime) -> ExitCode {
+    let status = match own_words(&rt) {
+        Ok(owned) => start(&rt, owned.as_slice()),
+        Err(error) => Fault::of_words(&error).report(&mut rt.stderr()) as u8,
+    };
+    ExitCode::from(status)
+}
+
+/// The words after the program's own name.
+fn own_words(rt: &HostRuntime) -> io::Result<Vec<String>> {
+    let mut words = Vec::new(rt.alloc());
+    for word in env::args(rt)?.skip(1) {
+        words.push(word)?;
+    }
+    Ok(words)
+}
+
+fn lent<'a>(rt: &HostRuntime, owned: &'a [String]) -> Result<Vec<&'a str>, AllocError> {
+    owned.iter().map(|word| word.as_str()).collect(rt.alloc())
+}
+
+/// Does what the words ask for, and gives the status.
+fn start(rt: &HostRuntime, owned: &[String]) -> u8 {
+    let mut faults = rt.stderr();
+    let Ok(words) = lent(rt, owned) else {
+        return Fault::NoMemory.report(&mut faults) as u8;
+    };
+    match read_words(rt.alloc(), words.as_slice()) {
+        Ok(Job::Run { script: None }) => run_input(rt),
+        Ok(Job::Run { script: Some(name) }) => run_file(rt, name),
+        Err(error) => words::report(&error, &mut faults) as u8,
+    }
+}
+
+fn run_input(rt: &HostRuntime) -> u8 {
+    run_script(
+        rt.alloc(),
+        "standard input",
+        &mut rt.stdin(),
+        &mut rt.stdout(),
+        &mut rt.stderr(),
+    )
+}
+
+fn run_file(rt: &HostRuntime, name: &str) -> u8 {
+    match fs::open(rt, name) {
+        Ok(mut file) => run_script(
+            rt.alloc(),
+            name,
+            &mut file,
+            &mut rt.stdout(),
+            &mut rt.stderr(),
+        ),
+        Err(error) => Fault::of_read(name, &error).report(&mut rt.stderr()) as u8,
+    }
+}

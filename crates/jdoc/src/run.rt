@@ -1,0 +1,67 @@
+//! Runs a script.
+
+ghost use Rattle.std.specs.Prelude.{◌≡◌, ◌⊎◌, IfOk, IfSome, List, string_bytes};
+ghost use Rattle.std.specs.Io.KnownBytes.{Appends};
+ghost use Rattle.jdoc.specs.declared.fault.Status.TheVariants.{Done, NotWritten};
+ghost use Rattle.world.specs.declared.step.WorldReply.{WorldReply};
+ghost use Rattle.jdoc.specs.Replies.{reply_text};
+ghost use Rattle.jdoc.specs.Runs.{AppendsReplies, IsScript, IsStatus};
+
+use crate::fault::{Fault, Status};
+use crate::replies::reply_lines;
+use crate::script::{Script, read_script};
+use std::alloc::Global;
+use std::io::{Read, Write};
+
+/// Reads a script whole, checks each line, runs its steps, and then prints what they reply. The name is told where the
+/// script can't be read. Gives the status that the process exits with.
+pub fn run_script<R: Read, O: Write, F: Write>(
+    alloc: Global,
+    name: &str,
+    reader: &mut R,
+    out: &mut O,
+    faults: &mut F,
+) -> u8
+    ensures status { IsStatus result }
+
+    // Only what holds of known bytes can be said.
+    ensures done { result ≡ 0 → AppendsReplies (O.contents out.old) (O.contents out.new) }
+    ensures read { result ≡ 0 → IfSome (R.remaining reader.old) IsScript }
+    ensures silent { (result ≡ 2) ⊎ (result ≡ 4) → O.contents out.new ≡ O.contents out.old }
+    ensures no_fault { result ≡ 0 → F.contents faults.new ≡ F.contents faults.old }
+{
+    match replies_of(alloc, name, reader) {
+        Ok(replies) => print(out, replies.as_bytes()) as u8,
+        Err(fault) => fault.report(faults) as u8,
+    }
+}
+
+fn print<W: Write>(out: &mut W, text: &[u8]) -> Status
+    ensures status { (result ≡ Done) ⊎ (result ≡ NotWritten) }
+    ensures done { result ≡ Done → Appends (W.contents out.old) (W.contents out.new) text.now }
+{
+    if out.write_all(text).is_err() || out.flush().is_err() {
+        return Status::NotWritten;
+    }
+    Status::Done
+}
+
+/// What a script's steps reply, as lines of JSON.
+fn replies_of<'a, R: Read>(
+    alloc: Global,
+    name: &'a str,
+    reader: &mut R,
+) -> Result<String, Fault<'a>>
+    ensures text { IfOk result (λ s. (replies : List WorldReply) × (string_bytes s ≡ reply_text replies)) }
+    ensures script { IfOk result (λ s. IfSome (R.remaining reader.old) IsScript) }
+{
+    let mut bytes = Vec::new(alloc);
+    if let Err(error) = reader.read_to_end(&mut bytes) {
+        return Err(Fault::of_read(name, &error));
+    }
+    let Script { mut world, steps } = read_script(alloc, bytes.as_slice())?;
+    match world.run(alloc, steps.as_slice()) {
+        Ok(replies) => Ok(reply_lines(alloc, replies.as_slice())?),
+        Err(_) => Err(Fault::NoMemory),
+    }
+}

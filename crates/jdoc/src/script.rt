@@ -1,0 +1,86 @@
+//! A whole script: a world and the steps to run in it.
+
+ghost use Rattle.std.specs.Prelude.{◌≡◌, ◌⊎◌, [], ◌∷◌, Ok, IfErr, IfOk, MatchResult};
+ghost use Rattle.ids.specs.Configurations.{Configuration};
+ghost use Rattle.ids.specs.declared.refusal.Refusal.{Refusal as TheRefusal};
+ghost use Rattle.jdoc.specs.Faults.{IsFaultOf, IsRefusedWorld, fault_of};
+ghost use Rattle.jdoc.specs.Scripts.{script_form, steps_left};
+
+use crate::configuration::read_engine;
+use crate::fault::Fault;
+use crate::lines::Lines;
+use crate::steps::read_step;
+use ids::{Config, Refusal};
+use std::alloc::Global;
+use world::{World, WorldStep};
+
+/// A script that was read.
+#[derive(Debug, Drop)]
+pub struct Script {
+    /// The world of its first line.
+    pub world: World,
+    /// The steps of its further lines.
+    pub steps: Vec<WorldStep>,
+}
+
+/// Reads a script and checks each line. The first bad line decides.
+pub fn read_script<'a>(alloc: Global, bytes: &[u8]) -> Result<Script, Fault<'a>>
+    ensures ok { IfOk result (λ s. (g : Configuration) × (script_form bytes.now ≡ Ok (g, s.steps.items))) }
+
+    // Whether a configuration is within the limits is the world's to say.
+    ensures err { IfErr result (λ f. IsFaultOf (script_form bytes.now) f ⊎ IsRefusedWorld bytes.now f) }
+{
+    let mut lines = Lines::new(bytes);
+    let Some(first) = lines.take_line() else {
+        return Err(Fault::of_line(1, Refusal::BadLine));
+    };
+    match read_engine(alloc, first.text) {
+        Ok(engine) => open(alloc, engine, &mut lines),
+        Err(why) => Err(Fault::of_line(1, why)),
+    }
+}
+
+/// The world of this engine, with the steps on the lines that are left.
+fn open<'a>(alloc: Global, engine: Config, lines: &mut Lines<'_>) -> Result<Script, Fault<'a>>
+    ensures ok { IfOk result (λ s. steps_left (engine ∷ []) lines.old.taken lines.old.rest.now ≡ Ok s.steps.items) }
+    ensures err { IfErr result (λ f. IsFaultOf (steps_left (engine ∷ []) lines.old.taken lines.old.rest.now) f ⊎ ((why : TheRefusal) × (f ≡ fault_of 1 why))) }
+{
+    let engines = [engine];
+    match World::new(alloc, &engines) {
+        Ok(world) => with_steps(alloc, world, &engines, lines),
+        Err(why) => Err(Fault::of_line(1, why)),
+    }
+}
+
+fn with_steps<'a>(
+    alloc: Global,
+    world: World,
+    engines: &[Config],
+    lines: &mut Lines<'_>,
+) -> Result<Script, Fault<'a>>
+    ensures { MatchResult result (λ s. steps_left engines.now lines.old.taken lines.old.rest.now ≡ Ok s.steps.items) (IsFaultOf (steps_left engines.now lines.old.taken lines.old.rest.now)) }
+{
+    let steps = read_steps(alloc, lines, engines)?;
+    Ok(Script { world, steps })
+}
+
+/// The steps on the lines that are left.
+fn read_steps<'a>(
+    alloc: Global,
+    lines: &mut Lines<'_>,
+    engines: &[Config],
+) -> Result<Vec<WorldStep>, Fault<'a>>
+    ensures { MatchResult result (λ v. steps_left engines.now lines.old.taken lines.old.rest.now ≡ Ok v.items) (IsFaultOf (steps_left engines.now lines.old.taken lines.old.rest.now)) }
+{
+    let mut steps = Vec::new(alloc);
+    while let Some(line) = lines.take_line() {
+        match read_step(alloc, line.text, engines) {
+            Ok(step) => steps.push(step)?,
+            Err(why) => return Err(Fault::of_line(line.number, why)),
+        }
+    }
+    match lines.cut_line() {
+        Some(number) => Err(Fault::of_line(number, Refusal::BadLine)),
+        None => Ok(steps),
+    }
+}
