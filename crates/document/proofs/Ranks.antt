@@ -188,11 +188,11 @@ module _ {K X : Type 0} (R : K → K → Ordering) (k : K) (es : List (K × X)) 
   put_new o v f s =
       ap (λ j. insert es j (k, v)) at ∙ elim (cases_lt i (length es)) [
         | inl h ↦
-          let x = get_or es i (k, v) in
-          let t : get_or es (rank R k es) x ≡ x = ap (λ j. get_or es j x) (sym at) ∙ get_or_default es i x (k, v) h in
-          let n : R k x.0 ≡ Equal → ⊥ = λ q. let found : find R k es ≡ Some x.1 = find_found R k es x (omega arith) (ap (λ y. R k y.0) t ∙ q) ∙ ap (λ y. Some y.1) t in cc in
-          let less : R k x.0 ≡ Less = less_left _ n (ap (λ y. is_gt (R k y.0)) (sym t) ∙ at_rank R k es x (omega arith)) in
-          sym (put_insert R k v es x (ap (λ y. R k y.0) t ∙ less))
+            let x = get_or es i (k, v) in
+            let t : get_or es (rank R k es) x ≡ x = ap (λ j. get_or es j x) (sym at) ∙ get_or_default es i x (k, v) h in
+            let n : R k x.0 ≡ Equal → ⊥ = λ q. let found : find R k es ≡ Some x.1 = find_found R k es x (omega arith) (ap (λ y. R k y.0) t ∙ q) ∙ ap (λ y. Some y.1) t in cc in
+            let less : R k x.0 ≡ Less = less_left _ n (ap (λ y. is_gt (R k y.0)) (sym t) ∙ at_rank R k es x (omega arith)) in
+            sym (put_insert R k v es x (ap (λ y. R k y.0) t ∙ less))
         | inr h ↦ sym (put_insert_end R k v es (omega arith))
       ]
 

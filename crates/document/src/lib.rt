@@ -6,6 +6,8 @@
 mod document;
 mod fields;
 mod question;
+#[cfg(test)]
+mod tests;
 mod written;
 
 pub use document::Document;

@@ -3,7 +3,6 @@ use Rattle.std.proofs.Common.{◌≡◌, ◌≢◌, ◌==◌, ℕ, List, [], ◌
 use Rattle.std.proofs.lemmas.List.Elements.{All-head, All-tail}
 use Rattle.jdoc.specs.Lines.{Cut, cut, lengthened, HasNoEnd, IsFirstLine}
 
-
 other_byte : (b : ℕ) → b ≢ 10 → (b == 10) ≡ false
 other_byte b h = grind (arith)
 

@@ -71,6 +71,17 @@ ask_of-wrong_length (a ∷ b ∷ d ∷ []) h = absurd (h refl)
 ask_of-wrong_length (a ∷ b ∷ d ∷ e ∷ xs) h = refl
 
 -- with what a pattern of a slice tests of its length
-pub ruleset wrong_lengths = (ltb-true, ltb-false, engine_of-wrong_length, only_engine-wrong_length,
-    engines_of-wrong_length, only_step-wrong_length, assign_of-wrong_length, values_of-wrong_length,
-    push_of-wrong_length, step_of-wrong_length, poll_of-wrong_length, ask_of-wrong_length)
+pub ruleset wrong_lengths = (
+  ltb-true,
+  ltb-false,
+  engine_of-wrong_length,
+  only_engine-wrong_length,
+  engines_of-wrong_length,
+  only_step-wrong_length,
+  assign_of-wrong_length,
+  values_of-wrong_length,
+  push_of-wrong_length,
+  step_of-wrong_length,
+  poll_of-wrong_length,
+  ask_of-wrong_length,
+)

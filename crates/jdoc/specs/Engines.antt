@@ -2,7 +2,7 @@
 use Rattle.std.specs.Prelude.{ℕ, ◌^◌, ◌&&◌, List, [], ◌∷◌, Bool, codes, Result, Ok, Err, if◌then◌else◌, nat_lt}
 use Rattle.std.specs.List.{list_all}
 use Rattle.std.specs.Str.{bytes_eq}
-use Rattle.ids.specs.Configurations.{Configuration}
+use Rattle.ids.specs.Configurations.{Configuration, is_within_limits}
 use Rattle.ids.specs.declared.refusal.Refusal.{Refusal}
 use Rattle.ids.specs.declared.refusal.Refusal.TheVariants.{BadLine, BadConfig}
 use Rattle.serde_json.specs.Data.{Data, Items, no_items, item}
@@ -54,6 +54,13 @@ all_fit g = fits g.own && (list_all fits g.members && (fits g.clients && (fits g
 abbrev pub if_fit : Configuration → Result Configuration Refusal
 if_fit g = if all_fit g then Ok g else Err BadConfig
 
+-- the engine that a line says
+abbrev pub said_engine : List ℕ → Result Configuration Refusal
+said_engine text = and_then if_fit (and_then world_form (json_form text))
+
+abbrev pub if_within_limits : Configuration → Result Configuration Refusal
+if_within_limits g = if is_within_limits g then Ok g else Err BadConfig
+
 -- the engine on the first line of a script
 abbrev pub engine_line : List ℕ → Result Configuration Refusal
-engine_line text = and_then if_fit (and_then world_form (json_form text))
+engine_line text = and_then if_within_limits (said_engine text)

@@ -1,10 +1,7 @@
 -- What is told of a bad line.
-use Rattle.std.specs.Prelude.{◌≡◌, ◌⊎◌, ℕ, List, ◌∷◌, Result, Ok, Err}
+use Rattle.std.specs.Prelude.{◌≡◌, ◌⊎◌, ℕ, Result, Err}
 use Rattle.ids.specs.declared.refusal.Refusal.{Refusal}
 use Rattle.ids.specs.declared.refusal.Refusal.TheVariants.{NoMemory}
-use Rattle.ids.specs.Configurations.{Configuration}
-use Rattle.jdoc.specs.Engines.{engine_line}
-use Rattle.jdoc.specs.Lines.{cut}
 use Rattle.jdoc.specs.declared.fault.Fault.{Fault}
 use Rattle.jdoc.specs.declared.fault.Fault.TheVariants as fault
 use Rattle.jdoc.specs.Scripts.{Bad}
@@ -17,9 +14,3 @@ fault_of line why = fault.BadLine line why
 -- the fault is that of the first bad line, or want of memory
 abbrev pub IsFaultOf : {T : Type 0} → Result T Bad → Fault → Type 0
 IsFaultOf r f = (f ≡ fault.NoMemory) ⊎ ((bad : Bad) × (r ≡ Err bad) × (f ≡ fault_of bad.0 bad.1))
-
--- the first line has its form, and no world was made of it
-abbrev pub IsRefusedWorld : List ℕ → Fault → Type 0
-IsRefusedWorld bytes f =
-    (line : List ℕ) × (lines : List (List ℕ)) × (g : Configuration) × (why : Refusal)
-    × ((cut bytes).lines ≡ line ∷ lines) × (engine_line line ≡ Ok g) × (f ≡ fault_of 1 why)

@@ -38,6 +38,6 @@ script_of [] tail = Err (1, BadLine)
 script_of (l ∷ ls) tail =
     unless_bad (λ g. unless_bad (λ ss. Ok (g, ss)) (steps_from (g ∷ []) 2 ls tail)) (on_line 1 (engine_line l))
 
--- the engine and the steps of a script, whether or not the configuration is within the limits
+-- the engine and the steps of a script
 abbrev pub script_form : List ℕ → Result (Configuration × List WorldStep) Bad
 script_form bytes = script_of (cut bytes).lines (cut bytes).tail

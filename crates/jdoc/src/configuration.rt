@@ -6,7 +6,7 @@ ghost use Rattle.std.specs.List.{list_all};
 ghost use Rattle.ids.specs.declared.refusal.Refusal.TheVariants.{NoMemory, BadConfig};
 ghost use Rattle.serde_json.specs.View.{view, items_view};
 ghost use Rattle.jdoc.specs.Forms.{IsUnlessMemory};
-ghost use Rattle.jdoc.specs.Engines.{engine_form, engine_line, engines_of, fits, if_fit, numbers_of, only_engine, world_form};
+ghost use Rattle.jdoc.specs.Engines.{engine_form, said_engine, engines_of, fits, if_fit, numbers_of, only_engine, world_form};
 
 use crate::forms::{json_of, list_in, number_in, phrase_in};
 use ids::{Config, Refusal};
@@ -34,9 +34,10 @@ impl Model for Engine {
     ghost view = { λ e. record { own = e.own; members = e.members.items; clients = e.clients; readers = e.readers; queue = e.queue; batch = e.batch; serials = e.serials } };
 }
 
-/// The engine on a script's first line; for now there is exactly one.
+/// The engine that a script's first line says; for now there is exactly one.
+/// Whether it is within the limits is the world's to say.
 pub fn read_engine(alloc: Global, text: &[u8]) -> Result<Config, Refusal>
-    ensures { IsUnlessMemory result (engine_line text.now) }
+    ensures { IsUnlessMemory result (said_engine text.now) }
 {
     let value = json_of(alloc, text)?;
     world_in(alloc, &value)?.fitted(alloc)

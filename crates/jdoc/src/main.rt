@@ -4,11 +4,13 @@
 mod configuration;
 mod fault;
 mod forms;
+mod lines;
 mod replies;
 mod run;
 mod script;
-mod lines;
 mod steps;
+#[cfg(test)]
+mod tests;
 mod words;
 
 use fault::Fault;

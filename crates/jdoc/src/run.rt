@@ -1,11 +1,9 @@
 //! Runs a script.
 
-ghost use Rattle.std.specs.Prelude.{◌≡◌, ◌⊎◌, IfOk, IfSome, List, string_bytes};
+ghost use Rattle.std.specs.Prelude.{◌≡◌, ◌⊎◌, IfOk, IfSome, string_bytes};
 ghost use Rattle.std.specs.Io.KnownBytes.{Appends};
 ghost use Rattle.jdoc.specs.declared.fault.Status.TheVariants.{Done, NotWritten};
-ghost use Rattle.world.specs.declared.step.WorldReply.{WorldReply};
-ghost use Rattle.jdoc.specs.Replies.{reply_text};
-ghost use Rattle.jdoc.specs.Runs.{AppendsReplies, IsScript, IsStatus};
+ghost use Rattle.jdoc.specs.Runs.{AppendsReplies, IsReplyText, IsStatus};
 
 use crate::fault::{Fault, Status};
 use crate::replies::reply_lines;
@@ -25,8 +23,7 @@ pub fn run_script<R: Read, O: Write, F: Write>(
     ensures status { IsStatus result }
 
     // Only what holds of known bytes can be said.
-    ensures done { result ≡ 0 → AppendsReplies (O.contents out.old) (O.contents out.new) }
-    ensures read { result ≡ 0 → IfSome (R.remaining reader.old) IsScript }
+    ensures done { result ≡ 0 → AppendsReplies (R.remaining reader.old) (O.contents out.old) (O.contents out.new) }
     ensures silent { (result ≡ 2) ⊎ (result ≡ 4) → O.contents out.new ≡ O.contents out.old }
     ensures no_fault { result ≡ 0 → F.contents faults.new ≡ F.contents faults.old }
 {
@@ -52,8 +49,7 @@ fn replies_of<'a, R: Read>(
     name: &'a str,
     reader: &mut R,
 ) -> Result<String, Fault<'a>>
-    ensures text { IfOk result (λ s. (replies : List WorldReply) × (string_bytes s ≡ reply_text replies)) }
-    ensures script { IfOk result (λ s. IfSome (R.remaining reader.old) IsScript) }
+    ensures ok { IfOk result (λ s. IfSome (R.remaining reader.old) (λ bytes. IsReplyText bytes (string_bytes s))) }
 {
     let mut bytes = Vec::new(alloc);
     if let Err(error) = reader.read_to_end(&mut bytes) {

@@ -1,10 +1,12 @@
 //! A whole script: a world and the steps to run in it.
 
-ghost use Rattle.std.specs.Prelude.{◌≡◌, ◌⊎◌, [], ◌∷◌, Ok, IfErr, IfOk, MatchResult};
-ghost use Rattle.ids.specs.Configurations.{Configuration};
-ghost use Rattle.ids.specs.declared.refusal.Refusal.{Refusal as TheRefusal};
-ghost use Rattle.jdoc.specs.Faults.{IsFaultOf, IsRefusedWorld, fault_of};
-ghost use Rattle.jdoc.specs.Scripts.{script_form, steps_left};
+ghost use Rattle.std.specs.Prelude.{◌≡◌, [], ◌∷◌, Ok, IfErr, IfOk, MatchResult, true};
+ghost use Rattle.ids.specs.Configurations.{Configuration, is_within_limits};
+ghost use Rattle.semantics.specs.World.{opened};
+ghost use Rattle.world.specs.Worlds.{world_of};
+ghost use Rattle.jdoc.specs.Engines.{if_within_limits};
+ghost use Rattle.jdoc.specs.Faults.{IsFaultOf};
+ghost use Rattle.jdoc.specs.Scripts.{on_line, script_form, steps_left, unless_bad};
 
 use crate::configuration::read_engine;
 use crate::fault::Fault;
@@ -25,10 +27,8 @@ pub struct Script {
 
 /// Reads a script and checks each line. The first bad line decides.
 pub fn read_script<'a>(alloc: Global, bytes: &[u8]) -> Result<Script, Fault<'a>>
-    ensures ok { IfOk result (λ s. (g : Configuration) × (script_form bytes.now ≡ Ok (g, s.steps.items))) }
-
-    // Whether a configuration is within the limits is the world's to say.
-    ensures err { IfErr result (λ f. IsFaultOf (script_form bytes.now) f ⊎ IsRefusedWorld bytes.now f) }
+    ensures ok { IfOk result (λ s. (g : Configuration) × (script_form bytes.now ≡ Ok (g, s.steps.items)) × (world_of s.world ≡ opened (g ∷ []))) }
+    ensures err { IfErr result (IsFaultOf (script_form bytes.now)) }
 {
     let mut lines = Lines::new(bytes);
     let Some(first) = lines.take_line() else {
@@ -42,8 +42,10 @@ pub fn read_script<'a>(alloc: Global, bytes: &[u8]) -> Result<Script, Fault<'a>>
 
 /// The world of this engine, with the steps on the lines that are left.
 fn open<'a>(alloc: Global, engine: Config, lines: &mut Lines<'_>) -> Result<Script, Fault<'a>>
-    ensures ok { IfOk result (λ s. steps_left (engine ∷ []) lines.old.taken lines.old.rest.now ≡ Ok s.steps.items) }
-    ensures err { IfErr result (λ f. IsFaultOf (steps_left (engine ∷ []) lines.old.taken lines.old.rest.now) f ⊎ ((why : TheRefusal) × (f ≡ fault_of 1 why))) }
+    ensures allowed { IfOk result (λ s. is_within_limits engine ≡ true) }
+    ensures world { IfOk result (λ s. world_of s.world ≡ opened (engine ∷ [])) }
+    ensures steps { IfOk result (λ s. steps_left (engine ∷ []) lines.old.taken lines.old.rest.now ≡ Ok s.steps.items) }
+    ensures err { IfErr result (IsFaultOf (unless_bad (λ g. steps_left (g ∷ []) lines.old.taken lines.old.rest.now) (on_line 1 (if_within_limits engine)))) }
 {
     let engines = [engine];
     match World::new(alloc, &engines) {
@@ -58,7 +60,8 @@ fn with_steps<'a>(
     engines: &[Config],
     lines: &mut Lines<'_>,
 ) -> Result<Script, Fault<'a>>
-    ensures { MatchResult result (λ s. steps_left engines.now lines.old.taken lines.old.rest.now ≡ Ok s.steps.items) (IsFaultOf (steps_left engines.now lines.old.taken lines.old.rest.now)) }
+    ensures world { IfOk result (λ s. s.world ≡ world) }
+    ensures steps { MatchResult result (λ s. steps_left engines.now lines.old.taken lines.old.rest.now ≡ Ok s.steps.items) (IsFaultOf (steps_left engines.now lines.old.taken lines.old.rest.now)) }
 {
     let steps = read_steps(alloc, lines, engines)?;
     Ok(Script { world, steps })

@@ -41,8 +41,9 @@ fn command<'a>(alloc: Global) -> Result<Command<'a>, AllocError>
     ensures words { IfOk result (λ c. app_of c ≡ jdoc_app) }
     ensures local { IfOk result (λ c. (fields_of c).has_globals ≡ false) }
 {
-    let script = Arg::new(alloc, "SCRIPT")
-        .help("The file with the script; standard input where none is given");
+    let script = Arg::new(alloc, "SCRIPT").help(
+        "The file with the script; standard input where none is given",
+    );
     let run = Command::new(alloc, "run")
         .about("Runs a script and prints what each step replies")
         .arg(script)?;

@@ -8,6 +8,8 @@ mod command;
 mod cursor;
 mod key;
 mod op;
+#[cfg(test)]
+mod tests;
 mod value;
 mod vector;
 

@@ -1,9 +1,9 @@
 -- What is made of a command at one key.
-use Rattle.std.proofs.Common.{◌≡◌, ℕ, suc, true, false, cond, nat_le, List, [], ◌∷◌, length, Ok, Err, refl, sym, ap, ◌∙◌}
+use Rattle.std.proofs.Common.{◌≡◌, ℕ, suc, true, false, cond, nat_le, List, [], ◌∷◌, length, Ok, Err, sym, ap, ◌∙◌}
 use Rattle.ids.specs.declared.refusal.Refusal.TheVariants.{HistoryFull}
 use Rattle.semantics.specs.Ids.{id_at}
 use Rattle.semantics.specs.Elements.{Name, Doc, Field, At}
-use Rattle.semantics.specs.Operations.{Operation, Mutation as TheMutation}
+use Rattle.semantics.specs.Operations.{Operation}
 use Rattle.semantics.specs.LegalHistory.{has_id, greatest_of}
 use Rattle.semantics.specs.Questions.{Get, resolve}
 use Rattle.semantics.specs.Context.{doc}

@@ -1,9 +1,9 @@
 -- What is opened within the limits.
-use Rattle.std.proofs.Common.{◌≡◌, ℕ, ◌≤◌, true, false, ◌&&◌, ◌||◌, ◌==◌, nat_le, List, [], ◌∷◌, refl, sym, ap, ◌∙◌, true≢false, arith}
+use Rattle.std.proofs.Common.{◌≡◌, ℕ, ◌≤◌, true, false, ◌&&◌, ◌==◌, nat_le, List, [], ◌∷◌, refl, sym, ap, ◌∙◌, true≢false, arith}
 use Rattle.std.specs.List.{list_all}
 use Rattle.std.proofs.lemmas.Bool.{and_parts, or_from, leb-true, ne_eqb}
-use Rattle.ids.specs.Members.{is_member, in_order}
-use Rattle.ids.specs.Configurations.{Configuration, is_within_limits, are_members, is_from_one_to}
+use Rattle.ids.specs.Members.{is_member}
+use Rattle.ids.specs.Configurations.{Configuration, is_within_limits, are_members}
 use Rattle.ids.proofs.InOrder.{is_member-in_order}
 use Rattle.semantics.specs.World.{opened_engine}
 use Rattle.semantics.proofs.SoundWorlds.{sound_opened_engine}

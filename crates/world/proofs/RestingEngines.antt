@@ -1,5 +1,5 @@
 -- An engine between whole steps stays so where a client submits or a token reads.
-use Rattle.std.proofs.Common.{◌≡◌, ℕ, Bool, true, false, nat_le, List, [], length, Option, Some, None, refl, sym, ap, ◌∙◌, subst, slice_get}
+use Rattle.std.proofs.Common.{◌≡◌, ℕ, Bool, true, false, nat_le, [], length, Option, Some, None, refl, sym, ap, ◌∙◌, subst, slice_get}
 use Rattle.std.specs.Prelude.{IsTrue}
 use Rattle.ids.specs.Members.{is_member}
 use Rattle.semantics.specs.Making.{Command}

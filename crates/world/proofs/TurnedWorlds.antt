@@ -1,6 +1,6 @@
 -- One step of a world, where its engine is there.
-use Rattle.std.proofs.Common.{◌≡◌, ℕ, zero, suc, ◌<◌, ◌≤◌, List, [], ◌∷◌, ◌++◌, length, get_or, Option, Some, None, refl, ap, ◌∙◌, arith, slice_get, slice_set}
-use Rattle.std.proofs.lemmas.Option.{slice_get_past, slice_get_read}
+use Rattle.std.proofs.Common.{◌≡◌, ℕ, zero, suc, ◌<◌, ◌≤◌, List, [], ◌∷◌, ◌++◌, length, get_or, Some, None, refl, arith, slice_get, slice_set}
+use Rattle.std.proofs.lemmas.Option.{slice_get_past}
 use Rattle.semantics.specs.Engine.{Engine, Idle}
 use Rattle.semantics.specs.World.{WorldStep, mover, engine_step, world_step}
 use Rattle.world.specs.Turns.{IsResting}

@@ -1,10 +1,10 @@
 -- Steps, replies, replicas and clients of the program as those of the definitions.
-use Rattle.std.specs.Prelude.{◌≡◌, ℕ, List, [], map, option_map, Option, Ok, Result}
+use Rattle.std.specs.Prelude.{◌≡◌, ℕ, List, [], map, option_map, Ok}
 use Rattle.semantics.specs.Operations.{Operation}
 use Rattle.semantics.specs.Stamped.{Stamped}
 use Rattle.semantics.specs.Making.{Command as TheCommand, make}
 use Rattle.semantics.specs.Entries.{Entry as TheEntry, applied}
-use Rattle.semantics.specs.LegalAnswer.{Submitted, Reply as TheReply, Made as MadeAs, NotMade, Asked, OfDocument, Answered}
+use Rattle.semantics.specs.LegalAnswer.{Submitted, Reply as TheReply, Made as MadeAs, NotMade, OfDocument, Answered}
 use Rattle.semantics.specs.Replica.{Replica as TheReplica}
 use Rattle.semantics.specs.Engine as engine
 use Rattle.semantics.specs.World as world

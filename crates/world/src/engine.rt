@@ -100,12 +100,16 @@ impl Engine {
     {
         match step {
             WorldStep::Push {
-                client, command, ..
+                client,
+                command,
+                ..
             } => self.push(*client, command),
             WorldStep::Step { .. } => self.step(alloc),
             WorldStep::Poll { client, serial, .. } => Ok(self.poll(*client, *serial)),
             WorldStep::Ask {
-                token, question, ..
+                token,
+                question,
+                ..
             } => self.ask(alloc, *token, question),
         }
     }

@@ -9,3 +9,6 @@ mod world;
 
 pub use step::{Reply, WorldReply, WorldStep};
 pub use world::World;
+
+#[cfg(test)]
+mod tests;

@@ -14,7 +14,9 @@ pub enum WorldStep {
         command: Command,
     },
     /// The writer takes up to a batch of items and handles them, publishes, and then sets their answers.
-    Step { engine: usize },
+    Step {
+        engine: usize,
+    },
     /// A client polls one of its serials.
     Poll {
         engine: usize,

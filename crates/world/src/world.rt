@@ -143,11 +143,7 @@ fn run_all(
 }
 
 /// One step: its engine moves, and the others stay.
-fn turn(
-    alloc: Global,
-    engines: &mut Vec<Engine>,
-    step: &WorldStep,
-) -> Result<WorldReply, Refusal>
+fn turn(alloc: Global, engines: &mut Vec<Engine>, step: &WorldStep) -> Result<WorldReply, Refusal>
     requires { AllResting engines.old.items }
     ensures world { OnOk result (world engines.new.items ≡ (world_step (world engines.old.items) (step_of step.now)).world) }
     ensures reply { IfOk result (λ r. reply_of r ≡ (world_step (world engines.old.items) (step_of step.now)).reply) }

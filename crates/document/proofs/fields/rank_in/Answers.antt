@@ -29,8 +29,9 @@ loop-low-preserved-in-Greater g c =
 pub loop-low-preserved : goal.loop-low-preserved
 loop-low-preserved g c =
     let middle : ℕ = c.loop-low.low + (c.loop-low.high - c.loop-low.low) / 2 in
-    let below : middle < c.loop-low.high = halfway c.loop-low.low c.loop-low.high c.loop-low-test.true in
-    (c.loop-low.invariant.0,
-    rank_le name_cmp c.args.key.now c.args.entries.now middle c.index-entries-middle.result (omega arith)
-    (ap is_gt (sym c.cmp.ensures) ∙ not_greater c.cmp.result c.in_default.not-Greater),
-    omega arith)
+    let below : middle < c.loop-low.high = halfway c.loop-low.low c.loop-low.high c.loop-low-test.true in (
+      c.loop-low.invariant.0,
+      rank_le name_cmp c.args.key.now c.args.entries.now middle c.index-entries-middle.result (omega arith)
+          (ap is_gt (sym c.cmp.ensures) ∙ not_greater c.cmp.result c.in_default.not-Greater),
+      omega arith,
+    )

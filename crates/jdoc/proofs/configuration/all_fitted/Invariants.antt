@@ -7,5 +7,5 @@ use Rattle.jdoc.proofs.configuration.all_fitted.Given as goal
 abbrev pub invariant-loop-number : goal.invariant-loop-number
 invariant-loop-number l = record {
   copied : l.all.items ≡ take l.number-index l.numbers;
-  left : list_all fits (drop l.number-index l.numbers) ≡ list_all fits l.numbers
+  left : list_all fits (drop l.number-index l.numbers) ≡ list_all fits l.numbers;
 }

@@ -11,10 +11,10 @@ returns-clause-words c =
     let script_is : rule_of c.help-script.result ≡ script_rule = search rules in
     let named : app_of c.about.result ≡ new_app (codes "run") = ap app_of_fields c.about.ensures ∙ c.new-2.ensures.app in
     let run_is : app_of c.in_ok-run.run' ≡ run_app =
-        c.in_ok-run.ensures.shape (search rules) ∙ ap₂ with_rule named script_is in
+    c.in_ok-run.ensures.shape (search rules) ∙ ap₂ with_rule named script_is in
     let top_is : app_of c.subcommand_required.result ≡ on_top with_settings (new_app (codes "jdoc")) =
-        rw (c.subcommand_required.ensures, c.no_binary_name.ensures, c.about-2.ensures, c.in_ok-bin_name.ensures.0)
-        (ap (on_top with_settings) c.new-3.ensures.app) in
+    rw (c.subcommand_required.ensures, c.no_binary_name.ensures, c.about-2.ensures, c.in_ok-bin_name.ensures.0)
+    (ap (on_top with_settings) c.new-3.ensures.app) in
     let local : (out-Command c.in_ok-run.run').has_globals ≡ false = search rules in
     IfOk-weaker c.subcommand.result _ _
     (λ r added. added.shape local ∙ ap₂ with_subcommand top_is (ap (λ (a : App). a.top) run_is)) c.subcommand.ensures

@@ -26,7 +26,7 @@ returns-clause-job c =
     let command_is = c.in_ok-command.ensures.words in
     let found = c.in_ok-matches.ensures.matches (ap is_simple command_is ∙ is_simple-jdoc_app) in
     let same : subcommand_of jdoc_app words ≡ subcommand_rows_of c.in_ok-matches.matches =
-        ap (λ (a : App). subcommand_of a words) (sym command_is) ∙ sym found.1 in
+    ap (λ (a : App). subcommand_of a words) (sym command_is) ∙ sym found.1 in
     let text = c.get_str.ensures ∙ first_value-rows (found_of c.in-Some.found.now) (codes "SCRIPT") in
     ap (option_map (λ (p : Text × List Row). first_of (codes "SCRIPT") p.1)) same
     ∙ script_from (subcommand_rows_of c.in_ok-matches.matches) _ c.in-Some.ensures.rows

@@ -1,6 +1,5 @@
 use Rattle.std.proofs.Common.{◌≡◌, ◌<◌, Some, length, map, set, sym, ap, ◌∙◌, slice_get, arith}
 use Rattle.std.proofs.lemmas.List.{map-set}
-use Rattle.semantics.specs.Engine.{with_answer}
 use Rattle.world.specs.Meanings.{client_of, answer_to}
 use Rattle.world.proofs.SingleSteps.{read_mapped, give_to-there}
 use Rattle.world.proofs.engine.give.Goals as goal

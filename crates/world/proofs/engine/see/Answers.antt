@@ -1,7 +1,7 @@
-use Rattle.std.proofs.Common.{◌≡◌, ℕ, ◌<◌, ◌≤◌, ◌-◌, Some, None, List, length, map, set, sym, ap, ◌∙◌, slice_get, arith}
+use Rattle.std.proofs.Common.{◌≡◌, ◌<◌, ◌-◌, Some, None, List, length, map, set, sym, ap, ◌∙◌, slice_get, arith}
 use Rattle.std.proofs.lemmas.List.{map-set, length-map}
 use Rattle.std.proofs.lemmas.Option.{slice_get_past}
-use Rattle.semantics.specs.Engine.{Engine as TheEngine, Client as TheClient}
+use Rattle.semantics.specs.Engine.{Client as TheClient}
 use Rattle.world.specs.Meanings.{client_of, cell_of}
 use Rattle.world.proofs.SingleSteps.{read_mapped, see-client, see-reader}
 use Rattle.world.proofs.engine.see.Goals as goal

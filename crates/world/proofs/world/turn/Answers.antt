@@ -1,11 +1,10 @@
-use Rattle.std.proofs.Common.{◌≡◌, ℕ, ◌<◌, List, Result, Ok, Err, Some, length, set, get_or, refl, sym, ap, ◌∙◌, arith, slice_get}
+use Rattle.std.proofs.Common.{◌≡◌, Result, Ok, Err, Some, length, set, refl, sym, ap, ◌∙◌, arith, slice_get}
 use Rattle.std.specs.Prelude.{OnOk, IfOk}
 use Rattle.std.proofs.lemmas.Option.{slice_get_read}
-use Rattle.semantics.specs.Engine.{Engine, StepReply}
-use Rattle.semantics.specs.World.{WorldStep, WorldTurn, mover, engine_step, world_step}
-use Rattle.world.specs.Meanings.{step_of, reply_of}
-use Rattle.world.specs.Turns.{IsResting}
-use Rattle.world.specs.Worlds.{world, AllResting}
+use Rattle.semantics.specs.Engine.{Engine}
+use Rattle.semantics.specs.World.{WorldStep, WorldTurn, mover, engine_step}
+use Rattle.world.specs.Meanings.{step_of}
+use Rattle.world.specs.Worlds.{world}
 use Rattle.world.proofs.TurnedWorlds.{resting_at, resting_set, world_step-there}
 use Rattle.world.proofs.world.turn.Goals as goal
 

@@ -1,6 +1,5 @@
-use Rattle.std.proofs.Common.{◌≡◌, ℕ, ◌-◌, ◌<◌, Some, List, length, map, set, get_or, refl, sym, ap, ◌∙◌, slice_get, arith}
+use Rattle.std.proofs.Common.{◌≡◌, ℕ, ◌-◌, ◌<◌, Some, length, map, set, sym, ap, ◌∙◌, slice_get, arith}
 use Rattle.std.proofs.lemmas.List.{map-set}
-use Rattle.semantics.specs.Engine as engine
 use Rattle.world.specs.Meanings.{cell_of, client_of, given_of}
 use Rattle.world.proofs.SingleSteps.{read_mapped, with_answer-there}
 use Rattle.world.proofs.client.Client.answer.Goals as goal

@@ -1,11 +1,11 @@
-use Rattle.std.proofs.Common.{◌≡◌, ℕ, List, length, sym, ap, ◌∙◌}
+use Rattle.std.proofs.Common.{◌≡◌, List, length, sym, ap, ◌∙◌}
 use Rattle.semantics.specs.Questions.{Question}
 use Rattle.semantics.specs.DocumentAnswer.{document_answer}
 use Rattle.semantics.specs.Entries.{Entry, applied, first_entries}
 use Rattle.semantics.specs.LegalAnswer.{Answered}
 use Rattle.semantics.specs.Engine.{Engine as TheEngine, Read}
 use Rattle.semantics.proofs.OwnReplies.{all_first}
-use Rattle.document.specs.Documents.{question_of, answer_of}
+use Rattle.document.specs.Documents.{question_of}
 use Rattle.world.specs.contracts.engine.Engine.{the_view}
 use Rattle.world.proofs.engine.Engine.ask.Goals as goal
 

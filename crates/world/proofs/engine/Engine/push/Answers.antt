@@ -1,10 +1,10 @@
-use Rattle.std.proofs.Common.{◌≡◌, ℕ, ◌<◌, ◌≤◌, false, nat_le, Some, List, [], ◌∷◌, ◌++◌, length, map, set, refl, sym, ap, ◌∙◌, slice_get, arith, rules}
+use Rattle.std.proofs.Common.{◌≡◌, ◌<◌, false, nat_le, Some, [], ◌∷◌, ◌++◌, length, map, set, sym, ap, ◌∙◌, slice_get, arith}
 use Rattle.std.proofs.lemmas.List.{map-set, map-append, length-map}
 use Rattle.std.proofs.lemmas.Option.{same_Some}
 use Rattle.std.proofs.lemmas.Bool.{lt-leb}
 use Rattle.semantics.specs.LegalAnswer.{Submitted}
 use Rattle.semantics.specs.Making.{Command}
-use Rattle.semantics.specs.Engine.{Engine as TheEngine, Client as TheClient, Turn, Ticket, push, next_item, with_cell}
+use Rattle.semantics.specs.Engine.{Engine as TheEngine, Turn, Ticket, next_item, with_cell}
 use Rattle.operation.specs.Meanings.{command_of}
 use Rattle.world.specs.Meanings.{client_of, cell_of, submitted_of}
 use Rattle.world.specs.contracts.engine.Engine.{the_view}

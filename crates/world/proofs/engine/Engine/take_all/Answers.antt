@@ -1,10 +1,9 @@
-use Rattle.std.proofs.Common.{◌≡◌, inl, ℕ, suc, ◌-◌, ◌+◌, ◌<◌, ◌≤◌, List, [], ◌∷◌, ◌++◌, map, length, vec_len, refl, sym, ap, ◌∙◌, subst, arith}
+use Rattle.std.proofs.Common.{◌≡◌, inl, suc, ◌-◌, List, [], ◌∷◌, ◌++◌, map, length, vec_len, refl, sym, ap, ◌∙◌, subst, arith}
 use Rattle.std.specs.Prelude.{IsTrue}
 use Rattle.std.proofs.lemmas.List.{map-append}
 use Rattle.ids.specs.Members.{is_member}
 use Rattle.semantics.specs.LegalHistory.{IsAmong}
 use Rattle.semantics.specs.LegalAnswer.{Submitted, Reply}
-use Rattle.semantics.specs.Replica.{Replica as TheReplica}
 use Rattle.semantics.specs.Engine.{Engine as TheEngine, after_item}
 use Rattle.world.specs.Meanings.{submitted_of, replica_of, answer_to}
 use Rattle.world.specs.Turns.{Told, IsTaking, HasTaken, told_of}
@@ -51,12 +50,12 @@ returns-clause-taken c =
     let tell : List Told = map told_of c.loop-self.handled.items in
     elim c.loop-self-test.branch [
       | else-loop-self-test w ↦
-        let zero : c.loop-self.self-inside.batch - vec_len c.loop-self.handled ≡ 0 = omega (arith, w.loop-self-test.false) in
-        subst (λ G. HasTaken E G tell) (sym w.self-is) (taken_whole E F tell (subst (λ n. IsTaking E F n tell) zero c.loop-self.invariant))
+          let zero : c.loop-self.self-inside.batch - vec_len c.loop-self.handled ≡ 0 = omega (arith, w.loop-self-test.false) in
+          subst (λ G. HasTaken E G tell) (sym w.self-is) (taken_whole E F tell (subst (λ n. IsTaking E F n tell) zero c.loop-self.invariant))
       | then-loop-self-test+in_default w ↦
-        let q = c.loop-self.self-inside.queue in
-        let none : length q.items ≡ 0 = omega (arith, w.in_default.ensures.cases) in
-        let stays : q.items ≡ w.pop_front.new.self.items = w.in_default.ensures.items in
-        let as_is : F ≡ c.loop-self-test.self = (λ i. record F { queue = map submitted_of (stays i) }) ∙ sym w.self-is in
-        subst (λ G. HasTaken E G tell) as_is (taken_empty E F (c.loop-self.self-inside.batch - vec_len c.loop-self.handled) tell c.loop-self.invariant (ap (map submitted_of) (none_of q.items none)))
+          let q = c.loop-self.self-inside.queue in
+          let none : length q.items ≡ 0 = omega (arith, w.in_default.ensures.cases) in
+          let stays : q.items ≡ w.pop_front.new.self.items = w.in_default.ensures.items in
+          let as_is : F ≡ c.loop-self-test.self = (λ i. record F { queue = map submitted_of (stays i) }) ∙ sym w.self-is in
+          subst (λ G. HasTaken E G tell) as_is (taken_empty E F (c.loop-self.self-inside.batch - vec_len c.loop-self.handled) tell c.loop-self.invariant (ap (map submitted_of) (none_of q.items none)))
     ]

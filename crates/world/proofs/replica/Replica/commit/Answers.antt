@@ -1,4 +1,3 @@
-use Rattle.semantics.specs.Entries.{Entry}
 use Rattle.operation.specs.Meanings.{command_of, stamped_of}
 use Rattle.world.proofs.HandledCommands.{may_append}
 use Rattle.world.proofs.replica.Replica.commit.Goals as goal

@@ -1,16 +1,13 @@
-use Rattle.std.proofs.Common.{◌≡◌, ℕ, suc, inr, ◌+◌, ◌≤◌, true, false, nat_le, [], ◌∷◌, List, length, refl, sym, ap, ◌∙◌, arith, add-one}
+use Rattle.std.proofs.Common.{◌≡◌, suc, inr, ◌+◌, true, [], ◌∷◌, length, sym, ap, ◌∙◌, arith, add-one}
 use Rattle.std.proofs.lemmas.Bool.{le-leb, lt-leb}
-use Rattle.semantics.specs.Ids.{id_at}
-use Rattle.semantics.specs.Elements.{Name, Place, At, Doc, Field}
+use Rattle.semantics.specs.Elements.{Name}
 use Rattle.semantics.specs.LegalHistory.{greatest_of}
-use Rattle.semantics.specs.Vectors.{Vector}
 use Rattle.semantics.specs.NamedIds.{vector_of}
 use Rattle.semantics.specs.Tables.{by_table}
-use Rattle.semantics.specs.Questions.{Step, Get}
-use Rattle.semantics.specs.Stamped.{Stamped}
+use Rattle.semantics.specs.Questions.{Get}
 use Rattle.semantics.specs.Entries.{applied}
 use Rattle.semantics.proofs.EntryHistories.{length-applied}
-use Rattle.operation.specs.Meanings.{command_of, mutation_of, stamped_of}
+use Rattle.operation.specs.Meanings.{command_of, mutation_of}
 use Rattle.world.proofs.MadeOperations.{make-at_key, make-full, made_at}
 use Rattle.world.proofs.replica.Replica.make.Goals as goal
 
@@ -31,8 +28,9 @@ returns-clause-made c =
     sym c.expression.ensures ∙ c.key.ensures ∙ ap (λ (k : Name). Get k ∷ []) (sym same_key) in
     let counter : c.greatest-counter.result + 1 ≡ suc (greatest_of (λ a. true) (applied G)) =
     add-one c.greatest-counter.result ∙ ap suc (c.greatest-counter.ensures ∙ c.applied-applied.ensures.greatest) in
-    let vector : by_table table c.in_ok-deps.deps ≡ vector_of (applied G) = ap (by_table table) same_deps ∙ c.applied-applied.ensures.all in
-    (made_at (applied G) c.args.self.now.own c.in_ok-key.key c.mutation.result,
-    make-at_key (applied G) c.args.self.now.own (command_of c.args.command.now) c.in_ok-key.key c.mutation.result at c.mutation.ensures
-    (lt-leb 1048576 (length (applied G)) (omega (arith, n, c.len.ensures, c.if-len-ge-MOST_ENTRIES.false))),
-    λ i. record { id = record { counter = counter i; replica = c.args.self.now.own }; vector = vector i; place = c.field.ensures i; mutation = mutation_of c.mutation.result })
+    let vector : by_table table c.in_ok-deps.deps ≡ vector_of (applied G) = ap (by_table table) same_deps ∙ c.applied-applied.ensures.all in (
+      made_at (applied G) c.args.self.now.own c.in_ok-key.key c.mutation.result,
+      make-at_key (applied G) c.args.self.now.own (command_of c.args.command.now) c.in_ok-key.key c.mutation.result at c.mutation.ensures
+          (lt-leb 1048576 (length (applied G)) (omega (arith, n, c.len.ensures, c.if-len-ge-MOST_ENTRIES.false))),
+      λ i. record { id = record { counter = counter i; replica = c.args.self.now.own }; vector = vector i; place = c.field.ensures i; mutation = mutation_of c.mutation.result },
+    )
