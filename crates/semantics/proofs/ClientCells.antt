@@ -3,7 +3,9 @@ use Rattle.std.proofs.Common.{◌≡◌, ◌⊎◌, inl, inr, ℕ, zero, suc, co
 use Rattle.std.proofs.lemmas.Bool.{ne_eqb}
 use Rattle.std.proofs.lemmas.List.{length-set}
 use Rattle.std.proofs.lemmas.Option.{slice_get_within}
-use Rattle.semantics.specs.Engine.{Cell, Client, Given, cell_at, with_answer}
+use Rattle.semantics.specs.Engine.{Cell, Client, Given}
+use Rattle.semantics.specs.WriteSteps.{with_answer}
+use Rattle.semantics.specs.ReadSteps.{cell_at}
 use Rattle.semantics.proofs.SetElements.{get-set_same, get-set_other, get-append, get-append_last, get-append_cases}
 
 -- serials count from 1, places from 0

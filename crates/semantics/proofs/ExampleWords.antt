@@ -15,7 +15,7 @@ use Rattle.semantics.specs.Entries.{stamped_in, stamped_of, missing}
 use Rattle.semantics.specs.LegalAnswer.{Submitted}
 use Rattle.semantics.specs.Replica.{Replica, operations}
 use Rattle.semantics.specs.Drain.{receive_all}
-use Rattle.semantics.specs.Engine.{after_item}
+use Rattle.semantics.specs.WriteSteps.{after_item}
 use Rattle.semantics.specs.Ids.{id_at}
 
 -- the value that is a text, and that is a whole number

@@ -10,7 +10,7 @@ use Rattle.semantics.specs.Making.{make}
 use Rattle.semantics.specs.Entries.{Own, stamped_of, IsAbove, IsEntryHistory}
 use Rattle.semantics.specs.LegalAnswer.{Submitted, Reply}
 use Rattle.semantics.specs.Replica.{Replica, operations}
-use Rattle.semantics.specs.Engine.{stamp, after_made, reply_made, after_item, reply_to}
+use Rattle.semantics.specs.WriteSteps.{stamp, after_made, reply_made, after_item, reply_to}
 use Rattle.semantics.specs.WorldHistory.{BeginsWith}
 use Rattle.semantics.proofs.NamedOperations.{legal}
 use Rattle.semantics.proofs.AppliedVectors.{at-vector_of}

@@ -5,7 +5,7 @@ use Rattle.semantics.specs.Ids.{id_at}
 use Rattle.semantics.specs.Questions.{Step, Get, Idx, Values, Keys, Items, Conflicts, Refused}
 use Rattle.semantics.specs.Making.{Command}
 use Rattle.semantics.specs.LegalAnswer.{Reply, Made, NotMade}
-use Rattle.semantics.specs.Engine.{reply_to}
+use Rattle.semantics.specs.WriteSteps.{reply_to}
 use Rattle.semantics.proofs.ExampleWords.{whole, assign, insert, delete, new, item, answer}
 
 abbrev replied : Command → Reply

@@ -4,7 +4,8 @@ use Rattle.std.proofs.lemmas.Bool.{cases_eq}
 use Rattle.semantics.specs.LegalHistory.{IsAmong}
 use Rattle.semantics.specs.Entries.{IsAbove}
 use Rattle.semantics.specs.LegalAnswer.{Submitted}
-use Rattle.semantics.specs.Engine.{Engine, Client, Cell, Handled, cell_at}
+use Rattle.semantics.specs.Engine.{Engine, Client, Cell, Handled}
+use Rattle.semantics.specs.ReadSteps.{cell_at}
 use Rattle.semantics.specs.WorldHistory.{published_entries, cell_under}
 use Rattle.semantics.proofs.SetElements.{get-set_same, get-set_other, get-set_cases}
 use Rattle.semantics.proofs.Beginnings.{IsGoodReply}

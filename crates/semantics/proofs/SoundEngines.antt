@@ -4,7 +4,8 @@ use Rattle.std.specs.Bool.{⊤}
 use Rattle.semantics.specs.LegalHistory.{IsAmong}
 use Rattle.semantics.specs.Entries.{Entry, first_entries, IsAbove, IsEntryHistory}
 use Rattle.semantics.specs.LegalAnswer.{Submitted}
-use Rattle.semantics.specs.Engine.{Engine, Client, Cell, Given, Handled, cell_at}
+use Rattle.semantics.specs.Engine.{Engine, Client, Cell, Given, Handled}
+use Rattle.semantics.specs.ReadSteps.{cell_at}
 use Rattle.semantics.specs.WorldHistory.{published_entries, cell_under, HasGrown}
 use Rattle.semantics.proofs.Beginnings.{IsGoodReply}
 

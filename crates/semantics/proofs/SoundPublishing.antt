@@ -4,7 +4,8 @@ use Rattle.std.proofs.lemmas.Bool.{or_parts}
 use Rattle.semantics.specs.LegalHistory.{IsAmong}
 use Rattle.semantics.specs.DocumentAnswer.{is_any}
 use Rattle.semantics.specs.Entries.{Entry}
-use Rattle.semantics.specs.Engine.{Engine, Handled, publish}
+use Rattle.semantics.specs.Engine.{Engine, Handled}
+use Rattle.semantics.specs.WriteSteps.{publish}
 use Rattle.semantics.proofs.OwnReplies.{all_first}
 use Rattle.semantics.proofs.Beginnings.{IsGoodReply}
 use Rattle.semantics.proofs.GrownEngines.{with_history, grown_by_history}

@@ -2,7 +2,8 @@
 use Rattle.std.proofs.Common.{◌≡◌, ℕ, zero, suc, ◌-◌, ◌<◌, ◌≤◌, max, List, [], ◌∷◌, length, get_or, Option, Some, None, refl, arith, slice_get, slice_set}
 use Rattle.std.proofs.Math.Nat.{le-max_left, max-le}
 use Rattle.semantics.specs.LegalAnswer.{Asked}
-use Rattle.semantics.specs.Engine.{Engine, Client, Cell, Given, cell_at, poll_cell, poll, see_published, ask}
+use Rattle.semantics.specs.Engine.{Engine, Client, Cell, Given}
+use Rattle.semantics.specs.ReadSteps.{cell_at, poll_cell, poll, see_published, ask}
 use Rattle.semantics.proofs.GrownEngines.{grown_refl}
 use Rattle.semantics.proofs.MovedTokens.{with_client, with_reader, grown_by_client, grown_by_reader}
 use Rattle.semantics.proofs.SoundEngines.{IsSoundCell, IsSoundClient, IsSound, IsLater}

@@ -1,6 +1,7 @@
 -- Each step of a world keeps its engine sound.
 use Rattle.std.proofs.Common.{ℕ, zero, suc, length}
-use Rattle.semantics.specs.Engine.{Engine, take_item, give, take_for, give_for, handle_all, whole_step}
+use Rattle.semantics.specs.Engine.{Engine}
+use Rattle.semantics.specs.WriteSteps.{take_item, give, take_for, give_for, handle_all, whole_step}
 use Rattle.semantics.specs.World.{WorldStep, Push, Take, Publish, Give, Whole, Poll, Ask, engine_step}
 use Rattle.semantics.proofs.GrownEngines.{grown_trans}
 use Rattle.semantics.proofs.SoundEngines.{IsSound, IsLater}

@@ -6,7 +6,8 @@ use Rattle.semantics.specs.LegalHistory.{IsAmong}
 use Rattle.semantics.specs.Making.{Command}
 use Rattle.semantics.specs.Entries.{IsAbove}
 use Rattle.semantics.specs.LegalAnswer.{Submitted}
-use Rattle.semantics.specs.Engine.{Engine, Client, Cell, next_item, with_cell, submit, push}
+use Rattle.semantics.specs.Engine.{Engine, Client, Cell}
+use Rattle.semantics.specs.WriteSteps.{next_item, with_cell, submit, push}
 use Rattle.semantics.specs.WorldHistory.{cell_under}
 use Rattle.semantics.proofs.SetElements.{get-set_same}
 use Rattle.semantics.proofs.ClientCells.{cell_within, cell_kept, newest_cell, newest_cases}

@@ -6,7 +6,9 @@ use Rattle.semantics.specs.DocumentAnswer.{is_any}
 use Rattle.semantics.specs.Entries.{IsAbove}
 use Rattle.semantics.specs.LegalAnswer.{Submitted, Reply}
 use Rattle.semantics.specs.Replica.{Replica}
-use Rattle.semantics.specs.Engine.{Engine, Client, Handled, cell_at, after_item, reply_to, take_oldest, take_item}
+use Rattle.semantics.specs.Engine.{Engine, Client, Handled}
+use Rattle.semantics.specs.WriteSteps.{after_item, reply_to, take_oldest, take_item}
+use Rattle.semantics.specs.ReadSteps.{cell_at}
 use Rattle.semantics.specs.WorldHistory.{published_entries, cell_under}
 use Rattle.semantics.proofs.ClientCells.{cell_within}
 use Rattle.semantics.proofs.Beginnings.{no_shorter, IsGoodReply, good_in_longer}

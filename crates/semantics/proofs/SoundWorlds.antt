@@ -2,7 +2,8 @@
 use Rattle.std.proofs.Common.{◌≡◌, ◌⊎◌, inl, inr, ℕ, zero, suc, ◌≤◌, List, [], ◌∷◌, ◌++◌, replicate, get_or, Option, Some, None, refl, sym, ap, ◌∙◌, subst, arith, slice_get, slice_set}
 use Rattle.std.proofs.lemmas.Bool.{cases_eq}
 use Rattle.ids.specs.Configurations.{Configuration}
-use Rattle.semantics.specs.Engine.{Engine, Client, Cell, cell_at}
+use Rattle.semantics.specs.Engine.{Engine, Client, Cell}
+use Rattle.semantics.specs.ReadSteps.{cell_at}
 use Rattle.semantics.specs.World.{opened_engine, World, opened, WorldStep, mover, engine_step, world_step, world_after}
 use Rattle.semantics.specs.WorldHistory.{IsEngineAfter, HasGrown}
 use Rattle.semantics.proofs.SetElements.{get-set_same, get-set_other, get-set_cases}

@@ -9,7 +9,8 @@ use Rattle.semantics.specs.Stamped.{Stamped}
 use Rattle.semantics.specs.Making.{Command}
 use Rattle.semantics.specs.Entries.{Own, applied, stamped_of, entry_at, first_entries}
 use Rattle.semantics.specs.LegalAnswer.{Submitted, Reply, Made, Asked, OfDocument, Reading, Answered, IsLegalAnswer, reading_of}
-use Rattle.semantics.specs.Engine.{Engine, Client, Cell, Given, Replied, Read, cell_at, poll_cell, poll, ask}
+use Rattle.semantics.specs.Engine.{Engine, Client, Cell, Given, Replied, Read}
+use Rattle.semantics.specs.ReadSteps.{cell_at, poll_cell, poll, ask}
 use Rattle.semantics.specs.WorldHistory.{published_entries, BeginsWith, WasSubmitted, seen_by, IsNotBelow}
 use Rattle.semantics.proofs.NamedOperations.{legal}
 use Rattle.semantics.proofs.EntryHistories.{entries_legal}

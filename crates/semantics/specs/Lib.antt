@@ -24,6 +24,8 @@ pub mod OneWorld
 pub mod Exchange
 pub mod Runs
 pub mod Engine
+pub mod WriteSteps
+pub mod ReadSteps
 pub mod World
 pub mod WorldHistory
 pub mod Codes

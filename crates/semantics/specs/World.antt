@@ -4,7 +4,9 @@ use Rattle.ids.specs.Members.{in_order}
 use Rattle.ids.specs.Configurations.{Configuration}
 use Rattle.semantics.specs.Making.{Command}
 use Rattle.semantics.specs.LegalAnswer.{Asked}
-use Rattle.semantics.specs.Engine.{Engine, Client, StepReply, Idle, Turn, push, take_item, publish, give, whole_step, poll, ask}
+use Rattle.semantics.specs.Engine.{Engine, Client, StepReply, Idle, Turn}
+use Rattle.semantics.specs.WriteSteps.{push, take_item, publish, give, whole_step}
+use Rattle.semantics.specs.ReadSteps.{poll, ask}
 
 -- a new engine
 abbrev pub opened_engine : Configuration → Engine

@@ -3,7 +3,8 @@ use Rattle.std.specs.Prelude.{◌≡◌, ℕ, ◌≤◌, ◌-◌, List, ◌++◌
 use Rattle.ids.specs.Configurations.{Configuration}
 use Rattle.semantics.specs.Entries.{Entry, first_entries}
 use Rattle.semantics.specs.LegalAnswer.{Submitted, Reply, Made, NotMade}
-use Rattle.semantics.specs.Engine.{Engine, Client, Cell, Given, cell_at}
+use Rattle.semantics.specs.Engine.{Engine, Client, Cell, Given}
+use Rattle.semantics.specs.ReadSteps.{cell_at}
 use Rattle.semantics.specs.World.{WorldStep, opened, world_after}
 
 -- E is engine e of the world after these steps

@@ -9,7 +9,9 @@ ghost use Rattle.semantics.specs.Stamped.{Stamped};
 ghost use Rattle.semantics.specs.Making.{Command};
 ghost use Rattle.semantics.specs.Entries.{IsEntryHistory, Own, applied, entry_at, first_entries};
 ghost use Rattle.semantics.specs.LegalAnswer.{Submitted, Reply, Made, Asked, OfDocument, Reading, Answered, IsLegalAnswer, reading_of};
-ghost use Rattle.semantics.specs.Engine.{Engine, Client, Given, Ticket, Replied, Read, next_item, push, poll, ask};
+ghost use Rattle.semantics.specs.Engine.{Engine, Client, Given, Ticket, Replied, Read};
+ghost use Rattle.semantics.specs.WriteSteps.{next_item, push};
+ghost use Rattle.semantics.specs.ReadSteps.{poll, ask};
 ghost use Rattle.semantics.specs.World.{WorldStep};
 ghost use Rattle.semantics.specs.WorldHistory.{IsEngineAfter, published_entries, BeginsWith, WasSubmitted, WasGiven, seen_by, IsNotBelow, HasGrown};
 

@@ -8,7 +8,7 @@ use Rattle.semantics.specs.Making.{Command, make}
 use Rattle.semantics.specs.Entries.{Entry, Own, applied, stamped_of, IsAbove, IsEntryHistory}
 use Rattle.semantics.specs.LegalAnswer.{Submitted, NotMade}
 use Rattle.semantics.specs.Replica.{Replica, operations}
-use Rattle.semantics.specs.Engine.{after_made, reply_made, after_item, reply_to}
+use Rattle.semantics.specs.WriteSteps.{after_made, reply_made, after_item, reply_to}
 use Rattle.semantics.proofs.AppliedVectors.{at-vector_of}
 use Rattle.semantics.proofs.EntryHistories.{entries_legal}
 use Rattle.semantics.proofs.NamedOperations.{legal}

@@ -4,7 +4,9 @@ use Rattle.std.specs.Prelude.{IsTrue}
 use Rattle.ids.specs.Members.{is_member}
 use Rattle.semantics.specs.Making.{Command}
 use Rattle.semantics.specs.LegalAnswer.{Asked}
-use Rattle.semantics.specs.Engine.{Engine, Client, Cell, Given, Turn, push, submit, next_item, poll, poll_cell, cell_at, ask, see_published, whole_step}
+use Rattle.semantics.specs.Engine.{Engine, Client, Cell, Given, Turn}
+use Rattle.semantics.specs.WriteSteps.{push, submit, next_item, whole_step}
+use Rattle.semantics.specs.ReadSteps.{poll, poll_cell, cell_at, ask, see_published}
 use Rattle.semantics.specs.World.{Push, Poll, Ask, Whole}
 use Rattle.semantics.proofs.SoundEngines.{IsSound}
 use Rattle.semantics.proofs.SoundSteps.{stepped}

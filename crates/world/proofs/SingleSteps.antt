@@ -2,7 +2,9 @@
 use Rattle.std.proofs.Common.{◌≡◌, ℕ, max, ◌-◌, ◌<◌, false, nat_le, List, [], ◌∷◌, ◌++◌, map, length, get_or, Some, None, option_map, refl, ap, ◌∙◌, slice_get, slice_set}
 use Rattle.std.proofs.lemmas.Option.{slice_get-map, slice_get_read}
 use Rattle.semantics.specs.Making.{Command}
-use Rattle.semantics.specs.Engine.{Engine, Client, Cell, Given, Ticket, Replied, with_answer, give_to, with_cell, next_item, push, poll, cell_at, see_published}
+use Rattle.semantics.specs.Engine.{Engine, Client, Cell, Given, Ticket, Replied}
+use Rattle.semantics.specs.WriteSteps.{with_answer, give_to, with_cell, next_item, push}
+use Rattle.semantics.specs.ReadSteps.{poll, cell_at, see_published}
 
 -- what stands at a place of a list, as its image
 pub read_mapped : {A B : Type 0} (f : A → B) (xs : List A) (i : ℕ) (x : A) → i < length xs → x ≡ get_or xs i x → slice_get (map f xs) i ≡ Some (f x)

@@ -7,6 +7,7 @@ use Rattle.semantics.specs.Entries.{Entry as TheEntry, applied}
 use Rattle.semantics.specs.LegalAnswer.{Submitted, Reply as TheReply, Made as MadeAs, NotMade, OfDocument, Answered}
 use Rattle.semantics.specs.Replica.{Replica as TheReplica}
 use Rattle.semantics.specs.Engine as engine
+use Rattle.semantics.specs.WriteSteps.{stamp}
 use Rattle.semantics.specs.World as world
 use Rattle.operation.specs.Meanings.{command_of}
 use Rattle.document.specs.Documents.{question_of, answer_of}
@@ -54,7 +55,7 @@ replica_of r = record { own = r.own; members = r.document.table; entries = r.doc
 
 -- s is what replica p makes of the command after G, with the vector of all that was applied
 abbrev pub IsMade : List TheEntry → ℕ → TheCommand → Stamped → Type 0
-IsMade G p command s = (o : Operation) × (make (applied G) p command ≡ Ok o) × (s ≡ engine.stamp (applied G) o)
+IsMade G p command s = (o : Operation) × (make (applied G) p command ≡ Ok o) × (s ≡ stamp (applied G) o)
 
 -- an answer that was set
 abbrev pub given_of : Given → engine.Given

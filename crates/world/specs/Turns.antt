@@ -3,7 +3,8 @@ use Rattle.std.specs.Prelude.{◌≡◌, ◌+◌, ℕ, List, [], ◌∷◌, map,
 use Rattle.ids.specs.Members.{is_member}
 use Rattle.semantics.specs.LegalAnswer.{Reply as TheReply}
 use Rattle.semantics.specs.Engine as engine
-use Rattle.semantics.specs.Engine.{Engine, take_for, give_to}
+use Rattle.semantics.specs.Engine.{Engine}
+use Rattle.semantics.specs.WriteSteps.{take_for, give_to}
 use Rattle.semantics.proofs.SoundEngines.{IsSound}
 use Rattle.world.specs.Meanings.{answer_to}
 use Rattle.world.specs.declared.engine.Handled.{Handled}

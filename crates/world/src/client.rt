@@ -2,7 +2,8 @@
 
 ghost use Rattle.std.specs.Prelude.{◌≡◌, ◌+◌, ◌<◌, ◌^◌, option_map, vec_len, IfOk, IfErr, OnOk};
 ghost use Rattle.ids.specs.declared.refusal.Refusal.TheVariants.{NoMemory};
-ghost use Rattle.semantics.specs.Engine.{next_item, with_cell, with_answer, cell_at};
+ghost use Rattle.semantics.specs.WriteSteps.{next_item, with_cell, with_answer};
+ghost use Rattle.semantics.specs.ReadSteps.{cell_at};
 ghost use Rattle.operation.specs.Meanings.{command_of};
 
 use crate::replica::Item;

@@ -3,7 +3,9 @@
 ghost use Rattle.std.specs.Prelude.{◌≡◌, ◌∷◌, ◌↔◌, ◌⊎◌, OnOk, IfOk, IfErr, Err, IsTrue, IsFalse, map, [], length, replicate};
 ghost use Rattle.ids.specs.declared.refusal.Refusal.TheVariants.{NoMemory, BadConfig};
 ghost use Rattle.ids.specs.Configurations.{is_within_limits};
-ghost use Rattle.semantics.specs.Engine.{Engine as TheEngine, push, whole_step, poll, ask, see_published};
+ghost use Rattle.semantics.specs.Engine.{Engine as TheEngine};
+ghost use Rattle.semantics.specs.WriteSteps.{push, whole_step};
+ghost use Rattle.semantics.specs.ReadSteps.{poll, ask, see_published};
 ghost use Rattle.semantics.specs.LegalAnswer.{OfDocument};
 ghost use Rattle.operation.specs.Meanings.{command_of};
 ghost use Rattle.document.specs.Documents.{question_of};

@@ -7,7 +7,7 @@ ghost use Rattle.semantics.specs.Entries.{IsEntryHistory, IsAbove, applied};
 ghost use Rattle.semantics.specs.Making.{make};
 ghost use Rattle.semantics.specs.LegalAnswer.{Made as MadeAs};
 ghost use Rattle.semantics.specs.Replica.{commit_own};
-ghost use Rattle.semantics.specs.Engine.{after_item, reply_to};
+ghost use Rattle.semantics.specs.WriteSteps.{after_item, reply_to};
 ghost use Rattle.operation.specs.Meanings.{command_of, stamped_of};
 
 use crate::step::Reply;

@@ -1,7 +1,8 @@
 use Rattle.std.proofs.Common.{◌≡◌, ◌<◌, max, Some, length, map, set, sym, ap, ◌∙◌, slice_get, arith, option_map}
 use Rattle.std.proofs.lemmas.List.{map-set}
 use Rattle.std.proofs.lemmas.Option.{same_Some}
-use Rattle.semantics.specs.Engine.{Engine as TheEngine, Client as TheClient, Turn, cell_at}
+use Rattle.semantics.specs.Engine.{Engine as TheEngine, Client as TheClient, Turn}
+use Rattle.semantics.specs.ReadSteps.{cell_at}
 use Rattle.world.specs.Meanings.{client_of, cell_of, given_of}
 use Rattle.world.specs.contracts.engine.Engine.{the_view}
 use Rattle.world.proofs.SingleSteps.{read_mapped, poll-there}

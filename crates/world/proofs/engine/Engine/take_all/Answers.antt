@@ -4,7 +4,8 @@ use Rattle.std.proofs.lemmas.List.{map-append}
 use Rattle.ids.specs.Members.{is_member}
 use Rattle.semantics.specs.LegalHistory.{IsAmong}
 use Rattle.semantics.specs.LegalAnswer.{Submitted, Reply}
-use Rattle.semantics.specs.Engine.{Engine as TheEngine, after_item}
+use Rattle.semantics.specs.Engine.{Engine as TheEngine}
+use Rattle.semantics.specs.WriteSteps.{after_item}
 use Rattle.world.specs.Meanings.{submitted_of, replica_of, answer_to}
 use Rattle.world.specs.Turns.{Told, IsTaking, HasTaken, told_of}
 use Rattle.world.specs.contracts.engine.Engine.{the_view}

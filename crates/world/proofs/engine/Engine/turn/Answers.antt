@@ -1,7 +1,8 @@
 use Rattle.std.proofs.Common.{◌≡◌, Result, Ok, Err, sym, subst}
 use Rattle.std.specs.Prelude.{OnOk}
 use Rattle.semantics.specs.LegalAnswer.{OfDocument}
-use Rattle.semantics.specs.Engine.{push, ask}
+use Rattle.semantics.specs.WriteSteps.{push}
+use Rattle.semantics.specs.ReadSteps.{ask}
 use Rattle.operation.specs.Meanings.{command_of}
 use Rattle.document.specs.Documents.{question_of}
 use Rattle.world.specs.Turns.{IsResting}

@@ -1,0 +1,132 @@
+-- The steps of one engine by which a command is submitted, handled, published and answered. A step that can do nothing leaves the engine as it was and replies so.
+use Rattle.std.specs.Prelude.{ℕ, zero, suc, cond, not, ◌||◌, ◌-◌, nat_le, nat_lt, List, [], ◌∷◌, ◌++◌, length, Option, Some, None, Result, Ok, Err, slice_get, slice_set}
+use Rattle.ids.specs.declared.refusal.Refusal.{Refusal}
+use Rattle.ids.specs.declared.refusal.Refusal.TheVariants.{QueueFull, SerialEnd, BadFloor}
+use Rattle.semantics.specs.Operations.{Operation}
+use Rattle.semantics.specs.NamedIds.{vector_of}
+use Rattle.semantics.specs.DocumentAnswer.{is_any}
+use Rattle.semantics.specs.Stamped.{Stamped}
+use Rattle.semantics.specs.Making.{Command, make}
+use Rattle.semantics.specs.LegalAnswer.{Submitted, Reply, Made, NotMade}
+use Rattle.semantics.specs.Replica.{Replica, operations, commit_own}
+use Rattle.semantics.specs.Engine.{Given, Cell, Client, Handled, Engine, StepReply, Ticket, Denied, Took, Published, Gave, Idle, Turn}
+
+-- ---- submitting
+
+-- what is submitted next
+abbrev pub next_item : ℕ → Client → Command → Submitted
+next_item c k command = record { client = c; serial = suc (length k.cells); command = command; floor = k.seen }
+
+-- with one more cell
+abbrev pub with_cell : Client → Submitted → Client
+with_cell k x = record k { cells = k.cells ++ (record { submitted = x; answer = None }) ∷ [] }
+
+-- the client submits the item, unless its serials are used up or the queue is full
+abbrev pub submit : Engine → ℕ → Client → Submitted → Turn
+submit e c k x =
+    cond (nat_le e.serials (length k.cells)) (record { engine = e; reply = Denied SerialEnd })
+    (cond (nat_le e.places (length e.queue)) (record { engine = e; reply = Denied QueueFull })
+    (record { engine = record e { queue = e.queue ++ x ∷ []; clients = slice_set e.clients c (with_cell k x) }; reply = Ticket x.serial }))
+
+-- a client submits a command; its floor is what the client's token has seen
+abbrev pub push : Engine → ℕ → Command → Turn
+push e c command = at_client (slice_get e.clients c)
+  where
+    at_client : Option Client → Turn
+    at_client None = record { engine = e; reply = Idle }
+    at_client (Some k) = submit e c k (next_item c k command)
+
+-- ---- handling
+
+-- an operation made after H as it is kept, with the vector of all that was applied
+abbrev pub stamp : List Operation → Operation → Stamped
+stamp H o = record { id = o.id; vector = vector_of H; place = o.place; mutation = o.mutation }
+
+-- the replica after what its rules make of an item
+abbrev pub after_made : Replica → Submitted → Result Operation Refusal → Replica
+after_made r x (Err why) = r
+after_made r x (Ok o) = commit_own r x.client x.serial x.command (stamp (operations r) o)
+
+-- the reply to what its rules make of an item
+abbrev pub reply_made : Replica → Result Operation Refusal → Reply
+reply_made r (Err why) = NotMade why (length r.entries)
+reply_made r (Ok o) = Made o.id (length r.entries)
+
+-- the replica after an item: one whose floor is above the history changes nothing
+abbrev pub after_item : Replica → Submitted → Replica
+after_item r x = cond (nat_lt (length r.entries) x.floor) r (after_made r x (make (operations r) r.own x.command))
+
+-- the reply to an item
+abbrev pub reply_to : Replica → Submitted → Reply
+reply_to r x = cond (nat_lt (length r.entries) x.floor) (NotMade BadFloor (length r.entries)) (reply_made r (make (operations r) r.own x.command))
+
+-- the writer takes the oldest item and handles it, while fewer than a batch are handled and none of them is published
+abbrev pub take_oldest : Engine → List Submitted → Turn
+take_oldest e [] = record { engine = e; reply = Idle }
+take_oldest e (x ∷ queue) =
+    cond (is_any e.due || nat_le e.batch (length e.handled)) (record { engine = e; reply = Idle })
+    (record { engine = record e { queue = queue; replica = after_item e.replica x; handled = e.handled ++ (record { submitted = x; reply = reply_to e.replica x }) ∷ [] }; reply = Took })
+
+abbrev pub take_item : Engine → Turn
+take_item e = take_oldest e e.queue
+
+-- the writer publishes all that it handled
+abbrev pub publish : Engine → Turn
+publish e =
+    cond (is_any e.due || not (is_any e.handled)) (record { engine = e; reply = Idle })
+    (record { engine = record e { published = length e.replica.entries; handled = []; due = e.handled }; reply = Published (length e.handled) })
+
+-- ---- answering
+
+-- with the answer in the cell of the serial
+abbrev pub with_answer : Client → ℕ → Given → Client
+with_answer k serial g = record k { cells = answered (slice_get k.cells (serial - 1)) }
+  where
+    answered : Option Cell → List Cell
+    answered None = k.cells
+    answered (Some cell) = slice_set k.cells (serial - 1) (record cell { answer = Some g })
+
+-- the clients after the answer to client c's serial is set
+abbrev pub give_to : List Client → ℕ → ℕ → Given → List Client
+give_to clients c serial g = at_client (slice_get clients c)
+  where
+    at_client : Option Client → List Client
+    at_client None = clients
+    at_client (Some k) = slice_set clients c (with_answer k serial g)
+
+-- the writer sets the answer to the oldest published item
+abbrev pub give_oldest : Engine → List Handled → Turn
+give_oldest e [] = record { engine = e; reply = Idle }
+give_oldest e (h ∷ due) =
+    record { engine = record e { due = due; clients = give_to e.clients h.submitted.client h.submitted.serial (record { reply = h.reply; published = e.published }) }; reply = Gave h.submitted.client h.submitted.serial }
+
+abbrev pub give : Engine → Turn
+give e = give_oldest e e.due
+
+-- ---- a whole step of the writer
+
+-- so many takes
+abbrev pub take_for : ℕ → Engine → Engine
+take_for zero e = e
+take_for (suc n) e = take_for n (take_item e).engine
+
+-- so many gives
+abbrev pub give_for : ℕ → Engine → Engine
+give_for zero e = e
+give_for (suc n) e = give_for n (give e).engine
+
+-- all that is handled after the takes of a whole step, published
+abbrev pub handle_all : Engine → Engine
+handle_all e = (publish (take_for e.batch e)).engine
+
+-- the reply of a whole step that set so many answers
+abbrev pub answered_or_idle : ℕ → StepReply
+answered_or_idle zero = Idle
+answered_or_idle (suc n) = Published (suc n)
+
+-- the writer takes while it may, publishes if it may, and then sets all answers
+abbrev pub whole_step : Engine → Turn
+whole_step e = give_all (handle_all e)
+  where
+    give_all : Engine → Turn
+    give_all f = record { engine = give_for (length f.due) f; reply = answered_or_idle (length f.due) }
