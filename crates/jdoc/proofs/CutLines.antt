@@ -1,7 +1,7 @@
 -- The lines of a text, one by one.
-use Rattle.std.proofs.Common.{◌≡◌, ◌≢◌, ◌==◌, ℕ, List, [], ◌∷◌, ◌++◌, All, Bool, true, false, refl, sym, ap, arith}
+use Rattle.std.proofs.Common.{◌≡◌, ◌≢◌, ◌==◌, ℕ, List, [], ◌∷◌, ◌++◌, false, refl, arith}
 use Rattle.std.proofs.lemmas.List.Elements.{All-head, All-tail}
-use Rattle.jdoc.specs.Lines.{Cut, cut, lengthened, HasNoEnd, IsFirstLine}
+use Rattle.jdoc.specs.Lines.{cut, HasNoEnd, IsFirstLine}
 
 other_byte : (b : ℕ) → b ≢ 10 → (b == 10) ≡ false
 other_byte b h = grind (arith)

@@ -1,14 +1,13 @@
 -- The steps that are left of a script, line by line.
-use Rattle.std.proofs.Common.{◌≡◌, ◌≢◌, ◌⊎◌, ℕ, ◌+◌, List, [], ◌∷◌, ◌++◌, Result, Ok, Err, inl, inr, refl, sym, ap, ◌∙◌, append_assoc}
+use Rattle.std.proofs.Common.{◌≡◌, ◌≢◌, ℕ, ◌+◌, List, [], ◌∷◌, ◌++◌, Result, Ok, Err, refl, append_assoc}
 use Rattle.ids.specs.Configurations.{Configuration}
 use Rattle.ids.specs.declared.refusal.Refusal.{Refusal}
-use Rattle.ids.specs.declared.refusal.Refusal.TheVariants.{NoMemory, BadLine}
+use Rattle.ids.specs.declared.refusal.Refusal.TheVariants.{BadLine}
 use Rattle.world.specs.declared.step.WorldStep.{WorldStep}
-use Rattle.jdoc.specs.Forms.{IsUnlessMemory}
-use Rattle.jdoc.specs.Lines.{Cut, cut, HasNoEnd, IsFirstLine}
+use Rattle.jdoc.specs.Lines.{HasNoEnd, IsFirstLine}
 use Rattle.jdoc.specs.Steps.{step_line}
 use Rattle.jdoc.specs.Engines.{engine_line}
-use Rattle.jdoc.specs.Scripts.{Bad, on_line, script_form, steps_from, steps_left, unless_bad}
+use Rattle.jdoc.specs.Scripts.{Bad, script_form, steps_left, unless_bad}
 use Rattle.jdoc.proofs.CutLines.{cut-first_line, cut-no_end}
 
 -- these steps, and then those

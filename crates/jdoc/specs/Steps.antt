@@ -1,5 +1,5 @@
 -- What a line of a script is as a step, and the JSON of a step.
-use Rattle.std.specs.Prelude.{ℕ, ◌+◌, ℤ, pos, negsuc, List, [], ◌∷◌, length, codes, Bool, true, false, Option, Some, None, option_and_then, is_some, Result, Ok, Err, if◌then◌else◌, nat_lt, slice_get}
+use Rattle.std.specs.Prelude.{ℕ, ◌+◌, ℤ, List, [], ◌∷◌, length, codes, Bool, true, false, Option, Some, None, option_and_then, is_some, Result, Ok, Err, if◌then◌else◌, nat_lt, slice_get}
 use Rattle.std.specs.Option.{option_map_or}
 use Rattle.std.specs.Str.{bytes_eq}
 use Rattle.ids.specs.Configurations.{Configuration}

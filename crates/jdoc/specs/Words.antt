@@ -1,5 +1,5 @@
 -- The program's words, as the crate that parses them defines what a command takes and finds.
-use Rattle.std.specs.Prelude.{◌≡◌, ℕ, List, true, codes, Option, Some, option_map}
+use Rattle.std.specs.Prelude.{◌≡◌, List, true, codes, Option, Some, option_map}
 use Rattle.clap.specs.Words.{App, Rule, Shape, Text, first_of, new_app, new_rule, subcommand_of, with_rule, with_subcommand}
 use Rattle.clap.specs.Simple.{on_top}
 use Rattle.jdoc.specs.declared.words.Job.{Job}

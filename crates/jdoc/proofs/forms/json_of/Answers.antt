@@ -1,7 +1,6 @@
 -- The JSON that a line has, from what the reader of JSON says of its text.
-use Rattle.std.proofs.Common.{◌≡◌, ℕ, List, Bool, true, false, Option, Some, None, Ok, Err, inl, refl, sym, if◌then◌else◌}
+use Rattle.std.proofs.Common.{◌≡◌, ℕ, List, Bool, true, false, Some, None, Ok, Err, inl, refl, sym}
 use Rattle.std.specs.Prelude.{IsUtf8}
-use Rattle.std.specs.Option.{ok_or}
 use Rattle.std.specs.Str.{is_utf8}
 use Rattle.std.proofs.lemmas.Str.{IsUtf8-from_is_utf8, is_utf8-from_IsUtf8}
 use Rattle.ids.specs.declared.refusal.Refusal.TheVariants.{BadLine}

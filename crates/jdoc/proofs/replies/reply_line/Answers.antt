@@ -1,7 +1,7 @@
 use Rattle.std.proofs.Common.{◌≡◌, false}
 use Rattle.std.proofs.lemmas.Result.{IfOk-weaker}
 use Rattle.serde_json.specs.View.{view}
-use Rattle.serde_json.specs.Written.{has_float, compact_text}
+use Rattle.serde_json.specs.Written.{has_float}
 use Rattle.jdoc.specs.Replies.{world_reply_json}
 use Rattle.jdoc.proofs.NoFloats.{has_float-world_reply_json}
 use Rattle.jdoc.proofs.replies.reply_line.Goals as goal

@@ -1,4 +1,4 @@
-use Rattle.std.proofs.Common.{◌≡◌, List, [], ◌∷◌, ◌++◌, Ok, map, string_bytes, ap, ◌∙◌, subst}
+use Rattle.std.proofs.Common.{◌≡◌, [], ◌∷◌, ◌++◌, Ok, map, string_bytes, ap, ◌∙◌, subst}
 use Rattle.std.proofs.lemmas.Option.{IfSome_then}
 use Rattle.semantics.specs.World.{opened, replies_of}
 use Rattle.world.specs.Meanings.{step_of}

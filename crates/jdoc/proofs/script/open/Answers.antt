@@ -1,4 +1,4 @@
-use Rattle.std.proofs.Common.{◌≡◌, ◌⊎◌, List, [], ◌∷◌, Bool, true, false, IsFalse, Result, Ok, Err, inl, inr, refl, ap, ◌∙◌, true≢false}
+use Rattle.std.proofs.Common.{◌≡◌, ◌⊎◌, List, [], ◌∷◌, Bool, true, false, IsFalse, Result, Err, inl, inr, refl, ap, ◌∙◌, true≢false}
 use Rattle.std.specs.List.{list_all}
 use Rattle.ids.specs.Configurations.{Configuration, is_within_limits}
 use Rattle.ids.specs.declared.refusal.Refusal.{Refusal}

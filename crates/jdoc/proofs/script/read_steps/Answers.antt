@@ -1,8 +1,7 @@
-use Rattle.std.proofs.Common.{◌≡◌, ◌≢◌, ◌⊎◌, ◌+◌, [], inl, inr, sym, ap, ◌∙◌}
-use Rattle.ids.specs.declared.refusal.Refusal.TheVariants.{NoMemory, BadLine}
+use Rattle.std.proofs.Common.{◌≢◌, ◌+◌, [], inl, inr, sym, ap, ◌∙◌}
+use Rattle.ids.specs.declared.refusal.Refusal.TheVariants.{BadLine}
 use Rattle.jdoc.specs.Faults.{fault_of}
-use Rattle.jdoc.specs.Scripts.{steps_left}
-use Rattle.jdoc.proofs.StepsLeft.{after, after-step, after-bad, after-cut}
+use Rattle.jdoc.proofs.StepsLeft.{after-step, after-bad, after-cut}
 use Rattle.jdoc.proofs.UnlessMemory.{IsUnlessMemory-Ok, IsUnlessMemory-Err}
 use Rattle.jdoc.proofs.script.read_steps.Goals as goal
 

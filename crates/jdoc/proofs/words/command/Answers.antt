@@ -1,9 +1,9 @@
-use Rattle.std.proofs.Common.{◌≡◌, true, false, rules, refl, ap, ap₂, ◌∙◌, codes}
+use Rattle.std.proofs.Common.{◌≡◌, false, rules, refl, ap, ap₂, ◌∙◌, codes}
 use Rattle.std.proofs.lemmas.Result.{IfOk-weaker}
-use Rattle.clap.specs.Simple.{App, Shape, app_of_fields, on_top}
-use Rattle.clap.specs.Words.{app_of, new_app, new_rule, rule_of, with_rule, with_subcommand}
+use Rattle.clap.specs.Simple.{App, app_of_fields, on_top}
+use Rattle.clap.specs.Words.{app_of, new_app, rule_of, with_rule, with_subcommand}
 use Rattle.clap.specs.declared.builder.command.Command.TheViews.{out-Command}
-use Rattle.jdoc.specs.Words.{script_rule, run_app, jdoc_app, with_settings}
+use Rattle.jdoc.specs.Words.{script_rule, run_app, with_settings}
 use Rattle.jdoc.proofs.words.command.Goals as goal
 
 pub returns-clause-words : goal.returns-clause-words

@@ -1,5 +1,5 @@
 use Rattle.std.proofs.Common.{◌≡◌, List, [], map, subst, Option, Some, None, option_map, true, codes, refl, sym, ap, ◌∙◌}
-use Rattle.clap.specs.Words.{App, Row, Text, app_of, first_of, subcommand_rows_of, is_simple, rows_of, found_of, subcommand_of}
+use Rattle.clap.specs.Words.{App, Row, Text, first_of, subcommand_rows_of, is_simple, found_of, subcommand_of}
 use Rattle.clap.specs.Faults.{fault_of, is_simple_and_free}
 use Rattle.clap.proofs.OnLiterals.{clap_on_literals}
 use Rattle.clap.proofs.WalkLemmas.{first_value-rows}
