@@ -19,7 +19,7 @@ use Rattle.semantics.proofs.TableVectors.{at-by_table, canonical-by_table, great
 use Rattle.semantics.proofs.EntryHistories.{length-applied}
 use Rattle.document.specs.Documents.{IsKept}
 use Rattle.document.specs.declared.written.Written.{Written}
-use Rattle.document.proofs.Columns.{component-zeros}
+use Rattle.version.proofs.TableColumns.{component-zeros}
 
 pub kept_first : (table : List ℕ) (n : ℕ) → AreDistinct table → n ≡ length table → IsKept table (replicate n 0) [] []
 kept_first table n distinct width = record {

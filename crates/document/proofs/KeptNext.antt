@@ -20,13 +20,13 @@ use Rattle.semantics.specs.Making.{Command}
 use Rattle.semantics.specs.Entries.{Entry, Own, applied, stamped_in, IsEntryHistory}
 use Rattle.semantics.proofs.Orders.{name_total}
 use Rattle.semantics.proofs.EntryHistories.{all_named, entries_legal}
-use Rattle.operation.specs.Meanings.{scalar_of, mutation_of, command_of, entry_of, stamped_of}
-use Rattle.operation.specs.declared.command.Entry.{Entry as KeptEntry}
-use Rattle.operation.specs.declared.command.Entry.TheVariants as kept
-use Rattle.operation.specs.declared.op.Op.{Op}
-use Rattle.operation.specs.declared.op.Mutation.{Mutation}
-use Rattle.operation.specs.declared.op.Mutation.TheVariants as mutation
-use Rattle.operation.specs.declared.value.Val.TheVariants as val
+use Rattle.first.specs.Meanings.{scalar_of, mutation_of, command_of, entry_of, stamped_of}
+use Rattle.first.specs.declared.command.Entry.{Entry as KeptEntry}
+use Rattle.first.specs.declared.command.Entry.TheVariants as kept
+use Rattle.first.specs.declared.op.Op.{Op}
+use Rattle.first.specs.declared.op.Mutation.{Mutation}
+use Rattle.first.specs.declared.op.Mutation.TheVariants as mutation
+use Rattle.first.specs.declared.scalar.Val.TheVariants as val
 use Rattle.document.specs.Documents.{IsKept, IsSpareFor, MayFollowEntries, history, register_of, scalar_in, written_of}
 use Rattle.document.specs.declared.written.Written.{Written}
 use Rattle.document.proofs.Ranks.{sorted_put}

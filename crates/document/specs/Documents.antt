@@ -10,14 +10,14 @@ use Rattle.semantics.specs.Context.{doc}
 use Rattle.semantics.specs.Tables.{component}
 use Rattle.semantics.specs.Stamped.{IsLegalStamped}
 use Rattle.semantics.specs.Entries.{Entry as TheEntry, applied, stamped_in, stamped_of, IsEntryHistory}
-use Rattle.operation.specs.declared.value.Scalar.{Scalar}
-use Rattle.operation.specs.declared.value.Val.TheVariants as val
-use Rattle.operation.specs.declared.op.Mutation.{Mutation}
-use Rattle.operation.specs.declared.op.Mutation.TheVariants as mutation
-use Rattle.operation.specs.declared.command.Entry.{Entry}
-use Rattle.operation.specs.declared.command.Entry.TheVariants.{Own}
-use Rattle.operation.specs.declared.op.Op.{Op}
-use Rattle.operation.specs.Meanings.{scalar_of, entry_of}
+use Rattle.first.specs.declared.scalar.Scalar.{Scalar}
+use Rattle.first.specs.declared.scalar.Val.TheVariants as val
+use Rattle.first.specs.declared.op.Mutation.{Mutation}
+use Rattle.first.specs.declared.op.Mutation.TheVariants as mutation
+use Rattle.first.specs.declared.command.Entry.{Entry}
+use Rattle.first.specs.declared.command.Entry.TheVariants.{Own}
+use Rattle.first.specs.declared.op.Op.{Op}
+use Rattle.first.specs.Meanings.{scalar_of, entry_of}
 use Rattle.document.specs.declared.question.Question.{Question}
 use Rattle.document.specs.declared.question.Question.TheVariants.{Values}
 use Rattle.document.specs.declared.question.Reading.{Reading}

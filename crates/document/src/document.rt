@@ -11,15 +11,17 @@ ghost use Rattle.semantics.specs.Entries.{applied, stamped_in};
 ghost use Rattle.semantics.specs.DocumentAnswer.{document_answer};
 ghost use Rattle.semantics.specs.Questions.{Question as TheQuestion};
 ghost use Rattle.semantics.specs.View.{view};
-ghost use Rattle.operation.specs.Meanings.{entry_of};
+ghost use Rattle.first.specs.Meanings.{entry_of};
 
 use crate::fields::{get_in, put_in};
 use crate::question::{Question, Reading};
 use crate::written::Written;
+use first::{Entry, Op};
 use ids::{Refusal, ReplicaTable};
-use operation::{Entry, Key, Op, VersionVector};
 use std::alloc::Global;
 use std::marker::Model;
+use value::Key;
+use version::VersionVector;
 
 /// A replica's history and its content. Contracts see the table of replicas and the entries, the newest first.
 #[derive(Debug, Drop)]

@@ -5,8 +5,8 @@ ghost use Rattle.std.specs.FinMap.{put, find, is_sorted};
 ghost use Rattle.semantics.specs.Elements.{name_cmp};
 ghost use Rattle.document.specs.Rank.{rank};
 
-use operation::Key;
 use std::cmp::Ordering;
+use value::Key;
 
 /// How many keys are smaller. A search by halves.
 fn rank_in<X>(entries: &[(Key, X)], key: &Key) -> usize

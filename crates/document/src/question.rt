@@ -1,7 +1,7 @@
 //! Questions to a document, and what it answers.
 
+use first::{Expr, Scalar};
 use ids::OpId;
-use operation::{Expr, Scalar};
 
 /// A question to a document; for now for the values at an element.
 #[derive(Debug, Drop)]

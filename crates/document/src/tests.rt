@@ -1,9 +1,10 @@
 //! Documents before their first entry; those with entries are tested with the replicas that make these.
 
 use super::*;
+use first::{Expr, Mutation, Op, Place, Scalar, Val};
 use ids::{OpId, Refusal, ReplicaId};
-use operation::{Expr, Key, Mutation, Op, Place, Scalar, Val};
 use std::test::Fail;
+use value::Key;
 
 #[test]
 fn new_documents_answer_nothing(rt: HostRuntime) -> Result<(), Fail> {

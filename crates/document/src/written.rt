@@ -1,7 +1,7 @@
 //! What entries write.
 
+use first::{Entry, Mutation, Scalar, Val};
 use ids::OpId;
-use operation::{Entry, Mutation, Scalar, Val};
 
 /// What was written last at a key: all that was there before is among the dependencies of an own operation, so one value stands.
 #[derive(Clone, Copy, Debug)]

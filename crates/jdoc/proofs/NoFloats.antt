@@ -2,8 +2,8 @@
 use Rattle.std.proofs.Common.{◌≡◌, List, [], ◌∷◌, map, false, refl}
 use Rattle.std.specs.Prelude.{pos, negsuc}
 use Rattle.ids.specs.declared.id.OpId.{OpId}
-use Rattle.operation.specs.declared.value.Scalar.{Scalar}
-use Rattle.operation.specs.declared.value.Scalar.TheVariants.{Whole}
+use Rattle.first.specs.declared.scalar.Scalar.{Scalar}
+use Rattle.first.specs.declared.scalar.Scalar.TheVariants.{Whole}
 use Rattle.document.specs.declared.question.Reading.TheVariants as reading
 use Rattle.world.specs.declared.step.Reply.{Reply}
 use Rattle.world.specs.declared.step.Reply.TheVariants.{Made, Refused}

@@ -3,8 +3,8 @@ use Rattle.std.specs.Prelude.{ℕ, List, [], ◌∷◌, ◌++◌, codes, decimal
 use Rattle.ids.specs.Refusals.{number_of}
 use Rattle.ids.specs.declared.id.OpId.{OpId}
 use Rattle.ids.specs.declared.refusal.Refusal.{Refusal}
-use Rattle.operation.specs.declared.value.Scalar.{Scalar}
-use Rattle.operation.specs.declared.value.Scalar.TheVariants.{Whole}
+use Rattle.first.specs.declared.scalar.Scalar.{Scalar}
+use Rattle.first.specs.declared.scalar.Scalar.TheVariants.{Whole}
 use Rattle.document.specs.declared.question.Reading.{Reading}
 use Rattle.document.specs.declared.question.Reading.TheVariants as reading
 use Rattle.world.specs.declared.step.Reply.{Reply}

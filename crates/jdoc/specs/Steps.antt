@@ -6,11 +6,11 @@ use Rattle.ids.specs.Configurations.{Configuration}
 use Rattle.ids.specs.declared.refusal.Refusal.{Refusal}
 use Rattle.ids.specs.declared.refusal.Refusal.TheVariants.{BadLine, KeyTooLong, NotWhole}
 use Rattle.semantics.specs.Questions.{Step as PathStep, Get}
-use Rattle.operation.specs.declared.value.Scalar.TheVariants.{Whole}
-use Rattle.operation.specs.declared.value.Val.{Val}
-use Rattle.operation.specs.declared.value.Val.TheVariants as val
-use Rattle.operation.specs.declared.command.Command.{Command}
-use Rattle.operation.specs.declared.command.Command.TheVariants.{Assign}
+use Rattle.first.specs.declared.scalar.Scalar.TheVariants.{Whole}
+use Rattle.first.specs.declared.scalar.Val.{Val}
+use Rattle.first.specs.declared.scalar.Val.TheVariants as val
+use Rattle.first.specs.declared.command.Command.{Command}
+use Rattle.first.specs.declared.command.Command.TheVariants.{Assign}
 use Rattle.document.specs.declared.question.Question.{Question}
 use Rattle.document.specs.declared.question.Question.TheVariants.{Values}
 use Rattle.world.specs.declared.step.WorldStep.{WorldStep}

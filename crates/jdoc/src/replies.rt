@@ -6,8 +6,8 @@ ghost use Rattle.serde_json.specs.View.{view};
 ghost use Rattle.jdoc.specs.Replies.{id_json, reading_json, refusal_name, reply_json, reply_text, rows_json, scalar_json, world_reply_json};
 
 use document::Reading;
+use first::Scalar;
 use ids::{OpId, Refusal};
-use operation::Scalar;
 use serde_json::{Value, json};
 use std::alloc::{AllocError, Global};
 use world::{Reply, WorldReply};

@@ -9,10 +9,11 @@ ghost use Rattle.jdoc.specs.Steps.{any_step_of, ask_of, assign_of, command_form,
 
 use crate::forms::{json_of, list_in, number_in, phrase_in, place_in, text_in};
 use document::Question;
+use first::{Command, Expr, Scalar, Val};
 use ids::{Config, Refusal};
-use operation::{Command, Expr, Key, Scalar, Val};
 use serde_json::Value;
 use std::alloc::Global;
+use value::Key;
 use world::WorldStep;
 
 /// The step on a line, of an engine, client and token that are there.

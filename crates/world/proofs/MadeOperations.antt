@@ -9,9 +9,9 @@ use Rattle.semantics.specs.Questions.{Get, resolve}
 use Rattle.semantics.specs.Context.{doc}
 use Rattle.semantics.specs.DocumentAnswer.{visible_items}
 use Rattle.semantics.specs.Making.{Command, make, operation_at, then_place}
-use Rattle.operation.specs.Meanings.{mutation_of}
-use Rattle.operation.specs.declared.op.Mutation.{Mutation}
-use Rattle.operation.specs.declared.op.Mutation.TheVariants as mutation
+use Rattle.first.specs.Meanings.{mutation_of}
+use Rattle.first.specs.declared.op.Mutation.{Mutation}
+use Rattle.first.specs.declared.op.Mutation.TheVariants as mutation
 
 -- the operation that replica p makes after H
 abbrev pub made_at : List Operation → ℕ → Name → Mutation → Operation

@@ -9,7 +9,7 @@ use Rattle.semantics.specs.Replica.{Replica as TheReplica}
 use Rattle.semantics.specs.Engine as engine
 use Rattle.semantics.specs.WriteSteps.{stamp}
 use Rattle.semantics.specs.World as world
-use Rattle.operation.specs.Meanings.{command_of}
+use Rattle.first.specs.Meanings.{command_of}
 use Rattle.document.specs.Documents.{question_of, answer_of}
 use Rattle.world.specs.declared.step.WorldStep.{WorldStep}
 use Rattle.world.specs.declared.step.WorldStep.TheVariants as step

@@ -8,12 +8,12 @@ ghost use Rattle.semantics.specs.Making.{make};
 ghost use Rattle.semantics.specs.LegalAnswer.{Made as MadeAs};
 ghost use Rattle.semantics.specs.Replica.{commit_own};
 ghost use Rattle.semantics.specs.WriteSteps.{after_item, reply_to};
-ghost use Rattle.operation.specs.Meanings.{command_of, stamped_of};
+ghost use Rattle.first.specs.Meanings.{command_of, stamped_of};
 
 use crate::step::Reply;
 use document::Document;
+use first::{Command, Entry, Op, Place};
 use ids::{OpId, Refusal, ReplicaId};
-use operation::{Command, Entry, Op, Place};
 
 /// The most operations that a history holds.
 const MOST_ENTRIES: usize = 1_048_576;

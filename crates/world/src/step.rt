@@ -1,8 +1,8 @@
 //! The steps of a world and what they reply.
 
 use document::{Question, Reading};
+use first::Command;
 use ids::{OpId, Refusal};
-use operation::Command;
 
 /// A step of one engine. Engines are numbered from 0, as are an engine's clients; its tokens are the clients', then the readers'.
 #[derive(Debug, Drop)]

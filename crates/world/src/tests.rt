@@ -5,12 +5,13 @@ mod sessions;
 
 use super::*;
 use document::{Question, Reading};
+use first::{Command, Expr, Scalar, Val};
 use ids::{Config, Refusal};
-use operation::{Command, Expr, Key, Scalar, Val};
 use std::alloc::Global;
 use std::fmt::Write;
 use std::process::Abort;
 use std::test::Fail;
+use value::Key;
 
 /// A step of an engine.
 #[derive(Clone, Copy, Debug)]

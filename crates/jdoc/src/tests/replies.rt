@@ -2,8 +2,8 @@
 
 use crate::replies::reply_lines;
 use document::Reading;
+use first::Scalar;
 use ids::{OpId, Refusal, ReplicaId};
-use operation::Scalar;
 use std::alloc::Global;
 use std::test::Fail;
 use world::{Reply, WorldReply};

@@ -2,10 +2,10 @@ use Rattle.std.proofs.Common.{◌≡◌, ℕ, ◌<◌, max, cond, ◌==◌, Some
 use Rattle.std.proofs.lemmas.Option.{slice_get_within, get_or_from_slice_get}
 use Rattle.semantics.specs.Tables.{component}
 use Rattle.semantics.specs.Entries.{stamped_in}
-use Rattle.operation.specs.Meanings.{entry_of}
+use Rattle.first.specs.Meanings.{entry_of}
 use Rattle.document.specs.Documents.{Kept, IsKept, IsSpareFor, MayFollowEntries, history, written_of}
 use Rattle.document.specs.declared.written.Written.{Written}
-use Rattle.document.proofs.Columns.{component-raised}
+use Rattle.version.proofs.TableColumns.{component-raised}
 use Rattle.document.proofs.KeptNext.{kept_committed}
 use Rattle.document.proofs.document.Document.commit.Goals as goal
 

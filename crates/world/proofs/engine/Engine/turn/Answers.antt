@@ -3,7 +3,7 @@ use Rattle.std.specs.Prelude.{OnOk}
 use Rattle.semantics.specs.LegalAnswer.{OfDocument}
 use Rattle.semantics.specs.WriteSteps.{push}
 use Rattle.semantics.specs.ReadSteps.{ask}
-use Rattle.operation.specs.Meanings.{command_of}
+use Rattle.first.specs.Meanings.{command_of}
 use Rattle.document.specs.Documents.{question_of}
 use Rattle.world.specs.Turns.{IsResting}
 use Rattle.world.proofs.RestingEngines.{resting_push, resting_poll, resting_ask}

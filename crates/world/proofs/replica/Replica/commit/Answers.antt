@@ -1,4 +1,4 @@
-use Rattle.operation.specs.Meanings.{command_of, stamped_of}
+use Rattle.first.specs.Meanings.{command_of, stamped_of}
 use Rattle.world.proofs.HandledCommands.{may_append}
 use Rattle.world.proofs.replica.Replica.commit.Goals as goal
 

@@ -7,7 +7,7 @@ use Rattle.semantics.specs.Tables.{by_table}
 use Rattle.semantics.specs.Questions.{Get}
 use Rattle.semantics.specs.Entries.{applied}
 use Rattle.semantics.proofs.EntryHistories.{length-applied}
-use Rattle.operation.specs.Meanings.{command_of, mutation_of}
+use Rattle.first.specs.Meanings.{command_of, mutation_of}
 use Rattle.world.proofs.MadeOperations.{make-at_key, make-full, made_at}
 use Rattle.world.proofs.replica.Replica.make.Goals as goal
 

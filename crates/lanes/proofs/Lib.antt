@@ -1,0 +1,4 @@
+pub mod Chunks
+pub mod Lanes
+pub mod Raised
+pub mod Bits

@@ -1,0 +1,2 @@
+-- What the kernels compute.
+pub mod Kernels

@@ -1,0 +1,34 @@
+//! Tests of two columns, place by place.
+
+ghost use Rattle.std.specs.Prelude.{◌≡◌, ◌↔◌, nat_le, length, IsTrue};
+ghost use Rattle.std.specs.Cmp.Lexicographic.{pointwise};
+
+use crate::block;
+
+/// Whether each counter of `a` is at most the one at its place in `b`. True of none. Stops at the first eight that differ.
+pub fn all_le(a: &[u64], b: &[u64]) -> bool
+    requires { length a.now ≡ length b.now }
+    ensures { result ≡ pointwise nat_le a.now b.now }
+{
+    let (blocks, rest) = a.as_chunks::<8>();
+    let (other_blocks, other_rest) = b.as_chunks::<8>();
+    blocks
+        .iter()
+        .zip(other_blocks)
+        .all(|(x, y)| block::all_le(x, y))
+        && rest.iter().zip(other_rest).all(|(x, y)| *x <= *y)
+}
+
+/// Whether the columns are equal. True of none. Stops at the first eight that differ.
+pub fn all_eq(a: &[u64], b: &[u64]) -> bool
+    requires { length a.now ≡ length b.now }
+    ensures { IsTrue result ↔ (a.now ≡ b.now) }
+{
+    let (blocks, rest) = a.as_chunks::<8>();
+    let (other_blocks, other_rest) = b.as_chunks::<8>();
+    blocks
+        .iter()
+        .zip(other_blocks)
+        .all(|(x, y)| block::all_eq(x, y))
+        && rest.iter().zip(other_rest).all(|(x, y)| *x == *y)
+}

@@ -1,0 +1,35 @@
+use Rattle.std.proofs.Common.{◌≡◌, sym, ap, ◌∙◌, length, vec_len}
+use Rattle.std.specs.List.{zip, items_where_true}
+use Rattle.lanes.specs.Kernels.{packed}
+use Rattle.version.specs.Columns.{Columns, uncovered, first_bits}
+use Rattle.version.proofs.Beside.{zip-length}
+use Rattle.version.proofs.MarkedIds.{first_bits-packed, length-uncovered}
+use Rattle.version.proofs.vector.VersionVector.keep_uncovered_beside.Goals as goal
+
+pub returns-clause-ids : goal.returns-clause-ids
+returns-clause-ids g c =
+    let d = c.ids.inside in
+    let v = c.args.self.now in
+    let ids = zip d.counters.items d.indices.items in
+    let marks : first_bits c.mark_uncovered.new.mask.items (length d.counters.items) ≡ uncovered v ids =
+    ap (λ mask. first_bits mask (length d.counters.items))
+    (c.mark_uncovered.ensures.marks ∙ (λ t. packed (uncovered v (zip (c.deref.ensures.value t) (c.deref-2.ensures.value t)))))
+    ∙ first_bits-packed (uncovered v ids) (length d.counters.items) (length-uncovered v ids ∙ zip-length d.counters.items d.indices.items c.ids.invariant.indices_beside) in
+    c.keep_ids.ensures.ids
+    ∙ ap (λ bits. items_where_true bits ids) marks
+    ∙ ap (λ (columns : Columns). items_where_true (uncovered v columns.ids) columns.ids) c.ids.view_is
+
+pub returns-clause-beside : goal.returns-clause-beside
+returns-clause-beside g c =
+    let d = c.ids.inside in
+    let v = c.args.self.now in
+    let ids = zip d.counters.items d.indices.items in
+    let n : vec_len c.args.beside.now ≡ length ids = c.requires.length ∙ ap (λ (columns : Columns). length columns.ids) (sym c.ids.view_is) in
+    let marks : first_bits c.mark_uncovered.new.mask.items (length ids) ≡ uncovered v ids =
+    ap (λ mask. first_bits mask (length ids))
+    (c.mark_uncovered.ensures.marks ∙ (λ t. packed (uncovered v (zip (c.deref.ensures.value t) (c.deref-2.ensures.value t)))))
+    ∙ first_bits-packed (uncovered v ids) (length ids) (length-uncovered v ids) in
+    c.keep_marked.ensures.items
+    ∙ (λ t. items_where_true (first_bits (c.deref-3.ensures.value t) (n t)) c.args.beside.now.items)
+    ∙ ap (λ bits. items_where_true bits c.args.beside.now.items) marks
+    ∙ ap (λ (columns : Columns). items_where_true (uncovered v columns.ids) c.args.beside.now.items) c.ids.view_is
