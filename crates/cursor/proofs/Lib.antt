@@ -1,0 +1,2 @@
+pub mod RootPaths
+pub mod Below

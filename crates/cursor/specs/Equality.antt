@@ -1,0 +1,46 @@
+-- When two keys of paths or two places are one, and that these tests are equalities.
+use Rattle.std.specs.Prelude.{◌≡◌, Bool, true, false}
+use Rattle.std.proofs.Common.{sym, ap, true≢false}
+use Rattle.std.specs.Bool.{Decides}
+use Rattle.std.specs.Cmp.{IsEquivalence, decided}
+use Rattle.semantics.specs.Elements.{Place, At, HeadOf, name_cmp, is_same}
+use Rattle.semantics.specs.Paths.{Key, FieldKey, ItemKey, is_same_key}
+use Rattle.semantics.proofs.Orders.{Equal_from_test, element_itself, id_itself, ids_from_test, name_itself, same_elements, same_names}
+
+-- p and q are one place
+abbrev pub is_same_place : Place → Place → Bool
+is_same_place (At e) (At f) = is_same e f
+is_same_place (HeadOf l) (HeadOf m) = is_same l m
+is_same_place _ _ = false
+
+key_itself : (k : Key) → is_same_key k k ≡ true
+key_itself (FieldKey n) = name_itself n
+key_itself (ItemKey a) = id_itself a
+
+same_keys : (k l : Key) → is_same_key k l ≡ true → k ≡ l
+same_keys (FieldKey n) (FieldKey m) h = ap FieldKey (same_names n m (Equal_from_test (name_cmp n m) h))
+same_keys (ItemKey a) (ItemKey b) h = ap ItemKey (ids_from_test a b h)
+same_keys (FieldKey n) (ItemKey b) h = absurd (true≢false (sym h))
+same_keys (ItemKey a) (FieldKey m) h = absurd (true≢false (sym h))
+
+pub key_decides : (k l : Key) → Decides (is_same_key k l) (k ≡ l)
+key_decides k l = (same_keys k l, λ is. rw (← is) (key_itself k))
+
+pub same_key_equiv : IsEquivalence is_same_key
+same_key_equiv = decided is_same_key key_decides
+
+place_itself : (p : Place) → is_same_place p p ≡ true
+place_itself (At e) = element_itself e
+place_itself (HeadOf l) = element_itself l
+
+same_places : (p q : Place) → is_same_place p q ≡ true → p ≡ q
+same_places (At e) (At f) h = ap At (same_elements e f h)
+same_places (HeadOf l) (HeadOf m) h = ap HeadOf (same_elements l m h)
+same_places (At e) (HeadOf m) h = absurd (true≢false (sym h))
+same_places (HeadOf l) (At f) h = absurd (true≢false (sym h))
+
+pub place_decides : (p q : Place) → Decides (is_same_place p q) (p ≡ q)
+place_decides p q = (same_places p q, λ is. rw (← is) (place_itself p))
+
+pub same_place_equiv : IsEquivalence is_same_place
+same_place_equiv = decided is_same_place place_decides

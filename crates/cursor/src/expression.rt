@@ -1,0 +1,77 @@
+//! Expressions, as clients write them.
+
+ghost use Rattle.std.specs.Prelude.{◌≡◌, map};
+ghost use Rattle.cursor.specs.Meanings.{step_of};
+
+use std::alloc::AllocError;
+use std::marker::Model;
+use value::Key;
+
+/// One step of an expression.
+#[derive(Debug, PartialEq, Eq, Drop)]
+pub enum Step {
+    /// Into the map here, to the field with this key.
+    Get(Key),
+    /// Into the list here: to its head at 0, to its first visible item at 1, and so on.
+    Idx(u64),
+}
+
+impl Clone for Step {
+    ghost is_clone = { λ s t. t ≡ s };
+
+    fn clone(&self) -> Result<Step, AllocError> {
+        match self {
+            Step::Get(key) => Ok(Step::Get(key.clone()?)),
+            Step::Idx(index) => Ok(Step::Idx(*index)),
+        }
+    }
+}
+
+/// The steps from the root to an element. Contracts see the list of steps.
+#[derive(Debug, Drop)]
+pub struct Expr {
+    steps: Vec<Step>,
+}
+
+impl Model for Expr {
+    ghost use Rattle.std.specs.Prelude.{List, map};
+    ghost use Rattle.std.specs.Coded.{codes};
+    ghost use Rattle.semantics.specs.Questions.{Step as TheStep};
+    ghost use Rattle.cursor.specs.Meanings.{step_of};
+
+    ghost Value = { List TheStep };
+
+    ghost coded = { Prim.hlevel codes };
+
+    ghost view = { λ e. map step_of e.steps.items };
+}
+
+impl Expr {
+    pub fn new(steps: Vec<Step>) -> Expr
+        ensures { result ≡ map step_of steps.items }
+    {
+        Expr { steps }
+    }
+
+    pub fn steps(&self) -> &[Step]
+        ensures { map step_of result.now ≡ self.now }
+    {
+        &self.steps
+    }
+
+    pub fn into_steps(self) -> Vec<Step>
+        ensures { map step_of result.items ≡ self }
+    {
+        self.steps
+    }
+}
+
+impl Clone for Expr {
+    ghost is_clone = { λ d e. e ≡ d };
+
+    fn clone(&self) -> Result<Expr, AllocError> {
+        Ok(Expr {
+            steps: self.steps.clone()?,
+        })
+    }
+}

@@ -1,0 +1,14 @@
+//! Cursors: where in a document something stands.
+#![tactic(auto)]
+
+mod expression;
+mod hop;
+mod place;
+mod tag;
+#[cfg(test)]
+mod tests;
+
+pub use expression::{Expr, Step};
+pub use hop::{Hop, Last};
+pub use place::{MOST_KEYS, Place};
+pub use tag::Tag;

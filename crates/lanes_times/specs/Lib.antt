@@ -1,0 +1,2 @@
+-- What each kernel answers and leaves.
+pub mod Answers

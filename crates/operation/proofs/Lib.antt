@@ -1,0 +1,3 @@
+-- Places by their keys, and the faults of an operation alone.
+pub mod PlaceKeys
+pub mod AloneFaults

@@ -1,0 +1,25 @@
+use Rattle.std.proofs.Common.{rules, tests, ◌≡◌, sym, ap, ◌∙◌, true, ◌&&◌}
+use Rattle.std.specs.List.{list_all}
+use Rattle.std.proofs.lemmas.List.Folds.{list_all-map}
+use Rattle.std.proofs.lemmas.Iterator.{YieldsList-from_slice}
+use Rattle.std.proofs.lemmas.Iterator.Search.{all_from_yields_List}
+use Rattle.ids.specs.Members.{is_member}
+use Rattle.semantics.specs.Operations.{element_of}
+use Rattle.semantics.specs.Faults.{items_of_members}
+use Rattle.cursor.specs.Meanings.{hop_of}
+use Rattle.operation.specs.Alone.{key_of_member}
+use Rattle.operation.proofs.PlaceKeys.{items_of_members-keys}
+use Rattle.operation.proofs.alone.names_members.Goals as goal
+
+pub returns-then-is_some : goal.returns-then-is_some
+returns-then-is_some c =
+    let ps = c.args.table.now in
+    let e = element_of c.args.op.now.place in
+    let member : is_member ps c.args.op.now.id.replica ≡ true = search rules in
+    let all : c.all.result ≡ list_all (λ h. key_of_member ps (hop_of h)) c.hops.result.now =
+    all_from_yields_List (λ h. key_of_member ps (hop_of h)) _ _ c.all.result c.all.ensures.ran (YieldsList-from_slice c.hops.result.now cc) (λ x b q k. search (rules, tests)) in
+    all
+    ∙ sym (list_all-map (key_of_member ps) hop_of c.hops.result.now)
+    ∙ ap (list_all (key_of_member ps)) c.hops.ensures
+    ∙ sym (items_of_members-keys ps e)
+    ∙ ap (λ b. b && items_of_members ps e) (sym member)

@@ -1,0 +1,119 @@
+//! The tests of a received operation that need no history.
+
+ghost use Rattle.std.specs.Prelude.{◌≡◌, ◌&&◌, None, Some, MatchResult, length};
+ghost use Rattle.ids.specs.Members.{AreDistinct, is_member};
+ghost use Rattle.semantics.specs.Operations.{element_of};
+ghost use Rattle.semantics.specs.Faults.{is_in_list, is_at_element, items_covered, items_of_members};
+ghost use Rattle.semantics.specs.Tables.{by_table, greatest_in};
+ghost use Rattle.semantics.specs.Vectors.{at};
+ghost use Rattle.cursor.specs.Meanings.{hop_of};
+ghost use Rattle.operation.specs.Alone.{fault_alone, is_next_counter, key_covered, key_of_member};
+ghost use Rattle.operation.specs.Meanings.{mutation_of};
+
+use crate::op::{Mutation, Op};
+use cursor::{Hop, Last, Place};
+use ids::{Refusal, ReplicaId, ReplicaTable};
+use version::VersionVector;
+
+/// The first fault that can be seen of an operation alone, beside the table of replicas.
+///
+/// # Errors
+/// In this order: `UnknownReplica` where its id or an item of its place names a replica that isn't in the table, or its vector has another width; `BadCounter` where its counter isn't 1 plus the greatest of its vector, or is past the last; `NotInList` for an insert that stands neither at a head nor at an item; `BadPlace` for an assign or a delete at a head, or where its vector doesn't cover an item of its place.
+pub fn check_alone(op: &Op, table: &ReplicaTable) -> Result<(), Refusal>
+    ensures { MatchResult result (λ _. fault_alone table.now op.now ≡ None) (λ why. fault_alone table.now op.now ≡ Some why) }
+{
+    if op.deps.width() != table.len() || !names_members(op, table) {
+        return Err(Refusal::UnknownReplica);
+    }
+    if !has_counter(op) {
+        return Err(Refusal::BadCounter);
+    }
+    if !is_in_list(&op.mutation, &op.place) {
+        return Err(Refusal::NotInList);
+    }
+    if !is_at_element(&op.mutation, &op.place) || !covers_items(&op.deps, &op.place, table) {
+        return Err(Refusal::BadPlace);
+    }
+    Ok(())
+}
+
+/// Whether the counter is the one after the greatest of the vector.
+fn has_counter(op: &Op) -> bool
+    ensures { result ≡ is_next_counter (greatest_in op.now.deps) op.now.id.counter }
+{
+    match op.deps.successor() {
+        Some(counter) => op.id.counter == counter,
+        None => false,
+    }
+}
+
+/// Whether the id and the items of the place are of members.
+fn names_members(op: &Op, table: &ReplicaTable) -> bool
+    ensures { result ≡ (is_member table.now op.now.id.replica && items_of_members table.now (element_of op.now.place)) }
+{
+    table.index_of(op.id.replica).is_some()
+        && op.place.hops().iter().all(|hop| is_of_member(hop, table))
+}
+
+/// Whether the hop is to a field, or to an item of a member.
+fn is_of_member(hop: &Hop, table: &ReplicaTable) -> bool
+    ensures { result ≡ key_of_member table.now (hop_of hop.now) }
+{
+    match hop {
+        Hop::Field(_) => true,
+        Hop::Item(id) => table.index_of(id.replica).is_some(),
+    }
+}
+
+/// Whether the vector covers each item of the place.
+fn covers_items(vector: &VersionVector, place: &Place, table: &ReplicaTable) -> bool
+    requires width { length vector.now ≡ length table.now }
+    requires distinct { AreDistinct table.now }
+    ensures { result ≡ items_covered (by_table table.now vector.now) (element_of place.now) }
+{
+    place
+        .hops()
+        .iter()
+        .all(|hop| is_covered(hop, vector, table))
+}
+
+/// Whether the hop is to a field, or to an item that the vector covers.
+fn is_covered(hop: &Hop, vector: &VersionVector, table: &ReplicaTable) -> bool
+    requires width { length vector.now ≡ length table.now }
+    requires distinct { AreDistinct table.now }
+    ensures { result ≡ key_covered (by_table table.now vector.now) (hop_of hop.now) }
+{
+    match hop {
+        Hop::Field(_) => true,
+        Hop::Item(id) => id.counter <= named_of(id.replica, vector, table),
+    }
+}
+
+/// The counter that the vector names of a replica, 0 where the table lacks it.
+fn named_of(replica: ReplicaId, vector: &VersionVector, table: &ReplicaTable) -> u64
+    requires width { length vector.now ≡ length table.now }
+    requires distinct { AreDistinct table.now }
+    ensures { result ≡ at (by_table table.now vector.now) replica }
+{
+    match table.index_of(replica) {
+        Some(index) => vector.get(index),
+        None => 0,
+    }
+}
+
+/// An insert stands at a head or an item.
+fn is_in_list(mutation: &Mutation, place: &Place) -> bool
+    ensures { result ≡ is_in_list (mutation_of mutation.now) place.now }
+{
+    match place.last() {
+        Last::Doc | Last::Key(_) => !mutation.is_insert(),
+        Last::Elem(_) | Last::Head => true,
+    }
+}
+
+/// An assign or a delete stands at no head.
+fn is_at_element(mutation: &Mutation, place: &Place) -> bool
+    ensures { result ≡ is_at_element (mutation_of mutation.now) place.now }
+{
+    mutation.is_insert() || !place.is_head()
+}

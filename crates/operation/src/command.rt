@@ -1,0 +1,122 @@
+//! Commands, the entries of a history that are made of them or come from peers, and what a delivery is answered.
+
+ghost use Rattle.std.specs.Prelude.{◌≡◌, IfOk};
+
+use crate::op::{Mutation, Op};
+use cursor::Expr;
+use std::alloc::AllocError;
+use value::Val;
+
+/// What a client wants done.
+#[derive(Debug, Drop)]
+pub enum Command {
+    /// The value is to stand at the element.
+    Assign(Expr, Val),
+    /// A new item with the value is to stand after the item, or first where the expression leads to a head.
+    InsertAfter(Expr, Val),
+    /// The element is to be cleared.
+    Delete(Expr),
+}
+
+impl Command {
+    ghost use Rattle.operation.specs.Meanings.{command_of, mutation_of};
+
+    /// Where it is to be done.
+    pub fn expression(&self) -> &Expr
+        ensures { result.now ≡ (command_of self.now).expression }
+    {
+        match self {
+            Command::Assign(expression, _)
+            | Command::InsertAfter(expression, _)
+            | Command::Delete(expression) => expression,
+        }
+    }
+
+    /// What is to be done there. Copies the value.
+    ///
+    /// # Errors
+    /// Want of memory, where the value is a text.
+    pub fn mutation(&self) -> Result<Mutation, AllocError>
+        ensures { IfOk result (λ m. mutation_of m ≡ (command_of self.now).mutation) }
+    {
+        match self {
+            Command::Assign(_, value) => Ok(Mutation::Assign(value.clone()?)),
+            Command::InsertAfter(_, value) => Ok(Mutation::Insert(value.clone()?)),
+            Command::Delete(_) => Ok(Mutation::Delete),
+        }
+    }
+}
+
+impl Clone for Command {
+    ghost is_clone = { λ c d. d ≡ c };
+
+    fn clone(&self) -> Result<Command, AllocError> {
+        match self {
+            Command::Assign(expression, value) => {
+                Ok(Command::Assign(expression.clone()?, value.clone()?))
+            }
+            Command::InsertAfter(expression, value) => {
+                Ok(Command::InsertAfter(expression.clone()?, value.clone()?))
+            }
+            Command::Delete(expression) => Ok(Command::Delete(expression.clone()?)),
+        }
+    }
+}
+
+/// An operation of a history, with where it came from.
+#[derive(Debug, Drop)]
+pub enum Entry {
+    /// Made of the command of an own client, under this serial.
+    Own {
+        client: usize,
+        serial: u64,
+        command: Command,
+        op: Op,
+    },
+    /// Delivered.
+    Peer(Op),
+}
+
+impl Entry {
+    ghost use Rattle.operation.specs.Meanings.{entry_of, stamped_of};
+    ghost use Rattle.semantics.specs.Entries.{stamped_in};
+    ghost use Rattle.std.specs.Prelude.{ℕ, List};
+
+    pub fn op(&self) -> &Op
+        ensures { (table : List ℕ) → stamped_of table result.now ≡ stamped_in (entry_of table self.now) }
+    {
+        match self {
+            Entry::Own { op, .. } | Entry::Peer(op) => op,
+        }
+    }
+}
+
+impl Clone for Entry {
+    ghost is_clone = { λ e f. f ≡ e };
+
+    fn clone(&self) -> Result<Entry, AllocError> {
+        match self {
+            Entry::Own {
+                client,
+                serial,
+                command,
+                op,
+            } => Ok(Entry::Own {
+                client: *client,
+                serial: *serial,
+                command: command.clone()?,
+                op: op.clone()?,
+            }),
+            Entry::Peer(op) => Ok(Entry::Peer(op.clone()?)),
+        }
+    }
+}
+
+/// What a replica answers to the delivery of an operation that it doesn't refuse.
+#[derive(Clone, Copy, Debug, PartialEq, Eq)]
+pub enum Delivered {
+    /// It is applied already, or waits.
+    Known,
+    /// It waits until all that it depends on is applied.
+    Kept,
+}
