@@ -5,6 +5,7 @@ use At::{Field, HeadOfField, ItemOfField, Root};
 use cursor::{Expr, Place, Step};
 use ids::{OpId, Refusal, ReplicaId, ReplicaTable};
 use std::alloc::Global;
+use std::process::Abort;
 use std::test::Fail;
 use value::{Key, Scalar, Text, Val};
 use version::VersionVector;
@@ -202,31 +203,77 @@ fn operations_alone(rt: HostRuntime) -> Result<(), Fail> {
     Ok(())
 }
 
-#[test]
-fn commands_keep_their_parts(rt: HostRuntime) -> Result<(), Fail> {
-    let alloc = rt.alloc();
-    let text = Val::Scalar(Scalar::Text(Text::new(alloc, "milk")?));
+/// The second item of the list at the key `shopping`.
+fn second_item(alloc: Global) -> Result<Expr, Fail> {
     let mut steps = Vec::new(alloc);
     steps.push(Step::Get(Key::new(alloc, "shopping")?))?;
     steps.push(Step::Idx(2))?;
-    let at = Expr::new(steps);
-    for (command, want) in [
-        (
-            Command::Assign(at.clone()?, text.clone()?),
-            Mutation::Assign(text.clone()?),
-        ),
-        (
-            Command::InsertAfter(at.clone()?, text.clone()?),
-            Mutation::Insert(text.clone()?),
-        ),
-        (Command::Delete(at.clone()?), Mutation::Delete),
+    Ok(Expr::new(steps))
+}
+
+/// The text milk.
+fn milk(alloc: Global) -> Result<Val, Fail> {
+    Ok(Val::Scalar(Scalar::Text(Text::new(alloc, "milk")?)))
+}
+
+/// The command and its copy have this mutation, at the second item.
+fn assert_parts(
+    rt: &impl Abort,
+    alloc: Global,
+    command: &Command,
+    want: &Mutation,
+) -> Result<(), Fail> {
+    let copy = command.clone()?;
+    let at = second_item(alloc)?;
+    for command in [command, &copy] {
+        assert_eq!(rt; &command.mutation()?, want, "{command:?}");
+        assert_eq!(rt; command.expression().steps(), at.steps(), "{command:?}");
+    }
+    assert_eq!(rt; &want.clone()?, want);
+    Ok(())
+}
+
+#[test]
+fn commands_keep_their_parts(rt: HostRuntime) -> Result<(), Fail> {
+    let alloc = rt.alloc();
+    let assign = Command::Assign(second_item(alloc)?, milk(alloc)?);
+    assert_parts(&rt, alloc, &assign, &Mutation::Assign(milk(alloc)?))?;
+    let insert = Command::InsertAfter(second_item(alloc)?, milk(alloc)?);
+    assert_parts(&rt, alloc, &insert, &Mutation::Insert(milk(alloc)?))?;
+    let delete = Command::Delete(second_item(alloc)?);
+    assert_parts(&rt, alloc, &delete, &Mutation::Delete)
+}
+
+#[test]
+fn only_inserts_are_inserts(rt: HostRuntime) {
+    for (mutation, want) in [
+        (assign(), false),
+        (insert(), true),
+        (Mutation::Delete, false),
     ] {
-        for command in [&command, &command.clone()?] {
-            assert_eq!(rt; command.mutation()?, want, "{command:?}");
-            assert_eq!(rt; command.expression().steps(), at.steps(), "{command:?}");
-        }
-        assert_eq!(rt; want.clone()?, want);
-        assert_eq!(rt; want.is_insert(), want == Mutation::Insert(text.clone()?));
+        assert_eq!(rt; mutation.is_insert(), want, "{mutation:?}");
+    }
+}
+
+/// The operation 1@1, which assigns at the root.
+fn first_op(alloc: Global) -> Result<Op, Fail> {
+    Ok(Op {
+        id: id(1, 1)?,
+        deps: vector(alloc, &[0])?,
+        place: place(alloc, Root)?,
+        mutation: assign(),
+    })
+}
+
+/// The entry and its copy hold the first operation.
+fn assert_first(rt: &impl Abort, alloc: Global, entry: &Entry) -> Result<(), Fail> {
+    let copy = entry.clone()?;
+    let want = first_op(alloc)?;
+    for entry in [entry, &copy] {
+        let op = entry.op();
+        assert_eq!(rt; op.id, want.id, "{entry:?}");
+        assert_eq!(rt; op.place, want.place, "{entry:?}");
+        assert_eq!(rt; op.mutation, want.mutation, "{entry:?}");
     }
     Ok(())
 }
@@ -234,23 +281,12 @@ fn commands_keep_their_parts(rt: HostRuntime) -> Result<(), Fail> {
 #[test]
 fn entries_keep_their_operations(rt: HostRuntime) -> Result<(), Fail> {
     let alloc = rt.alloc();
-    let op = Op {
-        id: id(1, 1)?,
-        deps: vector(alloc, &[0])?,
-        place: place(alloc, Root)?,
-        mutation: assign(),
-    };
     let own = Entry::Own {
         client: 0,
         serial: 1,
         command: Command::Assign(Expr::new(Vec::new(alloc)), Val::EmptyMap),
-        op: op.clone()?,
+        op: first_op(alloc)?,
     };
-    let peer = Entry::Peer(op.clone()?);
-    for entry in [&own, &own.clone()?, &peer, &peer.clone()?] {
-        assert_eq!(rt; entry.op().id, op.id, "{entry:?}");
-        assert_eq!(rt; entry.op().place, op.place, "{entry:?}");
-        assert_eq!(rt; entry.op().mutation, op.mutation, "{entry:?}");
-    }
-    Ok(())
+    assert_first(&rt, alloc, &own)?;
+    assert_first(&rt, alloc, &Entry::Peer(first_op(alloc)?))
 }

@@ -4,7 +4,7 @@ use Rattle.std.specs.List.{items_where_true, range_with_len, SwappedAt}
 use Rattle.std.proofs.lemmas.List.{append-nil, length-set, take_all, take_more, take-set-le, drop_more, drop-set-lt, length-take}
 use Rattle.std.proofs.lemmas.List.FromFn.{map-range_with_len_more, length-map-range_with_len}
 
-items_where_true_last : {X : Type 0} (marks : List Bool) (xs : List X) (m : Bool) (x : X) → length marks ≡ length xs
+pub items_where_true_last : {X : Type 0} (marks : List Bool) (xs : List X) (m : Bool) (x : X) → length marks ≡ length xs
     → items_where_true (marks ++ m ∷ []) (xs ++ x ∷ []) ≡ items_where_true marks xs ++ cond m (x ∷ []) []
 items_where_true_last [] [] true x long = refl
 items_where_true_last [] [] false x long = refl

@@ -1,0 +1,89 @@
+-- A history that is kept oldest first: its places, and one more entry.
+use Rattle.std.proofs.Common.{◌≡◌, refl, sym, ap, ◌∙◌, ℕ, zero, suc, ◌+◌, ◌<◌, Bool, true, false, cond, ◌==◌, List, [], ◌∷◌, ◌++◌, map, reverse, length, take, get_or, subst, arith, Some, None, slice_get}
+use Rattle.std.specs.Option.{option_map}
+use Rattle.std.proofs.lemmas.Bool.{eq-eqb, eqb-true, eqb-false, ne_eqb}
+use Rattle.std.proofs.lemmas.List.{map-append, reverse-append, length-reverse, length-map, length-take, take_more}
+use Rattle.std.specs.List.{All, zip}
+use Rattle.std.proofs.lemmas.List.Elements.{All-nil, All-cons}
+use Rattle.std.proofs.lemmas.Option.{slice_get-map, slice_get_within}
+use Rattle.ids.specs.declared.id.OpId.{OpId}
+use Rattle.semantics.specs.Ids.{is_same_id}
+use Rattle.semantics.specs.Entries.{Entry as TheEntry, entry_at, stamped_in}
+use Rattle.operation.specs.declared.command.Entry.{Entry}
+use Rattle.operation.specs.declared.command.Entry.TheVariants.{Own, Peer}
+use Rattle.operation.specs.Meanings.{entry_of}
+use Rattle.oplog.specs.Logs.{StandAt, history, id_in, place_of}
+
+pub reverse-twice : {X : Type 0} (xs : List X) → reverse (reverse xs) ≡ xs
+reverse-twice [] = refl
+reverse-twice (x ∷ xs) = ap reverse (reverse-append (x ∷ []) xs) ∙ reverse-append (reverse xs) (x ∷ []) ∙ ap (λ l. x ∷ l) (reverse-twice xs)
+
+suc-eqb : (m n : ℕ) → (suc m == suc n) ≡ (m == n)
+suc-eqb m n = at_test (m == n) refl
+  where
+    at_test : (b : Bool) → (m == n) ≡ b → (suc m == suc n) ≡ (m == n)
+    at_test true e = eq-eqb (suc m) (suc n) (ap suc (eqb-true m n e)) ∙ sym e
+    at_test false e = ne_eqb (suc m) (suc n) (λ h. eqb-false m n e (omega (arith, h))) ∙ sym e
+
+slice_get-last : {X : Type 0} (xs : List X) (x : X) (n : ℕ) → slice_get (xs ++ x ∷ []) n ≡ cond (length xs == n) (Some x) (slice_get xs n)
+slice_get-last [] x zero = refl
+slice_get-last [] x (suc n) = ap (λ b. cond b (Some x) None) (sym (ne_eqb 0 (suc n) (λ h. omega (arith, h))))
+slice_get-last (y ∷ ys) x zero = ap (λ b. cond b (Some x) (Some y)) (sym (ne_eqb (suc (length ys)) 0 (λ h. omega (arith, h))))
+slice_get-last (y ∷ ys) x (suc n) = slice_get-last ys x n ∙ ap (λ b. cond b (Some x) (slice_get ys n)) (sym (suc-eqb (length ys) n))
+
+entry_at-reverse : (G : List TheEntry) (n : ℕ) → entry_at n G ≡ slice_get (reverse G) n
+entry_at-reverse [] n = refl
+entry_at-reverse (e ∷ G) n =
+    (λ t. cond (sym (length-reverse G) t == n) (Some e) (entry_at-reverse G n t))
+    ∙ sym (slice_get-last (reverse G) e n)
+    ∙ ap (λ l. slice_get l n) (sym (reverse-append (e ∷ []) G))
+
+-- the entry at a place of a history
+pub entry_at-history : (table : List ℕ) (entries : List Entry) (n : ℕ) → entry_at n (history table entries) ≡ option_map (entry_of table) (slice_get entries n)
+entry_at-history table entries n =
+    entry_at-reverse (history table entries) n
+    ∙ ap (λ l. slice_get l n) (reverse-twice (map (entry_of table) entries))
+    ∙ slice_get-map (entry_of table) entries n
+
+-- one more entry is the newest
+pub history-more : (table : List ℕ) (entries : List Entry) (e : Entry) → history table (entries ++ e ∷ []) ≡ entry_of table e ∷ history table entries
+history-more table entries e = ap reverse (map-append (entry_of table) entries (e ∷ [])) ∙ reverse-append (map (entry_of table) entries) (entry_of table e ∷ [])
+
+pub history-length : (table : List ℕ) (entries : List Entry) → length (history table entries) ≡ length entries
+history-length table entries = length-reverse (map (entry_of table) entries) ∙ length-map entries (entry_of table)
+
+pub same-id : (table : List ℕ) (e : Entry) → (stamped_in (entry_of table e)).id ≡ id_in e
+same-id table (Own client serial command op) = refl
+same-id table (Peer op) = refl
+
+-- what is found in one more entry
+pub place_of-more : (table : List ℕ) (entries : List Entry) (n : ℕ) (e : Entry) (a : OpId) → n < length entries → get_or entries n e ≡ e
+    → place_of a (history table (take (n + 1) entries)) ≡ cond (is_same_id (id_in e) a) (Some n) (place_of a (history table (take n entries)))
+place_of-more table entries n e a lt is =
+    ap (λ l. place_of a (history table l)) (take_more entries n e lt ∙ ap (λ x. take n entries ++ x ∷ []) is)
+    ∙ ap (place_of a) (history-more table (take n entries) e)
+    ∙ (λ t. cond (is_same_id (same-id table e t) a) (Some (size t)) (place_of a (history table (take n entries))))
+  where
+    size : length (history table (take n entries)) ≡ n
+    size = history-length table (take n entries) ∙ omega (arith, length-take n entries)
+
+-- one more index
+pub StandAt-more : (table indices : List ℕ) (entries : List Entry) (i : ℕ) (e : Entry) → StandAt table indices entries
+    → slice_get table i ≡ Some (id_in e).replica → StandAt table (indices ++ i ∷ []) (entries ++ e ∷ [])
+StandAt-more table [] [] i e stand here = (here, tt)
+StandAt-more table [] (f ∷ entries) i e stand here = absurd stand
+StandAt-more table (j ∷ indices) [] i e stand here = absurd stand
+StandAt-more table (j ∷ indices) (f ∷ entries) i e stand here = (stand.0, StandAt-more table indices entries i e stand.1 here)
+
+pub StandAt-length : (table indices : List ℕ) (entries : List Entry) → StandAt table indices entries → length indices ≡ length entries
+StandAt-length table [] [] stand = refl
+StandAt-length table [] (e ∷ entries) stand = absurd stand
+StandAt-length table (i ∷ indices) [] stand = absurd stand
+StandAt-length table (i ∷ indices) (e ∷ entries) stand = ap suc (StandAt-length table indices entries stand.1)
+
+pub StandAt-within : (table counters indices : List ℕ) (entries : List Entry) (width : ℕ) → width ≡ length table → StandAt table indices entries → All (λ id. id.1 < width) (zip counters indices)
+StandAt-within table [] indices entries width e stand = All-nil (λ id. id.1 < width)
+StandAt-within table (c ∷ counters) [] entries width e stand = All-nil (λ id. id.1 < width)
+StandAt-within table (c ∷ counters) (i ∷ indices) [] width e stand = absurd stand
+StandAt-within table (c ∷ counters) (i ∷ indices) (f ∷ entries) width e stand =
+    All-cons (λ id. id.1 < width) (c, i) (zip counters indices) (subst (λ n. i < n) (sym e) (slice_get_within table i (id_in f).replica stand.0)) (StandAt-within table counters indices entries width e stand.1)

@@ -1,0 +1,2 @@
+-- What a log holds, and what it finds.
+pub mod Logs

@@ -1,0 +1,8 @@
+//! The history of a replica: its entries in the order in which they were applied.
+#![tactic(auto)]
+
+mod log;
+#[cfg(test)]
+mod tests;
+
+pub use log::{Log, places_name_what_is_missing};
