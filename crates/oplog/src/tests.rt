@@ -5,6 +5,7 @@ use cursor::{Expr, Place, Step};
 use ids::{OpId, ReplicaId, ReplicaTable};
 use operation::{Command, Entry, Mutation, Op};
 use std::alloc::Global;
+use std::process::Abort;
 use std::test::Fail;
 use value::{Key, Scalar, Val};
 use version::VersionVector;
@@ -45,17 +46,44 @@ fn own(alloc: Global, serial: u64, op: Op) -> Result<Entry, Fail> {
     })
 }
 
+/// A log of the replicas 1, 2 and 3.
+fn new_log(alloc: Global) -> Result<Log, Fail> {
+    let table = ReplicaTable::new(alloc, &[1, 2, 3])?;
+    if table.len() != 3 {
+        return Err("another table".into());
+    }
+    Ok(Log::new(alloc, table))
+}
+
+/// Appends an entry of a member.
+fn append(log: &mut Log, entry: Entry) -> Result<(), Fail> {
+    let replica = entry.op().id.replica;
+    if log.table().index_of(replica).is_none() {
+        return Err("no member".into());
+    }
+    log.reserve_one()?;
+    log.push(entry);
+    Ok(())
+}
+
+/// The places of what a vector of these counters lacks.
+fn missing(
+    rt: &impl Abort,
+    alloc: Global,
+    log: &Log,
+    counters: &[u64; 3],
+) -> Result<Vec<usize>, Fail> {
+    let vector = vector(alloc, counters)?;
+    assert_eq!(rt; vector.width(), log.table().len());
+    Ok(log.missing(alloc, &vector)?)
+}
+
 /// Replica 1 assigned, both saw it, and then each assigned: 1@1, 2@1 and 2@2, in a table of 1, 2, 3.
 fn log(alloc: Global) -> Result<Log, Fail> {
-    let mut log = Log::new(alloc, ReplicaTable::new(alloc, &[1, 2, 3])?);
-    for entry in [
-        own(alloc, 1, op(alloc, 1, 1, &[0, 0, 0])?)?,
-        own(alloc, 2, op(alloc, 2, 1, &[1, 0, 0])?)?,
-        Entry::Peer(op(alloc, 2, 2, &[1, 0, 0])?),
-    ] {
-        log.reserve_one()?;
-        log.push(entry);
-    }
+    let mut log = new_log(alloc)?;
+    append(&mut log, own(alloc, 1, op(alloc, 1, 1, &[0, 0, 0])?)?)?;
+    append(&mut log, own(alloc, 2, op(alloc, 2, 1, &[1, 0, 0])?)?)?;
+    append(&mut log, Entry::Peer(op(alloc, 2, 2, &[1, 0, 0])?))?;
     Ok(log)
 }
 
@@ -104,25 +132,27 @@ fn what_a_vector_lacks(rt: HostRuntime) -> Result<(), Fail> {
         ([u64::MAX, 1, 0], &[2]),
     ];
     for (counters, want) in rows {
-        let missing = log.missing(alloc, &vector(alloc, &counters)?)?;
+        let missing = missing(&rt, alloc, &log, &counters)?;
         assert_eq!(rt; missing.as_slice(), want, "beyond {counters:?}");
     }
-    let none = Log::new(alloc, ReplicaTable::new(alloc, &[1, 2, 3])?);
+    let none = new_log(alloc)?;
     assert_eq!(rt; none.len(), 0);
-    assert!(rt; none.missing(alloc, &vector(alloc, &[0, 0, 0])?)?.is_empty());
+    assert!(rt; missing(&rt, alloc, &none, &[0, 0, 0])?.is_empty());
     Ok(())
 }
 
 #[test]
 fn what_a_vector_lacks_of_many(rt: HostRuntime) -> Result<(), Fail> {
     let alloc = rt.alloc();
-    let mut log = Log::new(alloc, ReplicaTable::new(alloc, &[1, 2, 3])?);
+    let mut log = new_log(alloc)?;
     for counter in 1..=130 {
-        log.reserve_one()?;
-        log.push(Entry::Peer(op(alloc, counter, 2, &[0, counter - 1, 0])?));
+        append(
+            &mut log,
+            Entry::Peer(op(alloc, counter, 2, &[0, counter - 1, 0])?),
+        )?;
     }
     for known in [0, 1, 63, 64, 65, 127, 128, 129, 130] {
-        let missing = log.missing(alloc, &vector(alloc, &[0, known, 0])?)?;
+        let missing = missing(&rt, alloc, &log, &[0, known, 0])?;
         let mut want = Vec::new(alloc);
         for place in known as usize..130 {
             want.push(place)?;
