@@ -82,6 +82,7 @@ impl IdColumns {
         ensures ids { self.new.ids ≡ insert self.old.ids place (counter, index) }
         ensures room { self.old.room ≤ self.new.room + 1 }
     {
+        // There is room, so neither is refused.
         let _ = self.counters.insert(place, counter);
         let _ = self.indices.insert(place, index);
         self.bounds.push_reserved(0);
