@@ -1,0 +1,9 @@
+-- Places among keys, and entries in columns.
+pub mod Ranks
+pub mod Puts
+pub mod Halves
+pub mod Columns
+pub mod Beside
+pub mod Chains
+pub mod Walks
+pub mod Linked

@@ -1,0 +1,69 @@
+use Rattle.std.proofs.Common.{rules, refl, ◌≡◌, ◌≤◌, ◌<◌, ◌+◌, ◌∙◌, ap, sym, subst, arith, length, true, cond, Result, Ok, Err}
+use Rattle.std.specs.Prelude.{is_ok, IsOk}
+use Rattle.std.specs.List.{insert}
+use Rattle.std.specs.Ordering.{is_eq}
+use Rattle.semantics.specs.Ids.{id_cmp}
+use Rattle.semantics.proofs.Orders.{id_total}
+use Rattle.columns.specs.Rank.{StandsAt, GoesTo, keys_of, rank, has_key}
+use Rattle.columns.specs.Entries.{entries_of, indices_of}
+use Rattle.columns.proofs.Ranks.{there_at}
+use Rattle.columns.proofs.Columns.{put_there-columns, put_new-columns, within-columns, insert-map}
+use Rattle.columns.proofs.by_id.put_in.Goals as goal
+
+is_ok_true : {A B : Type 0} (r : Result A B) → IsOk r → is_ok r ≡ true
+is_ok_true (Ok x) h = refl
+is_ok_true (Err x) h = h
+
+pub index_mut-requires : goal.index_mut-requires
+index_mut-requires g c =
+    let bs = c.args.beside.now.items in
+    let s : StandsAt id_cmp c.args.id (keys_of (entries_of c.args.ids.now.ids bs)) c.in-Ok.place = subst (λ xs. StandsAt id_cmp c.args.id (keys_of (entries_of c.args.ids.now.ids xs)) c.in-Ok.place) c.deref.ensures.value c.in-Ok.ensures in
+    let w : c.in-Ok.place + 1 ≤ length bs = within-columns c.args.ids.now.ids bs (c.in-Ok.place + 1) c.requires.entries.long (let h = s.within in omega arith) in
+    search rules
+
+pub insert-requires-clause-within : goal.insert-requires-clause-within
+insert-requires-clause-within g c =
+    let bs = c.args.beside.now.items in
+    let s : GoesTo id_cmp c.args.id (keys_of (entries_of c.args.ids.now.ids bs)) c.in-Err.place = subst (λ xs. GoesTo id_cmp c.args.id (keys_of (entries_of c.args.ids.now.ids xs)) c.in-Err.place) c.deref.ensures.value c.in-Err.ensures in
+    let w : c.in-Err.place ≤ length bs = within-columns c.args.ids.now.ids bs c.in-Err.place c.requires.entries.long s.within in
+    let e = c.requires.entries.long in
+    omega arith
+
+pub insert-requires-in-Err : goal.insert-requires-in-Err
+insert-requires-in-Err g c =
+    let bs = c.args.beside.now.items in
+    let s : GoesTo id_cmp c.args.id (keys_of (entries_of c.args.ids.now.ids bs)) c.in-Err.place = subst (λ xs. GoesTo id_cmp c.args.id (keys_of (entries_of c.args.ids.now.ids xs)) c.in-Err.place) c.deref.ensures.value c.in-Err.ensures in
+    let w : c.in-Err.place ≤ length bs = within-columns c.args.ids.now.ids bs c.in-Err.place c.requires.entries.long s.within in
+    search rules
+
+pub returns-in-Ok-clause-entries : goal.returns-in-Ok-clause-entries
+returns-in-Ok-clause-entries g c =
+    put_there-columns c.args.ids.now.ids c.args.beside.now.items c.args.id c.args.value c.in-Ok.place c.requires.entries.long
+    (subst (λ xs. StandsAt id_cmp c.args.id (keys_of (entries_of c.args.ids.now.ids xs)) c.in-Ok.place) c.deref.ensures.value c.in-Ok.ensures)
+
+pub returns-in-Ok-clause-indices : goal.returns-in-Ok-clause-indices
+returns-in-Ok-clause-indices g c =
+    let ids = c.args.ids.now.ids in
+    let keys = keys_of (entries_of ids c.args.beside.now.items) in
+    let s : StandsAt id_cmp c.args.id keys c.in-Ok.place = subst (λ xs. StandsAt id_cmp c.args.id (keys_of (entries_of ids xs)) c.in-Ok.place) c.deref.ensures.value c.in-Ok.ensures in
+    ap (λ b. cond b (indices_of ids) (insert (indices_of ids) (rank id_cmp c.args.id keys) c.args.index)) (sym (there_at id_cmp id_total c.args.id keys c.in-Ok.place c.args.id s.within (s.ties c.args.id)))
+
+pub returns-in-Err-clause-entries : goal.returns-in-Err-clause-entries
+returns-in-Err-clause-entries g c =
+    let ids = c.args.ids.now.ids in
+    let bs = c.args.beside.now.items in
+    let s : GoesTo id_cmp c.args.id (keys_of (entries_of ids bs)) c.in-Err.place = subst (λ xs. GoesTo id_cmp c.args.id (keys_of (entries_of ids xs)) c.in-Err.place) c.deref.ensures.value c.in-Err.ensures in
+    let done : is_ok c.insert-in-Err.result ≡ true = is_ok_true _ (c.insert-in-Err.ensures.succeeds c.requires.room_beside) in
+    let beside = c.insert-in-Err.ensures.items ∙ ap (λ b. cond b (insert bs c.in-Err.place (c.args.id.replica, c.args.value)) bs) done in
+    (λ i. entries_of (c.insert.ensures.ids i) (beside i))
+    ∙ put_new-columns ids bs c.args.id c.args.index c.args.value c.in-Err.place c.requires.entries.long s
+
+pub returns-in-Err-clause-indices : goal.returns-in-Err-clause-indices
+returns-in-Err-clause-indices g c =
+    let ids = c.args.ids.now.ids in
+    let keys = keys_of (entries_of ids c.args.beside.now.items) in
+    let s : GoesTo id_cmp c.args.id keys c.in-Err.place = subst (λ xs. GoesTo id_cmp c.args.id (keys_of (entries_of ids xs)) c.in-Err.place) c.deref.ensures.value c.in-Err.ensures in
+    ap indices_of c.insert.ensures.ids
+    ∙ insert-map (λ id. id.1) ids c.in-Err.place (c.args.id.counter, c.args.index)
+    ∙ ap (λ i. insert (indices_of ids) i c.args.index) s.ranked
+    ∙ ap (λ b. cond b (indices_of ids) (insert (indices_of ids) (rank id_cmp c.args.id keys) c.args.index)) (sym s.absent)

@@ -1,0 +1,6 @@
+-- What the columns of a tree are to contracts.
+pub mod Rank
+pub mod Entries
+pub mod Keys
+pub mod Orders
+pub mod Chains

@@ -1,0 +1,171 @@
+//! What stands at each id: columns of ids, and what stands beside them.
+
+ghost use Rattle.std.specs.Prelude.{◌≡◌, ◌≤◌, ◌<◌, ◌+◌, ℕ, List, [], length, map, Some, slice_get, slice_index_or, IsTrue, OnOk, MatchResult, vec_len, vec_capacity};
+ghost use Rattle.std.specs.List.{All, filter, zip};
+ghost use Rattle.std.specs.FinMap.{put, is_sorted};
+ghost use Rattle.ids.specs.Members.{AreDistinct};
+ghost use Rattle.semantics.specs.Ids.{OpId as TheId, id_cmp};
+ghost use Rattle.semantics.specs.Vectors.{covers};
+ghost use Rattle.semantics.specs.Tables.{by_table};
+ghost use Rattle.semantics.specs.Context.{without};
+ghost use Rattle.version.specs.Columns.{is_uncovered};
+ghost use Rattle.columns.specs.Rank.{GoesTo, StandsAt, keys_of};
+ghost use Rattle.columns.specs.Entries.{AreEntries, StandBeside, entries_of, indices_of, put_index};
+
+use cursor::Tag;
+use ids::{OpId, ReplicaId};
+use std::alloc::{AllocError, Global};
+use std::cmp::Ordering;
+use std::marker::Model;
+use value::Scalar;
+use version::{IdColumns, VersionVector};
+
+/// A finite map by id. The counters of the ids stand in a column of their own, so that a vector is compared with eight of them at once.
+///
+/// Contracts see the entries, rising by id, the place of each entry's replica in the table, and how many more fit without memory.
+#[derive(Debug, Drop)]
+pub struct ById<T> {
+    ids: IdColumns,
+    beside: Vec<(ReplicaId, T)>,
+}
+
+/// The ids by which something is present at an element, each with the tag as which it is.
+pub type Presence = ById<Tag>;
+
+/// The ids of the values at an element, each with its value.
+pub type Register = ById<Scalar>;
+
+impl<T> Model for ById<T> {
+    ghost use Rattle.std.specs.Prelude.{min, ◌-◌, vec_len, vec_capacity};
+    ghost use Rattle.columns.specs.Entries.{AreEntries, Entries, entries_of, indices_of};
+
+    ghost Value = { Entries T };
+
+    ghost view = { λ m. record { entries = entries_of m.ids.ids m.beside.items; indices = indices_of m.ids.ids; room = min m.ids.room (vec_capacity m.beside - vec_len m.beside) } };
+
+    ghost invariant = { λ m. AreEntries m.ids.ids m.beside.items };
+}
+
+impl<T> ById<T> {
+    pub fn new(alloc: Global) -> ById<T>
+        ensures entries { result.entries ≡ [] }
+        ensures indices { result.indices ≡ [] }
+    {
+        ById {
+            ids: IdColumns::new(alloc),
+            beside: Vec::new(alloc),
+        }
+    }
+
+    /// How many entries there are.
+    pub fn len(&self) -> usize
+        ensures length { result ≡ length self.now.entries }
+        ensures rising { IsTrue (is_sorted id_cmp self.now.entries) }
+        ensures beside { length self.now.indices ≡ length self.now.entries }
+    {
+        self.beside.len()
+    }
+
+    /// The id at a place, and what stands beside it.
+    pub fn at(&self, place: usize) -> (OpId, &T)
+        requires { place < length self.now.entries }
+        ensures { slice_get self.now.entries place ≡ Some (result.0, result.1.now) }
+    {
+        (id_at(&self.ids, &self.beside, place), &self.beside[place].1)
+    }
+
+    /// Makes room for one more entry.
+    ///
+    /// # Errors
+    /// Want of memory.
+    pub fn reserve_one(&mut self) -> Result<(), AllocError>
+        ensures entries { self.new.entries ≡ self.old.entries }
+        ensures indices { self.new.indices ≡ self.old.indices }
+        ensures room { OnOk result (0 < self.new.room) }
+        ensures kept { self.old.room ≤ self.new.room }
+    {
+        self.ids.reserve_one()?;
+        self.beside.reserve(1)
+    }
+}
+
+/// The id at a place.
+fn id_at<T>(ids: &IdColumns, beside: &[(ReplicaId, T)], place: usize) -> OpId
+    requires long { length beside.now ≡ length ids.now.ids }
+    requires within { place < length beside.now }
+    ensures { (d : TheId) → slice_index_or (keys_of (entries_of ids.now.ids beside.now)) place d ≡ result }
+{
+    let (counter, _) = ids.at(place);
+    let replica = beside[place].0;
+    OpId { counter, replica }
+}
+
+/// The place of an id, or the one to which it goes. It looks from the end.
+fn find_from_end<T>(ids: &IdColumns, beside: &[(ReplicaId, T)], id: OpId) -> Result<usize, usize>
+    requires { AreEntries ids.now.ids beside.now }
+    ensures { MatchResult result (StandsAt id_cmp id (keys_of (entries_of ids.now.ids beside.now))) (GoesTo id_cmp id (keys_of (entries_of ids.now.ids beside.now))) }
+{
+    let mut place = beside.len();
+    while place > 0 {
+        match id.cmp(&id_at(ids, beside, place - 1)) {
+            Ordering::Greater => return Err(place),
+            Ordering::Equal => return Ok(place - 1),
+            Ordering::Less => place -= 1,
+        }
+    }
+    Err(0)
+}
+
+impl<T: Drop> ById<T> {
+    /// Puts an entry in its place, where `index` is the place of the id's replica in the table. What stood beside the id goes, if there was something.
+    ///
+    /// Takes no memory. It looks from the end and moves each entry of a greater id, so for the greatest id it is one push.
+    pub fn put(&mut self, id: OpId, index: usize, value: T)
+        requires { 0 < self.old.room }
+        ensures entries { self.new.entries ≡ put id_cmp id value self.old.entries }
+        ensures indices { self.new.indices ≡ put_index id index (keys_of self.old.entries) self.old.indices }
+        ensures beside { (table : List ℕ) → slice_get table index ≡ Some id.replica → StandBeside table self.old.entries self.old.indices → StandBeside table self.new.entries self.new.indices }
+        ensures room { self.old.room ≤ self.new.room + 1 }
+    {
+        put_in(&mut self.ids, &mut self.beside, id, index, value);
+    }
+
+    /// Takes away the entries whose ids the vector covers. Takes no memory, looks at each entry once, and moves the entries that stay to the front.
+    pub fn clear(&mut self, vector: &VersionVector)
+        requires { All (λ place. place < length vector.now) self.old.indices }
+        ensures kept { zip self.new.entries self.new.indices ≡ filter (λ e. is_uncovered vector.now (e.0.0.counter, e.1)) (zip self.old.entries self.old.indices) }
+        ensures without { (table : List ℕ) → AreDistinct table → length table ≡ length vector.now → StandBeside table self.old.entries self.old.indices → self.new.entries ≡ without (covers (by_table table vector.now)) self.old.entries }
+        ensures beside { (table : List ℕ) → StandBeside table self.old.entries self.old.indices → StandBeside table self.new.entries self.new.indices }
+        ensures room { self.old.room ≤ self.new.room }
+    {
+        vector.keep_uncovered_beside(&mut self.ids, &mut self.beside);
+    }
+}
+
+/// Puts an entry in its place. What stood beside the id goes, if there was something.
+fn put_in<T: Drop>(
+    ids: &mut IdColumns,
+    beside: &mut Vec<(ReplicaId, T)>,
+    id: OpId,
+    index: usize,
+    value: T,
+)
+    requires entries { AreEntries ids.old.ids beside.old.items }
+    requires room_for_the_id { 0 < ids.old.room }
+    requires room_beside { vec_len beside.old < vec_capacity beside.old }
+    ensures entries { entries_of ids.new.ids beside.new.items ≡ put id_cmp id value (entries_of ids.old.ids beside.old.items) }
+    ensures indices { indices_of ids.new.ids ≡ put_index id index (keys_of (entries_of ids.old.ids beside.old.items)) (indices_of ids.old.ids) }
+    ensures long { length beside.new.items ≡ length ids.new.ids }
+    ensures one_more { vec_len beside.new ≤ vec_len beside.old + 1 }
+    ensures room { ids.old.room ≤ ids.new.room + 1 }
+    ensures capacity { vec_capacity beside.new ≡ vec_capacity beside.old }
+{
+    let OpId { counter, replica } = id;
+    match find_from_end(ids, beside, id) {
+        Ok(place) => beside[place] = (replica, value),
+        Err(place) => {
+            ids.insert(place, counter, index);
+            let _ = beside.insert(place, (replica, value));
+        }
+    }
+}

@@ -1,0 +1,207 @@
+//! The order of a list, as linked items.
+
+ghost use Rattle.std.specs.Prelude.{◌≡◌, ◌≤◌, ◌<◌, ◌+◌, ℕ, List, [], length, ◌∷◌, IfSome, IsTrue, IsFalse, OnOk, Option, MatchResult, vec_len, vec_capacity};
+ghost use Rattle.std.specs.FinMap.{find, put, is_sorted};
+ghost use Rattle.semantics.specs.Ids.{OpId as TheId, id_cmp};
+ghost use Rattle.semantics.specs.Context.{insert_after, skip};
+ghost use Rattle.columns.specs.Rank.{GoesTo, StandsAt, keys_of};
+ghost use Rattle.columns.specs.Orders.{has_item, has_place, item_after};
+ghost use Rattle.columns.specs.Chains.{AreLinked, HasSplit, IsSplit, Passes, first_linked, following, ids_of, nexts_linked, number_at, numbers_of};
+
+use ids::OpId;
+use std::alloc::{AllocError, Global};
+use std::cmp::Ordering;
+use std::marker::Model;
+
+/// The order of the items of a list, visible or not. Items are numbered as they come, and each has the number of the next one.
+///
+/// Contracts see the items in their order, and how many more fit without memory.
+#[derive(Debug, Drop)]
+pub struct ListOrder {
+    first: Option<usize>,
+    /// The number of the next item, by the number of each.
+    nexts: Vec<Option<usize>>,
+    /// The ids, by the number of each item.
+    ids: Vec<OpId>,
+    /// The number of each item, rising by id.
+    column: Vec<(OpId, usize)>,
+}
+
+impl Model for ListOrder {
+    ghost use Rattle.std.specs.Prelude.{min, vec_len, vec_capacity, ◌-◌};
+    ghost use Rattle.columns.specs.Orders.{Order};
+    ghost use Rattle.columns.specs.Chains.{AreLinked, ids_of, numbers_of};
+
+    ghost Value = { Order };
+
+    ghost view = { λ o. record { items = ids_of o.ids.items (numbers_of o.first o.nexts.items); room = min (vec_capacity o.nexts - vec_len o.nexts) (min (vec_capacity o.ids - vec_len o.ids) (vec_capacity o.column - vec_len o.column)) } };
+
+    ghost invariant = { λ o. AreLinked o.first o.nexts.items o.ids.items o.column.items (numbers_of o.first o.nexts.items) };
+}
+
+impl ListOrder {
+    pub fn new(alloc: Global) -> ListOrder
+        ensures { result.items ≡ [] }
+    {
+        ListOrder {
+            first: None,
+            nexts: Vec::new(alloc),
+            ids: Vec::new(alloc),
+            column: Vec::new(alloc),
+        }
+    }
+
+    /// How many items there are.
+    pub fn len(&self) -> usize
+        ensures { result ≡ length self.now.items }
+    {
+        self.nexts.len()
+    }
+
+    /// Makes room for one more item.
+    ///
+    /// # Errors
+    /// Want of memory.
+    pub fn reserve_one(&mut self) -> Result<(), AllocError>
+        ensures same { self.new.items ≡ self.old.items }
+        ensures room { OnOk result (0 < self.new.room) }
+        ensures kept { self.old.room ≤ self.new.room }
+    {
+        self.nexts.reserve(1)?;
+        self.ids.reserve(1)?;
+        self.column.reserve(1)
+    }
+
+    /// Puts a new item after `prev`, or after the head, past each next item that is greater.
+    ///
+    /// Takes no memory. It searches for `prev` by halves, looks at each item that it goes past, and moves a number for each item of a greater id.
+    pub fn place(&mut self, prev: Option<OpId>, id: OpId)
+        requires prev { IsTrue (has_place prev self.old.items) }
+        requires id { IsFalse (has_item id self.old.items) }
+        requires room { 0 < self.old.room }
+        ensures items { self.new.items ≡ insert_after prev id self.old.items }
+        ensures room { self.old.room ≤ self.new.room + 1 }
+    {
+        let number = self.nexts.len();
+        let start = number_of(&self.column, prev);
+        let last = last_passed(self.first, &self.nexts, &self.ids, start, &id);
+        link(&mut self.first, &mut self.nexts, last);
+        put_number(&mut self.column, id, number);
+        self.ids.push_reserved(id);
+    }
+
+    /// Whether this is one of the items. A search by halves.
+    pub fn contains(&self, id: &OpId) -> bool
+        ensures { result ≡ has_item id.now self.now.items }
+    {
+        number_of(&self.column, Some(*id)).is_some()
+    }
+
+    /// The item after this one, or the first after the head. There is none past the last, and none after what is no item. A search by halves.
+    pub fn next(&self, after: Option<OpId>) -> Option<OpId>
+        ensures { result ≡ item_after after self.now.items }
+    {
+        let last = number_of(&self.column, after);
+        if last.is_some() != after.is_some() {
+            return None;
+        }
+        let next = next_number(self.first, &self.nexts, last)?;
+        Some(self.ids[next])
+    }
+}
+
+/// The place of an item in the column, or the one to which it goes. A search by halves.
+fn find_item(column: &[(OpId, usize)], id: &OpId) -> Result<usize, usize>
+    requires { IsTrue (is_sorted id_cmp column.now) }
+    ensures { MatchResult result (StandsAt id_cmp id.now (keys_of column.now)) (GoesTo id_cmp id.now (keys_of column.now)) }
+{
+    let mut low = 0;
+    let mut high = column.len();
+    while low < high {
+        let middle = low + (high - low) / 2;
+        match id.cmp(&column[middle].0) {
+            Ordering::Less => high = middle,
+            Ordering::Equal => return Ok(middle),
+            Ordering::Greater => low = middle + 1,
+        }
+    }
+    Err(low)
+}
+
+/// The number of an item. The head has none.
+fn number_of(column: &[(OpId, usize)], item: Option<OpId>) -> Option<usize>
+    requires { IsTrue (is_sorted id_cmp column.now) }
+    ensures { result ≡ number_at column.now item }
+{
+    let item = item?;
+    match find_item(column, &item) {
+        Ok(place) => Some(column[place].1),
+        Err(_) => None,
+    }
+}
+
+/// Puts the number of an item into the column.
+fn put_number(column: &mut Vec<(OpId, usize)>, id: OpId, number: usize)
+    requires rising { IsTrue (is_sorted id_cmp column.old.items) }
+    requires room { vec_len column.old < vec_capacity column.old }
+    ensures items { column.new.items ≡ put id_cmp id number column.old.items }
+    ensures one_more { vec_len column.new ≤ vec_len column.old + 1 }
+    ensures capacity { vec_capacity column.new ≡ vec_capacity column.old }
+{
+    match find_item(column, &id) {
+        Ok(place) => column[place].1 = number,
+        Err(place) => {
+            let _ = column.insert(place, (id, number));
+        }
+    }
+}
+
+/// Links a new item in after the last one that it goes past.
+fn link(first: &mut Option<usize>, nexts: &mut Vec<Option<usize>>, last: Option<usize>)
+    requires last { IfSome last (λ n. n < length nexts.old.items) }
+    requires room { vec_len nexts.old < vec_capacity nexts.old }
+    ensures first { first.new ≡ first_linked first.old (length nexts.old.items) last }
+    ensures nexts { nexts.new.items ≡ nexts_linked first.old nexts.old.items last }
+    ensures capacity { vec_capacity nexts.new ≡ vec_capacity nexts.old }
+{
+    let number = nexts.len();
+    let next = next_number(*first, nexts, last);
+    match last {
+        None => *first = Some(number),
+        Some(last) => nexts[last] = Some(number),
+    }
+    nexts.push_reserved(next);
+}
+
+/// Where the link of an item leads, or that of the head.
+fn next_number(first: Option<usize>, nexts: &[Option<usize>], last: Option<usize>) -> Option<usize>
+    requires { IfSome last (λ n. n < length nexts.now) }
+    ensures { result ≡ following first nexts.now last }
+{
+    match last {
+        None => first,
+        Some(last) => nexts[last],
+    }
+}
+
+/// The last item that a new one goes past, where it goes after `prev`.
+fn last_passed(
+    first: Option<usize>,
+    nexts: &[Option<usize>],
+    ids: &[OpId],
+    prev: Option<usize>,
+    id: &OpId,
+) -> Option<usize>
+    requires long { length ids.now ≡ length nexts.now }
+    requires prev { HasSplit first nexts.now prev }
+    ensures { (before after : List ℕ) → IsSplit first nexts.now prev before after → Passes ids.now before after result (λ ns. skip id.now (ids_of ids.now ns)) (λ ns. id.now ∷ ids_of ids.now ns) }
+{
+    let mut last = prev;
+    while let Some(next) = next_number(first, nexts, last) {
+        match ids[next].cmp(id) {
+            Ordering::Less => return last,
+            _ => last = Some(next),
+        }
+    }
+    last
+}
