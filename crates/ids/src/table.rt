@@ -4,10 +4,11 @@ ghost use Rattle.std.specs.Prelude.{◌≡◌, ◌≤◌, ◌↔◌, ◌⊎◌, 
 ghost use Rattle.std.specs.List.{position};
 ghost use Rattle.ids.specs.Members.{AreDistinct, is_member, in_order, put_number};
 ghost use Rattle.ids.specs.Configurations.{are_members};
+ghost use Rattle.ids.specs.Tables.{AreRising};
 
 use crate::members::are_members;
 use crate::{Refusal, ReplicaId};
-use std::alloc::{AllocFailed, Global};
+use std::alloc::{AllocError, AllocFailed, Global};
 use std::marker::Model;
 
 /// The replicas of an engine: from 1 to 64 different numbers, rising. Contracts see the list of the numbers.
@@ -73,8 +74,19 @@ impl ReplicaTable {
         ensures any { 1 ≤ result }
         ensures few { result ≤ 64 }
         ensures distinct { AreDistinct self.now }
+        ensures rising { AreRising self.now }
     {
         self.numbers.len()
+    }
+}
+
+impl Clone for ReplicaTable {
+    ghost is_clone = { λ s t. t ≡ s };
+
+    fn clone(&self) -> Result<ReplicaTable, AllocError> {
+        Ok(ReplicaTable {
+            numbers: self.numbers.clone()?,
+        })
     }
 }
 
@@ -100,7 +112,7 @@ mod tests {
 
     #[test]
     fn members_stand_in_order(rt: HostRuntime) -> Result<(), Fail> {
-        let table = ReplicaTable::new(rt.alloc(), &[7, 4_294_967_295, 1, 5])?;
+        let table = ReplicaTable::new(rt.alloc(), &[7, 4_294_967_295, 1, 5])?.clone()?;
         assert_eq!(rt; table.len(), 4);
         for (index, number) in [(0, 1), (1, 5), (2, 7), (3, 4_294_967_295)] {
             let replica = ReplicaId::new(number);
@@ -111,6 +123,9 @@ mod tests {
             );
         }
         assert_eq!(rt; table.at(4), None);
+        let copy = table.clone()?;
+        assert_eq!(rt; copy.len(), 4);
+        assert_eq!(rt; copy.at(1), ReplicaId::new(5));
         for number in [2, 6, 4_294_967_294] {
             let replica = ReplicaId::new(number).ok_or("numbered 0")?;
             assert_eq!(rt; table.index_of(replica), None, "at {number}");

@@ -102,4 +102,5 @@ pub mod DroppedOperation
 pub mod FullInbox
 pub mod NextIds
 pub mod OneEngineWorld
+pub mod PlacedItems
 pub mod SingleSteps

@@ -1,0 +1,131 @@
+-- Which items stand in the lists of a legal history.
+use Rattle.std.proofs.Common.{◌≡◌, ◌⊎◌, inl, inr, Bool, true, false, cond, ◌||◌, List, [], ◌∷◌, Option, Some, None, refl, sym, ap, ◌∙◌, true≢false}
+use Rattle.std.specs.List.{list_any}
+use Rattle.std.proofs.lemmas.Bool.{or_cases, or_left, or_right}
+use Rattle.semantics.specs.Ids.{OpId, is_same_id, is_smaller_id}
+use Rattle.semantics.specs.Elements.{Element, Doc, Field, Item, Place, At, HeadOf, is_same}
+use Rattle.semantics.specs.Operations.{Operation, Mutation, Assign, Insert, Delete, slot_of, after_in, inserted_after, element_of}
+use Rattle.semantics.specs.LegalHistory.{has_id, IsItemOf, ItemsStand, Follows, IsLegal}
+use Rattle.semantics.specs.Context.{skip, insert_after, insert_some, doc}
+use Rattle.semantics.proofs.Orders.{element_itself, id_itself, ids_from_test}
+
+-- a is one of the items
+abbrev pub has : OpId → List OpId → Bool
+has a bs = list_any (is_same_id a) bs
+
+-- what a new item goes after is one of the items, or the head
+abbrev pub has_prev : Option OpId → List OpId → Bool
+has_prev None bs = true
+has_prev (Some p) bs = has p bs
+
+-- an item is still there where x stands before it in both, or it is x
+keeps_first : (a x : OpId) (xs ys : List OpId) → (has a xs ≡ true → has a ys ≡ true) → has a (x ∷ xs) ≡ true → has a (x ∷ ys) ≡ true
+keeps_first a x xs ys k h = elim (or_cases (is_same_id a x) (has a xs) h) [ inl f ↦ or_left (is_same_id a x) (has a ys) f | inr r ↦ or_right (is_same_id a x) (has a ys) (k r) ]
+
+-- an item stays where another goes in
+skip_keeps : (a b : OpId) (xs : List OpId) → has a xs ≡ true → has a (skip b xs) ≡ true
+skip_keeps a b [] h = or_right (is_same_id a b) false h
+skip_keeps a b (x ∷ xs) h = by (is_smaller_id x b) (keeps_first a x xs (skip b xs) (skip_keeps a b xs) h) where
+  by : (s : Bool) → has a (x ∷ skip b xs) ≡ true → has a (cond s (b ∷ x ∷ xs) (x ∷ skip b xs)) ≡ true
+  by true k = or_right (is_same_id a b) (has a (x ∷ xs)) h
+  by false k = k
+
+insert_keeps : (p : Option OpId) (a b : OpId) (xs : List OpId) → has a xs ≡ true → has a (insert_after p b xs) ≡ true
+insert_keeps None a b xs h = skip_keeps a b xs h
+insert_keeps (Some p) a b [] h = absurd (true≢false (sym h))
+insert_keeps (Some p) a b (x ∷ xs) h = by (is_same_id p x) (keeps_first a x xs (skip b xs) (skip_keeps a b xs) h) (keeps_first a x xs (insert_after (Some p) b xs) (insert_keeps (Some p) a b xs) h) where
+  by : (s : Bool) → has a (x ∷ skip b xs) ≡ true → has a (x ∷ insert_after (Some p) b xs) ≡ true → has a (cond s (x ∷ skip b xs) (x ∷ insert_after (Some p) b xs)) ≡ true
+  by true j k = j
+  by false j k = k
+
+-- a new item is there, where what it goes after is
+skip_places : (b : OpId) (xs : List OpId) → has b (skip b xs) ≡ true
+skip_places b [] = or_left (is_same_id b b) false (id_itself b)
+skip_places b (x ∷ xs) = by (is_smaller_id x b) (skip_places b xs) where
+  by : (s : Bool) → has b (skip b xs) ≡ true → has b (cond s (b ∷ x ∷ xs) (x ∷ skip b xs)) ≡ true
+  by true k = or_left (is_same_id b b) (has b (x ∷ xs)) (id_itself b)
+  by false k = or_right (is_same_id b x) (has b (skip b xs)) k
+
+insert_places : (p : Option OpId) (b : OpId) (xs : List OpId) → has_prev p xs ≡ true → has b (insert_after p b xs) ≡ true
+insert_places None b xs h = skip_places b xs
+insert_places (Some p) b [] h = absurd (true≢false (sym h))
+insert_places (Some p) b (x ∷ xs) h = by (is_same_id p x) refl (insert_places (Some p) b xs) where
+  by : (s : Bool) → is_same_id p x ≡ s → (has p xs ≡ true → has b (insert_after (Some p) b xs) ≡ true) → has b (cond s (x ∷ skip b xs) (x ∷ insert_after (Some p) b xs)) ≡ true
+  by true e k = or_right (is_same_id b x) (has b (skip b xs)) (skip_places b xs)
+  by false e k = or_right (is_same_id b x) (has b (insert_after (Some p) b xs)) (k (ap (λ s. s || has p xs) (sym e) ∙ h))
+
+-- and no other is
+Adds : OpId → OpId → List OpId → List OpId → Type 0
+Adds a b xs ys = has a ys ≡ true → (is_same_id a b ≡ true) ⊎ (has a xs ≡ true)
+
+adds_first : (a b x : OpId) (xs ys : List OpId) → Adds a b xs ys → Adds a b (x ∷ xs) (x ∷ ys)
+unfolding Adds
+adds_first a b x xs ys k h = elim (or_cases (is_same_id a x) (has a ys) h) [
+    | inl f ↦ inr (or_left (is_same_id a x) (has a xs) f)
+    | inr r ↦ elim (k r) [ inl f ↦ inl f | inr i ↦ inr (or_right (is_same_id a x) (has a xs) i) ]
+  ]
+
+skip_adds : (a b : OpId) (xs : List OpId) → Adds a b xs (skip b xs)
+unfolding Adds
+skip_adds a b [] h = or_cases (is_same_id a b) false h
+skip_adds a b (x ∷ xs) h = by (is_smaller_id x b) (adds_first a b x xs (skip b xs) (skip_adds a b xs)) h where
+  by : (s : Bool) → Adds a b (x ∷ xs) (x ∷ skip b xs) → Adds a b (x ∷ xs) (cond s (b ∷ x ∷ xs) (x ∷ skip b xs))
+  by true k g = or_cases (is_same_id a b) (has a (x ∷ xs)) g
+  by false k g = k g
+
+insert_adds : (p : Option OpId) (a b : OpId) (xs : List OpId) → Adds a b xs (insert_after p b xs)
+unfolding Adds
+insert_adds None a b xs h = skip_adds a b xs h
+insert_adds (Some p) a b [] h = inr h
+insert_adds (Some p) a b (x ∷ xs) h = by (is_same_id p x) (adds_first a b x xs (skip b xs) (skip_adds a b xs)) (adds_first a b x xs (insert_after (Some p) b xs) (insert_adds (Some p) a b xs)) h where
+  by : (s : Bool) → Adds a b (x ∷ xs) (x ∷ skip b xs) → Adds a b (x ∷ xs) (x ∷ insert_after (Some p) b xs) → Adds a b (x ∷ xs) (cond s (x ∷ skip b xs) (x ∷ insert_after (Some p) b xs))
+  by true j k g = j g
+  by false j k g = k g
+
+some_adds : (o : Option (Option OpId)) (a b : OpId) (xs : List OpId) → Adds a b xs (insert_some o b xs)
+unfolding Adds
+some_adds None a b xs h = inr h
+some_adds (Some p) a b xs h = insert_adds p a b xs h
+
+-- the items of lists are operations of the history
+pub item_among : (H : List Operation) (l : Element) (a : OpId) → has a ((doc H).order l) ≡ true → has_id H a ≡ true
+unfolding Adds
+item_among [] l a h = h
+item_among (o ∷ H) l a h = elim (some_adds (inserted_after o l) a o.id ((doc H).order l) h) [
+    | inl s ↦ or_left (is_same_id o.id a) (has_id H a) (ap (λ b. is_same_id o.id b) (ids_from_test a o.id s) ∙ id_itself o.id)
+    | inr r ↦ or_right (is_same_id o.id a) (has_id H a) (item_among H l a r)
+  ]
+
+slot_is : (a b : Element × Option OpId) → Some a ≡ Some b → a ≡ b
+slot_is a b e = cc
+
+-- what stands where an insert goes after it, where each item of the history stands in its list
+AreThere : List Operation → Type 0
+AreThere H = (l : Element) (a : OpId) → IsItemOf H l a → has a ((doc H).order l) ≡ true
+
+prev_in : (H : List Operation) (S : OpId → Bool) → AreThere H → (m : Mutation) (place : Place) (l : Element) (p : Option OpId) → ItemsStand H S (element_of place) → slot_of m place ≡ Some (l, p) → has_prev p ((doc H).order l) ≡ true
+unfolding AreThere
+prev_in H S there (Insert v) (HeadOf m) l p stand is = ap (λ (s : Element × Option OpId). has_prev s.1 ((doc H).order s.0)) (sym (slot_is (m, None) (l, p) is))
+prev_in H S there (Insert v) (At (Item m q)) l p stand is = ap (λ (s : Element × Option OpId). has_prev s.1 ((doc H).order s.0)) (sym (slot_is (m, Some q) (l, p) is)) ∙ there m q stand.1
+prev_in H S there (Insert v) (At Doc) l p stand is = cc
+prev_in H S there (Insert v) (At (Field e n)) l p stand is = cc
+prev_in H S there (Assign v) place l p stand is = cc
+prev_in H S there Delete place l p stand is = cc
+
+items_there : (H : List Operation) → IsLegal H → AreThere H
+unfolding AreThere
+items_there [] legal l a (x, among, id, slot) = absurd among
+items_there (o ∷ H) legal l a (x, inl same, id, (after, slot)) =
+    let here : slot_of o.mutation o.place ≡ Some (l, after) = ap (λ (y : Operation). slot_of y.mutation y.place) (sym same) ∙ slot in
+    let goes : inserted_after o l ≡ Some after = ap (after_in l) here ∙ ap (λ b. cond b (Some after) None) (element_itself l) in
+    ap (λ b. has b ((doc (o ∷ H)).order l)) (sym id ∙ ap (λ (y : Operation). y.id) same)
+    ∙ ap (λ g. has o.id (insert_some g o.id ((doc H).order l))) goes
+    ∙ insert_places after o.id ((doc H).order l) (prev_in H o.deps (items_there H legal.0) o.mutation o.place l after legal.1.items here)
+items_there (o ∷ H) legal l a (x, inr among, id, slot) = by (inserted_after o l) (items_there H legal.0 l a (x, among, id, slot)) where
+  by : (g : Option (Option OpId)) → has a ((doc H).order l) ≡ true → has a (insert_some g o.id ((doc H).order l)) ≡ true
+  by None h = h
+  by (Some p) h = insert_keeps p a o.id ((doc H).order l) h
+
+-- what an insert that may follow goes after stands in its list, if it isn't the head
+pub prev_there : (H : List Operation) (o : Operation) → IsLegal H → Follows H o → (l : Element) (p : Option OpId) → slot_of o.mutation o.place ≡ Some (l, p) → has_prev p ((doc H).order l) ≡ true
+prev_there H o legal follows l p is = prev_in H o.deps (items_there H legal) o.mutation o.place l p follows.items is
