@@ -1,9 +1,9 @@
 -- Chains of links.
-use Rattle.std.proofs.Common.{◌≡◌, ◌≢◌, ℕ, zero, suc, ◌+◌, ◌<◌, ◌≤◌, ◌==◌, ◌||◌, Bool, true, false, true≢false, cond, IsTrue, List, [], ◌∷◌, ◌++◌, length, get_or, set, map, Option, Some, None, refl, sym, ap, ◌∙◌, subst, arith, length-set, length-append, get_or-set_same, get_or-set_other, append_assoc}
+use Rattle.std.proofs.Common.{◌≡◌, ◌≢◌, ℕ, zero, suc, ◌+◌, ◌<◌, ◌≤◌, ◌==◌, ◌||◌, Bool, true, false, true≢false, IsTrue, List, [], ◌∷◌, ◌++◌, length, get_or, set, Option, Some, None, refl, sym, ap, ◌∙◌, subst, arith, length-set, length-append, get_or-set_same, get_or-set_other, append_assoc}
 use Rattle.std.proofs.lemmas.List.{get_or_append_left, get_or_push}
 use Rattle.std.proofs.lemmas.Bool.{eq-eqb, eqb-true}
 use Rattle.ids.specs.Members.{is_member, AreDistinct}
-use Rattle.columns.specs.Chains.{chain, numbers_of, following, IsChain, EndsWith, IsSplit}
+use Rattle.columns.specs.Chains.{chain, following, IsChain, EndsWith}
 
 -- the numbers of a chain are what following it gives
 pub chain_is : (nexts : List (Option ℕ)) (i : Option ℕ) (ns : List ℕ) (f : ℕ) → IsChain nexts i ns → length ns ≤ f → chain f nexts i ≡ ns

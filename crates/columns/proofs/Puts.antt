@@ -1,15 +1,19 @@
 -- A put at the place of a key.
-use Rattle.std.proofs.Common.{◌≡◌, ℕ, zero, suc, ◌<◌, ◌≤◌, Bool, true, false, cond, ◌||◌, List, [], ◌∷◌, length, get_or, set, refl, sym, ap, ◌∙◌, subst, arith, true≢false}
+use Rattle.std.proofs.Common.{◌≡◌, ℕ, zero, suc, ◌<◌, Bool, true, false, cond, ◌||◌, List, [], ◌∷◌, length, get_or, set, refl, sym, ap, ◌∙◌, subst, arith, true≢false}
 use Rattle.std.specs.declared.cmp.Ordering.{Ordering}
 use Rattle.std.specs.declared.cmp.Ordering.TheVariants.{Less, Equal, Greater}
 use Rattle.std.specs.Ordering.{is_gt, is_eq}
 use Rattle.std.proofs.lemmas.List.{length-map}
-use Rattle.std.specs.Prelude.{T, IsTrue, Option, Some, None, is_some}
+use Rattle.std.specs.Prelude.{T, IsTrue, Option, Some, None, is_some, Result, Ok, Err, is_ok, IsOk}
 use Rattle.std.specs.Cmp.{IsTotalOrder}
 use Rattle.std.specs.FinMap.{put, find, is_sorted}
 use Rattle.std.specs.FinMap.Entries.{by_order, is_sorted-put, is_some-find}
 use Rattle.std.specs.List.{insert}
 use Rattle.columns.specs.Rank.{as_set, keys_of, rank, has_key, StandsAt, GoesTo}
+
+pub is_ok_true : {A B : Type 0} (r : Result A B) → IsOk r → is_ok r ≡ true
+is_ok_true (Ok x) h = refl
+is_ok_true (Err x) h = h
 
 module _ {K X : Type 0} (R : K → K → Ordering) where
   inserted : (k : K) (v : X) (es : List (K × X)) → has_key R k (keys_of es) ≡ false → insert es (rank R k (keys_of es)) (k, v) ≡ put R k v es

@@ -2,5 +2,6 @@
 pub mod Rank
 pub mod Entries
 pub mod Keys
+pub mod Numbered
 pub mod Orders
 pub mod Chains

@@ -1,13 +1,12 @@
 //! The order of a list, as linked items.
 
-ghost use Rattle.std.specs.Prelude.{◌≡◌, ◌≤◌, ◌<◌, ◌+◌, ℕ, List, [], length, ◌∷◌, IfSome, IsTrue, IsFalse, OnOk, Option, MatchResult, vec_len, vec_capacity};
-ghost use Rattle.std.specs.FinMap.{find, put, is_sorted};
-ghost use Rattle.semantics.specs.Ids.{OpId as TheId, id_cmp};
+ghost use Rattle.std.specs.Prelude.{◌≡◌, ◌≤◌, ◌<◌, ◌+◌, ℕ, List, [], length, ◌∷◌, IfSome, IsTrue, IsFalse, OnOk, Option, vec_len, vec_capacity};
 ghost use Rattle.semantics.specs.Context.{insert_after, skip};
-ghost use Rattle.columns.specs.Rank.{GoesTo, StandsAt, keys_of};
 ghost use Rattle.columns.specs.Orders.{has_item, has_place, item_after};
-ghost use Rattle.columns.specs.Chains.{AreLinked, HasSplit, IsSplit, Passes, first_linked, following, ids_of, nexts_linked, number_at, numbers_of};
+ghost use Rattle.columns.specs.Chains.{HasSplit, IsSplit, Passes, first_linked, following, ids_of, nexts_linked, number_at, numbers_of};
 
+use crate::items::Items;
+use crate::numbers::Numbers;
 use ids::OpId;
 use std::alloc::{AllocError, Global};
 use std::cmp::Ordering;
@@ -23,8 +22,8 @@ pub struct ListOrder {
     nexts: Vec<Option<usize>>,
     /// The ids, by the number of each item.
     ids: Vec<OpId>,
-    /// The number of each item, rising by id.
-    column: Vec<(OpId, usize)>,
+    /// The number of each item, by its id.
+    column: Numbers,
 }
 
 impl Model for ListOrder {
@@ -34,9 +33,9 @@ impl Model for ListOrder {
 
     ghost Value = { Order };
 
-    ghost view = { λ o. record { items = ids_of o.ids.items (numbers_of o.first o.nexts.items); room = min (vec_capacity o.nexts - vec_len o.nexts) (min (vec_capacity o.ids - vec_len o.ids) (vec_capacity o.column - vec_len o.column)) } };
+    ghost view = { λ o. record { items = ids_of o.ids.items (numbers_of o.first o.nexts.items); room = min (vec_capacity o.nexts - vec_len o.nexts) (min (vec_capacity o.ids - vec_len o.ids) o.column.room) } };
 
-    ghost invariant = { λ o. AreLinked o.first o.nexts.items o.ids.items o.column.items (numbers_of o.first o.nexts.items) };
+    ghost invariant = { λ o. AreLinked o.first o.nexts.items o.ids.items o.column.entries (numbers_of o.first o.nexts.items) };
 }
 
 impl ListOrder {
@@ -47,7 +46,7 @@ impl ListOrder {
             first: None,
             nexts: Vec::new(alloc),
             ids: Vec::new(alloc),
-            column: Vec::new(alloc),
+            column: Numbers::new(alloc),
         }
     }
 
@@ -56,6 +55,13 @@ impl ListOrder {
         ensures { result ≡ length self.now.items }
     {
         self.nexts.len()
+    }
+
+    /// The items in their order. Each costs a look at its link.
+    pub fn iter(&self) -> Items<'_>
+        ensures { result ≡ self.now.items }
+    {
+        Items::from(self.first, &self.nexts, &self.ids)
     }
 
     /// Makes room for one more item.
@@ -69,7 +75,7 @@ impl ListOrder {
     {
         self.nexts.reserve(1)?;
         self.ids.reserve(1)?;
-        self.column.reserve(1)
+        self.column.reserve_one()
     }
 
     /// Puts a new item after `prev`, or after the head, past each next item that is greater.
@@ -86,7 +92,7 @@ impl ListOrder {
         let start = number_of(&self.column, prev);
         let last = last_passed(self.first, &self.nexts, &self.ids, start, &id);
         link(&mut self.first, &mut self.nexts, last);
-        put_number(&mut self.column, id, number);
+        self.column.put(id, number);
         self.ids.push_reserved(id);
     }
 
@@ -110,50 +116,11 @@ impl ListOrder {
     }
 }
 
-/// The place of an item in the column, or the one to which it goes. A search by halves.
-fn find_item(column: &[(OpId, usize)], id: &OpId) -> Result<usize, usize>
-    requires { IsTrue (is_sorted id_cmp column.now) }
-    ensures { MatchResult result (StandsAt id_cmp id.now (keys_of column.now)) (GoesTo id_cmp id.now (keys_of column.now)) }
-{
-    let mut low = 0;
-    let mut high = column.len();
-    while low < high {
-        let middle = low + (high - low) / 2;
-        match id.cmp(&column[middle].0) {
-            Ordering::Less => high = middle,
-            Ordering::Equal => return Ok(middle),
-            Ordering::Greater => low = middle + 1,
-        }
-    }
-    Err(low)
-}
-
 /// The number of an item. The head has none.
-fn number_of(column: &[(OpId, usize)], item: Option<OpId>) -> Option<usize>
-    requires { IsTrue (is_sorted id_cmp column.now) }
-    ensures { result ≡ number_at column.now item }
+fn number_of(column: &Numbers, item: Option<OpId>) -> Option<usize>
+    ensures { result ≡ number_at column.now.entries item }
 {
-    let item = item?;
-    match find_item(column, &item) {
-        Ok(place) => Some(column[place].1),
-        Err(_) => None,
-    }
-}
-
-/// Puts the number of an item into the column.
-fn put_number(column: &mut Vec<(OpId, usize)>, id: OpId, number: usize)
-    requires rising { IsTrue (is_sorted id_cmp column.old.items) }
-    requires room { vec_len column.old < vec_capacity column.old }
-    ensures items { column.new.items ≡ put id_cmp id number column.old.items }
-    ensures one_more { vec_len column.new ≤ vec_len column.old + 1 }
-    ensures capacity { vec_capacity column.new ≡ vec_capacity column.old }
-{
-    match find_item(column, &id) {
-        Ok(place) => column[place].1 = number,
-        Err(place) => {
-            let _ = column.insert(place, (id, number));
-        }
-    }
+    column.get(&item?)
 }
 
 /// Links a new item in after the last one that it goes past.

@@ -197,6 +197,15 @@ fn items(alloc: Global, order: &ListOrder) -> Result<Vec<(u64, u32)>, Fail> {
     Ok(items)
 }
 
+/// The same, by the iterator.
+fn iterated(alloc: Global, order: &ListOrder) -> Result<Vec<(u64, u32)>, Fail> {
+    let mut items = Vec::new(alloc);
+    for id in order.iter() {
+        items.push((id.counter, id.replica.number()))?;
+    }
+    Ok(items)
+}
+
 /// Puts an item after another, or after the head where there is none.
 fn place(order: &mut ListOrder, prev: Option<(u64, u32)>, item: (u64, u32)) -> Result<(), Fail> {
     let new = id(item.0, item.1)?;
@@ -242,8 +251,86 @@ fn items_go_past_greater_ones(rt: HostRuntime) -> Result<(), Fail> {
         assert_eq!(rt; order.len(), want.len());
         let items = items(rt.alloc(), &order)?;
         assert_eq!(rt; items.as_slice(), want);
+        let iterated = iterated(rt.alloc(), &order)?;
+        assert_eq!(rt; iterated.as_slice(), want);
         assert_eq!(rt; order.next(Some(id(9, 9)?)), None);
         assert!(rt; !order.contains(&id(9, 9)?));
+    }
+    Ok(())
+}
+
+/// Numbers by id, put in this order: each a counter, a replica, and the number.
+fn numbers(alloc: Global, rows: &[(u64, u32, usize)]) -> Result<Numbers, Fail> {
+    let mut numbers = Numbers::new(alloc);
+    for (counter, replica, number) in rows {
+        numbers.reserve_one()?;
+        numbers.put(id(*counter, *replica)?, *number);
+    }
+    Ok(numbers)
+}
+
+#[test]
+fn numbers_rise_by_id(rt: HostRuntime) -> Result<(), Fail> {
+    let want = [(1, 1, 7), (1, 2, 5), (2, 1, 9), (10, 1, 0)];
+    for rows in [
+        want,
+        [(10, 1, 0), (2, 1, 9), (1, 2, 5), (1, 1, 7)],
+        [(1, 2, 5), (10, 1, 0), (1, 1, 7), (2, 1, 9)],
+    ] {
+        let numbers = numbers(rt.alloc(), &rows)?;
+        assert_eq!(rt; numbers.len(), 4);
+        for (place, (counter, replica, number)) in want.iter().enumerate() {
+            let id = id(*counter, *replica)?;
+            assert_eq!(rt; numbers.at(place), (id, *number), "at {place} of {rows:?}");
+            assert_eq!(rt; numbers.get(&id), Some(*number), "of {rows:?}");
+        }
+        for (counter, replica) in [(0, 9), (1, 3), (2, 2), (9, 9), (11, 1)] {
+            let id = id(counter, replica)?;
+            assert_eq!(rt; numbers.get(&id), None, "{id:?} of {rows:?}");
+        }
+    }
+    Ok(())
+}
+
+#[test]
+fn a_put_number_replaces(rt: HostRuntime) -> Result<(), Fail> {
+    let rows = [(1, 1, 7), (2, 1, 8), (1, 1, 9)];
+    let numbers = numbers(rt.alloc(), &rows)?;
+    assert_eq!(rt; numbers.len(), 2);
+    assert_eq!(rt; numbers.get(&id(1, 1)?), Some(9));
+    assert_eq!(rt; numbers.get(&id(2, 1)?), Some(8));
+    Ok(())
+}
+
+/// Puts a field that isn't there.
+fn put_field(fields: &mut Fields, alloc: Global, text: &str, number: usize) -> Result<(), Fail> {
+    let key = Key::new(alloc, text)?;
+    fields.reserve_one()?;
+    if fields.get(&key).is_none() {
+        fields.put(key, number);
+    }
+    Ok(())
+}
+
+#[test]
+fn fields_rise_by_key(rt: HostRuntime) -> Result<(), Fail> {
+    let mut fields = Fields::new(rt.alloc());
+    assert_eq!(rt; fields.len(), 0);
+    for (text, number) in [("b", 3), ("", 4), ("ä", 1), ("B", 2), ("ba", 5)] {
+        put_field(&mut fields, rt.alloc(), text, number)?;
+    }
+    let want = [("", 4), ("B", 2), ("b", 3), ("ba", 5), ("ä", 1)];
+    assert_eq!(rt; fields.len(), want.len());
+    for (place, (text, number)) in want.iter().enumerate() {
+        let (key, at) = fields.at(place);
+        assert_eq!(rt; key.as_str(), *text, "at {place}");
+        assert_eq!(rt; at, *number, "at {place}");
+        let key = Key::new(rt.alloc(), text)?;
+        assert_eq!(rt; fields.get(&key), Some(*number), "of {text}");
+    }
+    for text in ["A", "a", "bb", "ö"] {
+        let key = Key::new(rt.alloc(), text)?;
+        assert_eq!(rt; fields.get(&key), None, "of {text}");
     }
     Ok(())
 }

@@ -1,11 +1,11 @@
-use Rattle.std.proofs.Common.{◌≡◌, ◌≤◌, ◌<◌, ◌-◌, ◌∙◌, IsTrue, ap, sym, arith, length, get_or, Less, Greater, Equal}
+use Rattle.std.proofs.Common.{◌≡◌, ◌<◌, ◌-◌, ◌∙◌, IsTrue, ap, sym, arith, length, get_or, Less, Greater, Equal}
 use Rattle.std.specs.Ordering.{is_gt}
 use Rattle.std.specs.FinMap.{is_sorted}
 use Rattle.semantics.specs.Ids.{OpId, id_cmp}
 use Rattle.semantics.proofs.Orders.{id_total}
 use Rattle.columns.specs.Rank.{rank, keys_of, as_set}
 use Rattle.columns.specs.Entries.{entries_of}
-use Rattle.columns.proofs.Ranks.{rank_in, rank_le, rank_above, rising_keys, stands_here, goes_here, not_greater}
+use Rattle.columns.proofs.Ranks.{rank_in, rank_le, rank_above, rising_keys, stands_here, goes_here}
 use Rattle.columns.proofs.Columns.{length-entries_of, length-keys_of}
 use Rattle.columns.proofs.by_id.find_from_end.Goals as goal
 

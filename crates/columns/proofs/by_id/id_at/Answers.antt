@@ -1,8 +1,6 @@
-use Rattle.std.proofs.Common.{◌≡◌, ◌<◌, ◌∙◌, ap, sym, refl, length, Some, slice_get}
-use Rattle.std.specs.List.{zip}
+use Rattle.std.proofs.Common.{◌≡◌, ◌∙◌, ap, refl, length, Some, slice_get}
 use Rattle.std.proofs.lemmas.Option.{slice_get_read, get_or_from_slice_get}
 use Rattle.semantics.specs.Ids.{id_at}
-use Rattle.columns.specs.Rank.{keys_of}
 use Rattle.columns.specs.Entries.{entries_of}
 use Rattle.columns.proofs.Columns.{slice_get-entries_of, get_or-keys_of}
 use Rattle.columns.proofs.by_id.id_at.Goals as goal

@@ -1,18 +1,14 @@
-use Rattle.std.proofs.Common.{rules, refl, ◌≡◌, ◌≤◌, ◌<◌, ◌+◌, ◌∙◌, ap, sym, subst, arith, length, true, cond, Result, Ok, Err}
-use Rattle.std.specs.Prelude.{is_ok, IsOk}
+use Rattle.std.proofs.Common.{rules, ◌≡◌, ◌≤◌, ◌+◌, ◌∙◌, ap, sym, subst, arith, length, true, cond}
+use Rattle.std.specs.Prelude.{is_ok}
 use Rattle.std.specs.List.{insert}
-use Rattle.std.specs.Ordering.{is_eq}
 use Rattle.semantics.specs.Ids.{id_cmp}
 use Rattle.semantics.proofs.Orders.{id_total}
-use Rattle.columns.specs.Rank.{StandsAt, GoesTo, keys_of, rank, has_key}
+use Rattle.columns.specs.Rank.{StandsAt, GoesTo, keys_of, rank}
 use Rattle.columns.specs.Entries.{entries_of, indices_of}
 use Rattle.columns.proofs.Ranks.{there_at}
+use Rattle.columns.proofs.Puts.{is_ok_true}
 use Rattle.columns.proofs.Columns.{put_there-columns, put_new-columns, within-columns, insert-map}
 use Rattle.columns.proofs.by_id.put_in.Goals as goal
-
-is_ok_true : {A B : Type 0} (r : Result A B) → IsOk r → is_ok r ≡ true
-is_ok_true (Ok x) h = refl
-is_ok_true (Err x) h = h
 
 pub index_mut-requires : goal.index_mut-requires
 index_mut-requires g c =

@@ -1,4 +1,4 @@
-use Rattle.std.proofs.Common.{rules, ◌≡◌, ◌<◌, ◌∙◌, ap, sym, subst, arith, length, Some, slice_get}
+use Rattle.std.proofs.Common.{rules, ◌≡◌, ◌<◌, ◌∙◌, ap, sym, subst, arith, length, slice_get}
 use Rattle.columns.specs.Entries.{Entries, entries_of}
 use Rattle.columns.proofs.Columns.{entry_at, length-entries_of}
 use Rattle.columns.proofs.by_id.ById.at.Goals as goal

@@ -1,7 +1,6 @@
-use Rattle.std.proofs.Common.{rules, ◌≡◌, ◌≤◌, ◌<◌, ◌∙◌, ◌-◌, ℕ, Bool, List, min, not, ap, sym, subst, arith, length, map, vec_len, vec_capacity}
+use Rattle.std.proofs.Common.{rules, ◌≡◌, ◌≤◌, ◌<◌, ◌∙◌, ◌-◌, ℕ, List, min, not, ap, sym, subst, arith, length, vec_len, vec_capacity}
 use Rattle.std.proofs.lemmas.List.{length-map}
 use Rattle.std.specs.List.{All, zip, filter, items_where_true}
-use Rattle.ids.specs.Members.{AreDistinct}
 use Rattle.semantics.specs.Ids.{OpId, id_cmp}
 use Rattle.semantics.specs.Vectors.{covers}
 use Rattle.semantics.specs.Tables.{by_table}

@@ -1,17 +1,13 @@
-use Rattle.std.proofs.Common.{◌≡◌, ◌<◌, ◌∙◌, refl, ap, sym, subst, arith, true, cond, Result, Ok, Err, List, vec_len, vec_capacity}
-use Rattle.std.specs.Prelude.{is_ok, IsOk}
+use Rattle.std.proofs.Common.{◌≡◌, ◌<◌, ◌∙◌, ap, sym, subst, arith, true, cond}
+use Rattle.std.specs.Prelude.{is_ok}
 use Rattle.std.specs.List.{insert}
 use Rattle.std.specs.FinMap.{put}
-use Rattle.semantics.specs.Elements.{name_cmp, Name}
+use Rattle.semantics.specs.Elements.{name_cmp}
 use Rattle.semantics.proofs.Orders.{name_total}
 use Rattle.columns.specs.Keys.{Keys}
 use Rattle.columns.specs.Rank.{as_set, GoesTo}
-use Rattle.columns.proofs.Puts.{put_key, rising_put}
+use Rattle.columns.proofs.Puts.{put_key, rising_put, is_ok_true}
 use Rattle.columns.proofs.sorted_keys.SortedKeys.put.Goals as goal
-
-is_ok_true : {A B : Type 0} (r : Result A B) → IsOk r → is_ok r ≡ true
-is_ok_true (Ok x) h = refl
-is_ok_true (Err x) h = h
 
 -- the keys after the insert, as a set
 pub invariant_of-self : goal.invariant_of-self

@@ -1,0 +1,125 @@
+//! A number by each id.
+
+ghost use Rattle.std.specs.Prelude.{◌≡◌, ◌≤◌, ◌<◌, ◌+◌, [], length, Some, slice_get, IsTrue, OnOk, MatchResult, vec_len, vec_capacity};
+ghost use Rattle.std.specs.FinMap.{find, put, is_sorted};
+ghost use Rattle.semantics.specs.Ids.{id_cmp};
+ghost use Rattle.columns.specs.Rank.{GoesTo, StandsAt, keys_of};
+
+use ids::OpId;
+use std::alloc::{AllocError, Global};
+use std::cmp::Ordering;
+use std::marker::Model;
+
+/// A finite map from ids to numbers.
+///
+/// Contracts see the entries, rising by id, and how many more fit without memory.
+#[derive(Debug, Drop)]
+pub struct Numbers {
+    entries: Vec<(OpId, usize)>,
+}
+
+impl Model for Numbers {
+    ghost use Rattle.std.specs.Prelude.{IsTrue, vec_len, vec_capacity, ◌-◌};
+    ghost use Rattle.std.specs.FinMap.{is_sorted};
+    ghost use Rattle.semantics.specs.Ids.{OpId as TheId, id_cmp};
+    ghost use Rattle.columns.specs.Numbered.{Numbered};
+
+    ghost Value = { Numbered TheId };
+
+    ghost view = { λ n. record { entries = n.entries.items; room = vec_capacity n.entries - vec_len n.entries } };
+
+    ghost invariant = { λ n. IsTrue (is_sorted id_cmp n.entries.items) };
+}
+
+impl Numbers {
+    pub fn new(alloc: Global) -> Numbers
+        ensures { result.entries ≡ [] }
+    {
+        Numbers {
+            entries: Vec::new(alloc),
+        }
+    }
+
+    /// How many entries there are.
+    pub fn len(&self) -> usize
+        ensures length { result ≡ length self.now.entries }
+        ensures rising { IsTrue (is_sorted id_cmp self.now.entries) }
+    {
+        self.entries.len()
+    }
+
+    /// The id at a place, and its number.
+    pub fn at(&self, place: usize) -> (OpId, usize)
+        requires { place < length self.now.entries }
+        ensures { slice_get self.now.entries place ≡ Some result }
+    {
+        self.entries[place]
+    }
+
+    /// The number of an id. A search by halves.
+    pub fn get(&self, id: &OpId) -> Option<usize>
+        ensures { result ≡ find id_cmp id.now self.now.entries }
+    {
+        match find_id(&self.entries, id) {
+            Ok(place) => Some(self.entries[place].1),
+            Err(_) => None,
+        }
+    }
+
+    /// Makes room for one more entry.
+    ///
+    /// # Errors
+    /// Want of memory.
+    pub fn reserve_one(&mut self) -> Result<(), AllocError>
+        ensures same { self.new.entries ≡ self.old.entries }
+        ensures room { OnOk result (0 < self.new.room) }
+        ensures kept { self.old.room ≤ self.new.room }
+    {
+        self.entries.reserve(1)
+    }
+
+    /// Puts the number of an id. The number that the id had goes, if it had one.
+    ///
+    /// Takes no memory. It searches by halves, and moves each entry of a greater id where the id is new.
+    pub fn put(&mut self, id: OpId, number: usize)
+        requires { 0 < self.old.room }
+        ensures entries { self.new.entries ≡ put id_cmp id number self.old.entries }
+        ensures room { self.old.room ≤ self.new.room + 1 }
+    {
+        put_in(&mut self.entries, id, number);
+    }
+}
+
+/// The place of an id, or the one to which it goes. A search by halves.
+fn find_id(entries: &[(OpId, usize)], id: &OpId) -> Result<usize, usize>
+    requires { IsTrue (is_sorted id_cmp entries.now) }
+    ensures { MatchResult result (StandsAt id_cmp id.now (keys_of entries.now)) (GoesTo id_cmp id.now (keys_of entries.now)) }
+{
+    let mut low = 0;
+    let mut high = entries.len();
+    while low < high {
+        let middle = low + (high - low) / 2;
+        match id.cmp(&entries[middle].0) {
+            Ordering::Less => high = middle,
+            Ordering::Equal => return Ok(middle),
+            Ordering::Greater => low = middle + 1,
+        }
+    }
+    Err(low)
+}
+
+/// Puts the number of an id. The number that the id had goes, if it had one.
+fn put_in(entries: &mut Vec<(OpId, usize)>, id: OpId, number: usize)
+    requires rising { IsTrue (is_sorted id_cmp entries.old.items) }
+    requires room { vec_len entries.old < vec_capacity entries.old }
+    ensures entries { entries.new.items ≡ put id_cmp id number entries.old.items }
+    ensures one_more { vec_len entries.new ≤ vec_len entries.old + 1 }
+    ensures capacity { vec_capacity entries.new ≡ vec_capacity entries.old }
+{
+    match find_id(entries, &id) {
+        Ok(place) => entries[place].1 = number,
+        Err(place) => {
+            let _ = entries.insert(place, (id, number));
+        }
+    }
+}
