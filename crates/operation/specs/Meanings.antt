@@ -30,6 +30,11 @@ command_of (command.Delete e) = record { expression = e; mutation = Deleting }
 abbrev pub stamped_of : List ℕ → Op → Stamped
 stamped_of table o = record { id = o.id; vector = by_table table o.deps; place = o.place; mutation = mutation_of o.mutation }
 
+-- the operation of an entry
+abbrev pub op_in : Entry → Op
+op_in (Own client serial c o) = o
+op_in (Peer o) = o
+
 -- an entry
 abbrev pub entry_of : List ℕ → Entry → TheEntry
 entry_of table (Own client serial c o) = TheOwn client serial (command_of c) (stamped_of table o)

@@ -78,12 +78,13 @@ pub enum Entry {
 }
 
 impl Entry {
-    ghost use Rattle.operation.specs.Meanings.{entry_of, stamped_of};
+    ghost use Rattle.operation.specs.Meanings.{entry_of, op_in, stamped_of};
     ghost use Rattle.semantics.specs.Entries.{stamped_in};
     ghost use Rattle.std.specs.Prelude.{ℕ, List};
 
     pub fn op(&self) -> &Op
-        ensures { (table : List ℕ) → stamped_of table result.now ≡ stamped_in (entry_of table self.now) }
+        ensures op { result.now ≡ op_in self.now }
+        ensures stamped { (table : List ℕ) → stamped_of table result.now ≡ stamped_in (entry_of table self.now) }
     {
         match self {
             Entry::Own { op, .. } | Entry::Peer(op) => op,

@@ -14,7 +14,7 @@ returns-then-eq c table =
     let a = c.args.id in
     let lt : n < length entries = omega (arith, c.loop-place-test.true, c.loop-place.invariant.1) in
     let back : n + 1 ≡ c.loop-place.place = omega (arith, c.loop-place-test.true) in
-    let own : c.op.result.now.id ≡ id_in e = ap (λ (s : Stamped). s.id) (c.op.ensures []) ∙ same-id [] e in
+    let own : c.op.result.now.id ≡ id_in e = ap (λ (s : Stamped). s.id) (c.op.ensures.stamped []) ∙ same-id [] e in
     let hit : is_same_id (id_in e) a ≡ true = ap (λ x. is_same_id x a) (sym own) ∙ same-by-parts c.op.result.now.id a ∙ sym c.eq.ensures ∙ c.if-eq.true in
     sym (ap (λ b. cond b (Some n) (place_of a (history table (take n entries)))) hit)
     ∙ sym (place_of-more table entries n e a lt (sym c.index-entries-place.is))
@@ -29,7 +29,7 @@ loop-place-preserved c =
     let a = c.args.id in
     let lt : n < length entries = omega (arith, c.loop-place-test.true, c.loop-place.invariant.1) in
     let back : n + 1 ≡ c.loop-place.place = omega (arith, c.loop-place-test.true) in
-    let own : c.op.result.now.id ≡ id_in e = ap (λ (s : Stamped). s.id) (c.op.ensures []) ∙ same-id [] e in
+    let own : c.op.result.now.id ≡ id_in e = ap (λ (s : Stamped). s.id) (c.op.ensures.stamped []) ∙ same-id [] e in
     let miss : is_same_id (id_in e) a ≡ false = ap (λ x. is_same_id x a) (sym own) ∙ same-by-parts c.op.result.now.id a ∙ sym c.eq.ensures ∙ c.if-eq.false in (
       λ table.
           sym (ap (λ b. cond b (Some n) (place_of a (history table (take n entries)))) miss)

@@ -9,7 +9,7 @@ pub invariant_of-self : goal.invariant_of-self
 invariant_of-self c =
     let d = c.self.inside in
     let e = c.args.entry in
-    let id : c.op.result.now.id ≡ id_in e = ap (λ (s : Stamped). s.id) (c.op.ensures d.table) ∙ same-id d.table e in
+    let id : c.op.result.now.id ≡ id_in e = ap (λ (s : Stamped). s.id) (c.op.ensures.stamped d.table) ∙ same-id d.table e in
     record {
       distinct = c.self.invariant.distinct;
       counters_are =
