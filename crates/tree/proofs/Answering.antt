@@ -1,0 +1,77 @@
+-- What a tree answers at a node.
+use Rattle.std.proofs.Common.{◌≡◌, ℕ, zero, suc, ◌+◌, ◌<◌, ◌&&◌, Bool, true, false, cond, List, [], ◌∷◌, ◌++◌, length, get_or, take, map, Option, Some, None, refl, sym, ap, ◌∙◌, arith, append_assoc, append-nil}
+use Rattle.std.specs.Prelude.{slice_get}
+use Rattle.std.specs.List.{filter}
+use Rattle.std.proofs.lemmas.List.{map-append, take_more}
+use Rattle.std.proofs.lemmas.List.Elements.{filter-append}
+use Rattle.semantics.specs.Elements.{Element, Field, Name}
+use Rattle.semantics.specs.Paths.{FieldKey}
+use Rattle.semantics.specs.DocumentAnswer.{is_any}
+use Rattle.tree.specs.declared.node.Node.{Node}
+use Rattle.tree.specs.Nodes.{IsTree, context, is_written, links, names_in, next_number, node_in, number, presence_of}
+use Rattle.tree.proofs.Links.{field_there}
+
+-- one more of the items at the front
+pub take_next : {X : Type 0} (xs : List X) (k : ℕ) (x : X) → slice_get xs k ≡ Some x → take (k + 1) xs ≡ take k xs ++ x ∷ []
+take_next [] zero x e = absurd (none_some x e) where
+  none_some : {X : Type 0} (x : X) → ◌≡◌ {A = Option X} None (Some x) → ⊥
+  none_some x e = cc
+take_next [] (suc k) x e = absurd (none_some x e) where
+  none_some : {X : Type 0} (x : X) → ◌≡◌ {A = Option X} None (Some x) → ⊥
+  none_some x e = cc
+take_next (y ∷ xs) zero x e = ap (λ z. z ∷ []) (some_is y x e) where
+  some_is : {X : Type 0} (y x : X) → Some y ≡ Some x → y ≡ x
+  some_is y x e = cc
+take_next (y ∷ xs) (suc k) x e = ap (λ n. take n (y ∷ xs)) (next_is k) ∙ ap (λ zs. y ∷ zs) (take_next xs k x e) where
+  next_is : (k : ℕ) → suc k + 1 ≡ suc (k + 1)
+  next_is k = omega arith
+
+-- the items before and those left: where the next one shows, it goes to the first ones
+pub shown_next : {X : Type 0} (p : X → Bool) (done left later : List X) (x : X) → left ≡ x ∷ later → p x ≡ true → done ++ filter p left ≡ (done ++ x ∷ []) ++ filter p later
+shown_next p done left later x is shown =
+    ap (λ xs. done ++ filter p xs) is ∙ ap (λ b. done ++ cond b (x ∷ filter p later) (filter p later)) shown ∙ sym (append_assoc done (x ∷ []) (filter p later))
+
+-- where it doesn't, it's passed
+pub hidden_next : {X : Type 0} (p : X → Bool) (left later : List X) (x : X) → left ≡ x ∷ later → p x ≡ false → filter p left ≡ filter p later
+hidden_next p left later x is hidden = ap (filter p) is ∙ ap (λ b. cond b (x ∷ filter p later) (filter p later)) hidden
+
+-- at the end all were looked at
+pub all_shown : {X : Type 0} (p : X → Bool) (done left : List X) → left ≡ [] → done ++ filter p left ≡ done
+all_shown p done left is = ap (λ xs. done ++ filter p xs) is ∙ append-nil done
+
+names-append : (ns : List Node) (fs gs : List (Name × ℕ)) → names_in ns (fs ++ gs) ≡ names_in ns fs ++ names_in ns gs
+names-append ns [] gs = refl
+names-append ns (f ∷ fs) gs =
+    elim (is_written (slice_get ns f.1)) as (λ b. cond b ((f.0, tt) ∷ names_in ns (fs ++ gs)) (names_in ns (fs ++ gs)) ≡ cond b ((f.0, tt) ∷ names_in ns fs) (names_in ns fs) ++ names_in ns gs) [
+      | true ↦ ap (λ xs. (f.0, tt) ∷ xs) (names-append ns fs gs)
+      | false ↦ names-append ns fs gs
+    ]
+
+-- the name of a field that was written and that p wants
+abbrev pub wanted : List Node → (Name → Bool) → Name × ℕ → List Name
+wanted ns p f = cond (is_written (slice_get ns f.1) && p f.0) (f.0 ∷ []) []
+
+wanted_is : (ns : List Node) (p : Name → Bool) (f : Name × ℕ) → filter p (map (λ x. x.0) (names_in ns (f ∷ []))) ≡ wanted ns p f
+wanted_is ns p f = elim (is_written (slice_get ns f.1)) as (λ b. filter p (map (λ (x : Name × Unit {0}). x.0) (cond b ((f.0, tt) ∷ []) [])) ≡ cond (b && p f.0) (f.0 ∷ []) []) [ true ↦ refl | false ↦ refl ]
+
+-- one more of the fields at the front
+pub wanted_next : (ns : List Node) (p : Name → Bool) (fs : List (Name × ℕ)) (k : ℕ) (d : Name × ℕ) → k < length fs
+    → filter p (map (λ x. x.0) (names_in ns (take (k + 1) fs))) ≡ filter p (map (λ x. x.0) (names_in ns (take k fs))) ++ wanted ns p (get_or fs k d)
+wanted_next ns p fs k d h =
+    ap (λ xs. filter p (map (λ x. x.0) (names_in ns xs))) (take_more fs k d h)
+    ∙ ap (λ xs. filter p (map (λ x. x.0) xs)) (names-append ns (take k fs) (get_or fs k d ∷ []))
+    ∙ ap (filter p) (map-append (λ x. x.0) (names_in ns (take k fs)) (names_in ns (get_or fs k d ∷ [])))
+    ∙ filter-append p (map (λ x. x.0) (names_in ns (take k fs))) (map (λ x. x.0) (names_in ns (get_or fs k d ∷ [])))
+    ∙ ap (λ xs. filter p (map (λ x. x.0) (names_in ns (take k fs))) ++ xs) (wanted_is ns p (get_or fs k d))
+
+some_is : (x y : ℕ) → Some x ≡ Some y → x ≡ y
+some_is x y e = cc
+
+-- whether a field shows is seen at its node
+pub field_shows : (ns : List Node) → IsTree ns → (e : Element) (i k j : ℕ) (d : Name × ℕ) → number ns e ≡ Some i → k < length (links ns i).0 → number ns (Field e (get_or (links ns i).0 k d).0) ≡ Some j
+    → (is_written (slice_get ns j) && is_any (presence_of (slice_get ns j))) ≡ (is_written (slice_get ns (get_or (links ns i).0 k d).1) && is_any ((context ns).presence (Field e (get_or (links ns i).0 k d).0)))
+field_shows ns t e i k j d at h n =
+    let f = get_or (links ns i).0 k d in
+    let same : j ≡ f.1 = some_is j f.1 (sym n ∙ ap (λ o. next_number ns o (FieldKey f.0)) at ∙ field_there ns t i k d h) in
+    ap (λ m. is_written (slice_get ns m) && is_any (presence_of (slice_get ns j))) same
+    ∙ ap (λ o. is_written (slice_get ns f.1) && is_any (presence_of (node_in ns o))) (sym n)

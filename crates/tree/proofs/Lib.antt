@@ -1,0 +1,24 @@
+-- The proofs of a tree.
+pub mod ListReads
+pub mod NodeWrites
+pub mod Mapped
+pub mod Shape
+pub mod Links
+pub mod Hops
+pub mod Contexts
+pub mod Answering
+pub mod Walking
+pub mod Clears
+pub mod Writes
+pub mod Rooms
+pub mod Names
+pub mod SameViews
+pub mod Grown
+pub mod Widened
+pub mod Pushed
+pub mod Linked
+pub mod LinkedChildren
+pub mod Slots
+pub mod Applied
+pub mod Reserved
+pub mod Roots

@@ -1,0 +1,30 @@
+-- Which child is linked at a place.
+use Rattle.std.proofs.Common.{◌≡◌, ℕ, ◌<◌, List, length, get_or, Some, ap, ◌∙◌, arith}
+use Rattle.std.specs.Prelude.{IsTrue}
+use Rattle.std.specs.declared.cmp.Ordering.{Ordering}
+use Rattle.std.specs.Cmp.{IsTotalOrder}
+use Rattle.std.specs.FinMap.{find, is_sorted}
+use Rattle.std.proofs.lemmas.Cmp.{tied_itself}
+use Rattle.std.proofs.lemmas.List.{length-map, get_or-map}
+use Rattle.semantics.specs.Ids.{OpId, id_cmp}
+use Rattle.semantics.specs.Elements.{Name, name_cmp}
+use Rattle.semantics.specs.Paths.{FieldKey, ItemKey}
+use Rattle.semantics.proofs.Orders.{id_total, name_total}
+use Rattle.columns.specs.Rank.{keys_of}
+use Rattle.columns.proofs.Ranks.{rising_keys, stands_here}
+use Rattle.columns.proofs.Puts.{find_there}
+use Rattle.tree.specs.declared.node.Node.{Node}
+use Rattle.tree.specs.Nodes.{links, child_number, IsTree}
+
+find_at : {K X : Type 0} (R : K → K → Ordering) → IsTotalOrder R → (es : List (K × X)) (i : ℕ) (d : K × X) → IsTrue (is_sorted R es) → i < length es → find R (get_or es i d).0 es ≡ Some (get_or es i d).1
+find_at {K} {X} R o es i d s h =
+    let key = (get_or es i d).0 in
+    let long : length (keys_of es) ≡ length es = length-map es (λ (e : K × X). e.0) in
+    let here : get_or (keys_of es) i key ≡ key = get_or-map (λ (e : K × X). e.0) es i d key h in
+    find_there R key es i d (stands_here R o key (keys_of es) i key (rising_keys R es ∙ s) (omega arith) (ap (R key) here ∙ tied_itself o key))
+
+pub field_there : (ns : List Node) → IsTree ns → (i place : ℕ) (d : Name × ℕ) → place < length (links ns i).0 → child_number ns i (FieldKey (get_or (links ns i).0 place d).0) ≡ Some (get_or (links ns i).0 place d).1
+field_there ns t i place d h = find_at name_cmp name_total (links ns i).0 place d (t.sorted_names i) h
+
+pub item_there : (ns : List Node) → IsTree ns → (i place : ℕ) (d : OpId × ℕ) → place < length (links ns i).1 → child_number ns i (ItemKey (get_or (links ns i).1 place d).0) ≡ Some (get_or (links ns i).1 place d).1
+item_there ns t i place d h = find_at id_cmp id_total (links ns i).1 place d (t.sorted_ids i) h

@@ -1,0 +1,57 @@
+-- One empty node is the tree of the empty document.
+use Rattle.std.proofs.Common.{◌≡◌, ℕ, List, [], ◌∷◌, Option, Some, None, refl, sym, ap, ◌∙◌, subst, arith}
+use Rattle.std.specs.Prelude.{IsTrue}
+use Rattle.std.specs.FinMap.{is_sorted}
+use Rattle.ids.specs.Members.{AreDistinct}
+use Rattle.semantics.specs.Ids.{id_cmp}
+use Rattle.semantics.specs.Elements.{name_cmp}
+use Rattle.semantics.specs.Paths.{Key, FieldKey, ItemKey}
+use Rattle.semantics.specs.Context.{empty}
+use Rattle.value.specs.declared.value.Scalar.{Scalar}
+use Rattle.tree.specs.declared.node.Node.{Node}
+use Rattle.tree.specs.Nodes.{IsEmptyNode, IsTree, Links, NodeBeside, child_number, context, linked_by, links, links_of, names_in, node_in, number, order_of, presence_of, register_of}
+use Rattle.tree.specs.Trees.{IsPlanted}
+use Rattle.tree.proofs.Contexts.{context_same}
+use Rattle.tree.proofs.SameViews.{context_view}
+use Rattle.tree.proofs.Pushed.{empty_beside, push_each, push_view}
+
+nothing_there : (o : Option ℕ) → node_in [] o ≡ None
+nothing_there None = refl
+nothing_there (Some i) = refl
+
+no_nodes : context [] ≡ empty
+no_nodes = context_same _ _
+    (λ x. ap presence_of (nothing_there (number [] x)))
+    (λ x. ap register_of (nothing_there (number [] x)))
+    (λ x. ap (λ o. names_in [] (links_of o).0) (nothing_there (number [] x)))
+    (λ x. ap order_of (nothing_there (number [] x)))
+
+none_some : (j : ℕ) → ◌≡◌ {A = Option ℕ} None (Some j) → ⊥
+none_some j e = cc
+
+module _ (n : Node) (e : IsEmptyNode n) where
+  pub root_empty : context (n ∷ []) ≡ empty
+  root_empty = sym (context_view [] (n ∷ []) (push_view [] n e)) ∙ no_nodes
+
+  no_links : (i : ℕ) → ◌≡◌ {A = Links} ([], []) (links (n ∷ []) i)
+  no_links i = (push_view [] n e).links i
+
+  no_child : (i : ℕ) (k : Key) (j : ℕ) → child_number (n ∷ []) i k ≡ Some j → ⊥
+  no_child i (FieldKey m) j c = none_some j (ap (λ l. linked_by l (FieldKey m)) (no_links i) ∙ c)
+  no_child i (ItemKey a) j c = none_some j (ap (λ l. linked_by l (ItemKey a)) (no_links i) ∙ c)
+
+  root_tree : IsTree (n ∷ [])
+  root_tree = record {
+    rooted = omega arith;
+    rising = λ i k j c. absurd (no_child i k j c);
+    one_parent = λ i k h l j c d. absurd (no_child i k j c);
+    sorted_names = λ i. subst (λ (l : Links). IsTrue (is_sorted name_cmp l.0)) (no_links i) refl;
+    sorted_ids = λ i. subst (λ (l : Links). IsTrue (is_sorted id_cmp l.1)) (no_links i) refl;
+  }
+
+  pub root_planted : (table : List ℕ) (s : Option Scalar) → AreDistinct table → IsPlanted (record { table = table; nodes = n ∷ []; scalar = s })
+  root_planted table s d = record {
+    distinct = d;
+    tree = root_tree;
+    beside = push_each (λ o i. NodeBeside table o) n (λ i h. empty_beside table n e) [] (λ i. tt);
+  }

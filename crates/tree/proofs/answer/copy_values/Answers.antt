@@ -1,0 +1,11 @@
+use Rattle.std.proofs.Common.{ap, sym, ◌∙◌, ◌++◌, ◌∷◌, [], Some}
+use Rattle.semantics.specs.Ids.{OpId}
+use Rattle.value.specs.declared.value.Scalar.{Scalar}
+use Rattle.tree.proofs.Answering.{take_next}
+use Rattle.tree.proofs.answer.copy_values.Goals as goal
+
+pub loop-place-preserved : goal.loop-place-preserved
+loop-place-preserved c =
+    let copied : OpId × Scalar = (c.at-id.result.0, c.in_ok-clone.field-0) in
+    c.in_ok-push.ensures.items ∙ ap (λ xs. xs ++ copied ∷ []) c.loop-place.invariant
+    ∙ sym (take_next c.args.register.now.entries c.loop-place.place copied (c.at-id.ensures ∙ ap (λ s. Some (c.at-id.result.0, s)) (sym c.in_ok-clone.ensures.cases)))

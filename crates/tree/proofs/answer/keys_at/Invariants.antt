@@ -1,0 +1,10 @@
+use Rattle.std.proofs.Common.{◌≡◌, Some, map, take}
+use Rattle.std.specs.List.{filter}
+use Rattle.semantics.specs.Elements.{Element, Field}
+use Rattle.semantics.specs.DocumentAnswer.{is_any}
+use Rattle.tree.specs.Nodes.{number, context, links, names_in}
+use Rattle.tree.proofs.answer.keys_at.Given as goal
+
+abbrev pub invariant-loop-place : goal.invariant-loop-place
+invariant-loop-place l = (e : Element) → number l.fn.nodes e ≡ Some l.fn.at →
+    l.keys.items ≡ filter (λ n. is_any ((context l.fn.nodes).presence (Field e n))) (map (λ x. x.0) (names_in l.fn.nodes (take l.place (links l.fn.nodes l.fn.at).0)))

@@ -1,0 +1,22 @@
+use Rattle.std.proofs.Common.{map, Option, sym, ap, ◌∙◌}
+use Rattle.std.specs.Prelude.{option_map}
+use Rattle.semantics.specs.Ids.{OpId}
+use Rattle.semantics.specs.Elements.{Element, Item, EmptyMap}
+use Rattle.semantics.specs.Operations.{Insert, slot_of}
+use Rattle.value.specs.Meanings.{scalar_of}
+use Rattle.cursor.specs.Meanings.{hop_of, tag_of}
+use Rattle.tree.specs.Nodes.{context}
+use Rattle.tree.specs.Writes.{assigned, deps_of, end_of, linked}
+use Rattle.tree.proofs.Slots.{one_slot}
+use Rattle.tree.proofs.apply.insert_at.Goals as goal
+
+pub insert-requires-clause-fits : goal.insert-requires-clause-fits
+insert-requires-clause-fits c = c.requires.fits (end_of (map hop_of c.in-Some.slot.list.now)) c.in-Some.slot.prev (sym c.in-Some.ensures)
+
+pub returns-clause-inserted : goal.returns-clause-inserted
+returns-clause-inserted c = λ l p q.
+    let s = c.args.stamp.now in
+    let slot : Element × Option OpId = (end_of (map hop_of c.in-Some.slot.list.now), c.in-Some.slot.prev) in
+    c.insert.ensures.inserted
+    ∙ ap (λ (x : Element × Option OpId). assigned (linked (context c.args.nodes.now) x.0 x.1 s.id) s.id (deps_of s) (Item x.0 s.id) (tag_of c.args.tag) (option_map scalar_of c.args.scalar))
+    (one_slot (slot_of (Insert EmptyMap) c.args.place.now) slot (l, p) (sym c.in-Some.ensures) q)

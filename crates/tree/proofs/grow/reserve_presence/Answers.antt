@@ -1,0 +1,31 @@
+use Rattle.std.proofs.Common.{◌<◌, refl, sym, subst, arith, OnOk}
+use Rattle.tree.specs.declared.node.Node.{Node}
+use Rattle.tree.specs.Nodes.{presence_room}
+use Rattle.tree.proofs.ListReads.{get_read, get_same}
+use Rattle.tree.proofs.Widened.{kept_set}
+use Rattle.tree.proofs.grow.reserve_presence.Goals as goal
+
+pub returns-clause-kept : goal.returns-clause-kept
+returns-clause-kept c =
+    let ns = c.args.nodes.now.items in
+    let n : Node = c.index_mut-node.result.now in
+    let m : Node = record n { presence = c.reserve_one.new.self } in
+    kept_set ns c.args.at n m (get_read ns c.args.at n c.requires.inside c.index_mut-node.ensures.value) c.requires.tree (record {
+      fields = refl;
+      items = refl;
+      presence = c.reserve_one.ensures.entries;
+      presence_indices = c.reserve_one.ensures.indices;
+      register = refl;
+      register_indices = refl;
+      order = refl;
+      written = refl;
+      presence_room = c.reserve_one.ensures.kept;
+      register_room = omega arith;
+      order_room = omega arith;
+    })
+
+pub returns-clause-room : goal.returns-clause-room
+returns-clause-room c =
+    let n : Node = c.index_mut-node.result.now in
+    let m : Node = record n { presence = c.reserve_one.new.self } in
+    subst (λ o. OnOk c.reserve_one.result (0 < presence_room o)) (sym (get_same c.args.nodes.now.items c.args.at m c.requires.inside)) c.reserve_one.ensures.room

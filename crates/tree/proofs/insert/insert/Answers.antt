@@ -1,0 +1,92 @@
+use Rattle.std.proofs.Common.{◌≡◌, ◌<◌, map, sym, ap, ◌∙◌, arith, Some, subst}
+use Rattle.std.specs.Prelude.{option_map}
+use Rattle.std.proofs.lemmas.List.{length-map}
+use Rattle.semantics.specs.Elements.{Element, Item, AsList}
+use Rattle.semantics.specs.Context.{clear}
+use Rattle.value.specs.Meanings.{scalar_of}
+use Rattle.cursor.specs.Meanings.{hop_of, tag_of}
+use Rattle.tree.specs.Nodes.{number, node_in, presence_room, register_room}
+use Rattle.tree.specs.Writes.{deps_of, end_of, entered, mark, registered}
+use Rattle.tree.proofs.Shape.{number_same, number_inside, tree_same, links_trans, room_trans}
+use Rattle.tree.proofs.Rooms.{depth_whole, more_room, path_room, room_along}
+use Rattle.tree.proofs.insert.insert.Goals as goal
+
+pub clear_below-requires-clause-beside : goal.clear_below-requires-clause-beside
+clear_below-requires-clause-beside c = c.link_list-item.ensures.beside c.args.stamp.now.table.now c.requires.beside
+
+pub clear_below-requires-clause-inside : goal.clear_below-requires-clause-inside
+clear_below-requires-clause-inside c =
+    let t = Item (end_of (map hop_of c.args.slot.now.list.now)) c.args.stamp.now.id in
+    let h = number_inside c.args.nodes.now c.requires.tree t c.link_list-item.result c.link_list-item.ensures.item in
+    let a = c.link_list-item.ensures.links.count in
+    omega arith
+
+pub write_path-requires-clause-tree : goal.write_path-requires-clause-tree
+write_path-requires-clause-tree c =
+    tree_same c.link_list-item.new.nodes c.clear_below.new.nodes c.clear_below.ensures.links (tree_same c.args.nodes.now c.link_list-item.new.nodes c.link_list-item.ensures.links c.requires.tree)
+
+pub write_path-requires-clause-room : goal.write_path-requires-clause-room
+write_path-requires-clause-room c =
+    let path = map hop_of c.args.slot.now.list.now in
+    let n0 = c.args.nodes.now in
+    let n1 = c.link_list-item.new.nodes in
+    let n2 = c.clear_below.new.nodes in
+    path_room n0 n2 path
+    (links_trans n0 n1 n2 c.link_list-item.ensures.links c.clear_below.ensures.links)
+    (room_trans n0 n1 n2 c.link_list-item.ensures.room c.clear_below.ensures.room)
+    (room_along n0 path c.requires.fits.room.0)
+
+pub settle-requires-clause-tree : goal.settle-requires-clause-tree
+settle-requires-clause-tree c =
+    tree_same c.clear_below.new.nodes c.write_path.new.nodes c.write_path.ensures.links
+    (tree_same c.link_list-item.new.nodes c.clear_below.new.nodes c.clear_below.ensures.links (tree_same c.args.nodes.now c.link_list-item.new.nodes c.link_list-item.ensures.links c.requires.tree))
+
+pub settle-requires-clause-inside : goal.settle-requires-clause-inside
+settle-requires-clause-inside c =
+    let t = Item (end_of (map hop_of c.args.slot.now.list.now)) c.args.stamp.now.id in
+    let h = number_inside c.args.nodes.now c.requires.tree t c.link_list-item.result c.link_list-item.ensures.item in
+    let a = c.link_list-item.ensures.links.count in
+    let b = c.clear_below.ensures.links.count in
+    let d = c.write_path.ensures.links.count in
+    omega arith
+
+pub settle-requires-clause-room : goal.settle-requires-clause-room
+settle-requires-clause-room c =
+    let path = map hop_of c.args.slot.now.list.now in
+    let t = Item (end_of path) c.args.stamp.now.id in
+    let n0 = c.args.nodes.now in
+    let n1 = c.link_list-item.new.nodes in
+    let n2 = c.clear_below.new.nodes in
+    let n3 = c.write_path.new.nodes in
+    let links = links_trans n0 n1 n2 c.link_list-item.ensures.links c.clear_below.ensures.links in
+    let room = room_trans n0 n1 n2 c.link_list-item.ensures.room c.clear_below.ensures.room in
+    let deep = depth_whole path in
+    let count = length-map c.args.slot.now.list.now hop_of in
+    let still = c.write_path.ensures.deeper t (omega arith) (more_room n0 n2 links room t c.requires.fits.room.1) in
+    let at : number n3 t ≡ Some c.link_list-item.result = sym (number_same n0 n2 links t ∙ number_same n2 n3 c.write_path.ensures.links t) ∙ c.link_list-item.ensures.item in
+    subst (λ o. 0 < presence_room (node_in n3 o)) at still
+
+pub settle-requires-clause-register : goal.settle-requires-clause-register
+settle-requires-clause-register c = λ some.
+    let t = Item (end_of (map hop_of c.args.slot.now.list.now)) c.args.stamp.now.id in
+    let here = subst (λ o. 0 < register_room (node_in c.args.nodes.now o)) c.link_list-item.ensures.item (c.requires.fits.register some) in
+    let a = c.link_list-item.ensures.room.register c.link_list-item.result in
+    let b = c.clear_below.ensures.room.register c.link_list-item.result in
+    let d = c.write_path.ensures.register_room c.link_list-item.result in
+    omega arith
+
+pub returns-clause-inserted : goal.returns-clause-inserted
+returns-clause-inserted c =
+    let s = c.args.stamp.now in
+    let l = end_of (map hop_of c.args.slot.now.list.now) in
+    let t : Element = Item l s.id in
+    let n0 = c.args.nodes.now in
+    let n1 = c.link_list-item.new.nodes in
+    let n2 = c.clear_below.new.nodes in
+    let n3 = c.write_path.new.nodes in
+    let at1 : number n1 t ≡ Some c.link_list-item.result = sym (number_same n0 n1 c.link_list-item.ensures.links t) ∙ c.link_list-item.ensures.item in
+    let at3 : number n3 t ≡ Some c.link_list-item.result = sym (number_same n1 n2 c.clear_below.ensures.links t ∙ number_same n2 n3 c.write_path.ensures.links t) ∙ at1 in
+    c.settle.ensures.settled t at3
+    ∙ ap (λ C. registered (mark C t s.id (tag_of c.args.tag)) t s.id (option_map scalar_of c.args.scalar))
+    (c.write_path.ensures.written
+    ∙ ap (λ C. mark (entered C l s.id) l s.id AsList) (c.clear_below.ensures.cleared t at1 ∙ ap (λ C. clear C t (deps_of s)) c.link_list-item.ensures.linked))

@@ -1,0 +1,12 @@
+use Rattle.std.proofs.Common.{ap, ◌∙◌}
+use Rattle.std.proofs.lemmas.List.{with_items_is}
+use Rattle.semantics.specs.Context.{apply}
+use Rattle.semantics.specs.Stamped.{loose_operation}
+use Rattle.operation.specs.Meanings.{stamped_of}
+use Rattle.tree.specs.Nodes.{context}
+use Rattle.tree.proofs.tree.Tree.apply.Goals as goal
+
+pub returns-clause-applied : goal.returns-clause-applied
+returns-clause-applied c = rw (← c.self.view_is)
+    (ap context (with_items_is c.self.inside.nodes c.run.new.nodes (c.run.auto.nodes ∙ c.deref_mut.ensures.len))
+    ∙ c.run.ensures.applied ∙ ap (λ ns. apply (context ns) (loose_operation (stamped_of c.self.inside.table c.args.op.now))) c.deref_mut.ensures.value)

@@ -1,0 +1,5 @@
+-- A document as numbered nodes, and what is written along a path.
+pub mod Nodes
+pub mod Writes
+pub mod Trees
+pub mod Walkers

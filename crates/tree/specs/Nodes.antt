@@ -1,0 +1,179 @@
+-- Nodes that are named by their numbers, and the context that they stand for.
+use Rattle.std.specs.Prelude.{◌≡◌, ◌≢◌, ℕ, ◌<◌, ◌≤◌, Bool, false, cond, IsTrue, List, [], ◌∷◌, length, map, Option, Some, None, slice_get}
+use Rattle.std.specs.FinMap.{find, is_sorted}
+use Rattle.semantics.specs.Ids.{OpId, id_cmp}
+use Rattle.semantics.specs.Elements.{Element, Doc, Field, Item, Name, Scalar, Tag, name_cmp}
+use Rattle.semantics.specs.Paths.{Key, FieldKey, ItemKey}
+use Rattle.semantics.specs.Context.{Context}
+use Rattle.cursor.specs.declared.tag.Tag.{Tag as ATag}
+use Rattle.cursor.specs.Meanings.{tag_of}
+use Rattle.value.specs.declared.value.Scalar.{Scalar as AScalar}
+use Rattle.value.specs.Meanings.{scalar_of}
+use Rattle.columns.specs.Entries.{StandBeside}
+use Rattle.tree.specs.declared.node.Node.{Node}
+
+-- the children of a node, by name and by id
+abbrev pub Links : Type 0
+Links = List (Name × ℕ) × List (OpId × ℕ)
+
+abbrev pub links_of : Option Node → Links
+links_of None = ([], [])
+links_of (Some n) = (n.fields.entries, n.items.entries)
+
+abbrev pub links : List Node → ℕ → Links
+links ns i = links_of (slice_get ns i)
+
+abbrev pub linked_by : Links → Key → Option ℕ
+linked_by l (FieldKey n) = find name_cmp n l.0
+linked_by l (ItemKey a) = find id_cmp a l.1
+
+-- the number of a child, where there is one
+abbrev pub child_number : List Node → ℕ → Key → Option ℕ
+child_number ns i k = linked_by (links ns i) k
+
+abbrev pub next_number : List Node → Option ℕ → Key → Option ℕ
+next_number ns None k = None
+next_number ns (Some i) k = child_number ns i k
+
+-- the number of the node of an element, where it has one; the root's is 0
+abbrev pub number : List Node → Element → Option ℕ
+number ns Doc = Some 0
+number ns (Field e n) = next_number ns (number ns e) (FieldKey n)
+number ns (Item e a) = next_number ns (number ns e) (ItemKey a)
+
+abbrev pub node_in : List Node → Option ℕ → Option Node
+node_in ns None = None
+node_in ns (Some i) = slice_get ns i
+
+-- the node of an element
+abbrev pub node_at : List Node → Element → Option Node
+node_at ns e = node_in ns (number ns e)
+
+-- the tags of the definitions at each id
+abbrev pub tagged : List (OpId × ATag) → List (OpId × Tag)
+tagged es = map (λ e. (e.0, tag_of e.1)) es
+
+-- the scalars of the definitions at each id
+abbrev pub valued : List (OpId × AScalar) → List (OpId × Scalar)
+valued es = map (λ e. (e.0, scalar_of e.1)) es
+
+abbrev pub presence_of : Option Node → List (OpId × Tag)
+presence_of None = []
+presence_of (Some n) = tagged n.presence.entries
+
+abbrev pub register_of : Option Node → List (OpId × Scalar)
+register_of None = []
+register_of (Some n) = valued n.register.entries
+
+abbrev pub order_of : Option Node → List OpId
+order_of None = []
+order_of (Some n) = n.order.items
+
+-- whether a write has come by
+abbrev pub is_written : Option Node → Bool
+is_written None = false
+is_written (Some n) = n.is_written
+
+-- the names of the children that a write has reached
+abbrev pub names_in : List Node → List (Name × ℕ) → List (Name × Unit {0})
+names_in ns [] = []
+names_in ns (f ∷ fs) = cond (is_written (slice_get ns f.1)) ((f.0, tt) ∷ names_in ns fs) (names_in ns fs)
+
+-- the context that the nodes stand for
+abbrev pub context : List Node → Context
+context ns = record {
+  presence = λ e. presence_of (node_at ns e);
+  register = λ e. register_of (node_at ns e);
+  fields = λ e. names_in ns (links_of (node_at ns e)).0;
+  order = λ e. order_of (node_at ns e);
+}
+
+-- a child's number is greater than its parent's, and no node has two parents
+pub record IsTree (ns : List Node) : Type 0 where
+  pub rooted : 0 < length ns
+  pub rising : (i : ℕ) (k : Key) (j : ℕ) → child_number ns i k ≡ Some j → (i < j) × (j < length ns)
+  pub one_parent : (i : ℕ) (k : Key) (h : ℕ) (l : Key) (j : ℕ) → child_number ns i k ≡ Some j → child_number ns h l ≡ Some j → (i ≡ h) × (k ≡ l)
+  pub sorted_names : (i : ℕ) → IsTrue (is_sorted name_cmp (links ns i).0)
+  pub sorted_ids : (i : ℕ) → IsTrue (is_sorted id_cmp (links ns i).1)
+
+-- the index beside each id of a node is the place of its replica in the table
+abbrev pub NodeBeside : List ℕ → Option Node → Type 0
+NodeBeside table None = Unit {0}
+NodeBeside table (Some n) = StandBeside table n.presence.entries n.presence.indices × StandBeside table n.register.entries n.register.indices
+
+-- the same of each node
+abbrev pub AreBeside : List ℕ → List Node → Type 0
+AreBeside table ns = (i : ℕ) → NodeBeside table (slice_get ns i)
+
+-- the same children
+pub record SameLinks (ns ms : List Node) : Type 0 where
+  pub count : length ns ≡ length ms
+  pub same : (i : ℕ) → links ns i ≡ links ms i
+
+abbrev pub presence_room : Option Node → ℕ
+presence_room None = 0
+presence_room (Some n) = n.presence.room
+
+abbrev pub register_room : Option Node → ℕ
+register_room None = 0
+register_room (Some n) = n.register.room
+
+abbrev pub order_room : Option Node → ℕ
+order_room None = 0
+order_room (Some n) = n.order.room
+
+abbrev pub child_room : Option Node → Key → ℕ
+child_room None k = 0
+child_room (Some n) (FieldKey m) = n.fields.room
+child_room (Some n) (ItemKey a) = n.items.room
+
+-- no node has less room for ids
+pub record MoreRoom (ns ms : List Node) : Type 0 where
+  pub presence : (i : ℕ) → presence_room (slice_get ns i) ≤ presence_room (slice_get ms i)
+  pub register : (i : ℕ) → register_room (slice_get ns i) ≤ register_room (slice_get ms i)
+
+-- no node but one has less room in its presence, and none in its register
+pub record RoomElse (at : ℕ) (ns ms : List Node) : Type 0 where
+  pub presence : (i : ℕ) → i ≢ at → presence_room (slice_get ns i) ≤ presence_room (slice_get ms i)
+  pub register : (i : ℕ) → register_room (slice_get ns i) ≤ register_room (slice_get ms i)
+
+-- nothing stands there, and no write has come by
+pub record IsEmptyNode (n : Node) : Type 0 where
+  pub presence : n.presence.entries ≡ []
+  pub no_presence : n.presence.indices ≡ []
+  pub register : n.register.entries ≡ []
+  pub no_register : n.register.indices ≡ []
+  pub fields : n.fields.entries ≡ []
+  pub items : n.items.entries ≡ []
+  pub order : n.order.items ≡ []
+  pub unwritten : n.is_written ≡ false
+
+-- each child and all room stays
+pub record Grows (ns ms : List Node) : Type 0 where
+  pub count : length ns ≤ length ms
+  pub children : (i : ℕ) (k : Key) (j : ℕ) → child_number ns i k ≡ Some j → child_number ms i k ≡ Some j
+  pub presence : (i : ℕ) → presence_room (slice_get ns i) ≤ presence_room (slice_get ms i)
+  pub register : (i : ℕ) → register_room (slice_get ns i) ≤ register_room (slice_get ms i)
+  pub order : (i : ℕ) → order_room (slice_get ns i) ≤ order_room (slice_get ms i)
+
+-- a tree of the same context, with all that was there
+pub record Kept (ns ms : List Node) : Type 0 where
+  pub tree : IsTree ms
+  pub same : context ms ≡ context ns
+  pub grows : Grows ns ms
+  pub beside : (table : List ℕ) → AreBeside table ns → AreBeside table ms
+
+-- the node at j is empty, and nobody's child
+pub record IsOrphan (ns : List Node) (j : ℕ) : Type 0 where
+  pub node : Node
+  pub there : slice_get ns j ≡ Some node
+  pub empty : IsEmptyNode node
+  pub alone : (i : ℕ) (k : Key) → child_number ns i k ≡ Some j → ⊥
+
+-- each number has the same children, ids and mark
+pub record SameView (ns ms : List Node) : Type 0 where
+  pub links : (i : ℕ) → links ns i ≡ links ms i
+  pub presence : (i : ℕ) → presence_of (slice_get ns i) ≡ presence_of (slice_get ms i)
+  pub register : (i : ℕ) → register_of (slice_get ns i) ≡ register_of (slice_get ms i)
+  pub order : (i : ℕ) → order_of (slice_get ns i) ≡ order_of (slice_get ms i)
+  pub written : (i : ℕ) → is_written (slice_get ns i) ≡ is_written (slice_get ms i)

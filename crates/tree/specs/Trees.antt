@@ -1,0 +1,72 @@
+-- A tree as contracts see it, and what an operation needs of it.
+use Rattle.std.specs.Prelude.{◌≡◌, ℕ, ◌<◌, IsTrue, IsFalse, List, Option, Some, None, IsSome, option_map, map}
+use Rattle.ids.specs.Members.{AreDistinct}
+use Rattle.semantics.specs.Ids.{OpId}
+use Rattle.semantics.specs.Elements.{Element, Item, Value}
+use Rattle.semantics.specs.Operations.{scalar_in, slot_of, target_in, value_of}
+use Rattle.semantics.specs.Context.{Context}
+use Rattle.semantics.specs.Stamped.{Stamped}
+use Rattle.value.specs.declared.value.Scalar.{Scalar}
+use Rattle.value.specs.Meanings.{scalar_of}
+use Rattle.columns.specs.Orders.{has_item, has_place}
+use Rattle.tree.specs.declared.node.Node.{Node}
+use Rattle.tree.specs.Nodes.{AreBeside, IsTree, context, node_at, order_room, register_room}
+use Rattle.cursor.specs.Meanings.{hop_of}
+use Rattle.tree.specs.declared.insert.Slot.{Slot}
+use Rattle.tree.specs.Writes.{RoomTo, end_of}
+
+-- a tree: the table of replicas, the nodes, and the copy of a scalar that the next operation writes
+pub record Planted : Type 0 where
+  pub table : List ℕ
+  pub nodes : List Node
+  pub scalar : Option Scalar
+
+-- the document that a tree holds
+abbrev pub document : Planted → Context
+document t = context t.nodes
+
+-- the nodes of a tree, beside its table
+pub record IsPlanted (t : Planted) : Type 0 where
+  pub distinct : AreDistinct t.table
+  pub tree : IsTree t.nodes
+  pub beside : AreBeside t.table t.nodes
+
+-- the element that s writes at
+abbrev pub target_of : Stamped → Element
+target_of s = target_in (slot_of s.mutation s.place) s.id s.place
+
+-- room for what a value writes at t, and the copy of its scalar
+abbrev pub RoomToWrite : Planted → Element → Option Value → Type 0
+RoomToWrite p t None = Unit {0}
+RoomToWrite p t (Some v) = RoomTo p.nodes t × (option_map scalar_of p.scalar ≡ scalar_in (Some v)) × (IsSome (scalar_in (Some v)) → 0 < register_room (node_at p.nodes t))
+
+-- room for a new item in the order of a slot's list
+abbrev pub RoomToLink : List Node → Option (Element × Option OpId) → Type 0
+RoomToLink ns None = Unit {0}
+RoomToLink ns (Some slot) = 0 < order_room (node_at ns slot.0)
+
+-- all that the operation needs is there
+pub record IsReady (t : Planted) (s : Stamped) : Type 0 where
+  pub write : RoomToWrite t (target_of s) (value_of s.mutation)
+  pub link : RoomToLink t.nodes (slot_of s.mutation s.place)
+
+-- what an insert goes after is in its list, and its own id isn't
+abbrev pub FitsIn : Context → OpId → Option (Element × Option OpId) → Type 0
+FitsIn C a None = Unit {0}
+FitsIn C a (Some slot) = IsTrue (has_place slot.1 (C.order slot.0)) × IsFalse (has_item a (C.order slot.0))
+
+-- the same of an operation
+abbrev pub IsPlaced : Context → Stamped → Type 0
+IsPlaced C s = FitsIn C s.id (slot_of s.mutation s.place)
+
+-- an insert of a into the list at l, after p, has its room, and fits in
+pub record CanInsert (ns : List Node) (l : Element) (p : Option OpId) (a : OpId) (s : Option Scalar) : Type 0 where
+  pub room : RoomTo ns (Item l a)
+  pub register : IsSome s → 0 < register_room (node_at ns (Item l a))
+  pub order : 0 < order_room (node_at ns l)
+  pub place : IsTrue (has_place p ((context ns).order l))
+  pub fresh : IsFalse (has_item a ((context ns).order l))
+
+-- the slot of the program is that of the definitions
+abbrev pub SlotIs : Option Slot → Option (Element × Option OpId) → Type 0
+SlotIs o slot = option_map (λ s. (end_of (map hop_of s.list.now), s.prev)) o ≡ slot

@@ -1,0 +1,62 @@
+//! What each kind of operation does.
+
+ghost use Rattle.std.specs.Prelude.{◌≡◌, Option, Some, IsSome, option_map};
+ghost use Rattle.semantics.specs.Ids.{OpId as TheId};
+ghost use Rattle.semantics.specs.Elements.{Element, Item, EmptyMap};
+ghost use Rattle.semantics.specs.LegalHistory.{IsFormed};
+ghost use Rattle.semantics.specs.Operations.{Insert, slot_of};
+ghost use Rattle.semantics.specs.Context.{apply};
+ghost use Rattle.semantics.specs.Stamped.{loose_operation};
+ghost use Rattle.value.specs.Meanings.{scalar_of};
+ghost use Rattle.cursor.specs.Meanings.{tag_of};
+ghost use Rattle.operation.specs.Meanings.{mutation_of, stamped_of};
+ghost use Rattle.tree.specs.Nodes.{AreBeside, IsTree, context};
+ghost use Rattle.tree.specs.Writes.{IsStamp, assigned, deps_of, linked};
+ghost use Rattle.tree.specs.Trees.{CanInsert, IsPlaced, IsReady};
+
+use crate::clear::clear_at;
+use crate::insert::{insert, slot_of};
+use crate::node::Node;
+use crate::stamp::Stamp;
+use crate::write::assign;
+use cursor::{Place, Tag};
+use operation::{Mutation, Op};
+use value::Scalar;
+
+/// Does what an operation says.
+pub fn run(nodes: &mut [Node], op: &Op, stamp: &Stamp, scalar: Option<Scalar>)
+    requires stamp { IsStamp stamp.now }
+    requires id { stamp.now.id ≡ op.now.id }
+    requires vector { stamp.now.vector.now ≡ op.now.deps }
+    requires tree { IsTree nodes.old }
+    requires beside { AreBeside stamp.now.table.now nodes.old }
+    requires ready { IsReady (record { table = stamp.now.table.now; nodes = nodes.old; scalar = scalar }) (stamped_of stamp.now.table.now op.now) }
+    requires placed { IsPlaced (context nodes.old) (stamped_of stamp.now.table.now op.now) }
+    requires formed { IsFormed (mutation_of op.now.mutation) op.now.place }
+    ensures tree { IsTree nodes.new }
+    ensures beside { AreBeside stamp.now.table.now nodes.new }
+    ensures applied { context nodes.new ≡ apply (context nodes.old) (loose_operation (stamped_of stamp.now.table.now op.now)) }
+{
+    match &op.mutation {
+        Mutation::Assign(value) => assign(nodes, op.place.hops(), stamp, Tag::of(value), scalar),
+        Mutation::Insert(value) => insert_at(nodes, &op.place, stamp, Tag::of(value), scalar),
+        Mutation::Delete => clear_at(nodes, op.place.hops(), stamp),
+    }
+}
+
+/// Inserts at a head or after an item.
+fn insert_at(nodes: &mut [Node], place: &Place, stamp: &Stamp, tag: Tag, scalar: Option<Scalar>)
+    requires stamp { IsStamp stamp.now }
+    requires tree { IsTree nodes.old }
+    requires beside { AreBeside stamp.now.table.now nodes.old }
+    requires slot { IsSome (slot_of (Insert EmptyMap) place.now) }
+    requires fits { (l : Element) (p : Option TheId) → slot_of (Insert EmptyMap) place.now ≡ Some (l, p) → CanInsert nodes.old l p stamp.now.id scalar }
+    ensures tree { IsTree nodes.new }
+    ensures beside { AreBeside stamp.now.table.now nodes.new }
+    ensures inserted { (l : Element) (p : Option TheId) → slot_of (Insert EmptyMap) place.now ≡ Some (l, p) → context nodes.new ≡ assigned (linked (context nodes.old) l p stamp.now.id) stamp.now.id (deps_of stamp.now) (Item l stamp.now.id) (tag_of tag) (option_map scalar_of scalar) }
+{
+    let Some(slot) = slot_of(place) else {
+        unreachable!()
+    };
+    insert(nodes, &slot, stamp, tag, scalar);
+}

@@ -1,0 +1,69 @@
+//! Clearing an element and all beneath it.
+
+ghost use Rattle.std.specs.Prelude.{◌≡◌, ◌<◌, Some, length, map};
+ghost use Rattle.semantics.specs.Elements.{Element};
+ghost use Rattle.semantics.specs.Context.{clear};
+ghost use Rattle.cursor.specs.Meanings.{hop_of};
+ghost use Rattle.tree.specs.Nodes.{AreBeside, IsTree, MoreRoom, SameLinks, context, number};
+ghost use Rattle.tree.specs.Writes.{IsStamp, clear_own, deps_of, end_of};
+
+use crate::node::Node;
+use crate::stamp::Stamp;
+use crate::walk::{count_fields, count_items, field_at, item_at, walk};
+use cursor::Hop;
+
+/// Takes the ids that the stamp's vector covers away at a node.
+fn clear_node(nodes: &mut [Node], at: usize, stamp: &Stamp)
+    requires tree { IsTree nodes.old }
+    requires stamp { IsStamp stamp.now }
+    requires beside { AreBeside stamp.now.table.now nodes.old }
+    requires inside { at < length nodes.old }
+    ensures links { SameLinks nodes.old nodes.new }
+    ensures room { MoreRoom nodes.old nodes.new }
+    ensures beside { AreBeside stamp.now.table.now nodes.new }
+    ensures cleared { (e : Element) → number nodes.old e ≡ Some at → context nodes.new ≡ clear_own (context nodes.old) e (deps_of stamp.now) }
+{
+    let node = &mut nodes[at];
+    node.presence.clear(stamp.vector);
+    node.register.clear(stamp.vector);
+}
+
+/// The same at a node and everywhere beneath it. Visits each of those nodes once.
+pub fn clear_below(nodes: &mut [Node], at: usize, stamp: &Stamp)
+    requires tree { IsTree nodes.old }
+    requires stamp { IsStamp stamp.now }
+    requires beside { AreBeside stamp.now.table.now nodes.old }
+    requires inside { at < length nodes.old }
+    ensures links { SameLinks nodes.old nodes.new }
+    ensures room { MoreRoom nodes.old nodes.new }
+    ensures beside { AreBeside stamp.now.table.now nodes.new }
+    ensures cleared { (e : Element) → number nodes.old e ≡ Some at → context nodes.new ≡ clear (context nodes.old) e (deps_of stamp.now) }
+{
+    clear_node(nodes, at, stamp);
+    let fields = count_fields(nodes, at);
+    'fields: for place in 0..fields {
+        let child = field_at(nodes, at, place);
+        clear_below(nodes, child, stamp);
+    }
+    let items = count_items(nodes, at);
+    'items: for place in 0..items {
+        let child = item_at(nodes, at, place);
+        clear_below(nodes, child, stamp);
+    }
+}
+
+/// The same at the end of a path, where something was ever made there.
+pub fn clear_at(nodes: &mut [Node], path: &[Hop], stamp: &Stamp)
+    requires tree { IsTree nodes.old }
+    requires stamp { IsStamp stamp.now }
+    requires beside { AreBeside stamp.now.table.now nodes.old }
+    ensures links { SameLinks nodes.old nodes.new }
+    ensures room { MoreRoom nodes.old nodes.new }
+    ensures beside { AreBeside stamp.now.table.now nodes.new }
+    ensures cleared { context nodes.new ≡ clear (context nodes.old) (end_of (map hop_of path.now)) (deps_of stamp.now) }
+{
+    match walk(nodes, path) {
+        Some(at) => clear_below(nodes, at, stamp),
+        None => {}
+    }
+}

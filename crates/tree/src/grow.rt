@@ -1,0 +1,150 @@
+//! Making nodes and room, which changes no content.
+
+ghost use Rattle.std.specs.Prelude.{◌≡◌, ◌<◌, ◌≤◌, ℕ, None, Some, OnOk, IfOk, length, slice_get};
+ghost use Rattle.semantics.specs.Paths.{Key as TheKey, FieldKey, ItemKey};
+ghost use Rattle.cursor.specs.Meanings.{hop_of};
+ghost use Rattle.tree.specs.Nodes.{IsEmptyNode, IsOrphan, IsTree, Kept, child_number, child_room, links, order_room, presence_room, register_room};
+
+use crate::node::Node;
+use crate::walk::child_of;
+use cursor::Hop;
+use ids::OpId;
+use std::alloc::{AllocError, Global};
+use value::Key;
+
+/// Makes room for one more id in a node's presence.
+pub fn reserve_presence(nodes: &mut Vec<Node>, at: usize) -> Result<(), AllocError>
+    requires tree { IsTree nodes.old.items }
+    requires inside { at < length nodes.old.items }
+    ensures kept { Kept nodes.old.items nodes.new.items }
+    ensures room { OnOk result (0 < presence_room (slice_get nodes.new.items at)) }
+{
+    let node = &mut nodes[at];
+    node.presence.reserve_one()
+}
+
+/// Makes room for one more id in a node's register.
+pub fn reserve_register(nodes: &mut Vec<Node>, at: usize) -> Result<(), AllocError>
+    requires tree { IsTree nodes.old.items }
+    requires inside { at < length nodes.old.items }
+    ensures kept { Kept nodes.old.items nodes.new.items }
+    ensures room { OnOk result (0 < register_room (slice_get nodes.new.items at)) }
+{
+    let node = &mut nodes[at];
+    node.register.reserve_one()
+}
+
+/// Makes room for one more item in the order of a node's list.
+pub fn reserve_order(nodes: &mut Vec<Node>, at: usize) -> Result<(), AllocError>
+    requires tree { IsTree nodes.old.items }
+    requires inside { at < length nodes.old.items }
+    ensures kept { Kept nodes.old.items nodes.new.items }
+    ensures room { OnOk result (0 < order_room (slice_get nodes.new.items at)) }
+{
+    let node = &mut nodes[at];
+    node.order.reserve_one()
+}
+
+/// Makes room for one more child.
+fn reserve_child(nodes: &mut Vec<Node>, at: usize, hop: &Hop) -> Result<(), AllocError>
+    requires tree { IsTree nodes.old.items }
+    requires inside { at < length nodes.old.items }
+    ensures kept { Kept nodes.old.items nodes.new.items }
+    ensures shape { (i : ℕ) → links nodes.old.items i ≡ links nodes.new.items i }
+    ensures room { OnOk result (0 < child_room (slice_get nodes.new.items at) (hop_of hop.now)) }
+{
+    let node = &mut nodes[at];
+    match hop {
+        Hop::Field(_) => node.fields.reserve_one(),
+        Hop::Item(_) => node.items.reserve_one(),
+    }
+}
+
+/// Puts an empty node at the end, which is nobody's child yet, and answers its number.
+fn push_node(nodes: &mut Vec<Node>, fresh: Node) -> Result<usize, AllocError>
+    requires tree { IsTree nodes.old.items }
+    requires empty { IsEmptyNode fresh }
+    ensures kept { Kept nodes.old.items nodes.new.items }
+    ensures orphan { IfOk result (λ j. IsOrphan nodes.new.items j × (j ≡ length nodes.old.items)) }
+    ensures shape { (i : ℕ) → links nodes.old.items i ≡ links nodes.new.items i }
+    ensures rooms { (i : ℕ) (k : TheKey) → child_room (slice_get nodes.old.items i) k ≤ child_room (slice_get nodes.new.items i) k }
+{
+    let number = nodes.len();
+    nodes.push(fresh)?;
+    Ok(number)
+}
+
+/// Makes a node the field of another.
+fn link_field(nodes: &mut Vec<Node>, at: usize, key: Key, number: usize)
+    requires tree { IsTree nodes.old.items }
+    requires above { at < number }
+    requires orphan { IsOrphan nodes.old.items number }
+    requires absent { child_number nodes.old.items at (FieldKey key) ≡ None }
+    requires room { 0 < child_room (slice_get nodes.old.items at) (FieldKey key) }
+    ensures kept { Kept nodes.old.items nodes.new.items }
+    ensures child { child_number nodes.new.items at (FieldKey key) ≡ Some number }
+{
+    let node = &mut nodes[at];
+    node.fields.put(key, number);
+}
+
+/// Makes a node the item of another.
+fn link_item(nodes: &mut Vec<Node>, at: usize, id: OpId, number: usize)
+    requires tree { IsTree nodes.old.items }
+    requires above { at < number }
+    requires orphan { IsOrphan nodes.old.items number }
+    requires absent { child_number nodes.old.items at (ItemKey id) ≡ None }
+    requires room { 0 < child_room (slice_get nodes.old.items at) (ItemKey id) }
+    ensures kept { Kept nodes.old.items nodes.new.items }
+    ensures child { child_number nodes.new.items at (ItemKey id) ≡ Some number }
+{
+    let node = &mut nodes[at];
+    node.items.put(id, number);
+}
+
+/// Makes a child where there is none, and answers its number.
+fn make_child(
+    nodes: &mut Vec<Node>,
+    at: usize,
+    hop: &Hop,
+    alloc: Global,
+) -> Result<usize, AllocError>
+    requires tree { IsTree nodes.old.items }
+    requires inside { at < length nodes.old.items }
+    requires absent { child_number nodes.old.items at (hop_of hop.now) ≡ None }
+    ensures kept { Kept nodes.old.items nodes.new.items }
+    ensures child { IfOk result (λ j. child_number nodes.new.items at (hop_of hop.now) ≡ Some j) }
+{
+    reserve_child(nodes, at, hop)?;
+    match hop {
+        Hop::Field(key) => {
+            let key = key.clone()?;
+            let number = push_node(nodes, Node::new(alloc))?;
+            link_field(nodes, at, key, number);
+            Ok(number)
+        }
+        Hop::Item(id) => {
+            let number = push_node(nodes, Node::new(alloc))?;
+            link_item(nodes, at, *id, number);
+            Ok(number)
+        }
+    }
+}
+
+/// The number of a child, which is made where there is none.
+pub fn reach(
+    nodes: &mut Vec<Node>,
+    at: usize,
+    hop: &Hop,
+    alloc: Global,
+) -> Result<usize, AllocError>
+    requires tree { IsTree nodes.old.items }
+    requires inside { at < length nodes.old.items }
+    ensures kept { Kept nodes.old.items nodes.new.items }
+    ensures child { IfOk result (λ j. child_number nodes.new.items at (hop_of hop.now) ≡ Some j) }
+{
+    match child_of(nodes, at, hop) {
+        Some(child) => Ok(child),
+        None => make_child(nodes, at, hop, alloc),
+    }
+}

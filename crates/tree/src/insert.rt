@@ -1,0 +1,99 @@
+//! Putting a new item into a list, and writing it.
+
+ghost use Rattle.std.specs.Prelude.{◌≡◌, ◌<◌, ℕ, List, Option, Some, None, IsTrue, IsFalse, IsSome, length, map, option_map, slice_get};
+ghost use Rattle.semantics.specs.Ids.{OpId as TheId};
+ghost use Rattle.semantics.specs.Elements.{Element, Item, EmptyMap};
+ghost use Rattle.semantics.specs.Operations.{Insert, slot_of};
+ghost use Rattle.value.specs.Meanings.{scalar_of};
+ghost use Rattle.cursor.specs.Meanings.{hop_of, tag_of};
+ghost use Rattle.columns.specs.Orders.{has_item, has_place};
+ghost use Rattle.tree.specs.Nodes.{AreBeside, IsTree, MoreRoom, SameLinks, context, node_at, number, order_of, order_room, presence_room, register_room};
+ghost use Rattle.tree.specs.Writes.{HasRoom, IsStamp, assigned, deps_of, end_of, linked};
+ghost use Rattle.tree.specs.Trees.{CanInsert, SlotIs};
+
+use crate::clear::clear_below;
+use crate::node::Node;
+use crate::stamp::Stamp;
+use crate::walk::{item_of, walk};
+use crate::write::{settle, write_path};
+use cursor::{Hop, Place, Tag};
+use ids::OpId;
+use value::Scalar;
+
+/// The path of a list, and the item there, if there is one, after which something goes.
+#[derive(Clone, Copy, Debug)]
+pub struct Slot<'a> {
+    pub list: &'a [Hop],
+    pub prev: Option<OpId>,
+}
+
+/// Where an insert at this place goes, if it is a head or an item.
+pub fn slot_of(place: &Place) -> Option<Slot<'_>>
+    ensures { SlotIs result (slot_of (Insert EmptyMap) place.now) }
+{
+    let path = place.hops();
+    if place.is_head() {
+        return Some(Slot {
+            list: path,
+            prev: None,
+        });
+    }
+    match path.split_last() {
+        Some((Hop::Item(prev), list)) => Some(Slot {
+            list,
+            prev: Some(*prev),
+        }),
+        _ => None,
+    }
+}
+
+/// Puts an id into the order of a node's list.
+fn link_order(nodes: &mut [Node], at: usize, prev: Option<OpId>, id: &OpId)
+    requires tree { IsTree nodes.old }
+    requires inside { at < length nodes.old }
+    requires place { IsTrue (has_place prev (order_of (slice_get nodes.old at))) }
+    requires fresh { IsFalse (has_item id.now (order_of (slice_get nodes.old at))) }
+    requires room { 0 < order_room (slice_get nodes.old at) }
+    ensures links { SameLinks nodes.old nodes.new }
+    ensures room { MoreRoom nodes.old nodes.new }
+    ensures beside { (table : List ℕ) → AreBeside table nodes.old → AreBeside table nodes.new }
+    ensures linked { (e : Element) → number nodes.old e ≡ Some at → context nodes.new ≡ linked (context nodes.old) e prev id.now }
+{
+    let node = &mut nodes[at];
+    node.order.place(prev, *id);
+}
+
+/// Puts an id into the order of the list at the end of a path, and answers the number of its node.
+fn link_list(nodes: &mut [Node], slot: &Slot<'_>, id: &OpId) -> usize
+    requires tree { IsTree nodes.old }
+    requires there { IsSome (number nodes.old (Item (end_of (map hop_of slot.now.list.now)) id.now)) }
+    requires place { IsTrue (has_place slot.now.prev ((context nodes.old).order (end_of (map hop_of slot.now.list.now)))) }
+    requires fresh { IsFalse (has_item id.now ((context nodes.old).order (end_of (map hop_of slot.now.list.now)))) }
+    requires room { 0 < order_room (node_at nodes.old (end_of (map hop_of slot.now.list.now))) }
+    ensures links { SameLinks nodes.old nodes.new }
+    ensures room { MoreRoom nodes.old nodes.new }
+    ensures beside { (table : List ℕ) → AreBeside table nodes.old → AreBeside table nodes.new }
+    ensures item { number nodes.old (Item (end_of (map hop_of slot.now.list.now)) id.now) ≡ Some result }
+    ensures linked { context nodes.new ≡ linked (context nodes.old) (end_of (map hop_of slot.now.list.now)) slot.now.prev id.now }
+{
+    let at = walk(nodes, slot.list).unwrap();
+    let item = item_of(nodes, at, id).unwrap();
+    link_order(nodes, at, slot.prev, id);
+    item
+}
+
+/// Puts a new item into a list, and writes it.
+pub fn insert(nodes: &mut [Node], slot: &Slot<'_>, stamp: &Stamp, tag: Tag, scalar: Option<Scalar>)
+    requires tree { IsTree nodes.old }
+    requires stamp { IsStamp stamp.now }
+    requires beside { AreBeside stamp.now.table.now nodes.old }
+    requires fits { CanInsert nodes.old (end_of (map hop_of slot.now.list.now)) slot.now.prev stamp.now.id scalar }
+    ensures tree { IsTree nodes.new }
+    ensures beside { AreBeside stamp.now.table.now nodes.new }
+    ensures inserted { context nodes.new ≡ assigned (linked (context nodes.old) (end_of (map hop_of slot.now.list.now)) slot.now.prev stamp.now.id) stamp.now.id (deps_of stamp.now) (Item (end_of (map hop_of slot.now.list.now)) stamp.now.id) (tag_of tag) (option_map scalar_of scalar) }
+{
+    let item = link_list(nodes, slot, &stamp.id);
+    clear_below(nodes, item, stamp);
+    write_path(nodes, slot.list, stamp, Tag::List);
+    settle(nodes, item, stamp, tag, scalar);
+}

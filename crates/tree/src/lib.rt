@@ -1,0 +1,19 @@
+//! The content of a document as numbered nodes.
+#![tactic(auto)]
+
+mod answer;
+mod apply;
+mod clear;
+mod grow;
+mod insert;
+mod node;
+mod reserve;
+mod resolve;
+mod stamp;
+#[cfg(test)]
+mod tests;
+mod tree;
+mod walk;
+mod write;
+
+pub use tree::Tree;

@@ -1,0 +1,118 @@
+//! From an expression to the place that it leads to.
+
+ghost use Rattle.std.specs.Prelude.{◌≡◌, ◌⊎◌, ◌<◌, List, length, map, slice_get, IfSome, IfOk, IfErr, OnOk, Ok, Err};
+ghost use Rattle.ids.specs.declared.refusal.Refusal.TheVariants.{NoMemory, AtHead, TooDeep};
+ghost use Rattle.semantics.specs.Elements.{At, Doc};
+ghost use Rattle.semantics.specs.DocumentAnswer.{visible_items};
+ghost use Rattle.semantics.specs.Paths.{child};
+ghost use Rattle.semantics.specs.Questions.{resolve, step_from};
+ghost use Rattle.cursor.specs.Meanings.{hop_of, step_of};
+ghost use Rattle.cursor.specs.Places.{room_at};
+ghost use Rattle.tree.specs.Nodes.{IsTree, context, next_number};
+ghost use Rattle.tree.specs.Writes.{end_of};
+ghost use Rattle.tree.specs.Walkers.{IsWalking, stand_of};
+
+use crate::answer::item_at;
+use crate::node::Node;
+use crate::walk::child_of;
+use cursor::{Expr, Hop, MOST_KEYS, Place, Step};
+use ids::{OpId, Refusal};
+use std::alloc::{AllocError, Global};
+
+/// The place that an expression leads to from the root. Copies its keys, and walks a list up to the item that it wants.
+pub fn resolve(alloc: Global, nodes: &[Node], expression: &Expr) -> Result<Place, Refusal>
+    requires { IsTree nodes.now }
+    ensures place { IfOk result (λ p. resolve (visible_items (context nodes.now)) expression.now ≡ Ok p) }
+    ensures err { IfErr result (λ why. (why ≡ NoMemory) ⊎ (resolve (visible_items (context nodes.now)) expression.now ≡ Err why)) }
+{
+    let mut walker = Walker::new(alloc);
+    for step in expression.steps() {
+        walker.take(nodes, step)?;
+    }
+    Place::new(walker.hops, walker.is_head)
+}
+
+/// A walk from the root: the hops so far, and the number of the node at their end, where one was made.
+#[derive(Debug, Drop)]
+struct Walker {
+    hops: Vec<Hop>,
+    is_head: bool,
+    node: Option<usize>,
+}
+
+impl Walker {
+    /// At the root.
+    fn new(alloc: Global) -> Walker
+        ensures stand { stand_of result ≡ At Doc }
+        ensures walking { (ns : List Node) → IsWalking ns result }
+    {
+        Walker {
+            hops: Vec::new(alloc),
+            is_head: false,
+            node: Some(0),
+        }
+    }
+
+    /// Takes one step, unless it's refused.
+    fn take(&mut self, nodes: &[Node], step: &Step) -> Result<(), Refusal>
+        requires tree { IsTree nodes.now }
+        requires walking { IsWalking nodes.now self.old }
+        ensures walking { OnOk result (IsWalking nodes.now self.new) }
+        ensures stand { OnOk result (step_from (visible_items (context nodes.now)) (stand_of self.old) (step_of step.now) ≡ Ok (stand_of self.new)) }
+        ensures err { IfErr result (λ why. (why ≡ NoMemory) ⊎ (step_from (visible_items (context nodes.now)) (stand_of self.old) (step_of step.now) ≡ Err why)) }
+    {
+        self.check_room()?;
+        match step {
+            Step::Get(key) => self.enter(nodes, Hop::Field(key.clone()?))?,
+            Step::Idx(0) => self.is_head = true,
+            Step::Idx(index) => match self.item(nodes, *index - 1) {
+                Some(id) => self.enter(nodes, Hop::Item(id))?,
+                None => return Err(Refusal::PastEnd),
+            },
+        }
+        Ok(())
+    }
+
+    /// Whether one more key may follow.
+    fn check_room(&self) -> Result<(), Refusal>
+        ensures { result ≡ room_at (stand_of self.now) }
+    {
+        if self.is_head {
+            return Err(Refusal::AtHead);
+        }
+        if self.hops.len() >= MOST_KEYS {
+            return Err(Refusal::TooDeep);
+        }
+        Ok(())
+    }
+
+    /// The visible item here at a place among these.
+    fn item(&self, nodes: &[Node], place: u64) -> Option<OpId>
+        requires tree { IsTree nodes.now }
+        requires walking { IsWalking nodes.now self.now }
+        ensures { result ≡ slice_get (visible_items (context nodes.now) (end_of (map hop_of self.now.hops.items))) place }
+    {
+        item_at(nodes, self.node?, place)
+    }
+
+    /// Goes one hop down.
+    fn enter(&mut self, nodes: &[Node], hop: Hop) -> Result<(), AllocError>
+        requires tree { IsTree nodes.now }
+        requires walking { IsWalking nodes.now self.old }
+        requires room { room_at (stand_of self.old) ≡ Ok tt }
+        ensures walking { OnOk result (IsWalking nodes.now self.new) }
+        ensures stand { OnOk result (stand_of self.new ≡ At (child (end_of (map hop_of self.old.hops.items)) (hop_of hop))) }
+    {
+        self.node = next_of(nodes, self.node, &hop);
+        self.hops.push(hop)?;
+        Ok(())
+    }
+}
+
+/// The number of the node one hop down, where one was made.
+fn next_of(nodes: &[Node], node: Option<usize>, hop: &Hop) -> Option<usize>
+    requires { IfSome node (λ i. i < length nodes.now) }
+    ensures { result ≡ next_number nodes.now node (hop_of hop.now) }
+{
+    child_of(nodes, node?, hop)
+}

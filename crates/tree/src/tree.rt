@@ -1,0 +1,151 @@
+//! A tree: the nodes, and the calls that keep them beside the table.
+
+ghost use Rattle.std.specs.Prelude.{◌≡◌, ◌⊎◌, IsTrue, IfOk, IfErr, OnOk, Ok, Err, length, map};
+ghost use Rattle.ids.specs.declared.refusal.Refusal.TheVariants.{NoMemory};
+ghost use Rattle.ids.specs.Members.{AreDistinct, is_member};
+ghost use Rattle.semantics.specs.LegalHistory.{IsFormed};
+ghost use Rattle.semantics.specs.Operations.{element_of};
+ghost use Rattle.semantics.specs.Context.{apply, empty};
+ghost use Rattle.semantics.specs.Stamped.{loose_operation};
+ghost use Rattle.semantics.specs.Questions.{resolve};
+ghost use Rattle.semantics.specs.DocumentAnswer.{visible_items, visible_names};
+ghost use Rattle.operation.specs.Meanings.{mutation_of, stamped_of};
+ghost use Rattle.tree.specs.Nodes.{AreBeside, IsTree, context, tagged, valued};
+ghost use Rattle.tree.specs.Writes.{IsStamp, deps_of};
+ghost use Rattle.tree.specs.Trees.{IsPlaced, IsReady, Planted, document};
+
+use crate::answer::{conflicts, items, keys, values};
+use crate::apply::run;
+use crate::node::Node;
+use crate::reserve::reserve_operation;
+use crate::resolve::resolve;
+use crate::stamp::Stamp;
+use cursor::{Expr, Place, Tag};
+use ids::{OpId, Refusal, ReplicaTable};
+use operation::Op;
+use std::alloc::{AllocError, Global};
+use std::marker::Model;
+use value::{Key, Scalar};
+
+/// What stands at each element of a document. Contracts see the table and the nodes, and speak of the context that these stand for.
+#[derive(Debug, Drop)]
+pub struct Tree {
+    pub(crate) table: ReplicaTable,
+    pub(crate) nodes: Vec<Node>,
+    /// What the next operation writes into a register.
+    scalar: Option<Scalar>,
+}
+
+impl Model for Tree {
+    ghost use Rattle.tree.specs.Trees.{IsPlanted, Planted};
+
+    ghost Value = { Planted };
+
+    ghost view = { λ t. record { table = t.table; nodes = t.nodes.items; scalar = t.scalar } };
+
+    ghost invariant = { λ t. IsPlanted (record { table = t.table; nodes = t.nodes.items; scalar = t.scalar }) };
+}
+
+impl Tree {
+    /// An empty document, of a replica with this table. Copies the table.
+    ///
+    /// # Errors
+    /// Want of memory.
+    pub fn new(alloc: Global, table: &ReplicaTable) -> Result<Tree, AllocError>
+        ensures table { IfOk result (λ t. t.table ≡ table.now) }
+        ensures empty { IfOk result (λ t. document t ≡ empty) }
+    {
+        let table = table.clone()?;
+        let mut nodes = Vec::new(alloc);
+        nodes.push(Node::new(alloc))?;
+        Ok(Tree {
+            table,
+            nodes,
+            scalar: None,
+        })
+    }
+
+    /// Makes all that applying this operation needs: nodes, room, and copies of keys and of the scalar. What the tree holds stays, whatever the answer.
+    ///
+    /// # Errors
+    /// Want of memory.
+    pub fn reserve(&mut self, alloc: Global, op: &Op) -> Result<(), AllocError>
+        ensures table { self.new.table ≡ self.old.table }
+        ensures same { document self.new ≡ document self.old }
+        ensures ready { OnOk result (IsReady self.new (stamped_of self.new.table op.now)) }
+    {
+        let scalar = reserve_operation(&mut self.nodes, op, alloc)?;
+        self.scalar = scalar;
+        Ok(())
+    }
+
+    /// Applies an operation for which all is there. Takes no memory: it clears what stands beneath an assign's or a delete's element, and writes at each element of the path.
+    pub fn apply(&mut self, op: &Op)
+        requires ready { IsReady self.old (stamped_of self.old.table op.now) }
+        requires placed { IsPlaced (document self.old) (stamped_of self.old.table op.now) }
+        requires formed { IsFormed (mutation_of op.now.mutation) op.now.place }
+        requires member { IsTrue (is_member self.old.table op.now.id.replica) }
+        requires width { length op.now.deps ≡ length self.old.table }
+        ensures table { self.new.table ≡ self.old.table }
+        ensures applied { document self.new ≡ apply (document self.old) (loose_operation (stamped_of self.old.table op.now)) }
+    {
+        let scalar = self.scalar.take();
+        let stamp = Stamp {
+            table: &self.table,
+            id: op.id,
+            vector: &op.deps,
+        };
+        run(&mut self.nodes, op, &stamp, scalar);
+    }
+
+    /// The place that an expression leads to. Walks a list up to the item that it wants.
+    ///
+    /// # Errors
+    /// `AtHead`, `PastEnd` or `TooDeep` by the rules, or `NoMemory` where a growth was refused.
+    pub fn resolve(&self, alloc: Global, expression: &Expr) -> Result<Place, Refusal>
+        ensures place { IfOk result (λ p. resolve (visible_items (document self.now)) expression.now ≡ Ok p) }
+        ensures err { IfErr result (λ why. (why ≡ NoMemory) ⊎ (resolve (visible_items (document self.now)) expression.now ≡ Err why)) }
+    {
+        resolve(alloc, &self.nodes, expression)
+    }
+
+    /// The values in the register at an element, rising by id, or at the element whose list has the head. Copies each.
+    ///
+    /// # Errors
+    /// Want of memory.
+    pub fn values(&self, alloc: Global, place: &Place) -> Result<Vec<(OpId, Scalar)>, AllocError>
+        ensures { IfOk result (λ v. valued v.items ≡ (document self.now).register (element_of place.now)) }
+    {
+        values(&self.nodes, place, alloc)
+    }
+
+    /// The presence there, rising by id.
+    ///
+    /// # Errors
+    /// Want of memory.
+    pub fn conflicts(&self, alloc: Global, place: &Place) -> Result<Vec<(OpId, Tag)>, AllocError>
+        ensures { IfOk result (λ v. tagged v.items ≡ (document self.now).presence (element_of place.now)) }
+    {
+        conflicts(&self.nodes, place, alloc)
+    }
+
+    /// The keys of the fields there at which something stands, in byte order. Looks at each field that ever was.
+    ///
+    /// # Errors
+    /// Want of memory.
+    pub fn keys(&self, alloc: Global, place: &Place) -> Result<Vec<Key>, AllocError>
+        ensures { IfOk result (λ v. v.items ≡ visible_names (document self.now) (element_of place.now)) }
+    {
+        keys(&self.nodes, place, alloc)
+    }
+
+    /// The items there at which something stands, in list order. Looks at each item that ever was.
+    ///
+    /// # Errors
+    /// Want of memory.
+    pub fn items(&self, alloc: Global, place: &Place) -> Result<Vec<OpId>, AllocError>
+        ensures { IfOk result (λ v. v.items ≡ visible_items (document self.now) (element_of place.now)) }
+    {
+        items(&self.nodes, place, alloc)
+    }
+}

@@ -1,0 +1,89 @@
+//! From node to node, down a path.
+
+ghost use Rattle.std.specs.Prelude.{◌≡◌, ◌<◌, ℕ, Option, Some, None, length, map, slice_index_or, IfSome};
+ghost use Rattle.semantics.specs.Ids.{OpId as TheId};
+ghost use Rattle.semantics.specs.Elements.{Element, Field, Item, Name};
+ghost use Rattle.semantics.specs.Paths.{ItemKey};
+ghost use Rattle.cursor.specs.Meanings.{hop_of};
+ghost use Rattle.tree.specs.Nodes.{IsTree, child_number, links, number};
+ghost use Rattle.tree.specs.Writes.{end_of};
+
+use crate::node::Node;
+use cursor::Hop;
+use ids::OpId;
+
+/// How many fields have a node beneath this one.
+pub fn count_fields(nodes: &[Node], at: usize) -> usize
+    requires { at < length nodes.now }
+    ensures { result ≡ length (links nodes.now at).0 }
+{
+    nodes[at].fields.len()
+}
+
+/// How many items have a node beneath this one.
+pub fn count_items(nodes: &[Node], at: usize) -> usize
+    requires { at < length nodes.now }
+    ensures { result ≡ length (links nodes.now at).1 }
+{
+    nodes[at].items.len()
+}
+
+/// The number of the node of a field, by the field's place.
+pub fn field_at(nodes: &[Node], at: usize, place: usize) -> usize
+    requires tree { IsTree nodes.now }
+    requires inside { at < length nodes.now }
+    requires place { place < length (links nodes.now at).0 }
+    ensures above { at < result }
+    ensures within { result < length nodes.now }
+    ensures number { (e : Element) (d : Name × ℕ) → number nodes.now e ≡ Some at → number nodes.now (Field e (slice_index_or (links nodes.now at).0 place d).0) ≡ Some result }
+{
+    nodes[at].fields.at(place).1
+}
+
+/// The number of the node of an item, by the item's place.
+pub fn item_at(nodes: &[Node], at: usize, place: usize) -> usize
+    requires tree { IsTree nodes.now }
+    requires inside { at < length nodes.now }
+    requires place { place < length (links nodes.now at).1 }
+    ensures above { at < result }
+    ensures within { result < length nodes.now }
+    ensures number { (e : Element) (d : TheId × ℕ) → number nodes.now e ≡ Some at → number nodes.now (Item e (slice_index_or (links nodes.now at).1 place d).0) ≡ Some result }
+{
+    nodes[at].items.at(place).1
+}
+
+/// The number of the node one hop down. A search by halves.
+pub fn child_of(nodes: &[Node], at: usize, hop: &Hop) -> Option<usize>
+    requires inside { at < length nodes.now }
+    ensures { result ≡ child_number nodes.now at (hop_of hop.now) }
+{
+    let node = &nodes[at];
+    match hop {
+        Hop::Field(key) => node.fields.get(key),
+        Hop::Item(id) => node.items.get(id),
+    }
+}
+
+/// The number of the node of an item, by its id. A search by halves.
+pub fn item_of(nodes: &[Node], at: usize, id: &OpId) -> Option<usize>
+    requires { at < length nodes.now }
+    ensures { result ≡ child_number nodes.now at (ItemKey id.now) }
+{
+    nodes[at].items.get(id)
+}
+
+/// The number of the node at the end of a path from the root.
+pub fn walk(nodes: &[Node], path: &[Hop]) -> Option<usize>
+    requires { IsTree nodes.now }
+    ensures number { result ≡ number nodes.now (end_of (map hop_of path.now)) }
+    ensures inside { IfSome result (λ at. at < length nodes.now) }
+{
+    let mut at = 0;
+    for hop in path {
+        match child_of(nodes, at, hop) {
+            Some(child) => at = child,
+            None => return None,
+        }
+    }
+    Some(at)
+}

@@ -1,0 +1,150 @@
+//! Writing along a path and at its end.
+
+ghost use Rattle.std.specs.Prelude.{◌≡◌, ◌<◌, ◌≤◌, ℕ, List, Option, Some, None, IsSome, length, map, option_map, slice_get};
+ghost use Rattle.semantics.specs.Elements.{Element, Field, Name, depth};
+ghost use Rattle.value.specs.Meanings.{scalar_of};
+ghost use Rattle.cursor.specs.Meanings.{hop_of, tag_of};
+ghost use Rattle.tree.specs.Nodes.{AreBeside, IsTree, MoreRoom, RoomElse, SameLinks, child_number, context, node_at, number, presence_room, register_room};
+ghost use Rattle.tree.specs.Writes.{HasRoom, IsStamp, assigned, deps_of, end_of, entered, entered_by, mark, name_at, registered};
+
+use crate::clear::clear_at;
+use crate::node::Node;
+use crate::stamp::Stamp;
+use crate::walk::child_of;
+use cursor::{Hop, Tag};
+use value::Scalar;
+
+/// Puts the stamp's id into a node's presence.
+fn mark_node(nodes: &mut [Node], at: usize, stamp: &Stamp, tag: Tag)
+    requires tree { IsTree nodes.old }
+    requires stamp { IsStamp stamp.now }
+    requires inside { at < length nodes.old }
+    requires room { 0 < presence_room (slice_get nodes.old at) }
+    ensures links { SameLinks nodes.old nodes.new }
+    ensures room { RoomElse at nodes.old nodes.new }
+    ensures beside { AreBeside stamp.now.table.now nodes.old → AreBeside stamp.now.table.now nodes.new }
+    ensures marked { (e : Element) → number nodes.old e ≡ Some at → context nodes.new ≡ mark (context nodes.old) e stamp.now.id (tag_of tag) }
+{
+    let node = &mut nodes[at];
+    node.presence.put(stamp.id, stamp.index(), tag);
+}
+
+/// Notes that a write has come by a field.
+fn name_node(nodes: &mut [Node], at: usize)
+    requires tree { IsTree nodes.old }
+    requires inside { at < length nodes.old }
+    ensures links { SameLinks nodes.old nodes.new }
+    ensures room { MoreRoom nodes.old nodes.new }
+    ensures beside { (table : List ℕ) → AreBeside table nodes.old → AreBeside table nodes.new }
+    ensures named { (e : Element) (n : Name) → number nodes.old (Field e n) ≡ Some at → context nodes.new ≡ name_at (context nodes.old) e n }
+{
+    let node = &mut nodes[at];
+    node.is_written = true;
+}
+
+/// Puts the stamp's id into the presence of a node, and goes on to a child.
+fn enter(nodes: &mut [Node], at: usize, hop: &Hop, stamp: &Stamp) -> usize
+    requires tree { IsTree nodes.old }
+    requires stamp { IsStamp stamp.now }
+    requires inside { at < length nodes.old }
+    requires room { 0 < presence_room (slice_get nodes.old at) }
+    requires child { IsSome (child_number nodes.old at (hop_of hop.now)) }
+    ensures links { SameLinks nodes.old nodes.new }
+    ensures room { RoomElse at nodes.old nodes.new }
+    ensures beside { AreBeside stamp.now.table.now nodes.old → AreBeside stamp.now.table.now nodes.new }
+    ensures child { child_number nodes.old at (hop_of hop.now) ≡ Some result }
+    ensures entered { (e : Element) → number nodes.old e ≡ Some at → context nodes.new ≡ entered_by (context nodes.old) e (hop_of hop.now) stamp.now.id }
+{
+    let child = child_of(nodes, at, hop).unwrap();
+    match hop {
+        Hop::Field(_) => {
+            mark_node(nodes, at, stamp, Tag::Map);
+            name_node(nodes, child);
+        }
+        Hop::Item(_) => mark_node(nodes, at, stamp, Tag::List),
+    }
+    child
+}
+
+/// Puts the stamp's id into the presence of each node of a path, and answers the number of the last.
+pub fn write_path(nodes: &mut [Node], path: &[Hop], stamp: &Stamp, tag: Tag) -> usize
+    requires tree { IsTree nodes.old }
+    requires stamp { IsStamp stamp.now }
+    requires room { HasRoom nodes.old (map hop_of path.now) }
+    ensures links { SameLinks nodes.old nodes.new }
+    ensures register_room { (i : ℕ) → register_room (slice_get nodes.old i) ≤ register_room (slice_get nodes.new i) }
+    ensures deeper { (e : Element) → length path.now < depth e → 0 < presence_room (node_at nodes.old e) → 0 < presence_room (node_at nodes.new e) }
+    ensures beside { AreBeside stamp.now.table.now nodes.old → AreBeside stamp.now.table.now nodes.new }
+    ensures inside { result < length nodes.new }
+    ensures at { number nodes.old (end_of (map hop_of path.now)) ≡ Some result }
+    ensures written { context nodes.new ≡ mark (entered (context nodes.old) (end_of (map hop_of path.now)) stamp.now.id) (end_of (map hop_of path.now)) stamp.now.id (tag_of tag) }
+{
+    let mut at = 0;
+    for hop in path {
+        at = enter(nodes, at, hop, stamp);
+    }
+    mark_node(nodes, at, stamp, tag);
+    at
+}
+
+/// Puts a scalar into a node's register.
+fn put_register(nodes: &mut [Node], at: usize, stamp: &Stamp, scalar: Scalar)
+    requires tree { IsTree nodes.old }
+    requires stamp { IsStamp stamp.now }
+    requires inside { at < length nodes.old }
+    requires room { 0 < register_room (slice_get nodes.old at) }
+    ensures links { SameLinks nodes.old nodes.new }
+    ensures beside { AreBeside stamp.now.table.now nodes.old → AreBeside stamp.now.table.now nodes.new }
+    ensures written { (e : Element) → number nodes.old e ≡ Some at → context nodes.new ≡ registered (context nodes.old) e stamp.now.id (Some (scalar_of scalar)) }
+{
+    let node = &mut nodes[at];
+    node.register.put(stamp.id, stamp.index(), scalar);
+}
+
+/// Puts a scalar, if there is one, into a node's register.
+fn put_scalar(nodes: &mut [Node], at: usize, stamp: &Stamp, scalar: Option<Scalar>)
+    requires tree { IsTree nodes.old }
+    requires stamp { IsStamp stamp.now }
+    requires beside { AreBeside stamp.now.table.now nodes.old }
+    requires inside { at < length nodes.old }
+    requires room { IsSome scalar → 0 < register_room (slice_get nodes.old at) }
+    ensures tree { IsTree nodes.new }
+    ensures beside { AreBeside stamp.now.table.now nodes.new }
+    ensures written { (e : Element) → number nodes.old e ≡ Some at → context nodes.new ≡ registered (context nodes.old) e stamp.now.id (option_map scalar_of scalar) }
+{
+    if let Some(scalar) = scalar {
+        put_register(nodes, at, stamp, scalar);
+    }
+}
+
+/// Writes an operation's id and scalar at a node.
+pub fn settle(nodes: &mut [Node], at: usize, stamp: &Stamp, tag: Tag, scalar: Option<Scalar>)
+    requires tree { IsTree nodes.old }
+    requires stamp { IsStamp stamp.now }
+    requires beside { AreBeside stamp.now.table.now nodes.old }
+    requires inside { at < length nodes.old }
+    requires room { 0 < presence_room (slice_get nodes.old at) }
+    requires register { IsSome scalar → 0 < register_room (slice_get nodes.old at) }
+    ensures tree { IsTree nodes.new }
+    ensures beside { AreBeside stamp.now.table.now nodes.new }
+    ensures settled { (e : Element) → number nodes.old e ≡ Some at → context nodes.new ≡ registered (mark (context nodes.old) e stamp.now.id (tag_of tag)) e stamp.now.id (option_map scalar_of scalar) }
+{
+    mark_node(nodes, at, stamp, tag);
+    put_scalar(nodes, at, stamp, scalar);
+}
+
+/// Clears what stands at the end of a path, and writes there.
+pub fn assign(nodes: &mut [Node], path: &[Hop], stamp: &Stamp, tag: Tag, scalar: Option<Scalar>)
+    requires tree { IsTree nodes.old }
+    requires stamp { IsStamp stamp.now }
+    requires beside { AreBeside stamp.now.table.now nodes.old }
+    requires room { HasRoom nodes.old (map hop_of path.now) }
+    requires register { IsSome scalar → 0 < register_room (node_at nodes.old (end_of (map hop_of path.now))) }
+    ensures tree { IsTree nodes.new }
+    ensures beside { AreBeside stamp.now.table.now nodes.new }
+    ensures assigned { context nodes.new ≡ assigned (context nodes.old) stamp.now.id (deps_of stamp.now) (end_of (map hop_of path.now)) (tag_of tag) (option_map scalar_of scalar) }
+{
+    clear_at(nodes, path, stamp);
+    let at = write_path(nodes, path, stamp, tag);
+    put_scalar(nodes, at, stamp, scalar);
+}
