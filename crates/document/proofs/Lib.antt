@@ -1,5 +1,3 @@
 -- Lemmas on documents.
-pub mod Ranks
-pub mod Registers
-pub mod KeptNext
 pub mod KeptFacts
+pub mod MissingOps

@@ -1,80 +1,70 @@
 -- What contracts see of a document, of questions and of readings.
-use Rattle.std.specs.Prelude.{◌≡◌, ℕ, ◌<◌, List, [], ◌∷◌, map, reverse, length, Option, Some, None, IsTrue}
-use Rattle.std.specs.FinMap.{find, is_sorted}
-use Rattle.ids.specs.declared.id.OpId.{OpId}
+use Rattle.std.specs.Prelude.{◌≡◌, ℕ, ◌<◌, ⊤, List, map, reverse, length}
 use Rattle.ids.specs.Members.{AreDistinct}
-use Rattle.semantics.specs.Elements.{Name, name_cmp, Doc, Field, Place, At, Scalar as TheScalar}
-use Rattle.semantics.specs.NamedIds.{greatest_counter}
-use Rattle.semantics.specs.Questions.{Question as TheQuestion, Values as AskValues, Answer, ValuesAre}
 use Rattle.semantics.specs.Context.{doc}
-use Rattle.semantics.specs.Tables.{component}
-use Rattle.semantics.specs.Stamped.{IsLegalStamped}
-use Rattle.semantics.specs.Entries.{Entry as TheEntry, applied, stamped_in, stamped_of, IsEntryHistory}
-use Rattle.first.specs.declared.scalar.Scalar.{Scalar}
-use Rattle.first.specs.declared.scalar.Val.TheVariants as val
-use Rattle.first.specs.declared.op.Mutation.{Mutation}
-use Rattle.first.specs.declared.op.Mutation.TheVariants as mutation
-use Rattle.first.specs.declared.command.Entry.{Entry}
-use Rattle.first.specs.declared.command.Entry.TheVariants.{Own}
-use Rattle.first.specs.declared.op.Op.{Op}
-use Rattle.first.specs.Meanings.{scalar_of, entry_of}
+use Rattle.semantics.specs.NamedIds.{greatest_counter}
+use Rattle.semantics.specs.Tables.{by_table, component}
+use Rattle.semantics.specs.Stamped.{Stamped, IsLegalStamped, MayFollow}
+use Rattle.semantics.specs.Entries.{Entry as TheEntry, applied, stamped_in, stamped_of as stamped_entries}
+use Rattle.semantics.specs.Questions.{Values as AskValues, Keys as AskKeys, Items as AskItems, Conflicts as AskConflicts, AppliedVector, ValuesAre, KeysAre, ItemsAre, ConflictsAre, VectorIs}
+use Rattle.semantics.specs.LegalAnswer.{Asked, OfDocument, Missing as AskMissing, Reading as TheReading, Answered, MissingAre}
+use Rattle.value.specs.Meanings.{scalar_of}
+use Rattle.cursor.specs.Meanings.{tag_of}
+use Rattle.operation.specs.Meanings.{stamped_of}
+use Rattle.tree.specs.Trees.{Planted, IsReady, document}
 use Rattle.document.specs.declared.question.Question.{Question}
-use Rattle.document.specs.declared.question.Question.TheVariants.{Values}
+use Rattle.document.specs.declared.question.Question.TheVariants.{Values, Keys, Items, Conflicts, Missing, Vector}
 use Rattle.document.specs.declared.question.Reading.{Reading}
 use Rattle.document.specs.declared.question.Reading.TheVariants as reading
-use Rattle.document.specs.declared.written.Written.{Written}
 
--- a document: the table of replicas, the entries with the newest first, how many more fit without memory, and the key that is kept ready for the next one
+-- a document: the table of replicas, the entries with the newest first, how many more fit without memory, and the tree of what they leave
 pub record Kept : Type 0 where
   pub table : List ℕ
   pub entries : List TheEntry
   pub room : ℕ
-  pub spare : Option Name
+  pub tree : Planted
 
--- the entries that stand in a vector, the newest first
-abbrev pub history : List ℕ → List Entry → List TheEntry
-history table entries = reverse (map (entry_of table) entries)
-
--- what is kept ready is the key of the place
-abbrev pub IsSpareFor : Option Name → Place → Type 0
-IsSpareFor None place = ⊥
-IsSpareFor (Some n) place = place ≡ At (Field Doc n)
-
--- an operation at this place can be committed with no memory taken
-pub record HasRoomFor (kept : Kept) (place : Place) : Type 0 where
+-- the operation can be committed with no memory taken
+pub record HasRoomFor (kept : Kept) (s : Stamped) : Type 0 where
   pub room : 0 < kept.room
-  pub spare : IsSpareFor kept.spare place
+  pub ready : IsReady kept.tree s
 
--- the entry may follow the history: it is what its replica made there
+-- the entry's operation may follow the history
 abbrev pub MayFollowEntries : List TheEntry → TheEntry → Type 0
-MayFollowEntries G e = IsEntryHistory (stamped_in e).id.replica (e ∷ G)
+MayFollowEntries G e = MayFollow (applied G) (stamped_in e)
 
--- a question
-abbrev pub question_of : Question → TheQuestion
-question_of (Values expression) = AskValues expression
+-- what is asked, where the counters of a vector stand beside a table
+abbrev pub asked_of : List ℕ → Question → Asked
+asked_of table (Values e) = OfDocument (AskValues e)
+asked_of table (Keys e) = OfDocument (AskKeys e)
+asked_of table (Items e) = OfDocument (AskItems e)
+asked_of table (Conflicts e) = OfDocument (AskConflicts e)
+asked_of table (Missing v) = AskMissing (by_table table v)
+asked_of table Vector = OfDocument AppliedVector
 
--- a reading
-abbrev pub answer_of : Reading → Answer
-answer_of (reading.Values pairs) = ValuesAre (map (λ p. (p.0, scalar_of p.1)) pairs.items)
+-- a vector that is asked about has a counter for each replica of the table
+abbrev pub IsBeside : List ℕ → Question → Type 0
+IsBeside table (Values e) = ⊤
+IsBeside table (Keys e) = ⊤
+IsBeside table (Items e) = ⊤
+IsBeside table (Conflicts e) = ⊤
+IsBeside table (Missing v) = length v ≡ length table
+IsBeside table Vector = ⊤
 
--- the scalar that a mutation writes
-abbrev pub scalar_in : Mutation → Scalar
-scalar_in (mutation.Assign (val.Scalar x)) = x
+-- what a reading says; it has missing operations with the oldest first
+abbrev pub said_by : List ℕ → Reading → TheReading
+said_by table (reading.Values pairs) = Answered (ValuesAre (map (λ p. (p.0, scalar_of p.1)) pairs.items))
+said_by table (reading.Keys keys) = Answered (KeysAre keys.items)
+said_by table (reading.Items ids) = Answered (ItemsAre ids.items)
+said_by table (reading.Conflicts pairs) = Answered (ConflictsAre (map (λ p. (p.0, tag_of p.1)) pairs.items))
+said_by table (reading.Missing ops) = MissingAre (reverse (map (stamped_of table) ops.items))
+said_by table (reading.Vector v) = Answered (VectorIs (by_table table v))
 
--- what an entry writes at its place
-abbrev pub written_of : Entry → Written
-written_of (Own client serial command o) = record { id = o.id; value = scalar_in o.mutation }
-
--- the register in which just this was written
-abbrev pub register_of : Option Written → List (OpId × TheScalar)
-register_of None = []
-register_of (Some w) = (w.id, scalar_of w.value) ∷ []
-
--- the column has the greatest counter of each replica, and the fields are the registers of the history's document
-pub record IsKept (table column : List ℕ) (G : List TheEntry) (fields : List (Name × Written)) : Type 0 where
+-- the column has the greatest counter of each replica in a legal history, and the tree holds the history's document
+pub record IsKept (table column : List ℕ) (G : List TheEntry) (t : Planted) : Type 0 where
   pub distinct : AreDistinct table
   pub width : length column ≡ length table
   pub greatest : (p : ℕ) → component table column p ≡ greatest_counter (applied G) p
-  pub legal : IsLegalStamped (stamped_of G)
-  pub sorted : IsTrue (is_sorted name_cmp fields)
-  pub registers : (n : Name) → (doc (applied G)).register (Field Doc n) ≡ register_of (find name_cmp n fields)
+  pub legal : IsLegalStamped (stamped_entries G)
+  pub beside : t.table ≡ table
+  pub content : document t ≡ doc (applied G)

@@ -1,3 +1,2 @@
 -- What a document holds, and what it answers.
-pub mod Rank
 pub mod Documents

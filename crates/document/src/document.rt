@@ -1,55 +1,58 @@
-//! The history of a replica, with what it leaves at each key.
+//! The history of a replica, with the document that it leaves.
 
-ghost use Rattle.std.specs.Prelude.{◌≡◌, ◌≤◌, ◌⊎◌, ◌↔◌, ◌∷◌, [], List, true, IsTrue, IsFalse, length, IfOk, OnOk, IfErr, Err};
+ghost use Rattle.std.specs.Prelude.{◌≡◌, ◌≤◌, ◌⊎◌, ◌↔◌, ◌∷◌, [], List, Ok, true, IsTrue, IsFalse, length, map, reverse, IfOk, OnOk, IfErr, Err};
 ghost use Rattle.ids.specs.declared.refusal.Refusal.TheVariants.{NoMemory, BadConfig};
-ghost use Rattle.ids.specs.Members.{AreDistinct, in_order, is_member};
+ghost use Rattle.ids.specs.Members.{in_order, is_member};
 ghost use Rattle.ids.specs.Configurations.{are_members};
 ghost use Rattle.semantics.specs.NamedIds.{vector_of};
 ghost use Rattle.semantics.specs.Tables.{by_table, greatest_in};
 ghost use Rattle.semantics.specs.LegalHistory.{greatest_of};
-ghost use Rattle.semantics.specs.Entries.{applied, stamped_in};
-ghost use Rattle.semantics.specs.DocumentAnswer.{document_answer};
-ghost use Rattle.semantics.specs.Questions.{Question as TheQuestion};
+ghost use Rattle.semantics.specs.Context.{doc};
+ghost use Rattle.semantics.specs.Elements.{At, Element};
+ghost use Rattle.semantics.specs.Operations.{element_of};
+ghost use Rattle.semantics.specs.Entries.{applied, missing, stamped_in, stamped_of as stamped_entries};
+ghost use Rattle.semantics.specs.DocumentAnswer.{document_answer, visible_items};
+ghost use Rattle.semantics.specs.Questions.{answer_at, resolve, Answer, Question as TheQuestion, Refused};
+ghost use Rattle.semantics.specs.LegalAnswer.{reading_of, Answered, OfDocument};
 ghost use Rattle.semantics.specs.View.{view};
-ghost use Rattle.first.specs.Meanings.{entry_of};
+ghost use Rattle.operation.specs.Meanings.{entry_of, op_in, stamped_of};
+ghost use Rattle.oplog.specs.Logs.{history};
 
-use crate::fields::{get_in, put_in};
+use crate::answer::answer;
 use crate::question::{Question, Reading};
-use crate::written::Written;
-use first::{Entry, Op};
+use cursor::{Expr, Place};
 use ids::{Refusal, ReplicaTable};
+use operation::{Entry, Op};
+use oplog::Log;
 use std::alloc::Global;
 use std::marker::Model;
-use value::Key;
+use tree::Tree;
 use version::VersionVector;
 
 /// A replica's history and its content. Contracts see the table of replicas and the entries, the newest first.
 #[derive(Debug, Drop)]
 pub struct Document {
-    table: ReplicaTable,
+    log: Log,
     applied: VersionVector,
-    entries: Vec<Entry>,
-    fields: Vec<(Key, Written)>,
-    spare: Option<Key>,
+    tree: Tree,
 }
 
 impl Model for Document {
-    ghost use Rattle.std.specs.Prelude.{min, ◌-◌, vec_len, vec_capacity};
     ghost use Rattle.std.specs.Coded.{codes};
     ghost use Rattle.semantics.specs.Codes.{coded_element};
-    ghost use Rattle.document.specs.Documents.{Kept, IsKept, history};
+    ghost use Rattle.document.specs.Documents.{Kept, IsKept};
 
     ghost Value = { Kept };
 
     ghost coded = { Prim.hlevel (codes, coded_element) };
 
-    ghost view = { λ d. record { table = d.table; entries = history d.table d.entries.items; room = min (vec_capacity d.entries - vec_len d.entries) (vec_capacity d.fields - vec_len d.fields); spare = d.spare } };
+    ghost view = { λ d. record { table = d.log.table; entries = d.log.entries; room = d.log.room; tree = d.tree } };
 
-    ghost invariant = { λ d. IsKept d.table d.applied (history d.table d.entries.items) d.fields.items };
+    ghost invariant = { λ d. IsKept d.log.table d.applied d.log.entries d.tree };
 }
 
 impl Document {
-    ghost use Rattle.document.specs.Documents.{HasRoomFor, MayFollowEntries, history, question_of, answer_of};
+    ghost use Rattle.document.specs.Documents.{HasRoomFor, IsBeside, MayFollowEntries, asked_of, said_by};
 
     /// A document with no history, of a replica with these members.
     ///
@@ -63,26 +66,25 @@ impl Document {
     {
         let table = ReplicaTable::new(alloc, members)?;
         let applied = VersionVector::zero(alloc, table.len())?;
+        let tree = Tree::new(alloc, &table)?;
         Ok(Document {
-            table,
+            log: Log::new(alloc, table),
             applied,
-            entries: Vec::new(alloc),
-            fields: Vec::new(alloc),
-            spare: None,
+            tree,
         })
     }
 
     pub fn table(&self) -> &ReplicaTable
         ensures { result.now ≡ self.now.table }
     {
-        &self.table
+        self.log.table()
     }
 
     /// How many entries the history has.
     pub fn len(&self) -> usize
         ensures { result ≡ length self.now.entries }
     {
-        self.entries.len()
+        self.log.len()
     }
 
     /// The greatest counter of each replica, beside the table.
@@ -95,74 +97,68 @@ impl Document {
         &self.applied
     }
 
+    /// The place that an expression leads to.
+    ///
+    /// # Errors
+    /// As the rules have it: `AtHead` for a step from a head, `TooDeep` for one from an element 32 keys deep, `PastEnd` where the list has fewer visible items. Or `NoMemory` where a growth was refused.
+    pub fn resolve(&self, alloc: Global, expression: &Expr) -> Result<Place, Refusal>
+        ensures ok { IfOk result (λ p. resolve (visible_items (doc (applied self.now.entries))) expression.now ≡ Ok p) }
+        ensures err { IfErr result (λ why. (why ≡ NoMemory) ⊎ (resolve (visible_items (doc (applied self.now.entries))) expression.now ≡ Err why)) }
+    {
+        self.tree.resolve(alloc, expression)
+    }
+
     /// Takes the memory that committing this operation needs, and changes no content.
     ///
     /// # Errors
     /// `NoMemory` where a growth was refused.
-    pub fn reserve(&mut self, op: &Op) -> Result<(), Refusal>
+    pub fn reserve(&mut self, alloc: Global, op: &Op) -> Result<(), Refusal>
         ensures table { self.new.table ≡ self.old.table }
         ensures entries { self.new.entries ≡ self.old.entries }
-        ensures room { OnOk result (HasRoomFor self.new op.now.place) }
+        ensures room { OnOk result (HasRoomFor self.new (stamped_of self.new.table op.now)) }
         ensures err { IfErr result (λ why. why ≡ NoMemory) }
     {
-        let key = op.place.key().clone()?;
-        self.entries.reserve(1)?;
-        self.fields.reserve(1)?;
-        self.spare = Some(key);
+        self.log.reserve_one()?;
+        self.tree.reserve(alloc, op)?;
         Ok(())
     }
 
-    /// Appends an entry for which there is room. Takes no memory; a new key moves each greater one.
+    /// Appends an entry for which there is room, and whose vector stands beside the table. Takes no memory.
     pub fn commit(&mut self, entry: Entry)
-        requires room { HasRoomFor self.old (stamped_in (entry_of self.old.table entry)).place }
+        requires room { HasRoomFor self.old (stamped_in (entry_of self.old.table entry)) }
         requires lawful { MayFollowEntries self.old.entries (entry_of self.old.table entry) }
         requires member { IsTrue (is_member self.old.table (stamped_in (entry_of self.old.table entry)).id.replica) }
+        requires width { length (op_in entry).deps ≡ length self.old.table }
         ensures table { self.new.table ≡ self.old.table }
         ensures entries { self.new.entries ≡ entry_of self.old.table entry ∷ self.old.entries }
     {
-        let written = Written::by(&entry);
-        let id = written.id;
-        let Some(place) = self.table.index_of(id.replica) else {
+        let op = entry.op();
+        let id = op.id;
+        let Some(index) = self.log.table().index_of(id.replica) else {
             unreachable!()
         };
-        let Some(key) = self.spare.take() else {
-            unreachable!()
-        };
-        self.applied.raise(place, id.counter);
-        put_in(&mut self.fields, key, written);
-        self.entries.push_reserved(entry);
+        self.tree.apply(op);
+        self.applied.raise(index, id.counter);
+        self.log.push(entry);
     }
 
-    /// The answer to a question: the document's, which is the view of its operations as a set. Looks a key up by halves, and copies what it answers.
+    /// The answer to a question: the history's, which for a question to the document is the view of its operations as a set. Copies what it answers.
     ///
     /// # Errors
-    /// `NoMemory` where a growth was refused.
+    /// The refusal of the expression, as the rules have it: those of `resolve`, and `AtHead` where it leads to a head. Or `NoMemory` where a growth was refused.
     pub fn ask(&self, alloc: Global, question: &Question) -> Result<Reading, Refusal>
-        ensures answer { IfOk result (λ r. answer_of r ≡ document_answer (applied self.now.entries) (question_of question.now)) }
-        ensures view { IfOk result (λ r. answer_of r ≡ view (applied self.now.entries) (question_of question.now)) }
-        ensures err { IfErr result (λ why. why ≡ NoMemory) }
+        requires { IsBeside self.now.table question.now }
+        ensures answer { IfOk result (λ r. said_by self.now.table r ≡ reading_of self.now.entries (asked_of self.now.table question.now)) }
+        ensures view { IfOk result (λ r. (q : TheQuestion) → asked_of self.now.table question.now ≡ OfDocument q → said_by self.now.table r ≡ Answered (view (applied self.now.entries) q)) }
+        ensures err { IfErr result (λ why. (why ≡ NoMemory) ⊎ (reading_of self.now.entries (asked_of self.now.table question.now) ≡ Answered (Refused why))) }
     {
-        self.answer(alloc, question)
-    }
-
-    // The document's answer; and that the document of this history answers what the view does.
-    fn answer(&self, alloc: Global, question: &Question) -> Result<Reading, Refusal>
-        ensures answer { IfOk result (λ r. answer_of r ≡ document_answer (applied self.now.entries) (question_of question.now)) }
-        ensures same { (q : TheQuestion) → document_answer (applied self.now.entries) q ≡ view (applied self.now.entries) q }
-        ensures err { IfErr result (λ why. why ≡ NoMemory) }
-    {
-        let Question::Values(expression) = question;
-        let mut values = Vec::new(alloc);
-        if let Some(written) = get_in(&self.fields, expression.key()) {
-            values.push((written.id, written.value))?;
-        }
-        Ok(Reading::Values(values))
+        answer(alloc, &self.log, &self.applied, &self.tree, question)
     }
 
     /// The entries, the oldest first. Takes no memory.
     pub fn into_entries(self) -> Vec<Entry>
         ensures { history self.table result.items ≡ self.entries }
     {
-        self.entries
+        self.log.into_entries()
     }
 }

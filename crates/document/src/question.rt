@@ -1,17 +1,41 @@
 //! Questions to a document, and what it answers.
 
-use first::{Expr, Scalar};
+use cursor::{Expr, Tag};
 use ids::OpId;
+use operation::Op;
+use value::{Key, Scalar};
+use version::VersionVector;
 
-/// A question to a document; for now for the values at an element.
+/// A question to a document.
 #[derive(Debug, Drop)]
 pub enum Question {
+    /// For what stands in the register at the element.
     Values(Expr),
+    /// For the keys of the map at the element.
+    Keys(Expr),
+    /// For the items of the list at the element.
+    Items(Expr),
+    /// For what stands at the element, and as what.
+    Conflicts(Expr),
+    /// For the operations that the vector doesn't cover; it stands beside the document's table.
+    Missing(VersionVector),
+    /// For all that was applied.
+    Vector,
 }
 
-/// What a document answers.
+/// What a document answers. Vectors stand beside its table.
 #[derive(Debug, Drop)]
 pub enum Reading {
-    /// The register's values with the ids of the operations that wrote them, rising by id.
+    /// The values with the ids of the operations that wrote them, rising by id.
     Values(Vec<(OpId, Scalar)>),
+    /// The keys at which something stands, rising by bytes.
+    Keys(Vec<Key>),
+    /// The ids of the visible items, in list order.
+    Items(Vec<OpId>),
+    /// The ids of what stands there, each with its tag, rising by id.
+    Conflicts(Vec<(OpId, Tag)>),
+    /// The operations, the oldest first.
+    Missing(Vec<Op>),
+    /// For each replica the greatest counter that was applied.
+    Vector(VersionVector),
 }

@@ -1,11 +1,16 @@
 -- A list of another length than a form has is no such form.
-use Rattle.std.proofs.Common.{◌≡◌, ◌≢◌, List, [], ◌∷◌, length, Err, refl}
+use Rattle.std.proofs.Common.{◌≡◌, ◌≢◌, ℕ, Some, List, [], ◌∷◌, length, Err, refl}
 use Rattle.std.proofs.lemmas.Bool.{ltb-true, ltb-false}
 use Rattle.ids.specs.declared.refusal.Refusal.TheVariants.{BadLine}
 use Rattle.serde_json.specs.declared.value.Value.{Value}
 use Rattle.serde_json.specs.View.{items_view}
 use Rattle.jdoc.specs.Engines.{engine_of, engines_of, only_engine}
-use Rattle.jdoc.specs.Steps.{only_step, assign_of, values_of, push_of, step_of, poll_of, ask_of}
+use Rattle.semantics.specs.Elements.{Value as TheValue}
+use Rattle.semantics.specs.Operations.{Mutation}
+use Rattle.semantics.specs.Questions.{Step, Question}
+use Rattle.jdoc.specs.Requests.{applied_of, asking_of, delete_of, missing_of, writing_of}
+use Rattle.jdoc.specs.Steps.{push_of, whole_of, poll_of, ask_of}
+use Rattle.jdoc.specs.Vectors.{pair_of}
 
 pub engine_of-wrong_length : (xs : List Value) → length xs ≢ 7 → engine_of (items_view xs) ≡ Err BadLine
 engine_of-wrong_length [] h = refl
@@ -28,21 +33,36 @@ engines_of-wrong_length [] h = refl
 engines_of-wrong_length (a ∷ []) h = absurd (h refl)
 engines_of-wrong_length (a ∷ b ∷ xs) h = refl
 
-pub only_step-wrong_length : (xs : List Value) → length xs ≢ 1 → only_step (items_view xs) ≡ Err BadLine
-only_step-wrong_length [] h = refl
-only_step-wrong_length (a ∷ []) h = absurd (h refl)
-only_step-wrong_length (a ∷ b ∷ xs) h = refl
+pub pair_of-wrong_length : (xs : List Value) → length xs ≢ 2 → pair_of (items_view xs) ≡ Err BadLine
+pair_of-wrong_length [] h = refl
+pair_of-wrong_length (a ∷ []) h = refl
+pair_of-wrong_length (a ∷ b ∷ []) h = absurd (h refl)
+pair_of-wrong_length (a ∷ b ∷ d ∷ xs) h = refl
 
-pub assign_of-wrong_length : (xs : List Value) → length xs ≢ 2 → assign_of (items_view xs) ≡ Err BadLine
-assign_of-wrong_length [] h = refl
-assign_of-wrong_length (a ∷ []) h = refl
-assign_of-wrong_length (a ∷ b ∷ []) h = absurd (h refl)
-assign_of-wrong_length (a ∷ b ∷ d ∷ xs) h = refl
+pub writing_of-wrong_length : (how : TheValue → Mutation) → (xs : List Value) → length xs ≢ 2 → writing_of how (items_view xs) ≡ Err BadLine
+writing_of-wrong_length how [] h = refl
+writing_of-wrong_length how (a ∷ []) h = refl
+writing_of-wrong_length how (a ∷ b ∷ []) h = absurd (h refl)
+writing_of-wrong_length how (a ∷ b ∷ d ∷ xs) h = refl
 
-pub values_of-wrong_length : (xs : List Value) → length xs ≢ 1 → values_of (items_view xs) ≡ Err BadLine
-values_of-wrong_length [] h = refl
-values_of-wrong_length (a ∷ []) h = absurd (h refl)
-values_of-wrong_length (a ∷ b ∷ xs) h = refl
+pub delete_of-wrong_length : (xs : List Value) → length xs ≢ 1 → delete_of (items_view xs) ≡ Err BadLine
+delete_of-wrong_length [] h = refl
+delete_of-wrong_length (a ∷ []) h = absurd (h refl)
+delete_of-wrong_length (a ∷ b ∷ xs) h = refl
+
+pub asking_of-wrong_length : (what : List Step → Question) → (xs : List Value) → length xs ≢ 1 → asking_of what (items_view xs) ≡ Err BadLine
+asking_of-wrong_length what [] h = refl
+asking_of-wrong_length what (a ∷ []) h = absurd (h refl)
+asking_of-wrong_length what (a ∷ b ∷ xs) h = refl
+
+pub missing_of-wrong_length : (table : List ℕ) → (xs : List Value) → length xs ≢ 1 → missing_of (Some table) (items_view xs) ≡ Err BadLine
+missing_of-wrong_length table [] h = refl
+missing_of-wrong_length table (a ∷ []) h = absurd (h refl)
+missing_of-wrong_length table (a ∷ b ∷ xs) h = refl
+
+pub applied_of-wrong_length : (xs : List Value) → length xs ≢ 0 → applied_of (items_view xs) ≡ Err BadLine
+applied_of-wrong_length [] h = absurd (h refl)
+applied_of-wrong_length (a ∷ xs) h = refl
 
 pub push_of-wrong_length : (xs : List Value) → length xs ≢ 3 → push_of (items_view xs) ≡ Err BadLine
 push_of-wrong_length [] h = refl
@@ -51,10 +71,10 @@ push_of-wrong_length (a ∷ b ∷ []) h = refl
 push_of-wrong_length (a ∷ b ∷ d ∷ []) h = absurd (h refl)
 push_of-wrong_length (a ∷ b ∷ d ∷ e ∷ xs) h = refl
 
-pub step_of-wrong_length : (xs : List Value) → length xs ≢ 1 → step_of (items_view xs) ≡ Err BadLine
-step_of-wrong_length [] h = refl
-step_of-wrong_length (a ∷ []) h = absurd (h refl)
-step_of-wrong_length (a ∷ b ∷ xs) h = refl
+pub whole_of-wrong_length : (xs : List Value) → length xs ≢ 1 → whole_of (items_view xs) ≡ Err BadLine
+whole_of-wrong_length [] h = refl
+whole_of-wrong_length (a ∷ []) h = absurd (h refl)
+whole_of-wrong_length (a ∷ b ∷ xs) h = refl
 
 pub poll_of-wrong_length : (xs : List Value) → length xs ≢ 3 → poll_of (items_view xs) ≡ Err BadLine
 poll_of-wrong_length [] h = refl
@@ -63,12 +83,12 @@ poll_of-wrong_length (a ∷ b ∷ []) h = refl
 poll_of-wrong_length (a ∷ b ∷ d ∷ []) h = absurd (h refl)
 poll_of-wrong_length (a ∷ b ∷ d ∷ e ∷ xs) h = refl
 
-pub ask_of-wrong_length : (xs : List Value) → length xs ≢ 3 → ask_of (items_view xs) ≡ Err BadLine
-ask_of-wrong_length [] h = refl
-ask_of-wrong_length (a ∷ []) h = refl
-ask_of-wrong_length (a ∷ b ∷ []) h = refl
-ask_of-wrong_length (a ∷ b ∷ d ∷ []) h = absurd (h refl)
-ask_of-wrong_length (a ∷ b ∷ d ∷ e ∷ xs) h = refl
+pub ask_of-wrong_length : (tables : List (List ℕ)) → (xs : List Value) → length xs ≢ 3 → ask_of tables (items_view xs) ≡ Err BadLine
+ask_of-wrong_length tables [] h = refl
+ask_of-wrong_length tables (a ∷ []) h = refl
+ask_of-wrong_length tables (a ∷ b ∷ []) h = refl
+ask_of-wrong_length tables (a ∷ b ∷ d ∷ []) h = absurd (h refl)
+ask_of-wrong_length tables (a ∷ b ∷ d ∷ e ∷ xs) h = refl
 
 -- with what a pattern of a slice tests of its length
 pub ruleset wrong_lengths = (
@@ -77,11 +97,14 @@ pub ruleset wrong_lengths = (
   engine_of-wrong_length,
   only_engine-wrong_length,
   engines_of-wrong_length,
-  only_step-wrong_length,
-  assign_of-wrong_length,
-  values_of-wrong_length,
+  pair_of-wrong_length,
+  writing_of-wrong_length,
+  delete_of-wrong_length,
+  asking_of-wrong_length,
+  missing_of-wrong_length,
+  applied_of-wrong_length,
   push_of-wrong_length,
-  step_of-wrong_length,
+  whole_of-wrong_length,
   poll_of-wrong_length,
   ask_of-wrong_length,
 )

@@ -1,5 +1,5 @@
 -- What a line of a script and its parts are, as JSON. A part that has no such form is `BadLine`.
-use Rattle.std.specs.Prelude.{◌≡◌, ◌⊎◌, ℕ, List, option_and_then, Result, Ok, Err, if◌then◌else◌}
+use Rattle.std.specs.Prelude.{◌≡◌, ◌⊎◌, ℕ, List, option_and_then, Result, MatchResult, Ok, Err, if◌then◌else◌}
 use Rattle.std.specs.Option.{ok_or}
 use Rattle.std.specs.Str.{is_utf8}
 use Rattle.ids.specs.declared.refusal.Refusal.{Refusal}
@@ -11,6 +11,10 @@ use Rattle.serde_json.specs.Read.{read}
 -- this answer, or want of memory
 abbrev pub IsUnlessMemory : {T : Type 0} → Result T Refusal → Result T Refusal → Type 0
 IsUnlessMemory r wanted = (r ≡ wanted) ⊎ (r ≡ Err NoMemory)
+
+-- what was read means what is wanted, or a refusal is the one that is wanted, or want of memory
+abbrev pub IsRead : {T U : Type 0} → (T → U) → Result T Refusal → Result U Refusal → Type 0
+IsRead meaning r wanted = MatchResult r (λ x. wanted ≡ Ok (meaning x)) (λ why. IsUnlessMemory (Err why) wanted)
 
 -- the next answer, unless this one is a refusal
 abbrev pub and_then : {A B : Type 0} → (A → Result B Refusal) → Result A Refusal → Result B Refusal

@@ -1,63 +1,73 @@
 -- What a step replies, as JSON and as a printed line.
-use Rattle.std.specs.Prelude.{ℕ, List, [], ◌∷◌, ◌++◌, codes, decimal, map}
+use Rattle.std.specs.Prelude.{ℕ, List, [], ◌∷◌, ◌++◌, codes, decimal, map, reverse}
 use Rattle.ids.specs.Refusals.{number_of}
 use Rattle.ids.specs.declared.id.OpId.{OpId}
 use Rattle.ids.specs.declared.refusal.Refusal.{Refusal}
-use Rattle.first.specs.declared.scalar.Scalar.{Scalar}
-use Rattle.first.specs.declared.scalar.Scalar.TheVariants.{Whole}
-use Rattle.document.specs.declared.question.Reading.{Reading}
-use Rattle.document.specs.declared.question.Reading.TheVariants as reading
-use Rattle.world.specs.declared.step.Reply.{Reply}
-use Rattle.world.specs.declared.step.Reply.TheVariants.{Made, Refused}
-use Rattle.world.specs.declared.step.WorldReply.{WorldReply}
-use Rattle.world.specs.declared.step.WorldReply.TheVariants.{Ticket, Denied, Published, Idle, Unanswered, Replied, Read}
-use Rattle.serde_json.specs.Data.{Data, number, string, array, unsigned, item}
-use Rattle.serde_json.specs.Find.{of_integer}
+use Rattle.semantics.specs.Elements.{Scalar, Tag, AsRegister, AsMap, AsList}
+use Rattle.semantics.specs.Questions.{Answer, ValuesAre, KeysAre, ItemsAre, ConflictsAre, VectorIs, Refused}
+use Rattle.semantics.specs.LegalAnswer.{Reply, Made, NotMade, Reading, Answered, MissingAre}
+use Rattle.semantics.specs.Engine.{StepReply, Ticket, Denied, Took, Published, Gave, Idle, Unanswered, Replied, Read}
+use Rattle.serde_json.specs.Data.{Data, string, array}
 use Rattle.serde_json.specs.View.{items_of}
 use Rattle.serde_json.specs.Written.{compact_text}
-
--- a list of a word and other parts
-abbrev pub phrase : List ℕ → List Data → Data
-phrase word parts = array (item (string word) (items_of parts))
-
-abbrev pub count : ℕ → Data
-count n = number (unsigned n)
-
--- counter and replica
-abbrev pub id_json : OpId → Data
-id_json id = array (items_of (count id.counter ∷ count id.replica ∷ []))
-
-abbrev pub scalar_json : Scalar → Data
-scalar_json (Whole whole) = number (of_integer whole)
-
--- an id with its value
-abbrev pub row_json : OpId × Scalar → Data
-row_json v = array (items_of (id_json v.0 ∷ scalar_json v.1 ∷ []))
-
-abbrev pub rows_json : List (OpId × Scalar) → Data
-rows_json vs = array (items_of (map row_json vs))
-
-abbrev pub reading_json : Reading → Data
-reading_json (reading.Values values) = rows_json values.items
+use Rattle.value.specs.Forms.{scalar_json}
+use Rattle.jdoc.specs.Operations.{id_json, operation_json, phrase}
+use Rattle.jdoc.specs.Vectors.{count, vector_json}
 
 -- as `E22`
 abbrev pub refusal_name : Refusal → List ℕ
 refusal_name why = codes "E" ++ decimal (number_of why)
 
+-- ---- readings
+
+-- as what something stands
+abbrev pub tag_name : Tag → List ℕ
+tag_name AsMap = codes "map"
+tag_name AsList = codes "list"
+tag_name AsRegister = codes "reg"
+
+-- an id with its value
+abbrev pub row_json : OpId × Scalar → Data
+row_json v = array (items_of (id_json v.0 ∷ scalar_json v.1 ∷ []))
+
+-- an id with its tag
+abbrev pub conflict_json : OpId × Tag → Data
+conflict_json x = array (items_of (id_json x.0 ∷ string (tag_name x.1) ∷ []))
+
+-- what a token that has seen so many entries is answered
+abbrev pub answer_json : ℕ → Answer → Data
+answer_json seen (ValuesAre vs) = phrase (codes "reading") (count seen ∷ array (items_of (map row_json vs)) ∷ [])
+answer_json seen (KeysAre names) = phrase (codes "reading") (count seen ∷ array (items_of (map string names)) ∷ [])
+answer_json seen (ItemsAre ids) = phrase (codes "reading") (count seen ∷ array (items_of (map id_json ids)) ∷ [])
+answer_json seen (ConflictsAre xs) = phrase (codes "reading") (count seen ∷ array (items_of (map conflict_json xs)) ∷ [])
+answer_json seen (VectorIs v) = phrase (codes "reading") (count seen ∷ vector_json v ∷ [])
+answer_json seen (Refused why) = phrase (codes "refused") (string (refusal_name why) ∷ count seen ∷ [])
+
+-- missing operations are printed with the oldest first
+abbrev pub reading_json : ℕ → Reading → Data
+reading_json seen (Answered a) = answer_json seen a
+reading_json seen (MissingAre ss) = phrase (codes "reading") (count seen ∷ array (items_of (map operation_json (reverse ss))) ∷ [])
+
+-- ---- replies
+
+-- the answer to a command
 abbrev pub reply_json : Reply → Data
 reply_json (Made id place) = phrase (codes "made") (id_json id ∷ count place ∷ [])
-reply_json (Refused why length) = phrase (codes "refused") (string (refusal_name why) ∷ count length ∷ [])
+reply_json (NotMade why length) = phrase (codes "refused") (string (refusal_name why) ∷ count length ∷ [])
 
-abbrev pub world_reply_json : WorldReply → Data
-world_reply_json (Ticket serial) = phrase (codes "ticket") (count serial ∷ [])
-world_reply_json (Denied why) = phrase (codes "refused") (string (refusal_name why) ∷ [])
-world_reply_json (Published items) = phrase (codes "published") (count items ∷ [])
-world_reply_json Idle = phrase (codes "idle") []
-world_reply_json Unanswered = phrase (codes "none") []
-world_reply_json (Replied reply) = reply_json reply
-world_reply_json (Read seen answer) = phrase (codes "reading") (count seen ∷ reading_json answer ∷ [])
+-- what a step replies
+abbrev pub step_reply_json : StepReply → Data
+step_reply_json (Ticket serial) = phrase (codes "ticket") (count serial ∷ [])
+step_reply_json (Denied why) = phrase (codes "refused") (string (refusal_name why) ∷ [])
+step_reply_json Took = phrase (codes "took") []
+step_reply_json (Published items) = phrase (codes "published") (count items ∷ [])
+step_reply_json (Gave client serial) = phrase (codes "gave") (count client ∷ count serial ∷ [])
+step_reply_json Idle = phrase (codes "idle") []
+step_reply_json Unanswered = phrase (codes "none") []
+step_reply_json (Replied reply) = reply_json reply
+step_reply_json (Read seen reading) = reading_json seen reading
 
 -- one line of JSON without spaces for each reply, each ended by a line feed
-abbrev pub reply_text : List WorldReply → List ℕ
+abbrev pub reply_text : List StepReply → List ℕ
 reply_text [] = []
-reply_text (r ∷ rs) = compact_text (world_reply_json r) ++ 10 ∷ reply_text rs
+reply_text (r ∷ rs) = compact_text (step_reply_json r) ++ 10 ∷ reply_text rs

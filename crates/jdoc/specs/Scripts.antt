@@ -3,7 +3,7 @@ use Rattle.std.specs.Prelude.{ℕ, ◌+◌, List, [], ◌∷◌, Result, Ok, Err
 use Rattle.ids.specs.Configurations.{Configuration}
 use Rattle.ids.specs.declared.refusal.Refusal.{Refusal}
 use Rattle.ids.specs.declared.refusal.Refusal.TheVariants.{BadLine}
-use Rattle.world.specs.declared.step.WorldStep.{WorldStep}
+use Rattle.semantics.specs.World.{WorldStep}
 use Rattle.jdoc.specs.Lines.{cut}
 use Rattle.jdoc.specs.Engines.{engine_line}
 use Rattle.jdoc.specs.Steps.{step_line}

@@ -2,15 +2,20 @@
 #![tactic(auto)]
 
 mod configuration;
+mod expressions;
 mod fault;
 mod forms;
 mod lines;
+mod operations;
+mod readings;
 mod replies;
+mod requests;
 mod run;
 mod script;
 mod steps;
 #[cfg(test)]
 mod tests;
+mod vectors;
 mod words;
 
 use fault::Fault;

@@ -1,20 +1,21 @@
 //! What the steps reply, as lines of JSON.
 
-ghost use Rattle.std.specs.Prelude.{◌≡◌, ◌++◌, ◌∷◌, [], IfOk, codes, decimal, string_bytes};
+ghost use Rattle.std.specs.Prelude.{◌≡◌, ◌++◌, ◌∷◌, [], map, IfOk, codes, decimal, string_bytes};
 ghost use Rattle.serde_json.specs.Written.{compact_text};
 ghost use Rattle.serde_json.specs.View.{view};
-ghost use Rattle.jdoc.specs.Replies.{id_json, reading_json, refusal_name, reply_json, reply_text, rows_json, scalar_json, world_reply_json};
+ghost use Rattle.world.specs.Meanings.{answer_to, reply_of};
+ghost use Rattle.jdoc.specs.Replies.{refusal_name, reply_json, reply_text, step_reply_json};
 
-use document::Reading;
-use first::Scalar;
-use ids::{OpId, Refusal};
+use crate::operations::id_value;
+use crate::readings::reading_value;
+use ids::Refusal;
 use serde_json::{Value, json};
 use std::alloc::{AllocError, Global};
 use world::{Reply, WorldReply};
 
 /// The replies, one a line.
 pub fn reply_lines(alloc: Global, replies: &[WorldReply]) -> Result<String, AllocError>
-    ensures { IfOk result (λ s. string_bytes s ≡ reply_text replies.now) }
+    ensures { IfOk result (λ s. string_bytes s ≡ reply_text (map reply_of replies.now)) }
 {
     let mut lines = String::new(alloc);
     for reply in replies {
@@ -26,13 +27,13 @@ pub fn reply_lines(alloc: Global, replies: &[WorldReply]) -> Result<String, Allo
 }
 
 fn reply_line(alloc: Global, reply: &WorldReply) -> Result<String, AllocError>
-    ensures { IfOk result (λ s. string_bytes s ≡ compact_text (world_reply_json reply.now)) }
+    ensures { IfOk result (λ s. string_bytes s ≡ compact_text (step_reply_json (reply_of reply.now))) }
 {
     world_reply(alloc, reply)?.to_string(alloc)
 }
 
 fn world_reply(alloc: Global, reply: &WorldReply) -> Result<Value, AllocError>
-    ensures { IfOk result (λ v. view v ≡ world_reply_json reply.now) }
+    ensures { IfOk result (λ v. view v ≡ step_reply_json (reply_of reply.now)) }
 {
     match reply {
         WorldReply::Ticket(serial) => json!(in alloc; ["ticket", *serial]),
@@ -41,53 +42,26 @@ fn world_reply(alloc: Global, reply: &WorldReply) -> Result<Value, AllocError>
         WorldReply::Idle => json!(in alloc; ["idle"]),
         WorldReply::Unanswered => json!(in alloc; ["none"]),
         WorldReply::Replied(reply) => command_reply(alloc, *reply),
-        WorldReply::Read(seen, reading) => {
-            json!(in alloc; ["reading", *seen, read(alloc, reading)?])
+        WorldReply::Read {
+            seen,
+            table,
+            reading,
+        } => reading_value(alloc, *seen, table, reading),
+        WorldReply::NotRead { seen, why } => {
+            json!(in alloc; ["refused", refusal(alloc, *why)?, *seen])
         }
     }
 }
 
 fn command_reply(alloc: Global, reply: Reply) -> Result<Value, AllocError>
-    ensures { IfOk result (λ v. view v ≡ reply_json reply) }
+    ensures { IfOk result (λ v. view v ≡ reply_json (answer_to reply)) }
 {
     match reply {
-        Reply::Made(id, place) => json!(in alloc; ["made", op_id(alloc, id)?, place]),
+        Reply::Made(id, place) => json!(in alloc; ["made", id_value(alloc, id)?, place]),
         Reply::Refused(why, length) => {
             json!(in alloc; ["refused", refusal(alloc, why)?, length])
         }
     }
-}
-
-fn read(alloc: Global, reading: &Reading) -> Result<Value, AllocError>
-    ensures { IfOk result (λ v. view v ≡ reading_json reading.now) }
-{
-    match reading {
-        Reading::Values(values) => values_read(alloc, values.as_slice()),
-    }
-}
-
-fn values_read(alloc: Global, values: &[(OpId, Scalar)]) -> Result<Value, AllocError>
-    ensures { IfOk result (λ v. view v ≡ rows_json values.now) }
-{
-    let mut list = Vec::new(alloc);
-    for (id, scalar) in values {
-        list.push(json!(in alloc; [op_id(alloc, *id)?, scalar_value(*scalar)])?)?;
-    }
-    Ok(Value::Array(list))
-}
-
-fn scalar_value(scalar: Scalar) -> Value
-    ensures { view result ≡ scalar_json scalar }
-{
-    match scalar {
-        Scalar::Whole(whole) => Value::from(whole),
-    }
-}
-
-fn op_id(alloc: Global, id: OpId) -> Result<Value, AllocError>
-    ensures { IfOk result (λ v. view v ≡ id_json id) }
-{
-    json!(in alloc; [id.counter, id.replica.number()])
 }
 
 /// A refusal as it is printed, as `E22`.

@@ -1,11 +1,13 @@
 //! A whole script: a world and the steps to run in it.
 
-ghost use Rattle.std.specs.Prelude.{◌≡◌, [], ◌∷◌, Ok, IfErr, IfOk, MatchResult, true};
+ghost use Rattle.std.specs.Prelude.{◌≡◌, [], ◌∷◌, map, Ok, IfErr, IfOk, MatchResult, true};
+ghost use Rattle.std.specs.List.{All};
 ghost use Rattle.ids.specs.Configurations.{Configuration, is_within_limits};
 ghost use Rattle.semantics.specs.World.{opened};
-ghost use Rattle.world.specs.Worlds.{world_of};
+ghost use Rattle.world.specs.Worlds.{IsAskedBeside, step_in, tables_of, world_of};
 ghost use Rattle.jdoc.specs.Engines.{if_within_limits};
 ghost use Rattle.jdoc.specs.Faults.{IsFaultOf};
+ghost use Rattle.jdoc.specs.Steps.{tables_for};
 ghost use Rattle.jdoc.specs.Scripts.{on_line, script_form, steps_left, unless_bad};
 
 use crate::configuration::read_engine;
@@ -27,7 +29,8 @@ pub struct Script {
 
 /// Reads a script and checks each line. The first bad line decides.
 pub fn read_script<'a>(alloc: Global, bytes: &[u8]) -> Result<Script, Fault<'a>>
-    ensures ok { IfOk result (λ s. (g : Configuration) × (script_form bytes.now ≡ Ok (g, s.steps.items)) × (world_of s.world ≡ opened (g ∷ []))) }
+    ensures ok { IfOk result (λ s. (g : Configuration) × (script_form bytes.now ≡ Ok (g, map (step_in (tables_of s.world.engines)) s.steps.items)) × (world_of s.world ≡ opened (g ∷ []))) }
+    ensures beside { IfOk result (λ s. All (IsAskedBeside (tables_of s.world.engines)) s.steps.items) }
     ensures err { IfErr result (IsFaultOf (script_form bytes.now)) }
 {
     let mut lines = Lines::new(bytes);
@@ -44,7 +47,8 @@ pub fn read_script<'a>(alloc: Global, bytes: &[u8]) -> Result<Script, Fault<'a>>
 fn open<'a>(alloc: Global, engine: Config, lines: &mut Lines<'_>) -> Result<Script, Fault<'a>>
     ensures allowed { IfOk result (λ s. is_within_limits engine ≡ true) }
     ensures world { IfOk result (λ s. world_of s.world ≡ opened (engine ∷ [])) }
-    ensures steps { IfOk result (λ s. steps_left (engine ∷ []) lines.old.taken lines.old.rest.now ≡ Ok s.steps.items) }
+    ensures steps { IfOk result (λ s. steps_left (engine ∷ []) lines.old.taken lines.old.rest.now ≡ Ok (map (step_in (tables_of s.world.engines)) s.steps.items)) }
+    ensures beside { IfOk result (λ s. All (IsAskedBeside (tables_of s.world.engines)) s.steps.items) }
     ensures err { IfErr result (IsFaultOf (unless_bad (λ g. steps_left (g ∷ []) lines.old.taken lines.old.rest.now) (on_line 1 (if_within_limits engine)))) }
 {
     let engines = [engine];
@@ -60,10 +64,12 @@ fn with_steps<'a>(
     engines: &[Config],
     lines: &mut Lines<'_>,
 ) -> Result<Script, Fault<'a>>
+    requires { tables_of world.engines ≡ tables_for engines.now }
     ensures world { IfOk result (λ s. s.world ≡ world) }
-    ensures steps { MatchResult result (λ s. steps_left engines.now lines.old.taken lines.old.rest.now ≡ Ok s.steps.items) (IsFaultOf (steps_left engines.now lines.old.taken lines.old.rest.now)) }
+    ensures steps { MatchResult result (λ s. steps_left engines.now lines.old.taken lines.old.rest.now ≡ Ok (map (step_in (tables_of world.engines)) s.steps.items)) (IsFaultOf (steps_left engines.now lines.old.taken lines.old.rest.now)) }
+    ensures beside { IfOk result (λ s. All (IsAskedBeside (tables_of world.engines)) s.steps.items) }
 {
-    let steps = read_steps(alloc, lines, engines)?;
+    let steps = read_steps(alloc, lines, engines, &world)?;
     Ok(Script { world, steps })
 }
 
@@ -72,12 +78,15 @@ fn read_steps<'a>(
     alloc: Global,
     lines: &mut Lines<'_>,
     engines: &[Config],
+    world: &World,
 ) -> Result<Vec<WorldStep>, Fault<'a>>
-    ensures { MatchResult result (λ v. steps_left engines.now lines.old.taken lines.old.rest.now ≡ Ok v.items) (IsFaultOf (steps_left engines.now lines.old.taken lines.old.rest.now)) }
+    requires { tables_of world.now.engines ≡ tables_for engines.now }
+    ensures steps { MatchResult result (λ v. steps_left engines.now lines.old.taken lines.old.rest.now ≡ Ok (map (step_in (tables_of world.now.engines)) v.items)) (IsFaultOf (steps_left engines.now lines.old.taken lines.old.rest.now)) }
+    ensures beside { IfOk result (λ v. All (IsAskedBeside (tables_of world.now.engines)) v.items) }
 {
     let mut steps = Vec::new(alloc);
     while let Some(line) = lines.take_line() {
-        match read_step(alloc, line.text, engines) {
+        match read_step(alloc, line.text, engines, world) {
             Ok(step) => steps.push(step)?,
             Err(why) => return Err(Fault::of_line(line.number, why)),
         }

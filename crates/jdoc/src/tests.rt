@@ -1,9 +1,12 @@
 //! Runs of scripts, and what no clause says of them.
 
+mod bad_requests;
 mod bad_scripts;
 mod configurations;
 mod good_scripts;
+mod readings;
 mod replies;
+mod sessions;
 mod streams;
 mod words;
 

@@ -14,16 +14,16 @@ use Rattle.world.specs.Turns.{IsResting, HasTaken}
 use Rattle.world.proofs.WholeSteps.{whole_idle}
 
 -- the history, and what is handled and published of it, are the same
-record KeepsHistory (E F : Engine) : Type 0 where
-  replica : F.replica ≡ E.replica
-  handled : F.handled ≡ E.handled
-  due : F.due ≡ E.due
-  published : F.published ≡ E.published
+pub record KeepsHistory (E F : Engine) : Type 0 where
+  pub replica : F.replica ≡ E.replica
+  pub handled : F.handled ≡ E.handled
+  pub due : F.due ≡ E.due
+  pub published : F.published ≡ E.published
 
 kept : (E : Engine) → KeepsHistory E E
 kept E = record { replica = refl; handled = refl; due = refl; published = refl }
 
-push_keeps : (E : Engine) (c : ℕ) (command : Command) → KeepsHistory E (push E c command).engine
+pub push_keeps : (E : Engine) (c : ℕ) (command : Command) → KeepsHistory E (push E c command).engine
 push_keeps E c command = at_client (slice_get E.clients c) refl
   where
     at_places : (k : Client) (b : Bool) → nat_le E.places (length E.queue) ≡ b → nat_le E.serials (length k.cells) ≡ false → KeepsHistory E (submit E c k (next_item c k command)).engine
@@ -38,7 +38,7 @@ push_keeps E c command = at_client (slice_get E.clients c) refl
     at_client None e = rw e (kept E)
     at_client (Some k) e = rw e (at_serials k (nat_le E.serials (length k.cells)) refl)
 
-poll_keeps : (E : Engine) (c serial : ℕ) → KeepsHistory E (poll E c serial).engine
+pub poll_keeps : (E : Engine) (c serial : ℕ) → KeepsHistory E (poll E c serial).engine
 poll_keeps E c serial = at_client (slice_get E.clients c) refl
   where
     at_answer : (k : Client) (cell : Cell) (o : Option Given) → cell.answer ≡ o → KeepsHistory E (poll_cell E c k (Some cell)).engine
@@ -53,7 +53,7 @@ poll_keeps E c serial = at_client (slice_get E.clients c) refl
     at_client None e = rw e (kept E)
     at_client (Some k) e = rw e (at_cell k (cell_at k.cells serial))
 
-see_keeps : (E : Engine) (t : ℕ) → KeepsHistory E (see_published E t)
+pub see_keeps : (E : Engine) (t : ℕ) → KeepsHistory E (see_published E t)
 see_keeps E t = at_client (slice_get E.clients t) refl
   where
     at_client : (o : Option Client) → slice_get E.clients t ≡ o → KeepsHistory E (see_published E t)

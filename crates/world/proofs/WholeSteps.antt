@@ -9,7 +9,7 @@ use Rattle.semantics.specs.LegalAnswer.{Submitted}
 use Rattle.semantics.specs.Replica.{Replica}
 use Rattle.semantics.specs.Engine as engine
 use Rattle.semantics.specs.Engine.{Engine, Turn, Idle, Published}
-use Rattle.semantics.specs.WriteSteps.{answered_or_idle, after_item, reply_to, take_oldest, take_item, take_for, publish, give, give_for, give_to, handle_all, whole_step}
+use Rattle.semantics.specs.WriteSteps.{answered_or_idle, after_item, reply_to, take_oldest, take_item, take_for, publish, give_for, give_to, whole_step}
 use Rattle.semantics.proofs.SoundEngines.{IsSound}
 use Rattle.semantics.proofs.SoundTaking.{took}
 use Rattle.world.specs.Turns.{Told, told, give_each, with_handled, IsResting, IsTaking, HasTaken}

@@ -1,16 +1,17 @@
 -- Steps, replies, replicas and clients of the program as those of the definitions.
-use Rattle.std.specs.Prelude.{◌≡◌, ℕ, List, [], map, option_map, Ok}
+use Rattle.std.specs.Prelude.{◌≡◌, ℕ, ⊤, List, [], map, option_map, Ok}
 use Rattle.semantics.specs.Operations.{Operation}
 use Rattle.semantics.specs.Stamped.{Stamped}
 use Rattle.semantics.specs.Making.{Command as TheCommand, make}
 use Rattle.semantics.specs.Entries.{Entry as TheEntry, applied}
-use Rattle.semantics.specs.LegalAnswer.{Submitted, Reply as TheReply, Made as MadeAs, NotMade, OfDocument, Answered}
+use Rattle.semantics.specs.Questions.{Refused as NotAnswered}
+use Rattle.semantics.specs.LegalAnswer.{Submitted, Reply as TheReply, Made as MadeAs, NotMade, Answered}
 use Rattle.semantics.specs.Replica.{Replica as TheReplica}
 use Rattle.semantics.specs.Engine as engine
 use Rattle.semantics.specs.WriteSteps.{stamp}
 use Rattle.semantics.specs.World as world
-use Rattle.first.specs.Meanings.{command_of}
-use Rattle.document.specs.Documents.{question_of, answer_of}
+use Rattle.operation.specs.Meanings.{command_of}
+use Rattle.document.specs.Documents.{IsBeside, asked_of, said_by}
 use Rattle.world.specs.declared.step.WorldStep.{WorldStep}
 use Rattle.world.specs.declared.step.WorldStep.TheVariants as step
 use Rattle.world.specs.declared.step.Reply.{Reply}
@@ -23,12 +24,26 @@ use Rattle.world.specs.declared.client.Given.{Given}
 use Rattle.world.specs.declared.client.Cell.{Cell}
 use Rattle.world.specs.declared.client.Client.{Client}
 
--- a step
-abbrev pub step_of : WorldStep → world.WorldStep
-step_of (step.Push e c command) = world.Push e c (command_of command)
-step_of (step.Step e) = world.Whole e
-step_of (step.Poll e c serial) = world.Poll e c serial
-step_of (step.Ask e t q) = world.Ask e t (OfDocument (question_of q))
+-- the number of a step's engine
+abbrev pub engine_in : WorldStep → ℕ
+engine_in (step.Push e c command) = e
+engine_in (step.Step e) = e
+engine_in (step.Poll e c serial) = e
+engine_in (step.Ask e t q) = e
+
+-- a step, where its engine has this table
+abbrev pub step_of : List ℕ → WorldStep → world.WorldStep
+step_of table (step.Push e c command) = world.Push e c (command_of command)
+step_of table (step.Step e) = world.Whole e
+step_of table (step.Poll e c serial) = world.Poll e c serial
+step_of table (step.Ask e t q) = world.Ask e t (asked_of table q)
+
+-- a vector that the step asks about has a counter for each replica of the table
+abbrev pub AsksBeside : List ℕ → WorldStep → Type 0
+AsksBeside table (step.Push e c command) = ⊤
+AsksBeside table (step.Step e) = ⊤
+AsksBeside table (step.Poll e c serial) = ⊤
+AsksBeside table (step.Ask e t q) = IsBeside table q
 
 -- the answer to a command
 abbrev pub answer_to : Reply → TheReply
@@ -43,7 +58,8 @@ reply_of (said.Published n) = engine.Published n
 reply_of said.Idle = engine.Idle
 reply_of said.Unanswered = engine.Unanswered
 reply_of (said.Replied r) = engine.Replied (answer_to r)
-reply_of (said.Read n reading) = engine.Read n (Answered (answer_of reading))
+reply_of (said.Read n table reading) = engine.Read n (said_by table reading)
+reply_of (said.NotRead n why) = engine.Read n (Answered (NotAnswered why))
 
 -- what was submitted
 abbrev pub submitted_of : Item → Submitted

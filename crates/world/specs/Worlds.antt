@@ -1,7 +1,9 @@
 -- What contracts see of a world of the program.
-use Rattle.std.specs.Prelude.{ℕ, Bool, ⊤, List, [], ◌∷◌}
+use Rattle.std.specs.Prelude.{ℕ, Bool, ⊤, List, [], ◌∷◌, map, slice_index_or}
 use Rattle.semantics.specs.Engine.{Engine}
-use Rattle.semantics.specs.World.{World}
+use Rattle.semantics.specs.World.{World, WorldStep as TheStep}
+use Rattle.world.specs.declared.step.WorldStep.{WorldStep}
+use Rattle.world.specs.Meanings.{AsksBeside, engine_in, step_of}
 use Rattle.world.specs.Turns.{IsResting}
 
 -- the engines, how many steps were done, and whether a growth was refused
@@ -17,6 +19,22 @@ world Es = record { engines = Es }
 -- the world of the definitions
 abbrev pub world_of : Running → World
 world_of w = record { engines = w.engines }
+
+-- the table of each engine's replicas
+abbrev pub tables_of : List Engine → List (List ℕ)
+tables_of Es = map (λ E. E.replica.members) Es
+
+-- the table of one engine; it is empty where there is no such engine
+abbrev pub table_at : List (List ℕ) → ℕ → List ℕ
+table_at tables e = slice_index_or tables e []
+
+-- a step of engines with these tables
+abbrev pub step_in : List (List ℕ) → WorldStep → TheStep
+step_in tables s = step_of (table_at tables (engine_in s)) s
+
+-- a vector that the step asks about stands beside the table of its engine
+abbrev pub IsAskedBeside : List (List ℕ) → WorldStep → Type 0
+IsAskedBeside tables s = AsksBeside (table_at tables (engine_in s)) s
 
 -- each engine is between whole steps
 abbrev pub AllResting : List Engine → Type 0

@@ -4,12 +4,12 @@ ghost use Rattle.std.specs.Prelude.{◌≡◌, ◌+◌, ◌<◌, ◌^◌, option
 ghost use Rattle.ids.specs.declared.refusal.Refusal.TheVariants.{NoMemory};
 ghost use Rattle.semantics.specs.WriteSteps.{next_item, with_cell, with_answer};
 ghost use Rattle.semantics.specs.ReadSteps.{cell_at};
-ghost use Rattle.first.specs.Meanings.{command_of};
+ghost use Rattle.operation.specs.Meanings.{command_of};
 
 use crate::replica::Item;
 use crate::step::Reply;
-use first::Command;
 use ids::Refusal;
+use operation::Command;
 
 /// An answer that was set, with how many entries were published then.
 #[derive(Clone, Copy, Debug)]

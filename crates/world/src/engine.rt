@@ -3,13 +3,13 @@
 ghost use Rattle.std.specs.Prelude.{◌≡◌, ◌∷◌, ◌↔◌, ◌⊎◌, OnOk, IfOk, IfErr, Err, IsTrue, IsFalse, map, [], length, replicate};
 ghost use Rattle.ids.specs.declared.refusal.Refusal.TheVariants.{NoMemory, BadConfig};
 ghost use Rattle.ids.specs.Configurations.{is_within_limits};
-ghost use Rattle.semantics.specs.Engine.{Engine as TheEngine};
+ghost use Rattle.semantics.specs.Engine.{Engine as TheEngine, Read};
 ghost use Rattle.semantics.specs.WriteSteps.{push, whole_step};
 ghost use Rattle.semantics.specs.ReadSteps.{poll, ask, see_published};
-ghost use Rattle.semantics.specs.LegalAnswer.{OfDocument};
-ghost use Rattle.first.specs.Meanings.{command_of};
-ghost use Rattle.document.specs.Documents.{question_of};
-ghost use Rattle.world.specs.Meanings.{reply_of, step_of, client_of};
+ghost use Rattle.semantics.specs.LegalAnswer.{reading_of};
+ghost use Rattle.operation.specs.Meanings.{command_of};
+ghost use Rattle.document.specs.Documents.{IsBeside, asked_of};
+ghost use Rattle.world.specs.Meanings.{AsksBeside, reply_of, step_of, client_of};
 ghost use Rattle.semantics.specs.World.{engine_step, opened_engine};
 ghost use Rattle.world.specs.Turns.{IsResting, HasTaken, told_of, give_each};
 
@@ -17,8 +17,8 @@ use crate::client::{Client, Given};
 use crate::replica::{Item, Replica};
 use crate::step::{Reply, WorldReply, WorldStep};
 use document::{Document, Question};
-use first::Command;
-use ids::{Config, Refusal, ReplicaId};
+use ids::{Config, Refusal, ReplicaId, ReplicaTable};
+use operation::Command;
 use std::alloc::Global;
 use std::collections::VecDeque;
 use std::marker::Model;
@@ -48,7 +48,7 @@ impl Model for Engine {
     ghost use Rattle.std.specs.Prelude.{map, []};
     ghost use Rattle.std.specs.Coded.{codes};
     ghost use Rattle.semantics.specs.Codes.{coded_element};
-    ghost use Rattle.semantics.specs.Engine.{Engine as TheEngine};
+    ghost use Rattle.semantics.specs.Engine.{Engine as TheEngine, Read};
     ghost use Rattle.world.specs.Meanings.{replica_of, submitted_of, client_of};
 
     ghost Value = { TheEngine };
@@ -89,14 +89,21 @@ impl Engine {
         })
     }
 
+    pub fn table(&self) -> &ReplicaTable
+        ensures { result.now ≡ self.now.replica.members }
+    {
+        self.replica.document.table()
+    }
+
     /// One step.
     ///
     /// # Errors
     /// `NoMemory` where a growth was refused: the step may be done in part then.
     pub fn turn(&mut self, alloc: Global, step: &WorldStep) -> Result<WorldReply, Refusal>
-        requires { IsResting self.old }
-        ensures engine { OnOk result (self.new ≡ (engine_step (step_of step.now) self.old).engine) }
-        ensures reply { IfOk result (λ r. reply_of r ≡ (engine_step (step_of step.now) self.old).reply) }
+        requires resting { IsResting self.old }
+        requires beside { AsksBeside self.old.replica.members step.now }
+        ensures engine { OnOk result (self.new ≡ (engine_step (step_of self.old.replica.members step.now) self.old).engine) }
+        ensures reply { IfOk result (λ r. reply_of r ≡ (engine_step (step_of self.old.replica.members step.now) self.old).reply) }
         ensures resting { OnOk result (IsResting self.new) }
         ensures err { IfErr result (λ why. why ≡ NoMemory) }
     {
@@ -173,15 +180,34 @@ impl Engine {
         token: usize,
         question: &Question,
     ) -> Result<WorldReply, Refusal>
-        requires { self.old.published ≡ length self.old.replica.entries }
-        ensures engine { OnOk result (self.new ≡ (ask self.old token (OfDocument (question_of question.now))).engine) }
-        ensures reply { IfOk result (λ r. reply_of r ≡ (ask self.old token (OfDocument (question_of question.now))).reply) }
+        requires shown { self.old.published ≡ length self.old.replica.entries }
+        requires beside { IsBeside self.old.replica.members question.now }
+        ensures engine { OnOk result (self.new ≡ (ask self.old token (asked_of self.old.replica.members question.now)).engine) }
+        ensures reply { IfOk result (λ r. reply_of r ≡ (ask self.old token (asked_of self.old.replica.members question.now)).reply) }
         ensures err { IfErr result (λ why. why ≡ NoMemory) }
     {
-        let reading = self.replica.document.ask(alloc, question)?;
+        let reply = self.read(alloc, question)?;
         let published = self.published;
         see(&mut self.clients, &mut self.readers, token, published);
-        Ok(WorldReply::Read(published as u64, reading))
+        Ok(reply)
+    }
+
+    // What the history answers.
+    fn read(&self, alloc: Global, question: &Question) -> Result<WorldReply, Refusal>
+        requires { IsBeside self.now.replica.members question.now }
+        ensures reply { IfOk result (λ r. reply_of r ≡ Read self.now.published (reading_of self.now.replica.entries (asked_of self.now.replica.members question.now))) }
+        ensures err { IfErr result (λ why. why ≡ NoMemory) }
+    {
+        let seen = self.published as u64;
+        match self.replica.document.ask(alloc, question) {
+            Ok(reading) => Ok(WorldReply::Read {
+                seen,
+                table: self.table().clone()?,
+                reading,
+            }),
+            Err(Refusal::NoMemory) => Err(Refusal::NoMemory),
+            Err(why) => Ok(WorldReply::NotRead { seen, why }),
+        }
     }
 
     /// The writer takes up to a batch of items and handles each, publishes, and then sets the answer to each.
@@ -218,7 +244,7 @@ impl Engine {
             };
             let client = item.client;
             let serial = item.serial;
-            let reply = self.replica.handle(item)?;
+            let reply = self.replica.handle(alloc, item)?;
             handled.push(Handled {
                 client,
                 serial,

@@ -1,8 +1,8 @@
 //! The steps of a world and what they reply.
 
 use document::{Question, Reading};
-use first::Command;
-use ids::{OpId, Refusal};
+use ids::{OpId, Refusal, ReplicaTable};
+use operation::Command;
 
 /// A step of one engine. Engines are numbered from 0, as are an engine's clients; its tokens are the clients', then the readers'.
 #[derive(Debug, Drop)]
@@ -23,7 +23,7 @@ pub enum WorldStep {
         client: usize,
         serial: u64,
     },
-    /// A token asks.
+    /// A token asks. A vector that it asks about stands beside the table of the engine.
     Ask {
         engine: usize,
         token: usize,
@@ -32,13 +32,14 @@ pub enum WorldStep {
 }
 
 impl WorldStep {
-    ghost use Rattle.std.specs.Prelude.{◌≡◌};
+    ghost use Rattle.std.specs.Prelude.{◌≡◌, ℕ, List};
     ghost use Rattle.semantics.specs.World.{mover};
-    ghost use Rattle.world.specs.Meanings.{step_of};
+    ghost use Rattle.world.specs.Meanings.{engine_in, step_of};
 
     /// The engine that moves.
     pub fn engine(&self) -> usize
-        ensures { result ≡ mover (step_of self.now) }
+        ensures number { result ≡ engine_in self.now }
+        ensures mover { (table : List ℕ) → result ≡ mover (step_of table self.now) }
     {
         match self {
             WorldStep::Push { engine, .. }
@@ -73,6 +74,15 @@ pub enum WorldReply {
     Unanswered,
     /// The answer to a command.
     Replied(Reply),
-    /// How many entries the token has seen, and what they answer.
-    Read(u64, Reading),
+    /// How many entries the token has seen, and what they answer, beside the table of the engine.
+    Read {
+        seen: u64,
+        table: ReplicaTable,
+        reading: Reading,
+    },
+    /// How many entries the token has seen, and why they don't answer: the expression leads nowhere.
+    NotRead {
+        seen: u64,
+        why: Refusal,
+    },
 }

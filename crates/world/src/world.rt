@@ -1,16 +1,16 @@
 //! Engines on one thread, as a list of steps moves them.
 
-ghost use Rattle.std.specs.Prelude.{◌≡◌, ◌≤◌, ◌+◌, ◌↔◌, ◌⊎◌, OnOk, OnErr, IfOk, IfErr, Err, IsFalse, true, false, min, map, length, List};
-ghost use Rattle.std.specs.List.{list_all};
+ghost use Rattle.std.specs.Prelude.{◌≡◌, ◌≤◌, ◌+◌, ◌↔◌, ◌⊎◌, OnOk, OnErr, IfOk, IfErr, Err, IsFalse, true, false, min, map, option_map, slice_get, length, List};
+ghost use Rattle.std.specs.List.{All, list_all};
 ghost use Rattle.ids.specs.declared.refusal.Refusal.TheVariants.{NoMemory, BadConfig};
 ghost use Rattle.ids.specs.Configurations.{is_within_limits};
 ghost use Rattle.semantics.specs.World.{opened, opened_engine, world_step, world_after, replies_of};
-ghost use Rattle.world.specs.Meanings.{step_of, reply_of};
-ghost use Rattle.world.specs.Worlds.{AllResting, world, world_of};
+ghost use Rattle.world.specs.Meanings.{reply_of};
+ghost use Rattle.world.specs.Worlds.{AllResting, IsAskedBeside, step_in, tables_of, world, world_of};
 
 use crate::engine::Engine;
 use crate::step::{WorldReply, WorldStep};
-use ids::{Config, Refusal};
+use ids::{Config, Refusal, ReplicaTable};
 use std::alloc::Global;
 use std::marker::Model;
 
@@ -59,13 +59,24 @@ impl World {
         })
     }
 
+    /// The table of an engine's replicas, or nothing where there is no such engine.
+    pub fn table(&self, engine: usize) -> Option<&ReplicaTable>
+        ensures { option_map (λ table. table.now) result ≡ slice_get (tables_of self.now.engines) engine }
+    {
+        match self.engines.get(engine) {
+            Some(engine) => Some(engine.table()),
+            None => None,
+        }
+    }
+
     /// Runs the steps in order, and gives the reply to each. A step of an engine that isn't there replies Idle.
     ///
     /// # Errors
     /// `NoMemory` where a growth was refused, and at each call after that: `steps_done` steps were done whole, the next may be done in part.
     pub fn run(&mut self, alloc: Global, steps: &[WorldStep]) -> Result<Vec<WorldReply>, Refusal>
-        ensures replies { IfOk result (λ rs. map reply_of rs.items ≡ replies_of (world_of self.old) (map step_of steps.now)) }
-        ensures world { OnOk result (world_of self.new ≡ world_after (world_of self.old) (map step_of steps.now)) }
+        requires { All (IsAskedBeside (tables_of self.old.engines)) steps.now }
+        ensures replies { IfOk result (λ rs. map reply_of rs.items ≡ replies_of (world_of self.old) (map (step_in (tables_of self.old.engines)) steps.now)) }
+        ensures world { OnOk result (world_of self.new ≡ world_after (world_of self.old) (map (step_in (tables_of self.old.engines)) steps.now)) }
         ensures done { OnOk result (self.new.done ≡ min (self.old.done + length steps.now) 18446744073709551615) }
         ensures running { OnOk result ((self.old.failed ≡ false) × (self.new.failed ≡ false)) }
         ensures err { IfErr result (λ why. (why ≡ NoMemory) × (self.new.failed ≡ true)) }
@@ -126,8 +137,9 @@ fn run_all(
 ) -> Result<Vec<WorldReply>, Refusal>
     requires resting { AllResting engines.old.items }
     requires none { whole.old ≡ 0 }
-    ensures replies { IfOk result (λ rs. map reply_of rs.items ≡ replies_of (world engines.old.items) (map step_of steps.now)) }
-    ensures world { OnOk result (world engines.new.items ≡ world_after (world engines.old.items) (map step_of steps.now)) }
+    requires beside { All (IsAskedBeside (tables_of engines.old.items)) steps.now }
+    ensures replies { IfOk result (λ rs. map reply_of rs.items ≡ replies_of (world engines.old.items) (map (step_in (tables_of engines.old.items)) steps.now)) }
+    ensures world { OnOk result (world engines.new.items ≡ world_after (world engines.old.items) (map (step_in (tables_of engines.old.items)) steps.now)) }
     ensures resting { OnOk result (AllResting engines.new.items) }
     ensures whole { OnOk result (whole.new ≡ length steps.now) }
     ensures err { IfErr result (λ why. why ≡ NoMemory) }
@@ -144,10 +156,12 @@ fn run_all(
 
 /// One step: its engine moves, and the others stay.
 fn turn(alloc: Global, engines: &mut Vec<Engine>, step: &WorldStep) -> Result<WorldReply, Refusal>
-    requires { AllResting engines.old.items }
-    ensures world { OnOk result (world engines.new.items ≡ (world_step (world engines.old.items) (step_of step.now)).world) }
-    ensures reply { IfOk result (λ r. reply_of r ≡ (world_step (world engines.old.items) (step_of step.now)).reply) }
+    requires resting { AllResting engines.old.items }
+    requires beside { IsAskedBeside (tables_of engines.old.items) step.now }
+    ensures world { OnOk result (world engines.new.items ≡ (world_step (world engines.old.items) (step_in (tables_of engines.old.items) step.now)).world) }
+    ensures reply { IfOk result (λ r. reply_of r ≡ (world_step (world engines.old.items) (step_in (tables_of engines.old.items) step.now)).reply) }
     ensures resting { OnOk result (AllResting engines.new.items) }
+    ensures tables { OnOk result (tables_of engines.new.items ≡ tables_of engines.old.items) }
     ensures err { IfErr result (λ why. why ≡ NoMemory) }
 {
     let mover = step.engine();

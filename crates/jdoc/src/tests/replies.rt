@@ -2,8 +2,7 @@
 
 use crate::replies::reply_lines;
 use document::Reading;
-use first::Scalar;
-use ids::{OpId, Refusal, ReplicaId};
+use ids::{OpId, Refusal, ReplicaId, ReplicaTable};
 use std::alloc::Global;
 use std::test::Fail;
 use world::{Reply, WorldReply};
@@ -13,23 +12,18 @@ fn id(counter: u64, replica: u32) -> Result<OpId, Fail> {
     Ok(OpId { counter, replica })
 }
 
-fn read(alloc: Global, values: &[(OpId, Scalar)]) -> Result<Reading, Fail> {
-    Ok(Reading::Values(Vec::from_slice(alloc, values)?))
+fn read(alloc: Global, seen: u64, ids: &[OpId]) -> Result<WorldReply, Fail> {
+    Ok(WorldReply::Read {
+        seen,
+        table: ReplicaTable::new(alloc, &[1])?,
+        reading: Reading::Items(Vec::from_slice(alloc, ids)?),
+    })
 }
 
 #[test]
 fn one_line_each(rt: HostRuntime) -> Result<(), Fail> {
     let alloc = rt.alloc();
     let made = Reply::Made(id(5, 1)?, 4);
-    let none = read(alloc, &[])?;
-    let one = read(alloc, &[(id(1, 1)?, Scalar::Whole(1))])?;
-    let two = [
-        (id(2, 1)?, Scalar::Whole(-9223372036854775808)),
-        (
-            id(4611686018427387904, 4294967295)?,
-            Scalar::Whole(9223372036854775807),
-        ),
-    ];
     let rows = [
         (WorldReply::Ticket(1), "[\"ticket\",1]\n"),
         (
@@ -56,17 +50,39 @@ fn one_line_each(rt: HostRuntime) -> Result<(), Fail> {
             WorldReply::Replied(Reply::Refused(Refusal::HistoryFull, 1048576)),
             "[\"refused\",\"E8\",1048576]\n",
         ),
-        (WorldReply::Read(0, none), "[\"reading\",0,[]]\n"),
-        (WorldReply::Read(1, one), "[\"reading\",1,[[[1,1],1]]]\n"),
         (
-            WorldReply::Read(2, read(alloc, &two)?),
-            "[\"reading\",2,[[[2,1],-9223372036854775808],[[4611686018427387904,4294967295],9223372036854775807]]]\n",
+            WorldReply::NotRead {
+                seen: 6,
+                why: Refusal::PastEnd,
+            },
+            "[\"refused\",\"E3\",6]\n",
+        ),
+        (
+            WorldReply::NotRead {
+                seen: 0,
+                why: Refusal::AtHead,
+            },
+            "[\"refused\",\"E2\",0]\n",
         ),
     ];
     for (reply, line) in rows {
         let printed = reply_lines(alloc, &[reply])?;
         assert_eq!(rt; printed.as_str(), line);
     }
+    Ok(())
+}
+
+#[test]
+fn readings_tell_what_was_seen(rt: HostRuntime) -> Result<(), Fail> {
+    let alloc = rt.alloc();
+    let printed = reply_lines(alloc, &[read(alloc, 0, &[])?])?;
+    assert_eq!(rt; printed.as_str(), "[\"reading\",0,[]]\n");
+    let ids = [id(1, 1)?, id(4611686018427387904, 4294967295)?];
+    let printed = reply_lines(alloc, &[read(alloc, 18446744073709551615, &ids)?])?;
+    assert_eq!(rt;
+        printed.as_str(),
+        "[\"reading\",18446744073709551615,[[1,1],[4611686018427387904,4294967295]]]\n"
+    );
     Ok(())
 }
 

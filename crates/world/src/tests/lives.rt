@@ -85,35 +85,15 @@ fn steps_are_counted_over_all_runs(rt: HostRuntime) -> Result<(), Fail> {
     Ok(())
 }
 
-/// The steps of a session of one engine, 2 runs of 6.
-fn session(alloc: Global) -> Result<Vec<WorldStep>, Refusal> {
-    let mut steps = Vec::new(alloc);
-    for act in [
-        Push(0, "a", 1),
-        Push(1, "b", 2),
-        Step,
-        Poll(0, 1),
-        Push(0, "a", 3),
-        Ask(2, "a"),
-        Step,
-        Poll(1, 1),
-        Ask(0, "a"),
-        Push(1, "c", 4),
-        Step,
-        Poll(1, 2),
-    ] {
-        steps.push(step(alloc, 0, act)?)?;
-    }
-    Ok(steps)
-}
-
 /// Where no allocation fails this is a session of 12 steps. It is for trying each allocation failing in turn: from the first `NoMemory` on there is no other answer.
 #[test]
 fn want_of_memory_ends_a_world(rt: HostRuntime) -> Result<(), Fail> {
     let alloc = rt.alloc();
-    let Ok(steps) = session(alloc) else {
-        return Ok(());
-    };
+    let acts = [
+        [Push(0, "a", 1), Push(1, "b", 2), Step, Poll(0, 1)],
+        [Push(0, "a", 3), Ask(2, "a"), Step, Poll(1, 1)],
+        [Ask(0, "a"), Push(1, "c", 4), Step, Poll(1, 2)],
+    ];
     let Ok(config) = config(alloc, 1, &[1, 2], (2, 1, 8, 8, 8)) else {
         return Ok(());
     };
@@ -127,9 +107,12 @@ fn want_of_memory_ends_a_world(rt: HostRuntime) -> Result<(), Fail> {
     let mut given: u64 = 0;
     let mut whole = 0;
     let mut failed = false;
-    for run in steps.chunks(4) {
+    for acts in &acts {
+        let Ok(run) = steps(alloc, 0, acts) else {
+            return Ok(());
+        };
         given = given.saturating_add(run.len() as u64);
-        match world.run(alloc, run) {
+        match world.run(alloc, &run) {
             Ok(replies) => {
                 assert!(rt; !failed);
                 assert_eq!(rt; replies.len(), run.len());

@@ -3,7 +3,7 @@ use Rattle.std.specs.List.{list_all}
 use Rattle.ids.specs.Configurations.{Configuration, is_within_limits}
 use Rattle.ids.specs.declared.refusal.Refusal.{Refusal}
 use Rattle.ids.specs.declared.refusal.Refusal.TheVariants.{NoMemory, BadConfig}
-use Rattle.world.specs.declared.step.WorldStep.{WorldStep}
+use Rattle.semantics.specs.World.{WorldStep}
 use Rattle.jdoc.specs.declared.fault.Fault.{Fault}
 use Rattle.jdoc.specs.Engines.{if_within_limits}
 use Rattle.jdoc.specs.Faults.{IsFaultOf, fault_of}

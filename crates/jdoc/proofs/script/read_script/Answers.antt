@@ -2,7 +2,7 @@ use Rattle.std.proofs.Common.{◌≡◌, ℕ, List, [], ◌∷◌, Bool, true, f
 use Rattle.std.proofs.lemmas.Result.{IfErr-weaker, IfOk-weaker}
 use Rattle.ids.specs.Configurations.{Configuration}
 use Rattle.ids.specs.declared.refusal.Refusal.TheVariants.{BadLine, BadConfig}
-use Rattle.world.specs.declared.step.WorldStep.{WorldStep}
+use Rattle.semantics.specs.World.{WorldStep}
 use Rattle.jdoc.specs.declared.fault.Fault.{Fault}
 use Rattle.jdoc.specs.Engines.{engine_line}
 use Rattle.ids.specs.Configurations.{is_within_limits}

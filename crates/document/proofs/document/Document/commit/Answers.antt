@@ -1,30 +1,50 @@
-use Rattle.std.proofs.Common.{◌≡◌, ℕ, ◌<◌, max, cond, ◌==◌, Some, length, length-set, get_or, set, sym, ap, ◌∙◌, subst}
+use Rattle.std.proofs.Common.{◌≡◌, ◌<◌, Some, length, length-set, get_or, slice_get, sym, ap, ◌∙◌, subst, arith}
 use Rattle.std.proofs.lemmas.Option.{slice_get_within, get_or_from_slice_get}
-use Rattle.semantics.specs.Tables.{component}
+use Rattle.semantics.specs.Context.{apply}
 use Rattle.semantics.specs.Entries.{stamped_in}
-use Rattle.first.specs.Meanings.{entry_of}
-use Rattle.document.specs.Documents.{Kept, IsKept, IsSpareFor, MayFollowEntries, history, written_of}
-use Rattle.document.specs.declared.written.Written.{Written}
+use Rattle.semantics.specs.Tables.{component}
+use Rattle.semantics.specs.Stamped.{Stamped, loose_operation}
+use Rattle.operation.specs.declared.command.Entry.{Entry}
+use Rattle.operation.specs.Meanings.{entry_of, stamped_of}
+use Rattle.tree.specs.Trees.{IsPlaced, document}
+use Rattle.document.specs.Documents.{Kept, MayFollowEntries}
 use Rattle.version.proofs.TableColumns.{component-raised}
-use Rattle.document.proofs.KeptNext.{kept_committed}
+use Rattle.document.proofs.KeptFacts.{fits, kept_next}
 use Rattle.document.proofs.document.Document.commit.Goals as goal
+
+-- what may follow what contracts see may follow the log's entries
+lawful : (k l : Kept) (e : Entry) → k ≡ l → MayFollowEntries l.entries (entry_of l.table e) → MayFollowEntries k.entries (entry_of k.table e)
+lawful k l e is may = subst (λ (k : Kept). MayFollowEntries k.entries (entry_of k.table e)) (sym is) may
+
+pub apply-requires-clause-placed : goal.apply-requires-clause-placed
+apply-requires-clause-placed c =
+    let d = c.self.inside in
+    let same = ap (λ table. stamped_of table c.op-op.result.now) c.self.invariant.beside ∙ c.op-op.ensures.stamped d.log.table in
+    subst (IsPlaced (document d.tree)) (sym same)
+    (fits d.log.table d.applied d.log.entries d.tree (stamped_in (entry_of d.log.table c.args.entry)) c.self.invariant (lawful _ _ c.args.entry c.self.view_is c.requires.lawful))
+
+pub raise-requires : goal.raise-requires
+raise-requires c =
+    let table = c.self.inside.log.table in
+    let found : slice_get table c.in-Some.index ≡ Some c.op-op.result.now.id.replica = ap (λ ps. slice_get ps c.in-Some.index) (sym c.table.ensures) ∙ c.in-Some.ensures.found in
+    let i = slice_get_within table c.in-Some.index c.op-op.result.now.id.replica found in
+    let w = c.self.invariant.width in
+    omega arith
 
 pub invariant_of-self : goal.invariant_of-self
 invariant_of-self c =
     let d = c.self.inside in
-    let e = c.args.entry in
-    let w : Written = written_of e in
-    let may : MayFollowEntries (history d.table d.entries.items) (entry_of d.table e) =
-    subst (λ (k : Kept). MayFollowEntries k.entries (entry_of k.table e)) (sym c.self.view_is) c.requires.lawful in
-    let spare : IsSpareFor d.spare (stamped_in (entry_of d.table e)).place =
-    subst (λ (k : Kept). IsSpareFor k.spare (stamped_in (entry_of k.table e)).place) (sym c.self.view_is) c.requires.room.spare in
-    let within : c.in-Some.place < length d.table = slice_get_within d.table c.in-Some.place c.by-written.result.id.replica c.in-Some.ensures.found in
-    let there : get_or d.table c.in-Some.place 0 ≡ c.by-written.result.id.replica =
-    get_or_from_slice_get d.table c.in-Some.place c.by-written.result.id.replica 0 c.in-Some.ensures.found in
-    rw (c.push_reserved.ensures.items, c.put_in.ensures.items, c.by-written.ensures)
-    (kept_committed d.table d.applied c.raise.new.self d.entries.items d.fields.items e c.in-Some-take.key c.self.invariant may
-    (subst (λ s. IsSpareFor s (stamped_in (entry_of d.table e)).place) (sym c.in-Some-take.ensures.value) spare)
-    (ap length c.raise.ensures ∙ length-set d.applied c.in-Some.place _)
-    (λ p. ap (λ next. component d.table next p) c.raise.ensures
-    ∙ component-raised d.table d.applied c.in-Some.place c.by-written.result.id.counter p c.by-written.result.id.replica c.self.invariant.distinct within c.self.invariant.width there
-    ∙ ap (λ (x : Written). cond (x.id.replica == p) (max x.id.counter (component d.table d.applied p)) (component d.table d.applied p)) c.by-written.ensures))
+    let table = d.log.table in
+    let id = c.op-op.result.now.id in
+    let same = ap (λ table. stamped_of table c.op-op.result.now) c.self.invariant.beside ∙ c.op-op.ensures.stamped table in
+    let found : slice_get table c.in-Some.index ≡ Some id.replica = ap (λ ps. slice_get ps c.in-Some.index) (sym c.table.ensures) ∙ c.in-Some.ensures.found in
+    let within : c.in-Some.index < length table = slice_get_within table c.in-Some.index id.replica found in
+    let there : get_or table c.in-Some.index 0 ≡ id.replica = get_or_from_slice_get table c.in-Some.index id.replica 0 found in
+    rw (c.push.ensures.table, c.push.ensures.entries)
+    (kept_next table d.applied c.raise.new.self d.log.entries (entry_of table c.args.entry) id d.tree c.apply.new.self (sym (ap (λ (s : Stamped). s.id) (c.op-op.ensures.stamped table))) c.self.invariant
+    (lawful _ _ c.args.entry c.self.view_is c.requires.lawful)
+    c.apply.ensures.table
+    (c.apply.ensures.applied ∙ ap (λ (s : Stamped). apply (document d.tree) (loose_operation s)) same)
+    (ap length c.raise.ensures ∙ length-set d.applied c.in-Some.index _)
+    (λ p. ap (λ next. component table next p) c.raise.ensures
+    ∙ component-raised table d.applied c.in-Some.index id.counter p id.replica c.self.invariant.distinct within c.self.invariant.width there))

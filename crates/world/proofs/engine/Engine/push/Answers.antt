@@ -6,7 +6,7 @@ use Rattle.semantics.specs.LegalAnswer.{Submitted}
 use Rattle.semantics.specs.Making.{Command}
 use Rattle.semantics.specs.Engine.{Engine as TheEngine, Turn, Ticket}
 use Rattle.semantics.specs.WriteSteps.{next_item, with_cell}
-use Rattle.first.specs.Meanings.{command_of}
+use Rattle.operation.specs.Meanings.{command_of}
 use Rattle.world.specs.Meanings.{client_of, cell_of, submitted_of}
 use Rattle.world.specs.contracts.engine.Engine.{the_view}
 use Rattle.world.proofs.SingleSteps.{read_mapped, push-there}

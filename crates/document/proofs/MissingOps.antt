@@ -1,0 +1,24 @@
+-- The operations at the places that a log calls missing.
+use Rattle.std.proofs.Common.{◌≡◌, ℕ, List, [], ◌∷◌, map, Some, refl, ap, ◌∙◌}
+use Rattle.std.specs.Prelude.{option_map}
+use Rattle.std.specs.List.{cons_option, filter_map}
+use Rattle.semantics.specs.Stamped.{Stamped}
+use Rattle.semantics.specs.Entries.{Entry, entry_at, stamped_in}
+
+-- the operations at these places, where there are any
+abbrev pub found : List Entry → List ℕ → List Stamped
+found G places = filter_map (λ n. option_map stamped_in (entry_at n G)) places
+
+head_is : {X : Type 0} (x y : X) (xs ys : List X) → ◌≡◌ {A = List X} (x ∷ xs) (y ∷ ys) → x ≡ y
+head_is x y xs ys e = cc
+
+tail_is : {X : Type 0} (x y : X) (xs ys : List X) → ◌≡◌ {A = List X} (x ∷ xs) (y ∷ ys) → xs ≡ ys
+tail_is x y xs ys e = cc
+
+-- where each place has an operation, those are all
+pub found_all : (G : List Entry) (places : List ℕ) (xs : List Stamped) → map (λ n. option_map stamped_in (entry_at n G)) places ≡ map Some xs → found G places ≡ xs
+found_all G [] [] h = refl
+found_all G [] (x ∷ xs) h = cc
+found_all G (n ∷ ns) [] h = cc
+found_all G (n ∷ ns) (x ∷ xs) h =
+    ap (λ o. cons_option o (found G ns)) (head_is _ _ _ _ h) ∙ ap (λ ys. x ∷ ys) (found_all G ns xs (tail_is _ _ _ _ h))

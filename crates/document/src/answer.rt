@@ -1,0 +1,87 @@
+//! The answers to questions.
+
+ghost use Rattle.std.specs.Prelude.{◌≡◌, ◌⊎◌, Ok, length, map, reverse, IfOk, IfErr};
+ghost use Rattle.ids.specs.declared.refusal.Refusal.TheVariants.{NoMemory};
+ghost use Rattle.semantics.specs.Tables.{by_table};
+ghost use Rattle.semantics.specs.Elements.{At, Element};
+ghost use Rattle.semantics.specs.Operations.{element_of};
+ghost use Rattle.semantics.specs.Entries.{missing, stamped_of as stamped_entries};
+ghost use Rattle.semantics.specs.DocumentAnswer.{visible_items};
+ghost use Rattle.semantics.specs.Questions.{answer_at, resolve, Answer, Refused};
+ghost use Rattle.semantics.specs.LegalAnswer.{reading_of, Answered};
+ghost use Rattle.operation.specs.Meanings.{stamped_of};
+ghost use Rattle.tree.specs.Trees.{document};
+ghost use Rattle.document.specs.Documents.{IsBeside, IsKept, asked_of, said_by};
+
+use crate::question::{Question, Reading};
+use cursor::{Expr, Place};
+use ids::Refusal;
+use operation::Op;
+use oplog::Log;
+use std::alloc::Global;
+use tree::Tree;
+use version::VersionVector;
+
+/// What the history answers, where the tree holds its document.
+pub fn answer(
+    alloc: Global,
+    log: &Log,
+    applied: &VersionVector,
+    tree: &Tree,
+    question: &Question,
+) -> Result<Reading, Refusal>
+    requires kept { IsKept log.now.table applied.now log.now.entries tree.now }
+    requires beside { IsBeside log.now.table question.now }
+    ensures answer { IfOk result (λ r. said_by log.now.table r ≡ reading_of log.now.entries (asked_of log.now.table question.now)) }
+    ensures err { IfErr result (λ why. (why ≡ NoMemory) ⊎ (reading_of log.now.entries (asked_of log.now.table question.now) ≡ Answered (Refused why))) }
+{
+    match question {
+        Question::Values(expression) => {
+            let place = find(alloc, tree, expression)?;
+            Ok(Reading::Values(tree.values(alloc, &place)?))
+        }
+        Question::Keys(expression) => {
+            let place = find(alloc, tree, expression)?;
+            Ok(Reading::Keys(tree.keys(alloc, &place)?))
+        }
+        Question::Items(expression) => {
+            let place = find(alloc, tree, expression)?;
+            Ok(Reading::Items(tree.items(alloc, &place)?))
+        }
+        Question::Conflicts(expression) => {
+            let place = find(alloc, tree, expression)?;
+            Ok(Reading::Conflicts(tree.conflicts(alloc, &place)?))
+        }
+        Question::Missing(vector) => Ok(Reading::Missing(missing(alloc, log, vector)?)),
+        Question::Vector => Ok(Reading::Vector(applied.clone()?)),
+    }
+}
+
+/// The element that an expression leads to; a head is refused.
+fn find(alloc: Global, tree: &Tree, expression: &Expr) -> Result<Place, Refusal>
+    ensures ok { IfOk result (λ p. resolve (visible_items (document tree.now)) expression.now ≡ Ok (At (element_of p))) }
+    ensures err { IfErr result (λ why. (why ≡ NoMemory) ⊎ ((f : Element → Answer) → answer_at f (resolve (visible_items (document tree.now)) expression.now) ≡ Refused why)) }
+{
+    let place = tree.resolve(alloc, expression)?;
+    if place.is_head() {
+        return Err(Refusal::AtHead);
+    }
+    Ok(place)
+}
+
+/// Copies of the operations that the vector doesn't cover, the oldest first.
+fn missing(alloc: Global, log: &Log, vector: &VersionVector) -> Result<Vec<Op>, Refusal>
+    requires { length vector.now ≡ length log.now.table }
+    ensures ok { IfOk result (λ ops. reverse (map (stamped_of log.now.table) ops.items) ≡ missing (by_table log.now.table vector.now) (stamped_entries log.now.entries)) }
+    ensures err { IfErr result (λ why. why ≡ NoMemory) }
+{
+    let places = log.missing(alloc, vector)?;
+    let mut ops = Vec::with_capacity(alloc, places.len())?;
+    for place in &places {
+        if let Some(entry) = log.get(*place) {
+            let op = entry.op().clone()?;
+            ops.push(op)?;
+        }
+    }
+    Ok(ops)
+}

@@ -1,2 +1,0 @@
--- What the types of this crate mean.
-pub mod Meanings

@@ -1,0 +1,124 @@
+//! Commands and questions in a script.
+#![tactic(auto, using(crate::proofs::WrongLengths::wrong_lengths))]
+
+ghost use Rattle.std.specs.Prelude.{List, IfOk, option_map};
+ghost use Rattle.serde_json.specs.View.{view, items_view};
+ghost use Rattle.semantics.specs.Elements.{Value as TheValue};
+ghost use Rattle.semantics.specs.Operations.{Mutation as TheMutation};
+ghost use Rattle.semantics.specs.Questions.{AppliedVector, Step, Question as TheQuestion};
+ghost use Rattle.semantics.specs.LegalAnswer.{OfDocument};
+ghost use Rattle.value.specs.Meanings.{value_of};
+ghost use Rattle.operation.specs.Meanings.{command_of};
+ghost use Rattle.document.specs.Documents.{IsBeside, asked_of};
+ghost use Rattle.jdoc.specs.Forms.{IsRead};
+ghost use Rattle.jdoc.specs.Requests.{applied_of, asking_of, command_form, delete_of, missing_of, question_form, table_in, writing_of};
+
+use crate::expressions::expression_in;
+use crate::forms::phrase_in;
+use crate::vectors::vector_in;
+use cursor::Expr;
+use document::Question;
+use ids::{Refusal, ReplicaTable};
+use operation::Command;
+use serde_json::Value;
+use std::alloc::Global;
+use value::Val;
+
+pub fn command_in(alloc: Global, value: &Value) -> Result<Command, Refusal>
+    ensures { IsRead command_of result (command_form (view value.now)) }
+{
+    let (word, parts) = phrase_in(value)?;
+    match word {
+        "assign" => {
+            let (expression, value) = writing_in(alloc, parts)?;
+            Ok(Command::Assign(expression, value))
+        }
+        "insert" => {
+            let (expression, value) = writing_in(alloc, parts)?;
+            Ok(Command::InsertAfter(expression, value))
+        }
+        "delete" => delete_in(alloc, parts),
+        _ => Err(Refusal::BadLine),
+    }
+}
+
+/// An expression, and a value that is written there.
+fn writing_in(alloc: Global, parts: &[Value]) -> Result<(Expr, Val), Refusal>
+    ensures { (how : TheValue → TheMutation) → IsRead (λ p. record { expression = p.0; mutation = how (value_of p.1) }) result (writing_of how (items_view parts.now)) }
+{
+    let [expression, written] = parts else {
+        return Err(Refusal::BadLine);
+    };
+    let expression = expression_in(alloc, expression)?;
+    Ok((expression, Val::from_json(alloc, written)?))
+}
+
+fn delete_in(alloc: Global, parts: &[Value]) -> Result<Command, Refusal>
+    ensures { IsRead command_of result (delete_of (items_view parts.now)) }
+{
+    let [expression] = parts else {
+        return Err(Refusal::BadLine);
+    };
+    Ok(Command::Delete(expression_in(alloc, expression)?))
+}
+
+/// A question to an engine with this table. A vector is refused where there is no table.
+pub fn question_in(
+    alloc: Global,
+    table: Option<&ReplicaTable>,
+    value: &Value,
+) -> Result<Question, Refusal>
+    ensures read { IsRead (asked_of (table_in (option_map (λ t. t.now) table.entry))) result (question_form (option_map (λ t. t.now) table.entry) (view value.now)) }
+    ensures beside { IfOk result (IsBeside (table_in (option_map (λ t. t.now) table.entry))) }
+{
+    let (word, parts) = phrase_in(value)?;
+    match word {
+        "values" => Ok(Question::Values(asked_in(alloc, parts)?)),
+        "keys" => Ok(Question::Keys(asked_in(alloc, parts)?)),
+        "items" => Ok(Question::Items(asked_in(alloc, parts)?)),
+        "conflicts" => Ok(Question::Conflicts(asked_in(alloc, parts)?)),
+        "missing" => missing_in(alloc, table, parts),
+        "vector" => {
+            check_none(parts)?;
+            Ok(Question::Vector)
+        }
+        _ => Err(Refusal::BadLine),
+    }
+}
+
+/// An expression for what is asked about.
+fn asked_in(alloc: Global, parts: &[Value]) -> Result<Expr, Refusal>
+    ensures { (what : List Step → TheQuestion) → IsRead (λ e. OfDocument (what e)) result (asking_of what (items_view parts.now)) }
+{
+    let [expression] = parts else {
+        return Err(Refusal::BadLine);
+    };
+    expression_in(alloc, expression)
+}
+
+fn missing_in(
+    alloc: Global,
+    table: Option<&ReplicaTable>,
+    parts: &[Value],
+) -> Result<Question, Refusal>
+    ensures read { IsRead (asked_of (table_in (option_map (λ t. t.now) table.entry))) result (missing_of (option_map (λ t. t.now) table.entry) (items_view parts.now)) }
+    ensures beside { IfOk result (IsBeside (table_in (option_map (λ t. t.now) table.entry))) }
+{
+    let Some(table) = table else {
+        return Err(Refusal::BadLine);
+    };
+    let [vector] = parts else {
+        return Err(Refusal::BadLine);
+    };
+    Ok(Question::Missing(vector_in(alloc, table, vector)?))
+}
+
+/// Nothing follows the word.
+fn check_none(parts: &[Value]) -> Result<(), Refusal>
+    ensures { IsRead (λ _. OfDocument AppliedVector) result (applied_of (items_view parts.now)) }
+{
+    let [] = parts else {
+        return Err(Refusal::BadLine);
+    };
+    Ok(())
+}
