@@ -1,6 +1,6 @@
 //! The history of a replica, with the document that it leaves.
 
-ghost use Rattle.std.specs.Prelude.{◌≡◌, ◌≤◌, ◌⊎◌, ◌↔◌, ◌∷◌, [], List, Ok, true, IsTrue, IsFalse, length, map, reverse, IfOk, OnOk, IfErr, Err};
+ghost use Rattle.std.specs.Prelude.{◌≡◌, ◌≤◌, ◌⊎◌, ◌↔◌, ◌∷◌, [], Ok, true, IsTrue, IsFalse, length, IfOk, OnOk, IfErr, Err};
 ghost use Rattle.ids.specs.declared.refusal.Refusal.TheVariants.{NoMemory, BadConfig};
 ghost use Rattle.ids.specs.Members.{in_order, is_member};
 ghost use Rattle.ids.specs.Configurations.{are_members};
@@ -8,11 +8,9 @@ ghost use Rattle.semantics.specs.NamedIds.{vector_of};
 ghost use Rattle.semantics.specs.Tables.{by_table, greatest_in};
 ghost use Rattle.semantics.specs.LegalHistory.{greatest_of};
 ghost use Rattle.semantics.specs.Context.{doc};
-ghost use Rattle.semantics.specs.Elements.{At, Element};
-ghost use Rattle.semantics.specs.Operations.{element_of};
-ghost use Rattle.semantics.specs.Entries.{applied, missing, stamped_in, stamped_of as stamped_entries};
-ghost use Rattle.semantics.specs.DocumentAnswer.{document_answer, visible_items};
-ghost use Rattle.semantics.specs.Questions.{answer_at, resolve, Answer, Question as TheQuestion, Refused};
+ghost use Rattle.semantics.specs.Entries.{applied, stamped_in};
+ghost use Rattle.semantics.specs.DocumentAnswer.{visible_items};
+ghost use Rattle.semantics.specs.Questions.{resolve, Question as TheQuestion, Refused};
 ghost use Rattle.semantics.specs.LegalAnswer.{reading_of, Answered, OfDocument};
 ghost use Rattle.semantics.specs.View.{view};
 ghost use Rattle.operation.specs.Meanings.{entry_of, op_in, stamped_of};

@@ -1,14 +1,13 @@
 //! Putting a new item into a list, and writing it.
 
 ghost use Rattle.std.specs.Prelude.{◌≡◌, ◌<◌, ℕ, List, Option, Some, None, IsTrue, IsFalse, IsSome, length, map, option_map, slice_get};
-ghost use Rattle.semantics.specs.Ids.{OpId as TheId};
 ghost use Rattle.semantics.specs.Elements.{Element, Item, EmptyMap};
 ghost use Rattle.semantics.specs.Operations.{Insert, slot_of};
 ghost use Rattle.value.specs.Meanings.{scalar_of};
 ghost use Rattle.cursor.specs.Meanings.{hop_of, tag_of};
 ghost use Rattle.columns.specs.Orders.{has_item, has_place};
-ghost use Rattle.tree.specs.Nodes.{AreBeside, IsTree, MoreRoom, SameLinks, context, node_at, number, order_of, order_room, presence_room, register_room};
-ghost use Rattle.tree.specs.Writes.{HasRoom, IsStamp, assigned, deps_of, end_of, linked};
+ghost use Rattle.tree.specs.Nodes.{AreBeside, IsTree, MoreRoom, SameLinks, context, node_at, number, order_of, order_room};
+ghost use Rattle.tree.specs.Writes.{IsStamp, assigned, deps_of, end_of, linked};
 ghost use Rattle.tree.specs.Trees.{CanInsert, SlotIs};
 
 use crate::clear::clear_below;

@@ -1,8 +1,8 @@
 //! A tree: the nodes, and the calls that keep them beside the table.
 
-ghost use Rattle.std.specs.Prelude.{◌≡◌, ◌⊎◌, IsTrue, IfOk, IfErr, OnOk, Ok, Err, length, map};
+ghost use Rattle.std.specs.Prelude.{◌≡◌, ◌⊎◌, IsTrue, IfOk, IfErr, OnOk, Ok, Err, length};
 ghost use Rattle.ids.specs.declared.refusal.Refusal.TheVariants.{NoMemory};
-ghost use Rattle.ids.specs.Members.{AreDistinct, is_member};
+ghost use Rattle.ids.specs.Members.{is_member};
 ghost use Rattle.semantics.specs.LegalHistory.{IsFormed};
 ghost use Rattle.semantics.specs.Operations.{element_of};
 ghost use Rattle.semantics.specs.Context.{apply, empty};
@@ -10,8 +10,7 @@ ghost use Rattle.semantics.specs.Stamped.{loose_operation};
 ghost use Rattle.semantics.specs.Questions.{resolve};
 ghost use Rattle.semantics.specs.DocumentAnswer.{visible_items, visible_names};
 ghost use Rattle.operation.specs.Meanings.{mutation_of, stamped_of};
-ghost use Rattle.tree.specs.Nodes.{AreBeside, IsTree, context, tagged, valued};
-ghost use Rattle.tree.specs.Writes.{IsStamp, deps_of};
+ghost use Rattle.tree.specs.Nodes.{context, tagged, valued};
 ghost use Rattle.tree.specs.Trees.{IsPlaced, IsReady, Planted, document};
 
 use crate::answer::{conflicts, items, keys, values};

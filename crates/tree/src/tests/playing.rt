@@ -12,7 +12,7 @@ use crate::insert::slot_of;
 use crate::node::Node;
 use crate::tree::Tree;
 use crate::walk::walk;
-use cursor::{Place, Tag};
+use cursor::Place;
 use ids::{OpId, ReplicaId, ReplicaTable};
 use operation::{Mutation, Op};
 use std::alloc::Global;
