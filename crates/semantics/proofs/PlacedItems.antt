@@ -61,9 +61,9 @@ Adds a b xs ys = has a ys ≡ true → (is_same_id a b ≡ true) ⊎ (has a xs �
 adds_first : (a b x : OpId) (xs ys : List OpId) → Adds a b xs ys → Adds a b (x ∷ xs) (x ∷ ys)
 unfolding Adds
 adds_first a b x xs ys k h = elim (or_cases (is_same_id a x) (has a ys) h) [
-    | inl f ↦ inr (or_left (is_same_id a x) (has a xs) f)
-    | inr r ↦ elim (k r) [ inl f ↦ inl f | inr i ↦ inr (or_right (is_same_id a x) (has a xs) i) ]
-  ]
+  | inl f ↦ inr (or_left (is_same_id a x) (has a xs) f)
+  | inr r ↦ elim (k r) [ inl f ↦ inl f | inr i ↦ inr (or_right (is_same_id a x) (has a xs) i) ]
+]
 
 skip_adds : (a b : OpId) (xs : List OpId) → Adds a b xs (skip b xs)
 unfolding Adds
@@ -92,9 +92,9 @@ pub item_among : (H : List Operation) (l : Element) (a : OpId) → has a ((doc H
 unfolding Adds
 item_among [] l a h = h
 item_among (o ∷ H) l a h = elim (some_adds (inserted_after o l) a o.id ((doc H).order l) h) [
-    | inl s ↦ or_left (is_same_id o.id a) (has_id H a) (ap (λ b. is_same_id o.id b) (ids_from_test a o.id s) ∙ id_itself o.id)
-    | inr r ↦ or_right (is_same_id o.id a) (has_id H a) (item_among H l a r)
-  ]
+  | inl s ↦ or_left (is_same_id o.id a) (has_id H a) (ap (λ b. is_same_id o.id b) (ids_from_test a o.id s) ∙ id_itself o.id)
+  | inr r ↦ or_right (is_same_id o.id a) (has_id H a) (item_among H l a r)
+]
 
 slot_is : (a b : Element × Option OpId) → Some a ≡ Some b → a ≡ b
 slot_is a b e = cc
