@@ -9,3 +9,4 @@ pub mod Chains
 pub mod Walks
 pub mod Left
 pub mod Linked
+pub mod Removals

@@ -1,8 +1,9 @@
 //! A number by each id.
 
-ghost use Rattle.std.specs.Prelude.{◌≡◌, ◌≤◌, ◌<◌, ◌+◌, [], length, Some, slice_get, IsTrue, OnOk, MatchResult, vec_len, vec_capacity};
+ghost use Rattle.std.specs.Prelude.{◌≡◌, ◌≤◌, ◌<◌, ◌+◌, [], not, length, Some, slice_get, IsTrue, OnOk, MatchResult, vec_len, vec_capacity};
 ghost use Rattle.std.specs.FinMap.{find, put, is_sorted};
-ghost use Rattle.semantics.specs.Ids.{id_cmp};
+ghost use Rattle.std.specs.FinMap.Entries.{where_key};
+ghost use Rattle.semantics.specs.Ids.{id_cmp, is_same_id};
 ghost use Rattle.columns.specs.Rank.{GoesTo, StandsAt, keys_of};
 
 use ids::OpId;
@@ -87,6 +88,18 @@ impl Numbers {
         ensures room { self.old.room ≤ self.new.room + 1 }
     {
         put_in(&mut self.entries, id, number);
+    }
+
+    /// Takes an id out, and answers its number. Searches by halves, and moves each entry of a greater id.
+    pub fn remove(&mut self, id: &OpId) -> Option<usize>
+        ensures number { result ≡ find id_cmp id.now self.old.entries }
+        ensures entries { self.new.entries ≡ where_key id_cmp (λ b. not (is_same_id id.now b)) self.old.entries }
+        ensures room { self.old.room ≤ self.new.room }
+    {
+        match find_id(&self.entries, id) {
+            Ok(place) => Some(self.entries.remove(place).1),
+            Err(_) => None,
+        }
     }
 }
 

@@ -302,6 +302,34 @@ fn a_put_number_replaces(rt: HostRuntime) -> Result<(), Fail> {
     Ok(())
 }
 
+#[test]
+fn removed_numbers_are_gone(rt: HostRuntime) -> Result<(), Fail> {
+    let all = [(1, 1, 7), (1, 2, 5), (2, 1, 9)];
+    let rows: [((u64, u32), Option<usize>, &[(u64, u32, usize)]); 4] = [
+        ((1, 1), Some(7), &[(1, 2, 5), (2, 1, 9)]),
+        ((1, 2), Some(5), &[(1, 1, 7), (2, 1, 9)]),
+        ((2, 1), Some(9), &[(1, 1, 7), (1, 2, 5)]),
+        ((2, 2), None, &all),
+    ];
+    for ((counter, replica), number, left) in rows {
+        let mut numbers = numbers(rt.alloc(), &all)?;
+        let gone = id(counter, replica)?;
+        assert_eq!(rt; numbers.remove(&gone), number, "of {gone:?}");
+        assert_eq!(rt; numbers.get(&gone), None, "of {gone:?}");
+        assert_eq!(rt; numbers.len(), left.len(), "without {gone:?}");
+        for (place, (counter, replica, number)) in left.iter().enumerate() {
+            let id = id(*counter, *replica)?;
+            assert_eq!(rt;
+                numbers.at(place),
+                (id, *number),
+                "at {place} without {gone:?}"
+            );
+            assert_eq!(rt; numbers.get(&id), Some(*number), "{id:?} without {gone:?}");
+        }
+    }
+    Ok(())
+}
+
 /// Puts a field that isn't there.
 fn put_field(fields: &mut Fields, alloc: Global, text: &str, number: usize) -> Result<(), Fail> {
     let key = Key::new(alloc, text)?;
