@@ -1,2 +1,3 @@
 -- What a document holds, and what it answers.
 pub mod Documents
+pub mod Checks

@@ -1,14 +1,16 @@
 //! The history of a replica, with the document that it leaves.
 
-ghost use Rattle.std.specs.Prelude.{◌≡◌, ◌≤◌, ◌⊎◌, ◌↔◌, ◌∷◌, [], Ok, true, IsTrue, IsFalse, length, IfOk, OnOk, IfErr, Err};
+ghost use Rattle.std.specs.Prelude.{◌≡◌, ◌≤◌, ◌⊎◌, ◌↔◌, ◌∷◌, [], Ok, None, Some, true, IsTrue, IsFalse, IsOk, MatchResult, length, IfOk, OnOk, IfErr, Err};
 ghost use Rattle.ids.specs.declared.refusal.Refusal.TheVariants.{NoMemory, BadConfig};
 ghost use Rattle.ids.specs.Members.{in_order, is_member};
 ghost use Rattle.ids.specs.Configurations.{are_members};
 ghost use Rattle.semantics.specs.NamedIds.{vector_of};
 ghost use Rattle.semantics.specs.Tables.{by_table, greatest_in};
-ghost use Rattle.semantics.specs.LegalHistory.{greatest_of};
+ghost use Rattle.semantics.specs.LegalHistory.{greatest_of, has_id};
+ghost use Rattle.semantics.specs.Stamped.{MayFollow};
+ghost use Rattle.semantics.specs.Faults.{StandsAlone, fault_of, is_ready};
 ghost use Rattle.semantics.specs.Context.{doc};
-ghost use Rattle.semantics.specs.Entries.{applied, stamped_in};
+ghost use Rattle.semantics.specs.Entries.{applied, stamped_in, stamped_of as stamped_entries};
 ghost use Rattle.semantics.specs.DocumentAnswer.{visible_items};
 ghost use Rattle.semantics.specs.Questions.{resolve, Question as TheQuestion, Refused};
 ghost use Rattle.semantics.specs.LegalAnswer.{reading_of, Answered, OfDocument};
@@ -17,9 +19,10 @@ ghost use Rattle.operation.specs.Meanings.{entry_of, op_in, stamped_of};
 ghost use Rattle.oplog.specs.Logs.{history};
 
 use crate::answer::answer;
+use crate::check::check;
 use crate::question::{Question, Reading};
 use cursor::{Expr, Place};
-use ids::{Refusal, ReplicaTable};
+use ids::{OpId, Refusal, ReplicaTable};
 use operation::{Entry, Op};
 use oplog::Log;
 use std::alloc::Global;
@@ -66,7 +69,7 @@ impl Document {
         let applied = VersionVector::zero(alloc, table.len())?;
         let tree = Tree::new(alloc, &table)?;
         Ok(Document {
-            log: Log::new(alloc, table),
+            log: Log::new(alloc, table)?,
             applied,
             tree,
         })
@@ -93,6 +96,34 @@ impl Document {
         ensures few { greatest_in result.now ≤ length self.now.entries }
     {
         &self.applied
+    }
+
+    /// Whether an operation with this id was applied. A search by halves.
+    pub fn contains(&self, id: OpId) -> bool
+        ensures { result ≡ has_id (applied self.now.entries) id }
+    {
+        self.log.find(id).is_some()
+    }
+
+    /// Whether all that the operation's vector names is at most what was applied. Compares eight counters at once.
+    pub fn ready(&self, op: &Op) -> bool
+        requires width { length op.now.deps ≡ length self.now.table }
+        ensures { result ≡ is_ready (applied self.now.entries) (stamped_of self.now.table op.now) }
+    {
+        op.deps.le(&self.applied)
+    }
+
+    /// What is wrong with a ready operation, against the history. Takes no memory. For each counter of its vector it searches by halves, and it walks down its place.
+    ///
+    /// # Errors
+    /// In this order: `BrokenChain` where its vector doesn't name all that was applied of its own replica; `NamesNothing` where a counter of its vector is that of no applied operation; `NotClosed` where an operation that its vector names has a vector that isn't at most this; `BadPlace` where an item of its place was not inserted into that very list.
+    pub fn check(&self, op: &Op) -> Result<(), Refusal>
+        requires width { length op.now.deps ≡ length self.now.table }
+        ensures fault { let fault = fault_of (stamped_entries self.now.entries) (stamped_of self.now.table op.now) in
+            MatchResult result (λ _. fault ≡ None) (λ why. fault ≡ Some why) }
+        ensures lawful { StandsAlone (stamped_of self.now.table op.now) → IsOk result ↔ MayFollow (applied self.now.entries) (stamped_of self.now.table op.now) }
+    {
+        check(&self.log, &self.applied, &self.tree, op)
     }
 
     /// The place that an expression leads to.

@@ -1,4 +1,9 @@
-//! Documents before their first entry, and with one; longer ones are tested with the replicas that make them.
+//! Documents before their first entry, and as the operations of peers leave them.
+
+mod asking;
+mod checks;
+mod orders;
+mod receiving;
 
 use super::*;
 use cursor::Place;

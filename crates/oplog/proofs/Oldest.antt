@@ -1,18 +1,16 @@
 -- A history that is kept oldest first: its places, and one more entry.
-use Rattle.std.proofs.Common.{◌≡◌, refl, sym, ap, ◌∙◌, ℕ, zero, suc, ◌+◌, ◌<◌, Bool, true, false, cond, ◌==◌, List, [], ◌∷◌, ◌++◌, map, reverse, length, take, get_or, subst, arith, Some, None, slice_get}
+use Rattle.std.proofs.Common.{◌≡◌, refl, sym, ap, ◌∙◌, ℕ, zero, suc, ◌<◌, Bool, true, false, cond, ◌==◌, List, [], ◌∷◌, ◌++◌, map, reverse, length, subst, arith, Some, None, slice_get}
 use Rattle.std.specs.Option.{option_map}
 use Rattle.std.proofs.lemmas.Bool.{eq-eqb, eqb-true, eqb-false, ne_eqb}
-use Rattle.std.proofs.lemmas.List.{map-append, reverse-append, length-reverse, length-map, length-take, take_more}
+use Rattle.std.proofs.lemmas.List.{map-append, reverse-append, length-reverse, length-map}
 use Rattle.std.specs.List.{All, zip}
 use Rattle.std.proofs.lemmas.List.Elements.{All-nil, All-cons}
 use Rattle.std.proofs.lemmas.Option.{slice_get-map, slice_get_within}
-use Rattle.ids.specs.declared.id.OpId.{OpId}
-use Rattle.semantics.specs.Ids.{is_same_id}
 use Rattle.semantics.specs.Entries.{Entry as TheEntry, entry_at, stamped_in}
 use Rattle.operation.specs.declared.command.Entry.{Entry}
 use Rattle.operation.specs.declared.command.Entry.TheVariants.{Own, Peer}
 use Rattle.operation.specs.Meanings.{entry_of}
-use Rattle.oplog.specs.Logs.{StandAt, history, id_in, place_of}
+use Rattle.oplog.specs.Logs.{StandAt, history, id_in}
 
 pub reverse-twice : {X : Type 0} (xs : List X) → reverse (reverse xs) ≡ xs
 reverse-twice [] = refl
@@ -55,17 +53,6 @@ history-length table entries = length-reverse (map (entry_of table) entries) ∙
 pub same-id : (table : List ℕ) (e : Entry) → (stamped_in (entry_of table e)).id ≡ id_in e
 same-id table (Own client serial command op) = refl
 same-id table (Peer op) = refl
-
--- what is found in one more entry
-pub place_of-more : (table : List ℕ) (entries : List Entry) (n : ℕ) (e : Entry) (a : OpId) → n < length entries → get_or entries n e ≡ e
-    → place_of a (history table (take (n + 1) entries)) ≡ cond (is_same_id (id_in e) a) (Some n) (place_of a (history table (take n entries)))
-place_of-more table entries n e a lt is =
-    ap (λ l. place_of a (history table l)) (take_more entries n e lt ∙ ap (λ x. take n entries ++ x ∷ []) is)
-    ∙ ap (place_of a) (history-more table (take n entries) e)
-    ∙ (λ t. cond (is_same_id (same-id table e t) a) (Some (size t)) (place_of a (history table (take n entries))))
-  where
-    size : length (history table (take n entries)) ≡ n
-    size = history-length table (take n entries) ∙ omega (arith, length-take n entries)
 
 -- one more index
 pub StandAt-more : (table indices : List ℕ) (entries : List Entry) (i : ℕ) (e : Entry) → StandAt table indices entries

@@ -1,16 +1,19 @@
-//! A list of entries, with a column of their counters and one of their replicas.
+//! A list of entries, with a column of their counters and one of their replicas, and for each replica the places of its operations.
 
-ghost use Rattle.std.specs.Prelude.{◌≡◌, ◌≤◌, ◌<◌, ◌+◌, ◌∷◌, [], IsTrue, ℕ, List, Some, option_map, map, reverse, length, IfOk, IfErr, OnOk};
+ghost use Rattle.std.specs.Prelude.{◌≡◌, ◌≤◌, ◌<◌, ◌+◌, ◌∷◌, [], IsTrue, ℕ, List, Some, option_map, map, replicate, reverse, set, length, IfOk, IfErr, IfSome, OnOk, slice_index_or};
 ghost use Rattle.std.specs.List.{items_where_true, range_with_len};
+ghost use Rattle.std.specs.FinMap.{put};
 ghost use Rattle.ids.specs.declared.refusal.Refusal.TheVariants.{NoMemory};
 ghost use Rattle.ids.specs.Members.{AreDistinct, is_member};
+ghost use Rattle.semantics.specs.Ids.{id_cmp};
 ghost use Rattle.semantics.specs.Tables.{by_table};
 ghost use Rattle.semantics.specs.Vectors.{Vector};
 ghost use Rattle.semantics.specs.Entries.{Entry as TheEntry, entry_at, missing, stamped_in, stamped_of};
-ghost use Rattle.operation.specs.Meanings.{entry_of};
+ghost use Rattle.operation.specs.Meanings.{entry_of, op_in};
 ghost use Rattle.version.specs.Columns.{first_bits};
-ghost use Rattle.oplog.specs.Logs.{history, missing_places, place_of};
+ghost use Rattle.oplog.specs.Logs.{history, least_room, missing_places, numbers_of, place_of};
 
+use columns::Numbers;
 use ids::{OpId, Refusal, ReplicaTable};
 use operation::Entry;
 use std::alloc::{AllocError, Global};
@@ -24,36 +27,43 @@ pub struct Log {
     entries: Vec<Entry>,
     counters: Vec<u64>,
     indices: Vec<usize>,
+    /// For each replica of the table the places of its operations, by their ids.
+    places: Vec<Numbers>,
 }
 
 impl Model for Log {
     ghost use Rattle.std.specs.Prelude.{min, ◌-◌, vec_len, vec_capacity};
     ghost use Rattle.std.specs.Coded.{codes};
     ghost use Rattle.semantics.specs.Codes.{coded_element};
-    ghost use Rattle.oplog.specs.Logs.{Logged, IsIndexed, history};
+    ghost use Rattle.oplog.specs.Logs.{Logged, IsIndexed, history, least_room};
 
     ghost Value = { Logged };
 
     ghost coded = { Prim.hlevel (codes, coded_element) };
 
-    ghost view = { λ l. record { table = l.table; entries = history l.table l.entries.items; room = min (vec_capacity l.entries - vec_len l.entries) (min (vec_capacity l.counters - vec_len l.counters) (vec_capacity l.indices - vec_len l.indices)) } };
+    ghost view = { λ l. record { table = l.table; entries = history l.table l.entries.items; room = min (vec_capacity l.entries - vec_len l.entries) (min (vec_capacity l.counters - vec_len l.counters) (least_room (vec_capacity l.indices - vec_len l.indices) l.places.items)) } };
 
-    ghost invariant = { λ l. IsIndexed l.table l.counters.items l.indices.items l.entries.items };
+    ghost invariant = { λ l. IsIndexed l.table l.counters.items l.indices.items l.places.items l.entries.items };
 }
 
 impl Log {
     /// A log with no entries.
-    pub fn new(alloc: Global, table: ReplicaTable) -> Log
+    ///
+    /// # Errors
+    /// Want of memory.
+    pub fn new(alloc: Global, table: ReplicaTable) -> Result<Log, AllocError>
         requires { AreDistinct table }
-        ensures table { result.table ≡ table }
-        ensures entries { result.entries ≡ [] }
+        ensures table { IfOk result (λ l. l.table ≡ table) }
+        ensures entries { IfOk result (λ l. l.entries ≡ []) }
     {
-        Log {
+        let places = no_places(alloc, table.len())?;
+        Ok(Log {
             table,
             entries: Vec::new(alloc),
             counters: Vec::new(alloc),
             indices: Vec::new(alloc),
-        }
+            places,
+        })
     }
 
     pub fn table(&self) -> &ReplicaTable
@@ -71,16 +81,18 @@ impl Log {
 
     /// The entry at this place, where the oldest is at 0, or nothing past the end.
     pub fn get(&self, place: usize) -> Option<&Entry>
-        ensures { option_map (λ e. entry_of self.now.table e.now) result ≡ entry_at place self.now.entries }
+        ensures entry { option_map (λ e. entry_of self.now.table e.now) result ≡ entry_at place self.now.entries }
+        ensures width { IfSome result (λ e. length (op_in e.now).deps ≡ length self.now.table) }
     {
         self.entries.get(place)
     }
 
-    /// The place of the operation with this id. Looks at the entries from the newest on, one by one.
+    /// The place of the operation with this id. A search by halves among those of its replica.
     pub fn find(&self, id: OpId) -> Option<usize>
         ensures { result ≡ place_of id self.now.entries }
     {
-        find_in(&self.entries, id)
+        let index = self.table.index_of(id.replica)?;
+        self.places[index].get(&id)
     }
 
     /// The places of the operations that the vector doesn't cover, rising. Compares eight counters at once; takes memory for a bound and a bit of each entry, and for the answer.
@@ -107,7 +119,7 @@ impl Log {
         places_of(alloc, &mask, count)
     }
 
-    /// Makes room for one more entry.
+    /// Makes room for one more entry, of whichever replica. Looks at the room of each replica's places.
     ///
     /// # Errors
     /// Want of memory.
@@ -119,22 +131,27 @@ impl Log {
     {
         self.entries.reserve(1)?;
         self.counters.reserve(1)?;
-        self.indices.reserve(1)
+        self.indices.reserve(1)?;
+        reserve_places(&mut self.places)
     }
 
     /// Appends an entry, for which there is room. Takes no memory.
     pub fn push(&mut self, entry: Entry)
         requires room { 0 < self.old.room }
+        requires width { length (op_in entry).deps ≡ length self.old.table }
         requires member { IsTrue (is_member self.old.table (stamped_in (entry_of self.old.table entry)).id.replica) }
         ensures table { self.new.table ≡ self.old.table }
         ensures entries { self.new.entries ≡ entry_of self.old.table entry ∷ self.old.entries }
         ensures room { self.old.room ≤ self.new.room + 1 }
     {
-        let id = entry.op().id;
-        let Some(index) = self.table.index_of(id.replica) else {
+        let OpId { counter, replica } = entry.op().id;
+        let Some(index) = self.table.index_of(replica) else {
             unreachable!()
         };
-        self.counters.push_reserved(id.counter);
+        let id = OpId { counter, replica };
+        let place = self.entries.len();
+        put_place(&mut self.places, index, id, place);
+        self.counters.push_reserved(counter);
         self.indices.push_reserved(index);
         self.entries.push_reserved(entry);
     }
@@ -147,18 +164,39 @@ impl Log {
     }
 }
 
-/// The place of the newest entry with this id.
-fn find_in(entries: &[Entry], id: OpId) -> Option<usize>
-    ensures { (table : List ℕ) → result ≡ place_of id (history table entries.now) }
+/// For each of so many replicas no places.
+fn no_places(alloc: Global, count: usize) -> Result<Vec<Numbers>, AllocError>
+    ensures { IfOk result (λ v. numbers_of v.items ≡ replicate count []) }
 {
-    let mut place = entries.len();
-    while place > 0 {
-        place -= 1;
-        if entries[place].op().id == id {
-            return Some(place);
-        }
+    let mut places = Vec::with_capacity(alloc, count)?;
+    for _ in 0..count {
+        places.push(Numbers::new(alloc))?;
     }
-    None
+    Ok(places)
+}
+
+/// Makes room for one more place of each replica.
+fn reserve_places(places: &mut Vec<Numbers>) -> Result<(), AllocError>
+    ensures same { numbers_of places.new.items ≡ numbers_of places.old.items }
+    ensures room { (n : ℕ) → 0 < n → OnOk result (0 < least_room n places.new.items) }
+    ensures kept { (n : ℕ) → least_room n places.old.items ≤ least_room n places.new.items }
+{
+    for index in 0..places.len() {
+        let numbers = &mut places[index];
+        numbers.reserve_one()?;
+    }
+    Ok(())
+}
+
+/// Puts the place of an operation among those of its replica. Moves none where its id is the greatest of them.
+fn put_place(places: &mut Vec<Numbers>, index: usize, id: OpId, place: usize)
+    requires inside { index < length places.old.items }
+    requires room { 0 < least_room 1 places.old.items }
+    ensures numbers { numbers_of places.new.items ≡ set (numbers_of places.old.items) index (put id_cmp id place (slice_index_or (numbers_of places.old.items) index [])) }
+    ensures room { (n : ℕ) → least_room (n + 1) places.old.items ≤ least_room n places.new.items + 1 }
+{
+    let numbers = &mut places[index];
+    numbers.put(id, place);
 }
 
 /// The places below `count` whose bits are set, rising.

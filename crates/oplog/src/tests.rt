@@ -52,14 +52,17 @@ fn new_log(alloc: Global) -> Result<Log, Fail> {
     if table.len() != 3 {
         return Err("another table".into());
     }
-    Ok(Log::new(alloc, table))
+    Ok(Log::new(alloc, table)?)
 }
 
-/// Appends an entry of a member.
+/// Appends an entry of a member, whose vector has the table's width.
 fn append(log: &mut Log, entry: Entry) -> Result<(), Fail> {
     let replica = entry.op().id.replica;
     if log.table().index_of(replica).is_none() {
         return Err("no member".into());
+    }
+    if entry.op().deps.width() != log.table().len() {
+        return Err("another width".into());
     }
     log.reserve_one()?;
     log.push(entry);
@@ -116,6 +119,58 @@ fn entries_stand_in_order(rt: HostRuntime) -> Result<(), Fail> {
             }
         )
     );
+    Ok(())
+}
+
+/// Twelve entries of three replicas, each with rising counters, in an order that isn't that of the ids.
+fn interleaved(alloc: Global, ids: &[(u64, u32); 12]) -> Result<Log, Fail> {
+    let mut log = new_log(alloc)?;
+    for &(counter, replica) in ids {
+        append(
+            &mut log,
+            Entry::Peer(op(alloc, counter, replica, &[0, 0, 0])?),
+        )?;
+    }
+    Ok(log)
+}
+
+#[test]
+fn each_replica_has_its_places(rt: HostRuntime) -> Result<(), Fail> {
+    let alloc = rt.alloc();
+    let ids = [
+        (1, 3),
+        (2, 3),
+        (1, 1),
+        (5, 2),
+        (3, 1),
+        (6, 2),
+        (4, 3),
+        (9, 1),
+        (10, 2),
+        (7, 3),
+        (12, 1),
+        (13, 2),
+    ];
+    let log = interleaved(alloc, &ids)?;
+    for (place, &(counter, replica)) in ids.iter().enumerate() {
+        let want = id(counter, replica)?;
+        assert_eq!(rt; log.find(want), Some(place), "of {want}");
+    }
+    // Before, between and after those of a replica, and of replicas that are no members.
+    let nowhere = [
+        (0, 2),
+        (2, 1),
+        (7, 2),
+        (5, 3),
+        (13, 1),
+        (14, 2),
+        (1, 4),
+        (5, 9),
+    ];
+    for (counter, replica) in nowhere {
+        let absent = id(counter, replica)?;
+        assert_eq!(rt; log.find(absent), None, "of {absent}");
+    }
     Ok(())
 }
 

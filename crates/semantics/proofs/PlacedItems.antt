@@ -1,12 +1,15 @@
 -- Which items stand in the lists of a legal history.
-use Rattle.std.proofs.Common.{◌≡◌, ◌⊎◌, inl, inr, Bool, true, false, cond, ◌||◌, List, [], ◌∷◌, Option, Some, None, refl, sym, ap, ◌∙◌, true≢false}
+use Rattle.std.proofs.Common.{◌≡◌, ◌⊎◌, inl, inr, Bool, true, false, cond, ◌&&◌, ◌||◌, List, [], ◌∷◌, Option, Some, None, is_some, refl, sym, ap, ◌∙◌, true≢false}
 use Rattle.std.specs.List.{list_any}
-use Rattle.std.proofs.lemmas.Bool.{or_cases, or_left, or_right}
+use Rattle.std.specs.Cmp.{both_ways}
+use Rattle.std.proofs.lemmas.Bool.{and_from, or_cases, or_left, or_right}
 use Rattle.semantics.specs.Ids.{OpId, is_same_id, is_smaller_id}
-use Rattle.semantics.specs.Elements.{Element, Doc, Field, Item, Place, At, HeadOf, is_same}
+use Rattle.semantics.specs.Elements.{Element, Doc, Field, Item, Place, At, HeadOf}
 use Rattle.semantics.specs.Operations.{Operation, Mutation, Assign, Insert, Delete, slot_of, after_in, inserted_after, element_of}
 use Rattle.semantics.specs.LegalHistory.{has_id, IsItemOf, ItemsStand, Follows, IsLegal}
 use Rattle.semantics.specs.Context.{skip, insert_after, insert_some, doc}
+use Rattle.semantics.specs.Faults.{is_item_of}
+use Rattle.semantics.proofs.ItemTests.{item_from}
 use Rattle.semantics.proofs.Orders.{element_itself, id_itself, ids_from_test}
 
 -- a is one of the items
@@ -129,3 +132,22 @@ items_there (o ∷ H) legal l a (x, inr among, id, slot) = by (inserted_after o 
 -- what an insert that may follow goes after stands in its list, if it isn't the head
 pub prev_there : (H : List Operation) (o : Operation) → IsLegal H → Follows H o → (l : Element) (p : Option OpId) → slot_of o.mutation o.place ≡ Some (l, p) → has_prev p ((doc H).order l) ≡ true
 prev_there H o legal follows l p is = prev_in H o.deps (items_there H legal) o.mutation o.place l p follows.items is
+
+-- what stands in a list was inserted into it
+item_listed : (H : List Operation) (l : Element) (a : OpId) → has a ((doc H).order l) ≡ true → is_item_of H l a ≡ true
+unfolding Adds
+item_listed [] l a h = absurd (true≢false (sym h))
+item_listed (o ∷ H) l a h = by (inserted_after o l) refl (item_listed H l a) h where
+  by : (g : Option (Option OpId)) → inserted_after o l ≡ g → (has a ((doc H).order l) ≡ true → is_item_of H l a ≡ true)
+      → has a (insert_some g o.id ((doc H).order l)) ≡ true → is_item_of (o ∷ H) l a ≡ true
+  by None e rest h = or_right (is_same_id o.id a && is_some (inserted_after o l)) (is_item_of H l a) (rest h)
+  by (Some p) e rest h = elim (insert_adds p a o.id ((doc H).order l) h) [
+    | inl s ↦ or_left (is_same_id o.id a && is_some (inserted_after o l)) (is_item_of H l a)
+        (and_from (is_same_id o.id a) (is_some (inserted_after o l)) (ap (λ b. is_same_id o.id b) (ids_from_test a o.id s) ∙ id_itself o.id) (ap is_some e))
+    | inr r ↦ or_right (is_same_id o.id a && is_some (inserted_after o l)) (is_item_of H l a) (rest r)
+  ]
+
+-- the items of a list in a legal history are those that were inserted into it
+pub items_inserted : (H : List Operation) → IsLegal H → (l : Element) (a : OpId) → has a ((doc H).order l) ≡ is_item_of H l a
+unfolding AreThere
+items_inserted H legal l a = both_ways (has a ((doc H).order l)) (is_item_of H l a) (item_listed H l a) (λ h. items_there H legal l a (item_from H l a h))

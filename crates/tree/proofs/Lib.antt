@@ -19,6 +19,7 @@ pub mod Pushed
 pub mod Linked
 pub mod LinkedChildren
 pub mod Slots
+pub mod StandingItems
 pub mod Applied
 pub mod Reserved
 pub mod Roots

@@ -1,9 +1,10 @@
 -- A tree as contracts see it, and what an operation needs of it.
-use Rattle.std.specs.Prelude.{◌≡◌, ℕ, ◌<◌, IsTrue, IsFalse, List, Option, Some, None, IsSome, option_map, map}
+use Rattle.std.specs.Prelude.{◌≡◌, ℕ, ◌<◌, Bool, true, ◌&&◌, IsTrue, IsFalse, List, Option, Some, None, IsSome, option_map, map}
 use Rattle.ids.specs.Members.{AreDistinct}
 use Rattle.semantics.specs.Ids.{OpId}
-use Rattle.semantics.specs.Elements.{Element, Item, Value}
+use Rattle.semantics.specs.Elements.{Element, Doc, Field, Item, Value}
 use Rattle.semantics.specs.Operations.{scalar_in, slot_of, target_in, value_of}
+use Rattle.semantics.specs.Paths.{Key, FieldKey, ItemKey}
 use Rattle.semantics.specs.Context.{Context}
 use Rattle.semantics.specs.Stamped.{Stamped}
 use Rattle.value.specs.declared.value.Scalar.{Scalar}
@@ -70,3 +71,14 @@ pub record CanInsert (ns : List Node) (l : Element) (p : Option OpId) (a : OpId)
 -- the slot of the program is that of the definitions
 abbrev pub SlotIs : Option Slot → Option (Element × Option OpId) → Type 0
 SlotIs o slot = option_map (λ s. (end_of (map hop_of s.list.now), s.prev)) o ≡ slot
+
+-- the key is a field's, or that of one of these items
+abbrev pub has_key : List OpId → Key → Bool
+has_key items (FieldKey n) = true
+has_key items (ItemKey a) = has_item a items
+
+-- each item on the way down to e stands in the list that it is entered from
+abbrev pub items_stand : Context → Element → Bool
+items_stand C Doc = true
+items_stand C (Field e n) = items_stand C e
+items_stand C (Item l a) = has_item a (C.order l) && items_stand C l

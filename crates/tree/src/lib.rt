@@ -6,6 +6,7 @@ mod apply;
 mod clear;
 mod grow;
 mod insert;
+mod listed;
 mod node;
 mod reserve;
 mod resolve;

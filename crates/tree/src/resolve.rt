@@ -110,7 +110,7 @@ impl Walker {
 }
 
 /// The number of the node one hop down, where one was made.
-fn next_of(nodes: &[Node], node: Option<usize>, hop: &Hop) -> Option<usize>
+pub fn next_of(nodes: &[Node], node: Option<usize>, hop: &Hop) -> Option<usize>
     requires { IfSome node (λ i. i < length nodes.now) }
     ensures { result ≡ next_number nodes.now node (hop_of hop.now) }
 {

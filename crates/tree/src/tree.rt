@@ -11,10 +11,11 @@ ghost use Rattle.semantics.specs.Questions.{resolve};
 ghost use Rattle.semantics.specs.DocumentAnswer.{visible_items, visible_names};
 ghost use Rattle.operation.specs.Meanings.{mutation_of, stamped_of};
 ghost use Rattle.tree.specs.Nodes.{context, tagged, valued};
-ghost use Rattle.tree.specs.Trees.{IsPlaced, IsReady, Planted, document};
+ghost use Rattle.tree.specs.Trees.{IsPlaced, IsReady, Planted, document, items_stand};
 
 use crate::answer::{conflicts, items, keys, values};
 use crate::apply::run;
+use crate::listed::items_stand;
 use crate::node::Node;
 use crate::reserve::reserve_operation;
 use crate::resolve::resolve;
@@ -95,6 +96,13 @@ impl Tree {
             vector: &op.deps,
         };
         run(&mut self.nodes, op, &stamp, scalar);
+    }
+
+    /// Whether each item on the way to the place stands in the list that it is entered from. A search by halves for each key.
+    pub fn has_items(&self, place: &Place) -> bool
+        ensures { result ≡ items_stand (document self.now) (element_of place.now) }
+    {
+        items_stand(&self.nodes, place.hops())
     }
 
     /// The place that an expression leads to. Walks a list up to the item that it wants.

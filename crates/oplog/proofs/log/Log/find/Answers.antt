@@ -1,10 +1,35 @@
-use Rattle.std.proofs.Common.{ap, ◌∙◌}
-use Rattle.oplog.specs.Logs.{Logged, history, place_of}
+use Rattle.std.proofs.Common.{[], refl, ap, ◌∙◌, sym, arith}
+use Rattle.std.specs.FinMap.{find}
+use Rattle.std.proofs.lemmas.List.{get_or-map}
+use Rattle.semantics.specs.Ids.{OpId, id_cmp}
+use Rattle.columns.specs.Numbered.{Numbered}
+use Rattle.oplog.specs.Logs.{Logged, history, numbers_of, place_of}
+use Rattle.oplog.proofs.Places.{absent_elsewhere, all_find-at, places_inside}
 use Rattle.oplog.proofs.log.Log.find.Goals as goal
+
+pub returns-in_err-index : goal.returns-in_err-index
+returns-in_err-index c =
+    let d = c.self.inside in
+    c.from_residual.ensures
+    ∙ sym (absent_elsewhere d.table d.indices.items d.entries.items c.args.id (c.in_err-index.ensures.none.0 refl) c.self.invariant.indices_stand)
+    ∙ ap (λ (l : Logged). place_of c.args.id l.entries) c.self.view_is
+
+pub index-requires : goal.index-requires
+index-requires c =
+    let d = c.self.inside in
+    let h = places_inside (history d.table d.entries.items) d.table d.places.items c.in_ok-index.index c.args.id.replica c.in_ok-index.ensures.found c.self.invariant.places_stand in
+    omega arith
 
 pub returns : goal.returns
 returns c =
     let d = c.self.inside in
-    c.find_in.ensures d.table
-    ∙ ap (λ entries. place_of c.args.id (history d.table entries)) c.deref.ensures.value
-    ∙ ap (λ (l : Logged). place_of c.args.id l.entries) c.self.view_is
+    let G = history d.table d.entries.items in
+    let f = λ (n : Numbered OpId). n.entries in
+    let i = c.in_ok-index.index in
+    let a = c.args.id in
+    let found = c.in_ok-index.ensures.found in
+    let inside = places_inside G d.table d.places.items i a.replica found c.self.invariant.places_stand in
+    c.get.ensures
+    ∙ ap (find id_cmp a) (ap f c.index.ensures ∙ sym (get_or-map f d.places.items i c.index.result.now [] inside))
+    ∙ all_find-at G d.table (numbers_of d.places.items) i a.replica found c.self.invariant.places_stand a refl
+    ∙ ap (λ (l : Logged). place_of a l.entries) c.self.view_is

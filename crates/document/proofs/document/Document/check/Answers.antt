@@ -1,0 +1,8 @@
+use Rattle.operation.specs.Meanings.{stamped_of}
+use Rattle.document.proofs.ReceivedFaults.{lawful}
+use Rattle.document.proofs.document.Document.check.Goals as goal
+
+pub returns-clause-lawful : goal.returns-clause-lawful
+returns-clause-lawful c =
+    let d = c.self.inside in
+    rw (← c.self.view_is) (lawful d.log.entries (stamped_of d.log.table c.args.op.now) c.self.invariant.legal c.check.result c.check.ensures)

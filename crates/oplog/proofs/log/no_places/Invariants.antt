@@ -1,0 +1,6 @@
+use Rattle.std.proofs.Common.{◌≡◌, [], replicate}
+use Rattle.oplog.specs.Logs.{numbers_of}
+use Rattle.oplog.proofs.log.no_places.Given as goal
+
+abbrev pub invariant-loop : goal.invariant-loop
+invariant-loop l = numbers_of l.places.items ≡ replicate l.counter []

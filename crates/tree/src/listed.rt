@@ -1,0 +1,38 @@
+//! Whether the items of a path stand in their lists.
+
+ghost use Rattle.std.specs.Prelude.{◌≡◌, ◌<◌, map, length, IfSome};
+ghost use Rattle.cursor.specs.Meanings.{hop_of};
+ghost use Rattle.tree.specs.Nodes.{IsTree, context, node_in, order_of};
+ghost use Rattle.tree.specs.Writes.{end_of};
+ghost use Rattle.tree.specs.Trees.{has_key, items_stand};
+
+use crate::node::Node;
+use crate::resolve::next_of;
+use cursor::Hop;
+
+/// Whether each item of the path stands in the list that it is entered from. A search by halves for each hop.
+pub fn items_stand(nodes: &[Node], path: &[Hop]) -> bool
+    requires { IsTree nodes.now }
+    ensures { result ≡ items_stand (context nodes.now) (end_of (map hop_of path.now)) }
+{
+    let mut node = Some(0);
+    for hop in path {
+        if !stands(nodes, node, hop) {
+            return false;
+        }
+        node = next_of(nodes, node, hop);
+    }
+    true
+}
+
+/// Whether the hop is to a field, or to an item of the list at a node.
+fn stands(nodes: &[Node], node: Option<usize>, hop: &Hop) -> bool
+    requires { IfSome node (λ i. i < length nodes.now) }
+    ensures { result ≡ has_key (order_of (node_in nodes.now node)) (hop_of hop.now) }
+{
+    match (hop, node) {
+        (Hop::Field(_), _) => true,
+        (Hop::Item(id), Some(at)) => nodes[at].order.contains(id),
+        (Hop::Item(_), None) => false,
+    }
+}
