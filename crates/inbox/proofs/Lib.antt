@@ -1,0 +1,3 @@
+-- What waits at keys, and which of it is ready.
+pub mod KeyedOps
+pub mod Ready

@@ -1,0 +1,2 @@
+-- What an inbox holds, and what it answers.
+pub mod Inboxes

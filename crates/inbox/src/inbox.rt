@@ -1,0 +1,147 @@
+//! What waits, by rising id.
+
+ghost use Rattle.std.specs.Prelude.{◌≡◌, ◌≢◌, ◌⊎◌, ℕ, List, [], Some, Ok, not, length, option_map, IfNone, IfSome, MatchResult, false};
+ghost use Rattle.ids.specs.declared.refusal.Refusal.TheVariants.{NoMemory};
+ghost use Rattle.semantics.specs.LegalHistory.{IsAmong};
+ghost use Rattle.semantics.specs.Entries.{applied};
+ghost use Rattle.semantics.specs.Faults.{is_ready};
+ghost use Rattle.semantics.specs.Delivery.{Kept as ToBeKept, NotKept, is_waiting, put_waiting};
+ghost use Rattle.semantics.specs.Drain.{first_ready, without_waiting};
+ghost use Rattle.operation.specs.declared.op.Op.{Op as AnOp};
+ghost use Rattle.operation.specs.declared.command.Delivered.TheVariants.{Kept};
+ghost use Rattle.operation.specs.Meanings.{stamped_of};
+ghost use Rattle.inbox.specs.Inboxes.{answer_to_put, delivered_of, is_crowded, waiting_in, StandAlone};
+
+use columns::Numbers;
+use document::Document;
+use ids::{OpId, Refusal};
+use operation::{Delivered, Op};
+use slab::Slab;
+use std::alloc::Global;
+use std::marker::Model;
+
+/// The most operations that wait.
+const MOST_WAITING: usize = 4096;
+
+/// Operations that wait. Contracts see them by rising id, each id once.
+#[derive(Debug, Drop)]
+pub struct Inbox {
+    ops: Slab<Op>,
+    /// The key of each, by its id.
+    keys: Numbers,
+}
+
+impl Model for Inbox {
+    ghost use Rattle.std.specs.Prelude.{List};
+    ghost use Rattle.std.specs.Coded.{codes};
+    ghost use Rattle.semantics.specs.Codes.{coded_element};
+    ghost use Rattle.operation.specs.declared.op.Op.{Op as AnOp};
+    ghost use Rattle.inbox.specs.Inboxes.{AreAtKeys, ops_at};
+
+    ghost Value = { List AnOp };
+
+    ghost coded = { Prim.hlevel (codes, coded_element) };
+
+    ghost view = { λ w. ops_at w.ops w.keys.entries };
+
+    ghost invariant = { λ w. AreAtKeys w.ops w.keys.entries };
+}
+
+impl Inbox {
+    /// An inbox in which nothing waits.
+    pub fn new(alloc: Global) -> Inbox
+        ensures { result ≡ [] }
+    {
+        Inbox {
+            ops: Slab::new(alloc),
+            keys: Numbers::new(alloc),
+        }
+    }
+
+    /// How many operations wait.
+    pub fn len(&self) -> usize
+        ensures { result ≡ length self.now }
+    {
+        self.keys.len()
+    }
+
+    /// Whether an operation with this id waits. A search by halves.
+    pub fn contains(&self, id: OpId) -> bool
+        ensures { (table : List ℕ) → result ≡ is_waiting (waiting_in table self.now) id }
+    {
+        self.keys.get(&id).is_some()
+    }
+
+    /// Whether one more may wait: 4,096 at most, and one more that is ready.
+    pub fn has_room(&self, ready: bool) -> bool
+        ensures { result ≡ not (is_crowded ready (length self.now)) }
+    {
+        let most = if ready {
+            MOST_WAITING
+        } else {
+            MOST_WAITING - 1
+        };
+        self.len() <= most
+    }
+
+    /// Keeps an operation until it is taken, unless one with its id waits already. A search by halves; it moves the keys of greater ids, and no operation.
+    ///
+    /// # Errors
+    /// `InboxFull` where no more may wait, else `NoMemory` where a growth was refused. What waited stays, and the operation is gone.
+    pub fn put(&mut self, op: Op, document: &Document) -> Result<Delivered, Refusal>
+        requires width { length op.deps ≡ length document.now.table }
+        ensures answer { let table = document.now.table in
+            let answer = answer_to_put (is_ready (applied document.now.entries) (stamped_of table op)) (waiting_in table self.old) (stamped_of table op) in
+            MatchResult result (λ d. delivered_of d ≡ answer) (λ why. ((why ≡ NoMemory) × (answer ≡ ToBeKept)) ⊎ (answer ≡ NotKept why)) }
+        ensures kept { (table : List ℕ) → result ≡ Ok Kept → waiting_in table self.new ≡ put_waiting (stamped_of table op) (waiting_in table self.old) }
+        ensures among { (o : AnOp) → IsAmong o self.new → (o ≡ op) ⊎ IsAmong o self.old }
+        ensures same { result ≢ Ok Kept → self.new ≡ self.old }
+    {
+        if self.contains(op.id) {
+            return Ok(Delivered::Known);
+        }
+        if !self.has_room(document.ready(&op)) {
+            return Err(Refusal::InboxFull);
+        }
+        self.keys.reserve_one()?;
+        let id = op.id;
+        let Ok(key) = self.ops.insert(op) else {
+            return Err(Refusal::NoMemory);
+        };
+        self.keys.put(id, key);
+        Ok(Delivered::Kept)
+    }
+
+    /// The smallest that is ready, if there is one. Looks from the smallest on, and no further than the counter after the greatest that was applied, since nothing beyond it is ready: where nothing smaller is stuck, it looks at one operation.
+    pub fn smallest_ready(&self, document: &Document) -> Option<&Op>
+        requires alone { StandAlone document.now.table self.now }
+        ensures ready { option_map (λ o. stamped_of document.now.table o.now) result ≡ first_ready (applied document.now.entries) (waiting_in document.now.table self.now) }
+        ensures among { IfSome result (λ o. IsAmong o.now self.now) }
+    {
+        let greatest = document.applied().greatest();
+        for place in 0..self.keys.len() {
+            let (id, key) = self.keys.at(place);
+            if id.counter.saturating_sub(1) > greatest {
+                return None;
+            }
+            let Some(op) = self.ops.get(key) else {
+                unreachable!()
+            };
+            if document.ready(op) {
+                return Some(op);
+            }
+        }
+        None
+    }
+
+    /// Takes an operation out. A search by halves; it moves the keys of greater ids.
+    pub fn take(&mut self, id: OpId) -> Option<Op>
+        ensures some { IfSome result (λ o. (o.id ≡ id) × IsAmong o self.old) }
+        ensures none { (table : List ℕ) → IfNone result (is_waiting (waiting_in table self.old) id ≡ false) }
+        ensures left { (table : List ℕ) → waiting_in table self.new ≡ without_waiting id (waiting_in table self.old) }
+        ensures among { (o : AnOp) → IsAmong o self.new → IsAmong o self.old }
+    {
+        let key = self.keys.remove(&id)?;
+        self.ops.try_remove(key)
+    }
+}

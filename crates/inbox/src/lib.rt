@@ -1,0 +1,8 @@
+//! The operations of peers that wait until all that they depend on is applied.
+#![tactic(auto)]
+
+mod inbox;
+#[cfg(test)]
+mod tests;
+
+pub use inbox::Inbox;
