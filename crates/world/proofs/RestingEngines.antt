@@ -1,7 +1,5 @@
 -- An engine between whole steps stays so where a client submits or a token reads.
 use Rattle.std.proofs.Common.{◌≡◌, ℕ, Bool, true, false, nat_le, [], length, Option, Some, None, refl, sym, ap, ◌∙◌, subst, slice_get}
-use Rattle.std.specs.Prelude.{IsTrue}
-use Rattle.ids.specs.Members.{is_member}
 use Rattle.semantics.specs.Making.{Command}
 use Rattle.semantics.specs.LegalAnswer.{Asked}
 use Rattle.semantics.specs.Engine.{Engine, Client, Cell, Given, Turn}
@@ -66,7 +64,6 @@ resting E F r s k = record {
   none_handled = k.handled ∙ r.none_handled;
   none_due = k.due ∙ r.none_due;
   shown = k.published ∙ r.shown ∙ ap (λ q. length q.entries) (sym k.replica);
-  member = subst (λ q. IsTrue (is_member q.members q.own)) (sym k.replica) r.member;
 }
 
 pub resting_push : (E : Engine) (c : ℕ) (command : Command) → IsResting E → IsResting (push E c command).engine
@@ -87,15 +84,13 @@ resting_idle E F r h = record {
   none_handled = h.none_handled;
   none_due = h.none_due;
   shown = h.published ∙ r.shown ∙ ap (λ q. length q.entries) (sym (h.quiet refl));
-  member = h.member;
 }
 
 -- one that published what it took
-pub resting_published : (E G : Engine) → IsResting E → G ≡ (whole_step E).engine → G.handled ≡ [] → G.due ≡ [] → G.published ≡ length G.replica.entries → IsTrue (is_member G.replica.members G.replica.own) → IsResting G
-resting_published E G r is none_handled none_due shown member = record {
+pub resting_published : (E G : Engine) → IsResting E → G ≡ (whole_step E).engine → G.handled ≡ [] → G.due ≡ [] → G.published ≡ length G.replica.entries → IsResting G
+resting_published E G r is none_handled none_due shown = record {
   sound = subst IsSound (sym is) (stepped (Whole 0) E r.sound).sound;
   none_handled = none_handled;
   none_due = none_due;
   shown = shown;
-  member = member;
 }

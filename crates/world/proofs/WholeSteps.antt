@@ -1,9 +1,7 @@
 -- A whole step of an engine, by its parts.
 use Rattle.std.proofs.Common.{◌≡◌, ℕ, zero, suc, ◌<◌, true, false, not, ◌||◌, nat_le, cond, List, [], ◌∷◌, ◌++◌, map, length, refl, sym, ap, ◌∙◌, subst, arith}
-use Rattle.std.specs.Prelude.{IsTrue}
 use Rattle.std.proofs.lemmas.Bool.{lt-leb}
 use Rattle.std.proofs.lemmas.List.{map-append, length-append, length-map}
-use Rattle.ids.specs.Members.{is_member}
 use Rattle.semantics.specs.DocumentAnswer.{is_any}
 use Rattle.semantics.specs.LegalAnswer.{Submitted}
 use Rattle.semantics.specs.Replica.{Replica}
@@ -35,7 +33,6 @@ taking_first E r =
       none_handled = r.none_handled;
       published = refl;
       quiet = λ e. refl;
-      member = r.member;
     }
 
 -- the engine after it took the oldest item
@@ -47,9 +44,8 @@ took_one F items x queue none l oldest =
 
 -- one more is taken
 pub taking_next : (E F : Engine) (left : ℕ) (tell : List Told) (x : Submitted) (queue : List Submitted) (r : Replica) → IsTaking E F (suc left) tell → F.queue ≡ x ∷ queue → r ≡ after_item F.replica x
-    → IsTrue (is_member r.members r.own)
     → IsTaking E (record F { queue = queue; replica = r }) left (tell ++ (record { client = x.client; serial = x.serial; reply = reply_to F.replica x }) ∷ [])
-taking_next E F left tell x queue r h oldest made member = record {
+taking_next E F left tell x queue r h oldest made = record {
   items = h.items ++ handled ∷ [];
   same = map-append told h.items (handled ∷ []) ∙ ap (λ ts. ts ++ told handled ∷ []) h.same;
   rest = ap (take_for left) (sym one) ∙ h.rest;
@@ -60,7 +56,6 @@ taking_next E F left tell x queue r h oldest made member = record {
   none_handled = h.none_handled;
   published = h.published;
   quiet = λ e. absurd (more tell _ e);
-  member = member;
 }
   where
     handled : engine.Handled
@@ -84,7 +79,6 @@ ended E F left tell h e = record {
   none_handled = h.none_handled;
   published = h.published;
   quiet = h.quiet;
-  member = h.member;
 }
 
 pub taken_whole : (E F : Engine) (tell : List Told) → IsTaking E F 0 tell → HasTaken E F tell

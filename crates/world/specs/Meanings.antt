@@ -1,14 +1,8 @@
--- Steps, replies, replicas and clients of the program as those of the definitions.
-use Rattle.std.specs.Prelude.{◌≡◌, ℕ, ⊤, List, [], map, option_map, Ok}
-use Rattle.semantics.specs.Operations.{Operation}
-use Rattle.semantics.specs.Stamped.{Stamped}
-use Rattle.semantics.specs.Making.{Command as TheCommand, make}
-use Rattle.semantics.specs.Entries.{Entry as TheEntry, applied}
+-- Steps, replies and clients of the program as those of the definitions.
+use Rattle.std.specs.Prelude.{ℕ, ⊤, List, map, option_map}
 use Rattle.semantics.specs.Questions.{Refused as NotAnswered}
 use Rattle.semantics.specs.LegalAnswer.{Submitted, Reply as TheReply, Made as MadeAs, NotMade, Answered}
-use Rattle.semantics.specs.Replica.{Replica as TheReplica}
 use Rattle.semantics.specs.Engine as engine
-use Rattle.semantics.specs.WriteSteps.{stamp}
 use Rattle.semantics.specs.World as world
 use Rattle.operation.specs.Meanings.{command_of}
 use Rattle.document.specs.Documents.{IsBeside, asked_of, said_by}
@@ -18,8 +12,7 @@ use Rattle.world.specs.declared.step.Reply.{Reply}
 use Rattle.world.specs.declared.step.Reply.TheVariants as reply
 use Rattle.world.specs.declared.step.WorldReply.{WorldReply}
 use Rattle.world.specs.declared.step.WorldReply.TheVariants as said
-use Rattle.world.specs.declared.replica.Item.{Item}
-use Rattle.world.specs.declared.replica.Replica.{Replica}
+use Rattle.world.specs.declared.handling.Item.{Item}
 use Rattle.world.specs.declared.client.Given.{Given}
 use Rattle.world.specs.declared.client.Cell.{Cell}
 use Rattle.world.specs.declared.client.Client.{Client}
@@ -64,14 +57,6 @@ reply_of (said.NotRead n why) = engine.Read n (Answered (NotAnswered why))
 -- what was submitted
 abbrev pub submitted_of : Item → Submitted
 submitted_of x = record { client = x.client; serial = x.serial; command = command_of x.command; floor = x.floor }
-
--- a replica, in which nothing waits yet
-abbrev pub replica_of : Replica → TheReplica
-replica_of r = record { own = r.own; members = r.document.table; entries = r.document.entries; waiting = []; dropped = 0 }
-
--- s is what replica p makes of the command after G, with the vector of all that was applied
-abbrev pub IsMade : List TheEntry → ℕ → TheCommand → Stamped → Type 0
-IsMade G p command s = (o : Operation) × (make (applied G) p command ≡ Ok o) × (s ≡ stamp (applied G) o)
 
 -- an answer that was set
 abbrev pub given_of : Given → engine.Given

@@ -1,6 +1,5 @@
 -- What the parts of a whole step leave.
-use Rattle.std.specs.Prelude.{◌≡◌, ◌+◌, ℕ, List, [], ◌∷◌, map, length, IsTrue}
-use Rattle.ids.specs.Members.{is_member}
+use Rattle.std.specs.Prelude.{◌≡◌, ◌+◌, ℕ, List, [], ◌∷◌, map, length}
 use Rattle.semantics.specs.LegalAnswer.{Reply as TheReply}
 use Rattle.semantics.specs.Engine as engine
 use Rattle.semantics.specs.Engine.{Engine}
@@ -28,13 +27,12 @@ abbrev pub give_each : List engine.Client → List Told → ℕ → List engine.
 give_each clients [] m = clients
 give_each clients (t ∷ ts) m = give_each (give_to clients t.client t.serial (record { reply = t.reply; published = m })) ts m
 
--- an engine between whole steps: what holds at each moment holds of it, all that it handled is published and answered, and its own number is a member's
+-- an engine between whole steps: what holds at each moment holds of it, and all that it handled is published and answered
 pub record IsResting (E : Engine) : Type 0 where
   pub sound : IsSound E
   pub none_handled : E.handled ≡ []
   pub none_due : E.due ≡ []
   pub shown : E.published ≡ length E.replica.entries
-  pub member : IsTrue (is_member E.replica.members E.replica.own)
 
 -- E with these items handled
 abbrev pub with_handled : Engine → List engine.Handled → Engine
@@ -53,7 +51,6 @@ pub record IsTaking (E F : Engine) (left : ℕ) (tell : List Told) : Type 0 wher
   pub published : F.published ≡ E.published
   -- where nothing was handled, nothing was appended
   pub quiet : tell ≡ [] → F.replica ≡ E.replica
-  pub member : IsTrue (is_member F.replica.members F.replica.own)
 
 -- F, once these are told, is E after all the takes of a whole step
 pub record HasTaken (E F : Engine) (tell : List Told) : Type 0 where
@@ -64,4 +61,3 @@ pub record HasTaken (E F : Engine) (tell : List Told) : Type 0 where
   pub none_handled : F.handled ≡ []
   pub published : F.published ≡ E.published
   pub quiet : tell ≡ [] → F.replica ≡ E.replica
-  pub member : IsTrue (is_member F.replica.members F.replica.own)

@@ -6,7 +6,7 @@ ghost use Rattle.semantics.specs.WriteSteps.{next_item, with_cell, with_answer};
 ghost use Rattle.semantics.specs.ReadSteps.{cell_at};
 ghost use Rattle.operation.specs.Meanings.{command_of};
 
-use crate::replica::Item;
+use crate::handling::Item;
 use crate::step::Reply;
 use ids::Refusal;
 use operation::Command;

@@ -14,11 +14,12 @@ ghost use Rattle.semantics.specs.World.{engine_step, opened_engine};
 ghost use Rattle.world.specs.Turns.{IsResting, HasTaken, told_of, give_each};
 
 use crate::client::{Client, Given};
-use crate::replica::{Item, Replica};
+use crate::handling::{Item, handle};
 use crate::step::{Reply, WorldReply, WorldStep};
-use document::{Document, Question};
-use ids::{Config, Refusal, ReplicaId, ReplicaTable};
+use document::Question;
+use ids::{Config, Refusal, ReplicaTable};
 use operation::Command;
+use replica::Replica;
 use std::alloc::Global;
 use std::collections::VecDeque;
 use std::marker::Model;
@@ -49,7 +50,8 @@ impl Model for Engine {
     ghost use Rattle.std.specs.Coded.{codes};
     ghost use Rattle.semantics.specs.Codes.{coded_element};
     ghost use Rattle.semantics.specs.Engine.{Engine as TheEngine, Read};
-    ghost use Rattle.world.specs.Meanings.{replica_of, submitted_of, client_of};
+    ghost use Rattle.replica.specs.Replicas.{replica_of};
+    ghost use Rattle.world.specs.Meanings.{submitted_of, client_of};
 
     ghost Value = { TheEngine };
 
@@ -70,10 +72,7 @@ impl Engine {
         ensures err { IfErr result (λ why. (why ≡ BadConfig) ⊎ (why ≡ NoMemory)) }
     {
         config.check()?;
-        let Some(own) = ReplicaId::new(config.own) else {
-            return Err(Refusal::BadConfig);
-        };
-        let document = Document::new(alloc, &config.members)?;
+        let replica = Replica::new(alloc, config.own, &config.members)?;
         let clients = new_clients(alloc, config.clients as usize)?;
         let mut readers = Vec::new(alloc);
         readers.resize(config.readers as usize, 0)?;
@@ -81,7 +80,7 @@ impl Engine {
             places: config.queue as usize,
             batch: config.batch as usize,
             serials: u64::from(config.serials),
-            replica: Replica { own, document },
+            replica,
             queue: VecDeque::new(alloc),
             published: 0,
             clients,
@@ -92,7 +91,7 @@ impl Engine {
     pub fn table(&self) -> &ReplicaTable
         ensures { result.now ≡ self.now.replica.members }
     {
-        self.replica.document.table()
+        self.replica.document().table()
     }
 
     /// One step.
@@ -199,7 +198,7 @@ impl Engine {
         ensures err { IfErr result (λ why. why ≡ NoMemory) }
     {
         let seen = self.published as u64;
-        match self.replica.document.ask(alloc, question) {
+        match self.replica.document().ask(alloc, question) {
             Ok(reading) => Ok(WorldReply::Read {
                 seen,
                 table: self.table().clone()?,
@@ -225,7 +224,7 @@ impl Engine {
         if handled.is_empty() {
             return Ok(WorldReply::Idle);
         }
-        let published = self.replica.document.len();
+        let published = self.replica.history_len();
         self.published = published;
         give_each(&mut self.clients, &handled, published);
         Ok(WorldReply::Published(handled.len() as u64))
@@ -244,7 +243,7 @@ impl Engine {
             };
             let client = item.client;
             let serial = item.serial;
-            let reply = self.replica.handle(alloc, item)?;
+            let reply = handle(alloc, &mut self.replica, item)?;
             handled.push(Handled {
                 client,
                 serial,

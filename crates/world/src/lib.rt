@@ -3,7 +3,7 @@
 
 mod client;
 mod engine;
-mod replica;
+mod handling;
 mod step;
 mod world;
 

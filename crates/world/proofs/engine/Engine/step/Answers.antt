@@ -1,8 +1,6 @@
 use Rattle.std.proofs.Common.{◌≡◌, List, [], ◌∷◌, map, length, vec_len, refl, sym, ap, ◌∙◌, subst, arith}
-use Rattle.std.specs.Prelude.{IsTrue}
 use Rattle.std.proofs.lemmas.List.{length-map}
 use Rattle.std.proofs.lemmas.Bool.{eqb-true, eqb-false}
-use Rattle.ids.specs.Members.{is_member}
 use Rattle.semantics.specs.Engine.{Engine as TheEngine, Turn}
 use Rattle.world.specs.Meanings.{client_of}
 use Rattle.world.specs.Turns.{Told, HasTaken, told_of, give_each}
@@ -18,7 +16,7 @@ returns-clause-engine c =
     let tell : List Told = map told_of c.in_ok-handled.handled.items in
     let len = length-map c.in_ok-handled.handled.items told_of in
     let some : tell ≡ [] → ⊥ = λ e. (let none = ap length e in eqb-false _ _ (sym c.is_empty.ensures ∙ c.if-is_empty.false) (omega (arith, none, len))) in
-    let published : c.len-published.result ≡ length V.replica.entries = c.len-published.ensures in
+    let published : c.history_len-published.result ≡ length V.replica.entries = c.history_len-published.ensures in
     let clients : map client_of c.give_each.new.clients.items ≡ give_each V.clients tell (length V.replica.entries) =
     c.give_each.ensures ∙ (λ i. give_each V.clients (map told_of (c.deref.ensures.value i)) (published i)) in
     (λ i. record V { published = published i; clients = clients i })
@@ -37,7 +35,4 @@ returns-then-is_empty-clause-resting c =
 
 pub returns-clause-resting : goal.returns-clause-resting
 returns-clause-resting c =
-    let F : TheEngine = c.take_all.new.self in
-    let member : IsTrue (is_member c.self.inside.replica.document.table c.self.inside.replica.own) =
-    subst (λ (G : TheEngine). IsTrue (is_member G.replica.members G.replica.own)) (sym c.self.view_is) c.in_ok-handled.ensures.taken.member in
-    resting_published c.args.self.now _ c.requires (returns-clause-engine c) refl refl c.len-published.ensures member
+    resting_published c.args.self.now _ c.requires (returns-clause-engine c) refl refl c.history_len-published.ensures

@@ -1,20 +1,19 @@
 use Rattle.std.proofs.Common.{◌≡◌, inl, suc, ◌-◌, List, [], ◌∷◌, ◌++◌, map, length, vec_len, refl, sym, ap, ◌∙◌, subst, arith}
-use Rattle.std.specs.Prelude.{IsTrue}
 use Rattle.std.proofs.lemmas.List.{map-append}
-use Rattle.ids.specs.Members.{is_member}
 use Rattle.semantics.specs.LegalHistory.{IsAmong}
 use Rattle.semantics.specs.LegalAnswer.{Submitted, Reply}
 use Rattle.semantics.specs.Engine.{Engine as TheEngine}
 use Rattle.semantics.specs.WriteSteps.{after_item}
-use Rattle.world.specs.Meanings.{submitted_of, replica_of, answer_to}
+use Rattle.replica.specs.Replicas.{replica_of}
+use Rattle.world.specs.Meanings.{submitted_of, answer_to}
 use Rattle.world.specs.Turns.{Told, IsTaking, HasTaken, told_of}
 use Rattle.world.specs.contracts.engine.Engine.{the_view}
 use Rattle.world.proofs.WholeSteps.{taking_next, taken_whole, taken_empty}
 use Rattle.world.proofs.engine.Engine.take_all.Goals as goal
 use Rattle.world.proofs.engine.Engine.take_all.Goals.{else-loop-self-test, then-loop-self-test+in_default}
 
-pub handle-requires-clause-above : goal.handle-requires-clause-above
-handle-requires-clause-above c =
+pub handle-requires : goal.handle-requires
+handle-requires c =
     let F : TheEngine = the_view c.loop-self.self-inside in
     let x : Submitted = submitted_of c.in-Some.item in
     let oldest : F.queue ≡ x ∷ map submitted_of c.pop_front.new.self.items = ap (map submitted_of) c.in-Some.ensures.items in
@@ -30,13 +29,11 @@ loop-self-preserved c =
     omega (arith, c.in_ok-push.ensures.len) in
     let before : IsTaking E F (suc (c.loop-self.self-inside.batch - vec_len c.push.new.self)) (map told_of c.loop-self.handled.items) =
     subst (λ n. IsTaking E F n (map told_of c.loop-self.handled.items)) left c.loop-self.invariant in
-    let made : replica_of c.handle.new.self ≡ after_item F.replica x = c.in_ok-reply.ensures.replica in
-    let member : IsTrue (is_member (replica_of c.handle.new.self).members (replica_of c.handle.new.self).own) =
-    (λ i. is_member (c.handle.ensures.table i) (c.handle.ensures.own i)) ∙ c.loop-self.invariant.member in
-    let next = taking_next E F (c.loop-self.self-inside.batch - vec_len c.push.new.self) (map told_of c.loop-self.handled.items) x (map submitted_of c.pop_front.new.self.items) (replica_of c.handle.new.self) before oldest made member in
+    let made : replica_of c.handle.new.replica ≡ after_item F.replica x = c.in_ok-reply.ensures.replica in
+    let next = taking_next E F (c.loop-self.self-inside.batch - vec_len c.push.new.self) (map told_of c.loop-self.handled.items) x (map submitted_of c.pop_front.new.self.items) (replica_of c.handle.new.replica) before oldest made in
     let same : map told_of c.push.new.self.items ≡ map told_of c.loop-self.handled.items ++ (record { client = x.client; serial = x.serial; reply = answer_to c.in_ok-reply.reply }) ∷ [] =
     ap (map told_of) c.in_ok-push.ensures.items ∙ map-append told_of c.loop-self.handled.items _ in
-    subst (λ (tell : List Told). IsTaking E (the_view (record c.loop-self.self-inside { replica = c.handle.new.self; queue = c.pop_front.new.self })) (c.loop-self.self-inside.batch - vec_len c.push.new.self) tell)
+    subst (λ (tell : List Told). IsTaking E (the_view (record c.loop-self.self-inside { replica = c.handle.new.replica; queue = c.pop_front.new.self })) (c.loop-self.self-inside.batch - vec_len c.push.new.self) tell)
     (sym (same ∙ ap (λ (r : Reply). map told_of c.loop-self.handled.items ++ (record { client = x.client; serial = x.serial; reply = r }) ∷ []) c.in_ok-reply.ensures.reply))
     next
 

@@ -1,0 +1,59 @@
+-- What a replica holds after a delivery.
+use Rattle.std.proofs.Common.{◌≡◌, ◌≢◌, ◌⊎◌, inl, inr, ℕ, Bool, true, false, cond, ◌||◌, ◌==◌, List, Result, Ok, Err, Option, Some, None, refl, sym, ap, ◌∙◌, subst}
+use Rattle.ids.specs.declared.refusal.Refusal.{Refusal}
+use Rattle.ids.specs.declared.refusal.Refusal.TheVariants.{HistoryFull, OwnName}
+use Rattle.semantics.specs.LegalHistory.{has_id, IsAmong}
+use Rattle.semantics.specs.Stamped.{Stamped}
+use Rattle.semantics.specs.Faults.{alone_fault}
+use Rattle.semantics.specs.Making.{is_full}
+use Rattle.semantics.specs.Replica.{Replica, IsRunning, operations}
+use Rattle.semantics.specs.Delivery.{Kept as IsKept, Known, NotKept, answer_to, answer_after, deliver, is_waiting, kept_by, put_waiting, room_answer}
+use Rattle.semantics.proofs.Delivered.{delivered}
+use Rattle.operation.specs.declared.op.Op.{Op}
+use Rattle.operation.specs.declared.command.Delivered.{Delivered}
+use Rattle.operation.specs.declared.command.Delivered.TheVariants as answer
+use Rattle.operation.specs.Alone.{fault_alone}
+use Rattle.operation.specs.Meanings.{stamped_of}
+use Rattle.inbox.specs.Inboxes.{waiting_in}
+use Rattle.inbox.proofs.Ready.{alone}
+use Rattle.replica.specs.Replicas.{Running, IsReplica, answer_to_new, replica_of}
+
+-- an operation that passed all tests is kept
+passed : (r : Replica) (s : Stamped) → alone_fault r.members s ≡ None → has_id (operations r) s.id ≡ false → is_waiting r.waiting s.id ≡ false → answer_to_new r s ≡ IsKept → deliver r s ≡ record r { waiting = put_waiting s r.waiting }
+passed r s none unapplied unknown new =
+    ap (kept_by r s)
+    (ap (answer_after r s) none
+    ∙ ap (λ b. cond (b || is_waiting r.waiting s.id) Known (answer_to_new r s)) unapplied
+    ∙ ap (λ b. cond b Known (answer_to_new r s)) unknown
+    ∙ new)
+
+-- a replica after an operation that passed all tests was put, or not
+pub after_put : (r : Running) (o : Op) (next : List Op) (result : Result Delivered Refusal) → IsReplica r
+    → fault_alone r.document.table o ≡ None → has_id (operations (replica_of r)) o.id ≡ false → is_waiting (waiting_in r.document.table r.waiting) o.id ≡ false
+    → answer_to_new (replica_of r) (stamped_of r.document.table o) ≡ IsKept
+    → (result ≡ Ok answer.Kept → waiting_in r.document.table next ≡ put_waiting (stamped_of r.document.table o) (waiting_in r.document.table r.waiting))
+    → ((p : Op) → IsAmong p next → (p ≡ o) ⊎ IsAmong p r.waiting)
+    → (result ≢ Ok answer.Kept → next ≡ r.waiting)
+    → IsReplica (record r { waiting = next })
+after_put r o next result h none unapplied unknown new put among same = by result refl
+  where
+    table : List ℕ
+    table = r.document.table
+
+    unchanged : next ≡ r.waiting → IsReplica (record r { waiting = next })
+    unchanged e = subst (λ ws. IsReplica (record r { waiting = ws })) (sym e) h
+
+    by : (k : Result Delivered Refusal) → result ≡ k → IsReplica (record r { waiting = next })
+    by (Ok answer.Kept) e =
+        let s : Stamped = stamped_of table o in
+        let is : replica_of (record r { waiting = next }) ≡ deliver (replica_of r) s =
+        (λ i. record { own = r.own; members = table; entries = r.document.entries; waiting = put e i; dropped = r.dropped })
+        ∙ sym (passed (replica_of r) s (alone table o none) unapplied unknown new) in
+        record {
+          running = subst IsRunning (sym is) (delivered (replica_of r) s h.running);
+          member = h.member;
+          alone = λ p m. elim (among p m) [ inl e ↦ ap (fault_alone table) e ∙ none | inr k ↦ h.alone p k ];
+          count = h.count;
+        }
+    by (Ok answer.Known) e = unchanged (same (λ f. absurd (let g = sym e ∙ f in cc)))
+    by (Err why) e = unchanged (same (λ f. absurd (let g = sym e ∙ f in cc)))

@@ -1,0 +1,49 @@
+-- What a replica appends of its own.
+use Rattle.std.proofs.Common.{◌≡◌, ℕ, [], ◌∷◌, List, Ok, sym, ap, ◌∙◌, subst}
+use Rattle.ids.specs.Members.{is_member}
+use Rattle.semantics.specs.NamedIds.{NamesAll}
+use Rattle.semantics.specs.Operations.{Operation}
+use Rattle.semantics.specs.Stamped.{Stamped, operation_after, MayFollow}
+use Rattle.semantics.specs.Making.{Command, make}
+use Rattle.semantics.specs.Entries.{Entry, Own, applied, stamped_of, IsAbove, IsEntryHistory}
+use Rattle.semantics.specs.LegalAnswer.{Submitted}
+use Rattle.semantics.specs.Replica.{Replica, IsRunning, commit_own}
+use Rattle.semantics.proofs.AppliedVectors.{at-vector_of}
+use Rattle.semantics.proofs.Delivered.{own_committed}
+use Rattle.semantics.proofs.EntryHistories.{entries_legal}
+use Rattle.semantics.proofs.NamedOperations.{legal}
+use Rattle.semantics.proofs.MadeLawful.{made_lawful}
+use Rattle.semantics.proofs.HandledItems.{as_stamped}
+use Rattle.document.specs.Documents.{Kept}
+use Rattle.replica.specs.Replicas.{Running, IsMade, IsReplica, replica_of}
+use Rattle.inbox.specs.Inboxes.{waiting_in}
+
+module _ (p client serial : ℕ) (c : Command) (G : List Entry) (s : Stamped) (h : IsEntryHistory p G) (above : IsAbove client serial G) (made : IsMade G p c s) where
+  -- what was made of a command is what the definitions make, with the vector of all that was applied
+  made_as_stamped : NamesAll (applied G) s.vector × (make (applied G) p c ≡ Ok (operation_after (applied G) s))
+  made_as_stamped =
+      let r : Replica = record { own = p; members = []; entries = G; waiting = []; dropped = 0 } in
+      let x : Submitted = record { client = client; serial = serial; command = c; floor = 0 } in
+      subst (λ (t : Stamped). NamesAll (applied G) t.vector × (make (applied G) p c ≡ Ok (operation_after (applied G) t))) (sym made.2)
+      (at-vector_of (applied G), made.1 ∙ (λ i. Ok (as_stamped r x made.0 h made.1 i)))
+
+  -- it may follow
+  pub may_append : MayFollow (applied G) s
+  may_append = (entries_legal p (Own client serial c s ∷ G) (h, made_as_stamped.0, made_as_stamped.1, above)).1
+
+  -- and is of the replica that made it
+  pub made_by : s.id.replica ≡ p
+  made_by = ap (λ (t : Stamped). t.id.replica) made.2 ∙ (made_lawful (applied G) (legal (stamped_of G) (entries_legal p G h)) p c made.0 made.1).1
+
+-- the replica after its document got an own entry
+pub own_appended : (r : Running) (d : Kept) (client serial : ℕ) (c : Command) (s : Stamped) → IsReplica r → IsMade r.document.entries r.own c s → IsAbove client serial r.document.entries
+    → d.table ≡ r.document.table → d.entries ≡ Own client serial c s ∷ r.document.entries → IsReplica (record r { document = d })
+own_appended r d client serial c s h made above table entries =
+    let stamped = made_as_stamped r.own client serial c r.document.entries s h.running.history above made in
+    let next : replica_of (record r { document = d }) ≡ commit_own (replica_of r) client serial c s = λ i. record { own = r.own; members = table i; entries = entries i; waiting = waiting_in (table i) r.waiting; dropped = r.dropped } in
+    record {
+      running = subst IsRunning (sym next) (own_committed (replica_of r) client serial c s h.running stamped.0 stamped.1 above);
+      member = ap (λ ps. is_member ps r.own) table ∙ h.member;
+      alone = rw table h.alone;
+      count = h.count;
+    }

@@ -1,0 +1,72 @@
+-- A replica as contracts see it, and when it can append.
+use Rattle.std.specs.Prelude.{◌≡◌, ◌≤◌, ◌==◌, ℕ, min, cond, IsTrue, List, Ok, Option, Some, None}
+use Rattle.ids.specs.Members.{is_member}
+use Rattle.semantics.specs.Operations.{Operation}
+use Rattle.semantics.specs.Stamped.{Stamped}
+use Rattle.semantics.specs.Faults.{fault_of}
+use Rattle.semantics.specs.Making.{Command as TheCommand, is_full, make}
+use Rattle.semantics.specs.Entries.{Entry as TheEntry, applied, stamped_of as stamped_entries}
+use Rattle.semantics.specs.Replica.{Replica as TheReplica, IsRunning, operations}
+use Rattle.ids.specs.declared.refusal.Refusal.TheVariants.{HistoryFull, OwnName}
+use Rattle.semantics.specs.Delivery.{Delivered, NotKept, answer_after, room_answer}
+use Rattle.semantics.specs.Drain.{first_ready}
+use Rattle.semantics.specs.WriteSteps.{stamp}
+use Rattle.operation.specs.declared.op.Op.{Op}
+use Rattle.operation.specs.Alone.{fault_alone}
+use Rattle.document.specs.Documents.{HasRoomFor, Kept}
+use Rattle.operation.specs.Meanings.{stamped_of}
+use Rattle.inbox.specs.Inboxes.{StandAlone, waiting_in}
+
+-- a replica: its own number, its document, what waits by rising id, and how many operations were dropped
+pub record Running : Type 0 where
+  pub own : ℕ
+  pub document : Kept
+  pub waiting : List Op
+  pub dropped : ℕ
+
+-- the replica of the definitions
+abbrev pub replica_of : Running → TheReplica
+replica_of r = record { own = r.own; members = r.document.table; entries = r.document.entries; waiting = waiting_in r.document.table r.waiting; dropped = r.dropped }
+
+-- what holds of a replica between its calls: what the definitions want, its own number is a member's, what waits passed the tests that need no history, and the count is a u64's
+pub record IsReplica (r : Running) : Type 0 where
+  pub running : IsRunning (replica_of r)
+  pub member : IsTrue (is_member r.document.table r.own)
+  pub alone : StandAlone r.document.table r.waiting
+  pub count : r.dropped ≤ 18446744073709551615
+
+-- s is what replica p makes of the command after G, with the vector of all that was applied
+abbrev pub IsMade : List TheEntry → ℕ → TheCommand → Stamped → Type 0
+IsMade G p command s = (o : Operation) × (make (applied G) p command ≡ Ok o) × (s ≡ stamp (applied G) o)
+
+-- how many were dropped is counted up to the greatest u64
+abbrev pub counted : TheReplica → TheReplica
+counted r = record r { dropped = min r.dropped 18446744073709551615 }
+
+-- the smallest ready one of what waits, unless the history is full
+abbrev pub next_of : TheReplica → Option Stamped
+next_of r = cond (is_full r.entries) None (first_ready (operations r) r.waiting)
+
+-- the next ready one has no fault, and can be appended with no memory taken
+pub record IsNextReady (r : Running) (s : Stamped) : Type 0 where
+  pub next : next_of (replica_of r) ≡ Some s
+  pub faultless : fault_of (stamped_entries r.document.entries) s ≡ None
+  pub room : HasRoomFor r.document s
+
+-- the answer to an operation in the replica; one whose vector has another width than the table names unknown replicas
+abbrev pub answer_to : TheReplica → Op → Delivered
+answer_to r o = answer_after r (stamped_of r.members o) (fault_alone r.members o)
+
+-- the answer to an operation that passed the tests that need no history, and is neither applied nor waits
+abbrev pub answer_to_new : TheReplica → Stamped → Delivered
+answer_to_new r s =
+    cond (s.id.replica == r.own) (NotKept OwnName)
+    (cond (is_full r.entries) (NotKept HistoryFull) (room_answer r s))
+
+-- the replica of these parts
+abbrev pub replica_with : ℕ → Kept → List Op → TheReplica
+replica_with own document waiting = replica_of (record { own = own; document = document; waiting = waiting; dropped = 0 })
+
+-- the next one that leaves, where these wait beside the document
+abbrev pub next_in : Kept → List Op → Option Stamped
+next_in d ws = next_of (replica_with 0 d ws)

@@ -1,0 +1,240 @@
+//! A replica, its own operations, and what can be asked of it.
+
+ghost use Rattle.std.specs.Prelude.{◌≡◌, ◌⊎◌, ◌↔◌, ◌&&◌, ℕ, [], true, false, Ok, Err, Some, None, IsTrue, IsFalse, length, option_map, IfOk, IfErr, IfSome, MatchResult, OnErr, OnOk};
+ghost use Rattle.ids.specs.declared.refusal.Refusal.TheVariants.{NoMemory, BadConfig};
+ghost use Rattle.ids.specs.Members.{in_order, is_member};
+ghost use Rattle.ids.specs.Configurations.{are_members};
+ghost use Rattle.semantics.specs.Stamped.{Stamped};
+ghost use Rattle.semantics.specs.Entries.{IsAbove, applied, stamped_of as stamped_entries};
+ghost use Rattle.semantics.specs.Faults.{fault_of};
+ghost use Rattle.semantics.specs.Making.{make};
+ghost use Rattle.semantics.specs.Replica.{IsRunning, commit_own};
+ghost use Rattle.semantics.specs.Delivery.{Kept as ToBeKept, NotKept, deliver};
+ghost use Rattle.semantics.specs.Drain.{IsDrained, drain, drain_for};
+ghost use Rattle.operation.specs.Meanings.{command_of, stamped_of};
+ghost use Rattle.oplog.specs.Logs.{history};
+ghost use Rattle.document.specs.Documents.{HasRoomFor};
+ghost use Rattle.inbox.specs.Inboxes.{delivered_of};
+
+use crate::make::make;
+use crate::waiting::{check_wanted, next, next_faulty, reserve_next};
+use document::Document;
+use ids::{Refusal, ReplicaId};
+use inbox::Inbox;
+use operation::{Command, Delivered, Entry, Op, check_alone};
+use std::alloc::Global;
+use std::marker::Model;
+
+/// One replica of a document. Contracts see its own number, its document, what waits and how many operations were dropped.
+#[derive(Debug, Drop)]
+pub struct Replica {
+    own: ReplicaId,
+    document: Document,
+    inbox: Inbox,
+    /// How many operations of peers were dropped. Stays at its greatest.
+    dropped: u64,
+}
+
+impl Model for Replica {
+    ghost use Rattle.std.specs.Coded.{codes};
+    ghost use Rattle.semantics.specs.Codes.{coded_element};
+    ghost use Rattle.replica.specs.Replicas.{IsReplica, Running};
+
+    ghost Value = { Running };
+
+    ghost coded = { Prim.hlevel (codes, coded_element) };
+
+    ghost view = { λ r. record { own = r.own; document = r.document; waiting = r.inbox; dropped = r.dropped } };
+
+    ghost invariant = { λ r. IsReplica (record { own = r.own; document = r.document; waiting = r.inbox; dropped = r.dropped }) };
+}
+
+impl Replica {
+    ghost use Rattle.replica.specs.Replicas.{IsMade, IsNextReady, answer_to, counted, next_of, replica_of};
+
+    /// A replica with this number among these members, and with no history.
+    ///
+    /// # Errors
+    /// `BadConfig` where the members aren't from 1 to 64 different numbers above 0, or the own number is none of them, else `NoMemory` where a growth was refused.
+    pub fn new(alloc: Global, own: u32, members: &[u32]) -> Result<Replica, Refusal>
+        ensures new { IfOk result (λ r. replica_of r ≡ record { own = own; members = in_order members.now; entries = []; waiting = []; dropped = 0 }) }
+        ensures bad_config { (result ≡ Err BadConfig) ↔ IsFalse (are_members members.now && is_member members.now own) }
+        ensures err { IfErr result (λ why. (why ≡ BadConfig) ⊎ (why ≡ NoMemory)) }
+    {
+        let own = own_among(own, members)?;
+        let document = Document::new(alloc, members)?;
+        Ok(Replica {
+            own,
+            document,
+            inbox: Inbox::new(alloc),
+            dropped: 0,
+        })
+    }
+
+    /// The document of what was applied, to be asked. Its entries are an entry history of this replica, whatever was delivered.
+    pub fn document(&self) -> &Document
+        ensures document { result.now ≡ self.now.document }
+        ensures running { IsRunning (replica_of self.now) }
+    {
+        &self.document
+    }
+
+    /// How many operations were applied.
+    pub fn history_len(&self) -> usize
+        ensures { result ≡ length self.now.document.entries }
+    {
+        self.document.len()
+    }
+
+    /// How many operations of peers were dropped since they turned out to be unlawful. Stays at 18446744073709551615.
+    pub fn dropped(&self) -> u64
+        ensures { result ≡ self.now.dropped }
+    {
+        self.dropped
+    }
+
+    /// The operation that the command makes after the history. All that committing it needs is made too, and no content changes.
+    ///
+    /// # Errors
+    /// Those of the rules, in this order: `HistoryFull`; the refusal of the expression; `NotInList` for an insert that would stand neither at a head nor at an item, `AtHead` for another command at a head. Or `NoMemory` where a growth was refused.
+    pub fn make(&mut self, alloc: Global, command: &Command) -> Result<Op, Refusal>
+        ensures same { replica_of self.new ≡ replica_of self.old }
+        ensures made { IfOk result (λ op. IsMade self.old.document.entries self.old.own (command_of command.now) (stamped_of self.old.document.table op)) }
+        ensures width { IfOk result (λ op. length op.deps ≡ length self.old.document.table) }
+        ensures room { IfOk result (λ op. HasRoomFor self.new.document (stamped_of self.new.document.table op)) }
+        ensures err { IfErr result (λ why. (why ≡ NoMemory) ⊎ (make (applied self.old.document.entries) self.old.own (command_of command.now) ≡ Err why)) }
+    {
+        let op = make(alloc, self.own, &self.document, command)?;
+        self.document.reserve(alloc, &op)?;
+        Ok(op)
+    }
+
+    /// Appends what the last `make` gave, under a serial that is above each that the client had. Takes no memory.
+    pub fn commit_own(&mut self, client: usize, serial: u64, command: Command, op: Op)
+        requires made { IsMade self.old.document.entries self.old.own (command_of command) (stamped_of self.old.document.table op) }
+        requires width { length op.deps ≡ length self.old.document.table }
+        requires room { HasRoomFor self.old.document (stamped_of self.old.document.table op) }
+        requires above { IsAbove client serial self.old.document.entries }
+        ensures { replica_of self.new ≡ commit_own (replica_of self.old) client serial (command_of command) (stamped_of self.old.document.table op) }
+    {
+        self.document.commit(Entry::Own {
+            client,
+            serial,
+            command,
+            op,
+        });
+    }
+
+    /// Keeps an operation of a peer until all that it depends on is applied. Nothing is applied here: that is for `next_ready` and `commit_peer`, or `drain`.
+    ///
+    /// `Known` where an operation with its id was applied or waits, whatever else it holds. The operation is gone, unless it is `Kept`.
+    ///
+    /// # Errors
+    /// The first of these that holds, and then the replica is as it was: those of `check_alone`; then, unless it is known, `OwnName` for the own number, `HistoryFull`, and `InboxFull`; and those of `Document::check` where it is ready. Or `NoMemory` where a growth was refused.
+    pub fn deliver(&mut self, op: Op) -> Result<Delivered, Refusal>
+        ensures answer { MatchResult result
+            (λ d. answer_to (replica_of self.old) op ≡ delivered_of d)
+            (λ why. ((why ≡ NoMemory) × (answer_to (replica_of self.old) op ≡ ToBeKept)) ⊎ (answer_to (replica_of self.old) op ≡ NotKept why)) }
+        ensures delivered { OnOk result (replica_of self.new ≡ deliver (replica_of self.old) (stamped_of self.old.document.table op)) }
+        ensures same { OnErr result (replica_of self.new ≡ replica_of self.old) }
+    {
+        check_alone(&op, self.document.table())?;
+        if self.document.contains(op.id) || self.inbox.contains(op.id) {
+            return Ok(Delivered::Known);
+        }
+        check_wanted(self.own, &self.document, &self.inbox, &op)?;
+        self.inbox.put(op, &self.document)
+    }
+
+    /// A copy of the next operation of a peer that `commit_peer` appends: the smallest that is ready, unless the history is full. What is smaller, ready and unlawful is dropped and counted. All that committing it needs is made.
+    ///
+    /// # Errors
+    /// `NoMemory` where a growth was refused. What was dropped stays dropped then, and nothing else has changed.
+    pub fn next_ready(&mut self, alloc: Global) -> Result<Option<Op>, Refusal>
+        ensures dropped { (n : ℕ) × (replica_of self.new ≡ counted (drain_for n (replica_of self.old))) × (self.new.document.entries ≡ self.old.document.entries) }
+        ensures next { IfOk result (λ o. option_map (stamped_of self.new.document.table) o ≡ next_of (replica_of self.new)) }
+        ensures ready { IfOk result (λ o. IfSome o (λ op. IsNextReady self.new (stamped_of self.new.document.table op))) }
+        ensures err { IfErr result (λ why. why ≡ NoMemory) }
+    {
+        if !self.prepare(alloc)? {
+            return Ok(None);
+        }
+        match next(&self.document, &self.inbox) {
+            Some(op) => Ok(Some(op.clone()?)),
+            None => Ok(None),
+        }
+    }
+
+    /// Appends what the last `next_ready` gave a copy of. Takes no memory.
+    pub fn commit_peer(&mut self)
+        requires { (s : Stamped) × IsNextReady self.old s }
+        ensures { replica_of self.new ≡ drain_for 1 (replica_of self.old) }
+    {
+        let Some(op) = next(&self.document, &self.inbox) else {
+            unreachable!()
+        };
+        let id = op.id;
+        let Some(op) = self.inbox.take(id) else {
+            unreachable!()
+        };
+        self.document.commit(Entry::Peer(op));
+    }
+
+    /// Appends or drops all that is ready, and all that becomes ready by it, the smallest first, until the history is full.
+    ///
+    /// # Errors
+    /// `NoMemory` where a growth was refused. The drain has ended early then, and another goes on.
+    pub fn drain(&mut self, alloc: Global) -> Result<(), Refusal>
+        ensures drained { OnOk result (replica_of self.new ≡ counted (drain (replica_of self.old))) }
+        ensures settled { OnOk result (IsDrained (replica_of self.new)) }
+        ensures partly { (n : ℕ) × (replica_of self.new ≡ counted (drain_for n (replica_of self.old))) }
+        ensures err { IfErr result (λ why. why ≡ NoMemory) }
+    {
+        for _ in 0..self.inbox.len() {
+            if !self.prepare(alloc)? {
+                return Ok(());
+            }
+            self.commit_peer();
+        }
+        Ok(())
+    }
+
+    /// Drops what is ready and unlawful, as far as it comes before what isn't, and makes all that committing the next one needs. Answers whether there is one.
+    fn prepare(&mut self, alloc: Global) -> Result<bool, Refusal>
+        ensures dropped { (n : ℕ) × (replica_of self.new ≡ counted (drain_for n (replica_of self.old))) × (self.new.document.entries ≡ self.old.document.entries) }
+        ensures none { result ≡ Ok false → next_of (replica_of self.new) ≡ None }
+        ensures next { result ≡ Ok true → (s : Stamped) × IsNextReady self.new s }
+        ensures err { IfErr result (λ why. why ≡ NoMemory) }
+    {
+        self.drop_faulty();
+        reserve_next(alloc, &mut self.document, &self.inbox)
+    }
+
+    /// Drops the smallest ready one as long as that is unlawful.
+    fn drop_faulty(&mut self)
+        ensures dropped { (n : ℕ) × (replica_of self.new ≡ counted (drain_for n (replica_of self.old))) × (self.new.document ≡ self.old.document) }
+        ensures faultless { (s : Stamped) → next_of (replica_of self.new) ≡ Some s → fault_of (stamped_entries self.new.document.entries) s ≡ None }
+    {
+        while let Some(id) = next_faulty(&self.document, &self.inbox) {
+            self.inbox.take(id);
+            self.dropped = self.dropped.saturating_add(1);
+        }
+    }
+
+    /// The entries of the history, the oldest first. Takes no memory; what waits is gone.
+    pub fn into_entries(self) -> Vec<Entry>
+        ensures { history self.document.table result.items ≡ self.document.entries }
+    {
+        self.document.into_entries()
+    }
+}
+
+/// The own number, which is one of the members.
+fn own_among(own: u32, members: &[u32]) -> Result<ReplicaId, Refusal>
+    ensures { MatchResult result (λ p. (p ≡ own) × IsTrue (is_member members.now own)) (λ why. (why ≡ BadConfig) × ((own ≡ 0) ⊎ IsFalse (is_member members.now own))) }
+{
+    if !members.contains(&own) {
+        return Err(Refusal::BadConfig);
+    }
+    ReplicaId::new(own).ok_or(Refusal::BadConfig)
+}
