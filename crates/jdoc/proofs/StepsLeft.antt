@@ -4,11 +4,11 @@ use Rattle.ids.specs.Configurations.{Configuration}
 use Rattle.ids.specs.declared.refusal.Refusal.{Refusal}
 use Rattle.ids.specs.declared.refusal.Refusal.TheVariants.{BadLine}
 use Rattle.semantics.specs.World.{WorldStep}
-use Rattle.jdoc.specs.Lines.{HasNoEnd, IsFirstLine}
+use Rattle.wire.specs.Lines.{Bad, HasNoEnd, IsFirstLine, unless_bad}
 use Rattle.jdoc.specs.Steps.{step_line}
 use Rattle.jdoc.specs.Engines.{engine_line}
-use Rattle.jdoc.specs.Scripts.{Bad, script_form, steps_left, unless_bad}
-use Rattle.jdoc.proofs.CutLines.{cut-first_line, cut-no_end}
+use Rattle.jdoc.specs.Scripts.{script_form, steps_left}
+use Rattle.wire.proofs.CutLines.{cut-first_line, cut-no_end}
 
 -- these steps, and then those
 abbrev pub after : List WorldStep → Result (List WorldStep) Bad → Result (List WorldStep) Bad

@@ -10,7 +10,6 @@ use Rattle.semantics.specs.Operations.{Mutation}
 use Rattle.semantics.specs.Questions.{Step, Question}
 use Rattle.jdoc.specs.Requests.{applied_of, asking_of, delete_of, missing_of, writing_of}
 use Rattle.jdoc.specs.Steps.{push_of, whole_of, poll_of, ask_of}
-use Rattle.jdoc.specs.Vectors.{pair_of}
 
 pub engine_of-wrong_length : (xs : List Value) → length xs ≢ 7 → engine_of (items_view xs) ≡ Err BadLine
 engine_of-wrong_length [] h = refl
@@ -32,12 +31,6 @@ pub engines_of-wrong_length : (xs : List Value) → length xs ≢ 1 → engines_
 engines_of-wrong_length [] h = refl
 engines_of-wrong_length (a ∷ []) h = absurd (h refl)
 engines_of-wrong_length (a ∷ b ∷ xs) h = refl
-
-pub pair_of-wrong_length : (xs : List Value) → length xs ≢ 2 → pair_of (items_view xs) ≡ Err BadLine
-pair_of-wrong_length [] h = refl
-pair_of-wrong_length (a ∷ []) h = refl
-pair_of-wrong_length (a ∷ b ∷ []) h = absurd (h refl)
-pair_of-wrong_length (a ∷ b ∷ d ∷ xs) h = refl
 
 pub writing_of-wrong_length : (how : TheValue → Mutation) → (xs : List Value) → length xs ≢ 2 → writing_of how (items_view xs) ≡ Err BadLine
 writing_of-wrong_length how [] h = refl
@@ -97,7 +90,6 @@ pub ruleset wrong_lengths = (
   engine_of-wrong_length,
   only_engine-wrong_length,
   engines_of-wrong_length,
-  pair_of-wrong_length,
   writing_of-wrong_length,
   delete_of-wrong_length,
   asking_of-wrong_length,

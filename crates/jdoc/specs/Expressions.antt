@@ -6,7 +6,7 @@ use Rattle.ids.specs.declared.refusal.Refusal.TheVariants.{KeyTooLong}
 use Rattle.semantics.specs.Questions.{Step, Get, Idx}
 use Rattle.serde_json.specs.Data.{Data, Items, no_items, item}
 use Rattle.serde_json.specs.Find.{as_str}
-use Rattle.jdoc.specs.Forms.{and_then, number_form, list_form}
+use Rattle.wire.specs.Forms.{and_then, number_form, list_form}
 
 -- a step to the field with this key
 abbrev pub get_form : List ℕ → Result Step Refusal

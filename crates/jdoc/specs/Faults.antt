@@ -4,7 +4,7 @@ use Rattle.ids.specs.declared.refusal.Refusal.{Refusal}
 use Rattle.ids.specs.declared.refusal.Refusal.TheVariants.{NoMemory}
 use Rattle.jdoc.specs.declared.fault.Fault.{Fault}
 use Rattle.jdoc.specs.declared.fault.Fault.TheVariants as fault
-use Rattle.jdoc.specs.Scripts.{Bad}
+use Rattle.wire.specs.Lines.{Bad}
 
 -- want of memory is no line's fault
 abbrev pub fault_of : ℕ → Refusal → Fault

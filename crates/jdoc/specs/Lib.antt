@@ -1,14 +1,10 @@
 pub mod Engines
 pub mod Expressions
 pub mod Faults
-pub mod Forms
-pub mod Lines
-pub mod Operations
 pub mod Replies
 pub mod Requests
 pub mod Runs
 pub mod Scripts
 pub mod Statuses
 pub mod Steps
-pub mod Vectors
 pub mod Words

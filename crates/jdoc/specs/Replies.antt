@@ -11,8 +11,8 @@ use Rattle.serde_json.specs.Data.{Data, string, array}
 use Rattle.serde_json.specs.View.{items_of}
 use Rattle.serde_json.specs.Written.{compact_text}
 use Rattle.value.specs.Forms.{scalar_json}
-use Rattle.jdoc.specs.Operations.{id_json, operation_json, phrase}
-use Rattle.jdoc.specs.Vectors.{count, vector_json}
+use Rattle.wire.specs.Operations.{id_json, operation_json, phrase}
+use Rattle.wire.specs.Vectors.{count, vector_json}
 
 -- as `E22`
 abbrev pub refusal_name : Refusal → List ℕ

@@ -7,12 +7,13 @@ use Rattle.semantics.specs.Elements.{Value}
 use Rattle.semantics.specs.Operations.{Mutation, Assign, Insert, Delete}
 use Rattle.semantics.specs.Making.{Command}
 use Rattle.semantics.specs.Questions.{Step, Question, Values, Keys, Items as ItemsAt, Conflicts, AppliedVector}
+use Rattle.semantics.specs.Vectors.{Vector}
 use Rattle.semantics.specs.LegalAnswer.{Asked, OfDocument, Missing}
 use Rattle.serde_json.specs.Data.{Data, Items, no_items, item}
 use Rattle.value.specs.Forms.{value_form}
-use Rattle.jdoc.specs.Forms.{and_then, phrase_form}
+use Rattle.wire.specs.Forms.{and_then, phrase_form}
 use Rattle.jdoc.specs.Expressions.{expression_form}
-use Rattle.jdoc.specs.Vectors.{vector_form}
+use Rattle.wire.specs.Vectors.{vector_form}
 
 -- ---- commands
 
@@ -49,10 +50,19 @@ abbrev pub asking_of : (List Step → Question) → Items → Result Asked Refus
 asking_of what (item expression no_items) = and_then (λ e. Ok (OfDocument (what e))) (expression_form expression)
 asking_of what _ = Err BadLine
 
--- a vector of replicas of the table, where there is one
+-- all refusals are `BadLine`
+abbrev pub as_bad_line : {T : Type 0} → Result T Refusal → Result T Refusal
+as_bad_line (Ok x) = Ok x
+as_bad_line (Err why) = Err BadLine
+
+-- a vector of replicas of the table; whatever is wrong with one in a script is `BadLine`
+abbrev pub script_vector : List ℕ → Data → Result Vector Refusal
+script_vector table d = as_bad_line (vector_form table d)
+
+-- a vector, where there is a table
 abbrev pub missing_of : Option (List ℕ) → Items → Result Asked Refusal
 missing_of None parts = Err BadLine
-missing_of (Some table) (item vector no_items) = and_then (λ v. Ok (Missing v)) (vector_form table vector)
+missing_of (Some table) (item vector no_items) = and_then (λ v. Ok (Missing v)) (script_vector table vector)
 missing_of (Some table) _ = Err BadLine
 
 -- nothing

@@ -4,23 +4,9 @@ use Rattle.ids.specs.Configurations.{Configuration}
 use Rattle.ids.specs.declared.refusal.Refusal.{Refusal}
 use Rattle.ids.specs.declared.refusal.Refusal.TheVariants.{BadLine}
 use Rattle.semantics.specs.World.{WorldStep}
-use Rattle.jdoc.specs.Lines.{cut}
+use Rattle.wire.specs.Lines.{Bad, cut, on_line, unless_bad}
 use Rattle.jdoc.specs.Engines.{engine_line}
 use Rattle.jdoc.specs.Steps.{step_line}
-
--- the number of a bad line, and why it is bad
-abbrev pub Bad : Type 0
-Bad = ℕ × Refusal
-
--- what follows an answer, unless that is bad
-abbrev pub unless_bad : {A B : Type 0} → (A → Result B Bad) → Result A Bad → Result B Bad
-unless_bad next (Ok x) = next x
-unless_bad next (Err bad) = Err bad
-
--- what a line of this number is
-abbrev pub on_line : {A : Type 0} → ℕ → Result A Refusal → Result A Bad
-on_line number (Ok x) = Ok x
-on_line number (Err why) = Err (number, why)
 
 -- the steps on lines from this number on; bytes after the last line are a bad line
 abbrev pub steps_from : List Configuration → ℕ → List (List ℕ) → List ℕ → Result (List WorldStep) Bad

@@ -8,7 +8,7 @@ use Rattle.ids.specs.declared.refusal.Refusal.{Refusal}
 use Rattle.ids.specs.declared.refusal.Refusal.TheVariants.{BadLine}
 use Rattle.semantics.specs.World.{WorldStep, Push, Take, Publish, Give, Whole, Poll, Ask}
 use Rattle.serde_json.specs.Data.{Data, Items, no_items, item}
-use Rattle.jdoc.specs.Forms.{and_then, json_form, number_form, phrase_form}
+use Rattle.wire.specs.Forms.{and_then, json_form, number_form, phrase_form}
 use Rattle.jdoc.specs.Requests.{command_form, question_form}
 
 -- ---- the forms of steps

@@ -5,14 +5,14 @@ ghost use Rattle.std.specs.Prelude.{◌≡◌, ◌⊎◌, Ok, Err, IfOk, IfErr, 
 ghost use Rattle.std.specs.List.{list_all};
 ghost use Rattle.ids.specs.declared.refusal.Refusal.TheVariants.{NoMemory, BadConfig};
 ghost use Rattle.serde_json.specs.View.{view, items_view};
-ghost use Rattle.jdoc.specs.Forms.{IsUnlessMemory};
+ghost use Rattle.wire.specs.Forms.{IsUnlessMemory};
 ghost use Rattle.jdoc.specs.Engines.{engine_form, said_engine, engines_of, fits, if_fit, numbers_of, only_engine, world_form};
 
-use crate::forms::{json_of, list_in, number_in, phrase_in};
 use ids::{Config, Refusal};
 use serde_json::Value;
 use std::alloc::Global;
 use std::marker::Model;
+use wire::{json_of, list_in, number_in, phrase_in};
 
 /// An engine as a script has it, with numbers of any size. Contracts see the configuration.
 #[derive(Debug, Drop)]

@@ -4,14 +4,14 @@ ghost use Rattle.std.specs.Prelude.{map};
 ghost use Rattle.cursor.specs.Meanings.{step_of};
 ghost use Rattle.serde_json.specs.View.{view, items_view};
 ghost use Rattle.jdoc.specs.Expressions.{expression_form, path_step_form, path_steps_of};
-ghost use Rattle.jdoc.specs.Forms.{IsRead, IsUnlessMemory};
+ghost use Rattle.wire.specs.Forms.{IsRead, IsUnlessMemory};
 
-use crate::forms::{list_in, number_in};
 use cursor::{Expr, Step};
 use ids::Refusal;
 use serde_json::Value;
 use std::alloc::Global;
 use value::Key;
+use wire::{list_in, number_in};
 
 /// A list of keys and of places in lists.
 pub fn expression_in(alloc: Global, value: &Value) -> Result<Expr, Refusal>

@@ -4,9 +4,6 @@
 mod configuration;
 mod expressions;
 mod fault;
-mod forms;
-mod lines;
-mod operations;
 mod readings;
 mod replies;
 mod requests;
@@ -15,7 +12,6 @@ mod script;
 mod steps;
 #[cfg(test)]
 mod tests;
-mod vectors;
 mod words;
 
 use fault::Fault;

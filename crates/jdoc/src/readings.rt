@@ -7,12 +7,10 @@ ghost use Rattle.cursor.specs.Meanings.{tag_of};
 ghost use Rattle.value.specs.Meanings.{scalar_of};
 ghost use Rattle.operation.specs.Meanings.{stamped_of};
 ghost use Rattle.document.specs.Documents.{said_by};
-ghost use Rattle.jdoc.specs.Operations.{id_json, operation_json, phrase};
+ghost use Rattle.wire.specs.Operations.{id_json, operation_json, phrase};
 ghost use Rattle.jdoc.specs.Replies.{conflict_json, reading_json, row_json, tag_name};
-ghost use Rattle.jdoc.specs.Vectors.{count};
+ghost use Rattle.wire.specs.Vectors.{count};
 
-use crate::operations::{id_value, operation_value};
-use crate::vectors::vector_value;
 use cursor::Tag;
 use document::Reading;
 use ids::{OpId, ReplicaTable};
@@ -20,6 +18,7 @@ use operation::Op;
 use serde_json::{Value, json};
 use std::alloc::{AllocError, Global};
 use value::{Key, Scalar};
+use wire::{id_value, operation_value, vector_value};
 
 /// The reply to a question of a token that has seen so many entries.
 pub fn reading_value(

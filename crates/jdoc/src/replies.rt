@@ -6,11 +6,11 @@ ghost use Rattle.serde_json.specs.View.{view};
 ghost use Rattle.world.specs.Meanings.{answer_to, reply_of};
 ghost use Rattle.jdoc.specs.Replies.{refusal_name, reply_json, reply_text, step_reply_json};
 
-use crate::operations::id_value;
 use crate::readings::reading_value;
 use ids::Refusal;
 use serde_json::{Value, json};
 use std::alloc::{AllocError, Global};
+use wire::id_value;
 use world::{Reply, WorldReply};
 
 /// The replies, one a line.

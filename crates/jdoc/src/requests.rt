@@ -1,21 +1,20 @@
 //! Commands and questions in a script.
 #![tactic(auto, using(crate::proofs::WrongLengths::wrong_lengths))]
 
-ghost use Rattle.std.specs.Prelude.{List, IfOk, option_map};
+ghost use Rattle.std.specs.Prelude.{◌≡◌, List, IfOk, length, option_map};
 ghost use Rattle.serde_json.specs.View.{view, items_view};
 ghost use Rattle.semantics.specs.Elements.{Value as TheValue};
 ghost use Rattle.semantics.specs.Operations.{Mutation as TheMutation};
 ghost use Rattle.semantics.specs.Questions.{AppliedVector, Step, Question as TheQuestion};
 ghost use Rattle.semantics.specs.LegalAnswer.{OfDocument};
+ghost use Rattle.semantics.specs.Tables.{by_table};
 ghost use Rattle.value.specs.Meanings.{value_of};
 ghost use Rattle.operation.specs.Meanings.{command_of};
 ghost use Rattle.document.specs.Documents.{IsBeside, asked_of};
-ghost use Rattle.jdoc.specs.Forms.{IsRead};
-ghost use Rattle.jdoc.specs.Requests.{applied_of, asking_of, command_form, delete_of, missing_of, question_form, table_in, writing_of};
+ghost use Rattle.wire.specs.Forms.{IsRead};
+ghost use Rattle.jdoc.specs.Requests.{applied_of, asking_of, command_form, delete_of, missing_of, question_form, script_vector, table_in, writing_of};
 
 use crate::expressions::expression_in;
-use crate::forms::phrase_in;
-use crate::vectors::vector_in;
 use cursor::Expr;
 use document::Question;
 use ids::{Refusal, ReplicaTable};
@@ -23,6 +22,8 @@ use operation::Command;
 use serde_json::Value;
 use std::alloc::Global;
 use value::Val;
+use version::VersionVector;
+use wire::{phrase_in, vector_in};
 
 pub fn command_in(alloc: Global, value: &Value) -> Result<Command, Refusal>
     ensures { IsRead command_of result (command_form (view value.now)) }
@@ -110,7 +111,23 @@ fn missing_in(
     let [vector] = parts else {
         return Err(Refusal::BadLine);
     };
-    Ok(Question::Missing(vector_in(alloc, table, vector)?))
+    Ok(Question::Missing(script_vector_in(alloc, table, vector)?))
+}
+
+/// A vector of replicas of the table. Whatever else is wrong with one in a script is `BadLine`.
+fn script_vector_in(
+    alloc: Global,
+    table: &ReplicaTable,
+    value: &Value,
+) -> Result<VersionVector, Refusal>
+    ensures read { IsRead (by_table table.now) result (script_vector table.now (view value.now)) }
+    ensures width { IfOk result (λ v. length v ≡ length table.now) }
+{
+    match vector_in(alloc, table, value) {
+        Ok(vector) => Ok(vector),
+        Err(Refusal::NoMemory) => Err(Refusal::NoMemory),
+        Err(_) => Err(Refusal::BadLine),
+    }
 }
 
 /// Nothing follows the word.

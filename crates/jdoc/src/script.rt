@@ -8,14 +8,15 @@ ghost use Rattle.world.specs.Worlds.{IsAskedBeside, step_in, tables_of, world_of
 ghost use Rattle.jdoc.specs.Engines.{if_within_limits};
 ghost use Rattle.jdoc.specs.Faults.{IsFaultOf};
 ghost use Rattle.jdoc.specs.Steps.{tables_for};
-ghost use Rattle.jdoc.specs.Scripts.{on_line, script_form, steps_left, unless_bad};
+ghost use Rattle.wire.specs.Lines.{on_line, unless_bad};
+ghost use Rattle.jdoc.specs.Scripts.{script_form, steps_left};
 
 use crate::configuration::read_engine;
 use crate::fault::Fault;
-use crate::lines::Lines;
 use crate::steps::read_step;
 use ids::{Config, Refusal};
 use std::alloc::Global;
+use wire::Lines;
 use world::{World, WorldStep};
 
 /// A script that was read.

@@ -7,15 +7,15 @@ ghost use Rattle.semantics.specs.World.{Push, Whole, Poll};
 ghost use Rattle.operation.specs.Meanings.{command_of};
 ghost use Rattle.world.specs.Meanings.{step_of};
 ghost use Rattle.world.specs.Worlds.{IsAskedBeside, step_in as step_meant, tables_of};
-ghost use Rattle.jdoc.specs.Forms.{IsRead};
+ghost use Rattle.wire.specs.Forms.{IsRead, number_form};
 ghost use Rattle.jdoc.specs.Steps.{any_step_of, ask_of, has_client as client_there, has_token as token_there, is_there as step_there, poll_of, push_of, step_form, step_line, tables_for, whole_of};
 
-use crate::forms::{json_of, number_in, phrase_in, place_in};
 use crate::requests::{command_in, question_in};
 use ids::{Config, Refusal};
 use operation::Command;
 use serde_json::Value;
 use std::alloc::Global;
+use wire::{json_of, number_in, phrase_in};
 use world::{World, WorldStep};
 
 /// The step on a line, of an engine, client and token that are there. The world is that of the engines.
@@ -149,4 +149,11 @@ fn has_token(engines: &[Config], engine: usize, token: usize) -> bool
         Some(config) => token < config.clients as usize + config.readers as usize,
         None => false,
     }
+}
+
+/// The number of an engine, a client or a token.
+pub fn place_in(value: &Value) -> Result<usize, Refusal>
+    ensures { result ≡ number_form (view value.now) }
+{
+    Ok(number_in(value)? as usize)
 }

@@ -1,7 +1,7 @@
 -- What is left decides, after the numbers so far.
 use Rattle.std.proofs.Common.{◌≡◌, ◌++◌, drop, Ok}
 use Rattle.serde_json.specs.View.{items_view}
-use Rattle.jdoc.specs.Forms.{and_then}
+use Rattle.wire.specs.Forms.{and_then}
 use Rattle.jdoc.specs.Engines.{numbers_of}
 use Rattle.jdoc.proofs.configuration.numbers_in.Given as goal
 

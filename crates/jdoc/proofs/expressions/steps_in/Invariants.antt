@@ -2,7 +2,7 @@
 use Rattle.std.proofs.Common.{◌≡◌, ◌++◌, drop, map, Ok}
 use Rattle.cursor.specs.Meanings.{step_of}
 use Rattle.serde_json.specs.View.{items_view}
-use Rattle.jdoc.specs.Forms.{and_then}
+use Rattle.wire.specs.Forms.{and_then}
 use Rattle.jdoc.specs.Expressions.{path_steps_of}
 use Rattle.jdoc.proofs.expressions.steps_in.Given as goal
 

@@ -10,9 +10,9 @@ use Rattle.semantics.specs.LegalAnswer.{Reading}
 use Rattle.semantics.specs.Stamped.{Stamped}
 use Rattle.operation.specs.Meanings.{stamped_of}
 use Rattle.document.specs.Documents.{said_by}
-use Rattle.jdoc.specs.Operations.{operation_json, phrase}
+use Rattle.wire.specs.Operations.{operation_json, phrase}
 use Rattle.jdoc.specs.Replies.{conflict_json, reading_json, row_json}
-use Rattle.jdoc.specs.Vectors.{count}
+use Rattle.wire.specs.Vectors.{count}
 use Rattle.jdoc.proofs.readings.answer_value.Goals as goal
 
 mapped : {X Y Z : Type 0} (f : Y → Z) (g : X → Y) (xs : List X) → map (λ x. f (g x)) xs ≡ map f (map g xs)

@@ -1,7 +1,7 @@
 use Rattle.std.proofs.Common.{◌≡◌, map, take}
 use Rattle.serde_json.specs.View.{view}
 use Rattle.operation.specs.Meanings.{stamped_of}
-use Rattle.jdoc.specs.Operations.{operation_json}
+use Rattle.wire.specs.Operations.{operation_json}
 use Rattle.jdoc.proofs.readings.operations_value.Given as goal
 
 abbrev pub invariant-loop-op : goal.invariant-loop-op

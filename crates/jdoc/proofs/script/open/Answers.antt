@@ -7,7 +7,8 @@ use Rattle.semantics.specs.World.{WorldStep}
 use Rattle.jdoc.specs.declared.fault.Fault.{Fault}
 use Rattle.jdoc.specs.Engines.{if_within_limits}
 use Rattle.jdoc.specs.Faults.{IsFaultOf, fault_of}
-use Rattle.jdoc.specs.Scripts.{Bad, on_line, steps_left, unless_bad}
+use Rattle.wire.specs.Lines.{Bad, on_line, unless_bad}
+use Rattle.jdoc.specs.Scripts.{steps_left}
 use Rattle.jdoc.proofs.script.open.Goals as goal
 
 -- of one engine, all are within the limits where it is

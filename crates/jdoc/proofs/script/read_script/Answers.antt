@@ -8,10 +8,10 @@ use Rattle.jdoc.specs.Engines.{engine_line}
 use Rattle.ids.specs.Configurations.{is_within_limits}
 use Rattle.jdoc.specs.Engines.{if_within_limits, said_engine}
 use Rattle.jdoc.specs.Faults.{IsFaultOf, fault_of}
-use Rattle.jdoc.specs.Lines.{IsFirstLine}
-use Rattle.jdoc.specs.Scripts.{Bad, on_line, script_form, steps_left, unless_bad}
+use Rattle.wire.specs.Lines.{Bad, IsFirstLine, on_line, unless_bad}
+use Rattle.jdoc.specs.Scripts.{script_form, steps_left}
 use Rattle.jdoc.proofs.StepsLeft.{script_form-bad, script_form-engine, script_form-none}
-use Rattle.jdoc.proofs.UnlessMemory.{IsUnlessMemory-Err, IsUnlessMemory-Ok}
+use Rattle.wire.proofs.UnlessMemory.{IsUnlessMemory-Err, IsUnlessMemory-Ok}
 use Rattle.jdoc.proofs.script.read_script.Goals as goal
 
 both : {T E : Type 0} (r : Result T E) (P Q : T → Type 0) → IfOk r P → IfOk r Q → IfOk r (λ x. P x × Q x)

@@ -7,9 +7,10 @@ use Rattle.semantics.specs.World.{WorldStep as TheStep}
 use Rattle.world.specs.declared.step.WorldStep.{WorldStep}
 use Rattle.world.specs.Worlds.{IsAskedBeside, step_in, tables_of}
 use Rattle.jdoc.specs.Faults.{fault_of}
-use Rattle.jdoc.specs.Scripts.{steps_left, unless_bad}
+use Rattle.wire.specs.Lines.{unless_bad}
+use Rattle.jdoc.specs.Scripts.{steps_left}
 use Rattle.jdoc.proofs.StepsLeft.{after, after-step, after-bad, after-cut}
-use Rattle.jdoc.proofs.UnlessMemory.{IsUnlessMemory-Err}
+use Rattle.wire.proofs.UnlessMemory.{IsUnlessMemory-Err}
 use Rattle.jdoc.proofs.script.read_steps.Goals as goal
 
 pub loop-line-preserved : goal.loop-line-preserved

@@ -2,7 +2,8 @@
 use Rattle.std.proofs.Common.{◌≡◌, ◌++◌, map, length, Ok}
 use Rattle.std.specs.List.{All}
 use Rattle.world.specs.Worlds.{IsAskedBeside, step_in, tables_of}
-use Rattle.jdoc.specs.Scripts.{steps_left, unless_bad}
+use Rattle.wire.specs.Lines.{unless_bad}
+use Rattle.jdoc.specs.Scripts.{steps_left}
 use Rattle.jdoc.proofs.script.read_steps.Given as goal
 
 abbrev pub decreases-loop-line : goal.decreases-loop-line

@@ -6,7 +6,7 @@ use Rattle.document.specs.Documents.{IsBeside, asked_of}
 use Rattle.world.specs.Worlds.{table_at, tables_of}
 use Rattle.serde_json.specs.declared.value.Value.{Value}
 use Rattle.serde_json.specs.View.{view, items_view}
-use Rattle.jdoc.specs.Forms.{number_form}
+use Rattle.wire.specs.Forms.{number_form}
 use Rattle.jdoc.specs.Requests.{question_form, table_in}
 use Rattle.jdoc.specs.Steps.{ask_of}
 use Rattle.jdoc.proofs.AskedTables.{same_table}

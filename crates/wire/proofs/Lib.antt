@@ -1,0 +1,11 @@
+pub mod UnlessMemory
+pub mod ReadVectors
+pub mod ListedVectors
+pub mod NoFloats
+pub mod WrongLengths
+pub mod ReadPlaces
+pub mod CutLines
+pub mod BundleLines
+pub mod ReadBack
+pub mod ShallowForms
+pub mod JsonTexts

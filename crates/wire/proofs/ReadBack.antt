@@ -1,0 +1,150 @@
+-- What is written of an operation is read as that operation.
+use Rattle.std.proofs.Common.{◌≡◌, ◌≤◌, ℕ, suc, false, List, [], ◌∷◌, ◌++◌, length, map, Option, Some, None, Ok, refl, ap, ◌∙◌, arith}
+use Rattle.std.specs.Prelude.{codes, pos, negsuc}
+use Rattle.std.proofs.lemmas.Bool.{lt-ltb, le-ltb}
+use Rattle.std.proofs.lemmas.List.{length-append}
+use Rattle.semantics.specs.Ids.{OpId}
+use Rattle.semantics.specs.Elements.{Element, Doc, Field, Item, Place, At, HeadOf, Tag, AsMap, AsList, Value, Plain, EmptyMap, EmptyList, Null, Boolean, Whole, Text, depth}
+use Rattle.semantics.specs.Operations.{Mutation, Assign, Insert, Delete, element_of}
+use Rattle.semantics.specs.Paths.{Key, FieldKey, ItemKey, child, down, keys_from_root}
+use Rattle.semantics.specs.Stamped.{Stamped}
+use Rattle.semantics.specs.Vectors.{Vector}
+use Rattle.semantics.proofs.ElementPaths.{down-keys_from_root}
+use Rattle.serde_json.specs.Data.{Data}
+use Rattle.serde_json.specs.View.{items_of}
+use Rattle.cursor.specs.Places.{LastKey, DocKey, FieldName, ItemId, HeadKey, depth_of}
+use Rattle.value.specs.Forms.{IsWithinLimits, json_of, value_form}
+use Rattle.wire.specs.Forms.{and_then, phrase_form}
+use Rattle.wire.specs.Members.{member_form}
+use Rattle.wire.specs.Messages.{hello_json, hello_of}
+use Rattle.wire.specs.Operations.{entered_json, id_json, key_json, last_from, last_json, mutation_json, operation_json, parts_from, path_json, phrase, root_json}
+use Rattle.wire.specs.Places.{Entered, count_parts, element_at, entered_of, is_list_head, key_form, parts_of, place_below, place_form}
+use Rattle.wire.specs.Reading.{mutation_form, operation_form}
+use Rattle.wire.specs.Sent.{AreSentKeys, IsSent, IsSentId, IsSentKey, IsSentMutation, IsSentVector}
+use Rattle.wire.specs.Vectors.{pair_json, pairs_above}
+
+-- ---- ids and vectors
+
+id_back : (table : List ℕ) (a : OpId) → IsSentId table a → member_form table (id_json a) ≡ Ok a
+id_back table a h = rw (h.0, h.1, h.2) refl
+
+pairs_back : (table : List ℕ) (p : ℕ) (v : Vector) → IsSentVector table p v → pairs_above table p (items_of (map pair_json v)) ≡ Ok v
+pairs_back table p [] h = refl
+pairs_back table p (a ∷ v) h = rw (h.1.0, h.1.1, lt-ltb p a.replica h.0, h.1.2, pairs_back table a.replica v h.2) refl
+
+-- ---- places
+
+-- a key as it is written
+abbrev written_key : Key → LastKey
+written_key (FieldKey n) = FieldName n
+written_key (ItemKey a) = ItemId a
+
+-- as what the element before a key is entered
+abbrev tag_before : Key → Tag
+tag_before (FieldKey n) = AsMap
+tag_before (ItemKey a) = AsList
+
+-- the parts of a path from one key on
+abbrev path_parts : LastKey → List Key → List Entered
+path_parts before [] = []
+path_parts before (k ∷ ks) = record { key = before; tag = tag_before k } ∷ path_parts (written_key k) ks
+
+-- its last key
+abbrev path_last : LastKey → List Key → LastKey
+path_last before [] = before
+path_last before (k ∷ ks) = path_last (written_key k) ks
+
+key_back : (table : List ℕ) (k : Key) → IsSentKey table k → key_form table (key_json k) ≡ Ok (written_key k)
+key_back table (FieldKey n) h = rw (le-ltb 256 (length n) h) refl
+key_back table (ItemKey a) h = rw (h.0, h.1, h.2) refl
+
+part_back : (table : List ℕ) (d : Data) (before : LastKey) (k : Key) → key_form table d ≡ Ok before
+    → and_then (entered_of table) (phrase_form (entered_json d k)) ≡ Ok (record { key = before; tag = tag_before k })
+part_back table d before (FieldKey n) e = rw e refl
+part_back table d before (ItemKey a) e = rw e refl
+
+parts_back : (table : List ℕ) (d : Data) (before : LastKey) (ks : List Key) → key_form table d ≡ Ok before → AreSentKeys table ks
+    → parts_of table (items_of (parts_from d ks)) ≡ Ok (path_parts before ks)
+parts_back table d before [] e h = refl
+parts_back table d before (k ∷ ks) e h = rw (part_back table d before k e, parts_back table (key_json k) (written_key k) ks (key_back table k h.0) h.1) refl
+
+last_back : (table : List ℕ) (d : Data) (before : LastKey) (ks : List Key) → key_form table d ≡ Ok before → AreSentKeys table ks
+    → key_form table (last_from d ks) ≡ Ok (path_last before ks)
+last_back table d before [] e h = e
+last_back table d before (k ∷ ks) e h = last_back table (key_json k) (written_key k) ks (key_back table k h.0) h.1
+
+head_back : (table : List ℕ) (d : Data) (before : LastKey) (ks : List Key) → key_form table d ≡ Ok before → AreSentKeys table ks
+    → parts_of table (items_of (parts_from d ks ++ phrase (codes "l") (last_from d ks ∷ []) ∷ [])) ≡ Ok (path_parts before ks ++ record { key = path_last before ks; tag = AsList } ∷ [])
+head_back table d before [] e h = rw e refl
+head_back table d before (k ∷ ks) e h = rw (part_back table d before k e, head_back table (key_json k) (written_key k) ks (key_back table k h.0) h.1) refl
+
+entry_back : (e : Element) (k : Key) → element_at e (Some (tag_before k)) (written_key k) ≡ Ok (child e k)
+entry_back e (FieldKey n) = refl
+entry_back e (ItemKey a) = refl
+
+no_head : (t k : Key) → is_list_head (Some (tag_before t)) (written_key k) ≡ false
+no_head (FieldKey n) k = refl
+no_head (ItemKey a) (FieldKey m) = refl
+no_head (ItemKey a) (ItemKey b) = refl
+
+walk_back : (e f : Element) (t : Option Tag) (before : LastKey) (ks : List Key) → element_at e t before ≡ Ok f → is_list_head t before ≡ false
+    → place_below e t (path_parts before ks) (path_last before ks) ≡ Ok (At (down f ks))
+walk_back e f t before [] there other = rw (other, there) refl
+walk_back e f t before (k ∷ ks) there other =
+    rw there (walk_back f (child f k) (Some (tag_before k)) (written_key k) ks (entry_back f k) (no_head k k))
+
+walk_to_head : (e f : Element) (t : Option Tag) (before : LastKey) (ks : List Key) → element_at e t before ≡ Ok f
+    → place_below e t (path_parts before ks ++ record { key = path_last before ks; tag = AsList } ∷ []) HeadKey ≡ Ok (HeadOf (down f ks))
+walk_to_head e f t before [] there = rw there refl
+walk_to_head e f t before (k ∷ ks) there = rw there (walk_to_head f (child f k) (Some (tag_before k)) (written_key k) ks (entry_back f k))
+
+count_back : (d : Data) (ks : List Key) → count_parts (items_of (parts_from d ks)) ≡ length ks
+count_back d [] = refl
+count_back d (k ∷ ks) = ap suc (count_back (key_json k) ks)
+
+count_head : (d x : Data) (ks : List Key) → count_parts (items_of (parts_from d ks ++ x ∷ [])) ≡ suc (length ks)
+count_head d x [] = refl
+count_head d x (k ∷ ks) = ap suc (count_head (key_json k) x ks)
+
+length_keys : (e : Element) → length (keys_from_root e) ≡ depth e
+length_keys Doc = refl
+length_keys (Field e n) = omega (arith, length-append (keys_from_root e) (FieldKey n ∷ []), length_keys e)
+length_keys (Item e a) = omega (arith, length-append (keys_from_root e) (ItemKey a ∷ []), length_keys e)
+
+place_back : (table : List ℕ) (p : Place) → AreSentKeys table (keys_from_root (element_of p)) → depth_of p ≤ 32 → place_form table (path_json p) (last_json p) ≡ Ok p
+place_back table (At e) h few =
+    let ks = keys_from_root e in
+    let short : count_parts (items_of (parts_from root_json ks)) ≤ 32 = omega (arith, count_back root_json ks, length_keys e, few) in
+    rw (le-ltb 32 (count_parts (items_of (parts_from root_json ks))) short, parts_back table root_json DocKey ks refl h, last_back table root_json DocKey ks refl h)
+    (walk_back Doc Doc None DocKey ks refl refl ∙ ap (λ (d : Element). Ok (At d)) (down-keys_from_root e))
+place_back table (HeadOf e) h few =
+    let ks = keys_from_root e in
+    let x = phrase (codes "l") (last_from root_json ks ∷ []) in
+    let short : count_parts (items_of (parts_from root_json ks ++ x ∷ [])) ≤ 32 = omega (arith, count_head root_json x ks, length_keys e, few) in
+    rw (le-ltb 32 (count_parts (items_of (parts_from root_json ks ++ x ∷ []))) short, head_back table root_json DocKey ks refl h)
+    (walk_to_head Doc Doc None DocKey ks refl ∙ ap (λ (d : Element). Ok (HeadOf d)) (down-keys_from_root e))
+
+-- ---- mutations
+
+value_back : (v : Value) → IsWithinLimits v → value_form (json_of v) ≡ Ok v
+value_back (Plain Null) h = refl
+value_back (Plain (Boolean b)) h = refl
+value_back (Plain (Whole (pos n))) h = rw (lt-ltb n 9223372036854775808 (omega (arith, h))) refl
+value_back (Plain (Whole (negsuc n))) h = refl
+value_back (Plain (Text s)) h = rw (le-ltb 4096 (length s) h) refl
+value_back EmptyMap h = refl
+value_back EmptyList h = refl
+
+mutation_back : (m : Mutation) → IsSentMutation m → mutation_form (mutation_json m) ≡ Ok m
+mutation_back (Assign v) h = rw (value_back v h) refl
+mutation_back (Insert v) h = rw (value_back v h) refl
+mutation_back Delete h = refl
+
+-- ---- operations
+
+pub operation_back : (table : List ℕ) (s : Stamped) → IsSent table s → operation_form table (operation_json s) ≡ Ok s
+operation_back table s h =
+    rw (id_back table s.id h.id, pairs_back table 0 s.vector h.vector, place_back table s.place h.keys h.few, mutation_back s.mutation h.mutation) refl
+
+pub hello_back : (table : List ℕ) (v : Vector) → IsSentVector table 0 v → and_then (hello_of table) (phrase_form (hello_json v)) ≡ Ok v
+hello_back table v h = rw (pairs_back table 0 v h) refl

@@ -1,0 +1,64 @@
+-- A list of another length than a form has is no such form.
+use Rattle.std.proofs.Common.{◌≡◌, ◌≢◌, ℕ, List, [], ◌∷◌, length, Err, refl}
+use Rattle.std.proofs.lemmas.Bool.{ltb-true, ltb-false}
+use Rattle.ids.specs.declared.refusal.Refusal.TheVariants.{BadLine}
+use Rattle.serde_json.specs.declared.value.Value.{Value}
+use Rattle.serde_json.specs.View.{items_view}
+use Rattle.wire.specs.Messages.{only_vector}
+use Rattle.wire.specs.Members.{id_of}
+use Rattle.wire.specs.Places.{only_key}
+use Rattle.wire.specs.Reading.{fields_of, nothing_more, only_value}
+use Rattle.wire.specs.Vectors.{pair_of}
+
+pub pair_of-wrong_length : (xs : List Value) → length xs ≢ 2 → pair_of (items_view xs) ≡ Err BadLine
+pair_of-wrong_length [] h = refl
+pair_of-wrong_length (a ∷ []) h = refl
+pair_of-wrong_length (a ∷ b ∷ []) h = absurd (h refl)
+pair_of-wrong_length (a ∷ b ∷ d ∷ xs) h = refl
+
+pub only_vector-wrong_length : (table : List ℕ) → (xs : List Value) → length xs ≢ 1 → only_vector table (items_view xs) ≡ Err BadLine
+only_vector-wrong_length table [] h = refl
+only_vector-wrong_length table (a ∷ []) h = absurd (h refl)
+only_vector-wrong_length table (a ∷ b ∷ xs) h = refl
+
+pub id_of-wrong_length : (xs : List Value) → length xs ≢ 2 → id_of (items_view xs) ≡ Err BadLine
+id_of-wrong_length [] h = refl
+id_of-wrong_length (a ∷ []) h = refl
+id_of-wrong_length (a ∷ b ∷ []) h = absurd (h refl)
+id_of-wrong_length (a ∷ b ∷ d ∷ xs) h = refl
+
+pub only_key-wrong_length : (table : List ℕ) → (xs : List Value) → length xs ≢ 1 → only_key table (items_view xs) ≡ Err BadLine
+only_key-wrong_length table [] h = refl
+only_key-wrong_length table (a ∷ []) h = absurd (h refl)
+only_key-wrong_length table (a ∷ b ∷ xs) h = refl
+
+pub only_value-wrong_length : (xs : List Value) → length xs ≢ 1 → only_value (items_view xs) ≡ Err BadLine
+only_value-wrong_length [] h = refl
+only_value-wrong_length (a ∷ []) h = absurd (h refl)
+only_value-wrong_length (a ∷ b ∷ xs) h = refl
+
+pub nothing_more-wrong_length : (xs : List Value) → length xs ≢ 0 → nothing_more (items_view xs) ≡ Err BadLine
+nothing_more-wrong_length [] h = absurd (h refl)
+nothing_more-wrong_length (a ∷ xs) h = refl
+
+pub fields_of-wrong_length : (table : List ℕ) → (xs : List Value) → length xs ≢ 5 → fields_of table (items_view xs) ≡ Err BadLine
+fields_of-wrong_length table [] h = refl
+fields_of-wrong_length table (a ∷ []) h = refl
+fields_of-wrong_length table (a ∷ b ∷ []) h = refl
+fields_of-wrong_length table (a ∷ b ∷ d ∷ []) h = refl
+fields_of-wrong_length table (a ∷ b ∷ d ∷ e ∷ []) h = refl
+fields_of-wrong_length table (a ∷ b ∷ d ∷ e ∷ f ∷ []) h = absurd (h refl)
+fields_of-wrong_length table (a ∷ b ∷ d ∷ e ∷ f ∷ g ∷ xs) h = refl
+
+-- with what a pattern of a slice tests of its length
+pub ruleset wrong_lengths = (
+  ltb-true,
+  ltb-false,
+  pair_of-wrong_length,
+  only_vector-wrong_length,
+  id_of-wrong_length,
+  only_key-wrong_length,
+  only_value-wrong_length,
+  nothing_more-wrong_length,
+  fields_of-wrong_length,
+)

@@ -1,0 +1,12 @@
+-- What operations, vectors and their parts are, as JSON.
+pub mod Forms
+pub mod Members
+pub mod Vectors
+pub mod Places
+pub mod Meanings
+pub mod Operations
+pub mod Reading
+pub mod Sent
+pub mod Lines
+pub mod Messages
+pub mod Bundles

@@ -1,0 +1,31 @@
+-- Keys and parts of a path, as the program keeps them, as those of the definitions.
+use Rattle.std.specs.Prelude.{ℕ, Option, Some, None}
+use Rattle.semantics.specs.Elements.{Tag}
+use Rattle.cursor.specs.Meanings.{tag_of}
+use Rattle.cursor.specs.Places.{LastKey, DocKey, FieldName, ItemId, HeadKey}
+use Rattle.cursor.specs.declared.tag.Tag.{Tag as TheTag}
+use Rattle.wire.specs.Places.{Entered}
+use Rattle.wire.specs.declared.places.WrittenKey.{WrittenKey}
+use Rattle.wire.specs.declared.places.WrittenKey.TheVariants.{Root, Head, Field, Item}
+use Rattle.wire.specs.declared.places.Part.{Part}
+
+-- a key
+abbrev pub key_meant : WrittenKey → LastKey
+key_meant Root = DocKey
+key_meant Head = HeadKey
+key_meant (Field name) = FieldName name
+key_meant (Item id) = ItemId id
+
+-- a part of a path
+abbrev pub part_meant : Part → Entered
+part_meant p = record { key = key_meant p.key; tag = tag_of p.entered }
+
+-- as what something was entered, if it was
+abbrev pub entered_as : Option TheTag → Option Tag
+entered_as None = None
+entered_as (Some t) = Some (tag_of t)
+
+-- how many keys are still to come: one, where something was entered
+abbrev pub keys_ahead : Option TheTag → ℕ
+keys_ahead None = 0
+keys_ahead (Some t) = 1

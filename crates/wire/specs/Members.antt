@@ -1,0 +1,34 @@
+-- The ids of members' operations, as JSON.
+use Rattle.std.specs.Prelude.{ℕ, List, Result, Ok, Err, if◌then◌else◌}
+use Rattle.ids.specs.Configurations.{is_from_one_to}
+use Rattle.ids.specs.Members.{is_member}
+use Rattle.ids.specs.declared.refusal.Refusal.{Refusal}
+use Rattle.ids.specs.declared.refusal.Refusal.TheVariants.{UnknownReplica, BadLine}
+use Rattle.semantics.specs.Ids.{OpId, id_at}
+use Rattle.serde_json.specs.Data.{Data, Items, no_items, item}
+use Rattle.wire.specs.Forms.{and_then, list_form, number_form}
+
+-- a number from 1 to the limit
+abbrev pub limited_form : ℕ → Data → Result ℕ Refusal
+limited_form limit d = and_then (λ n. if is_from_one_to limit n then Ok n else Err BadLine) (number_form d)
+
+-- the counter of an operation
+abbrev pub counter_form : Data → Result ℕ Refusal
+counter_form d = limited_form 4611686018427387904 d
+
+-- the number of a replica
+abbrev pub replica_form : Data → Result ℕ Refusal
+replica_form d = limited_form 4294967295 d
+
+-- the id, where its replica is one of the table
+abbrev pub member_of : List ℕ → OpId → Result OpId Refusal
+member_of table a = if is_member table a.replica then Ok a else Err UnknownReplica
+
+-- a list of two: a counter, and the number of a replica
+abbrev pub id_of : Items → Result OpId Refusal
+id_of (item counter (item replica no_items)) = and_then (λ c. and_then (λ p. Ok (id_at c p)) (replica_form replica)) (counter_form counter)
+id_of _ = Err BadLine
+
+-- the id of a member's operation
+abbrev pub member_form : List ℕ → Data → Result OpId Refusal
+member_form table d = and_then (member_of table) (and_then id_of (list_form d))

@@ -1,0 +1,53 @@
+-- What an operation is in JSON, part by part in the order in which the first fault decides.
+use Rattle.std.specs.Prelude.{ℕ, List, codes, Result, Ok, Err, if◌then◌else◌}
+use Rattle.std.specs.Str.{bytes_eq}
+use Rattle.ids.specs.declared.refusal.Refusal.{Refusal}
+use Rattle.ids.specs.declared.refusal.Refusal.TheVariants.{BadLine}
+use Rattle.semantics.specs.Elements.{Value}
+use Rattle.semantics.specs.Operations.{Mutation, Assign, Insert, Delete}
+use Rattle.semantics.specs.Stamped.{Stamped}
+use Rattle.serde_json.specs.Data.{Data, Items, no_items, item}
+use Rattle.value.specs.Forms.{value_form}
+use Rattle.wire.specs.Forms.{and_then, json_form, phrase_form}
+use Rattle.wire.specs.Members.{member_form}
+use Rattle.wire.specs.Places.{place_form}
+use Rattle.wire.specs.Vectors.{vector_form}
+
+-- a value alone
+abbrev pub only_value : Items → Result Value Refusal
+only_value (item written no_items) = value_form written
+only_value _ = Err BadLine
+
+-- nothing
+abbrev pub nothing_more : Items → Result Mutation Refusal
+nothing_more no_items = Ok Delete
+nothing_more (item _ _) = Err BadLine
+
+-- by its word
+abbrev pub mutation_of : List ℕ × Items → Result Mutation Refusal
+mutation_of p = if bytes_eq p.0 (codes "a") then and_then (λ v. Ok (Assign v)) (only_value p.1)
+    else (if bytes_eq p.0 (codes "i") then and_then (λ v. Ok (Insert v)) (only_value p.1)
+    else (if bytes_eq p.0 (codes "d") then nothing_more p.1 else Err BadLine))
+
+-- what is done: a word, and the value that is written
+abbrev pub mutation_form : Data → Result Mutation Refusal
+mutation_form d = and_then mutation_of (phrase_form d)
+
+-- five parts: an id, a vector, a path with its last key, and what is done
+abbrev pub fields_of : List ℕ → Items → Result Stamped Refusal
+fields_of table (item id (item vector (item path (item last (item mutation no_items))))) =
+    and_then (λ a. and_then (λ v. and_then (λ p. and_then (λ m. Ok (record { id = a; vector = v; place = p; mutation = m }))
+    (mutation_form mutation)) (place_form table path last)) (vector_form table vector)) (member_form table id)
+fields_of table _ = Err BadLine
+
+-- its fields after its word
+abbrev pub operation_of : List ℕ → List ℕ × Items → Result Stamped Refusal
+operation_of table p = if bytes_eq p.0 (codes "op") then fields_of table p.1 else Err BadLine
+
+-- the operation that JSON stands for, beside a table of replicas
+abbrev pub operation_form : List ℕ → Data → Result Stamped Refusal
+operation_form table d = and_then (operation_of table) (phrase_form d)
+
+-- the operation on a line
+abbrev pub op_form : List ℕ → List ℕ → Result Stamped Refusal
+op_form table text = and_then (operation_form table) (json_form text)

@@ -1,0 +1,21 @@
+//! The wire: operations, version vectors and bundles of operations, as lines of JSON.
+#![tactic(auto)]
+
+mod bundles;
+mod forms;
+mod lines;
+mod members;
+mod messages;
+mod operations;
+mod places;
+mod reading;
+#[cfg(test)]
+mod tests;
+mod vectors;
+
+pub use bundles::{read_bundle, write_bundle};
+pub use forms::{json_of, list_in, number_in, phrase_in, text_in};
+pub use lines::{Line, Lines};
+pub use messages::{operations_are_read_back, read_op, read_vector, write_op, write_vector};
+pub use operations::{id_value, operation_value};
+pub use vectors::{vector_in, vector_value};

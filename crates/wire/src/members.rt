@@ -1,0 +1,74 @@
+//! The ids of members' operations, as they are read.
+#![tactic(auto, using(crate::proofs::WrongLengths::wrong_lengths))]
+
+ghost use Rattle.std.specs.Prelude.{◌≡◌, ◌≤◌, IfOk};
+ghost use Rattle.serde_json.specs.View.{view, items_view};
+ghost use Rattle.wire.specs.Members.{counter_form, id_of, limited_form, member_form, member_of, replica_form};
+
+use crate::forms::{list_in, number_in};
+use ids::{OpId, Refusal, ReplicaId, ReplicaTable};
+use serde_json::Value;
+
+/// The greatest counter of an id.
+const MOST_COUNTER: u64 = 4_611_686_018_427_387_904;
+
+/// The greatest number of a replica.
+const MOST_REPLICA: u64 = 4_294_967_295;
+
+/// The id of a member's operation.
+///
+/// # Errors
+/// `BadLine` where its form is wrong, then `UnknownReplica` where its replica isn't in the table.
+pub(crate) fn member_in(table: &ReplicaTable, value: &Value) -> Result<OpId, Refusal>
+    ensures { result ≡ member_form table.now (view value.now) }
+{
+    member_of(table, id_of(list_in(value)?)?)
+}
+
+/// The id, where its replica is in the table.
+pub(crate) fn member_of(table: &ReplicaTable, id: OpId) -> Result<OpId, Refusal>
+    ensures { result ≡ member_of table.now id }
+{
+    if table.index_of(id.replica).is_none() {
+        return Err(Refusal::UnknownReplica);
+    }
+    Ok(id)
+}
+
+/// A counter and a replica.
+pub(crate) fn id_of(parts: &[Value]) -> Result<OpId, Refusal>
+    ensures { result ≡ id_of (items_view parts.now) }
+{
+    let [counter, replica] = parts else {
+        return Err(Refusal::BadLine);
+    };
+    let counter = counter_in(counter)?;
+    let replica = replica_in(replica)?;
+    Ok(OpId { counter, replica })
+}
+
+pub(crate) fn counter_in(value: &Value) -> Result<u64, Refusal>
+    ensures form { result ≡ counter_form (view value.now) }
+    ensures counted { IfOk result (λ n. 1 ≤ n) }
+{
+    limited_in(value, MOST_COUNTER)
+}
+
+pub(crate) fn replica_in(value: &Value) -> Result<ReplicaId, Refusal>
+    ensures { result ≡ replica_form (view value.now) }
+{
+    let number = limited_in(value, MOST_REPLICA)?;
+    ReplicaId::new(number as u32).ok_or(Refusal::BadLine)
+}
+
+/// A number from 1 to the limit.
+fn limited_in(value: &Value, limit: u64) -> Result<u64, Refusal>
+    ensures form { result ≡ limited_form limit (view value.now) }
+    ensures limits { IfOk result (λ n. (1 ≤ n) × (n ≤ limit)) }
+{
+    let number = number_in(value)?;
+    if number < 1 || number > limit {
+        return Err(Refusal::BadLine);
+    }
+    Ok(number)
+}

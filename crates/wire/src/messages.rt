@@ -1,0 +1,115 @@
+//! Messages: an operation or a vector, each as the text of one line without its line feed.
+#![tactic(auto, using(crate::proofs::WrongLengths::wrong_lengths))]
+
+ghost use Rattle.std.specs.Prelude.{◌≡◌, ℕ, List, Ok, IfErr, IfOk, length};
+ghost use Rattle.ids.specs.declared.refusal.Refusal.TheVariants.{NoMemory};
+ghost use Rattle.semantics.specs.Tables.{by_table};
+ghost use Rattle.serde_json.specs.View.{view, items_view};
+ghost use Rattle.operation.specs.Meanings.{stamped_of};
+ghost use Rattle.wire.specs.Forms.{IsRead};
+ghost use Rattle.wire.specs.Messages.{hello_form, hello_json, only_vector, op_line, vector_line};
+ghost use Rattle.semantics.specs.Stamped.{Stamped};
+ghost use Rattle.wire.specs.Operations.{operation_json};
+ghost use Rattle.wire.specs.Reading.{op_form, operation_form};
+ghost use Rattle.wire.specs.Sent.{IsSent, IsSentVector};
+
+use crate::forms::{json_of, phrase_in};
+use crate::operations::operation_value;
+use crate::reading::operation_in;
+use crate::vectors::{vector_in, vector_value};
+use ids::{Refusal, ReplicaTable};
+use operation::Op;
+use serde_json::{Value, json};
+use std::alloc::{AllocError, Global};
+use version::VersionVector;
+
+/// The line of an operation, whose vector stands beside the table. Where its names are of members, and its numbers within their limits, `read_op` reads it as the same operation.
+///
+/// # Errors
+/// `NoMemory` where a growth was refused.
+pub fn write_op(alloc: Global, op: &Op, table: &ReplicaTable) -> Result<Vec<u8>, Refusal>
+    ensures line { IfOk result (λ text. text.items ≡ op_line (stamped_of table.now op.now)) }
+    ensures reads_back { IfOk result (λ text. IsSent table.now (stamped_of table.now op.now) → op_form table.now text.items ≡ Ok (stamped_of table.now op.now)) }
+    ensures err { IfErr result (λ why. why ≡ NoMemory) }
+{
+    Ok(operation_value(alloc, table, op)?.to_vec(alloc)?)
+}
+
+/// The line of a vector beside the table, which says all that its sender has applied. Where its counters are within their limit, `read_vector` reads it as the same vector.
+///
+/// # Errors
+/// `NoMemory` where a growth was refused.
+pub fn write_vector(
+    alloc: Global,
+    vector: &VersionVector,
+    table: &ReplicaTable,
+) -> Result<Vec<u8>, Refusal>
+    ensures line { IfOk result (λ text. text.items ≡ vector_line (by_table table.now vector.now)) }
+    ensures reads_back { IfOk result (λ text. IsSentVector table.now 0 (by_table table.now vector.now) → hello_form table.now text.items ≡ Ok (by_table table.now vector.now)) }
+    ensures err { IfErr result (λ why. why ≡ NoMemory) }
+{
+    Ok(hello_value(alloc, table, vector)?.to_vec(alloc)?)
+}
+
+fn hello_value(
+    alloc: Global,
+    table: &ReplicaTable,
+    vector: &VersionVector,
+) -> Result<Value, AllocError>
+    ensures { IfOk result (λ v. view v ≡ hello_json (by_table table.now vector.now)) }
+{
+    let vector = vector_value(alloc, table, vector)?;
+    json!(in alloc; ["hello", vector])
+}
+
+/// The operation on a line, its vector as wide as the table.
+///
+/// # Errors
+/// The first fault in this order: the text is no JSON, or no list of six that begins with `op`, `BadLine`; the faults of the id, the vector, the path with its last key, and the mutation with its value. A part whose form is wrong is `BadLine`; a replica that isn't in the table is `UnknownReplica`; a path of more than 32 parts is `TooDeep`, a key of more than 256 bytes `KeyTooLong`, a text of more than 4,096 bytes `TextTooLong`, and a number as a value that isn't whole `NotWhole`. `NoMemory` where a growth was refused.
+pub fn read_op(alloc: Global, text: &[u8], table: &ReplicaTable) -> Result<Op, Refusal>
+    ensures read { IsRead (stamped_of table.now) result (op_form table.now text.now) }
+    ensures width { IfOk result (λ o. length o.deps ≡ length table.now) }
+{
+    let value = json_of(alloc, text)?;
+    operation_in(alloc, table, &value)
+}
+
+/// The vector on a line.
+///
+/// # Errors
+/// The first of these: `BadLine` where the text is no JSON or no such line; then the first fault of the vector from the left, `BadLine` where a pair's form is wrong or it doesn't rise, `UnknownReplica` where its replica isn't in the table. `NoMemory` where a growth was refused.
+pub fn read_vector(
+    alloc: Global,
+    text: &[u8],
+    table: &ReplicaTable,
+) -> Result<VersionVector, Refusal>
+    ensures read { IsRead (by_table table.now) result (hello_form table.now text.now) }
+    ensures width { IfOk result (λ v. length v ≡ length table.now) }
+{
+    let value = json_of(alloc, text)?;
+    let (word, parts) = phrase_in(&value)?;
+    match word {
+        "hello" => only_vector_in(alloc, table, parts),
+        _ => Err(Refusal::BadLine),
+    }
+}
+
+/// A vector alone.
+fn only_vector_in(
+    alloc: Global,
+    table: &ReplicaTable,
+    parts: &[Value],
+) -> Result<VersionVector, Refusal>
+    ensures read { IsRead (by_table table.now) result (only_vector table.now (items_view parts.now)) }
+    ensures width { IfOk result (λ v. length v ≡ length table.now) }
+{
+    let [vector] = parts else {
+        return Err(Refusal::BadLine);
+    };
+    vector_in(alloc, table, vector)
+}
+
+/// The JSON of an operation whose names are of members, and whose lengths and numbers are within their limits, is read as that operation.
+pub fn operations_are_read_back()
+    ensures { (table : List ℕ) (s : Stamped) → IsSent table s → operation_form table (operation_json s) ≡ Ok s }
+{}

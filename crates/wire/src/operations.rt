@@ -1,0 +1,87 @@
+//! Operations as JSON, as they are sent.
+
+ghost use Rattle.std.specs.Prelude.{◌≡◌, map, IfOk};
+ghost use Rattle.serde_json.specs.View.{view};
+ghost use Rattle.cursor.specs.Meanings.{hop_of};
+ghost use Rattle.operation.specs.Meanings.{mutation_of, stamped_of};
+ghost use Rattle.wire.specs.Operations.{entered_json, head_json, id_json, key_json, last_from, last_json, mutation_json, operation_json, parts_from, path_json, root_json};
+
+use crate::vectors::vector_value;
+use cursor::{Hop, Place};
+use ids::{OpId, ReplicaTable};
+use operation::{Mutation, Op};
+use serde_json::{Value, json};
+use std::alloc::{AllocError, Global};
+use std::mem;
+
+/// The operation, whose vector stands beside the table.
+pub fn operation_value(alloc: Global, table: &ReplicaTable, op: &Op) -> Result<Value, AllocError>
+    ensures { IfOk result (λ v. view v ≡ operation_json (stamped_of table.now op.now)) }
+{
+    let id = id_value(alloc, op.id)?;
+    let vector = vector_value(alloc, table, &op.deps)?;
+    let (path, last) = place_values(alloc, &op.place)?;
+    let mutation = mutation_value(alloc, &op.mutation)?;
+    json!(in alloc; ["op", id, vector, path, last, mutation])
+}
+
+/// Counter and replica.
+pub fn id_value(alloc: Global, id: OpId) -> Result<Value, AllocError>
+    ensures { IfOk result (λ v. view v ≡ id_json id) }
+{
+    json!(in alloc; [id.counter, id.replica.number()])
+}
+
+/// What a place stands in, and its own key.
+fn place_values(alloc: Global, place: &Place) -> Result<(Value, Value), AllocError>
+    ensures { IfOk result (λ p. (view p.0 ≡ path_json place.now) × (view p.1 ≡ last_json place.now)) }
+{
+    let (mut parts, last) = path_parts(alloc, place.hops())?;
+    if place.is_head() {
+        parts.push(json!(in alloc; ["l", last])?)?;
+        return Ok((Value::Array(parts), Value::from(1_u64)));
+    }
+    Ok((Value::Array(parts), last))
+}
+
+/// A key with its tag for each hop, and the key of the last.
+fn path_parts(alloc: Global, hops: &[Hop]) -> Result<(Vec<Value>, Value), AllocError>
+    ensures { IfOk result (λ p. (map view p.0.items ≡ parts_from root_json (map hop_of hops.now)) × (view p.1 ≡ last_from root_json (map hop_of hops.now))) }
+{
+    let mut parts = Vec::new(alloc);
+    let mut last = Value::from(0_u64);
+    for hop in hops {
+        let before = mem::replace(&mut last, key_value(alloc, hop)?);
+        parts.push(entered(alloc, before, hop)?)?;
+    }
+    Ok((parts, last))
+}
+
+/// A key with the tag of what is entered there.
+fn entered(alloc: Global, before: Value, hop: &Hop) -> Result<Value, AllocError>
+    ensures { IfOk result (λ v. view v ≡ entered_json (view before) (hop_of hop.now)) }
+{
+    match hop {
+        Hop::Field(_) => json!(in alloc; ["m", before]),
+        Hop::Item(_) => json!(in alloc; ["l", before]),
+    }
+}
+
+fn key_value(alloc: Global, hop: &Hop) -> Result<Value, AllocError>
+    ensures { IfOk result (λ v. view v ≡ key_json (hop_of hop.now)) }
+{
+    match hop {
+        Hop::Field(key) => Ok(Value::String(String::from_str(alloc, key.as_str())?)),
+        Hop::Item(id) => id_value(alloc, *id),
+    }
+}
+
+fn mutation_value(alloc: Global, mutation: &Mutation) -> Result<Value, AllocError>
+    ensures { IfOk result (λ v. view v ≡ mutation_json (mutation_of mutation.now)) }
+{
+    match mutation {
+        Mutation::Assign(value) => json!(in alloc; ["a", value.to_json(alloc)?]),
+        Mutation::Insert(value) => json!(in alloc; ["i", value.to_json(alloc)?]),
+        Mutation::Delete => json!(in alloc; ["d"]),
+    }
+}
