@@ -1,36 +1,36 @@
--- The operations that are left of a bundle, line by line.
-use Rattle.std.proofs.Common.{◌≡◌, ◌≢◌, ℕ, ◌+◌, List, [], ◌∷◌, ◌++◌, Result, Ok, Err, refl, append_assoc}
+-- What can be read of a text, line by line.
+use Rattle.std.proofs.Common.{◌≡◌, ◌≢◌, ℕ, List, [], ◌∷◌, ◌++◌, Some, None, Ok, Err, refl, sym, append_assoc, append-nil}
 use Rattle.ids.specs.declared.refusal.Refusal.{Refusal}
 use Rattle.ids.specs.declared.refusal.Refusal.TheVariants.{BadLine}
 use Rattle.semantics.specs.Stamped.{Stamped}
-use Rattle.wire.specs.Bundles.{ops_left}
-use Rattle.wire.specs.Lines.{Bad, HasNoEnd, IsFirstLine, unless_bad}
+use Rattle.wire.specs.Bundles.{Readable, readable}
+use Rattle.wire.specs.Lines.{HasNoEnd, IsFirstLine}
 use Rattle.wire.specs.Reading.{op_form}
 use Rattle.wire.proofs.CutLines.{cut-first_line, cut-no_end}
 
--- these operations, and then those
-abbrev pub after : List Stamped → Result (List Stamped) Bad → Result (List Stamped) Bad
-after ops = unless_bad (λ ss. Ok (ops ++ ss))
-
-after-one : (ops : List Stamped) (s : Stamped) (r : Result (List Stamped) Bad) → after ops (unless_bad (λ ss. Ok (s ∷ ss)) r) ≡ after (ops ++ s ∷ []) r
-after-one ops s (Ok ss) = simp append_assoc
-after-one ops s (Err bad) = refl
+-- these operations, and then what can be read
+abbrev pub after : List Stamped → Readable → Readable
+after ops r = record { operations = ops ++ r.operations; stopped = r.stopped }
 
 -- a line that is an operation
-pub after-op : (table : List ℕ) (taken : ℕ) (text line rest : List ℕ) (ops : List Stamped) (s : Stamped)
-    → IsFirstLine text line rest → op_form table line ≡ Ok s
-    → after ops (ops_left table taken text) ≡ after (ops ++ s ∷ []) (ops_left table (taken + 1) rest)
-after-op table taken text line rest ops s first e =
-    rw (cut-first_line text line rest first, e) (after-one ops s (ops_left table (taken + 1) rest))
+pub after-op : (table text line rest : List ℕ) (ops : List Stamped) (s : Stamped) → IsFirstLine text line rest → op_form table line ≡ Ok s
+    → after ops (readable table text) ≡ after (ops ++ s ∷ []) (readable table rest)
+after-op table text line rest ops s first e =
+    rw (cut-first_line text line rest first, e) (λ i. record { operations = sym (append_assoc ops (s ∷ []) (readable table rest).operations) i; stopped = (readable table rest).stopped })
 
 -- a line that is none
-pub after-bad : (table : List ℕ) (taken : ℕ) (text line rest : List ℕ) (ops : List Stamped) (why : Refusal)
-    → IsFirstLine text line rest → op_form table line ≡ Err why
-    → after ops (ops_left table taken text) ≡ Err (taken + 1, why)
-after-bad table taken text line rest ops why first e = rw (cut-first_line text line rest first, e) refl
+pub after-bad : (table text line rest : List ℕ) (ops : List Stamped) (why : Refusal) → IsFirstLine text line rest → op_form table line ≡ Err why
+    → after ops (readable table text) ≡ record { operations = ops; stopped = Some why }
+after-bad table text line rest ops why first e =
+    rw (cut-first_line text line rest first, e) (λ i. record { operations = append-nil ops i; stopped = Some why })
 
 -- bytes that no line feed ends
-pub after-cut : (table : List ℕ) (taken : ℕ) (text : List ℕ) (ops : List Stamped)
-    → HasNoEnd text → text ≢ [] → after ops (ops_left table taken text) ≡ Err (taken + 1, BadLine)
-after-cut table taken [] ops h some = absurd (some refl)
-after-cut table taken (b ∷ text) ops h some = rw (cut-no_end (b ∷ text) h) refl
+pub after-cut : (table text : List ℕ) (ops : List Stamped) → HasNoEnd text → text ≢ []
+    → after ops (readable table text) ≡ record { operations = ops; stopped = Some BadLine }
+after-cut table [] ops h some = absurd (some refl)
+after-cut table (b ∷ text) ops h some =
+    rw (cut-no_end (b ∷ text) h) (λ i. record { operations = append-nil ops i; stopped = Some BadLine })
+
+-- no byte
+pub after-none : (table text : List ℕ) (ops : List Stamped) → text ≡ [] → after ops (readable table text) ≡ record { operations = ops; stopped = None }
+after-none table text ops e = rw e (λ i. record { operations = append-nil ops i; stopped = None })

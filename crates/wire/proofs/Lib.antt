@@ -9,3 +9,7 @@ pub mod BundleLines
 pub mod ReadBack
 pub mod ShallowForms
 pub mod JsonTexts
+pub mod LineEnds
+pub mod BundleBack
+pub mod WholeTexts
+pub mod WholeOperations

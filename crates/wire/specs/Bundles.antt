@@ -1,8 +1,10 @@
 -- Bundles: the lines of operations, each with its line feed.
-use Rattle.std.specs.Prelude.{◌≡◌, ◌⊎◌, ℕ, ◌+◌, List, [], ◌∷◌, ◌++◌, Result, Ok, Err}
+use Rattle.std.specs.Prelude.{◌≡◌, ◌⊎◌, ℕ, ◌+◌, List, [], ◌∷◌, ◌++◌, length, Option, Some, None, Result, Ok, Err}
+use Rattle.std.specs.Option.{option_map_or}
+use Rattle.ids.specs.declared.refusal.Refusal.{Refusal}
 use Rattle.ids.specs.declared.refusal.Refusal.TheVariants.{NoMemory, BadLine}
 use Rattle.semantics.specs.Stamped.{Stamped}
-use Rattle.wire.specs.Lines.{Bad, cut, on_line, unless_bad}
+use Rattle.wire.specs.Lines.{Bad, cut}
 use Rattle.wire.specs.Messages.{op_line}
 use Rattle.wire.specs.Reading.{op_form}
 
@@ -11,20 +13,37 @@ abbrev pub bundle_text : List Stamped → List ℕ
 bundle_text [] = []
 bundle_text (s ∷ ss) = op_line s ++ 10 ∷ bundle_text ss
 
--- the operations on lines from this number on; bytes after the last line are a bad line
-abbrev pub ops_from : List ℕ → ℕ → List (List ℕ) → List ℕ → Result (List Stamped) Bad
-ops_from table number [] [] = Ok []
-ops_from table number [] (b ∷ tail) = Err (number, BadLine)
-ops_from table number (l ∷ ls) tail =
-    unless_bad (λ s. unless_bad (λ ss. Ok (s ∷ ss)) (ops_from table (number + 1) ls tail)) (on_line number (op_form table l))
+-- the operations before the first bad line, and why that line is bad, if there is one
+pub record Readable : Type 0 where
+  pub operations : List Stamped
+  pub stopped : Option Refusal
 
--- the operations in what is left of a bundle, after so many lines
-abbrev pub ops_left : List ℕ → ℕ → List ℕ → Result (List Stamped) Bad
-ops_left table taken rest = ops_from table (taken + 1) (cut rest).lines (cut rest).tail
+-- bytes after the last line are a bad line
+abbrev pub tail_readable : List ℕ → Readable
+tail_readable [] = record { operations = []; stopped = None }
+tail_readable (b ∷ tail) = record { operations = []; stopped = Some BadLine }
+
+-- what a line is, and what follows it, unless it is bad
+abbrev pub line_readable : Readable → Result Stamped Refusal → Readable
+line_readable rest (Ok s) = record { operations = s ∷ rest.operations; stopped = rest.stopped }
+line_readable rest (Err why) = record { operations = []; stopped = Some why }
+
+-- what can be read of these lines, and of the bytes after them
+abbrev pub lines_readable : List ℕ → List (List ℕ) → List ℕ → Readable
+lines_readable table [] tail = tail_readable tail
+lines_readable table (l ∷ ls) tail = line_readable (lines_readable table ls tail) (op_form table l)
+
+-- what can be read of a text
+abbrev pub readable : List ℕ → List ℕ → Readable
+readable table text = lines_readable table (cut text).lines (cut text).tail
+
+-- all operations, or the number of the bad line, which is the next one, and why it is bad
+abbrev pub all_or_bad : Readable → Result (List Stamped) Bad
+all_or_bad r = option_map_or (λ why. Err (length r.operations + 1, why)) r.stopped (Ok r.operations)
 
 -- the operations of a bundle, or its first bad line
 abbrev pub bundle_form : List ℕ → List ℕ → Result (List Stamped) Bad
-bundle_form table text = ops_left table 0 text
+bundle_form table text = all_or_bad (readable table text)
 
 -- the number of a bad line with its refusal, or want of memory on any line
 abbrev pub IsBadOf : {T : Type 0} → Result T Bad → Bad → Type 0

@@ -1,10 +1,14 @@
 //! Bundles: operations that are sent together, one a line, each line with its line feed.
 
-ghost use Rattle.std.specs.Prelude.{◌≡◌, Ok, IfErr, IfOk, MatchResult, length, map};
+ghost use Rattle.std.specs.Prelude.{◌≡◌, ◌⊎◌, ◌++◌, ℕ, List, Some, Ok, IfErr, IfOk, MatchResult, length, map, take};
 ghost use Rattle.std.specs.List.{All};
 ghost use Rattle.ids.specs.declared.refusal.Refusal.TheVariants.{NoMemory};
+ghost use Rattle.semantics.specs.Stamped.{Stamped};
 ghost use Rattle.operation.specs.Meanings.{stamped_of};
-ghost use Rattle.wire.specs.Bundles.{IsBadOf, bundle_form, bundle_text};
+ghost use Rattle.wire.specs.Bundles.{IsBadOf, bundle_form, bundle_text, readable};
+ghost use Rattle.wire.specs.Messages.{op_line};
+ghost use Rattle.wire.specs.Reading.{op_form};
+ghost use Rattle.wire.specs.Sent.{IsSent};
 
 use crate::lines::{LINE_END, Lines};
 use crate::messages::{read_op, write_op};
@@ -12,12 +16,13 @@ use ids::{Refusal, ReplicaTable};
 use operation::Op;
 use std::alloc::Global;
 
-/// The lines of the operations in their order. No operation is no byte.
+/// The lines of the operations in their order. No operation is no byte. Where each operation is one that `write_op` writes and `read_op` reads as the same, `read_bundle` reads all of them as the same.
 ///
 /// # Errors
 /// `NoMemory` where a growth was refused.
 pub fn write_bundle(alloc: Global, ops: &[Op], table: &ReplicaTable) -> Result<Vec<u8>, Refusal>
     ensures text { IfOk result (λ text. text.items ≡ bundle_text (map (stamped_of table.now) ops.now)) }
+    ensures reads_back { IfOk result (λ text. All (λ o. IsSent table.now (stamped_of table.now o)) ops.now → bundle_form table.now text.items ≡ Ok (map (stamped_of table.now) ops.now)) }
     ensures err { IfErr result (λ why. why ≡ NoMemory) }
 {
     let mut text = Vec::new(alloc);
@@ -27,6 +32,50 @@ pub fn write_bundle(alloc: Global, ops: &[Op], table: &ReplicaTable) -> Result<V
         text.push(LINE_END)?;
     }
     Ok(text)
+}
+
+/// What could be read of a text.
+#[derive(Debug, Drop)]
+pub struct LinesRead {
+    /// The operations of the lines before the first bad one, in their order.
+    pub ops: Vec<Op>,
+    /// Why the line after those is bad, or none where the whole text was read.
+    pub stopped: Option<Refusal>,
+}
+
+/// The operations of a text as far as it can be read, their vectors as wide as the table.
+///
+/// A bad line, with the refusal of `read_op`, ends what is read; bytes after the last line feed are a bad line, `BadLine`. So does a refused growth, as `NoMemory`: what was read until then is kept.
+pub fn read_lines(alloc: Global, text: &[u8], table: &ReplicaTable) -> LinesRead
+    ensures read { (result.stopped ≡ Some NoMemory) ⊎ ((map (stamped_of table.now) result.ops.items ≡ (readable table.now text.now).operations) × (result.stopped ≡ (readable table.now text.now).stopped)) }
+    ensures first { map (stamped_of table.now) result.ops.items ≡ take (length result.ops.items) (readable table.now text.now).operations }
+    ensures width { All (λ o. length o.deps ≡ length table.now) result.ops.items }
+{
+    let mut lines = Lines::new(text);
+    let mut ops = Vec::new(alloc);
+    while let Some(line) = lines.take_line() {
+        match read_op(alloc, line.text, table) {
+            Ok(op) => {
+                if ops.push(op).is_err() {
+                    return LinesRead {
+                        ops,
+                        stopped: Some(Refusal::NoMemory),
+                    };
+                }
+            }
+            Err(why) => {
+                return LinesRead {
+                    ops,
+                    stopped: Some(why),
+                };
+            }
+        }
+    }
+    let stopped = match lines.cut_line() {
+        Some(_) => Some(Refusal::BadLine),
+        None => None,
+    };
+    LinesRead { ops, stopped }
 }
 
 /// The operations of a bundle in its order, their vectors as wide as the table.
@@ -41,20 +90,16 @@ pub fn read_bundle(
     ensures read { MatchResult result (λ ops. bundle_form table.now text.now ≡ Ok (map (stamped_of table.now) ops.items)) (IsBadOf (bundle_form table.now text.now)) }
     ensures width { IfOk result (λ ops. All (λ o. length o.deps ≡ length table.now) ops.items) }
 {
-    let mut lines = Lines::new(text);
-    let mut ops = Vec::new(alloc);
-    while let Some(line) = lines.take_line() {
-        match read_op(alloc, line.text, table) {
-            Ok(op) => {
-                if ops.push(op).is_err() {
-                    return Err((line.number, Refusal::NoMemory));
-                }
-            }
-            Err(why) => return Err((line.number, why)),
-        }
-    }
-    match lines.cut_line() {
-        Some(number) => Err((number, Refusal::BadLine)),
+    let LinesRead { ops, stopped } = read_lines(alloc, text, table);
+    match stopped {
+        Some(why) => Err((ops.len() as u64 + 1, why)),
         None => Ok(ops),
     }
 }
+
+/// Where the line of each operation is read as that operation, a bundle is read as its operations, also where more follows it.
+pub fn bundles_are_read_back()
+    ensures bundle { (table : List ℕ) (ss : List Stamped) → All (λ s. op_form table (op_line s) ≡ Ok s) ss → bundle_form table (bundle_text ss) ≡ Ok ss }
+    ensures operations { (table : List ℕ) (ss : List Stamped) (rest : List ℕ) → All (λ s. op_form table (op_line s) ≡ Ok s) ss → (readable table (bundle_text ss ++ rest)).operations ≡ ss ++ (readable table rest).operations }
+    ensures stopped { (table : List ℕ) (ss : List Stamped) (rest : List ℕ) → All (λ s. op_form table (op_line s) ≡ Ok s) ss → (readable table (bundle_text ss ++ rest)).stopped ≡ (readable table rest).stopped }
+{}

@@ -1,7 +1,7 @@
 //! Messages: an operation or a vector, each as the text of one line without its line feed.
 #![tactic(auto, using(crate::proofs::WrongLengths::wrong_lengths))]
 
-ghost use Rattle.std.specs.Prelude.{◌≡◌, ℕ, List, Ok, IfErr, IfOk, length};
+ghost use Rattle.std.specs.Prelude.{◌≡◌, ℕ, List, Ok, IfErr, IfOk, IsUtf8, length};
 ghost use Rattle.ids.specs.declared.refusal.Refusal.TheVariants.{NoMemory};
 ghost use Rattle.semantics.specs.Tables.{by_table};
 ghost use Rattle.serde_json.specs.View.{view, items_view};
@@ -64,6 +64,8 @@ fn hello_value(
 
 /// The operation on a line, its vector as wide as the table.
 ///
+/// The JSON of the whole line is in memory before its parts are looked at, so time and memory are in proportion to the line: who takes lines from others bounds their length first. More than 127 lists and objects within each other are no JSON here.
+///
 /// # Errors
 /// The first fault in this order: the text is no JSON, or no list of six that begins with `op`, `BadLine`; the faults of the id, the vector, the path with its last key, and the mutation with its value. A part whose form is wrong is `BadLine`; a replica that isn't in the table is `UnknownReplica`; a path of more than 32 parts is `TooDeep`, a key of more than 256 bytes `KeyTooLong`, a text of more than 4,096 bytes `TextTooLong`, and a number as a value that isn't whole `NotWhole`. `NoMemory` where a growth was refused.
 pub fn read_op(alloc: Global, text: &[u8], table: &ReplicaTable) -> Result<Op, Refusal>
@@ -112,4 +114,9 @@ fn only_vector_in(
 /// The JSON of an operation whose names are of members, and whose lengths and numbers are within their limits, is read as that operation.
 pub fn operations_are_read_back()
     ensures { (table : List ℕ) (s : Stamped) → IsSent table s → operation_form table (operation_json s) ≡ Ok s }
+{}
+
+/// The line of an operation whose names are of members, whose lengths and numbers are within their limits and whose texts are UTF-8, is read as that operation.
+pub fn lines_are_read_back()
+    ensures { (table : List ℕ) (s : Stamped) → IsSent table s → IsUtf8 (op_line s) → op_form table (op_line s) ≡ Ok s }
 {}

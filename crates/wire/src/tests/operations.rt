@@ -3,7 +3,7 @@
 use super::{LINES, list_of_five};
 use crate::{read_op, write_op};
 use ids::{Refusal, ReplicaTable};
-use operation::Op;
+use operation::{Op, check_alone};
 use std::alloc::Global;
 use std::process::Abort;
 use std::test::Fail;
@@ -109,13 +109,35 @@ fn lines_that_are_no_operations(rt: HostRuntime) -> Result<(), Fail> {
         r#"["op",[3,1],{},[],0,["d"]]"#,
         // The texts.
         r#"["op",[1,1],[],[["m",0]],"\ud83e",["d"]]"#,
+        r#"["op",[1,1],[],[["m",0]],"\udd80",["d"]]"#,
+        r#"["op",[1,1],[],[["m",0]],"\ud83e\ud83e",["d"]]"#,
+        r#"["op",[1,1],[],[["m",0]],"\x41",["d"]]"#,
         "[\"op\",[1,1],[],[[\"m\",0]],\"a\tb\",[\"d\"]]",
+        "[\"op\",[1,1],[],[[\"m\",0]],\"a\0b\",[\"d\"]]",
+        "[\"op\",[1,1],[],[[\"m\",0]],\"a\u{1f}b\",[\"d\"]]",
+        "[\"op\",[1,1],[],[[\"m\",0]],\"a\nb\",[\"d\"]]",
+        // White space that JSON doesn't have.
+        "\u{c}[\"op\",[1,1],[],[],0,[\"d\"]]",
+        "\u{feff}[\"op\",[1,1],[],[],0,[\"d\"]]",
+        "[\"op\",[1,1],[],[],\u{a0}0,[\"d\"]]",
     ] {
         let read = read(rt.alloc(), line.as_bytes())?;
         assert_eq!(rt; read, Err(Refusal::BadLine), "{line}");
     }
-    let bad_text = b"[\"op\",[1,1],[],[[\"m\",0]],\"\xff\",[\"d\"]]";
-    assert_eq!(rt; read(rt.alloc(), bad_text)?, Err(Refusal::BadLine));
+    Ok(())
+}
+
+/// A byte of no character, half a character, half a surrogate pair, and a zero of two bytes.
+#[test]
+fn lines_that_are_no_text(rt: HostRuntime) -> Result<(), Fail> {
+    for key in [b"\xffaa", b"a\xc3a", b"\xed\xa0\xbe", b"a\xc0\x80"] {
+        let mut line = Vec::new(rt.alloc());
+        line.extend_from_slice(b"[\"op\",[1,1],[],[[\"m\",0]],\"")?;
+        line.extend_from_slice(key)?;
+        line.extend_from_slice(b"\",[\"d\"]]")?;
+        let read = read(rt.alloc(), line.as_slice())?;
+        assert_eq!(rt; read, Err(Refusal::BadLine), "{key:?}");
+    }
     Ok(())
 }
 
@@ -161,7 +183,12 @@ fn mutations_without_form(rt: HostRuntime) -> Result<(), Fail> {
         (r#"["i",-0]"#, Refusal::NotWhole),
         (r#"["a",9223372036854775808]"#, Refusal::NotWhole),
         (r#"["a",[1]]"#, Refusal::BadLine),
+        (r#"["i",-9223372036854775809]"#, Refusal::NotWhole),
+        (r#"["a",18446744073709551616]"#, Refusal::NotWhole),
+        (r#"["a",1e309]"#, Refusal::BadLine),
+        (r#"["a",01]"#, Refusal::BadLine),
         (r#"["a",{"k":1,"k":2}]"#, Refusal::BadLine),
+        (r#"{"a":1,"a":2}"#, Refusal::BadLine),
         (r#"["a"]"#, Refusal::BadLine),
         (r#"["a",1,2]"#, Refusal::BadLine),
         (r#"["d",1]"#, Refusal::BadLine),
@@ -212,6 +239,32 @@ fn faults_in_their_order(rt: HostRuntime) -> Result<(), Fail> {
     Ok(())
 }
 
+/// What is read alone, and is refused beside other operations, or alone by what it says.
+#[test]
+fn operations_that_are_read_and_refused_alone(rt: HostRuntime) -> Result<(), Fail> {
+    let alloc = rt.alloc();
+    let table = ReplicaTable::new(alloc, &[1, 2])?;
+    for (line, want) in [
+        (r#"["op",[1,1],[],[],0,["a",{}]]"#, Ok(())),
+        (
+            r#"["op",[1,2],[],[["m",0]],"a",["i",1]]"#,
+            Err(Refusal::NotInList),
+        ),
+        (
+            r#"["op",[9,2],[[1,7]],[["m",0]],"a",["d"]]"#,
+            Err(Refusal::BadCounter),
+        ),
+        (
+            r#"["op",[1,2],[],[["l",0]],1,["d"]]"#,
+            Err(Refusal::BadPlace),
+        ),
+    ] {
+        let op = read_op(alloc, line.as_bytes(), &table)?;
+        assert_eq!(rt; check_alone(&op, &table), want, "{line}");
+    }
+    Ok(())
+}
+
 /// A text repeated.
 fn repeated(alloc: Global, part: &str, times: usize) -> Result<String, Fail> {
     let mut text = String::new(alloc);
@@ -251,13 +304,23 @@ fn lengths_are_limited(rt: HostRuntime) -> Result<(), Fail> {
             "{times} bytes"
         );
     }
-    // Nesting, with the list of the line and that of the mutation.
-    for times in [125, 126, 1000] {
+    Ok(())
+}
+
+/// A line of a replica that is no member is told as such where its text is JSON: with 125 lists inside the mutation's and the line's.
+#[test]
+fn nesting_is_limited(rt: HostRuntime) -> Result<(), Fail> {
+    let alloc = rt.alloc();
+    for (times, want) in [
+        (125, Refusal::UnknownReplica),
+        (126, Refusal::BadLine),
+        (1000, Refusal::BadLine),
+    ] {
         let open = repeated(alloc, "[", times)?;
         let close = repeated(alloc, "]", times)?;
-        let line = format!(in alloc; "[\"op\",[1,1],[],[],0,[\"a\",{open}{close}]]")?;
+        let line = format!(in alloc; "[\"op\",[1,3],[],[],0,[\"a\",{open}{close}]]")?;
         let read = read(alloc, line.as_str().as_bytes())?;
-        assert_eq!(rt; read, Err(Refusal::BadLine), "{times} lists");
+        assert_eq!(rt; read, Err(want), "{times} lists");
     }
     Ok(())
 }

@@ -1,8 +1,13 @@
--- What is left follows the lines so far.
-use Rattle.std.proofs.Common.{◌≡◌, ◌++◌, drop, map}
+-- What is left follows the lines so far, each of which is read as its operation.
+use Rattle.std.proofs.Common.{◌≡◌, ◌++◌, drop, map, take}
+use Rattle.std.specs.List.{All}
 use Rattle.operation.specs.Meanings.{stamped_of}
 use Rattle.wire.specs.Bundles.{bundle_text}
+use Rattle.wire.proofs.BundleBack.{IsBackIfSent}
 use Rattle.wire.proofs.bundles.write_bundle.Given as goal
 
 abbrev pub invariant-loop-op : goal.invariant-loop-op
-invariant-loop-op l = l.text.items ++ bundle_text (map (stamped_of l.table) (drop l.op-index l.ops)) ≡ bundle_text (map (stamped_of l.table) l.ops)
+invariant-loop-op l = record {
+  left : l.text.items ++ bundle_text (map (stamped_of l.table) (drop l.op-index l.ops)) ≡ bundle_text (map (stamped_of l.table) l.ops);
+  back : All (λ o. IsBackIfSent l.table (stamped_of l.table o)) (take l.op-index l.ops);
+}

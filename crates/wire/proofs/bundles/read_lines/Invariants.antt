@@ -2,15 +2,15 @@
 use Rattle.std.proofs.Common.{◌≡◌, map, length}
 use Rattle.std.specs.List.{All}
 use Rattle.operation.specs.Meanings.{stamped_of}
-use Rattle.wire.specs.Bundles.{bundle_form, ops_left}
+use Rattle.wire.specs.Bundles.{readable}
 use Rattle.wire.proofs.BundleLines.{after}
-use Rattle.wire.proofs.bundles.read_bundle.Given as goal
+use Rattle.wire.proofs.bundles.read_lines.Given as goal
 
 abbrev pub decreases-loop-line : goal.decreases-loop-line
 decreases-loop-line l = length l.lines.rest.now
 
 abbrev pub invariant-loop-line : goal.invariant-loop-line
 invariant-loop-line l = record {
-  left : after (map (stamped_of l.fn.table) l.ops.items) (ops_left l.fn.table l.lines.taken l.lines.rest.now) ≡ bundle_form l.fn.table l.fn.text;
+  left : after (map (stamped_of l.fn.table) l.ops.items) (readable l.fn.table l.lines.rest.now) ≡ readable l.fn.table l.fn.text;
   width : All (λ o. length o.deps ≡ length l.fn.table) l.ops.items;
 }

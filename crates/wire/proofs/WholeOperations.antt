@@ -1,0 +1,97 @@
+-- The line of an operation that can be sent is read as that operation, where its texts are UTF-8.
+use Rattle.std.proofs.Common.{◌≡◌, ◌≤◌, ◌<◌, ◌^◌, ℕ, IsUtf8, nat_le, List, [], ◌∷◌, ◌++◌, map, Ok, true, ap, ◌∙◌, arith}
+use Rattle.std.specs.Prelude.{codes, pos, negsuc}
+use Rattle.std.proofs.lemmas.Bool.{and_parts, leb-true}
+use Rattle.ids.specs.Configurations.{is_from_one_to}
+use Rattle.semantics.specs.Elements.{Value, Plain, EmptyMap, EmptyList, Null, Boolean, Whole, Text, Place, At, HeadOf}
+use Rattle.semantics.specs.Ids.{OpId}
+use Rattle.semantics.specs.Operations.{Mutation, Assign, Insert, Delete, element_of}
+use Rattle.semantics.specs.Paths.{Key, FieldKey, ItemKey, keys_from_root}
+use Rattle.semantics.specs.Stamped.{Stamped}
+use Rattle.semantics.specs.Vectors.{Vector}
+use Rattle.serde_json.specs.Data.{Data, depth}
+use Rattle.serde_json.specs.View.{items_of}
+use Rattle.value.specs.Forms.{IsWithinLimits, json_of}
+use Rattle.wire.specs.Forms.{and_then}
+use Rattle.wire.specs.Messages.{op_line}
+use Rattle.wire.specs.Operations.{entered_json, id_json, key_json, last_from, last_json, mutation_json, operation_json, parts_from, parts_of, phrase, root_json}
+use Rattle.wire.specs.Reading.{op_form, operation_form}
+use Rattle.wire.specs.Sent.{AreSentKeys, IsSent, IsSentId, IsSentKey, IsSentMutation, IsSentVector}
+use Rattle.wire.specs.Vectors.{pair_json}
+use Rattle.wire.proofs.JsonTexts.{json_form-read}
+use Rattle.wire.proofs.ReadBack.{operation_back}
+use Rattle.wire.proofs.ShallowForms.{depth-operation_json}
+use Rattle.wire.proofs.WholeTexts.{HasWhole, ItemsHaveWhole, read-compact_text}
+
+limited : (limit n : ℕ) → limit < 2 ^ 64 → is_from_one_to limit n ≡ true → n < 2 ^ 64
+limited limit n l t = let p : (nat_le 1 n ≡ true) × (nat_le n limit ≡ true) = and_parts _ _ t in omega (arith, l, leb-true n limit p.1)
+
+counter : (table : List ℕ) (a : OpId) → IsSentId table a → a.counter < 2 ^ 64
+counter table a h = limited 4611686018427387904 a.counter (omega arith) h.0
+
+replica : (table : List ℕ) (a : OpId) → IsSentId table a → a.replica < 2 ^ 64
+replica table a h = limited 4294967295 a.replica (omega arith) h.1
+
+pairs : (table : List ℕ) (p : ℕ) (v : Vector) → IsSentVector table p v → ItemsHaveWhole (items_of (map pair_json v))
+pairs table p [] h = tt
+pairs table p (a ∷ v) h = ((replica table a h.1, (counter table a h.1, tt)), pairs table a.replica v h.2)
+
+key : (table : List ℕ) (k : Key) → IsSentKey table k → HasWhole (key_json k)
+key table (FieldKey n) h = tt
+key table (ItemKey a) h = (counter table a h, (replica table a h, tt))
+
+part : (before : Data) (k : Key) → HasWhole before → HasWhole (entered_json before k)
+part before (FieldKey n) h = (tt, (h, tt))
+part before (ItemKey a) h = (tt, (h, tt))
+
+parts : (table : List ℕ) (before : Data) (ks : List Key) → HasWhole before → AreSentKeys table ks → ItemsHaveWhole (items_of (parts_from before ks))
+parts table before [] h sent = tt
+parts table before (k ∷ ks) h sent = (part before k h, parts table (key_json k) ks (key table k sent.0) sent.1)
+
+last : (table : List ℕ) (before : Data) (ks : List Key) → HasWhole before → AreSentKeys table ks → HasWhole (last_from before ks)
+last table before [] h sent = h
+last table before (k ∷ ks) h sent = last table (key_json k) ks (key table k sent.0) sent.1
+
+one_more : (ds : List Data) (d : Data) → ItemsHaveWhole (items_of ds) → HasWhole d → ItemsHaveWhole (items_of (ds ++ d ∷ []))
+one_more [] d h k = (k, tt)
+one_more (x ∷ ds) d h k = (h.0, one_more ds d h.1 k)
+
+root : HasWhole root_json
+root = omega arith
+
+place : (table : List ℕ) (p : Place) → AreSentKeys table (keys_from_root (element_of p)) → ItemsHaveWhole (items_of (parts_of p))
+place table (At e) h = parts table root_json (keys_from_root e) root h
+place table (HeadOf l) h =
+    one_more (parts_from root_json (keys_from_root l)) (phrase (codes "l") (last_from root_json (keys_from_root l) ∷ []))
+    (parts table root_json (keys_from_root l) root h)
+    (tt, (last table root_json (keys_from_root l) root h, tt))
+
+last_key : (table : List ℕ) (p : Place) → AreSentKeys table (keys_from_root (element_of p)) → HasWhole (last_json p)
+last_key table (At e) h = last table root_json (keys_from_root e) root h
+last_key table (HeadOf l) h = omega arith
+
+value : (v : Value) → IsWithinLimits v → HasWhole (json_of v)
+value (Plain Null) h = tt
+value (Plain (Boolean b)) h = tt
+value (Plain (Whole (pos n))) h = omega (arith, h)
+value (Plain (Whole (negsuc n))) h = omega (arith, h)
+value (Plain (Text s)) h = tt
+value EmptyMap h = tt
+value EmptyList h = tt
+
+mutation : (m : Mutation) → IsSentMutation m → HasWhole (mutation_json m)
+mutation (Assign v) h = (tt, (value v h, tt))
+mutation (Insert v) h = (tt, (value v h, tt))
+mutation Delete h = (tt, tt)
+
+operation : (table : List ℕ) (s : Stamped) → IsSent table s → HasWhole (operation_json s)
+operation table s h =
+    let id : HasWhole (id_json s.id) = (counter table s.id h.id, (replica table s.id h.id, tt)) in
+    (tt, (id, (pairs table 0 s.vector h.vector, (place table s.place h.keys, (last_key table s.place h.keys, (mutation s.mutation h.mutation, tt))))))
+
+pub op_form-op_line : (table : List ℕ) (s : Stamped) → IsSent table s → IsUtf8 (op_line s) → op_form table (op_line s) ≡ Ok s
+op_form-op_line table s sent utf8 =
+    let d = operation_json s in
+    let shallow : depth (operation_json s) ≤ 127 = omega (arith, depth-operation_json s) in
+    ap (and_then (operation_form table)) (json_form-read (op_line s) d utf8 (read-compact_text d (operation table s sent) shallow))
+    ∙ operation_back table s sent

@@ -1,0 +1,94 @@
+//! The operations that are written and read.
+
+ghost use Rattle.std.specs.Prelude.{◌≡◌, length, IfErr, IfOk};
+ghost use Rattle.ids.specs.declared.refusal.Refusal.TheVariants.{NoMemory};
+
+use ids::{Refusal, ReplicaTable};
+use operation::Op;
+use std::alloc::Global;
+use version::VersionVector;
+use wire::read_op;
+
+/// Operations beside their table of replicas.
+#[derive(Debug, Drop)]
+pub struct Sample {
+    pub name: &'static str,
+    pub table: ReplicaTable,
+    pub ops: Vec<Op>,
+}
+
+/// A map, a list in it, and three items.
+const SHOPPING: [&str; 5] = [
+    r#"["op",[1,1],[],[],0,["a",{}]]"#,
+    r#"["op",[2,1],[[1,1]],[["m",0]],"shopping",["a",[]]]"#,
+    r#"["op",[3,1],[[1,2]],[["m",0],["l","shopping"]],1,["i","eggs"]]"#,
+    r#"["op",[4,1],[[1,3]],[["m",0],["l","shopping"]],1,["i","cheese"]]"#,
+    r#"["op",[5,1],[[1,4]],[["m",0],["l","shopping"]],[3,1],["i","milk"]]"#,
+];
+
+/// An operation that comes after a thousand others.
+const INSERT: &str = r#"["op",[1001,1],[],[["m",0],["l","shopping"]],1,["i","eggs"]]"#;
+
+/// As many as a table may have.
+const MEMBERS: u32 = 64;
+
+/// All samples.
+///
+/// # Errors
+/// `NoMemory` where a growth was refused, or what `read_op` says of a line.
+pub fn all_samples(alloc: Global) -> Result<Vec<Sample>, Refusal>
+    ensures { IfOk result (λ samples. length samples.items ≡ 2) }
+{
+    let mut samples = Vec::new(alloc);
+    samples.push(shopping_list(alloc)?)?;
+    samples.push(insert_after_all(alloc)?)?;
+    Ok(samples)
+}
+
+/// Operations of one replica.
+fn shopping_list(alloc: Global) -> Result<Sample, Refusal>
+    ensures { IfOk result (λ s. length s.ops.items ≡ 5) }
+{
+    let table = ReplicaTable::new(alloc, &[1, 2])?;
+    let mut ops = Vec::new(alloc);
+    for line in SHOPPING {
+        ops.push(read_op(alloc, line.as_bytes(), &table)?)?;
+    }
+    Ok(Sample {
+        name: "a shopping list",
+        table,
+        ops,
+    })
+}
+
+/// An operation whose vector names each of 64 members.
+fn insert_after_all(alloc: Global) -> Result<Sample, Refusal>
+    ensures { IfOk result (λ s. length s.ops.items ≡ 1) }
+{
+    let mut members = Vec::new(alloc);
+    for number in 0..MEMBERS {
+        members.push(number + 1)?;
+    }
+    let table = ReplicaTable::new(alloc, members.as_slice())?;
+    let mut op = read_op(alloc, INSERT.as_bytes(), &table)?;
+    op.deps = after_all(alloc, table.len())?;
+    let mut ops = Vec::new(alloc);
+    ops.push(op)?;
+    Ok(Sample {
+        name: "an insert beside 64 members",
+        table,
+        ops,
+    })
+}
+
+/// After a thousand operations of each replica.
+fn after_all(alloc: Global, width: usize) -> Result<VersionVector, Refusal>
+    ensures width { IfOk result (λ v. length v ≡ width) }
+    ensures err { IfErr result (λ why. why ≡ NoMemory) }
+{
+    let mut deps = VersionVector::zero(alloc, width)?;
+    for index in 0..width {
+        deps.raise(index, 1000);
+    }
+    Ok(deps)
+}
