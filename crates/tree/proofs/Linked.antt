@@ -25,9 +25,6 @@ pub record Linked (at : ℕ) (key : Key) (j : ℕ) (ns ms : List Node) : Type 0 
   pub sorted_names : (i : ℕ) → IsTrue (is_sorted name_cmp (links ms i).0)
   pub sorted_ids : (i : ℕ) → IsTrue (is_sorted id_cmp (links ms i).1)
 
-pub below_orphan : (ns : List Node) (at j : ℕ) → at < j → IsOrphan ns j → at < length ns
-below_orphan ns at j above o = let inside = get_inside ns j o.node o.there in omega arith
-
 some_one : (x y : ℕ) (o : Option ℕ) → o ≡ Some x → o ≡ Some y → x ≡ y
 some_one x y o p q = cc
 

@@ -23,8 +23,3 @@ pub get_inside : {X : Type 0} (xs : List X) (i : ℕ) (x : X) → slice_get xs i
 get_inside [] i x e = cc
 get_inside (y ∷ xs) zero x e = omega arith
 get_inside (y ∷ xs) (suc i) x e = let h = get_inside xs i x e in omega arith
-
-pub get_at : {X : Type 0} (xs : List X) (i : ℕ) (d : X) → i < length xs → slice_get xs i ≡ Some (get_or xs i d)
-get_at [] i d h = absurd (omega arith)
-get_at (y ∷ xs) zero d h = refl
-get_at (y ∷ xs) (suc i) d h = get_at xs i d (omega arith)

@@ -3,3 +3,4 @@ pub mod Nodes
 pub mod Writes
 pub mod Trees
 pub mod Walkers
+pub mod Lending

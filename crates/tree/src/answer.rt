@@ -6,10 +6,10 @@ ghost use Rattle.semantics.specs.Operations.{element_of};
 ghost use Rattle.semantics.specs.DocumentAnswer.{is_any, visible_items, visible_names};
 ghost use Rattle.tree.specs.Nodes.{IsTree, context, is_written, number, presence_of, tagged, valued};
 
-use crate::node::Node;
-use crate::walk::{child_of, count_fields, field_at, walk};
+use crate::node::{Node, NodeNumber, node_at};
+use crate::walk::{count_fields, field_at, item_of, walk};
 use columns::{Presence, Register};
-use cursor::{Hop, Place, Tag};
+use cursor::{Place, Tag};
 use ids::OpId;
 use std::alloc::{AllocError, Global};
 use value::{Key, Scalar};
@@ -24,7 +24,7 @@ pub fn values(
     ensures { IfOk result (λ v. valued v.items ≡ (context nodes.now).register (element_of place.now)) }
 {
     match node_of(nodes, place) {
-        Some(at) => copy_values(&nodes[at].register, alloc),
+        Some(at) => copy_values(&node_at(nodes, at).register, alloc),
         None => Ok(Vec::new(alloc)),
     }
 }
@@ -39,7 +39,7 @@ pub fn conflicts(
     ensures { IfOk result (λ v. tagged v.items ≡ (context nodes.now).presence (element_of place.now)) }
 {
     match node_of(nodes, place) {
-        Some(at) => copy_tags(&nodes[at].presence, alloc),
+        Some(at) => copy_tags(&node_at(nodes, at).presence, alloc),
         None => Ok(Vec::new(alloc)),
     }
 }
@@ -67,7 +67,7 @@ pub fn items(nodes: &[Node], place: &Place, alloc: Global) -> Result<Vec<OpId>, 
 }
 
 /// The number of the node of a place's element, or of the element whose list has the head.
-fn node_of(nodes: &[Node], place: &Place) -> Option<usize>
+fn node_of(nodes: &[Node], place: &Place) -> Option<NodeNumber>
     requires { IsTree nodes.now }
     ensures number { result ≡ number nodes.now (element_of place.now) }
     ensures inside { IfSome result (λ at. at < length nodes.now) }
@@ -100,7 +100,7 @@ fn copy_tags(presence: &Presence, alloc: Global) -> Result<Vec<(OpId, Tag)>, All
 }
 
 /// The keys of the map's fields at which something stands, in byte order. Looks at each field that ever was, and copies the keys that it answers.
-fn keys_at(nodes: &[Node], at: usize, alloc: Global) -> Result<Vec<Key>, AllocError>
+fn keys_at(nodes: &[Node], at: NodeNumber, alloc: Global) -> Result<Vec<Key>, AllocError>
     requires tree { IsTree nodes.now }
     requires inside { at < length nodes.now }
     ensures { IfOk result (λ v. (e : Element) → number nodes.now e ≡ Some at → v.items ≡ visible_names (context nodes.now) e) }
@@ -108,7 +108,7 @@ fn keys_at(nodes: &[Node], at: usize, alloc: Global) -> Result<Vec<Key>, AllocEr
     let mut keys = Vec::new(alloc);
     for place in 0..count_fields(nodes, at) {
         if is_field(nodes, field_at(nodes, at, place)) {
-            let (key, _) = nodes[at].fields.at(place);
+            let (key, _) = node_at(nodes, at).fields.at(place);
             let key = key.clone()?;
             keys.push(key)?;
         }
@@ -117,41 +117,41 @@ fn keys_at(nodes: &[Node], at: usize, alloc: Global) -> Result<Vec<Key>, AllocEr
 }
 
 /// Whether a write has come by a field's node, and something stands there.
-fn is_field(nodes: &[Node], at: usize) -> bool
+fn is_field(nodes: &[Node], at: NodeNumber) -> bool
     requires { at < length nodes.now }
     ensures { result ≡ is_written (slice_get nodes.now at) && is_any (presence_of (slice_get nodes.now at)) }
 {
-    nodes[at].is_written && is_present(nodes, at)
+    node_at(nodes, at).is_written && is_present(nodes, at)
 }
 
 /// Whether something stands at a node.
-fn is_present(nodes: &[Node], at: usize) -> bool
+fn is_present(nodes: &[Node], at: NodeNumber) -> bool
     requires { at < length nodes.now }
     ensures { result ≡ is_any (presence_of (slice_get nodes.now at)) }
 {
-    nodes[at].presence.len() > 0
+    node_at(nodes, at).presence.len() > 0
 }
 
 /// Whether something stands at an item of a node's list.
-fn is_visible(nodes: &[Node], at: usize, id: &OpId) -> bool
+fn is_visible(nodes: &[Node], at: NodeNumber, id: &OpId) -> bool
     requires tree { IsTree nodes.now }
     requires inside { at < length nodes.now }
     ensures { (e : Element) → number nodes.now e ≡ Some at → result ≡ is_any ((context nodes.now).presence (Item e id.now)) }
 {
-    match child_of(nodes, at, &Hop::Item(*id)) {
+    match item_of(nodes, at, id) {
         Some(item) => is_present(nodes, item),
         None => false,
     }
 }
 
 /// The items of the list at which something stands, in list order. Looks at each item that ever was.
-fn items_at(nodes: &[Node], at: usize, alloc: Global) -> Result<Vec<OpId>, AllocError>
+fn items_at(nodes: &[Node], at: NodeNumber, alloc: Global) -> Result<Vec<OpId>, AllocError>
     requires tree { IsTree nodes.now }
     requires inside { at < length nodes.now }
     ensures { IfOk result (λ v. (e : Element) → number nodes.now e ≡ Some at → v.items ≡ visible_items (context nodes.now) e) }
 {
     let mut items = Vec::new(alloc);
-    for id in nodes[at].order.iter() {
+    for id in node_at(nodes, at).order.iter() {
         if is_visible(nodes, at, &id) {
             items.push(id)?;
         }
@@ -160,13 +160,13 @@ fn items_at(nodes: &[Node], at: usize, alloc: Global) -> Result<Vec<OpId>, Alloc
 }
 
 /// The item of the list at which something stands, by its place among these. Looks at each item up to there.
-pub fn item_at(nodes: &[Node], at: usize, place: u64) -> Option<OpId>
+pub fn item_at(nodes: &[Node], at: NodeNumber, place: u64) -> Option<OpId>
     requires tree { IsTree nodes.now }
     requires inside { at < length nodes.now }
     ensures { (e : Element) → number nodes.now e ≡ Some at → result ≡ slice_get (visible_items (context nodes.now) e) place }
 {
     let mut left = place;
-    for id in nodes[at].order.iter() {
+    for id in node_at(nodes, at).order.iter() {
         if is_visible(nodes, at, &id) {
             if left == 0 {
                 return Some(id);

@@ -7,13 +7,13 @@ ghost use Rattle.cursor.specs.Meanings.{hop_of};
 ghost use Rattle.tree.specs.Nodes.{AreBeside, IsTree, MoreRoom, SameLinks, context, number};
 ghost use Rattle.tree.specs.Writes.{IsStamp, clear_own, deps_of, end_of};
 
-use crate::node::Node;
+use crate::node::{Node, NodeNumber, node_at_mut};
 use crate::stamp::Stamp;
 use crate::walk::{count_fields, count_items, field_at, item_at, walk};
 use cursor::Hop;
 
 /// Takes the ids that the stamp's vector covers away at a node.
-fn clear_node(nodes: &mut [Node], at: usize, stamp: &Stamp)
+fn clear_node(nodes: &mut [Node], at: NodeNumber, stamp: &Stamp)
     requires tree { IsTree nodes.old }
     requires stamp { IsStamp stamp.now }
     requires beside { AreBeside stamp.now.table.now nodes.old }
@@ -23,13 +23,13 @@ fn clear_node(nodes: &mut [Node], at: usize, stamp: &Stamp)
     ensures beside { AreBeside stamp.now.table.now nodes.new }
     ensures cleared { (e : Element) → number nodes.old e ≡ Some at → context nodes.new ≡ clear_own (context nodes.old) e (deps_of stamp.now) }
 {
-    let node = &mut nodes[at];
+    let node = node_at_mut(nodes, at);
     node.presence.clear(stamp.vector);
     node.register.clear(stamp.vector);
 }
 
 /// The same at a node and everywhere beneath it. Visits each of those nodes once.
-pub fn clear_below(nodes: &mut [Node], at: usize, stamp: &Stamp)
+pub fn clear_below(nodes: &mut [Node], at: NodeNumber, stamp: &Stamp)
     requires tree { IsTree nodes.old }
     requires stamp { IsStamp stamp.now }
     requires beside { AreBeside stamp.now.table.now nodes.old }

@@ -1,59 +1,70 @@
 //! Making nodes and room, which changes no content.
 
 ghost use Rattle.std.specs.Prelude.{◌≡◌, ◌<◌, ◌≤◌, ℕ, None, Some, OnOk, IfOk, length, slice_get};
+ghost use Rattle.std.specs.Borrow.{sem};
 ghost use Rattle.semantics.specs.Paths.{Key as TheKey, FieldKey, ItemKey};
 ghost use Rattle.cursor.specs.Meanings.{hop_of};
+ghost use Rattle.tree.specs.Lending.{LendsNodeIn};
 ghost use Rattle.tree.specs.Nodes.{IsEmptyNode, IsOrphan, IsTree, Kept, child_number, child_room, links, order_room, presence_room, register_room};
 
-use crate::node::Node;
+use crate::node::{Node, NodeNumber};
 use crate::walk::child_of;
 use cursor::Hop;
 use ids::OpId;
 use std::alloc::{AllocError, Global};
 use value::Key;
 
+/// The node with a number, in the vector that holds them all.
+fn node_in_vec(nodes: &mut Vec<Node>, at: NodeNumber) -> &mut Node
+    requires { at < length nodes.old.items }
+    ensures* lends { sem 𝓛 (LendsNodeIn nodes.entry at result) }
+    ensures node { slice_get nodes.old.items at ≡ Some result.now }
+{
+    &mut nodes[at.index()]
+}
+
 /// Makes room for one more id in a node's presence.
-pub fn reserve_presence(nodes: &mut Vec<Node>, at: usize) -> Result<(), AllocError>
+pub fn reserve_presence(nodes: &mut Vec<Node>, at: NodeNumber) -> Result<(), AllocError>
     requires tree { IsTree nodes.old.items }
     requires inside { at < length nodes.old.items }
     ensures kept { Kept nodes.old.items nodes.new.items }
     ensures room { OnOk result (0 < presence_room (slice_get nodes.new.items at)) }
 {
-    let node = &mut nodes[at];
+    let node = node_in_vec(nodes, at);
     node.presence.reserve_one()
 }
 
 /// Makes room for one more id in a node's register.
-pub fn reserve_register(nodes: &mut Vec<Node>, at: usize) -> Result<(), AllocError>
+pub fn reserve_register(nodes: &mut Vec<Node>, at: NodeNumber) -> Result<(), AllocError>
     requires tree { IsTree nodes.old.items }
     requires inside { at < length nodes.old.items }
     ensures kept { Kept nodes.old.items nodes.new.items }
     ensures room { OnOk result (0 < register_room (slice_get nodes.new.items at)) }
 {
-    let node = &mut nodes[at];
+    let node = node_in_vec(nodes, at);
     node.register.reserve_one()
 }
 
 /// Makes room for one more item in the order of a node's list.
-pub fn reserve_order(nodes: &mut Vec<Node>, at: usize) -> Result<(), AllocError>
+pub fn reserve_order(nodes: &mut Vec<Node>, at: NodeNumber) -> Result<(), AllocError>
     requires tree { IsTree nodes.old.items }
     requires inside { at < length nodes.old.items }
     ensures kept { Kept nodes.old.items nodes.new.items }
     ensures room { OnOk result (0 < order_room (slice_get nodes.new.items at)) }
 {
-    let node = &mut nodes[at];
+    let node = node_in_vec(nodes, at);
     node.order.reserve_one()
 }
 
 /// Makes room for one more child.
-fn reserve_child(nodes: &mut Vec<Node>, at: usize, hop: &Hop) -> Result<(), AllocError>
+fn reserve_child(nodes: &mut Vec<Node>, at: NodeNumber, hop: &Hop) -> Result<(), AllocError>
     requires tree { IsTree nodes.old.items }
     requires inside { at < length nodes.old.items }
     ensures kept { Kept nodes.old.items nodes.new.items }
     ensures shape { (i : ℕ) → links nodes.old.items i ≡ links nodes.new.items i }
     ensures room { OnOk result (0 < child_room (slice_get nodes.new.items at) (hop_of hop.now)) }
 {
-    let node = &mut nodes[at];
+    let node = node_in_vec(nodes, at);
     match hop {
         Hop::Field(_) => node.fields.reserve_one(),
         Hop::Item(_) => node.items.reserve_one(),
@@ -61,7 +72,7 @@ fn reserve_child(nodes: &mut Vec<Node>, at: usize, hop: &Hop) -> Result<(), Allo
 }
 
 /// Puts an empty node at the end, which is nobody's child yet, and answers its number.
-fn push_node(nodes: &mut Vec<Node>, fresh: Node) -> Result<usize, AllocError>
+fn push_node(nodes: &mut Vec<Node>, fresh: Node) -> Result<NodeNumber, AllocError>
     requires tree { IsTree nodes.old.items }
     requires empty { IsEmptyNode fresh }
     ensures kept { Kept nodes.old.items nodes.new.items }
@@ -69,13 +80,13 @@ fn push_node(nodes: &mut Vec<Node>, fresh: Node) -> Result<usize, AllocError>
     ensures shape { (i : ℕ) → links nodes.old.items i ≡ links nodes.new.items i }
     ensures rooms { (i : ℕ) (k : TheKey) → child_room (slice_get nodes.old.items i) k ≤ child_room (slice_get nodes.new.items i) k }
 {
-    let number = nodes.len();
+    let number = NodeNumber::new(nodes.len());
     nodes.push(fresh)?;
     Ok(number)
 }
 
 /// Makes a node the field of another.
-fn link_field(nodes: &mut Vec<Node>, at: usize, key: Key, number: usize)
+fn link_field(nodes: &mut Vec<Node>, at: NodeNumber, key: Key, number: NodeNumber)
     requires tree { IsTree nodes.old.items }
     requires above { at < number }
     requires orphan { IsOrphan nodes.old.items number }
@@ -84,12 +95,12 @@ fn link_field(nodes: &mut Vec<Node>, at: usize, key: Key, number: usize)
     ensures kept { Kept nodes.old.items nodes.new.items }
     ensures child { child_number nodes.new.items at (FieldKey key) ≡ Some number }
 {
-    let node = &mut nodes[at];
-    node.fields.put(key, number);
+    let node = node_in_vec(nodes, at);
+    node.fields.put(key, number.index());
 }
 
 /// Makes a node the item of another.
-fn link_item(nodes: &mut Vec<Node>, at: usize, id: OpId, number: usize)
+fn link_item(nodes: &mut Vec<Node>, at: NodeNumber, id: OpId, number: NodeNumber)
     requires tree { IsTree nodes.old.items }
     requires above { at < number }
     requires orphan { IsOrphan nodes.old.items number }
@@ -98,17 +109,17 @@ fn link_item(nodes: &mut Vec<Node>, at: usize, id: OpId, number: usize)
     ensures kept { Kept nodes.old.items nodes.new.items }
     ensures child { child_number nodes.new.items at (ItemKey id) ≡ Some number }
 {
-    let node = &mut nodes[at];
-    node.items.put(id, number);
+    let node = node_in_vec(nodes, at);
+    node.items.put(id, number.index());
 }
 
 /// Makes a child where there is none, and answers its number.
 fn make_child(
     nodes: &mut Vec<Node>,
-    at: usize,
+    at: NodeNumber,
     hop: &Hop,
     alloc: Global,
-) -> Result<usize, AllocError>
+) -> Result<NodeNumber, AllocError>
     requires tree { IsTree nodes.old.items }
     requires inside { at < length nodes.old.items }
     requires absent { child_number nodes.old.items at (hop_of hop.now) ≡ None }
@@ -134,10 +145,10 @@ fn make_child(
 /// The number of a child, which is made where there is none.
 pub fn reach(
     nodes: &mut Vec<Node>,
-    at: usize,
+    at: NodeNumber,
     hop: &Hop,
     alloc: Global,
-) -> Result<usize, AllocError>
+) -> Result<NodeNumber, AllocError>
     requires tree { IsTree nodes.old.items }
     requires inside { at < length nodes.old.items }
     ensures kept { Kept nodes.old.items nodes.new.items }

@@ -11,7 +11,7 @@ ghost use Rattle.tree.specs.Writes.{IsStamp, assigned, deps_of, end_of, linked};
 ghost use Rattle.tree.specs.Trees.{CanInsert, SlotIs};
 
 use crate::clear::clear_below;
-use crate::node::Node;
+use crate::node::{Node, NodeNumber, node_at_mut};
 use crate::stamp::Stamp;
 use crate::walk::{item_of, walk};
 use crate::write::{settle, write_path};
@@ -47,7 +47,7 @@ pub fn slot_of(place: &Place) -> Option<Slot<'_>>
 }
 
 /// Puts an id into the order of a node's list.
-fn link_order(nodes: &mut [Node], at: usize, prev: Option<OpId>, id: &OpId)
+fn link_order(nodes: &mut [Node], at: NodeNumber, prev: Option<OpId>, id: &OpId)
     requires tree { IsTree nodes.old }
     requires inside { at < length nodes.old }
     requires place { IsTrue (has_place prev (order_of (slice_get nodes.old at))) }
@@ -58,12 +58,12 @@ fn link_order(nodes: &mut [Node], at: usize, prev: Option<OpId>, id: &OpId)
     ensures beside { (table : List ℕ) → AreBeside table nodes.old → AreBeside table nodes.new }
     ensures linked { (e : Element) → number nodes.old e ≡ Some at → context nodes.new ≡ linked (context nodes.old) e prev id.now }
 {
-    let node = &mut nodes[at];
+    let node = node_at_mut(nodes, at);
     node.order.place(prev, *id);
 }
 
 /// Puts an id into the order of the list at the end of a path, and answers the number of its node.
-fn link_list(nodes: &mut [Node], slot: &Slot<'_>, id: &OpId) -> usize
+fn link_list(nodes: &mut [Node], slot: &Slot<'_>, id: &OpId) -> NodeNumber
     requires tree { IsTree nodes.old }
     requires there { IsSome (number nodes.old (Item (end_of (map hop_of slot.now.list.now)) id.now)) }
     requires place { IsTrue (has_place slot.now.prev ((context nodes.old).order (end_of (map hop_of slot.now.list.now)))) }

@@ -6,7 +6,7 @@ ghost use Rattle.tree.specs.Nodes.{IsTree, context, node_in, order_of};
 ghost use Rattle.tree.specs.Writes.{end_of};
 ghost use Rattle.tree.specs.Trees.{has_key, items_stand};
 
-use crate::node::Node;
+use crate::node::{Node, NodeNumber, node_at};
 use crate::resolve::next_of;
 use cursor::Hop;
 
@@ -15,9 +15,10 @@ pub fn items_stand(nodes: &[Node], path: &[Hop]) -> bool
     requires { IsTree nodes.now }
     ensures { result ≡ items_stand (context nodes.now) (end_of (map hop_of path.now)) }
 {
-    let mut node = Some(0);
+    let mut node = Some(NodeNumber::ROOT);
     for hop in path {
-        if !stands(nodes, node, hop) {
+        let here = node;
+        if !stands(nodes, here, hop) {
             return false;
         }
         node = next_of(nodes, node, hop);
@@ -26,13 +27,13 @@ pub fn items_stand(nodes: &[Node], path: &[Hop]) -> bool
 }
 
 /// Whether the hop is to a field, or to an item of the list at a node.
-fn stands(nodes: &[Node], node: Option<usize>, hop: &Hop) -> bool
+fn stands(nodes: &[Node], node: Option<NodeNumber>, hop: &Hop) -> bool
     requires { IfSome node (λ i. i < length nodes.now) }
     ensures { result ≡ has_key (order_of (node_in nodes.now node)) (hop_of hop.now) }
 {
     match (hop, node) {
         (Hop::Field(_), _) => true,
-        (Hop::Item(id), Some(at)) => nodes[at].order.contains(id),
+        (Hop::Item(id), Some(at)) => node_at(nodes, at).order.contains(id),
         (Hop::Item(_), None) => false,
     }
 }

@@ -1,9 +1,48 @@
 //! Nodes: what stands at an element, and which nodes stand beneath it.
 
+ghost use Rattle.std.specs.Prelude.{◌≡◌, ◌<◌, Some, length, slice_get};
+ghost use Rattle.std.specs.Borrow.{sem};
+ghost use Rattle.tree.specs.Lending.{LendsNode};
 ghost use Rattle.tree.specs.Nodes.{IsEmptyNode};
 
 use columns::{Fields, ListOrder, Numbers, Presence, Register};
 use std::alloc::Global;
+use std::marker::Model;
+
+/// The number of a node: its place among the nodes of a tree. Contracts see the number.
+#[derive(Clone, Copy, Debug, PartialEq, Eq)]
+pub struct NodeNumber {
+    index: usize,
+}
+
+impl Model for NodeNumber {
+    ghost use Rattle.std.specs.Prelude.{ℕ};
+
+    ghost Value = { ℕ };
+
+    ghost view = { λ n. n.index };
+
+    ghost inverse = { λ n. record { index = n } };
+}
+
+impl NodeNumber {
+    /// The number of the root.
+    pub const ROOT: NodeNumber = NodeNumber { index: 0 };
+
+    /// The number of the node at this place.
+    pub fn new(index: usize) -> NodeNumber
+        ensures { result ≡ index }
+    {
+        NodeNumber { index }
+    }
+
+    /// The node's place.
+    pub fn index(self) -> usize
+        ensures { result ≡ self }
+    {
+        self.index
+    }
+}
 
 /// What stands at an element. Its children are named by their numbers.
 #[derive(Debug, Drop)]
@@ -34,4 +73,21 @@ impl Node {
             is_written: false,
         }
     }
+}
+
+/// The node with a number.
+pub fn node_at(nodes: &[Node], at: NodeNumber) -> &Node
+    requires { at < length nodes.now }
+    ensures { slice_get nodes.now at ≡ Some result.now }
+{
+    &nodes[at.index]
+}
+
+/// The node with a number, to be changed.
+pub fn node_at_mut(nodes: &mut [Node], at: NodeNumber) -> &mut Node
+    requires { at < length nodes.old }
+    ensures* lends { sem 𝓛 (LendsNode nodes.entry at result) }
+    ensures node { slice_get nodes.old at ≡ Some result.now }
+{
+    &mut nodes[at.index]
 }

@@ -12,7 +12,7 @@ ghost use Rattle.tree.specs.Trees.{IsReady};
 
 use crate::grow::{reach, reserve_order, reserve_presence, reserve_register};
 use crate::insert::slot_of;
-use crate::node::Node;
+use crate::node::{Node, NodeNumber};
 use cursor::Hop;
 use ids::OpId;
 use operation::{Mutation, Op};
@@ -20,12 +20,16 @@ use std::alloc::{AllocError, Global};
 use value::{Scalar, Val};
 
 /// Makes each node of a path, with room for one more id in each, and answers the number of the last.
-fn reserve_path(nodes: &mut Vec<Node>, path: &[Hop], alloc: Global) -> Result<usize, AllocError>
+fn reserve_path(
+    nodes: &mut Vec<Node>,
+    path: &[Hop],
+    alloc: Global,
+) -> Result<NodeNumber, AllocError>
     requires { IsTree nodes.old.items }
     ensures kept { Kept nodes.old.items nodes.new.items }
     ensures room { IfOk result (λ at. HasRoom nodes.new.items (map hop_of path.now) × (number nodes.new.items (end_of (map hop_of path.now)) ≡ Some at)) }
 {
-    let mut at = 0;
+    let mut at = NodeNumber::ROOT;
     for hop in path {
         reserve_presence(nodes, at)?;
         at = reach(nodes, at, hop, alloc)?;
@@ -64,7 +68,12 @@ fn reserve_assign(
 }
 
 /// Makes the node of an item, with room for one more id in its presence and its register.
-fn reserve_item(nodes: &mut Vec<Node>, at: usize, id: OpId, alloc: Global) -> Result<(), AllocError>
+fn reserve_item(
+    nodes: &mut Vec<Node>,
+    at: NodeNumber,
+    id: OpId,
+    alloc: Global,
+) -> Result<(), AllocError>
     requires tree { IsTree nodes.old.items }
     requires inside { at < length nodes.old.items }
     ensures kept { Kept nodes.old.items nodes.new.items }

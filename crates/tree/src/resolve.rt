@@ -13,7 +13,7 @@ ghost use Rattle.tree.specs.Writes.{end_of};
 ghost use Rattle.tree.specs.Walkers.{IsWalking, stand_of};
 
 use crate::answer::item_at;
-use crate::node::Node;
+use crate::node::{Node, NodeNumber};
 use crate::walk::child_of;
 use cursor::{Expr, Hop, MOST_KEYS, Place, Step};
 use ids::{OpId, Refusal};
@@ -37,7 +37,7 @@ pub fn resolve(alloc: Global, nodes: &[Node], expression: &Expr) -> Result<Place
 struct Walker {
     hops: Vec<Hop>,
     is_head: bool,
-    node: Option<usize>,
+    node: Option<NodeNumber>,
 }
 
 impl Walker {
@@ -49,7 +49,7 @@ impl Walker {
         Walker {
             hops: Vec::new(alloc),
             is_head: false,
-            node: Some(0),
+            node: Some(NodeNumber::ROOT),
         }
     }
 
@@ -110,7 +110,7 @@ impl Walker {
 }
 
 /// The number of the node one hop down, where one was made.
-pub fn next_of(nodes: &[Node], node: Option<usize>, hop: &Hop) -> Option<usize>
+pub fn next_of(nodes: &[Node], node: Option<NodeNumber>, hop: &Hop) -> Option<NodeNumber>
     requires { IfSome node (λ i. i < length nodes.now) }
     ensures { result ≡ next_number nodes.now node (hop_of hop.now) }
 {

@@ -8,28 +8,28 @@ ghost use Rattle.cursor.specs.Meanings.{hop_of};
 ghost use Rattle.tree.specs.Nodes.{IsTree, child_number, links, number};
 ghost use Rattle.tree.specs.Writes.{end_of};
 
-use crate::node::Node;
+use crate::node::{Node, NodeNumber, node_at};
 use cursor::Hop;
 use ids::OpId;
 
 /// How many fields have a node beneath this one.
-pub fn count_fields(nodes: &[Node], at: usize) -> usize
+pub fn count_fields(nodes: &[Node], at: NodeNumber) -> usize
     requires { at < length nodes.now }
     ensures { result ≡ length (links nodes.now at).0 }
 {
-    nodes[at].fields.len()
+    node_at(nodes, at).fields.len()
 }
 
 /// How many items have a node beneath this one.
-pub fn count_items(nodes: &[Node], at: usize) -> usize
+pub fn count_items(nodes: &[Node], at: NodeNumber) -> usize
     requires { at < length nodes.now }
     ensures { result ≡ length (links nodes.now at).1 }
 {
-    nodes[at].items.len()
+    node_at(nodes, at).items.len()
 }
 
 /// The number of the node of a field, by the field's place.
-pub fn field_at(nodes: &[Node], at: usize, place: usize) -> usize
+pub fn field_at(nodes: &[Node], at: NodeNumber, place: usize) -> NodeNumber
     requires tree { IsTree nodes.now }
     requires inside { at < length nodes.now }
     requires place { place < length (links nodes.now at).0 }
@@ -37,11 +37,11 @@ pub fn field_at(nodes: &[Node], at: usize, place: usize) -> usize
     ensures within { result < length nodes.now }
     ensures number { (e : Element) (d : Name × ℕ) → number nodes.now e ≡ Some at → number nodes.now (Field e (slice_index_or (links nodes.now at).0 place d).0) ≡ Some result }
 {
-    nodes[at].fields.at(place).1
+    NodeNumber::new(node_at(nodes, at).fields.at(place).1)
 }
 
 /// The number of the node of an item, by the item's place.
-pub fn item_at(nodes: &[Node], at: usize, place: usize) -> usize
+pub fn item_at(nodes: &[Node], at: NodeNumber, place: usize) -> NodeNumber
     requires tree { IsTree nodes.now }
     requires inside { at < length nodes.now }
     requires place { place < length (links nodes.now at).1 }
@@ -49,36 +49,37 @@ pub fn item_at(nodes: &[Node], at: usize, place: usize) -> usize
     ensures within { result < length nodes.now }
     ensures number { (e : Element) (d : TheId × ℕ) → number nodes.now e ≡ Some at → number nodes.now (Item e (slice_index_or (links nodes.now at).1 place d).0) ≡ Some result }
 {
-    nodes[at].items.at(place).1
+    NodeNumber::new(node_at(nodes, at).items.at(place).1)
 }
 
 /// The number of the node one hop down. A search by halves.
-pub fn child_of(nodes: &[Node], at: usize, hop: &Hop) -> Option<usize>
+pub fn child_of(nodes: &[Node], at: NodeNumber, hop: &Hop) -> Option<NodeNumber>
     requires inside { at < length nodes.now }
     ensures { result ≡ child_number nodes.now at (hop_of hop.now) }
 {
-    let node = &nodes[at];
-    match hop {
+    let node = node_at(nodes, at);
+    let child = match hop {
         Hop::Field(key) => node.fields.get(key),
         Hop::Item(id) => node.items.get(id),
-    }
+    };
+    child.map(NodeNumber::new)
 }
 
 /// The number of the node of an item, by its id. A search by halves.
-pub fn item_of(nodes: &[Node], at: usize, id: &OpId) -> Option<usize>
+pub fn item_of(nodes: &[Node], at: NodeNumber, id: &OpId) -> Option<NodeNumber>
     requires { at < length nodes.now }
     ensures { result ≡ child_number nodes.now at (ItemKey id.now) }
 {
-    nodes[at].items.get(id)
+    node_at(nodes, at).items.get(id).map(NodeNumber::new)
 }
 
 /// The number of the node at the end of a path from the root.
-pub fn walk(nodes: &[Node], path: &[Hop]) -> Option<usize>
+pub fn walk(nodes: &[Node], path: &[Hop]) -> Option<NodeNumber>
     requires { IsTree nodes.now }
     ensures number { result ≡ number nodes.now (end_of (map hop_of path.now)) }
     ensures inside { IfSome result (λ at. at < length nodes.now) }
 {
-    let mut at = 0;
+    let mut at = NodeNumber::ROOT;
     for hop in path {
         match child_of(nodes, at, hop) {
             Some(child) => at = child,

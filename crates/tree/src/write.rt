@@ -8,14 +8,14 @@ ghost use Rattle.tree.specs.Nodes.{AreBeside, IsTree, MoreRoom, RoomElse, SameLi
 ghost use Rattle.tree.specs.Writes.{HasRoom, IsStamp, assigned, deps_of, end_of, entered, entered_by, mark, name_at, registered};
 
 use crate::clear::clear_at;
-use crate::node::Node;
+use crate::node::{Node, NodeNumber, node_at_mut};
 use crate::stamp::Stamp;
 use crate::walk::child_of;
 use cursor::{Hop, Tag};
 use value::Scalar;
 
 /// Puts the stamp's id into a node's presence.
-fn mark_node(nodes: &mut [Node], at: usize, stamp: &Stamp, tag: Tag)
+fn mark_node(nodes: &mut [Node], at: NodeNumber, stamp: &Stamp, tag: Tag)
     requires tree { IsTree nodes.old }
     requires stamp { IsStamp stamp.now }
     requires inside { at < length nodes.old }
@@ -25,12 +25,12 @@ fn mark_node(nodes: &mut [Node], at: usize, stamp: &Stamp, tag: Tag)
     ensures beside { AreBeside stamp.now.table.now nodes.old → AreBeside stamp.now.table.now nodes.new }
     ensures marked { (e : Element) → number nodes.old e ≡ Some at → context nodes.new ≡ mark (context nodes.old) e stamp.now.id (tag_of tag) }
 {
-    let node = &mut nodes[at];
+    let node = node_at_mut(nodes, at);
     node.presence.put(stamp.id, stamp.index(), tag);
 }
 
 /// Notes that a write has come by a field.
-fn name_node(nodes: &mut [Node], at: usize)
+fn name_node(nodes: &mut [Node], at: NodeNumber)
     requires tree { IsTree nodes.old }
     requires inside { at < length nodes.old }
     ensures links { SameLinks nodes.old nodes.new }
@@ -38,12 +38,12 @@ fn name_node(nodes: &mut [Node], at: usize)
     ensures beside { (table : List ℕ) → AreBeside table nodes.old → AreBeside table nodes.new }
     ensures named { (e : Element) (n : Name) → number nodes.old (Field e n) ≡ Some at → context nodes.new ≡ name_at (context nodes.old) e n }
 {
-    let node = &mut nodes[at];
+    let node = node_at_mut(nodes, at);
     node.is_written = true;
 }
 
 /// Puts the stamp's id into the presence of a node, and goes on to a child.
-fn enter(nodes: &mut [Node], at: usize, hop: &Hop, stamp: &Stamp) -> usize
+fn enter(nodes: &mut [Node], at: NodeNumber, hop: &Hop, stamp: &Stamp) -> NodeNumber
     requires tree { IsTree nodes.old }
     requires stamp { IsStamp stamp.now }
     requires inside { at < length nodes.old }
@@ -67,7 +67,7 @@ fn enter(nodes: &mut [Node], at: usize, hop: &Hop, stamp: &Stamp) -> usize
 }
 
 /// Puts the stamp's id into the presence of each node of a path, and answers the number of the last.
-pub fn write_path(nodes: &mut [Node], path: &[Hop], stamp: &Stamp, tag: Tag) -> usize
+pub fn write_path(nodes: &mut [Node], path: &[Hop], stamp: &Stamp, tag: Tag) -> NodeNumber
     requires tree { IsTree nodes.old }
     requires stamp { IsStamp stamp.now }
     requires room { HasRoom nodes.old (map hop_of path.now) }
@@ -79,7 +79,7 @@ pub fn write_path(nodes: &mut [Node], path: &[Hop], stamp: &Stamp, tag: Tag) -> 
     ensures at { number nodes.old (end_of (map hop_of path.now)) ≡ Some result }
     ensures written { context nodes.new ≡ mark (entered (context nodes.old) (end_of (map hop_of path.now)) stamp.now.id) (end_of (map hop_of path.now)) stamp.now.id (tag_of tag) }
 {
-    let mut at = 0;
+    let mut at = NodeNumber::ROOT;
     for hop in path {
         at = enter(nodes, at, hop, stamp);
     }
@@ -88,7 +88,7 @@ pub fn write_path(nodes: &mut [Node], path: &[Hop], stamp: &Stamp, tag: Tag) -> 
 }
 
 /// Puts a scalar into a node's register.
-fn put_register(nodes: &mut [Node], at: usize, stamp: &Stamp, scalar: Scalar)
+fn put_register(nodes: &mut [Node], at: NodeNumber, stamp: &Stamp, scalar: Scalar)
     requires tree { IsTree nodes.old }
     requires stamp { IsStamp stamp.now }
     requires inside { at < length nodes.old }
@@ -97,12 +97,12 @@ fn put_register(nodes: &mut [Node], at: usize, stamp: &Stamp, scalar: Scalar)
     ensures beside { AreBeside stamp.now.table.now nodes.old → AreBeside stamp.now.table.now nodes.new }
     ensures written { (e : Element) → number nodes.old e ≡ Some at → context nodes.new ≡ registered (context nodes.old) e stamp.now.id (Some (scalar_of scalar)) }
 {
-    let node = &mut nodes[at];
+    let node = node_at_mut(nodes, at);
     node.register.put(stamp.id, stamp.index(), scalar);
 }
 
 /// Puts a scalar, if there is one, into a node's register.
-fn put_scalar(nodes: &mut [Node], at: usize, stamp: &Stamp, scalar: Option<Scalar>)
+fn put_scalar(nodes: &mut [Node], at: NodeNumber, stamp: &Stamp, scalar: Option<Scalar>)
     requires tree { IsTree nodes.old }
     requires stamp { IsStamp stamp.now }
     requires beside { AreBeside stamp.now.table.now nodes.old }
@@ -118,7 +118,7 @@ fn put_scalar(nodes: &mut [Node], at: usize, stamp: &Stamp, scalar: Option<Scala
 }
 
 /// Writes an operation's id and scalar at a node.
-pub fn settle(nodes: &mut [Node], at: usize, stamp: &Stamp, tag: Tag, scalar: Option<Scalar>)
+pub fn settle(nodes: &mut [Node], at: NodeNumber, stamp: &Stamp, tag: Tag, scalar: Option<Scalar>)
     requires tree { IsTree nodes.old }
     requires stamp { IsStamp stamp.now }
     requires beside { AreBeside stamp.now.table.now nodes.old }

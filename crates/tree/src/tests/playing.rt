@@ -9,7 +9,7 @@ ghost use Rattle.tree.specs.Nodes.{IsTree, context};
 ghost use Rattle.tree.specs.Trees.{FitsIn, IsPlaced, document};
 
 use crate::insert::slot_of;
-use crate::node::Node;
+use crate::node::{Node, node_at};
 use crate::tree::Tree;
 use crate::walk::walk;
 use cursor::Place;
@@ -177,7 +177,7 @@ fn fits(nodes: &[Node], op: &Op) -> bool
     let Some(at) = walk(nodes, slot.list) else {
         return false;
     };
-    let order = &nodes[at].order;
+    let order = &node_at(nodes, at).order;
     if order.contains(&op.id) {
         return false;
     }

@@ -4,7 +4,6 @@ use Rattle.semantics.specs.Ids.{OpId}
 use Rattle.semantics.specs.Elements.{Item}
 use Rattle.semantics.specs.DocumentAnswer.{is_any}
 use Rattle.tree.specs.Nodes.{context, node_in, order_of}
-use Rattle.tree.proofs.ListReads.{get_at}
 use Rattle.tree.proofs.Answering.{all_shown, shown_next, hidden_next}
 use Rattle.tree.proofs.answer.items_at.Goals as goal
 
@@ -14,7 +13,7 @@ loop-id-init c = λ e at.
     let p : OpId → Bool = λ a. is_any ((context ns).presence (Item e a)) in
     ap (λ xs. xs ++ filter p c.into_iter-id-iterator.result) c.new-items.ensures.items
     ∙ ap (filter p) (c.into_iter-id-iterator.ensures.into_iter_gives ∙ c.iter-id-items.ensures
-    ∙ sym (ap (λ o. order_of (node_in ns o)) at ∙ ap order_of (get_at ns c.args.at c.index-nodes-at.result c.requires.inside)))
+    ∙ sym (ap (λ o. order_of (node_in ns o)) at ∙ ap order_of c.node_at.ensures))
 
 pub loop-id-preserved-in-Continue-1 : goal.loop-id-preserved-in-Continue-1
 loop-id-preserved-in-Continue-1 c = λ e at.

@@ -3,7 +3,6 @@ use Rattle.std.proofs.lemmas.Option.{get_or_from_slice_get}
 use Rattle.semantics.specs.Elements.{Field, Name}
 use Rattle.semantics.specs.DocumentAnswer.{is_any}
 use Rattle.tree.specs.Nodes.{context, links, links_of, names_in}
-use Rattle.tree.proofs.ListReads.{get_at}
 use Rattle.tree.proofs.Answering.{field_shows, wanted_next}
 use Rattle.tree.proofs.answer.keys_at.Goals as goal
 use Rattle.tree.proofs.answer.keys_at.Goals.{then-is_field+in_ok-key+in_ok-push, else-is_field}
@@ -20,7 +19,7 @@ loop-place-preserved c = λ e at.
     let next = wanted_next ns p fs k d within ∙ ap (λ b. filter p (map (λ x. x.0) (names_in ns (take k fs))) ++ cond b ((get_or fs k d).0 ∷ []) []) shows in
     elim c.if-is_field.branch [
       | then-is_field+in_ok-key+in_ok-push w ↦
-          let here = ap (λ o. (get_or (links_of o).0 k d).0) (get_at ns c.args.at w.index-nodes-at.result c.requires.inside) in
+          let here = ap (λ o. (get_or (links_of o).0 k d).0) w.node_at.ensures in
           let key = here ∙ ap (λ f. f.0) (get_or_from_slice_get _ k (w.at.result.0.now, w.at.result.1) d w.at.ensures) ∙ sym w.in_ok-key.ensures.cases in
           ap (λ (v : Vec Name Global). v.items) w.keys-is ∙ w.in_ok-push.ensures.items ∙ ap (λ ks. ks ++ w.in_ok-key.key ∷ []) (c.loop-place.invariant e at)
           ∙ ap (λ n. filter p (map (λ x. x.0) (names_in ns (take k fs))) ++ n ∷ []) (sym key)

@@ -1,11 +1,10 @@
-use Rattle.std.proofs.Common.{refl, sym, ap, ◌∙◌, arith, get_or}
+use Rattle.std.proofs.Common.{refl, sym, ap, ◌∙◌, arith}
 use Rattle.cursor.specs.Meanings.{tag_of}
 use Rattle.value.specs.Meanings.{scalar_of}
 use Rattle.columns.proofs.Beside.{indices_within}
 use Rattle.tree.specs.declared.node.Node.{Node}
 use Rattle.tree.specs.Nodes.{tagged, valued}
 use Rattle.tree.specs.Writes.{deps_of}
-use Rattle.tree.proofs.ListReads.{get_at}
 use Rattle.tree.proofs.Mapped.{without-mapped}
 use Rattle.tree.proofs.Shape.{links_set}
 use Rattle.tree.proofs.Contexts.{context_set, cleared_with}
@@ -14,39 +13,39 @@ use Rattle.tree.proofs.clear.clear_node.Goals as goal
 
 pub clear-requires : goal.clear-requires
 clear-requires c = λ k d h.
-    let n : Node = get_or c.args.nodes.now c.args.at c.index-nodes-at.result in
-    let stands = beside_at c.args.stamp.now.table.now c.args.nodes.now c.args.at n (get_at c.args.nodes.now c.args.at c.index-nodes-at.result c.requires.inside) c.requires.beside in
+    let n : Node = c.node_at_mut-node.result.now in
+    let stands = beside_at c.args.stamp.now.table.now c.args.nodes.now c.args.at n c.node_at_mut-node.ensures.node c.requires.beside in
     let within = indices_within c.args.stamp.now.table.now n.presence.entries n.presence.indices stands.0 k d h in
     let width = c.requires.stamp.width in omega arith
 
 pub clear-requires-2 : goal.clear-requires-2
 clear-requires-2 c = λ k d h.
-    let n : Node = get_or c.args.nodes.now c.args.at c.index-nodes-at.result in
-    let stands = beside_at c.args.stamp.now.table.now c.args.nodes.now c.args.at n (get_at c.args.nodes.now c.args.at c.index-nodes-at.result c.requires.inside) c.requires.beside in
+    let n : Node = c.node_at_mut-node.result.now in
+    let stands = beside_at c.args.stamp.now.table.now c.args.nodes.now c.args.at n c.node_at_mut-node.ensures.node c.requires.beside in
     let within = indices_within c.args.stamp.now.table.now n.register.entries n.register.indices stands.1 k d h in
     let width = c.requires.stamp.width in omega arith
 
 pub returns-clause-links : goal.returns-clause-links
 returns-clause-links c =
     let ns = c.args.nodes.now in
-    let n : Node = get_or ns c.args.at c.index-nodes-at.result in
+    let n : Node = c.node_at_mut-node.result.now in
     let m : Node = record n { presence = c.clear.new.self; register = c.clear-2.new.self } in
-    links_set ns c.args.at n m (get_at ns c.args.at c.index-nodes-at.result c.requires.inside) refl
+    links_set ns c.args.at n m c.node_at_mut-node.ensures.node refl
 
 pub returns-clause-room : goal.returns-clause-room
 returns-clause-room c =
     let ns = c.args.nodes.now in
-    let n : Node = get_or ns c.args.at c.index-nodes-at.result in
+    let n : Node = c.node_at_mut-node.result.now in
     let m : Node = record n { presence = c.clear.new.self; register = c.clear-2.new.self } in
-    room_set ns c.args.at n m (get_at ns c.args.at c.index-nodes-at.result c.requires.inside) c.clear.ensures.room c.clear-2.ensures.room
+    room_set ns c.args.at n m c.node_at_mut-node.ensures.node c.clear.ensures.room c.clear-2.ensures.room
 
 pub returns-clause-beside : goal.returns-clause-beside
 returns-clause-beside c =
     let ns = c.args.nodes.now in
     let table = c.args.stamp.now.table.now in
-    let n : Node = get_or ns c.args.at c.index-nodes-at.result in
+    let n : Node = c.node_at_mut-node.result.now in
     let m : Node = record n { presence = c.clear.new.self; register = c.clear-2.new.self } in
-    let g = get_at ns c.args.at c.index-nodes-at.result c.requires.inside in
+    let g = c.node_at_mut-node.ensures.node in
     let stands = beside_at table ns c.args.at n g c.requires.beside in
     beside_set table ns c.args.at n m g c.requires.beside (c.clear.ensures.beside table stands.0, c.clear-2.ensures.beside table stands.1)
 
@@ -54,9 +53,9 @@ pub returns-clause-cleared : goal.returns-clause-cleared
 returns-clause-cleared c = λ e at.
     let ns = c.args.nodes.now in
     let s = c.args.stamp.now in
-    let n : Node = get_or ns c.args.at c.index-nodes-at.result in
+    let n : Node = c.node_at_mut-node.result.now in
     let m : Node = record n { presence = c.clear.new.self; register = c.clear-2.new.self } in
-    let g = get_at ns c.args.at c.index-nodes-at.result c.requires.inside in
+    let g = c.node_at_mut-node.ensures.node in
     let stands = beside_at s.table.now ns c.args.at n g c.requires.beside in
     let width = sym c.requires.stamp.width in
     context_set ns c.requires.tree e c.args.at n m at g refl refl

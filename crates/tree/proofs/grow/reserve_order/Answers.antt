@@ -1,16 +1,16 @@
 use Rattle.std.proofs.Common.{◌<◌, refl, sym, subst, arith, OnOk}
 use Rattle.tree.specs.declared.node.Node.{Node}
 use Rattle.tree.specs.Nodes.{order_room}
-use Rattle.tree.proofs.ListReads.{get_read, get_same}
+use Rattle.tree.proofs.ListReads.{get_same}
 use Rattle.tree.proofs.Widened.{kept_set}
 use Rattle.tree.proofs.grow.reserve_order.Goals as goal
 
 pub returns-clause-kept : goal.returns-clause-kept
 returns-clause-kept c =
     let ns = c.args.nodes.now.items in
-    let n : Node = c.index_mut-node.result.now in
+    let n : Node = c.node_in_vec-node.result.now in
     let m : Node = record n { order = c.reserve_one.new.self } in
-    kept_set ns c.args.at n m (get_read ns c.args.at n c.requires.inside c.index_mut-node.ensures.value) c.requires.tree (record {
+    kept_set ns c.args.at n m c.node_in_vec-node.ensures.node c.requires.tree (record {
       fields = refl;
       items = refl;
       presence = refl;
@@ -26,6 +26,6 @@ returns-clause-kept c =
 
 pub returns-clause-room : goal.returns-clause-room
 returns-clause-room c =
-    let n : Node = c.index_mut-node.result.now in
+    let n : Node = c.node_in_vec-node.result.now in
     let m : Node = record n { order = c.reserve_one.new.self } in
     subst (λ o. OnOk c.reserve_one.result (0 < order_room o)) (sym (get_same c.args.nodes.now.items c.args.at m c.requires.inside)) c.reserve_one.ensures.room
