@@ -1,5 +1,5 @@
 -- The operations at the places that a log calls missing.
-use Rattle.std.proofs.Common.{◌≡◌, ℕ, List, [], ◌∷◌, map, Some, refl, ap, ◌∙◌}
+use Rattle.std.proofs.Common.{◌≡◌, ℕ, List, [], ◌∷◌, ◌++◌, map, Option, Some, None, refl, ap, ◌∙◌, append_assoc}
 use Rattle.std.specs.Prelude.{option_map}
 use Rattle.std.specs.List.{cons_option, filter_map}
 use Rattle.semantics.specs.Stamped.{Stamped}
@@ -22,3 +22,11 @@ found_all G [] (x ∷ xs) h = cc
 found_all G (n ∷ ns) [] h = cc
 found_all G (n ∷ ns) (x ∷ xs) h =
     ap (λ o. cons_option o (found G ns)) (head_is _ _ _ _ h) ∙ ap (λ ys. x ∷ ys) (found_all G ns xs (tail_is _ _ _ _ h))
+
+-- one more place
+pub found_next : (G : List Entry) (n : ℕ) (places : List ℕ) (xs : List Stamped) → (xs ++ cons_option (option_map stamped_in (entry_at n G)) []) ++ found G places ≡ xs ++ found G (n ∷ places)
+found_next G n places xs = append_assoc xs (cons_option (option_map stamped_in (entry_at n G)) []) (found G places) ∙ ap (λ ys. xs ++ ys) (put (option_map stamped_in (entry_at n G)))
+  where
+    put : (o : Option Stamped) → cons_option o [] ++ found G places ≡ cons_option o (found G places)
+    put None = refl
+    put (Some s) = refl

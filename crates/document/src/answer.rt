@@ -1,11 +1,12 @@
 //! The answers to questions.
 
-ghost use Rattle.std.specs.Prelude.{◌≡◌, ◌⊎◌, Ok, length, map, reverse, IfOk, IfErr};
+ghost use Rattle.std.specs.Prelude.{◌≡◌, ◌⊎◌, ◌++◌, [], Ok, length, map, option_map, reverse, IfOk, IfErr, OnOk};
+ghost use Rattle.std.specs.List.{All, cons_option};
 ghost use Rattle.ids.specs.declared.refusal.Refusal.TheVariants.{NoMemory};
 ghost use Rattle.semantics.specs.Tables.{by_table};
 ghost use Rattle.semantics.specs.Elements.{At, Element};
 ghost use Rattle.semantics.specs.Operations.{element_of};
-ghost use Rattle.semantics.specs.Entries.{missing, stamped_of as stamped_entries};
+ghost use Rattle.semantics.specs.Entries.{entry_at, missing, stamped_in, stamped_of as stamped_entries};
 ghost use Rattle.semantics.specs.DocumentAnswer.{visible_items};
 ghost use Rattle.semantics.specs.Questions.{answer_at, resolve, Answer, Refused};
 ghost use Rattle.semantics.specs.LegalAnswer.{reading_of, Answered};
@@ -70,18 +71,29 @@ fn find(alloc: Global, tree: &Tree, expression: &Expr) -> Result<Place, Refusal>
 }
 
 /// Copies of the operations that the vector doesn't cover, the oldest first.
-fn missing(alloc: Global, log: &Log, vector: &VersionVector) -> Result<Vec<Op>, Refusal>
+pub fn missing(alloc: Global, log: &Log, vector: &VersionVector) -> Result<Vec<Op>, Refusal>
     requires { length vector.now ≡ length log.now.table }
     ensures ok { IfOk result (λ ops. reverse (map (stamped_of log.now.table) ops.items) ≡ missing (by_table log.now.table vector.now) (stamped_entries log.now.entries)) }
+    ensures width { IfOk result (λ ops. All (λ o. length o.deps ≡ length log.now.table) ops.items) }
     ensures err { IfErr result (λ why. why ≡ NoMemory) }
 {
     let places = log.missing(alloc, vector)?;
     let mut ops = Vec::with_capacity(alloc, places.len())?;
     for place in &places {
-        if let Some(entry) = log.get(*place) {
-            let op = entry.op().clone()?;
-            ops.push(op)?;
-        }
+        push_copy(&mut ops, log, *place)?;
     }
     Ok(ops)
+}
+
+/// Copies the operation at a place behind these, where there is one.
+fn push_copy(ops: &mut Vec<Op>, log: &Log, place: usize) -> Result<(), Refusal>
+    ensures op { OnOk result (map (stamped_of log.now.table) ops.new.items ≡ map (stamped_of log.now.table) ops.old.items ++ cons_option (option_map stamped_in (entry_at place log.now.entries)) []) }
+    ensures width { OnOk result (All (λ o. length o.deps ≡ length log.now.table) ops.old.items → All (λ o. length o.deps ≡ length log.now.table) ops.new.items) }
+    ensures err { IfErr result (λ why. why ≡ NoMemory) }
+{
+    if let Some(entry) = log.get(place) {
+        let op = entry.op().clone()?;
+        ops.push(op)?;
+    }
+    Ok(())
 }

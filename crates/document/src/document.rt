@@ -1,6 +1,7 @@
 //! The history of a replica, with the document that it leaves.
 
-ghost use Rattle.std.specs.Prelude.{◌≡◌, ◌≤◌, ◌⊎◌, ◌↔◌, ◌∷◌, [], Ok, None, Some, true, IsTrue, IsFalse, IsOk, MatchResult, length, IfOk, OnOk, IfErr, Err};
+ghost use Rattle.std.specs.Prelude.{◌≡◌, ◌≤◌, ◌⊎◌, ◌↔◌, ◌∷◌, [], Ok, None, Some, true, IsTrue, IsFalse, IsOk, MatchResult, length, map, reverse, option_map, IfOk, IfSome, OnOk, IfErr, Err};
+ghost use Rattle.std.specs.List.{All};
 ghost use Rattle.ids.specs.declared.refusal.Refusal.TheVariants.{NoMemory, BadConfig};
 ghost use Rattle.ids.specs.Members.{in_order, is_member};
 ghost use Rattle.ids.specs.Configurations.{are_members};
@@ -10,7 +11,7 @@ ghost use Rattle.semantics.specs.LegalHistory.{greatest_of, has_id};
 ghost use Rattle.semantics.specs.Stamped.{MayFollow};
 ghost use Rattle.semantics.specs.Faults.{StandsAlone, fault_of, is_ready};
 ghost use Rattle.semantics.specs.Context.{doc};
-ghost use Rattle.semantics.specs.Entries.{applied, stamped_in, stamped_of as stamped_entries};
+ghost use Rattle.semantics.specs.Entries.{applied, entry_at, missing, stamped_in, stamped_of as stamped_entries};
 ghost use Rattle.semantics.specs.DocumentAnswer.{visible_items};
 ghost use Rattle.semantics.specs.Questions.{resolve, Question as TheQuestion, Refused};
 ghost use Rattle.semantics.specs.LegalAnswer.{reading_of, Answered, OfDocument};
@@ -18,7 +19,7 @@ ghost use Rattle.semantics.specs.View.{view};
 ghost use Rattle.operation.specs.Meanings.{entry_of, op_in, stamped_of};
 ghost use Rattle.oplog.specs.Logs.{history};
 
-use crate::answer::answer;
+use crate::answer::{answer, missing};
 use crate::check::check;
 use crate::question::{Question, Reading};
 use cursor::{Expr, Place};
@@ -86,6 +87,14 @@ impl Document {
         ensures { result ≡ length self.now.entries }
     {
         self.log.len()
+    }
+
+    /// The entry at this place, where the oldest is at 0, or nothing past the end.
+    pub fn entry(&self, place: usize) -> Option<&Entry>
+        ensures entry { option_map (λ e. entry_of self.now.table e.now) result ≡ entry_at place self.now.entries }
+        ensures width { IfSome result (λ e. length (op_in e.now).deps ≡ length self.now.table) }
+    {
+        self.log.get(place)
     }
 
     /// The greatest counter of each replica, beside the table.
@@ -182,6 +191,19 @@ impl Document {
         ensures err { IfErr result (λ why. (why ≡ NoMemory) ⊎ (reading_of self.now.entries (asked_of self.now.table question.now) ≡ Answered (Refused why))) }
     {
         answer(alloc, &self.log, &self.applied, &self.tree, question)
+    }
+
+    /// Copies of the operations that the vector doesn't cover, the oldest first.
+    ///
+    /// # Errors
+    /// `NoMemory` where a growth was refused.
+    pub fn missing(&self, alloc: Global, vector: &VersionVector) -> Result<Vec<Op>, Refusal>
+        requires { length vector.now ≡ length self.now.table }
+        ensures ops { IfOk result (λ ops. reverse (map (stamped_of self.now.table) ops.items) ≡ missing (by_table self.now.table vector.now) (stamped_entries self.now.entries)) }
+        ensures width { IfOk result (λ ops. All (λ o. length o.deps ≡ length self.now.table) ops.items) }
+        ensures err { IfErr result (λ why. why ≡ NoMemory) }
+    {
+        missing(alloc, &self.log, vector)
     }
 
     /// The entries, the oldest first. Takes no memory.

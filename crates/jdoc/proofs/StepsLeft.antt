@@ -6,7 +6,7 @@ use Rattle.ids.specs.declared.refusal.Refusal.TheVariants.{BadLine}
 use Rattle.semantics.specs.World.{WorldStep}
 use Rattle.wire.specs.Lines.{Bad, HasNoEnd, IsFirstLine, unless_bad}
 use Rattle.jdoc.specs.Steps.{step_line}
-use Rattle.jdoc.specs.Engines.{engine_line}
+use Rattle.jdoc.specs.Engines.{engines_line}
 use Rattle.jdoc.specs.Scripts.{script_form, steps_left}
 use Rattle.wire.proofs.CutLines.{cut-first_line, cut-no_end}
 
@@ -37,13 +37,13 @@ pub after-cut : (engines : List Configuration) (taken : ℕ) (text : List ℕ) (
 after-cut engines taken [] steps h some = absurd (some refl)
 after-cut engines taken (b ∷ text) steps h some = rw (cut-no_end (b ∷ text) h) refl
 
--- a script whose first line is an engine
-pub script_form-engine : (text line rest : List ℕ) (g : Configuration) → IsFirstLine text line rest → engine_line line ≡ Ok g
-    → script_form text ≡ unless_bad (λ ss. Ok (g, ss)) (steps_left (g ∷ []) 1 rest)
-script_form-engine text line rest g first e = rw (cut-first_line text line rest first, e) refl
+-- a script whose first line is engines
+pub script_form-engines : (text line rest : List ℕ) (gs : List Configuration) → IsFirstLine text line rest → engines_line line ≡ Ok gs
+    → script_form text ≡ unless_bad (λ ss. Ok (gs, ss)) (steps_left gs 1 rest)
+script_form-engines text line rest gs first e = rw (cut-first_line text line rest first, e) refl
 
 -- one whose first line is none
-pub script_form-bad : (text line rest : List ℕ) (why : Refusal) → IsFirstLine text line rest → engine_line line ≡ Err why
+pub script_form-bad : (text line rest : List ℕ) (why : Refusal) → IsFirstLine text line rest → engines_line line ≡ Err why
     → script_form text ≡ Err (1, why)
 script_form-bad text line rest why first e = rw (cut-first_line text line rest first, e) refl
 

@@ -4,12 +4,13 @@ use Rattle.std.proofs.lemmas.Bool.{ltb-true, ltb-false}
 use Rattle.ids.specs.declared.refusal.Refusal.TheVariants.{BadLine}
 use Rattle.serde_json.specs.declared.value.Value.{Value}
 use Rattle.serde_json.specs.View.{items_view}
-use Rattle.jdoc.specs.Engines.{engine_of, engines_of, only_engine}
+use Rattle.jdoc.specs.Engines.{engine_of, only_engines}
 use Rattle.semantics.specs.Elements.{Value as TheValue}
 use Rattle.semantics.specs.Operations.{Mutation}
 use Rattle.semantics.specs.Questions.{Step, Question}
 use Rattle.jdoc.specs.Requests.{applied_of, asking_of, delete_of, missing_of, writing_of}
-use Rattle.jdoc.specs.Steps.{push_of, whole_of, poll_of, ask_of}
+use Rattle.jdoc.specs.Numbers.{one_number, two_numbers, three_numbers, four_numbers}
+use Rattle.jdoc.specs.Steps.{ask_of, line_of, push_of}
 
 pub engine_of-wrong_length : (xs : List Value) → length xs ≢ 7 → engine_of (items_view xs) ≡ Err BadLine
 engine_of-wrong_length [] h = refl
@@ -22,15 +23,10 @@ engine_of-wrong_length (a ∷ b ∷ d ∷ e ∷ f ∷ g ∷ []) h = refl
 engine_of-wrong_length (a ∷ b ∷ d ∷ e ∷ f ∷ g ∷ i ∷ []) h = absurd (h refl)
 engine_of-wrong_length (a ∷ b ∷ d ∷ e ∷ f ∷ g ∷ i ∷ j ∷ xs) h = refl
 
-pub only_engine-wrong_length : (xs : List Value) → length xs ≢ 1 → only_engine (items_view xs) ≡ Err BadLine
-only_engine-wrong_length [] h = refl
-only_engine-wrong_length (a ∷ []) h = absurd (h refl)
-only_engine-wrong_length (a ∷ b ∷ xs) h = refl
-
-pub engines_of-wrong_length : (xs : List Value) → length xs ≢ 1 → engines_of (items_view xs) ≡ Err BadLine
-engines_of-wrong_length [] h = refl
-engines_of-wrong_length (a ∷ []) h = absurd (h refl)
-engines_of-wrong_length (a ∷ b ∷ xs) h = refl
+pub only_engines-wrong_length : (xs : List Value) → length xs ≢ 1 → only_engines (items_view xs) ≡ Err BadLine
+only_engines-wrong_length [] h = refl
+only_engines-wrong_length (a ∷ []) h = absurd (h refl)
+only_engines-wrong_length (a ∷ b ∷ xs) h = refl
 
 pub writing_of-wrong_length : (how : TheValue → Mutation) → (xs : List Value) → length xs ≢ 2 → writing_of how (items_view xs) ≡ Err BadLine
 writing_of-wrong_length how [] h = refl
@@ -64,18 +60,6 @@ push_of-wrong_length (a ∷ b ∷ []) h = refl
 push_of-wrong_length (a ∷ b ∷ d ∷ []) h = absurd (h refl)
 push_of-wrong_length (a ∷ b ∷ d ∷ e ∷ xs) h = refl
 
-pub whole_of-wrong_length : (xs : List Value) → length xs ≢ 1 → whole_of (items_view xs) ≡ Err BadLine
-whole_of-wrong_length [] h = refl
-whole_of-wrong_length (a ∷ []) h = absurd (h refl)
-whole_of-wrong_length (a ∷ b ∷ xs) h = refl
-
-pub poll_of-wrong_length : (xs : List Value) → length xs ≢ 3 → poll_of (items_view xs) ≡ Err BadLine
-poll_of-wrong_length [] h = refl
-poll_of-wrong_length (a ∷ []) h = refl
-poll_of-wrong_length (a ∷ b ∷ []) h = refl
-poll_of-wrong_length (a ∷ b ∷ d ∷ []) h = absurd (h refl)
-poll_of-wrong_length (a ∷ b ∷ d ∷ e ∷ xs) h = refl
-
 pub ask_of-wrong_length : (tables : List (List ℕ)) → (xs : List Value) → length xs ≢ 3 → ask_of tables (items_view xs) ≡ Err BadLine
 ask_of-wrong_length tables [] h = refl
 ask_of-wrong_length tables (a ∷ []) h = refl
@@ -83,20 +67,55 @@ ask_of-wrong_length tables (a ∷ b ∷ []) h = refl
 ask_of-wrong_length tables (a ∷ b ∷ d ∷ []) h = absurd (h refl)
 ask_of-wrong_length tables (a ∷ b ∷ d ∷ e ∷ xs) h = refl
 
+pub line_of-wrong_length : (tables : List (List ℕ)) → (xs : List Value) → length xs ≢ 3 → line_of tables (items_view xs) ≡ Err BadLine
+line_of-wrong_length tables [] h = refl
+line_of-wrong_length tables (a ∷ []) h = refl
+line_of-wrong_length tables (a ∷ b ∷ []) h = refl
+line_of-wrong_length tables (a ∷ b ∷ d ∷ []) h = absurd (h refl)
+line_of-wrong_length tables (a ∷ b ∷ d ∷ e ∷ xs) h = refl
+
+pub one_number-wrong_length : (xs : List Value) → length xs ≢ 1 → one_number (items_view xs) ≡ Err BadLine
+one_number-wrong_length [] h = refl
+one_number-wrong_length (a ∷ []) h = absurd (h refl)
+one_number-wrong_length (a ∷ b ∷ xs) h = refl
+
+pub two_numbers-wrong_length : (xs : List Value) → length xs ≢ 2 → two_numbers (items_view xs) ≡ Err BadLine
+two_numbers-wrong_length [] h = refl
+two_numbers-wrong_length (a ∷ []) h = refl
+two_numbers-wrong_length (a ∷ b ∷ []) h = absurd (h refl)
+two_numbers-wrong_length (a ∷ b ∷ d ∷ xs) h = refl
+
+pub three_numbers-wrong_length : (xs : List Value) → length xs ≢ 3 → three_numbers (items_view xs) ≡ Err BadLine
+three_numbers-wrong_length [] h = refl
+three_numbers-wrong_length (a ∷ []) h = refl
+three_numbers-wrong_length (a ∷ b ∷ []) h = refl
+three_numbers-wrong_length (a ∷ b ∷ d ∷ []) h = absurd (h refl)
+three_numbers-wrong_length (a ∷ b ∷ d ∷ e ∷ xs) h = refl
+
+pub four_numbers-wrong_length : (xs : List Value) → length xs ≢ 4 → four_numbers (items_view xs) ≡ Err BadLine
+four_numbers-wrong_length [] h = refl
+four_numbers-wrong_length (a ∷ []) h = refl
+four_numbers-wrong_length (a ∷ b ∷ []) h = refl
+four_numbers-wrong_length (a ∷ b ∷ d ∷ []) h = refl
+four_numbers-wrong_length (a ∷ b ∷ d ∷ e ∷ []) h = absurd (h refl)
+four_numbers-wrong_length (a ∷ b ∷ d ∷ e ∷ f ∷ xs) h = refl
+
 -- with what a pattern of a slice tests of its length
 pub ruleset wrong_lengths = (
   ltb-true,
   ltb-false,
   engine_of-wrong_length,
-  only_engine-wrong_length,
-  engines_of-wrong_length,
+  only_engines-wrong_length,
   writing_of-wrong_length,
   delete_of-wrong_length,
   asking_of-wrong_length,
   missing_of-wrong_length,
   applied_of-wrong_length,
   push_of-wrong_length,
-  whole_of-wrong_length,
-  poll_of-wrong_length,
   ask_of-wrong_length,
+  line_of-wrong_length,
+  one_number-wrong_length,
+  two_numbers-wrong_length,
+  three_numbers-wrong_length,
+  four_numbers-wrong_length,
 )

@@ -1,8 +1,8 @@
--- What the first line of a script is, as the engine of a world.
-use Rattle.std.specs.Prelude.{ℕ, ◌^◌, ◌&&◌, List, [], ◌∷◌, Bool, codes, Result, Ok, Err, if◌then◌else◌, nat_lt}
+-- What the first line of a script is, as the engines of a world.
+use Rattle.std.specs.Prelude.{ℕ, ◌^◌, ◌&&◌, List, [], ◌∷◌, length, Bool, codes, Result, Ok, Err, if◌then◌else◌, nat_lt}
 use Rattle.std.specs.List.{list_all}
 use Rattle.std.specs.Str.{bytes_eq}
-use Rattle.ids.specs.Configurations.{Configuration, is_within_limits}
+use Rattle.ids.specs.Configurations.{Configuration, is_from_one_to, is_within_limits}
 use Rattle.ids.specs.declared.refusal.Refusal.{Refusal}
 use Rattle.ids.specs.declared.refusal.Refusal.TheVariants.{BadLine, BadConfig}
 use Rattle.serde_json.specs.Data.{Data, Items, no_items, item}
@@ -28,19 +28,25 @@ engine_of _ = Err BadLine
 abbrev pub engine_form : Data → Result Configuration Refusal
 engine_form d = and_then engine_of (list_form d)
 
-abbrev pub only_engine : Items → Result Configuration Refusal
-only_engine (item engine no_items) = engine_form engine
-only_engine _ = Err BadLine
+-- each engine in its turn
+abbrev pub engines_of : Items → Result (List Configuration) Refusal
+engines_of no_items = Ok []
+engines_of (item engine engines) = and_then (λ g. and_then (λ gs. Ok (g ∷ gs)) (engines_of engines)) (engine_form engine)
 
-abbrev pub engines_of : Items → Result Configuration Refusal
-engines_of (item engines no_items) = and_then only_engine (list_form engines)
-engines_of _ = Err BadLine
+-- a world has from 1 to 16 engines
+abbrev pub if_so_many : List Configuration → Result (List Configuration) Refusal
+if_so_many gs = if is_from_one_to 16 (length gs) then Ok gs else Err BadLine
 
-abbrev pub world_of : List ℕ × Items → Result Configuration Refusal
-world_of p = if bytes_eq p.0 (codes "world") then engines_of p.1 else Err BadLine
+-- a list of engines
+abbrev pub only_engines : Items → Result (List Configuration) Refusal
+only_engines (item engines no_items) = and_then if_so_many (and_then engines_of (list_form engines))
+only_engines _ = Err BadLine
 
--- a world with exactly one engine
-abbrev pub world_form : Data → Result Configuration Refusal
+abbrev pub world_of : List ℕ × Items → Result (List Configuration) Refusal
+world_of p = if bytes_eq p.0 (codes "world") then only_engines p.1 else Err BadLine
+
+-- a word and the engines
+abbrev pub world_form : Data → Result (List Configuration) Refusal
 world_form d = and_then world_of (phrase_form d)
 
 -- a configuration has room for the number
@@ -51,16 +57,17 @@ abbrev pub all_fit : Configuration → Bool
 all_fit g = fits g.own && (list_all fits g.members && (fits g.clients && (fits g.readers
     && (fits g.queue && (fits g.batch && fits g.serials)))))
 
-abbrev pub if_fit : Configuration → Result Configuration Refusal
-if_fit g = if all_fit g then Ok g else Err BadConfig
+-- each number of each engine fits
+abbrev pub if_fit : List Configuration → Result (List Configuration) Refusal
+if_fit gs = if list_all all_fit gs then Ok gs else Err BadConfig
 
--- the engine that a line says
-abbrev pub said_engine : List ℕ → Result Configuration Refusal
-said_engine text = and_then if_fit (and_then world_form (json_form text))
+-- the engines that a line says
+abbrev pub said_engines : List ℕ → Result (List Configuration) Refusal
+said_engines text = and_then if_fit (and_then world_form (json_form text))
 
-abbrev pub if_within_limits : Configuration → Result Configuration Refusal
-if_within_limits g = if is_within_limits g then Ok g else Err BadConfig
+abbrev pub if_within_limits : List Configuration → Result (List Configuration) Refusal
+if_within_limits gs = if list_all is_within_limits gs then Ok gs else Err BadConfig
 
--- the engine on the first line of a script
-abbrev pub engine_line : List ℕ → Result Configuration Refusal
-engine_line text = and_then if_within_limits (said_engine text)
+-- the engines on the first line of a script
+abbrev pub engines_line : List ℕ → Result (List Configuration) Refusal
+engines_line text = and_then if_within_limits (said_engines text)

@@ -1,6 +1,9 @@
 pub mod Engines
 pub mod Expressions
 pub mod Faults
+pub mod NumberedSteps
+pub mod Numbers
+pub mod Presence
 pub mod Replies
 pub mod Requests
 pub mod Runs

@@ -1,12 +1,12 @@
 -- What a step replies, as JSON and as a printed line.
-use Rattle.std.specs.Prelude.{ℕ, List, [], ◌∷◌, ◌++◌, codes, decimal, map, reverse}
+use Rattle.std.specs.Prelude.{ℕ, List, [], ◌∷◌, ◌++◌, Option, Some, None, codes, decimal, map, reverse}
 use Rattle.ids.specs.Refusals.{number_of}
 use Rattle.ids.specs.declared.id.OpId.{OpId}
 use Rattle.ids.specs.declared.refusal.Refusal.{Refusal}
 use Rattle.semantics.specs.Elements.{Scalar, Tag, AsRegister, AsMap, AsList}
 use Rattle.semantics.specs.Questions.{Answer, ValuesAre, KeysAre, ItemsAre, ConflictsAre, VectorIs, Refused}
-use Rattle.semantics.specs.LegalAnswer.{Reply, Made, NotMade, Reading, Answered, MissingAre}
-use Rattle.semantics.specs.Engine.{StepReply, Ticket, Denied, Took, Published, Gave, Idle, Unanswered, Replied, Read}
+use Rattle.semantics.specs.LegalAnswer.{Reply, Made, NotMade, KeptAt, KnownAt, Reading, Answered, MissingAre}
+use Rattle.semantics.specs.Engine.{StepReply, Ticket, Denied, Took, Published, Gave, Idle, Unanswered, Replied, Read, Seen, SentHello, SentBundle, NoMessage, Received, Dropped}
 use Rattle.serde_json.specs.Data.{Data, string, array}
 use Rattle.serde_json.specs.View.{items_of}
 use Rattle.serde_json.specs.Written.{compact_text}
@@ -50,10 +50,17 @@ reading_json seen (MissingAre ss) = phrase (codes "reading") (count seen ∷ arr
 
 -- ---- replies
 
--- the answer to a command
+-- the answer to what was submitted
 abbrev pub reply_json : Reply → Data
 reply_json (Made id place) = phrase (codes "made") (id_json id ∷ count place ∷ [])
 reply_json (NotMade why length) = phrase (codes "refused") (string (refusal_name why) ∷ count length ∷ [])
+reply_json (KeptAt length) = phrase (codes "kept") (count length ∷ [])
+reply_json (KnownAt length) = phrase (codes "known") (count length ∷ [])
+
+-- the first serial and how many operations were submitted, and the line where that stopped
+abbrev pub received_json : ℕ → ℕ → Option (ℕ × Refusal) → Data
+received_json first operations None = phrase (codes "received") (count first ∷ count operations ∷ [])
+received_json first operations (Some bad) = phrase (codes "received") (count first ∷ count operations ∷ count bad.0 ∷ string (refusal_name bad.1) ∷ [])
 
 -- what a step replies
 abbrev pub step_reply_json : StepReply → Data
@@ -66,6 +73,12 @@ step_reply_json Idle = phrase (codes "idle") []
 step_reply_json Unanswered = phrase (codes "none") []
 step_reply_json (Replied reply) = reply_json reply
 step_reply_json (Read seen reading) = reading_json seen reading
+step_reply_json (Seen entries) = phrase (codes "seen") (count entries ∷ [])
+step_reply_json (SentHello message v) = phrase (codes "message") (count message ∷ vector_json v ∷ [])
+step_reply_json (SentBundle message operations) = phrase (codes "message") (count message ∷ count operations ∷ [])
+step_reply_json NoMessage = phrase (codes "none") []
+step_reply_json (Received first operations stopped) = received_json first operations stopped
+step_reply_json (Dropped operations) = phrase (codes "dropped") (count operations ∷ [])
 
 -- one line of JSON without spaces for each reply, each ended by a line feed
 abbrev pub reply_text : List StepReply → List ℕ

@@ -1,11 +1,10 @@
--- What a whole script is: an engine and steps. The first bad line, by its number, decides.
+-- What a whole script is: engines and steps. The first bad line, by its number, decides.
 use Rattle.std.specs.Prelude.{ℕ, ◌+◌, List, [], ◌∷◌, Result, Ok, Err}
 use Rattle.ids.specs.Configurations.{Configuration}
-use Rattle.ids.specs.declared.refusal.Refusal.{Refusal}
 use Rattle.ids.specs.declared.refusal.Refusal.TheVariants.{BadLine}
 use Rattle.semantics.specs.World.{WorldStep}
 use Rattle.wire.specs.Lines.{Bad, cut, on_line, unless_bad}
-use Rattle.jdoc.specs.Engines.{engine_line}
+use Rattle.jdoc.specs.Engines.{engines_line}
 use Rattle.jdoc.specs.Steps.{step_line}
 
 -- the steps on lines from this number on; bytes after the last line are a bad line
@@ -19,11 +18,11 @@ steps_from engines number (l ∷ ls) tail =
 abbrev pub steps_left : List Configuration → ℕ → List ℕ → Result (List WorldStep) Bad
 steps_left engines taken rest = steps_from engines (taken + 1) (cut rest).lines (cut rest).tail
 
-abbrev pub script_of : List (List ℕ) → List ℕ → Result (Configuration × List WorldStep) Bad
+abbrev pub script_of : List (List ℕ) → List ℕ → Result (List Configuration × List WorldStep) Bad
 script_of [] tail = Err (1, BadLine)
 script_of (l ∷ ls) tail =
-    unless_bad (λ g. unless_bad (λ ss. Ok (g, ss)) (steps_from (g ∷ []) 2 ls tail)) (on_line 1 (engine_line l))
+    unless_bad (λ gs. unless_bad (λ ss. Ok (gs, ss)) (steps_from gs 2 ls tail)) (on_line 1 (engines_line l))
 
--- the engine and the steps of a script
-abbrev pub script_form : List ℕ → Result (Configuration × List WorldStep) Bad
+-- the engines and the steps of a script
+abbrev pub script_form : List ℕ → Result (List Configuration × List WorldStep) Bad
 script_form bytes = script_of (cut bytes).lines (cut bytes).tail

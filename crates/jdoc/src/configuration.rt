@@ -1,12 +1,12 @@
-//! The first line of a script: the world's engine.
+//! The first line of a script: the world's engines.
 #![tactic(auto, using(crate::proofs::WrongLengths::wrong_lengths))]
 
 ghost use Rattle.std.specs.Prelude.{◌≡◌, ◌⊎◌, Ok, Err, IfOk, IfErr, MatchResult, true, false};
 ghost use Rattle.std.specs.List.{list_all};
 ghost use Rattle.ids.specs.declared.refusal.Refusal.TheVariants.{NoMemory, BadConfig};
 ghost use Rattle.serde_json.specs.View.{view, items_view};
-ghost use Rattle.wire.specs.Forms.{IsUnlessMemory};
-ghost use Rattle.jdoc.specs.Engines.{engine_form, said_engine, engines_of, fits, if_fit, numbers_of, only_engine, world_form};
+ghost use Rattle.wire.specs.Forms.{IsRead, IsUnlessMemory};
+ghost use Rattle.jdoc.specs.Engines.{all_fit, engine_form, engines_of, fits, numbers_of, only_engines, said_engines, world_form};
 
 use ids::{Config, Refusal};
 use serde_json::Value;
@@ -34,45 +34,52 @@ impl Model for Engine {
     ghost view = { λ e. record { own = e.own; members = e.members.items; clients = e.clients; readers = e.readers; queue = e.queue; batch = e.batch; serials = e.serials } };
 }
 
-/// The engine that a script's first line says; for now there is exactly one.
-/// Whether it is within the limits is the world's to say.
-pub fn read_engine(alloc: Global, text: &[u8]) -> Result<Config, Refusal>
-    ensures { IsUnlessMemory result (said_engine text.now) }
+/// The engines that a script's first line says, from 1 to 16 of them.
+/// Whether they are within the limits is the world's to say.
+pub fn read_engines(alloc: Global, text: &[u8]) -> Result<Vec<Config>, Refusal>
+    ensures { IsRead (λ v. v.items) result (said_engines text.now) }
 {
     let value = json_of(alloc, text)?;
-    world_in(alloc, &value)?.fitted(alloc)
+    let engines = world_in(alloc, &value)?;
+    configurations_of(alloc, engines.as_slice())
 }
 
-fn world_in(alloc: Global, value: &Value) -> Result<Engine, Refusal>
-    ensures { IsUnlessMemory result (world_form (view value.now)) }
+fn world_in(alloc: Global, value: &Value) -> Result<Vec<Engine>, Refusal>
+    ensures { IsRead (λ v. v.items) result (world_form (view value.now)) }
 {
     let (word, parts) = phrase_in(value)?;
     match word {
-        "world" => engines_in(alloc, parts),
+        "world" => only_engines_in(alloc, parts),
         _ => Err(Refusal::BadLine),
     }
 }
 
-fn engines_in(alloc: Global, parts: &[Value]) -> Result<Engine, Refusal>
-    ensures { IsUnlessMemory result (engines_of (items_view parts.now)) }
+fn only_engines_in(alloc: Global, parts: &[Value]) -> Result<Vec<Engine>, Refusal>
+    ensures { IsRead (λ v. v.items) result (only_engines (items_view parts.now)) }
 {
     let [engines] = parts else {
         return Err(Refusal::BadLine);
     };
-    only_engine_in(alloc, list_in(engines)?)
+    let engines = engines_in(alloc, list_in(engines)?)?;
+    if engines.len() < 1 || engines.len() > 16 {
+        return Err(Refusal::BadLine);
+    }
+    Ok(engines)
 }
 
-fn only_engine_in(alloc: Global, engines: &[Value]) -> Result<Engine, Refusal>
-    ensures { IsUnlessMemory result (only_engine (items_view engines.now)) }
+/// Each engine in its turn.
+fn engines_in(alloc: Global, parts: &[Value]) -> Result<Vec<Engine>, Refusal>
+    ensures { IsRead (λ v. v.items) result (engines_of (items_view parts.now)) }
 {
-    let [engine] = engines else {
-        return Err(Refusal::BadLine);
-    };
-    engine_in(alloc, engine)
+    let mut engines = Vec::new(alloc);
+    for part in parts {
+        engines.push(engine_in(alloc, part)?)?;
+    }
+    Ok(engines)
 }
 
 fn engine_in(alloc: Global, value: &Value) -> Result<Engine, Refusal>
-    ensures { IsUnlessMemory result (engine_form (view value.now)) }
+    ensures { IsRead (λ g. g) result (engine_form (view value.now)) }
 {
     let [own, members, clients, readers, queue, batch, serials] = list_in(value)? else {
         return Err(Refusal::BadLine);
@@ -98,10 +105,23 @@ fn numbers_in(alloc: Global, parts: &[Value]) -> Result<Vec<u64>, Refusal>
     Ok(numbers)
 }
 
+/// The configurations of the engines, unless a number is too large for one.
+fn configurations_of(alloc: Global, engines: &[Engine]) -> Result<Vec<Config>, Refusal>
+    ensures ok { IfOk result (λ v. (v.items ≡ engines.now) × (list_all all_fit engines.now ≡ true)) }
+    ensures err { IfErr result (λ why. (why ≡ NoMemory) ⊎ ((why ≡ BadConfig) × (list_all all_fit engines.now ≡ false))) }
+{
+    let mut all = Vec::new(alloc);
+    for engine in engines {
+        all.push(engine.fitted(alloc)?)?;
+    }
+    Ok(all)
+}
+
 impl Engine {
     /// The configuration of this engine, unless a number is too large for one.
-    fn fitted(self, alloc: Global) -> Result<Config, Refusal>
-        ensures { IsUnlessMemory result (if_fit self) }
+    fn fitted(&self, alloc: Global) -> Result<Config, Refusal>
+        ensures ok { IfOk result (λ g. (g ≡ self.now) × (all_fit self.now ≡ true)) }
+        ensures err { IfErr result (λ why. (why ≡ NoMemory) ⊎ ((why ≡ BadConfig) × (all_fit self.now ≡ false))) }
     {
         Ok(Config {
             own: fitted(self.own)?,

@@ -4,6 +4,9 @@
 mod configuration;
 mod expressions;
 mod fault;
+mod numbered_steps;
+mod numbers;
+mod presence;
 mod readings;
 mod replies;
 mod requests;

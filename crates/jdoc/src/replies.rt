@@ -4,13 +4,13 @@ ghost use Rattle.std.specs.Prelude.{◌≡◌, ◌++◌, ◌∷◌, [], map, IfO
 ghost use Rattle.serde_json.specs.Written.{compact_text};
 ghost use Rattle.serde_json.specs.View.{view};
 ghost use Rattle.world.specs.Meanings.{answer_to, reply_of};
-ghost use Rattle.jdoc.specs.Replies.{refusal_name, reply_json, reply_text, step_reply_json};
+ghost use Rattle.jdoc.specs.Replies.{received_json, refusal_name, reply_json, reply_text, step_reply_json};
 
 use crate::readings::reading_value;
 use ids::Refusal;
 use serde_json::{Value, json};
 use std::alloc::{AllocError, Global};
-use wire::id_value;
+use wire::{id_value, vector_value};
 use world::{Reply, WorldReply};
 
 /// The replies, one a line.
@@ -38,10 +38,12 @@ fn world_reply(alloc: Global, reply: &WorldReply) -> Result<Value, AllocError>
     match reply {
         WorldReply::Ticket(serial) => json!(in alloc; ["ticket", *serial]),
         WorldReply::Denied(why) => json!(in alloc; ["refused", refusal(alloc, *why)?]),
+        WorldReply::Took => json!(in alloc; ["took"]),
         WorldReply::Published(count) => json!(in alloc; ["published", *count]),
+        WorldReply::Gave { client, serial } => json!(in alloc; ["gave", *client, *serial]),
         WorldReply::Idle => json!(in alloc; ["idle"]),
         WorldReply::Unanswered => json!(in alloc; ["none"]),
-        WorldReply::Replied(reply) => command_reply(alloc, *reply),
+        WorldReply::Replied(reply) => request_reply(alloc, *reply),
         WorldReply::Read {
             seen,
             table,
@@ -50,17 +52,54 @@ fn world_reply(alloc: Global, reply: &WorldReply) -> Result<Value, AllocError>
         WorldReply::NotRead { seen, why } => {
             json!(in alloc; ["refused", refusal(alloc, *why)?, *seen])
         }
+        WorldReply::Seen(entries) => json!(in alloc; ["seen", *entries]),
+        WorldReply::Hello {
+            message,
+            table,
+            vector,
+        } => json!(in alloc; ["message", *message, vector_value(alloc, table, vector)?]),
+        WorldReply::Bundle {
+            message,
+            operations,
+        } => json!(in alloc; ["message", *message, *operations]),
+        WorldReply::NoMessage => json!(in alloc; ["none"]),
+        WorldReply::Received {
+            first,
+            submitted,
+            stopped,
+        } => received(alloc, *first, *submitted, *stopped),
+        WorldReply::Dropped(operations) => json!(in alloc; ["dropped", *operations]),
     }
 }
 
-fn command_reply(alloc: Global, reply: Reply) -> Result<Value, AllocError>
+/// The answer to what was submitted.
+fn request_reply(alloc: Global, reply: Reply) -> Result<Value, AllocError>
     ensures { IfOk result (λ v. view v ≡ reply_json (answer_to reply)) }
 {
     match reply {
         Reply::Made(id, place) => json!(in alloc; ["made", id_value(alloc, id)?, place]),
+        Reply::Kept(length) => json!(in alloc; ["kept", length]),
+        Reply::Known(length) => json!(in alloc; ["known", length]),
         Reply::Refused(why, length) => {
             json!(in alloc; ["refused", refusal(alloc, why)?, length])
         }
+    }
+}
+
+/// The first serial and how many operations were submitted, and the line where that stopped.
+fn received(
+    alloc: Global,
+    first: u64,
+    submitted: u64,
+    stopped: Option<(u64, Refusal)>,
+) -> Result<Value, AllocError>
+    ensures { IfOk result (λ v. view v ≡ received_json first submitted stopped) }
+{
+    match stopped {
+        Some((line, why)) => {
+            json!(in alloc; ["received", first, submitted, line, refusal(alloc, why)?])
+        }
+        None => json!(in alloc; ["received", first, submitted]),
     }
 }
 

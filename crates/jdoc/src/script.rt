@@ -1,7 +1,7 @@
 //! A whole script: a world and the steps to run in it.
 
-ghost use Rattle.std.specs.Prelude.{◌≡◌, [], ◌∷◌, map, Ok, IfErr, IfOk, MatchResult, true};
-ghost use Rattle.std.specs.List.{All};
+ghost use Rattle.std.specs.Prelude.{◌≡◌, List, map, Ok, IfErr, IfOk, MatchResult, true};
+ghost use Rattle.std.specs.List.{All, list_all};
 ghost use Rattle.ids.specs.Configurations.{Configuration, is_within_limits};
 ghost use Rattle.semantics.specs.World.{opened};
 ghost use Rattle.world.specs.Worlds.{IsAskedBeside, step_in, tables_of, world_of};
@@ -11,7 +11,7 @@ ghost use Rattle.jdoc.specs.Steps.{tables_for};
 ghost use Rattle.wire.specs.Lines.{on_line, unless_bad};
 ghost use Rattle.jdoc.specs.Scripts.{script_form, steps_left};
 
-use crate::configuration::read_engine;
+use crate::configuration::read_engines;
 use crate::fault::Fault;
 use crate::steps::read_step;
 use ids::{Config, Refusal};
@@ -30,7 +30,7 @@ pub struct Script {
 
 /// Reads a script and checks each line. The first bad line decides.
 pub fn read_script<'a>(alloc: Global, bytes: &[u8]) -> Result<Script, Fault<'a>>
-    ensures ok { IfOk result (λ s. (g : Configuration) × (script_form bytes.now ≡ Ok (g, map (step_in (tables_of s.world.engines)) s.steps.items)) × (world_of s.world ≡ opened (g ∷ []))) }
+    ensures ok { IfOk result (λ s. (gs : List Configuration) × (script_form bytes.now ≡ Ok (gs, map (step_in (tables_of s.world.engines)) s.steps.items)) × (world_of s.world ≡ opened gs)) }
     ensures beside { IfOk result (λ s. All (IsAskedBeside (tables_of s.world.engines)) s.steps.items) }
     ensures err { IfErr result (IsFaultOf (script_form bytes.now)) }
 {
@@ -38,23 +38,22 @@ pub fn read_script<'a>(alloc: Global, bytes: &[u8]) -> Result<Script, Fault<'a>>
     let Some(first) = lines.take_line() else {
         return Err(Fault::of_line(1, Refusal::BadLine));
     };
-    match read_engine(alloc, first.text) {
-        Ok(engine) => open(alloc, engine, &mut lines),
+    match read_engines(alloc, first.text) {
+        Ok(engines) => open(alloc, engines.as_slice(), &mut lines),
         Err(why) => Err(Fault::of_line(1, why)),
     }
 }
 
-/// The world of this engine, with the steps on the lines that are left.
-fn open<'a>(alloc: Global, engine: Config, lines: &mut Lines<'_>) -> Result<Script, Fault<'a>>
-    ensures allowed { IfOk result (λ s. is_within_limits engine ≡ true) }
-    ensures world { IfOk result (λ s. world_of s.world ≡ opened (engine ∷ [])) }
-    ensures steps { IfOk result (λ s. steps_left (engine ∷ []) lines.old.taken lines.old.rest.now ≡ Ok (map (step_in (tables_of s.world.engines)) s.steps.items)) }
+/// The world of these engines, with the steps on the lines that are left.
+fn open<'a>(alloc: Global, engines: &[Config], lines: &mut Lines<'_>) -> Result<Script, Fault<'a>>
+    ensures allowed { IfOk result (λ s. list_all is_within_limits engines.now ≡ true) }
+    ensures world { IfOk result (λ s. world_of s.world ≡ opened engines.now) }
+    ensures steps { IfOk result (λ s. steps_left engines.now lines.old.taken lines.old.rest.now ≡ Ok (map (step_in (tables_of s.world.engines)) s.steps.items)) }
     ensures beside { IfOk result (λ s. All (IsAskedBeside (tables_of s.world.engines)) s.steps.items) }
-    ensures err { IfErr result (IsFaultOf (unless_bad (λ g. steps_left (g ∷ []) lines.old.taken lines.old.rest.now) (on_line 1 (if_within_limits engine)))) }
+    ensures err { IfErr result (IsFaultOf (unless_bad (λ gs. steps_left gs lines.old.taken lines.old.rest.now) (on_line 1 (if_within_limits engines.now)))) }
 {
-    let engines = [engine];
-    match World::new(alloc, &engines) {
-        Ok(world) => with_steps(alloc, world, &engines, lines),
+    match World::new(alloc, engines) {
+        Ok(world) => with_steps(alloc, world, engines, lines),
         Err(why) => Err(Fault::of_line(1, why)),
     }
 }

@@ -3,19 +3,18 @@
 
 ghost use Rattle.std.specs.Prelude.{◌≡◌, ℕ, List, IfOk};
 ghost use Rattle.serde_json.specs.View.{view, items_view};
-ghost use Rattle.semantics.specs.World.{Push, Whole, Poll};
-ghost use Rattle.operation.specs.Meanings.{command_of};
-ghost use Rattle.world.specs.Meanings.{step_of};
 ghost use Rattle.world.specs.Worlds.{IsAskedBeside, step_in as step_meant, tables_of};
-ghost use Rattle.wire.specs.Forms.{IsRead, number_form};
-ghost use Rattle.jdoc.specs.Steps.{any_step_of, ask_of, has_client as client_there, has_token as token_there, is_there as step_there, poll_of, push_of, step_form, step_line, tables_for, whole_of};
+ghost use Rattle.wire.specs.Forms.{IsRead};
+ghost use Rattle.jdoc.specs.Steps.{ask_of, line_of, push_of, step_form, step_line, tables_for};
 
+use crate::numbered_steps::numbered_step_in;
+use crate::numbers::place_in;
+use crate::presence::is_there;
 use crate::requests::{command_in, question_in};
 use ids::{Config, Refusal};
-use operation::Command;
 use serde_json::Value;
 use std::alloc::Global;
-use wire::{json_of, number_in, phrase_in};
+use wire::{json_of, phrase_in, text_in};
 use world::{World, WorldStep};
 
 /// The step on a line, of an engine, client and token that are there. The world is that of the engines.
@@ -43,62 +42,29 @@ fn step_in(alloc: Global, value: &Value, world: &World) -> Result<WorldStep, Ref
 {
     let (word, parts) = phrase_in(value)?;
     match word {
-        "push" => {
-            let (engine, client, command) = push_in(alloc, parts)?;
-            Ok(WorldStep::Push {
-                engine,
-                client,
-                command,
-            })
-        }
-        "step" => Ok(WorldStep::Step {
-            engine: writer_in(parts)?,
-        }),
-        "poll" => {
-            let (engine, client, serial) = poll_in(parts)?;
-            Ok(WorldStep::Poll {
-                engine,
-                client,
-                serial,
-            })
-        }
+        "push" => push_in(alloc, parts),
         "ask" => ask_in(alloc, parts, world),
-        _ => Err(Refusal::BadLine),
+        "line" => line_in(alloc, parts),
+        _ => numbered_step_in(word, parts),
     }
 }
 
 /// An engine, a client of it, and a command.
-fn push_in(alloc: Global, parts: &[Value]) -> Result<(usize, usize, Command), Refusal>
-    ensures { IsRead (λ p. Push p.0 p.1 (command_of p.2)) result (push_of (items_view parts.now)) }
+fn push_in(alloc: Global, parts: &[Value]) -> Result<WorldStep, Refusal>
+    ensures read { (tables : List (List ℕ)) → IsRead (step_meant tables) result (push_of (items_view parts.now)) }
+    ensures beside { (tables : List (List ℕ)) → IfOk result (IsAskedBeside tables) }
 {
     let [engine, client, command] = parts else {
         return Err(Refusal::BadLine);
     };
     let engine = place_in(engine)?;
     let client = place_in(client)?;
-    Ok((engine, client, command_in(alloc, command)?))
-}
-
-/// The engine whose writer does a whole step.
-fn writer_in(parts: &[Value]) -> Result<usize, Refusal>
-    ensures { IsRead (λ e. Whole e) result (whole_of (items_view parts.now)) }
-{
-    let [engine] = parts else {
-        return Err(Refusal::BadLine);
-    };
-    place_in(engine)
-}
-
-/// An engine, a client of it, and a serial.
-fn poll_in(parts: &[Value]) -> Result<(usize, usize, u64), Refusal>
-    ensures { IsRead (λ p. Poll p.0 p.1 p.2) result (poll_of (items_view parts.now)) }
-{
-    let [engine, client, serial] = parts else {
-        return Err(Refusal::BadLine);
-    };
-    let engine = place_in(engine)?;
-    let client = place_in(client)?;
-    Ok((engine, client, number_in(serial)?))
+    let command = command_in(alloc, command)?;
+    Ok(WorldStep::Push {
+        engine,
+        client,
+        command,
+    })
 }
 
 /// The token of an engine asks.
@@ -119,41 +85,20 @@ fn ask_in(alloc: Global, parts: &[Value], world: &World) -> Result<WorldStep, Re
     })
 }
 
-/// Whether a step's engine is one of these, and its client or token one of that engine's.
-fn is_there(step: &WorldStep, engines: &[Config]) -> bool
-    ensures { (table : List ℕ) → result ≡ step_there engines.now (step_of table step.now) }
+/// An engine, a client of it, and a text of any lines.
+fn line_in(alloc: Global, parts: &[Value]) -> Result<WorldStep, Refusal>
+    ensures read { (tables : List (List ℕ)) → IsRead (step_meant tables) result (line_of tables (items_view parts.now)) }
+    ensures beside { (tables : List (List ℕ)) → IfOk result (IsAskedBeside tables) }
 {
-    match step {
-        WorldStep::Push { engine, client, .. } | WorldStep::Poll { engine, client, .. } => {
-            has_client(engines, *engine, *client)
-        }
-        WorldStep::Step { engine } => *engine < engines.len(),
-        WorldStep::Ask { engine, token, .. } => has_token(engines, *engine, *token),
-    }
-}
-
-fn has_client(engines: &[Config], engine: usize, client: usize) -> bool
-    ensures { result ≡ client_there engines.now engine client }
-{
-    match engines.get(engine) {
-        Some(config) => client < config.clients as usize,
-        None => false,
-    }
-}
-
-/// An engine's tokens are its clients', then its readers'.
-fn has_token(engines: &[Config], engine: usize, token: usize) -> bool
-    ensures { result ≡ token_there engines.now engine token }
-{
-    match engines.get(engine) {
-        Some(config) => token < config.clients as usize + config.readers as usize,
-        None => false,
-    }
-}
-
-/// The number of an engine, a client or a token.
-pub fn place_in(value: &Value) -> Result<usize, Refusal>
-    ensures { result ≡ number_form (view value.now) }
-{
-    Ok(number_in(value)? as usize)
+    let [engine, client, text] = parts else {
+        return Err(Refusal::BadLine);
+    };
+    let engine = place_in(engine)?;
+    let client = place_in(client)?;
+    let text = Vec::from_slice(alloc, text_in(text)?.as_bytes())?;
+    Ok(WorldStep::Line {
+        engine,
+        client,
+        text,
+    })
 }

@@ -2,13 +2,16 @@
 
 mod bad_requests;
 mod bad_scripts;
+mod bad_steps;
 mod configurations;
+mod engines;
 mod good_scripts;
 mod readings;
 mod replies;
 mod sessions;
 mod streams;
 mod words;
+mod worked_examples;
 
 use crate::run::run_script;
 use std::alloc::Global;

@@ -7,13 +7,13 @@ use Rattle.semantics.specs.Stamped.{Stamped}
 use Rattle.semantics.specs.Faults.{fault_of}
 use Rattle.semantics.specs.Entries.{stamped_of as stamped_entries}
 use Rattle.semantics.specs.Replica.{IsRunning, operations}
-use Rattle.semantics.specs.Drain.{drain_for, without_waiting}
+use Rattle.semantics.specs.Drain.{counted, drain_for, without_waiting}
 use Rattle.semantics.proofs.Taken.{taken_running}
 use Rattle.semantics.proofs.Waiting.{ready_first, without_one}
 use Rattle.operation.specs.declared.op.Op.{Op}
 use Rattle.operation.specs.Meanings.{stamped_of}
 use Rattle.inbox.specs.Inboxes.{waiting_in}
-use Rattle.replica.specs.Replicas.{Running, IsReplica, counted, next_of, replica_of}
+use Rattle.replica.specs.Replicas.{Running, IsReplica, next_of, replica_of}
 use Rattle.replica.proofs.Leaving.{still_alone}
 use Rattle.replica.proofs.Turns.{counted_for, counted_running, dropping, next_some, turn}
 

@@ -10,7 +10,7 @@ use Rattle.semantics.specs.Faults.{fault_of}
 use Rattle.semantics.specs.Entries.{Peer, applied, stamped_of as stamped_entries}
 use Rattle.semantics.specs.Replica.{Replica, IsRunning, IsRising}
 use Rattle.semantics.specs.Delivery.{is_waiting}
-use Rattle.semantics.specs.Drain.{drain_for, taken, without_waiting}
+use Rattle.semantics.specs.Drain.{counted, drain_for, taken, without_waiting}
 use Rattle.semantics.proofs.EntryHistories.{entries_legal}
 use Rattle.semantics.proofs.FaultlessFollows.{follows_without_fault}
 use Rattle.semantics.proofs.Orders.{id_tested}
@@ -20,7 +20,7 @@ use Rattle.operation.specs.declared.op.Op.{Op}
 use Rattle.operation.specs.Meanings.{stamped_of}
 use Rattle.document.specs.Documents.{Kept}
 use Rattle.inbox.specs.Inboxes.{StandAlone, waiting_in}
-use Rattle.replica.specs.Replicas.{Running, IsReplica, IsNextReady, counted, next_of, replica_of}
+use Rattle.replica.specs.Replicas.{Running, IsReplica, IsNextReady, next_of, replica_of}
 use Rattle.replica.proofs.Turns.{appending, counted_running, dropping, turn}
 
 -- what is among the operations is among the stamped ones

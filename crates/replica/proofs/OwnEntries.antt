@@ -6,7 +6,6 @@ use Rattle.semantics.specs.Operations.{Operation}
 use Rattle.semantics.specs.Stamped.{Stamped, operation_after, MayFollow}
 use Rattle.semantics.specs.Making.{Command, make}
 use Rattle.semantics.specs.Entries.{Entry, Own, applied, stamped_of, IsAbove, IsEntryHistory}
-use Rattle.semantics.specs.LegalAnswer.{Submitted}
 use Rattle.semantics.specs.Replica.{Replica, IsRunning, commit_own}
 use Rattle.semantics.proofs.AppliedVectors.{at-vector_of}
 use Rattle.semantics.proofs.Delivered.{own_committed}
@@ -23,9 +22,8 @@ module _ (p client serial : ℕ) (c : Command) (G : List Entry) (s : Stamped) (h
   made_as_stamped : NamesAll (applied G) s.vector × (make (applied G) p c ≡ Ok (operation_after (applied G) s))
   made_as_stamped =
       let r : Replica = record { own = p; members = []; entries = G; waiting = []; dropped = 0 } in
-      let x : Submitted = record { client = client; serial = serial; command = c; floor = 0 } in
       subst (λ (t : Stamped). NamesAll (applied G) t.vector × (make (applied G) p c ≡ Ok (operation_after (applied G) t))) (sym made.2)
-      (at-vector_of (applied G), made.1 ∙ (λ i. Ok (as_stamped r x made.0 h made.1 i)))
+      (at-vector_of (applied G), made.1 ∙ (λ i. Ok (as_stamped r c made.0 h made.1 i)))
 
   -- it may follow
   pub may_append : MayFollow (applied G) s

@@ -8,11 +8,11 @@ use Rattle.semantics.specs.Faults.{is_ready, fault_of}
 use Rattle.semantics.specs.Making.{is_full}
 use Rattle.semantics.specs.Entries.{Peer, stamped_of}
 use Rattle.semantics.specs.Replica.{Replica, operations, IsRunning}
-use Rattle.semantics.specs.Drain.{first_ready, without_waiting, taken_with, taken, at_ready, drain_for, drain, IsDrained}
+use Rattle.semantics.specs.Drain.{counted, first_ready, without_waiting, taken_with, taken, at_ready, drain_for, drain, IsDrained}
 use Rattle.semantics.proofs.EarlyEnd.{goes_on}
 use Rattle.semantics.proofs.Waiting.{none_ready, ready_first}
 use Rattle.semantics.proofs.Drained.{drained}
-use Rattle.replica.specs.Replicas.{counted, next_of}
+use Rattle.replica.specs.Replicas.{next_of}
 
 -- what follows is the first ready one of a history with room
 pub next_some : (r : Replica) (s : Stamped) → next_of r ≡ Some s → (is_full r.entries ≡ false) × (first_ready (operations r) r.waiting ≡ Some s)

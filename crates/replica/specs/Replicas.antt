@@ -1,5 +1,5 @@
 -- A replica as contracts see it, and when it can append.
-use Rattle.std.specs.Prelude.{◌≡◌, ◌≤◌, ◌==◌, ℕ, min, cond, IsTrue, List, Ok, Option, Some, None}
+use Rattle.std.specs.Prelude.{◌≡◌, ◌≤◌, ◌==◌, ℕ, cond, IsTrue, List, Ok, Option, Some, None}
 use Rattle.ids.specs.Members.{is_member}
 use Rattle.semantics.specs.Operations.{Operation}
 use Rattle.semantics.specs.Stamped.{Stamped}
@@ -38,10 +38,6 @@ pub record IsReplica (r : Running) : Type 0 where
 -- s is what replica p makes of the command after G, with the vector of all that was applied
 abbrev pub IsMade : List TheEntry → ℕ → TheCommand → Stamped → Type 0
 IsMade G p command s = (o : Operation) × (make (applied G) p command ≡ Ok o) × (s ≡ stamp (applied G) o)
-
--- how many were dropped is counted up to the greatest u64
-abbrev pub counted : TheReplica → TheReplica
-counted r = record r { dropped = min r.dropped 18446744073709551615 }
 
 -- the smallest ready one of what waits, unless the history is full
 abbrev pub next_of : TheReplica → Option Stamped

@@ -10,7 +10,7 @@ ghost use Rattle.semantics.specs.Faults.{fault_of};
 ghost use Rattle.semantics.specs.Making.{make};
 ghost use Rattle.semantics.specs.Replica.{IsRunning, commit_own};
 ghost use Rattle.semantics.specs.Delivery.{Kept as ToBeKept, NotKept, deliver};
-ghost use Rattle.semantics.specs.Drain.{IsDrained, drain, drain_for};
+ghost use Rattle.semantics.specs.Drain.{counted, IsDrained, drain, drain_for};
 ghost use Rattle.operation.specs.Meanings.{command_of, stamped_of};
 ghost use Rattle.oplog.specs.Logs.{history};
 ghost use Rattle.document.specs.Documents.{HasRoomFor};
@@ -50,7 +50,7 @@ impl Model for Replica {
 }
 
 impl Replica {
-    ghost use Rattle.replica.specs.Replicas.{IsMade, IsNextReady, answer_to, counted, next_of, replica_of};
+    ghost use Rattle.replica.specs.Replicas.{IsMade, IsNextReady, answer_to, next_of, replica_of};
 
     /// A replica with this number among these members, and with no history.
     ///

@@ -2,8 +2,9 @@
 use Rattle.std.proofs.Common.{◌≡◌, ℕ, ◌+◌, ◌<◌, ◌≤◌, Bool, true, false, cond, nat_lt, List, [], ◌∷◌, ◌++◌, length, Some, refl, sym, ap, ◌∙◌, subst, arith}
 use Rattle.std.proofs.lemmas.Bool.{ltb-true, ltb-false}
 use Rattle.std.proofs.lemmas.List.{length-append}
+use Rattle.semantics.specs.Making.{Command}
 use Rattle.semantics.specs.Entries.{Entry, Own, Peer, entry_at, first_entries, IsAbove, IsEntryHistory}
-use Rattle.semantics.specs.LegalAnswer.{Submitted, Reply, Made, NotMade, IsLegalAnswer}
+use Rattle.semantics.specs.LegalAnswer.{Request, OfCommand, OfPeer, Submitted, Reply, Made, NotMade, KeptAt, KnownAt, IsLegalAnswer, IsLegalReceipt, IsLegalReply}
 use Rattle.semantics.specs.WorldHistory.{BeginsWith, IsNotBelow}
 use Rattle.semantics.proofs.Replies.{first_stay, entry_stays, before, made_stays, refused_stays}
 
@@ -60,16 +61,31 @@ entry_in_longer n (f ∷ more) F e h = entry_stays n (more ++ F) f e (entry_in_l
 
 -- the reply is legal and not below the item's floor
 abbrev pub IsGoodReply : ℕ → List Entry → Submitted → Reply → Type 0
-IsGoodReply p G x r = IsLegalAnswer p G x r × IsNotBelow x.floor r
+IsGoodReply p G x r = IsLegalReply p G x r × IsNotBelow x.floor r
 
-legal_stays : (p : ℕ) (G : List Entry) (e : Entry) (x : Submitted) (r : Reply) → IsLegalAnswer p G x r → IsLegalAnswer p (e ∷ G) x r
-legal_stays p G e x (Made a n) h = made_stays p G e x a n h
-legal_stays p G e x (NotMade why m) h = refused_stays p G e x why m h
+answer_stays : (p : ℕ) (G : List Entry) (e : Entry) (x : Submitted) (c : Command) (r : Reply) → IsLegalAnswer p G x c r → IsLegalAnswer p (e ∷ G) x c r
+answer_stays p G e x c (Made a n) h = made_stays p G e x c a n h
+answer_stays p G e x c (NotMade why m) h = refused_stays p G e x c why m h
+answer_stays p G e x c (KeptAt m) h = h
+answer_stays p G e x c (KnownAt m) h = h
 
-legal_in_longer : (p : ℕ) (more F : List Entry) (x : Submitted) (r : Reply) → IsLegalAnswer p F x r → IsLegalAnswer p (more ++ F) x r
+receipt_stays : (G : List Entry) (e : Entry) (r : Reply) → IsLegalReceipt G r → IsLegalReceipt (e ∷ G) r
+receipt_stays G e (Made a n) h = h
+receipt_stays G e (NotMade why m) h = (let l : m ≤ length G = h in omega arith)
+receipt_stays G e (KeptAt m) h = (let l : m ≤ length G = h in omega arith)
+receipt_stays G e (KnownAt m) h = (let l : m ≤ length G = h in omega arith)
+
+legal_stays : (p : ℕ) (G : List Entry) (e : Entry) (x : Submitted) (r : Reply) → IsLegalReply p G x r → IsLegalReply p (e ∷ G) x r
+legal_stays p G e x r = of_request x.request refl
+  where
+    of_request : (q : Request) → x.request ≡ q → IsLegalReply p G x r → IsLegalReply p (e ∷ G) x r
+    of_request (OfCommand c) is = rw is (answer_stays p G e x c r)
+    of_request (OfPeer s) is = rw is (receipt_stays G e r)
+
+legal_in_longer : (p : ℕ) (more F : List Entry) (x : Submitted) (r : Reply) → IsLegalReply p F x r → IsLegalReply p (more ++ F) x r
 legal_in_longer p [] F x r h = h
 legal_in_longer p (e ∷ more) F x r h = legal_stays p (more ++ F) e x r (legal_in_longer p more F x r h)
 
 -- A good reply stays one as the history grows.
 pub good_in_longer : (p : ℕ) (G F : List Entry) (x : Submitted) (r : Reply) → BeginsWith G F → IsGoodReply p F x r → IsGoodReply p G x r
-good_in_longer p G F x r b h = (subst (λ (K : List Entry). IsLegalAnswer p K x r) (sym b.1) (legal_in_longer p b.0 F x r h.0), h.1)
+good_in_longer p G F x r b h = (subst (λ (K : List Entry). IsLegalReply p K x r) (sym b.1) (legal_in_longer p b.0 F x r h.0), h.1)

@@ -12,7 +12,7 @@ use Rattle.semantics.specs.View.{view}
 use Rattle.semantics.specs.Stamped.{Stamped}
 use Rattle.semantics.specs.Making.{Command}
 use Rattle.semantics.specs.Entries.{stamped_in, stamped_of, missing}
-use Rattle.semantics.specs.LegalAnswer.{Submitted}
+use Rattle.semantics.specs.LegalAnswer.{OfCommand, Submitted}
 use Rattle.semantics.specs.Replica.{Replica, operations}
 use Rattle.semantics.specs.Drain.{receive_all}
 use Rattle.semantics.specs.WriteSteps.{after_item}
@@ -49,7 +49,7 @@ new p = record { own = p; members = 1 ∷ 2 ∷ 3 ∷ []; entries = []; waiting 
 
 -- an item of client 0, with the next serial
 abbrev pub item : Replica → Command → Submitted
-item r c = record { client = 0; serial = suc (length r.entries); command = c; floor = 0 }
+item r c = record { client = 0; serial = suc (length r.entries); request = OfCommand c; floor = 0 }
 
 -- the replica after these commands, the first of the list first
 abbrev pub after_commands : Replica → List Command → Replica

@@ -67,6 +67,7 @@ pub mod CompleteExchange
 pub mod SetElements
 pub mod ClientCells
 pub mod Beginnings
+pub mod ReceivedItems
 pub mod HandledItems
 pub mod GrownEngines
 pub mod MovedTokens
@@ -75,6 +76,7 @@ pub mod ItemsInTurn
 pub mod SoundClients
 pub mod SoundSeeing
 pub mod SoundSubmitting
+pub mod SoundReceiving
 pub mod SoundGiving
 pub mod SoundGrowing
 pub mod SoundTaking

@@ -4,8 +4,8 @@ use Rattle.std.proofs.lemmas.Bool.{cases_eq}
 use Rattle.std.proofs.lemmas.List.{length-set}
 use Rattle.semantics.specs.LegalAnswer.{Submitted}
 use Rattle.semantics.specs.Engine.{Engine, Client, Cell, Given, Handled}
-use Rattle.semantics.specs.ReadSteps.{cell_at}
-use Rattle.semantics.specs.WorldHistory.{WasSubmitted, WasGiven, seen_by, HasGrown}
+use Rattle.semantics.specs.ReadSteps.{cell_at, seen_by}
+use Rattle.semantics.specs.WorldHistory.{WasSubmitted, WasGiven, HasGrown}
 use Rattle.semantics.proofs.SetElements.{get-set_same, get-set_other}
 
 -- ---- one client moves

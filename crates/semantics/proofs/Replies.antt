@@ -29,14 +29,14 @@ first_stay m G f h = ap (λ b. cond b (f ∷ G) (first_entries m G)) (lt-false (
     lt-false false e = e
     lt-false true e = let k : length G < m = leb-true (suc (length G)) m e in absurd (omega arith)
 
-pub made_stays : (p : ℕ) (G : List Entry) (e : Entry) (x : Submitted) (a : OpId) (n : ℕ) → IsLegalAnswer p G x (Made a n) → IsLegalAnswer p (e ∷ G) x (Made a n)
-made_stays p G e x a n h = (h.0, entry_stays n G e (Own x.client x.serial x.command h.0) h.1, h.2)
+pub made_stays : (p : ℕ) (G : List Entry) (e : Entry) (x : Submitted) (c : Command) (a : OpId) (n : ℕ) → IsLegalAnswer p G x c (Made a n) → IsLegalAnswer p (e ∷ G) x c (Made a n)
+made_stays p G e x c a n h = (h.0, entry_stays n G e (Own x.client x.serial c h.0) h.1, h.2)
 
-pub refused_stays : (p : ℕ) (G : List Entry) (e : Entry) (x : Submitted) (why : Refusal) (m : ℕ) → IsLegalAnswer p G x (NotMade why m) → IsLegalAnswer p (e ∷ G) x (NotMade why m)
-refused_stays p G e x why m h = (let l : m ≤ length G = h.0 in omega arith, stays.0, stays.1)
+pub refused_stays : (p : ℕ) (G : List Entry) (e : Entry) (x : Submitted) (c : Command) (why : Refusal) (m : ℕ) → IsLegalAnswer p G x c (NotMade why m) → IsLegalAnswer p (e ∷ G) x c (NotMade why m)
+refused_stays p G e x c why m h = (let l : m ≤ length G = h.0 in omega arith, stays.0, stays.1)
   where
-    stays : (IsCause p (e ∷ G) x m why) × LacksSerial x.client x.serial (first_entries m (e ∷ G))
-    stays = subst (λ F. ((make (applied F) p x.command ≡ Err why) ⊎ (why ≡ NoMemory) ⊎ ((why ≡ BadFloor) × (m < x.floor))) × LacksSerial x.client x.serial F) (sym (first_stay m G e h.0)) (h.1, h.2)
+    stays : (IsCause p (e ∷ G) x c m why) × LacksSerial x.client x.serial (first_entries m (e ∷ G))
+    stays = subst (λ F. ((make (applied F) p c ≡ Err why) ⊎ (why ≡ NoMemory) ⊎ ((why ≡ BadFloor) × (m < x.floor))) × LacksSerial x.client x.serial F) (sym (first_stay m G e h.0)) (h.1, h.2)
 
 pub reading_stays : (G : List Entry) (e : Entry) (m : ℕ) (q : Asked) (r : Reading) → IsLegalReading G m q r → IsLegalReading (e ∷ G) m q r
 reading_stays G e m q r h = (let l : m ≤ length G = h.0 in omega arith, h.1 ∙ ap (λ F. reading_of F q) (sym (first_stay m G e h.0)))

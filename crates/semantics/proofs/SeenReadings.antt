@@ -4,8 +4,8 @@ use Rattle.std.proofs.Math.Nat.{le-max_right}
 use Rattle.std.proofs.lemmas.Option.{slice_get_past, none-some}
 use Rattle.semantics.specs.LegalAnswer.{Asked}
 use Rattle.semantics.specs.Engine.{Engine, Client, Cell, Given}
-use Rattle.semantics.specs.ReadSteps.{cell_at, poll, ask}
-use Rattle.semantics.specs.WorldHistory.{seen_by, WasGiven}
+use Rattle.semantics.specs.ReadSteps.{cell_at, poll, ask, seen_by}
+use Rattle.semantics.specs.WorldHistory.{WasGiven}
 use Rattle.semantics.proofs.SetElements.{get-set_same}
 use Rattle.semantics.proofs.MovedTokens.{cell_of}
 

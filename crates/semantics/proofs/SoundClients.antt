@@ -4,9 +4,8 @@ use Rattle.std.proofs.lemmas.Bool.{cases_eq}
 use Rattle.semantics.specs.LegalHistory.{IsAmong}
 use Rattle.semantics.specs.Entries.{IsAbove}
 use Rattle.semantics.specs.LegalAnswer.{Submitted}
-use Rattle.semantics.specs.Engine.{Engine, Client, Cell, Handled}
-use Rattle.semantics.specs.ReadSteps.{cell_at}
-use Rattle.semantics.specs.WorldHistory.{published_entries, cell_under}
+use Rattle.semantics.specs.Engine.{Engine, Client, Cell, Handled, published_entries}
+use Rattle.semantics.specs.ReadSteps.{cell_at, cell_under}
 use Rattle.semantics.proofs.SetElements.{get-set_same, get-set_other, get-set_cases}
 use Rattle.semantics.proofs.Beginnings.{IsGoodReply}
 use Rattle.semantics.proofs.MovedTokens.{with_client, cell_of}
@@ -34,7 +33,7 @@ pub sound_by_client : (E : Engine) (queue : List Submitted) (due : List Handled)
     → ((h : Handled) → IsAmong h due → IsGoodReply E.replica.own (published_entries E) h.submitted h.reply)
     → IsSound (with_client E queue due c j)
 sound_by_client E queue due c k j s h client turns unanswered queued good = record {
-  history = s.history;
+  running = s.running;
   published = s.published;
   readers = s.readers;
   clients = λ d l w. elim (get-set_cases E.clients c d k j l h w) [

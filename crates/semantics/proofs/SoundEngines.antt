@@ -2,11 +2,12 @@
 use Rattle.std.proofs.Common.{◌≡◌, ℕ, suc, ◌<◌, ◌≤◌, List, [], ◌∷◌, ◌++◌, map, length, get_or, Some, None, slice_get}
 use Rattle.std.specs.Bool.{⊤}
 use Rattle.semantics.specs.LegalHistory.{IsAmong}
-use Rattle.semantics.specs.Entries.{Entry, first_entries, IsAbove, IsEntryHistory}
+use Rattle.semantics.specs.Entries.{Entry, first_entries, IsAbove}
 use Rattle.semantics.specs.LegalAnswer.{Submitted}
-use Rattle.semantics.specs.Engine.{Engine, Client, Cell, Given, Handled}
-use Rattle.semantics.specs.ReadSteps.{cell_at}
-use Rattle.semantics.specs.WorldHistory.{published_entries, cell_under, HasGrown}
+use Rattle.semantics.specs.Replica.{IsRunning}
+use Rattle.semantics.specs.Engine.{Engine, Client, Cell, Given, Handled, published_entries}
+use Rattle.semantics.specs.ReadSteps.{cell_at, cell_under}
+use Rattle.semantics.specs.WorldHistory.{HasGrown}
 use Rattle.semantics.proofs.Beginnings.{IsGoodReply}
 
 -- the items that wait for an answer, the oldest first: the published ones, then the handled ones, then those of the queue
@@ -37,7 +38,7 @@ pub record IsSoundClient (p : ℕ) (G : List Entry) (m : ℕ) (c : ℕ) (k : Cli
 
 -- An engine is sound.
 pub record IsSound (E : Engine) : Type 0 where
-  pub history : IsEntryHistory E.replica.own E.replica.entries
+  pub running : IsRunning E.replica
   pub published : E.published ≤ length E.replica.entries
   pub readers : (i : ℕ) → get_or E.readers i 0 ≤ E.published
   pub clients : (c : ℕ) (k : Client) → slice_get E.clients c ≡ Some k → IsSoundClient E.replica.own E.replica.entries E.published c k

@@ -5,10 +5,9 @@ use Rattle.std.proofs.lemmas.Option.{none-some}
 use Rattle.semantics.specs.LegalHistory.{IsAmong}
 use Rattle.semantics.specs.Entries.{IsAbove}
 use Rattle.semantics.specs.LegalAnswer.{Submitted}
-use Rattle.semantics.specs.Engine.{Engine, Client, Cell, Given, Handled}
+use Rattle.semantics.specs.Engine.{Engine, Client, Cell, Given, Handled, published_entries}
 use Rattle.semantics.specs.WriteSteps.{with_answer, give_oldest, give}
-use Rattle.semantics.specs.ReadSteps.{cell_at}
-use Rattle.semantics.specs.WorldHistory.{published_entries, cell_under}
+use Rattle.semantics.specs.ReadSteps.{cell_at, cell_under}
 use Rattle.semantics.proofs.ClientCells.{answered_there, answered_elsewhere, length-answered}
 use Rattle.semantics.proofs.Beginnings.{IsGoodReply}
 use Rattle.semantics.proofs.MovedTokens.{HasMoved, with_client, cell_of, grown_by_client}

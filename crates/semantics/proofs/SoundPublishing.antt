@@ -20,7 +20,7 @@ none_due (h ∷ due) e = cc
 publishes : (E : Engine) → IsSound E → E.due ≡ [] → IsLater E (with_history E E.replica E.queue [] E.handled (length E.replica.entries))
 publishes E s none = record {
   sound = record {
-    history = s.history;
+    running = s.running;
     published = omega arith;
     readers = λ i. omega (arith, s.readers i, s.published);
     clients = λ c k e. client_grows E.replica.own E.replica.entries E.replica.entries (length E.replica.entries) E.published c k ([], refl) s.published s.published (s.clients c k e).above (s.clients c k e);

@@ -1,18 +1,16 @@
 -- Each step of a world keeps its engine sound.
-use Rattle.std.proofs.Common.{ℕ, zero, suc, length}
-use Rattle.semantics.specs.Engine.{Engine}
+use Rattle.std.proofs.Common.{ℕ, zero, suc, List, length, slice_get}
+use Rattle.semantics.specs.LegalAnswer.{OfCommand}
+use Rattle.semantics.specs.Engine.{Engine, Message}
 use Rattle.semantics.specs.WriteSteps.{take_item, give, take_for, give_for, handle_all, whole_step}
-use Rattle.semantics.specs.World.{WorldStep, Push, Take, Publish, Give, Whole, Poll, Ask, engine_step}
-use Rattle.semantics.proofs.GrownEngines.{grown_trans}
+use Rattle.semantics.specs.World.{WorldStep, Push, Take, Publish, Give, Whole, Poll, Ask, Learn, SayHello, AnswerHello, Deliver, Lines, CountDropped, engine_step}
 use Rattle.semantics.proofs.SoundEngines.{IsSound, IsLater}
-use Rattle.semantics.proofs.SoundSeeing.{later_refl, polled, asked}
+use Rattle.semantics.proofs.SoundSeeing.{later_refl, later_trans, polled, asked, seen_all, learned}
 use Rattle.semantics.proofs.SoundSubmitting.{pushed}
+use Rattle.semantics.proofs.SoundReceiving.{hello_answered, lines_received, message_received}
 use Rattle.semantics.proofs.SoundTaking.{took}
 use Rattle.semantics.proofs.SoundPublishing.{published}
 use Rattle.semantics.proofs.SoundGiving.{answer_given}
-
-pub later_trans : (E F G : Engine) → IsLater E F → IsLater F G → IsLater E G
-later_trans E F G f g = record { sound = g.sound; grown = grown_trans E F G f.grown g.grown }
 
 taken_for : (n : ℕ) (E : Engine) → IsSound E → IsLater E (take_for n E)
 taken_for zero E s = later_refl E s
@@ -36,11 +34,17 @@ whole E s =
     (later_trans (take_for E.batch E) (handle_all E) (whole_step E).engine shown all)
 
 -- Each step keeps its engine sound.
-pub stepped : (w : WorldStep) (E : Engine) → IsSound E → IsLater E (engine_step w E).engine
-stepped (Push e c command) E s = pushed E c command s
-stepped (Take e) E s = took E s
-stepped (Publish e) E s = published E s
-stepped (Give e) E s = answer_given E s
-stepped (Whole e) E s = whole E s
-stepped (Poll e c serial) E s = polled E c serial s
-stepped (Ask e t q) E s = asked E t q s
+pub stepped : (ms : List Message) (w : WorldStep) (E : Engine) → IsSound E → IsLater E (engine_step ms w E).engine
+stepped ms (Push e c command) E s = pushed E c (OfCommand command) s
+stepped ms (Take e) E s = took E s
+stepped ms (Publish e) E s = published E s
+stepped ms (Give e) E s = answer_given E s
+stepped ms (Whole e) E s = whole E s
+stepped ms (Poll e c serial) E s = polled E c serial s
+stepped ms (Ask e t q) E s = asked E t q s
+stepped ms (Learn e t c serial) E s = learned E t c serial s
+stepped ms (SayHello e t) E s = seen_all E t s
+stepped ms (AnswerHello e t k) E s = hello_answered E t (length ms) (slice_get ms k) s
+stepped ms (Deliver e c k) E s = message_received E c (slice_get ms k) s
+stepped ms (Lines e c ss bad) E s = lines_received E c ss bad s
+stepped ms (CountDropped e) E s = later_refl E s

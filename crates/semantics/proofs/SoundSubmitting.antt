@@ -1,14 +1,13 @@
--- An engine stays sound where a client submits a command.
+-- An engine stays sound where a client submits a request.
 use Rattle.std.proofs.Common.{◌≡◌, inl, inr, ℕ, suc, ◌<◌, ◌≤◌, Bool, true, false, nat_le, [], ◌∷◌, ◌++◌, length, Option, Some, None, refl, sym, ap, ◌∙◌, subst, arith, slice_get}
 use Rattle.std.proofs.lemmas.List.{length-append}
 use Rattle.std.proofs.lemmas.Option.{none-some}
 use Rattle.semantics.specs.LegalHistory.{IsAmong}
-use Rattle.semantics.specs.Making.{Command}
 use Rattle.semantics.specs.Entries.{IsAbove}
-use Rattle.semantics.specs.LegalAnswer.{Submitted}
+use Rattle.semantics.specs.LegalAnswer.{Request, Submitted}
 use Rattle.semantics.specs.Engine.{Engine, Client, Cell}
 use Rattle.semantics.specs.WriteSteps.{next_item, with_cell, submit, push}
-use Rattle.semantics.specs.WorldHistory.{cell_under}
+use Rattle.semantics.specs.ReadSteps.{cell_under}
 use Rattle.semantics.proofs.SetElements.{get-set_same}
 use Rattle.semantics.proofs.ClientCells.{cell_within, cell_kept, newest_cell, newest_cases}
 use Rattle.semantics.proofs.Beginnings.{above_more}
@@ -18,10 +17,10 @@ use Rattle.semantics.proofs.ItemsInTurn.{among_last, turns_last, waiting-submitt
 use Rattle.semantics.proofs.SoundClients.{cell_moved, sound_by_client}
 use Rattle.semantics.proofs.SoundSeeing.{later_refl}
 
-module _ (E : Engine) (c : ℕ) (k : Client) (command : Command) (s : IsSound E) (h : slice_get E.clients c ≡ Some k) where
+module _ (E : Engine) (c : ℕ) (k : Client) (request : Request) (s : IsSound E) (h : slice_get E.clients c ≡ Some k) where
   -- what is submitted, and the client and the engine then
   abbrev item : Submitted
-  item = next_item c k command
+  item = next_item c k request
 
   abbrev submitter : Client
   submitter = with_cell k item
@@ -76,15 +75,15 @@ module _ (E : Engine) (c : ℕ) (k : Client) (command : Command) (s : IsSound E)
     grown = grown_by_client E (E.queue ++ item ∷ []) E.due c k submitter h (record { seen = omega arith; cells = λ n cell q. (cell, cell_kept k.cells (open_cell item ∷ []) n cell q, refl, λ g w. w) });
   }
 
--- A client's command keeps an engine sound.
-pub pushed : (E : Engine) (c : ℕ) (command : Command) → IsSound E → IsLater E (push E c command).engine
-pushed E c command s = at_client (slice_get E.clients c) refl
+-- A client's request keeps an engine sound.
+pub pushed : (E : Engine) (c : ℕ) (request : Request) → IsSound E → IsLater E (push E c request).engine
+pushed E c request s = at_client (slice_get E.clients c) refl
   where
-    at_room : (k : Client) → slice_get E.clients c ≡ Some k → (a b : Bool) → nat_le E.serials (length k.cells) ≡ a → nat_le E.places (length E.queue) ≡ b → IsLater E (submit E c k (next_item c k command)).engine
+    at_room : (k : Client) → slice_get E.clients c ≡ Some k → (a b : Bool) → nat_le E.serials (length k.cells) ≡ a → nat_le E.places (length E.queue) ≡ b → IsLater E (submit E c k (next_item c k request)).engine
     at_room k h true b e f = rw e (later_refl E s)
     at_room k h false true e f = rw (e, f) (later_refl E s)
-    at_room k h false false e f = rw (e, f) (submitted E c k command s h)
+    at_room k h false false e f = rw (e, f) (submitted E c k request s h)
 
-    at_client : (o : Option Client) → slice_get E.clients c ≡ o → IsLater E (push E c command).engine
+    at_client : (o : Option Client) → slice_get E.clients c ≡ o → IsLater E (push E c request).engine
     at_client None e = rw e (later_refl E s)
     at_client (Some k) e = rw e (at_room k e (nat_le E.serials (length k.cells)) (nat_le E.places (length E.queue)) refl refl)

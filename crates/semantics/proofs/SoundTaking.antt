@@ -6,10 +6,9 @@ use Rattle.semantics.specs.DocumentAnswer.{is_any}
 use Rattle.semantics.specs.Entries.{IsAbove}
 use Rattle.semantics.specs.LegalAnswer.{Submitted, Reply}
 use Rattle.semantics.specs.Replica.{Replica}
-use Rattle.semantics.specs.Engine.{Engine, Client, Handled}
+use Rattle.semantics.specs.Engine.{Engine, Client, Handled, published_entries}
 use Rattle.semantics.specs.WriteSteps.{after_item, reply_to, take_oldest, take_item}
-use Rattle.semantics.specs.ReadSteps.{cell_at}
-use Rattle.semantics.specs.WorldHistory.{published_entries, cell_under}
+use Rattle.semantics.specs.ReadSteps.{cell_at, cell_under}
 use Rattle.semantics.proofs.ClientCells.{cell_within}
 use Rattle.semantics.proofs.Beginnings.{no_shorter, IsGoodReply, good_in_longer}
 use Rattle.semantics.proofs.HandledItems.{IsHandled, handled}
@@ -38,7 +37,7 @@ module _ (E : Engine) (x : Submitted) (queue : List Submitted) (s : IsSound E) (
           omega (arith, l, s.published)
 
   result : IsHandled E.replica x (after_item E.replica x) (reply_to E.replica x)
-  result = handled E.replica x s.history (s.queued x (subst (IsAmong x) (sym oldest) (inl refl))) floor_within
+  result = handled E.replica x s.running (s.queued x (subst (IsAmong x) (sym oldest) (inl refl))) floor_within
 
   -- the items of the queue, with the oldest one
   in_turn : IsInTurn (waiting_items E.due E.handled (x ∷ queue))
@@ -74,7 +73,7 @@ module _ (E : Engine) (x : Submitted) (queue : List Submitted) (s : IsSound E) (
     taken : IsLater E after
     taken = record {
       sound = record {
-        history = h.history;
+        running = h.running;
         published = (let l : length E.replica.entries ≤ length r.entries = no_shorter r.entries E.replica.entries h.entries in omega (arith, s.published));
         readers = s.readers;
         clients = clients_sound;

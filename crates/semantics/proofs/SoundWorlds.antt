@@ -38,7 +38,7 @@ sound_new_client p c k e = subst (IsSoundClient p [] 0 c) (sym e) (record { seen
 
 pub sound_opened_engine : (c : Configuration) → IsSound (opened_engine c)
 sound_opened_engine c = record {
-  history = tt;
+  running = record { history = tt; alone = λ s m. absurd m; foreign = λ s m. absurd m; unapplied = λ s m. absurd m; rising = tt };
   published = omega arith;
   readers = no_readings c.readers;
   clients = λ d k e. sound_new_client c.own d k (copied c.clients (record { seen = 0; cells = [] }) d k e);
@@ -61,8 +61,8 @@ sound_step W w s = at_engine (slice_get W.engines (mover w)) refl
   where
     at_engine : (o : Option Engine) → slice_get W.engines (mover w) ≡ o → IsSoundWorld (world_step W w).world
     at_engine None e = rw e s
-    at_engine (Some E) e = rw e (λ d F h. elim (get-set_cases W.engines (mover w) d E (engine_step w E).engine F e h) [
-      | inl q ↦ subst IsSound (sym q.1) (stepped w E (s (mover w) E e)).sound
+    at_engine (Some E) e = rw e (λ d F h. elim (get-set_cases W.engines (mover w) d E (engine_step W.messages w E).engine F e h) [
+      | inl q ↦ subst IsSound (sym q.1) (stepped W.messages w E (s (mover w) E e)).sound
       | inr o ↦ s d F o
     ])
 
@@ -81,15 +81,15 @@ later_step W w s e E h = at_engine (slice_get W.engines (mover w)) refl
     at_engine None q = rw q (E, h, later_refl E (s e E h))
     at_engine (Some G) q = rw q (at_place (cases_eq e (mover w)))
       where
-        at_place : ((e ≡ mover w) ⊎ (e ≡ mover w → ⊥)) → (F : Engine) × (slice_get (slice_set W.engines (mover w) (engine_step w G).engine) e ≡ Some F) × IsLater E F
+        at_place : ((e ≡ mover w) ⊎ (e ≡ mover w → ⊥)) → (F : Engine) × (slice_get (slice_set W.engines (mover w) (engine_step W.messages w G).engine) e ≡ Some F) × IsLater E F
         at_place (inl i) =
             let there : slice_get W.engines e ≡ Some G = ap (slice_get W.engines) i ∙ q in
             let is : G ≡ E = cc in (
-              (engine_step w G).engine,
-              ap (slice_get (slice_set W.engines (mover w) (engine_step w G).engine)) i ∙ get-set_same W.engines (mover w) G (engine_step w G).engine q,
-              subst (λ K. IsLater K (engine_step w G).engine) is (stepped w G (s (mover w) G q)),
+              (engine_step W.messages w G).engine,
+              ap (slice_get (slice_set W.engines (mover w) (engine_step W.messages w G).engine)) i ∙ get-set_same W.engines (mover w) G (engine_step W.messages w G).engine q,
+              subst (λ K. IsLater K (engine_step W.messages w G).engine) is (stepped W.messages w G (s (mover w) G q)),
             )
-        at_place (inr n) = (E, get-set_other W.engines (mover w) e (engine_step w G).engine n ∙ h, later_refl E (s e E h))
+        at_place (inr n) = (E, get-set_other W.engines (mover w) e (engine_step W.messages w G).engine n ∙ h, later_refl E (s e E h))
 
 pub grown_after : (W : World) (steps : List WorldStep) → IsSoundWorld W → (e : ℕ) (E F : Engine) → slice_get W.engines e ≡ Some E → slice_get (world_after W steps).engines e ≡ Some F → HasGrown E F
 grown_after W [] s e E F h k = (let is : E ≡ F = cc in subst (HasGrown E) is (grown_refl E))

@@ -1,5 +1,5 @@
 -- What polls and questions reply in a run of a world.
-use Rattle.std.proofs.Common.{◌≡◌, ℕ, ◌-◌, ◌≤◌, length, Option, Some, None, refl, sym, ap, ◌∙◌, subst, slice_get}
+use Rattle.std.proofs.Common.{◌≡◌, ℕ, List, length, Option, Some, None, refl, sym, ap, ◌∙◌, subst, slice_get}
 use Rattle.semantics.specs.Ids.{OpId}
 use Rattle.semantics.specs.LegalHistory.{IsLegal}
 use Rattle.semantics.specs.Questions.{Question}
@@ -7,11 +7,11 @@ use Rattle.semantics.specs.DocumentAnswer.{document_answer}
 use Rattle.semantics.specs.View.{view}
 use Rattle.semantics.specs.Stamped.{Stamped}
 use Rattle.semantics.specs.Making.{Command}
-use Rattle.semantics.specs.Entries.{Own, applied, stamped_of, entry_at, first_entries}
-use Rattle.semantics.specs.LegalAnswer.{Submitted, Reply, Made, Asked, OfDocument, Reading, Answered, IsLegalAnswer, reading_of}
-use Rattle.semantics.specs.Engine.{Engine, Client, Cell, Given, Replied, Read}
-use Rattle.semantics.specs.ReadSteps.{cell_at, poll_cell, poll, ask}
-use Rattle.semantics.specs.WorldHistory.{published_entries, BeginsWith, WasSubmitted, seen_by, IsNotBelow}
+use Rattle.semantics.specs.Entries.{Entry, Own, applied, stamped_of, entry_at, first_entries}
+use Rattle.semantics.specs.LegalAnswer.{Request, OfCommand, OfPeer, Submitted, Reply, Made, Asked, OfDocument, Reading, Answered, IsLegalAnswer, IsLegalReply, reading_of}
+use Rattle.semantics.specs.Engine.{Engine, Client, Cell, Given, Replied, Read, published_entries}
+use Rattle.semantics.specs.ReadSteps.{cell_at, poll_cell, poll, ask, seen_by}
+use Rattle.semantics.specs.WorldHistory.{BeginsWith, WasSubmitted, IsNotBelow}
 use Rattle.semantics.proofs.NamedOperations.{legal}
 use Rattle.semantics.proofs.EntryHistories.{entries_legal}
 use Rattle.semantics.proofs.DocumentIsView.{document_is_view}
@@ -19,13 +19,7 @@ use Rattle.semantics.proofs.Replies.{serial_once}
 use Rattle.semantics.proofs.Beginnings.{length-first, first_begins_first, begins_first, first_history, entry_in_longer}
 use Rattle.semantics.proofs.MovedTokens.{cell_of}
 use Rattle.semantics.proofs.SoundEngines.{IsSoundCell, IsSound}
-
-pub seen_within : (E : Engine) → IsSound E → (t : ℕ) → seen_by E t ≤ E.published
-seen_within E s t = at_client (slice_get E.clients t) refl
-  where
-    at_client : (o : Option Client) → slice_get E.clients t ≡ o → seen_by E t ≤ E.published
-    at_client None e = rw e (s.readers (t - length E.clients))
-    at_client (Some k) e = rw e (s.clients t k e).seen
+use Rattle.semantics.proofs.SoundSeeing.{seen_within}
 
 -- ---- polls
 
@@ -55,11 +49,11 @@ replied_from E c serial r h = at_client (slice_get E.clients c) refl h
     at_client (Some k) e w = at_cell k e (cell_at k.cells serial) refl (rw e at w)
 
 pub poll_legal : (E : Engine) → IsSound E → (c serial : ℕ) (r : Reply) → (poll E c serial).reply ≡ Replied r
-    → (x : Submitted) × WasSubmitted E c serial x × (x.client ≡ c) × (x.serial ≡ serial) × IsLegalAnswer E.replica.own (published_entries E) x r × IsNotBelow x.floor r
+    → (x : Submitted) × WasSubmitted E c serial x × (x.client ≡ c) × (x.serial ≡ serial) × IsLegalReply E.replica.own (published_entries E) x r × IsNotBelow x.floor r
 poll_legal E s c serial r h =
     let from = replied_from E c serial r h in
     let sound : IsSoundCell E.replica.own E.replica.entries E.published c serial from.cell = (s.clients c from.client from.is_client).cells serial from.cell from.is_cell in
-    let good = subst (λ (q : Reply). IsLegalAnswer E.replica.own (published_entries E) from.cell.submitted q × IsNotBelow from.cell.submitted.floor q) from.is_reply (sound.given from.given from.is_given).1 in (
+    let good = subst (λ (q : Reply). IsLegalReply E.replica.own (published_entries E) from.cell.submitted q × IsNotBelow from.cell.submitted.floor q) from.is_reply (sound.given from.given from.is_given).1 in (
       from.cell.submitted,
       (from.cell, ap (cell_of serial) from.is_client ∙ from.is_cell, refl),
       sound.client,
@@ -76,19 +70,32 @@ submitted_once E c serial x y h k =
     let same : h.0 ≡ k.0 = cc in
     sym h.2 ∙ ap (λ (cell : Cell). cell.submitted) same ∙ k.2
 
+-- only a command is answered Made
+made_of : (p : ℕ) (G : List Entry) (x : Submitted) (a : OpId) (n : ℕ) → IsLegalReply p G x (Made a n)
+    → (c : Command) × (s : Stamped) × (x.request ≡ OfCommand c) × (entry_at n G ≡ Some (Own x.client x.serial c s)) × (s.id ≡ a)
+made_of p G x a n h = of_request x.request refl h
+  where
+    of_request : (q : Request) → x.request ≡ q → IsLegalReply p G x (Made a n)
+        → (c : Command) × (s : Stamped) × (x.request ≡ OfCommand c) × (entry_at n G ≡ Some (Own x.client x.serial c s)) × (s.id ≡ a)
+    of_request (OfCommand c) is w = (let l : IsLegalAnswer p G x c (Made a n) = rw is at w in (c, l.0, is, l.1, l.2))
+    of_request (OfPeer s) is w = (let n : ⊥ = rw is at w in absurd n)
+
 pub made_once : (E : Engine) → IsSound E → (c serial : ℕ) (x : Submitted) (a : OpId) (n : ℕ) → WasSubmitted E c serial x → (poll E c serial).reply ≡ Replied (Made a n)
-    → (s : Stamped) × (entry_at n (published_entries E) ≡ Some (Own c serial x.command s)) × (s.id ≡ a)
+    → (command : Command) × (s : Stamped) × (x.request ≡ OfCommand command) × (entry_at n (published_entries E) ≡ Some (Own c serial command s)) × (s.id ≡ a)
     × ((m : ℕ) (other : Command) (t : Stamped) → entry_at m E.replica.entries ≡ Some (Own c serial other t) → m ≡ n)
 made_once E s c serial x a n w h =
     let p = poll_legal E s c serial (Made a n) h in
     let same : p.0 ≡ x = submitted_once E c serial p.0 x p.1 w in
-    let there : entry_at n (published_entries E) ≡ Some (Own c serial x.command p.4.0) = p.4.1 ∙ (λ i. Some (Own (p.2 i) (p.3 i) (same i).command p.4.0)) in
+    let m = made_of E.replica.own (published_entries E) p.0 a n p.4 in
+    let there : entry_at n (published_entries E) ≡ Some (Own c serial m.0 m.1) = m.3 ∙ (λ i. Some (Own (p.2 i) (p.3 i) m.0 m.1)) in
     let rest = begins_first E.published E.replica.entries in
-    let there_in_all : entry_at n E.replica.entries ≡ Some (Own c serial x.command p.4.0) = ap (entry_at n) rest.1 ∙ entry_in_longer n rest.0 (published_entries E) (Own c serial x.command p.4.0) there in (
-      p.4.0,
+    let there_in_all : entry_at n E.replica.entries ≡ Some (Own c serial m.0 m.1) = ap (entry_at n) rest.1 ∙ entry_in_longer n rest.0 (published_entries E) (Own c serial m.0 m.1) there in (
+      m.0,
+      m.1,
+      ap (λ (y : Submitted). y.request) (sym same) ∙ m.2,
       there,
-      p.4.2,
-      λ m other t e. serial_once E.replica.own E.replica.entries c serial m n other x.command t p.4.0 s.history e there_in_all,
+      m.4,
+      λ i other t e. serial_once E.replica.own E.replica.entries c serial i n other m.0 t m.1 s.running.history e there_in_all,
     )
 
 -- ---- questions
@@ -107,4 +114,4 @@ reading_viewed E s t q n R h =
     is ∙ (λ i. Answered (document_is_view (applied (published_entries E)) are_legal q i))
   where
     are_legal : IsLegal (applied (published_entries E))
-    are_legal = legal (stamped_of (published_entries E)) (entries_legal E.replica.own (published_entries E) (first_history E.replica.own E.published E.replica.entries s.history))
+    are_legal = legal (stamped_of (published_entries E)) (entries_legal E.replica.own (published_entries E) (first_history E.replica.own E.published E.replica.entries s.running.history))

@@ -1,5 +1,5 @@
 -- The drain of what waits in a replica.
-use Rattle.std.specs.Prelude.{◌≡◌, ◌+◌, ◌⊎◌, ℕ, zero, suc, cond, not, false, IsTrue, List, [], ◌∷◌, length, Option, Some, None}
+use Rattle.std.specs.Prelude.{◌≡◌, ◌+◌, ◌⊎◌, ℕ, zero, suc, min, cond, not, false, IsTrue, List, [], ◌∷◌, length, Option, Some, None}
 use Rattle.std.specs.List.{filter}
 use Rattle.semantics.specs.Ids.{OpId, is_same_id}
 use Rattle.semantics.specs.Operations.{Operation}
@@ -43,6 +43,10 @@ drain_for (suc n) r = cond (is_full r.entries) r (at_ready (first_ready (operati
 -- while the history isn't full and one is ready, the smallest ready one leaves
 abbrev pub drain : Replica → Replica
 drain r = drain_for (length r.waiting) r
+
+-- how many were dropped is counted up to the greatest number of 64 bits
+abbrev pub counted : Replica → Replica
+counted r = record r { dropped = min r.dropped 18446744073709551615 }
 
 -- a delivery and the drain after it
 abbrev pub receive : Replica → Stamped → Replica

@@ -1,6 +1,9 @@
--- One engine on one thread: what it holds, what its steps reply, and what a step leaves.
+-- One engine on one thread: what it holds, what it sends, what its steps reply, and what a step leaves.
 use Rattle.std.specs.Prelude.{ℕ, List, Option}
 use Rattle.ids.specs.declared.refusal.Refusal.{Refusal}
+use Rattle.semantics.specs.Vectors.{Vector}
+use Rattle.semantics.specs.Stamped.{Stamped}
+use Rattle.semantics.specs.Entries.{Entry, first_entries}
 use Rattle.semantics.specs.LegalAnswer.{Submitted, Reply, Reading}
 use Rattle.semantics.specs.Replica.{Replica}
 
@@ -43,11 +46,20 @@ pub record Engine : Type 0 where
   -- how many entries each reader's token has seen
   pub readers : List ℕ
 
+-- the entries that are published
+abbrev pub published_entries : Engine → List Entry
+published_entries E = first_entries E.published E.replica.entries
+
+-- a message between engines: the vector of all that its sender has published, or operations, the oldest first
+pub data Message : Type 0 where
+  Hello : Vector → Message
+  Bundle : List Stamped → Message
+
 -- what a step replies
 pub data StepReply : Type 0 where
   -- a command was submitted under this serial
   Ticket : ℕ → StepReply
-  -- a command wasn't taken, or a serial isn't the client's
+  -- a command wasn't taken, a serial isn't the client's, or a hello names a replica that is no member
   Denied : Refusal → StepReply
   -- an item was taken and handled
   Took : StepReply
@@ -59,10 +71,22 @@ pub data StepReply : Type 0 where
   Idle : StepReply
   -- there is no answer yet
   Unanswered : StepReply
-  -- the answer to a command
+  -- the answer to what was submitted
   Replied : Reply → StepReply
   -- the token has seen so many entries, and this is what they answer
   Read : ℕ → Reading → StepReply
+  -- the token has seen so many entries
+  Seen : ℕ → StepReply
+  -- a hello was sent under this number, with this vector
+  SentHello : ℕ → Vector → StepReply
+  -- a bundle was sent under this number, with so many operations
+  SentBundle : ℕ → ℕ → StepReply
+  -- there is no message of that kind under the number
+  NoMessage : StepReply
+  -- the first serial, 0 where there is none, how many operations were submitted, and the line where that stopped, with its refusal
+  Received : ℕ → ℕ → Option (ℕ × Refusal) → StepReply
+  -- so many operations were dropped so far
+  Dropped : ℕ → StepReply
 
 -- the engine after a step, and the reply
 pub record Turn : Type 0 where

@@ -1,4 +1,4 @@
--- The answers that an entry history allows to a submitted command and to a question.
+-- The answers that an entry history allows to what was submitted, and to a question.
 use Rattle.std.specs.Prelude.{◌≡◌, ◌⊎◌, ℕ, ◌<◌, ◌≤◌, ⊤, List, [], ◌∷◌, length, Some, Err}
 use Rattle.semantics.specs.Ids.{OpId}
 use Rattle.ids.specs.declared.refusal.Refusal.{Refusal}
@@ -10,17 +10,24 @@ use Rattle.semantics.specs.Stamped.{Stamped}
 use Rattle.semantics.specs.Making.{Command, make}
 use Rattle.semantics.specs.Entries.{Entry, Own, Peer, applied, stamped_of, entry_at, first_entries, missing}
 
--- a command as a client submitted it; the floor is the length of the history that the client had seen
+-- what a client asks of the writer: to make an operation of a command, or to take one that a peer sent
+pub data Request : Type 0 where
+  OfCommand : Command → Request
+  OfPeer : Stamped → Request
+
+-- a request as a client submitted it; the floor is the length of the history that the client had seen
 pub record Submitted : Type 0 where
   pub client : ℕ
   pub serial : ℕ
-  pub command : Command
+  pub request : Request
   pub floor : ℕ
 
--- the operation with this id stands at entry n, or the command was refused at length m
+-- the operation with this id stands at entry n, or the request was refused at length m, or a peer's operation was kept, or known already, and the history has length m then
 pub data Reply : Type 0 where
   Made : OpId → ℕ → Reply
   NotMade : Refusal → ℕ → Reply
+  KeptAt : ℕ → Reply
+  KnownAt : ℕ → Reply
 
 -- no entry has this client and serial
 abbrev pub LacksSerial : ℕ → ℕ → List Entry → Type 0
@@ -28,14 +35,31 @@ LacksSerial client serial [] = ⊤
 LacksSerial client serial (Own k n c s ∷ G) = (k ≡ client → n ≡ serial → ⊥) × LacksSerial client serial G
 LacksSerial client serial (Peer s ∷ G) = LacksSerial client serial G
 
--- the refusal is true of the first m entries of replica p: it is that of its rules, or want of memory, or m is below the floor
-abbrev pub IsCause : ℕ → List Entry → Submitted → ℕ → Refusal → Type 0
-IsCause p G x m e = (make (applied (first_entries m G)) p x.command ≡ Err e) ⊎ (e ≡ NoMemory) ⊎ ((e ≡ BadFloor) × (m < x.floor))
+-- the refusal of the command is true of the first m entries of replica p: it is that of its rules, or want of memory, or m is below the floor
+abbrev pub IsCause : ℕ → List Entry → Submitted → Command → ℕ → Refusal → Type 0
+IsCause p G x c m e = (make (applied (first_entries m G)) p c ≡ Err e) ⊎ (e ≡ NoMemory) ⊎ ((e ≡ BadFloor) × (m < x.floor))
 
--- the reply that an entry history of replica p allows: the command stands at entry n, or no entry has it at length m, where it is refused
-abbrev pub IsLegalAnswer : ℕ → List Entry → Submitted → Reply → Type 0
-IsLegalAnswer p G x (Made a n) = (s : Stamped) × (entry_at n G ≡ Some (Own x.client x.serial x.command s)) × (s.id ≡ a)
-IsLegalAnswer p G x (NotMade e m) = (m ≤ length G) × IsCause p G x m e × LacksSerial x.client x.serial (first_entries m G)
+-- the reply to a submitted command that an entry history of replica p allows: the command stands at entry n, or no entry has it at length m, where it is refused
+abbrev pub IsLegalAnswer : ℕ → List Entry → Submitted → Command → Reply → Type 0
+IsLegalAnswer p G x c (Made a n) = (s : Stamped) × (entry_at n G ≡ Some (Own x.client x.serial c s)) × (s.id ≡ a)
+IsLegalAnswer p G x c (NotMade e m) = (m ≤ length G) × IsCause p G x c m e × LacksSerial x.client x.serial (first_entries m G)
+IsLegalAnswer p G x c (KeptAt m) = ⊥
+IsLegalAnswer p G x c (KnownAt m) = ⊥
+
+-- the reply to an operation that a peer sent: nothing was made, and the history had the length that is named
+abbrev pub IsLegalReceipt : List Entry → Reply → Type 0
+IsLegalReceipt G (Made a n) = ⊥
+IsLegalReceipt G (NotMade e m) = m ≤ length G
+IsLegalReceipt G (KeptAt m) = m ≤ length G
+IsLegalReceipt G (KnownAt m) = m ≤ length G
+
+-- the reply that it allows to what was submitted
+abbrev pub IsLegalReply : ℕ → List Entry → Submitted → Reply → Type 0
+IsLegalReply p G x r = of_request x.request
+  where
+    of_request : Request → Type 0
+    of_request (OfCommand c) = IsLegalAnswer p G x c r
+    of_request (OfPeer s) = IsLegalReceipt G r
 
 -- a question to the document, or for the operations that a vector doesn't name
 pub data Asked : Type 0 where

@@ -26,6 +26,7 @@ pub mod Runs
 pub mod Engine
 pub mod WriteSteps
 pub mod ReadSteps
+pub mod PeerSteps
 pub mod World
 pub mod WorldHistory
 pub mod Codes

@@ -1,4 +1,4 @@
--- The steps of one engine by which a command is submitted, handled, published and answered. A step that can do nothing leaves the engine as it was and replies so.
+-- The steps of one engine by which a request is submitted, handled, published and answered. A step that can do nothing leaves the engine as it was and replies so.
 use Rattle.std.specs.Prelude.{ℕ, zero, suc, cond, not, ◌||◌, ◌-◌, nat_le, nat_lt, List, [], ◌∷◌, ◌++◌, length, Option, Some, None, Result, Ok, Err, slice_get, slice_set}
 use Rattle.ids.specs.declared.refusal.Refusal.{Refusal}
 use Rattle.ids.specs.declared.refusal.Refusal.TheVariants.{QueueFull, SerialEnd, BadFloor}
@@ -7,15 +7,17 @@ use Rattle.semantics.specs.NamedIds.{vector_of}
 use Rattle.semantics.specs.DocumentAnswer.{is_any}
 use Rattle.semantics.specs.Stamped.{Stamped}
 use Rattle.semantics.specs.Making.{Command, make}
-use Rattle.semantics.specs.LegalAnswer.{Submitted, Reply, Made, NotMade}
+use Rattle.semantics.specs.LegalAnswer.{Request, OfCommand, OfPeer, Submitted, Reply, Made, NotMade, KeptAt, KnownAt}
 use Rattle.semantics.specs.Replica.{Replica, operations, commit_own}
+use Rattle.semantics.specs.Delivery.{Delivered, Kept, Known, NotKept, answer_to}
+use Rattle.semantics.specs.Drain.{counted, receive}
 use Rattle.semantics.specs.Engine.{Given, Cell, Client, Handled, Engine, StepReply, Ticket, Denied, Took, Published, Gave, Idle, Turn}
 
 -- ---- submitting
 
 -- what is submitted next
-abbrev pub next_item : ℕ → Client → Command → Submitted
-next_item c k command = record { client = c; serial = suc (length k.cells); command = command; floor = k.seen }
+abbrev pub next_item : ℕ → Client → Request → Submitted
+next_item c k request = record { client = c; serial = suc (length k.cells); request = request; floor = k.seen }
 
 -- with one more cell
 abbrev pub with_cell : Client → Submitted → Client
@@ -28,13 +30,13 @@ submit e c k x =
     (cond (nat_le e.places (length e.queue)) (record { engine = e; reply = Denied QueueFull })
     (record { engine = record e { queue = e.queue ++ x ∷ []; clients = slice_set e.clients c (with_cell k x) }; reply = Ticket x.serial }))
 
--- a client submits a command; its floor is what the client's token has seen
-abbrev pub push : Engine → ℕ → Command → Turn
-push e c command = at_client (slice_get e.clients c)
+-- a client submits a request; its floor is what the client's token has seen
+abbrev pub push : Engine → ℕ → Request → Turn
+push e c request = at_client (slice_get e.clients c)
   where
     at_client : Option Client → Turn
     at_client None = record { engine = e; reply = Idle }
-    at_client (Some k) = submit e c k (next_item c k command)
+    at_client (Some k) = submit e c k (next_item c k request)
 
 -- ---- handling
 
@@ -42,23 +44,39 @@ push e c command = at_client (slice_get e.clients c)
 abbrev pub stamp : List Operation → Operation → Stamped
 stamp H o = record { id = o.id; vector = vector_of H; place = o.place; mutation = o.mutation }
 
--- the replica after what its rules make of an item
-abbrev pub after_made : Replica → Submitted → Result Operation Refusal → Replica
-after_made r x (Err why) = r
-after_made r x (Ok o) = commit_own r x.client x.serial x.command (stamp (operations r) o)
+-- the replica after what its rules make of a command
+abbrev pub after_made : Replica → Submitted → Command → Result Operation Refusal → Replica
+after_made r x c (Err why) = r
+after_made r x c (Ok o) = commit_own r x.client x.serial c (stamp (operations r) o)
 
--- the reply to what its rules make of an item
+-- the reply to what its rules make of a command
 abbrev pub reply_made : Replica → Result Operation Refusal → Reply
 reply_made r (Err why) = NotMade why (length r.entries)
 reply_made r (Ok o) = Made o.id (length r.entries)
 
+-- the reply to a delivery, after which the history has length m
+abbrev pub reply_delivered : ℕ → Delivered → Reply
+reply_delivered m Kept = KeptAt m
+reply_delivered m Known = KnownAt m
+reply_delivered m (NotKept why) = NotMade why m
+
+-- the replica after a request: it makes of a command what its rules make, and a delivery is followed by a drain
+abbrev pub after_request : Replica → Submitted → Request → Replica
+after_request r x (OfCommand c) = after_made r x c (make (operations r) r.own c)
+after_request r x (OfPeer s) = counted (receive r s)
+
+-- the reply to a request
+abbrev pub reply_requested : Replica → Request → Reply
+reply_requested r (OfCommand c) = reply_made r (make (operations r) r.own c)
+reply_requested r (OfPeer s) = reply_delivered (length (receive r s).entries) (answer_to r s)
+
 -- the replica after an item: one whose floor is above the history changes nothing
 abbrev pub after_item : Replica → Submitted → Replica
-after_item r x = cond (nat_lt (length r.entries) x.floor) r (after_made r x (make (operations r) r.own x.command))
+after_item r x = cond (nat_lt (length r.entries) x.floor) r (after_request r x x.request)
 
 -- the reply to an item
 abbrev pub reply_to : Replica → Submitted → Reply
-reply_to r x = cond (nat_lt (length r.entries) x.floor) (NotMade BadFloor (length r.entries)) (reply_made r (make (operations r) r.own x.command))
+reply_to r x = cond (nat_lt (length r.entries) x.floor) (NotMade BadFloor (length r.entries)) (reply_requested r x.request)
 
 -- the writer takes the oldest item and handles it, while fewer than a batch are handled and none of them is published
 abbrev pub take_oldest : Engine → List Submitted → Turn

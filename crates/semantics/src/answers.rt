@@ -10,18 +10,18 @@ ghost use Rattle.semantics.specs.Ids.{OpId};
 
 /// What a replica itself replies is legal: the id of what it appended, or the refusal of its rules.
 pub fn own_replies_are_legal()
-    ensures made { (p : ℕ) (G : List Entry) (x : Submitted) (s : Stamped) →
-        IsLegalAnswer p (Own x.client x.serial x.command s ∷ G) x (Made s.id (length G)) }
-    ensures refused { (p : ℕ) (G : List Entry) (x : Submitted) (why : Refusal) → IsAbove x.client x.serial G →
-        make (applied G) p x.command ≡ Err why → IsLegalAnswer p G x (NotMade why (length G)) }
+    ensures made { (p : ℕ) (G : List Entry) (x : Submitted) (c : Command) (s : Stamped) →
+        IsLegalAnswer p (Own x.client x.serial c s ∷ G) x c (Made s.id (length G)) }
+    ensures refused { (p : ℕ) (G : List Entry) (x : Submitted) (c : Command) (why : Refusal) → IsAbove x.client x.serial G →
+        make (applied G) p c ≡ Err why → IsLegalAnswer p G x c (NotMade why (length G)) }
 {}
 
 /// A legal reply stays legal as the history grows.
 pub fn replies_stay_legal()
-    ensures made { (p : ℕ) (G : List Entry) (e : Entry) (x : Submitted) (a : OpId) (n : ℕ) →
-        IsLegalAnswer p G x (Made a n) → IsLegalAnswer p (e ∷ G) x (Made a n) }
-    ensures refused { (p : ℕ) (G : List Entry) (e : Entry) (x : Submitted) (why : Refusal) (m : ℕ) →
-        IsLegalAnswer p G x (NotMade why m) → IsLegalAnswer p (e ∷ G) x (NotMade why m) }
+    ensures made { (p : ℕ) (G : List Entry) (e : Entry) (x : Submitted) (c : Command) (a : OpId) (n : ℕ) →
+        IsLegalAnswer p G x c (Made a n) → IsLegalAnswer p (e ∷ G) x c (Made a n) }
+    ensures refused { (p : ℕ) (G : List Entry) (e : Entry) (x : Submitted) (c : Command) (why : Refusal) (m : ℕ) →
+        IsLegalAnswer p G x c (NotMade why m) → IsLegalAnswer p (e ∷ G) x c (NotMade why m) }
 {}
 
 /// A legal reading stays legal as the history grows.

@@ -8,12 +8,12 @@ ghost use Rattle.semantics.specs.View.{view};
 ghost use Rattle.semantics.specs.Stamped.{Stamped};
 ghost use Rattle.semantics.specs.Making.{Command};
 ghost use Rattle.semantics.specs.Entries.{IsEntryHistory, Own, applied, entry_at, first_entries};
-ghost use Rattle.semantics.specs.LegalAnswer.{Submitted, Reply, Made, Asked, OfDocument, Reading, Answered, IsLegalAnswer, reading_of};
-ghost use Rattle.semantics.specs.Engine.{Engine, Client, Given, Ticket, Replied, Read};
+ghost use Rattle.semantics.specs.LegalAnswer.{Request, OfCommand, Submitted, Reply, Made, Asked, OfDocument, Reading, Answered, IsLegalReply, reading_of};
+ghost use Rattle.semantics.specs.Engine.{Engine, Client, Given, Ticket, Replied, Read, published_entries};
 ghost use Rattle.semantics.specs.WriteSteps.{next_item, push};
-ghost use Rattle.semantics.specs.ReadSteps.{poll, ask};
+ghost use Rattle.semantics.specs.ReadSteps.{poll, ask, seen_by};
 ghost use Rattle.semantics.specs.World.{WorldStep};
-ghost use Rattle.semantics.specs.WorldHistory.{IsEngineAfter, published_entries, BeginsWith, WasSubmitted, WasGiven, seen_by, IsNotBelow, HasGrown};
+ghost use Rattle.semantics.specs.WorldHistory.{IsEngineAfter, BeginsWith, WasSubmitted, WasGiven, IsNotBelow, HasGrown};
 
 /// Each history is an entry history of its replica. What is published is a beginning of it, and no token has seen more than that.
 pub fn histories_are_entry_histories()
@@ -25,11 +25,11 @@ pub fn histories_are_entry_histories()
         (t : ℕ) → seen_by E t ≤ E.published }
 {}
 
-/// A ticket is for what was submitted: the client's command, with its next serial and with what its token has seen as the floor.
+/// A ticket is for what was submitted: the client's request, with its next serial and with what its token has seen as the floor.
 pub fn tickets_are_for_what_was_submitted()
-    ensures { (E : Engine) (c : ℕ) (command : Command) (serial : ℕ) → (push E c command).reply ≡ Ticket serial →
+    ensures { (E : Engine) (c : ℕ) (request : Request) (serial : ℕ) → (push E c request).reply ≡ Ticket serial →
         (k : Client) × (slice_get E.clients c ≡ Some k) × (serial ≡ suc (length k.cells))
-        × WasSubmitted (push E c command).engine c serial (next_item c k command) }
+        × WasSubmitted (push E c request).engine c serial (next_item c k request) }
 {}
 
 /// Each reply to a poll is a legal answer, in the published history, to what was submitted under that serial, and not below its floor.
@@ -37,14 +37,15 @@ pub fn polls_reply_legally()
     ensures { (cs : List Configuration) (steps : List WorldStep) (e : ℕ) (E : Engine) → IsEngineAfter cs steps e E →
         (c serial : ℕ) (r : Reply) → (poll E c serial).reply ≡ Replied r →
         (x : Submitted) × WasSubmitted E c serial x × (x.client ≡ c) × (x.serial ≡ serial)
-        × IsLegalAnswer E.replica.own (published_entries E) x r × IsNotBelow x.floor r }
+        × IsLegalReply E.replica.own (published_entries E) x r × IsNotBelow x.floor r }
 {}
 
 /// A command that was answered Made stands in the history at the place that the answer names, as submitted, and nowhere else.
 pub fn made_commands_stand_once()
     ensures { (cs : List Configuration) (steps : List WorldStep) (e : ℕ) (E : Engine) → IsEngineAfter cs steps e E →
         (c serial : ℕ) (x : Submitted) (a : OpId) (n : ℕ) → WasSubmitted E c serial x → (poll E c serial).reply ≡ Replied (Made a n) →
-        (s : Stamped) × (entry_at n (published_entries E) ≡ Some (Own c serial x.command s)) × (s.id ≡ a)
+        (command : Command) × (s : Stamped) × (x.request ≡ OfCommand command)
+        × (entry_at n (published_entries E) ≡ Some (Own c serial command s)) × (s.id ≡ a)
         × ((m : ℕ) (other : Command) (t : Stamped) → entry_at m E.replica.entries ≡ Some (Own c serial other t) → m ≡ n) }
 {}
 

@@ -1,8 +1,15 @@
 -- Lemmas on worlds.
-pub mod HandledCommands
 pub mod SingleSteps
+pub mod LearnedAnswers
+pub mod GrownReplicas
+pub mod HandledRequests
+pub mod ShownDocuments
 pub mod WholeSteps
-pub mod RestingEngines
+pub mod SubmittedRequests
+pub mod AnsweredHellos
 pub mod KeptMembers
 pub mod TurnedWorlds
-pub mod OpenedEngines
+pub mod BesideVectors
+pub mod StrangeOps
+pub mod BeforeStrangers
+pub mod PublishedEntries

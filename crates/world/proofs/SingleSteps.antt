@@ -1,10 +1,11 @@
 -- What single steps of an engine leave where there is something to do.
-use Rattle.std.proofs.Common.{◌≡◌, ℕ, max, ◌-◌, ◌<◌, false, nat_le, List, [], ◌∷◌, ◌++◌, map, length, get_or, Some, None, option_map, refl, ap, ◌∙◌, slice_get, slice_set}
+use Rattle.std.proofs.Common.{◌≡◌, ℕ, suc, max, ◌-◌, ◌<◌, true, false, nat_le, List, [], ◌∷◌, ◌++◌, map, length, get_or, Some, None, option_map, refl, ap, ◌∙◌, slice_get, slice_set}
 use Rattle.std.proofs.lemmas.Option.{slice_get-map, slice_get_read}
-use Rattle.semantics.specs.Making.{Command}
-use Rattle.semantics.specs.Engine.{Engine, Client, Cell, Given, Ticket, Replied}
+use Rattle.ids.specs.declared.refusal.Refusal.TheVariants.{SerialEnd, QueueFull}
+use Rattle.semantics.specs.LegalAnswer.{Request}
+use Rattle.semantics.specs.Engine.{Engine, Client, Cell, Given, Ticket, Denied, Replied}
 use Rattle.semantics.specs.WriteSteps.{with_answer, give_to, with_cell, next_item, push}
-use Rattle.semantics.specs.ReadSteps.{poll, cell_at, see_published}
+use Rattle.semantics.specs.ReadSteps.{poll, cell_at, see}
 
 -- what stands at a place of a list, as its image
 pub read_mapped : {A B : Type 0} (f : A → B) (xs : List A) (i : ℕ) (x : A) → i < length xs → x ≡ get_or xs i x → slice_get (map f xs) i ≡ Some (f x)
@@ -21,12 +22,24 @@ pub poll-there : (E : Engine) (c serial : ℕ) (k : Client) (cell : Cell) (g : G
     → poll E c serial ≡ record { engine = record E { clients = slice_set E.clients c (record k { seen = max k.seen g.published }) }; reply = Replied g.reply }
 poll-there E c serial k cell g e f h = rw (e, f, h) refl
 
-pub push-there : (E : Engine) (c : ℕ) (command : Command) (k : Client) → slice_get E.clients c ≡ Some k → nat_le E.serials (length k.cells) ≡ false → nat_le E.places (length E.queue) ≡ false
-    → push E c command ≡ record { engine = record E { queue = E.queue ++ next_item c k command ∷ []; clients = slice_set E.clients c (with_cell k (next_item c k command)) }; reply = Ticket (next_item c k command).serial }
-push-there E c command k e f h = rw (e, f, h) refl
+-- ---- submitting
 
-pub see-client : (E : Engine) (t : ℕ) (k : Client) → slice_get E.clients t ≡ Some k → see_published E t ≡ record E { clients = slice_set E.clients t (record k { seen = E.published }) }
-see-client E t k e = rw e refl
+pub push-there : (E : Engine) (c : ℕ) (q : Request) (k : Client) → slice_get E.clients c ≡ Some k → nat_le E.serials (length k.cells) ≡ false → nat_le E.places (length E.queue) ≡ false
+    → push E c q ≡ record { engine = record E { queue = E.queue ++ next_item c k q ∷ []; clients = slice_set E.clients c (with_cell k (next_item c k q)) }; reply = Ticket (suc (length k.cells)) }
+push-there E c q k e f h = rw (e, f, h) refl
 
-pub see-reader : (E : Engine) (t : ℕ) → slice_get E.clients t ≡ None → see_published E t ≡ record E { readers = slice_set E.readers (t - length E.clients) E.published }
-see-reader E t e = rw e refl
+pub push-last : (E : Engine) (c : ℕ) (q : Request) (k : Client) → slice_get E.clients c ≡ Some k → nat_le E.serials (length k.cells) ≡ true
+    → push E c q ≡ record { engine = E; reply = Denied SerialEnd }
+push-last E c q k e f = rw (e, f) refl
+
+pub push-full : (E : Engine) (c : ℕ) (q : Request) (k : Client) → slice_get E.clients c ≡ Some k → nat_le E.serials (length k.cells) ≡ false → nat_le E.places (length E.queue) ≡ true
+    → push E c q ≡ record { engine = E; reply = Denied QueueFull }
+push-full E c q k e f h = rw (e, f, h) refl
+
+-- ---- seeing
+
+pub see-client : (E : Engine) (t m : ℕ) (k : Client) → slice_get E.clients t ≡ Some k → see E t m ≡ record E { clients = slice_set E.clients t (record k { seen = m }) }
+see-client E t m k e = rw e refl
+
+pub see-reader : (E : Engine) (t m : ℕ) → slice_get E.clients t ≡ None → see E t m ≡ record E { readers = slice_set E.readers (t - length E.clients) m }
+see-reader E t m e = rw e refl

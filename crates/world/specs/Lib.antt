@@ -1,4 +1,4 @@
 -- What the types of this crate mean, and what its functions leave.
 pub mod Meanings
-pub mod Turns
+pub mod Engines
 pub mod Worlds

@@ -1,24 +1,25 @@
 -- What contracts see of a world of the program.
 use Rattle.std.specs.Prelude.{ℕ, Bool, ⊤, List, [], ◌∷◌, map, slice_index_or}
-use Rattle.semantics.specs.Engine.{Engine}
+use Rattle.semantics.specs.Engine.{Engine, Message}
 use Rattle.semantics.specs.World.{World, WorldStep as TheStep}
 use Rattle.world.specs.declared.step.WorldStep.{WorldStep}
 use Rattle.world.specs.Meanings.{AsksBeside, engine_in, step_of}
-use Rattle.world.specs.Turns.{IsResting}
+use Rattle.semantics.proofs.SoundEngines.{IsSound}
 
--- the engines, how many steps were done, and whether a growth was refused
+-- the engines, the messages, how many steps were done, and whether a growth was refused
 pub record Running : Type 0 where
   pub engines : List Engine
+  pub messages : List Message
   pub done : ℕ
   pub failed : Bool
 
--- the world of these engines
-abbrev pub world : List Engine → World
-world Es = record { engines = Es }
+-- the world of these engines and messages
+abbrev pub world : List Engine → List Message → World
+world Es ms = record { engines = Es; messages = ms }
 
 -- the world of the definitions
 abbrev pub world_of : Running → World
-world_of w = record { engines = w.engines }
+world_of w = record { engines = w.engines; messages = w.messages }
 
 -- the table of each engine's replicas
 abbrev pub tables_of : List Engine → List (List ℕ)
@@ -36,7 +37,7 @@ step_in tables s = step_of (table_at tables (engine_in s)) s
 abbrev pub IsAskedBeside : List (List ℕ) → WorldStep → Type 0
 IsAskedBeside tables s = AsksBeside (table_at tables (engine_in s)) s
 
--- each engine is between whole steps
-abbrev pub AllResting : List Engine → Type 0
-AllResting [] = ⊤
-AllResting (E ∷ Es) = IsResting E × AllResting Es
+-- what holds of an engine at each moment holds of each
+abbrev pub AllSound : List Engine → Type 0
+AllSound [] = ⊤
+AllSound (E ∷ Es) = IsSound E × AllSound Es

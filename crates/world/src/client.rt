@@ -1,15 +1,13 @@
 //! What an engine keeps for a client: a cell for each serial, and how much the client's token has seen.
 
-ghost use Rattle.std.specs.Prelude.{◌≡◌, ◌+◌, ◌<◌, ◌^◌, option_map, vec_len, IfOk, IfErr, OnOk};
+ghost use Rattle.std.specs.Prelude.{◌≡◌, ◌+◌, ◌<◌, ◌^◌, ℕ, List, option_map, vec_len, IfErr, OnOk};
 ghost use Rattle.ids.specs.declared.refusal.Refusal.TheVariants.{NoMemory};
 ghost use Rattle.semantics.specs.WriteSteps.{next_item, with_cell, with_answer};
 ghost use Rattle.semantics.specs.ReadSteps.{cell_at};
-ghost use Rattle.operation.specs.Meanings.{command_of};
 
-use crate::handling::Item;
+use crate::item::{Item, Request};
 use crate::step::Reply;
 use ids::Refusal;
-use operation::Command;
 
 /// An answer that was set, with how many entries were published then.
 #[derive(Clone, Copy, Debug)]
@@ -33,11 +31,11 @@ pub struct Client {
 }
 
 impl Client {
-    ghost use Rattle.world.specs.Meanings.{client_of, cell_of, given_of, submitted_of};
+    ghost use Rattle.world.specs.Engines.{client_of, cell_of, given_of, request_of, submitted_of};
 
     /// The cell of a serial; none has the serial 0.
     pub fn cell(&self, serial: u64) -> Option<&Cell>
-        ensures { option_map (λ c. cell_of c.now) result ≡ cell_at (client_of self.now).cells serial }
+        ensures { (table : List ℕ) → option_map (λ c. cell_of table c.now) result ≡ cell_at (client_of table self.now).cells serial }
     {
         if serial == 0 {
             return None;
@@ -45,22 +43,18 @@ impl Client {
         self.cells.get((serial - 1) as usize)
     }
 
-    /// What the client, number `client` of its engine, submits next: the command, under its next serial, with what its token has seen as the floor.
-    ///
-    /// # Errors
-    /// `NoMemory` where a growth was refused.
-    pub fn next_item(&self, client: usize, command: &Command) -> Result<Item, Refusal>
+    /// What the client, number `client` of its engine, submits next: the request, under its next serial, with what its token has seen as the floor.
+    pub fn next_item(&self, client: usize, request: Request) -> Item
         requires { vec_len self.now.cells + 1 < 2 ^ 64 }
-        ensures item { IfOk result (λ x. submitted_of x ≡ next_item client (client_of self.now) (command_of command.now)) }
-        ensures err { IfErr result (λ why. why ≡ NoMemory) }
+        ensures item { (table : List ℕ) → submitted_of table result ≡ next_item client (client_of table self.now) (request_of table request) }
+        ensures request { result.request ≡ request }
     {
-        let command = command.clone()?;
-        Ok(Item {
+        Item {
             client,
             serial: self.cells.len() as u64 + 1,
             floor: self.seen,
-            command,
-        })
+            request,
+        }
     }
 
     /// Keeps what was submitted in a cell of its own.
@@ -68,7 +62,7 @@ impl Client {
     /// # Errors
     /// `NoMemory` where a growth was refused.
     pub fn keep(&mut self, item: Item) -> Result<(), Refusal>
-        ensures client { OnOk result (client_of self.new ≡ with_cell (client_of self.old) (submitted_of item)) }
+        ensures client { OnOk result ((table : List ℕ) → client_of table self.new ≡ with_cell (client_of table self.old) (submitted_of table item)) }
         ensures err { IfErr result (λ why. why ≡ NoMemory) }
     {
         self.cells.push(Cell { item, answer: None })?;
@@ -77,7 +71,7 @@ impl Client {
 
     /// Sets the answer in the cell of a serial.
     pub fn answer(&mut self, serial: u64, given: Given)
-        ensures { client_of self.new ≡ with_answer (client_of self.old) serial (given_of given) }
+        ensures { (table : List ℕ) → client_of table self.new ≡ with_answer (client_of table self.old) serial (given_of given) }
     {
         let place = serial.saturating_sub(1) as usize;
         if place < self.cells.len() {

@@ -3,8 +3,9 @@
 use document::{Question, Reading};
 use ids::{OpId, Refusal, ReplicaTable};
 use operation::Command;
+use version::VersionVector;
 
-/// A step of one engine. Engines are numbered from 0, as are an engine's clients; its tokens are the clients', then the readers'.
+/// A step of one engine. Engines are numbered from 0, as are an engine's clients and the messages of a world; an engine's tokens are its clients', then its readers'.
 #[derive(Debug, Drop)]
 pub enum WorldStep {
     /// A client submits a command.
@@ -12,6 +13,18 @@ pub enum WorldStep {
         engine: usize,
         client: usize,
         command: Command,
+    },
+    /// The writer takes one item and handles it.
+    Take {
+        engine: usize,
+    },
+    /// The writer publishes what it handled.
+    Publish {
+        engine: usize,
+    },
+    /// The writer sets the answer to the oldest item that is published.
+    Give {
+        engine: usize,
     },
     /// The writer takes up to a batch of items and handles them, publishes, and then sets their answers.
     Step {
@@ -29,6 +42,40 @@ pub enum WorldStep {
         token: usize,
         question: Question,
     },
+    /// A token learns of the answer to a client's serial.
+    Learn {
+        engine: usize,
+        token: usize,
+        client: usize,
+        serial: u64,
+    },
+    /// A token says what it has seen, in a message to whoever receives it.
+    Hello {
+        engine: usize,
+        token: usize,
+    },
+    /// A token answers a hello by a bundle of what that lacks.
+    Bundle {
+        engine: usize,
+        token: usize,
+        message: usize,
+    },
+    /// A client receives a copy of a bundle.
+    Deliver {
+        engine: usize,
+        client: usize,
+        message: usize,
+    },
+    /// A client receives bytes of any origin, as lines of operations.
+    Line {
+        engine: usize,
+        client: usize,
+        text: Vec<u8>,
+    },
+    /// How many operations of peers the engine dropped.
+    Dropped {
+        engine: usize,
+    },
 }
 
 impl WorldStep {
@@ -43,19 +90,32 @@ impl WorldStep {
     {
         match self {
             WorldStep::Push { engine, .. }
+            | WorldStep::Take { engine }
+            | WorldStep::Publish { engine }
+            | WorldStep::Give { engine }
             | WorldStep::Step { engine }
             | WorldStep::Poll { engine, .. }
-            | WorldStep::Ask { engine, .. } => *engine,
+            | WorldStep::Ask { engine, .. }
+            | WorldStep::Learn { engine, .. }
+            | WorldStep::Hello { engine, .. }
+            | WorldStep::Bundle { engine, .. }
+            | WorldStep::Deliver { engine, .. }
+            | WorldStep::Line { engine, .. }
+            | WorldStep::Dropped { engine } => *engine,
         }
     }
 }
 
-/// The answer to a command.
+/// The answer to what a client submitted.
 #[derive(Clone, Copy, Debug, PartialEq, Eq)]
 pub enum Reply {
     /// The operation of this id, which stands at this place of the history, counted from 0.
     Made(OpId, u64),
-    /// Why the command was refused, with the length of the history then.
+    /// The operation of a peer was kept, and applied if it was ready. The history had this length then.
+    Kept(u64),
+    /// The operation of a peer was there already. The history had this length then.
+    Known(u64),
+    /// Why it was refused, with the length of the history then.
     Refused(Refusal, u64),
 }
 
@@ -64,15 +124,22 @@ pub enum Reply {
 pub enum WorldReply {
     /// The command was submitted under this serial.
     Ticket(u64),
-    /// The command wasn't taken, or the serial isn't the client's.
+    /// The command wasn't taken, the serial isn't the client's, or the hello names a replica that is no member.
     Denied(Refusal),
-    /// So many items were answered.
+    /// An item was taken and handled.
+    Took,
+    /// So many items were published, or answered by a whole step.
     Published(u64),
+    /// The answer to this client's serial was set.
+    Gave {
+        client: usize,
+        serial: u64,
+    },
     /// There was nothing to do.
     Idle,
     /// There is no answer yet.
     Unanswered,
-    /// The answer to a command.
+    /// The answer to what was submitted.
     Replied(Reply),
     /// How many entries the token has seen, and what they answer, beside the table of the engine.
     Read {
@@ -85,4 +152,27 @@ pub enum WorldReply {
         seen: u64,
         why: Refusal,
     },
+    /// The token has seen so many entries.
+    Seen(u64),
+    /// A hello was sent under this number: the greatest counter of each replica, beside the table of the engine.
+    Hello {
+        message: u64,
+        table: ReplicaTable,
+        vector: VersionVector,
+    },
+    /// A bundle of so many operations was sent under this number.
+    Bundle {
+        message: u64,
+        operations: u64,
+    },
+    /// There is no such message.
+    NoMessage,
+    /// The first serial, 0 where there is none, and how many operations were submitted; the line where that stopped, counted from 1, and why.
+    Received {
+        first: u64,
+        submitted: u64,
+        stopped: Option<(u64, Refusal)>,
+    },
+    /// So many operations were dropped so far.
+    Dropped(u64),
 }

@@ -1,14 +1,16 @@
-//! Engines on one thread, as a list of steps moves them.
+//! Engines on one thread and the messages between them, as a list of steps moves them.
 
 ghost use Rattle.std.specs.Prelude.{◌≡◌, ◌≤◌, ◌+◌, ◌↔◌, ◌⊎◌, OnOk, OnErr, IfOk, IfErr, Err, IsFalse, true, false, min, map, option_map, slice_get, length, List};
 ghost use Rattle.std.specs.List.{All, list_all};
 ghost use Rattle.ids.specs.declared.refusal.Refusal.TheVariants.{NoMemory, BadConfig};
 ghost use Rattle.ids.specs.Configurations.{is_within_limits};
 ghost use Rattle.semantics.specs.World.{opened, opened_engine, world_step, world_after, replies_of};
+ghost use Rattle.world.specs.Engines.{message_of};
 ghost use Rattle.world.specs.Meanings.{reply_of};
-ghost use Rattle.world.specs.Worlds.{AllResting, IsAskedBeside, step_in, tables_of, world, world_of};
+ghost use Rattle.world.specs.Worlds.{AllSound, IsAskedBeside, step_in, tables_of, world, world_of};
 
 use crate::engine::Engine;
+use crate::message::Message;
 use crate::step::{WorldReply, WorldStep};
 use ids::{Config, Refusal, ReplicaTable};
 use std::alloc::Global;
@@ -20,23 +22,26 @@ use std::marker::Model;
 #[derive(Debug, Drop)]
 pub struct World {
     engines: Vec<Engine>,
+    /// All that was ever sent, the oldest first.
+    messages: Vec<Message>,
     done: u64,
     failed: bool,
 }
 
 impl Model for World {
-    ghost use Rattle.std.specs.Prelude.{◌≡◌, false};
+    ghost use Rattle.std.specs.Prelude.{◌≡◌, map, false};
     ghost use Rattle.std.specs.Coded.{codes};
     ghost use Rattle.semantics.specs.Codes.{coded_element};
-    ghost use Rattle.world.specs.Worlds.{Running, AllResting};
+    ghost use Rattle.world.specs.Engines.{message_of};
+    ghost use Rattle.world.specs.Worlds.{Running, AllSound};
 
     ghost Value = { Running };
 
     ghost coded = { Prim.hlevel (codes, coded_element) };
 
-    ghost view = { λ w. record { engines = w.engines.items; done = w.done; failed = w.failed } };
+    ghost view = { λ w. record { engines = w.engines.items; messages = map message_of w.messages.items; done = w.done; failed = w.failed } };
 
-    ghost invariant = { λ w. w.failed ≡ false → AllResting w.engines.items };
+    ghost invariant = { λ w. w.failed ≡ false → AllSound w.engines.items };
 }
 
 impl World {
@@ -54,6 +59,7 @@ impl World {
         let engines = open_all(alloc, configs)?;
         Ok(World {
             engines,
+            messages: Vec::new(alloc),
             done: 0,
             failed: false,
         })
@@ -88,7 +94,13 @@ impl World {
         }
         self.failed = true;
         let mut whole = 0;
-        let outcome = run_all(alloc, &mut self.engines, &mut whole, steps);
+        let outcome = run_all(
+            alloc,
+            &mut self.engines,
+            &mut self.messages,
+            &mut whole,
+            steps,
+        );
         self.done = self.done.saturating_add(whole as u64);
         let replies = outcome?;
         self.failed = false;
@@ -118,7 +130,7 @@ fn check_all(configs: &[Config]) -> Result<(), Refusal>
 fn open_all(alloc: Global, configs: &[Config]) -> Result<Vec<Engine>, Refusal>
     requires { list_all is_within_limits configs.now ≡ true }
     ensures engines { IfOk result (λ v. v.items ≡ map opened_engine configs.now) }
-    ensures resting { IfOk result (λ v. AllResting v.items) }
+    ensures sound { IfOk result (λ v. AllSound v.items) }
     ensures err { IfErr result (λ why. why ≡ NoMemory) }
 {
     let mut engines = Vec::with_capacity(alloc, configs.len())?;
@@ -132,22 +144,23 @@ fn open_all(alloc: Global, configs: &[Config]) -> Result<Vec<Engine>, Refusal>
 fn run_all(
     alloc: Global,
     engines: &mut Vec<Engine>,
+    messages: &mut Vec<Message>,
     whole: &mut usize,
     steps: &[WorldStep],
 ) -> Result<Vec<WorldReply>, Refusal>
-    requires resting { AllResting engines.old.items }
+    requires sound { AllSound engines.old.items }
     requires none { whole.old ≡ 0 }
     requires beside { All (IsAskedBeside (tables_of engines.old.items)) steps.now }
-    ensures replies { IfOk result (λ rs. map reply_of rs.items ≡ replies_of (world engines.old.items) (map (step_in (tables_of engines.old.items)) steps.now)) }
-    ensures world { OnOk result (world engines.new.items ≡ world_after (world engines.old.items) (map (step_in (tables_of engines.old.items)) steps.now)) }
-    ensures resting { OnOk result (AllResting engines.new.items) }
+    ensures replies { IfOk result (λ rs. map reply_of rs.items ≡ replies_of (world engines.old.items (map message_of messages.old.items)) (map (step_in (tables_of engines.old.items)) steps.now)) }
+    ensures world { OnOk result (world engines.new.items (map message_of messages.new.items) ≡ world_after (world engines.old.items (map message_of messages.old.items)) (map (step_in (tables_of engines.old.items)) steps.now)) }
+    ensures sound { OnOk result (AllSound engines.new.items) }
     ensures whole { OnOk result (whole.new ≡ length steps.now) }
     ensures err { IfErr result (λ why. why ≡ NoMemory) }
     ensures fewer { whole.new ≤ length steps.now }
 {
     let mut replies = Vec::with_capacity(alloc, steps.len())?;
     for step in steps {
-        let reply = turn(alloc, engines, step)?;
+        let reply = turn(alloc, engines, messages, step)?;
         replies.push(reply)?;
         *whole += 1;
     }
@@ -155,12 +168,17 @@ fn run_all(
 }
 
 /// One step: its engine moves, and the others stay.
-fn turn(alloc: Global, engines: &mut Vec<Engine>, step: &WorldStep) -> Result<WorldReply, Refusal>
-    requires resting { AllResting engines.old.items }
+fn turn(
+    alloc: Global,
+    engines: &mut Vec<Engine>,
+    messages: &mut Vec<Message>,
+    step: &WorldStep,
+) -> Result<WorldReply, Refusal>
+    requires sound { AllSound engines.old.items }
     requires beside { IsAskedBeside (tables_of engines.old.items) step.now }
-    ensures world { OnOk result (world engines.new.items ≡ (world_step (world engines.old.items) (step_in (tables_of engines.old.items) step.now)).world) }
-    ensures reply { IfOk result (λ r. reply_of r ≡ (world_step (world engines.old.items) (step_in (tables_of engines.old.items) step.now)).reply) }
-    ensures resting { OnOk result (AllResting engines.new.items) }
+    ensures world { OnOk result (world engines.new.items (map message_of messages.new.items) ≡ (world_step (world engines.old.items (map message_of messages.old.items)) (step_in (tables_of engines.old.items) step.now)).world) }
+    ensures reply { IfOk result (λ r. reply_of r ≡ (world_step (world engines.old.items (map message_of messages.old.items)) (step_in (tables_of engines.old.items) step.now)).reply) }
+    ensures sound { OnOk result (AllSound engines.new.items) }
     ensures tables { OnOk result (tables_of engines.new.items ≡ tables_of engines.old.items) }
     ensures err { IfErr result (λ why. why ≡ NoMemory) }
 {
@@ -169,5 +187,5 @@ fn turn(alloc: Global, engines: &mut Vec<Engine>, step: &WorldStep) -> Result<Wo
         return Ok(WorldReply::Idle);
     }
     let engine = &mut engines[mover];
-    engine.turn(alloc, step)
+    engine.turn(alloc, messages, step)
 }

@@ -15,7 +15,7 @@ fn after_world(alloc: Global, lines: &[u8]) -> Result<Vec<u8>, AllocError> {
 
 #[test]
 fn whole_scripts(rt: HostRuntime) {
-    let rows: [(&[u8], &str); 20] = [
+    let rows: [(&[u8], &str); 19] = [
         (b"", "jdoc: line 1: E22\n"),
         (b"\n", "jdoc: line 1: E22\n"),
         (b"\n\n", "jdoc: line 1: E22\n"),
@@ -32,10 +32,6 @@ fn whole_scripts(rt: HostRuntime) {
         ),
         (b"[\"world\"]\n", "jdoc: line 1: E22\n"),
         (b"[\"world\",[]]\n", "jdoc: line 1: E22\n"),
-        (
-            b"[\"world\",[[1,[1],1,1,4,4,10],[2,[2],1,1,4,4,10]]]\n",
-            "jdoc: line 1: E22\n",
-        ),
         (b"[\"world\",7]\n", "jdoc: line 1: E22\n"),
         (b"[\"World\",[[1,[1],1,1,4,4,10]]]\n", "jdoc: line 1: E22\n"),
         (b"[7,[[1,[1],1,1,4,4,10]]]\n", "jdoc: line 1: E22\n"),

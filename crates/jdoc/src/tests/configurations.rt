@@ -5,7 +5,7 @@ use std::test::Fail;
 
 #[test]
 fn engines_without_form(rt: HostRuntime) {
-    let rows: [&[u8]; 14] = [
+    let rows: [&[u8]; 13] = [
         b"[\"world\",[7]]\n",
         b"[\"world\",[[]]]\n",
         b"[\"world\",[[1,[1],1,1,4,4]]]\n",
@@ -20,7 +20,6 @@ fn engines_without_form(rt: HostRuntime) {
         b"[\"world\",[[1,[4294967296,-1],1,1,4,4,10]]]\n",
         b"[\"world\",[[0,[],0,0,0,0,-1]]]\n",
         b"[\"world\",[[0,[],0,0,0,0,0.5]]]\n",
-        b"[\"world\",[[1,[],1,1,4,4,10],[1,[],1,1,4,4,10]]]\n",
     ];
     for script in rows {
         let ended = run_bytes(rt.alloc(), script);

@@ -54,6 +54,41 @@ fn commands_reply_a_line(rt: HostRuntime) -> Result<(), Fail> {
     Ok(())
 }
 
+#[test]
+fn single_steps_reply_a_line(rt: HostRuntime) -> Result<(), Fail> {
+    for line in [
+        "[\"take\",0]",
+        "[\"publish\",0]",
+        "[\"give\",0]",
+        "[\"dropped\",0]",
+        "[\"learn\",0,0,0,1]",
+        "[\"learn\",0,4,1,18446744073709551615]",
+        " [ \"le\\u0061rn\" , 0 , 4 , 1 , 0 ] ",
+    ] {
+        replies_one_line(&rt, rt.alloc(), line)?;
+    }
+    Ok(())
+}
+
+/// A message need not be there.
+#[test]
+fn messages_reply_a_line(rt: HostRuntime) -> Result<(), Fail> {
+    for line in [
+        "[\"hello\",0,0]",
+        "[\"hello\",0,4]",
+        "[\"bundle\",0,4,0]",
+        "[\"bundle\",0,0,18446744073709551615]",
+        "[\"deliver\",0,1,0]",
+        "[\"deliver\",0,0,18446744073709551615]",
+        "[\"line\",0,0,\"\"]",
+        "[\"line\",0,1,\"no operation\"]",
+        "[\"line\",0,1,\"\\u0000\\u00e9\\n\\n\"]",
+    ] {
+        replies_one_line(&rt, rt.alloc(), line)?;
+    }
+    Ok(())
+}
+
 /// A key of 256 bytes, and a text of 4,096.
 #[test]
 fn full_lengths_reply_a_line(rt: HostRuntime) -> Result<(), Fail> {

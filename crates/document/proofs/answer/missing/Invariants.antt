@@ -1,7 +1,12 @@
-use Rattle.std.proofs.Common.{◌≡◌, ◌++◌, drop, map}
+use Rattle.std.proofs.Common.{◌≡◌, ◌++◌, drop, length, map}
+use Rattle.std.specs.List.{All}
+use Rattle.operation.specs.declared.op.Op.{Op}
 use Rattle.operation.specs.Meanings.{stamped_of}
 use Rattle.document.proofs.MissingOps.{found}
 use Rattle.document.proofs.answer.missing.Given as goal
 
 abbrev pub invariant-loop-place : goal.invariant-loop-place
-invariant-loop-place l = map (stamped_of l.log.table) l.ops.items ++ found l.log.entries (drop l.place-index l.place-items) ≡ found l.log.entries l.place-items
+invariant-loop-place l = record {
+  found : map (stamped_of l.log.table) l.ops.items ++ found l.log.entries (drop l.place-index l.place-items) ≡ found l.log.entries l.place-items;
+  wide : All (λ (o : Op). length o.deps ≡ length l.log.table) l.ops.items;
+}

@@ -1,4 +1,4 @@
-use Rattle.std.proofs.Common.{◌≡◌, ℕ, List, map, reverse, Result, Ok, Err, [], ◌∷◌, codes, refl, sym, ap, ◌∙◌}
+use Rattle.std.proofs.Common.{◌≡◌, ℕ, List, map, Result, Ok, Err, [], ◌∷◌, codes, refl, sym, ap, ◌∙◌}
 use Rattle.std.specs.Prelude.{IfOk}
 use Rattle.std.proofs.lemmas.List.{reverse-reverse}
 use Rattle.serde_json.specs.declared.value.Value.{Value}
@@ -6,7 +6,6 @@ use Rattle.serde_json.specs.Data.{Data, array}
 use Rattle.serde_json.specs.View.{view, items_of}
 use Rattle.cursor.specs.Meanings.{tag_of}
 use Rattle.value.specs.Meanings.{scalar_of}
-use Rattle.semantics.specs.LegalAnswer.{Reading}
 use Rattle.semantics.specs.Stamped.{Stamped}
 use Rattle.operation.specs.Meanings.{stamped_of}
 use Rattle.document.specs.Documents.{said_by}

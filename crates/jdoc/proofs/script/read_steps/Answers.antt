@@ -7,7 +7,6 @@ use Rattle.semantics.specs.World.{WorldStep as TheStep}
 use Rattle.world.specs.declared.step.WorldStep.{WorldStep}
 use Rattle.world.specs.Worlds.{IsAskedBeside, step_in, tables_of}
 use Rattle.jdoc.specs.Faults.{fault_of}
-use Rattle.wire.specs.Lines.{unless_bad}
 use Rattle.jdoc.specs.Scripts.{steps_left}
 use Rattle.jdoc.proofs.StepsLeft.{after, after-step, after-bad, after-cut}
 use Rattle.wire.proofs.UnlessMemory.{IsUnlessMemory-Err}

@@ -3,7 +3,7 @@ use Rattle.std.specs.Prelude.{slice_get}
 use Rattle.semantics.specs.LegalAnswer.{Asked}
 use Rattle.semantics.specs.World.{Ask}
 use Rattle.document.specs.Documents.{IsBeside, asked_of}
-use Rattle.world.specs.Worlds.{table_at, tables_of}
+use Rattle.world.specs.Worlds.{tables_of}
 use Rattle.serde_json.specs.declared.value.Value.{Value}
 use Rattle.serde_json.specs.View.{view, items_view}
 use Rattle.wire.specs.Forms.{number_form}

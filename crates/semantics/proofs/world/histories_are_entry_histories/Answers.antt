@@ -1,9 +1,9 @@
 use Rattle.semantics.proofs.SoundWorlds.{sound_engine}
-use Rattle.semantics.proofs.WorldReplies.{seen_within}
+use Rattle.semantics.proofs.SoundSeeing.{seen_within}
 use Rattle.semantics.proofs.world.histories_are_entry_histories.Goals as goal
 
 pub returns-clause-history : goal.returns-clause-history
-returns-clause-history c cs steps e E h = (sound_engine cs steps e E h).history
+returns-clause-history c cs steps e E h = (sound_engine cs steps e E h).running.history
 
 pub returns-clause-published : goal.returns-clause-published
 returns-clause-published c cs steps e E h = (sound_engine cs steps e E h).published

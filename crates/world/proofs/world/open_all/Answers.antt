@@ -4,10 +4,10 @@ use Rattle.std.proofs.lemmas.Bool.{and_parts}
 use Rattle.ids.specs.Configurations.{Configuration, is_within_limits}
 use Rattle.semantics.specs.Engine.{Engine}
 use Rattle.semantics.specs.World.{opened_engine}
-use Rattle.world.specs.Turns.{IsResting}
-use Rattle.world.specs.Worlds.{AllResting}
-use Rattle.world.proofs.OpenedEngines.{resting_opened}
-use Rattle.world.proofs.TurnedWorlds.{resting_push}
+use Rattle.semantics.proofs.SoundEngines.{IsSound}
+use Rattle.semantics.proofs.SoundWorlds.{sound_opened_engine}
+use Rattle.world.specs.Worlds.{AllSound}
+use Rattle.world.proofs.TurnedWorlds.{sound_push}
 use Rattle.world.proofs.world.open_all.Goals as goal
 
 pub loop-config-preserved : goal.loop-config-preserved
@@ -27,6 +27,6 @@ loop-config-preserved c =
           ∙ ap (λ (F : Engine). c.loop-config.engines.items ++ F ∷ map opened_engine (drop (n + 1) cs)) made
           ∙ ap (λ (ks : List Configuration). c.loop-config.engines.items ++ map opened_engine ks) (sym next)
           ∙ c.loop-config.invariant.engines;
-      resting = subst AllResting (sym pushed) (resting_push c.loop-config.engines.items E c.loop-config.invariant.resting (subst IsResting (sym made) (resting_opened x both.0)));
+      sound = subst AllSound (sym pushed) (sound_push c.loop-config.engines.items E c.loop-config.invariant.sound (subst IsSound (sym made) (sound_opened_engine x)));
       within = both.1;
     }

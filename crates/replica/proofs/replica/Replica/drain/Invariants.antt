@@ -1,6 +1,6 @@
 use Rattle.std.proofs.Common.{◌≡◌, ◌≤◌, ℕ}
-use Rattle.semantics.specs.Drain.{drain_for}
-use Rattle.replica.specs.Replicas.{counted, replica_of}
+use Rattle.semantics.specs.Drain.{counted, drain_for}
+use Rattle.replica.specs.Replicas.{replica_of}
 use Rattle.replica.proofs.replica.Replica.drain.Given as goal
 
 -- at least as many turns as were counted

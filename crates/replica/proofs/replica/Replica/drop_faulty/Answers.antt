@@ -1,8 +1,8 @@
 use Rattle.std.proofs.Common.{◌≡◌, sym, ap, ◌∙◌, add-one, min}
 use Rattle.semantics.specs.Ids.{OpId}
-use Rattle.semantics.specs.Drain.{drain_for, without_waiting}
+use Rattle.semantics.specs.Drain.{counted, drain_for, without_waiting}
 use Rattle.inbox.specs.Inboxes.{waiting_in}
-use Rattle.replica.specs.Replicas.{Running, counted, replica_of}
+use Rattle.replica.specs.Replicas.{Running, replica_of}
 use Rattle.replica.proofs.Dropping.{none_dropped, dropped_one, fewer}
 use Rattle.replica.proofs.replica.Replica.drop_faulty.Goals as goal
 

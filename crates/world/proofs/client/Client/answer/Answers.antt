@@ -1,17 +1,17 @@
 use Rattle.std.proofs.Common.{◌≡◌, ℕ, ◌-◌, ◌<◌, Some, length, map, set, sym, ap, ◌∙◌, slice_get, arith}
 use Rattle.std.proofs.lemmas.List.{map-set}
-use Rattle.world.specs.Meanings.{cell_of, client_of, given_of}
+use Rattle.world.specs.Engines.{cell_of, client_of, given_of}
 use Rattle.world.proofs.SingleSteps.{read_mapped, with_answer-there}
 use Rattle.world.proofs.client.Client.answer.Goals as goal
 
 pub returns-then-place-len : goal.returns-then-place-len
-returns-then-place-len c =
-    let k = c.args.self.now in
+returns-then-place-len c = λ table.
+    (let k = c.args.self.now in
     let place : ℕ = c.saturating_sub-place.result in
     let at : place ≡ c.args.serial - 1 = c.saturating_sub-place.ensures in
     let within : place < length k.cells.items = omega arith in
-    let there : slice_get (map cell_of k.cells.items) place ≡ Some (cell_of c.index_mut-cell.result.now) =
-    read_mapped cell_of k.cells.items place c.index_mut-cell.result.now within c.index_mut-cell.ensures.value in
-    (λ i. record { seen = k.seen; cells = map-set cell_of k.cells.items place (record { item = c.index_mut-cell.result.now.item; answer = Some c.args.given }) i })
-    ∙ (λ i. record { seen = k.seen; cells = set (map cell_of k.cells.items) (at i) (cell_of (record { item = c.index_mut-cell.result.now.item; answer = Some c.args.given })) })
-    ∙ sym (with_answer-there (client_of k) c.args.serial (given_of c.args.given) (cell_of c.index_mut-cell.result.now) (ap (slice_get (map cell_of k.cells.items)) (sym at) ∙ there))
+    let there : slice_get (map (cell_of table) k.cells.items) place ≡ Some (cell_of table c.index_mut-cell.result.now) =
+    read_mapped (cell_of table) k.cells.items place c.index_mut-cell.result.now within c.index_mut-cell.ensures.value in
+    (λ i. record { seen = k.seen; cells = map-set (cell_of table) k.cells.items place (record { item = c.index_mut-cell.result.now.item; answer = Some c.args.given }) i })
+    ∙ (λ i. record { seen = k.seen; cells = set (map (cell_of table) k.cells.items) (at i) (cell_of table (record { item = c.index_mut-cell.result.now.item; answer = Some c.args.given })) })
+    ∙ sym (with_answer-there (client_of table k) c.args.serial (given_of c.args.given) (cell_of table c.index_mut-cell.result.now) (ap (slice_get (map (cell_of table) k.cells.items)) (sym at) ∙ there)))

@@ -1,0 +1,34 @@
+use Rattle.std.proofs.Common.{◌≡◌, ℕ, suc, ◌+◌, ◌<◌, ◌==◌, cond, List, length, map, sym, ap, ◌∙◌, arith, add-one}
+use Rattle.std.proofs.lemmas.List.{length-map}
+use Rattle.semantics.specs.Engine.{Engine as TheEngine, Turn, Received}
+use Rattle.semantics.specs.PeerSteps.{Receipt, as_received, receive_lines, submit_all}
+use Rattle.operation.specs.Meanings.{stamped_of}
+use Rattle.world.specs.Engines.{client_of, stop_after}
+use Rattle.world.proofs.SubmittedRequests.{found, receive-there}
+use Rattle.world.proofs.engine.Engine.receive.Goals as goal
+
+pub returns-clause-engine : goal.returns-clause-engine
+returns-clause-engine c =
+    let A : TheEngine = c.args.self.now in
+    let at = c.args.client in
+    let ss = map (stamped_of A.replica.members) c.args.read.ops.items in
+    let bad = c.args.read.stopped in
+    let there : at < length A.clients = omega (arith, ap (λ (F : TheEngine). length F.clients) c.self.view_is, length-map c.self.inside.clients.items (client_of c.self.inside.replica.document.table)) in
+    let k = found A.clients at there in
+    sym (ap (λ (r : Receipt). r.engine) (c.in_ok-submitted.ensures.submitted bad))
+    ∙ sym (ap (λ (t : Turn). t.engine) (receive-there A at ss bad k.0 k.1))
+
+pub returns-clause-reply : goal.returns-clause-reply
+returns-clause-reply c =
+    let A : TheEngine = c.args.self.now in
+    let at = c.args.client in
+    let ss = map (stamped_of A.replica.members) c.args.read.ops.items in
+    let bad = c.args.read.stopped in
+    let n : ℕ = c.in_ok-submitted.submitted in
+    let there : at < length A.clients = omega (arith, ap (λ (F : TheEngine). length F.clients) c.self.view_is, length-map c.self.inside.clients.items (client_of c.self.inside.replica.document.table)) in
+    let k = found A.clients at there in
+    let serial : c.next_serial-serial.result ≡ suc (length k.0.cells) = c.next_serial-serial.ensures k.0 k.1 ∙ add-one (length k.0.cells) in
+    let all = c.in_ok-submitted.ensures.submitted bad in
+    (λ i. Received ((c.first_serial.ensures ∙ ap (cond (n == 0) 0) serial) i) n ((c.stop_after.ensures ∙ ap (stop_after n) c.first_refusal-why.ensures) i))
+    ∙ sym (ap (λ (r : Receipt). (as_received (suc (length k.0.cells)) r).reply) all)
+    ∙ sym (ap (λ (t : Turn). t.reply) (receive-there A at ss bad k.0 k.1))

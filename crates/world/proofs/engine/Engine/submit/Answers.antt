@@ -1,0 +1,103 @@
+use Rattle.std.proofs.Common.{◌≡◌, ℕ, suc, ◌+◌, ◌<◌, true, false, nat_le, Some, [], ◌∷◌, ◌++◌, List, length, map, set, sym, ap, ◌∙◌, slice_get, subst, arith}
+use Rattle.std.specs.List.{All}
+use Rattle.std.proofs.lemmas.List.{map-set, map-append, length-map}
+use Rattle.std.proofs.lemmas.List.Elements.{All-push}
+use Rattle.std.proofs.lemmas.Option.{same_Some}
+use Rattle.std.proofs.lemmas.Bool.{lt-leb, le-leb}
+use Rattle.semantics.specs.LegalAnswer.{Request, Submitted}
+use Rattle.semantics.specs.Engine.{Engine as TheEngine, Client as TheClient, Turn, Ticket}
+use Rattle.semantics.specs.WriteSteps.{next_item, with_cell, push}
+use Rattle.world.specs.declared.item.Item.{Item}
+use Rattle.world.specs.declared.item.Request.{Request as AnyRequest}
+use Rattle.world.specs.Engines.{HasWidth, IsWide, cell_of, client_of, request_of, submitted_of}
+use Rattle.world.specs.contracts.engine.Engine.{the_view}
+use Rattle.world.proofs.SingleSteps.{read_mapped, push-there, push-last, push-full}
+use Rattle.world.proofs.engine.Engine.submit.Goals as goal
+
+-- a turn of an engine that is seen as another
+moved : {T : Type 0} (E A : TheEngine) (f : Turn → T) (c : ℕ) (q : AnyRequest) → E ≡ A → f (push A c (request_of A.replica.members q)) ≡ f (push E c (request_of E.replica.members q))
+moved E A f c q e = sym (ap (λ (F : TheEngine). f (push F c (request_of F.replica.members q))) e)
+
+pub returns-then-len-self-clause-reply : goal.returns-then-len-self-clause-reply
+returns-then-len-self-clause-reply c = λ k there_now.
+    (let E : TheEngine = the_view c.self.inside in
+    let table = c.self.inside.replica.document.table in
+    let ks = c.self.inside.clients.items in
+    let at = c.args.client in
+    let k0 = c.index-k.result.now in
+    let there : slice_get E.clients at ≡ Some (client_of table k0) = read_mapped (client_of table) ks at k0 (omega (arith, c.requires.there, ap (λ (F : TheEngine). length F.clients) c.self.view_is, length-map ks (client_of table))) c.index-k.ensures in
+    let serials : nat_le E.serials (length (client_of table k0).cells) ≡ true = le-leb E.serials (length (client_of table k0).cells) (omega (arith, length-map k0.cells.items (cell_of table))) in
+    moved E c.args.self.now (λ t. t.reply) at c.args.request c.self.view_is
+    ∙ ap (λ (t : Turn). t.reply) (push-last E at (request_of table c.args.request) (client_of table k0) there serials))
+
+pub returns-then-len-self-2-clause-reply : goal.returns-then-len-self-2-clause-reply
+returns-then-len-self-2-clause-reply c = λ k there_now.
+    (let E : TheEngine = the_view c.self.inside in
+    let table = c.self.inside.replica.document.table in
+    let ks = c.self.inside.clients.items in
+    let at = c.args.client in
+    let k0 = c.index-k.result.now in
+    let there : slice_get E.clients at ≡ Some (client_of table k0) = read_mapped (client_of table) ks at k0 (omega (arith, c.requires.there, ap (λ (F : TheEngine). length F.clients) c.self.view_is, length-map ks (client_of table))) c.index-k.ensures in
+    let serials : nat_le E.serials (length (client_of table k0).cells) ≡ false = lt-leb E.serials (length (client_of table k0).cells) (omega (arith, length-map k0.cells.items (cell_of table))) in
+    let places : nat_le E.places (length E.queue) ≡ true = le-leb E.places (length E.queue) (omega (arith, length-map c.self.inside.queue.items (submitted_of table))) in
+    moved E c.args.self.now (λ t. t.reply) at c.args.request c.self.view_is
+    ∙ ap (λ (t : Turn). t.reply) (push-full E at (request_of table c.args.request) (client_of table k0) there serials places))
+
+-- one more item whose vector has its width
+more_wide : (table : List ℕ) (A : TheEngine) (q : AnyRequest) (x : Item) (items all : List Item) → table ≡ A.replica.members → HasWidth A.replica.members q → x.request ≡ q → All (IsWide table) items → all ≡ items ++ x ∷ [] → All (IsWide table) all
+more_wide table A q x items all same wide is h e =
+    subst (All (IsWide table)) (sym e) (All-push (IsWide table) items x h (subst (HasWidth table) (sym is) (subst (λ t. HasWidth t q) (sym same) wide)))
+
+pub invariant_of-self-in_err-keep : goal.invariant_of-self-in_err-keep
+invariant_of-self-in_err-keep c = record {
+  shown = c.self.invariant.shown;
+  wide = more_wide c.self.inside.replica.document.table c.args.self.now c.args.request c.next_item-item.result c.self.inside.queue.items c.push_back.new.self.items
+      (ap (λ (F : TheEngine). F.replica.members) c.self.view_is) c.requires.wide c.next_item-item.ensures.request c.self.invariant.wide c.in_ok-push_back.ensures.items;
+}
+
+pub invariant_of-self-2 : goal.invariant_of-self-2
+invariant_of-self-2 c = record {
+  shown = c.self.invariant.shown;
+  wide = more_wide c.self.inside.replica.document.table c.args.self.now c.args.request c.next_item-item.result c.self.inside.queue.items c.push_back.new.self.items
+      (ap (λ (F : TheEngine). F.replica.members) c.self.view_is) c.requires.wide c.next_item-item.ensures.request c.self.invariant.wide c.in_ok-push_back.ensures.items;
+}
+
+pub returns-clause-engine : goal.returns-clause-engine
+returns-clause-engine c =
+    let E : TheEngine = the_view c.self.inside in
+    let table = c.self.inside.replica.document.table in
+    let ks = c.self.inside.clients.items in
+    let at = c.args.client in
+    let k = c.index-k.result.now in
+    let m = c.index_mut-k.result.now in
+    let q : Request = request_of table c.args.request in
+    let within : at < length ks = omega (arith, c.requires.there, ap (λ (F : TheEngine). length F.clients) c.self.view_is, length-map ks (client_of table)) in
+    let there : slice_get (map (client_of table) ks) at ≡ Some (client_of table k) = read_mapped (client_of table) ks at k within c.index-k.ensures in
+    let again : slice_get (map (client_of table) ks) at ≡ Some (client_of table m) = read_mapped (client_of table) ks at m within c.index_mut-k.ensures.value in
+    let same : client_of table m ≡ client_of table k = same_Some (client_of table m) (client_of table k) (sym again ∙ there) in
+    let item : submitted_of table c.next_item-item.result ≡ next_item at (client_of table k) q = c.next_item-item.ensures.item table in
+    let kept : submitted_of table c.in_ok-kept.kept ≡ next_item at (client_of table k) q = ap (submitted_of table) c.in_ok-kept.ensures.cases ∙ item in
+    let serials : nat_le E.serials (length (client_of table k).cells) ≡ false = lt-leb E.serials (length (client_of table k).cells) (omega (arith, length-map k.cells.items (cell_of table))) in
+    let places : nat_le E.places (length E.queue) ≡ false = lt-leb E.places (length E.queue) (omega (arith, length-map c.self.inside.queue.items (submitted_of table))) in
+    let queue : map (submitted_of table) c.push_back.new.self.items ≡ E.queue ++ next_item at (client_of table k) q ∷ [] =
+    ap (map (submitted_of table)) c.in_ok-push_back.ensures.items ∙ map-append (submitted_of table) c.self.inside.queue.items (c.next_item-item.result ∷ []) ∙ ap (λ (x : Submitted). E.queue ++ x ∷ []) item in
+    let clients : map (client_of table) (set ks at c.keep.new.self) ≡ set (map (client_of table) ks) at (with_cell (client_of table k) (next_item at (client_of table k) q)) =
+    map-set (client_of table) ks at c.keep.new.self ∙ ap (set (map (client_of table) ks) at) (c.in_ok-keep.ensures.client table ∙ (λ i. with_cell (same i) (kept i))) in
+    (λ i. record E { queue = queue i; clients = clients i })
+    ∙ sym (ap (λ (t : Turn). t.engine) (push-there E at q (client_of table k) there serials places))
+    ∙ sym (moved E c.args.self.now (λ t. t.engine) at c.args.request c.self.view_is)
+
+pub returns-clause-reply : goal.returns-clause-reply
+returns-clause-reply c = λ k there_now.
+    (let E : TheEngine = the_view c.self.inside in
+    let table = c.self.inside.replica.document.table in
+    let ks = c.self.inside.clients.items in
+    let at = c.args.client in
+    let k0 = c.index-k.result.now in
+    let there : slice_get E.clients at ≡ Some (client_of table k0) = read_mapped (client_of table) ks at k0 (omega (arith, c.requires.there, ap (λ (F : TheEngine). length F.clients) c.self.view_is, length-map ks (client_of table))) c.index-k.ensures in
+    let serials : nat_le E.serials (length (client_of table k0).cells) ≡ false = lt-leb E.serials (length (client_of table k0).cells) (omega (arith, length-map k0.cells.items (cell_of table))) in
+    let places : nat_le E.places (length E.queue) ≡ false = lt-leb E.places (length E.queue) (omega (arith, length-map c.self.inside.queue.items (submitted_of table))) in
+    let same : client_of table k0 ≡ k = same_Some (client_of table k0) k (sym (subst (λ (F : TheEngine). slice_get F.clients at ≡ Some (client_of table k0)) c.self.view_is there) ∙ there_now) in
+    moved E c.args.self.now (λ t. t.reply) at c.args.request c.self.view_is
+    ∙ ap (λ (t : Turn). t.reply) (push-there E at (request_of table c.args.request) (client_of table k0) there serials places)
+    ∙ ap Ticket (let l = ap (λ (x : TheClient). length x.cells) same in omega (arith, l)))

@@ -1,0 +1,20 @@
+-- What is left decides, after so many were submitted.
+use Rattle.std.proofs.Common.{◌≡◌, ◌+◌, ◌<◌, Option, length, map}
+use Rattle.std.specs.List.{All}
+use Rattle.std.specs.Vec.Iter.{into_iter_items, into_iter_len}
+use Rattle.ids.specs.declared.refusal.Refusal.{Refusal}
+use Rattle.semantics.specs.PeerSteps.{submit_all}
+use Rattle.operation.specs.Meanings.{stamped_of}
+use Rattle.operation.specs.declared.op.Op.{Op}
+use Rattle.world.proofs.engine.Engine.submit_all.Given as goal
+
+abbrev pub invariant-loop-op : goal.invariant-loop-op
+invariant-loop-op l = record {
+  whole : into_iter_len l.op-iterator ≡ length (into_iter_items l.op-iterator);
+  count : l.submitted + length (into_iter_items l.op-iterator) ≡ length l.fn.ops.items;
+  there : l.fn.client < length l.self.clients;
+  members : l.self.replica.members ≡ l.fn.self.replica.members;
+  wide : All (λ (o : Op). length o.deps ≡ length l.fn.self.replica.members) (into_iter_items l.op-iterator);
+  left : (bad : Option Refusal) → submit_all l.fn.client bad l.submitted l.self (map (stamped_of l.fn.self.replica.members) (into_iter_items l.op-iterator))
+      ≡ submit_all l.fn.client bad 0 l.fn.self (map (stamped_of l.fn.self.replica.members) l.fn.ops.items);
+}

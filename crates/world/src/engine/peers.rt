@@ -1,0 +1,284 @@
+//! How clients of an engine submit, and what its tokens say to other engines and its clients receive from them.
+
+ghost use Rattle.std.specs.Prelude.{◌≡◌, ◌≢◌, ◌⊎◌, ◌++◌, ◌∷◌, [], ◌+◌, ◌<◌, ◌≤◌, ◌^◌, ◌==◌, cond, true, false, OnOk, IfOk, IfErr, IfNone, IfSome, MatchResult, Option, Some, map, length, slice_get};
+ghost use Rattle.std.specs.List.{All};
+ghost use Rattle.ids.specs.declared.refusal.Refusal.TheVariants.{NoMemory, UnknownReplica};
+ghost use Rattle.ids.specs.declared.refusal.Refusal.{Refusal as TheRefusal};
+ghost use Rattle.semantics.specs.Tables.{by_table};
+ghost use Rattle.semantics.specs.LegalAnswer.{OfCommand};
+ghost use Rattle.semantics.specs.Engine.{Client as TheClient, Hello as HelloOf};
+ghost use Rattle.semantics.specs.WriteSteps.{push};
+ghost use Rattle.semantics.specs.PeerSteps.{answer_hello, answer_sent, lacked, names_members, published_vector, receive_lines, receive_message, say_hello, submit_all};
+ghost use Rattle.operation.specs.Meanings.{command_of, stamped_of};
+ghost use Rattle.wire.specs.Bundles.{readable};
+ghost use Rattle.world.specs.Engines.{HasWidth, IsNoHello, first_of, message_of, request_of, stop_after, taken_or_denied};
+ghost use Rattle.world.specs.Meanings.{reply_of};
+
+use crate::engine::Engine;
+use crate::item::Request;
+use crate::message::{Message, NamedOps, NamedVector};
+use crate::naming::{ops_beside, vector_beside};
+use crate::step::WorldReply;
+use ids::Refusal;
+use operation::{Command, Op};
+use std::alloc::Global;
+use wire::{LinesRead, read_lines};
+
+impl Engine {
+    /// A client submits a command. Copies it for the client and for the queue.
+    ///
+    /// # Errors
+    /// `NoMemory` where a growth was refused.
+    pub fn push(&mut self, client: usize, command: &Command) -> Result<WorldReply, Refusal>
+        ensures engine { OnOk result (self.new ≡ (push self.old client (OfCommand (command_of command.now))).engine) }
+        ensures reply { IfOk result (λ r. reply_of r ≡ (push self.old client (OfCommand (command_of command.now))).reply) }
+        ensures err { IfErr result (λ why. why ≡ NoMemory) }
+    {
+        if client >= self.clients.len() {
+            return Ok(WorldReply::Idle);
+        }
+        let serial = self.next_serial(client);
+        match self.submit(client, Request::Command(command.clone()?))? {
+            Some(why) => Ok(WorldReply::Denied(why)),
+            None => Ok(WorldReply::Ticket(serial)),
+        }
+    }
+
+    /// The serial under which a client submits next.
+    fn next_serial(&self, client: usize) -> u64
+        requires { client < length self.now.clients }
+        ensures { (k : TheClient) → slice_get self.now.clients client ≡ Some k → result ≡ length k.cells + 1 }
+    {
+        self.clients[client].cells.len() as u64 + 1
+    }
+
+    /// A client that is there submits a request; what is given is why that was refused, if it was.
+    ///
+    /// # Errors
+    /// `NoMemory` where a growth was refused.
+    fn submit(&mut self, client: usize, request: Request) -> Result<Option<Refusal>, Refusal>
+        requires there { client < length self.old.clients }
+        requires wide { HasWidth self.old.replica.members request }
+        ensures engine { OnOk result (self.new ≡ (push self.old client (request_of self.old.replica.members request)).engine) }
+        ensures reply { IfOk result (λ w. (k : TheClient) → slice_get self.old.clients client ≡ Some k → (push self.old client (request_of self.old.replica.members request)).reply ≡ taken_or_denied (length k.cells + 1) w) }
+        ensures err { IfErr result (λ why. why ≡ NoMemory) }
+    {
+        let k = &self.clients[client];
+        if k.cells.len() as u64 >= self.serials {
+            return Ok(Some(Refusal::SerialEnd));
+        }
+        if self.queue.len() >= self.places {
+            return Ok(Some(Refusal::QueueFull));
+        }
+        let item = k.next_item(client, request);
+        let kept = item.clone()?;
+        self.queue.push_back(item)?;
+        let k = &mut self.clients[client];
+        k.keep(kept)?;
+        Ok(None)
+    }
+
+    /// A token says hello in a message.
+    ///
+    /// # Errors
+    /// `NoMemory` where a growth was refused.
+    pub fn hello(
+        &mut self,
+        messages: &mut Vec<Message>,
+        token: usize,
+    ) -> Result<WorldReply, Refusal>
+        ensures engine { OnOk result (self.new ≡ (say_hello self.old token (length messages.old.items)).engine) }
+        ensures reply { IfOk result (λ r. reply_of r ≡ (say_hello self.old token (length messages.old.items)).reply) }
+        ensures sent { OnOk result (map message_of messages.new.items ≡ map message_of messages.old.items ++ HelloOf (published_vector self.old) ∷ []) }
+        ensures err { IfErr result (λ why. why ≡ NoMemory) }
+    {
+        let message = messages.len() as u64;
+        let table = self.published.table().clone()?;
+        let vector = self.published.applied().clone()?;
+        messages.push(Message::Hello(NamedVector {
+            table: table.clone()?,
+            vector: vector.clone()?,
+        }))?;
+        self.see_published(token);
+        Ok(WorldReply::Hello {
+            message,
+            table,
+            vector,
+        })
+    }
+
+    /// A token answers a hello by a bundle of what that lacks. Copies those operations.
+    ///
+    /// # Errors
+    /// `NoMemory` where a growth was refused.
+    pub fn bundle(
+        &mut self,
+        alloc: Global,
+        messages: &mut Vec<Message>,
+        token: usize,
+        message: usize,
+    ) -> Result<WorldReply, Refusal>
+        ensures engine { OnOk result (self.new ≡ (answer_hello self.old token (length messages.old.items) (slice_get (map message_of messages.old.items) message)).engine) }
+        ensures reply { IfOk result (λ r. reply_of r ≡ (answer_hello self.old token (length messages.old.items) (slice_get (map message_of messages.old.items) message)).reply) }
+        ensures sent { OnOk result (map message_of messages.new.items ≡ map message_of messages.old.items ++ answer_sent self.old (slice_get (map message_of messages.old.items) message)) }
+        ensures err { IfErr result (λ why. why ≡ NoMemory) }
+    {
+        let Some(hello) = hello_at(messages, message) else {
+            return Ok(WorldReply::NoMessage);
+        };
+        let bundle = match self.lacked(alloc, hello) {
+            Ok(bundle) => bundle,
+            Err(Refusal::UnknownReplica) => {
+                return Ok(WorldReply::Denied(Refusal::UnknownReplica));
+            }
+            Err(why) => return Err(why),
+        };
+        let message = messages.len() as u64;
+        let operations = bundle.ops.len() as u64;
+        messages.push(Message::Bundle(bundle))?;
+        self.see_published(token);
+        Ok(WorldReply::Bundle {
+            message,
+            operations,
+        })
+    }
+
+    /// The published operations that a hello doesn't cover.
+    ///
+    /// # Errors
+    /// `UnknownReplica` where it names a replica that is no member, `NoMemory` where a growth was refused.
+    fn lacked(&self, alloc: Global, hello: &NamedVector) -> Result<NamedOps, Refusal>
+        ensures { MatchResult result
+            (λ b. (map (stamped_of b.table) b.ops.items ≡ lacked self.now (by_table hello.now.table hello.now.vector)) × (names_members self.now (by_table hello.now.table hello.now.vector) ≡ true))
+            (λ why. (why ≡ NoMemory) ⊎ ((why ≡ UnknownReplica) × (names_members self.now (by_table hello.now.table hello.now.vector) ≡ false))) }
+    {
+        let table = self.published.table().clone()?;
+        let vector = vector_beside(alloc, &hello.table, &hello.vector, &table)?;
+        let ops = self.published.missing(alloc, &vector)?;
+        Ok(NamedOps { table, ops })
+    }
+
+    /// A client receives a copy of a bundle, and submits its operations.
+    ///
+    /// # Errors
+    /// `NoMemory` where a growth was refused.
+    pub fn deliver(
+        &mut self,
+        alloc: Global,
+        messages: &[Message],
+        client: usize,
+        message: usize,
+    ) -> Result<WorldReply, Refusal>
+        ensures engine { OnOk result (self.new ≡ (receive_message self.old client (slice_get (map message_of messages.now) message)).engine) }
+        ensures reply { IfOk result (λ r. reply_of r ≡ (receive_message self.old client (slice_get (map message_of messages.now) message)).reply) }
+        ensures err { IfErr result (λ why. why ≡ NoMemory) }
+    {
+        let Some(Message::Bundle(bundle)) = messages.get(message) else {
+            return Ok(WorldReply::NoMessage);
+        };
+        let read = ops_beside(alloc, bundle, self.published.table());
+        self.receive(client, read)
+    }
+
+    /// A client receives bytes of any origin, and submits the operations on their lines.
+    ///
+    /// # Errors
+    /// `NoMemory` where a growth was refused.
+    pub fn line(&mut self, alloc: Global, client: usize, text: &[u8]) -> Result<WorldReply, Refusal>
+        ensures engine { OnOk result (self.new ≡ (receive_lines self.old client (readable self.old.replica.members text.now).operations (readable self.old.replica.members text.now).stopped).engine) }
+        ensures reply { IfOk result (λ r. reply_of r ≡ (receive_lines self.old client (readable self.old.replica.members text.now).operations (readable self.old.replica.members text.now).stopped).reply) }
+        ensures err { IfErr result (λ why. why ≡ NoMemory) }
+    {
+        let read = read_lines(alloc, text, self.published.table());
+        self.receive(client, read)
+    }
+
+    /// A client submits the operations that were read, up to the first that is refused; the line after them may be bad.
+    ///
+    /// # Errors
+    /// `NoMemory` where a growth was refused, then or in reading.
+    fn receive(&mut self, client: usize, read: LinesRead) -> Result<WorldReply, Refusal>
+        requires { All (λ o. length o.deps ≡ length self.old.replica.members) read.ops.items }
+        ensures engine { OnOk result (self.new ≡ (receive_lines self.old client (map (stamped_of self.old.replica.members) read.ops.items) read.stopped).engine) }
+        ensures reply { IfOk result (λ r. reply_of r ≡ (receive_lines self.old client (map (stamped_of self.old.replica.members) read.ops.items) read.stopped).reply) }
+        ensures read { OnOk result (read.stopped ≢ Some NoMemory) }
+        ensures err { IfErr result (λ why. why ≡ NoMemory) }
+    {
+        let LinesRead { ops, stopped } = read;
+        if stopped == Some(Refusal::NoMemory) {
+            return Err(Refusal::NoMemory);
+        }
+        if client >= self.clients.len() {
+            return Ok(WorldReply::Idle);
+        }
+        let serial = self.next_serial(client);
+        let (submitted, refused) = self.submit_all(client, ops)?;
+        let why = first_refusal(refused, stopped);
+        Ok(WorldReply::Received {
+            first: first_serial(submitted, serial),
+            submitted,
+            stopped: stop_after(submitted, why),
+        })
+    }
+
+    /// A client that is there submits the operations, up to the first that is refused. Gives how many it submitted, and why the next one was refused, if it was.
+    ///
+    /// # Errors
+    /// `NoMemory` where a growth was refused.
+    fn submit_all(&mut self, client: usize, ops: Vec<Op>) -> Result<(u64, Option<Refusal>), Refusal>
+        requires there { client < length self.old.clients }
+        requires wide { All (λ o. length o.deps ≡ length self.old.replica.members) ops.items }
+        ensures few { IfOk result (λ p. p.0 ≤ length ops.items) }
+        ensures submitted { IfOk result (λ p. (bad : Option TheRefusal) → submit_all client bad 0 self.old (map (stamped_of self.old.replica.members) ops.items)
+            ≡ record { engine = self.new; submitted = p.0; stopped = stop_after p.0 (first_of p.1 bad) }) }
+        ensures err { IfErr result (λ why. why ≡ NoMemory) }
+    {
+        let mut submitted = 0;
+        for op in ops {
+            if let Some(why) = self.submit(client, Request::Peer(op))? {
+                return Ok((submitted, Some(why)));
+            }
+            submitted += 1;
+        }
+        Ok((submitted, None))
+    }
+}
+
+/// The hello of this number, if it is one.
+fn hello_at(messages: &[Message], number: usize) -> Option<&NamedVector>
+    ensures some { IfSome result (λ h. slice_get (map message_of messages.now) number ≡ Some (HelloOf (by_table h.now.table h.now.vector))) }
+    ensures none { IfNone result (IsNoHello (slice_get (map message_of messages.now) number)) }
+{
+    match messages.get(number) {
+        Some(Message::Hello(hello)) => Some(hello),
+        _ => None,
+    }
+}
+
+/// The first serial of so many that were submitted from this one on, 0 where there is none.
+fn first_serial(submitted: u64, serial: u64) -> u64
+    ensures { result ≡ cond (submitted == 0) 0 serial }
+{
+    if submitted == 0 {
+        return 0;
+    }
+    serial
+}
+
+/// The first of two refusals.
+fn first_refusal(refused: Option<Refusal>, bad: Option<Refusal>) -> Option<Refusal>
+    ensures { result ≡ first_of refused bad }
+{
+    match refused {
+        Some(why) => Some(why),
+        None => bad,
+    }
+}
+
+/// The line after so many, where that is refused.
+fn stop_after(submitted: u64, refused: Option<Refusal>) -> Option<(u64, Refusal)>
+    requires { submitted + 1 < 2 ^ 64 }
+    ensures { result ≡ stop_after submitted refused }
+{
+    refused.map(|why| (submitted + 1, why))
+}

@@ -1,0 +1,134 @@
+//! What tokens of an engine read: answers to what was submitted, and to questions. What a token reads, it has seen.
+
+ghost use Rattle.std.specs.Prelude.{◌≡◌, OnOk, IfOk, IfErr, map, option_map, option_and_then, List, ℕ};
+ghost use Rattle.ids.specs.declared.refusal.Refusal.TheVariants.{NoMemory};
+ghost use Rattle.semantics.specs.Engine.{Engine as TheEngine, Read, published_entries};
+ghost use Rattle.semantics.specs.LegalAnswer.{reading_of};
+ghost use Rattle.semantics.specs.ReadSteps.{ask, cell_under, learn, poll, see, seen_by};
+ghost use Rattle.document.specs.Documents.{IsBeside, asked_of};
+ghost use Rattle.world.specs.Engines.{client_of, given_of};
+ghost use Rattle.world.specs.Meanings.{reply_of};
+
+use crate::client::{Client, Given};
+use crate::engine::Engine;
+use crate::step::WorldReply;
+use document::Question;
+use ids::Refusal;
+use std::alloc::Global;
+
+impl Engine {
+    /// A client polls one of its serials. It has then seen all that was published with the answer.
+    pub fn poll(&mut self, client: usize, serial: u64) -> WorldReply
+        ensures engine { self.new ≡ (poll self.old client serial).engine }
+        ensures reply { reply_of result ≡ (poll self.old client serial).reply }
+    {
+        if client >= self.clients.len() {
+            return WorldReply::Idle;
+        }
+        let Some(cell) = self.clients[client].cell(serial) else {
+            return WorldReply::Denied(Refusal::Foreign);
+        };
+        let Some(given) = cell.answer else {
+            return WorldReply::Unanswered;
+        };
+        let k = &mut self.clients[client];
+        k.seen = k.seen.max(given.published);
+        WorldReply::Replied(given.reply)
+    }
+
+    /// A token learns of the answer to a client's serial. It has then seen at least what was published with that.
+    pub fn learn(&mut self, token: usize, client: usize, serial: u64) -> WorldReply
+        ensures engine { self.new ≡ (learn self.old token client serial).engine }
+        ensures reply { reply_of result ≡ (learn self.old token client serial).reply }
+    {
+        let Some(given) = answer_under(&self.clients, client, serial) else {
+            return WorldReply::Unanswered;
+        };
+        let seen = seen_by(&self.clients, &self.readers, token).max(given.published);
+        see(&mut self.clients, &mut self.readers, token, seen);
+        WorldReply::Seen(seen as u64)
+    }
+
+    /// A token asks, and sees all that is published. Copies what is answered.
+    ///
+    /// # Errors
+    /// `NoMemory` where a growth was refused.
+    pub fn ask(
+        &mut self,
+        alloc: Global,
+        token: usize,
+        question: &Question,
+    ) -> Result<WorldReply, Refusal>
+        requires { IsBeside self.old.replica.members question.now }
+        ensures engine { OnOk result (self.new ≡ (ask self.old token (asked_of self.old.replica.members question.now)).engine) }
+        ensures reply { IfOk result (λ r. reply_of r ≡ (ask self.old token (asked_of self.old.replica.members question.now)).reply) }
+        ensures err { IfErr result (λ why. why ≡ NoMemory) }
+    {
+        let reply = self.read(alloc, question)?;
+        self.see_published(token);
+        Ok(reply)
+    }
+
+    /// What the published history answers.
+    fn read(&self, alloc: Global, question: &Question) -> Result<WorldReply, Refusal>
+        requires { IsBeside self.now.replica.members question.now }
+        ensures reply { IfOk result (λ r. reply_of r ≡ Read self.now.published (reading_of (published_entries self.now) (asked_of self.now.replica.members question.now))) }
+        ensures err { IfErr result (λ why. why ≡ NoMemory) }
+    {
+        let seen = self.published.len() as u64;
+        match self.published.ask(alloc, question) {
+            Ok(reading) => Ok(WorldReply::Read {
+                seen,
+                table: self.published.table().clone()?,
+                reading,
+            }),
+            Err(Refusal::NoMemory) => Err(Refusal::NoMemory),
+            Err(why) => Ok(WorldReply::NotRead { seen, why }),
+        }
+    }
+
+    /// A token sees all that is published.
+    pub(super) fn see_published(&mut self, token: usize)
+        ensures { self.new ≡ see self.old token self.old.published }
+    {
+        let published = self.published.len();
+        see(&mut self.clients, &mut self.readers, token, published);
+    }
+}
+
+/// The answer to a client's serial, once it is set.
+fn answer_under(clients: &[Client], client: usize, serial: u64) -> Option<Given>
+    ensures { (table : List ℕ) (E : TheEngine) → E.clients ≡ map (client_of table) clients.now →
+        option_map given_of result ≡ option_and_then (λ cell. cell.answer) (cell_under E client serial) }
+{
+    clients.get(client)?.cell(serial)?.answer
+}
+
+/// How many entries a token has seen; the tokens are the clients', then the readers'.
+fn seen_by(clients: &[Client], readers: &[usize], token: usize) -> usize
+    ensures { (table : List ℕ) (E : TheEngine) → E.clients ≡ map (client_of table) clients.now → E.readers ≡ readers.now → result ≡ seen_by E token }
+{
+    if token < clients.len() {
+        return clients[token].seen;
+    }
+    match readers.get(token - clients.len()) {
+        Some(seen) => *seen,
+        None => 0,
+    }
+}
+
+/// A token has then seen so many entries.
+fn see(clients: &mut Vec<Client>, readers: &mut Vec<usize>, token: usize, seen: usize)
+    ensures { (table : List ℕ) (E : TheEngine) → E.clients ≡ map (client_of table) clients.old.items → E.readers ≡ readers.old.items →
+        see E token seen ≡ record E { clients = map (client_of table) clients.new.items; readers = readers.new.items } }
+{
+    if token < clients.len() {
+        let k = &mut clients[token];
+        k.seen = seen;
+        return;
+    }
+    let reader = token - clients.len();
+    if reader < readers.len() {
+        readers[reader] = seen;
+    }
+}

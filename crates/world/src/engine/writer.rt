@@ -1,0 +1,131 @@
+//! The writer of an engine: it takes what clients submitted and handles it, publishes, and sets the answers.
+
+ghost use Rattle.std.specs.Prelude.{◌≡◌, OnOk, IfOk, IfErr, map, length, List, ℕ};
+ghost use Rattle.ids.specs.declared.refusal.Refusal.TheVariants.{NoMemory};
+ghost use Rattle.semantics.specs.WriteSteps.{give, give_for, give_to, publish, take_for, take_item, whole_step};
+ghost use Rattle.semantics.proofs.SoundEngines.{IsSound};
+ghost use Rattle.world.specs.Engines.{client_of, given_of};
+ghost use Rattle.world.specs.Meanings.{reply_of};
+
+use crate::client::{Client, Given};
+use crate::engine::Engine;
+use crate::handling::handle;
+use crate::item::Handled;
+use crate::published::publish_new;
+use crate::step::WorldReply;
+use ids::Refusal;
+use std::alloc::Global;
+use std::mem;
+
+impl Engine {
+    /// The writer takes the oldest item and handles it, while fewer than a batch are handled and none of them is published.
+    ///
+    /// # Errors
+    /// `NoMemory` where a growth was refused: the item may be handled in part then.
+    pub fn take(&mut self, alloc: Global) -> Result<WorldReply, Refusal>
+        requires { IsSound self.old }
+        ensures engine { OnOk result (self.new ≡ (take_item self.old).engine) }
+        ensures reply { IfOk result (λ r. reply_of r ≡ (take_item self.old).reply) }
+        ensures err { IfErr result (λ why. why ≡ NoMemory) }
+    {
+        if !self.due.is_empty() || self.handled.len() >= self.batch {
+            return Ok(WorldReply::Idle);
+        }
+        let Some(item) = self.queue.pop_front() else {
+            return Ok(WorldReply::Idle);
+        };
+        let reply = handle(alloc, &mut self.replica, &item)?;
+        self.handled.push_back(Handled { item, reply })?;
+        Ok(WorldReply::Took)
+    }
+
+    /// The writer publishes all that it handled. Copies the entries that weren't published yet.
+    ///
+    /// # Errors
+    /// `NoMemory` where a growth was refused: some entries may be published then.
+    pub fn publish(&mut self, alloc: Global) -> Result<WorldReply, Refusal>
+        ensures engine { OnOk result (self.new ≡ (publish self.old).engine) }
+        ensures reply { IfOk result (λ r. reply_of r ≡ (publish self.old).reply) }
+        ensures err { IfErr result (λ why. why ≡ NoMemory) }
+    {
+        if !self.due.is_empty() || self.handled.is_empty() {
+            return Ok(WorldReply::Idle);
+        }
+        let count = self.handled.len();
+        publish_new(alloc, &self.replica, &mut self.published)?;
+        mem::swap(&mut self.handled, &mut self.due);
+        Ok(WorldReply::Published(count as u64))
+    }
+
+    /// The writer sets the answer to the oldest published item.
+    pub fn give(&mut self) -> WorldReply
+        ensures engine { self.new ≡ (give self.old).engine }
+        ensures reply { reply_of result ≡ (give self.old).reply }
+    {
+        let Some(handled) = self.due.pop_front() else {
+            return WorldReply::Idle;
+        };
+        let client = handled.item.client;
+        let serial = handled.item.serial;
+        let given = Given {
+            reply: handled.reply,
+            published: self.published.len(),
+        };
+        give_to(&mut self.clients, client, serial, given);
+        WorldReply::Gave { client, serial }
+    }
+
+    /// The writer takes while it may, publishes if it may, and then sets all answers.
+    ///
+    /// # Errors
+    /// `NoMemory` where a growth was refused: some items may be handled then, and are not answered.
+    pub fn step(&mut self, alloc: Global) -> Result<WorldReply, Refusal>
+        requires { IsSound self.old }
+        ensures engine { OnOk result (self.new ≡ (whole_step self.old).engine) }
+        ensures reply { IfOk result (λ r. reply_of r ≡ (whole_step self.old).reply) }
+        ensures err { IfErr result (λ why. why ≡ NoMemory) }
+    {
+        self.take_all(alloc)?;
+        self.publish(alloc)?;
+        let count = self.due.len();
+        self.give_all(count);
+        if count == 0 {
+            return Ok(WorldReply::Idle);
+        }
+        Ok(WorldReply::Published(count as u64))
+    }
+
+    /// Takes up to a batch of items.
+    fn take_all(&mut self, alloc: Global) -> Result<(), Refusal>
+        requires { IsSound self.old }
+        ensures engine { OnOk result (self.new ≡ take_for self.old.batch self.old) }
+        ensures err { IfErr result (λ why. why ≡ NoMemory) }
+    {
+        for _ in 0..self.batch {
+            if self.queue.is_empty() {
+                return Ok(());
+            }
+            self.take(alloc)?;
+        }
+        Ok(())
+    }
+
+    /// Sets so many answers.
+    fn give_all(&mut self, count: usize)
+        ensures { self.new ≡ give_for count self.old }
+    {
+        for _ in 0..count {
+            self.give();
+        }
+    }
+}
+
+/// The clients after the answer to one's serial is set.
+fn give_to(clients: &mut Vec<Client>, client: usize, serial: u64, given: Given)
+    ensures { (table : List ℕ) → map (client_of table) clients.new.items ≡ give_to (map (client_of table) clients.old.items) client serial (given_of given) }
+{
+    if client < clients.len() {
+        let client = &mut clients[client];
+        client.answer(serial, given);
+    }
+}

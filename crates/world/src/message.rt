@@ -1,0 +1,33 @@
+//! Messages between engines. What they hold stands beside the table of the engine that sent them.
+
+ghost use Rattle.std.specs.Prelude.{◌≡◌, length};
+ghost use Rattle.std.specs.List.{All};
+
+use ids::ReplicaTable;
+use operation::Op;
+use version::VersionVector;
+
+/// A vector beside the table of its engine.
+#[derive(Debug, Drop)]
+pub struct NamedVector {
+    pub table: ReplicaTable,
+    pub vector: VersionVector,
+    ghost width: { length vector ≡ length table },
+}
+
+/// Operations whose vectors stand beside the table of their engine.
+#[derive(Debug, Drop)]
+pub struct NamedOps {
+    pub table: ReplicaTable,
+    pub ops: Vec<Op>,
+    ghost width: { All (λ o. length o.deps ≡ length table) ops.items },
+}
+
+/// A message between engines.
+#[derive(Debug, Drop)]
+pub enum Message {
+    /// All that the sender has published, as a vector.
+    Hello(NamedVector),
+    /// Operations, the oldest first.
+    Bundle(NamedOps),
+}
