@@ -7,7 +7,7 @@ use Rattle.serde_json.specs.View.{items_view}
 use Rattle.wire.specs.Messages.{only_vector}
 use Rattle.wire.specs.Members.{id_of}
 use Rattle.wire.specs.Places.{only_key}
-use Rattle.wire.specs.Reading.{fields_of, nothing_more, only_value}
+use Rattle.wire.specs.Reading.{five_parts, nothing_more, only_value}
 use Rattle.wire.specs.Vectors.{pair_of}
 
 pub pair_of-wrong_length : (xs : List Value) → length xs ≢ 2 → pair_of (items_view xs) ≡ Err BadLine
@@ -41,14 +41,14 @@ pub nothing_more-wrong_length : (xs : List Value) → length xs ≢ 0 → nothin
 nothing_more-wrong_length [] h = absurd (h refl)
 nothing_more-wrong_length (a ∷ xs) h = refl
 
-pub fields_of-wrong_length : (table : List ℕ) → (xs : List Value) → length xs ≢ 5 → fields_of table (items_view xs) ≡ Err BadLine
-fields_of-wrong_length table [] h = refl
-fields_of-wrong_length table (a ∷ []) h = refl
-fields_of-wrong_length table (a ∷ b ∷ []) h = refl
-fields_of-wrong_length table (a ∷ b ∷ d ∷ []) h = refl
-fields_of-wrong_length table (a ∷ b ∷ d ∷ e ∷ []) h = refl
-fields_of-wrong_length table (a ∷ b ∷ d ∷ e ∷ f ∷ []) h = absurd (h refl)
-fields_of-wrong_length table (a ∷ b ∷ d ∷ e ∷ f ∷ g ∷ xs) h = refl
+pub five_parts-wrong_length : (xs : List Value) → length xs ≢ 5 → five_parts (items_view xs) ≡ Err BadLine
+five_parts-wrong_length [] h = refl
+five_parts-wrong_length (a ∷ []) h = refl
+five_parts-wrong_length (a ∷ b ∷ []) h = refl
+five_parts-wrong_length (a ∷ b ∷ d ∷ []) h = refl
+five_parts-wrong_length (a ∷ b ∷ d ∷ e ∷ []) h = refl
+five_parts-wrong_length (a ∷ b ∷ d ∷ e ∷ f ∷ []) h = absurd (h refl)
+five_parts-wrong_length (a ∷ b ∷ d ∷ e ∷ f ∷ g ∷ xs) h = refl
 
 -- with what a pattern of a slice tests of its length
 pub ruleset wrong_lengths = (
@@ -60,5 +60,5 @@ pub ruleset wrong_lengths = (
   only_key-wrong_length,
   only_value-wrong_length,
   nothing_more-wrong_length,
-  fields_of-wrong_length,
+  five_parts-wrong_length,
 )

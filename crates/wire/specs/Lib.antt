@@ -3,9 +3,9 @@ pub mod Forms
 pub mod Members
 pub mod Vectors
 pub mod Places
-pub mod Meanings
 pub mod Operations
 pub mod Reading
+pub mod Meanings
 pub mod Sent
 pub mod Lines
 pub mod Messages

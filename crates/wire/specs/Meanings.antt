@@ -1,13 +1,16 @@
--- Keys and parts of a path, as the program keeps them, as those of the definitions.
+-- Keys, parts of a path and the fields of an operation, as the program keeps them, as those of the definitions.
 use Rattle.std.specs.Prelude.{ℕ, Option, Some, None}
 use Rattle.semantics.specs.Elements.{Tag}
 use Rattle.cursor.specs.Meanings.{tag_of}
 use Rattle.cursor.specs.Places.{LastKey, DocKey, FieldName, ItemId, HeadKey}
 use Rattle.cursor.specs.declared.tag.Tag.{Tag as TheTag}
+use Rattle.serde_json.specs.View.{view}
 use Rattle.wire.specs.Places.{Entered}
+use Rattle.wire.specs.Reading.{Fields}
 use Rattle.wire.specs.declared.places.WrittenKey.{WrittenKey}
 use Rattle.wire.specs.declared.places.WrittenKey.TheVariants.{Root, Head, Field, Item}
 use Rattle.wire.specs.declared.places.Part.{Part}
+use Rattle.wire.specs.declared.reading.OperationFields.{OperationFields}
 
 -- a key
 abbrev pub key_meant : WrittenKey → LastKey
@@ -29,3 +32,7 @@ entered_as (Some t) = Some (tag_of t)
 abbrev pub keys_ahead : Option TheTag → ℕ
 keys_ahead None = 0
 keys_ahead (Some t) = 1
+
+-- the fields of an operation
+abbrev pub fields_meant : OperationFields → Fields
+fields_meant f = record { id = view f.id.now; vector = view f.vector.now; path = view f.path.now; last = view f.last.now; mutation = view f.mutation.now }

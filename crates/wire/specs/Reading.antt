@@ -33,20 +33,37 @@ mutation_of p = if bytes_eq p.0 (codes "a") then and_then (λ v. Ok (Assign v)) 
 abbrev pub mutation_form : Data → Result Mutation Refusal
 mutation_form d = and_then mutation_of (phrase_form d)
 
--- five parts: an id, a vector, a path with its last key, and what is done
-abbrev pub fields_of : List ℕ → Items → Result Stamped Refusal
-fields_of table (item id (item vector (item path (item last (item mutation no_items))))) =
+-- the fields of an operation, unread
+pub record Fields : Type 0 where
+  pub id : Data
+  pub vector : Data
+  pub path : Data
+  pub last : Data
+  pub mutation : Data
+
+-- five parts
+abbrev pub five_parts : Items → Result Fields Refusal
+five_parts (item id (item vector (item path (item last (item mutation no_items))))) =
+    Ok (record { id = id; vector = vector; path = path; last = last; mutation = mutation })
+five_parts _ = Err BadLine
+
+-- five parts after the word
+abbrev pub parts_after : List ℕ × Items → Result Fields Refusal
+parts_after p = if bytes_eq p.0 (codes "op") then five_parts p.1 else Err BadLine
+
+-- the fields that JSON has
+abbrev pub fields_form : Data → Result Fields Refusal
+fields_form d = and_then parts_after (phrase_form d)
+
+-- what they are, beside a table of replicas: an id, a vector, a path with its last key, and what is done
+abbrev pub fields_of : List ℕ → Fields → Result Stamped Refusal
+fields_of table f =
     and_then (λ a. and_then (λ v. and_then (λ p. and_then (λ m. Ok (record { id = a; vector = v; place = p; mutation = m }))
-    (mutation_form mutation)) (place_form table path last)) (vector_form table vector)) (member_form table id)
-fields_of table _ = Err BadLine
+    (mutation_form f.mutation)) (place_form table f.path f.last)) (vector_form table f.vector)) (member_form table f.id)
 
--- its fields after its word
-abbrev pub operation_of : List ℕ → List ℕ × Items → Result Stamped Refusal
-operation_of table p = if bytes_eq p.0 (codes "op") then fields_of table p.1 else Err BadLine
-
--- the operation that JSON stands for, beside a table of replicas
+-- the operation that JSON stands for
 abbrev pub operation_form : List ℕ → Data → Result Stamped Refusal
-operation_form table d = and_then (operation_of table) (phrase_form d)
+operation_form table d = and_then (fields_of table) (fields_form d)
 
 -- the operation on a line
 abbrev pub op_form : List ℕ → List ℕ → Result Stamped Refusal

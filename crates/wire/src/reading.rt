@@ -1,25 +1,32 @@
-//! Operations as they are read, field by field: each function gives the refusals of its own field.
+//! Operations as they are read: their fields unread, and each field by a method of its own.
 #![tactic(auto, using(crate::proofs::WrongLengths::wrong_lengths))]
 
-ghost use Rattle.std.specs.Prelude.{◌≡◌, IfOk, MatchResult, length};
+ghost use Rattle.std.specs.Prelude.{◌≡◌, IfOk, MatchResult, Ok, Err, length};
 ghost use Rattle.serde_json.specs.View.{view, items_view};
 ghost use Rattle.semantics.specs.Operations.{Delete};
+ghost use Rattle.semantics.specs.Tables.{by_table};
 ghost use Rattle.value.specs.Meanings.{value_of};
 ghost use Rattle.operation.specs.Meanings.{mutation_of, stamped_of};
-ghost use Rattle.wire.specs.Forms.{IsRead};
-ghost use Rattle.wire.specs.Reading.{fields_of, mutation_form, nothing_more, only_value, operation_form};
+ghost use Rattle.wire.specs.Forms.{IsRead, IsUnlessMemory};
+ghost use Rattle.wire.specs.Meanings.{fields_meant};
+ghost use Rattle.wire.specs.Members.{member_form};
+ghost use Rattle.wire.specs.Places.{place_form};
+ghost use Rattle.wire.specs.Reading.{fields_form, five_parts, mutation_form, nothing_more, only_value, operation_form};
+ghost use Rattle.wire.specs.Vectors.{vector_form};
 
 use crate::forms::phrase_in;
 use crate::members::member_in;
 use crate::places::place_in;
 use crate::vectors::vector_in;
-use ids::{Refusal, ReplicaTable};
+use cursor::Place;
+use ids::{OpId, Refusal, ReplicaTable};
 use operation::{Mutation, Op};
 use serde_json::Value;
 use std::alloc::Global;
 use value::Val;
+use version::VersionVector;
 
-/// An operation after its word.
+/// The operation that JSON stands for. The first fault from the left decides.
 pub(crate) fn operation_in(
     alloc: Global,
     table: &ReplicaTable,
@@ -28,25 +35,11 @@ pub(crate) fn operation_in(
     ensures read { IsRead (stamped_of table.now) result (operation_form table.now (view value.now)) }
     ensures width { IfOk result (λ o. length o.deps ≡ length table.now) }
 {
-    let (word, parts) = phrase_in(value)?;
-    match word {
-        "op" => fields_in(alloc, table, parts),
-        _ => Err(Refusal::BadLine),
-    }
-}
-
-/// Id, vector, path with last key, and mutation. The first fault decides.
-fn fields_in(alloc: Global, table: &ReplicaTable, parts: &[Value]) -> Result<Op, Refusal>
-    ensures read { IsRead (stamped_of table.now) result (fields_of table.now (items_view parts.now)) }
-    ensures width { IfOk result (λ o. length o.deps ≡ length table.now) }
-{
-    let [id, vector, path, last, mutation] = parts else {
-        return Err(Refusal::BadLine);
-    };
-    let id = member_in(table, id)?;
-    let deps = vector_in(alloc, table, vector)?;
-    let place = place_in(alloc, table, path, last)?;
-    let mutation = mutation_in(alloc, mutation)?;
+    let fields = OperationFields::of(value)?;
+    let id = fields.id(table)?;
+    let deps = fields.vector(alloc, table)?;
+    let place = fields.place(alloc, table)?;
+    let mutation = fields.mutation(alloc)?;
     Ok(Op {
         id,
         deps,
@@ -55,19 +48,77 @@ fn fields_in(alloc: Global, table: &ReplicaTable, parts: &[Value]) -> Result<Op,
     })
 }
 
-/// What is done: a word, and the value that is written.
-fn mutation_in(alloc: Global, value: &Value) -> Result<Mutation, Refusal>
-    ensures { IsRead mutation_of result (mutation_form (view value.now)) }
-{
-    let (word, parts) = phrase_in(value)?;
-    match word {
-        "a" => Ok(Mutation::Assign(only_value_in(alloc, parts)?)),
-        "i" => Ok(Mutation::Insert(only_value_in(alloc, parts)?)),
-        "d" => {
-            check_no_more(parts)?;
-            Ok(Mutation::Delete)
+/// The fields of an operation, unread. Each method reads its own and gives that field's refusals alone, so another way to write one of them is one more method here.
+#[derive(Drop)]
+struct OperationFields<'a> {
+    id: &'a Value,
+    vector: &'a Value,
+    path: &'a Value,
+    last: &'a Value,
+    mutation: &'a Value,
+}
+
+impl<'a> OperationFields<'a> {
+    /// The parts after the word.
+    fn of(value: &'a Value) -> Result<OperationFields<'a>, Refusal>
+        ensures { MatchResult result (λ f. fields_form (view value.entry.now) ≡ Ok (fields_meant f)) (λ why. fields_form (view value.entry.now) ≡ Err why) }
+    {
+        let (word, parts) = phrase_in(value)?;
+        match word {
+            "op" => OperationFields::of_parts(parts),
+            _ => Err(Refusal::BadLine),
         }
-        _ => Err(Refusal::BadLine),
+    }
+
+    fn of_parts(parts: &'a [Value]) -> Result<OperationFields<'a>, Refusal>
+        ensures { MatchResult result (λ f. five_parts (items_view parts.entry.now) ≡ Ok (fields_meant f)) (λ why. five_parts (items_view parts.entry.now) ≡ Err why) }
+    {
+        let [id, vector, path, last, mutation] = parts else {
+            return Err(Refusal::BadLine);
+        };
+        Ok(OperationFields {
+            id,
+            vector,
+            path,
+            last,
+            mutation,
+        })
+    }
+
+    fn id(&self, table: &ReplicaTable) -> Result<OpId, Refusal>
+        ensures { result ≡ member_form table.now (view self.now.id.now) }
+    {
+        member_in(table, self.id)
+    }
+
+    fn vector(&self, alloc: Global, table: &ReplicaTable) -> Result<VersionVector, Refusal>
+        ensures read { IsRead (by_table table.now) result (vector_form table.now (view self.now.vector.now)) }
+        ensures width { IfOk result (λ v. length v ≡ length table.now) }
+    {
+        vector_in(alloc, table, self.vector)
+    }
+
+    /// The path and the last key together.
+    fn place(&self, alloc: Global, table: &ReplicaTable) -> Result<Place, Refusal>
+        ensures { IsUnlessMemory result (place_form table.now (view self.now.path.now) (view self.now.last.now)) }
+    {
+        place_in(alloc, table, self.path, self.last)
+    }
+
+    /// What is done: a word, and the value that is written.
+    fn mutation(&self, alloc: Global) -> Result<Mutation, Refusal>
+        ensures { IsRead mutation_of result (mutation_form (view self.now.mutation.now)) }
+    {
+        let (word, parts) = phrase_in(self.mutation)?;
+        match word {
+            "a" => Ok(Mutation::Assign(only_value_in(alloc, parts)?)),
+            "i" => Ok(Mutation::Insert(only_value_in(alloc, parts)?)),
+            "d" => {
+                check_no_more(parts)?;
+                Ok(Mutation::Delete)
+            }
+            _ => Err(Refusal::BadLine),
+        }
     }
 }
 
