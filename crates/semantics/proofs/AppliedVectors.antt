@@ -1,6 +1,5 @@
 -- The vector of all that was applied.
 use Rattle.std.proofs.Common.{◌≡◌, ◌≢◌, ℕ, ◌≤◌, max, true, cond, ◌==◌, List, [], ◌∷◌, length, refl, sym, ap, ◌∙◌, inl, inr, arith}
-use Rattle.semantics.specs.Ids.{OpId}
 use Rattle.semantics.specs.Operations.{Operation}
 use Rattle.semantics.specs.LegalHistory.{IsAmong, IsLegal, HaveSameOperations, greatest_of}
 use Rattle.semantics.specs.Vectors.{at, greatest, IsCanonical}

@@ -31,7 +31,7 @@ use Rattle.semantics.proofs.ReachedWorlds.{has_more}
 use Rattle.semantics.proofs.Room.{in_put_itself}
 use Rattle.semantics.proofs.Staying.{stay_for}
 
-waiting_one : (W : List Stamped) (a : OpId) → is_waiting W a ≡ true → (x : Stamped) × IsAmong x W × (x.id ≡ a)
+pub waiting_one : (W : List Stamped) (a : OpId) → is_waiting W a ≡ true → (x : Stamped) × IsAmong x W × (x.id ≡ a)
 waiting_one [] a h = absurd (true≢false (sym h))
 waiting_one (y ∷ W) a h = elim (or_cases (is_same_id y.id a) (is_waiting W a) h) [
   | inl e ↦ (y, inl refl, ids_from_test y.id a e)

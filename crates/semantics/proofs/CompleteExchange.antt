@@ -30,14 +30,14 @@ same_members r s Kept = refl
 same_members r s Known = refl
 same_members r s (NotKept f) = refl
 
-settled_next : (K : List Operation) → IsLegal K → (p : ℕ) (r : Replica) (s : Stamped) → IsSettled K p r → IsOfWorld K s → IsSettled K p (receive r s)
+pub settled_next : (K : List Operation) → IsLegal K → (p : ℕ) (r : Replica) (s : Stamped) → IsSettled K p r → IsOfWorld K s → IsSettled K p (receive r s)
 settled_next K lk p r s h of = record {
   world = received K lk p r s h.world of;
   end = (drained (deliver r s) (delivered r s h.world.running)).2;
   few = bounded r s h.world.running h.few;
 }
 
-one_more : (s : Stamped) (F : List Stamped) (d : Replica) → has_id (operations d) s.id ≡ true → ((a : OpId) → has_id (operations_of F) a ≡ true → has_id (operations d) a ≡ true) → (a : OpId) → has_id (operations_of (s ∷ F)) a ≡ true → has_id (operations d) a ≡ true
+pub one_more : (s : Stamped) (F : List Stamped) (d : Replica) → has_id (operations d) s.id ≡ true → ((a : OpId) → has_id (operations_of F) a ≡ true → has_id (operations d) a ≡ true) → (a : OpId) → has_id (operations_of (s ∷ F)) a ≡ true → has_id (operations d) a ≡ true
 one_more s F d t h a e = elim (or_cases (is_same_id s.id a) (has_id (operations_of F) a) e) [
   | inl f ↦ ap (has_id (operations d)) (sym (ids_from_test s.id a f)) ∙ t
   | inr f ↦ h a f

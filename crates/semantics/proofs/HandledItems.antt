@@ -19,7 +19,7 @@ use Rattle.semantics.proofs.EntryHistories.{all_named, entries_legal}
 use Rattle.semantics.proofs.OwnReplies.{own_made, own_refused}
 use Rattle.semantics.proofs.Delivered.{own_committed}
 use Rattle.semantics.proofs.Beginnings.{IsGoodReply}
-use Rattle.semantics.proofs.ReceivedItems.{IsReceived, received}
+use Rattle.semantics.proofs.ReceivedItems.{received}
 
 -- the replica t after the item x, and the reply to it
 pub record IsHandled (r : Replica) (x : Submitted) (t : Replica) (reply : Reply) : Type 0 where

@@ -85,9 +85,33 @@ pub mod SoundSteps
 pub mod SoundWorlds
 pub mod WorldReplies
 pub mod SeenReadings
+-- worlds whose engines send each other what they have
+pub mod AmongLists
+pub mod PublishedMessages
+pub mod KeptMessages
+pub mod GrownWorlds
+pub mod SettledItems
+pub mod EngineMoves
+pub mod KeptSteps
+pub mod TrackedEngines
+pub mod SentOperations
+pub mod OpenedWorlds
+pub mod EnginesOfOneWorld
+pub mod EnginesAgree
+pub mod ComingHistory
+pub mod ArrivedItems
+pub mod ComingItems
+pub mod WholeSubmissions
+pub mod ReceivedBundles
+pub mod ExchangedMessages
+pub mod StartedReceipts
+pub mod HandledReceipts
+pub mod CompleteMessages
+pub mod WholeExchanges
 -- the premises of the laws are met
 pub mod LegalExample
 pub mod ExchangeWitness
+pub mod MessageWitness
 -- worked examples, by computation
 pub mod ExampleWords
 pub mod ShoppingList

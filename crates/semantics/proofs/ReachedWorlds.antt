@@ -30,7 +30,7 @@ at_each P W p r rest here q = at_test (q == p) refl
     at_test true e = subst (λ (n : ℕ). P n r) (sym (eqb-true q p e)) here
     at_test false e = rest q (eqb-false q p e)
 
-grown : (K : List Operation) (o : Operation) (s : Stamped) → IsOfWorld K s → IsOfWorld (o ∷ K) s
+pub grown : (K : List Operation) (o : Operation) (s : Stamped) → IsOfWorld K s → IsOfWorld (o ∷ K) s
 grown K o s w = record { history = w.history; legal = w.legal; within = λ x m. inr (w.within x m); there = w.there }
 
 -- a delivery changes what waits alone, by the operation at most
@@ -62,7 +62,7 @@ received K lk p r s h of =
       none_dropped = keeps.none_dropped ∙ same.1 ∙ h.none_dropped;
     }
 
-committed : (K : List Operation) → IsLegal K → (p client serial : ℕ) (c : Command) (r : Replica) (s : Stamped) → IsReplicaOf K p r → NamesAll (operations r) s.vector → make (operations r) p c ≡ Ok (operation_after (operations r) s) → IsAbove client serial r.entries
+pub committed : (K : List Operation) → IsLegal K → (p client serial : ℕ) (c : Command) (r : Replica) (s : Stamped) → IsReplicaOf K p r → NamesAll (operations r) s.vector → make (operations r) p c ≡ Ok (operation_after (operations r) s) → IsAbove client serial r.entries
     → IsReplicaOf (operation_after (operations r) s ∷ K) p (commit_own r client serial c s)
 committed K lk p client serial c r s h n e above = record {
   own = h.own;

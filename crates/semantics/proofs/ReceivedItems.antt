@@ -1,11 +1,11 @@
 -- A delivery with its drain extends the entry history of a replica, and the reply is legal.
-use Rattle.std.proofs.Common.{◌≡◌, ℕ, ◌≤◌, List, [], ◌∷◌, ◌++◌, length, refl, sym, ap, ◌∙◌, subst, arith}
+use Rattle.std.proofs.Common.{◌≡◌, ℕ, ◌≤◌, List, [], ◌∷◌, length, refl, sym, ap, ◌∙◌, subst, arith}
 use Rattle.semantics.specs.Stamped.{Stamped}
 use Rattle.semantics.specs.Entries.{Entry, Peer, IsAbove}
-use Rattle.semantics.specs.LegalAnswer.{Reply, IsLegalReceipt}
+use Rattle.semantics.specs.LegalAnswer.{IsLegalReceipt}
 use Rattle.semantics.specs.Replica.{Replica, IsRunning}
 use Rattle.semantics.specs.Delivery.{Delivered, Kept, Known, NotKept, answer_to, kept_by, deliver}
-use Rattle.semantics.specs.Drain.{counted, drain, receive, with_peers, Drains}
+use Rattle.semantics.specs.Drain.{counted, receive, with_peers, Drains}
 use Rattle.semantics.specs.WriteSteps.{reply_delivered}
 use Rattle.semantics.specs.WorldHistory.{BeginsWith, IsNotBelow}
 use Rattle.semantics.proofs.Delivered.{delivered}
@@ -50,7 +50,7 @@ above_with_peers : (client serial : ℕ) (M : List Stamped) (G : List Entry) →
 above_with_peers client serial [] G a = a
 above_with_peers client serial (s ∷ M) G a = above_with_peers client serial M G a
 
-running_counted : (r : Replica) → IsRunning r → IsRunning (counted r)
+pub running_counted : (r : Replica) → IsRunning r → IsRunning (counted r)
 running_counted r h = record { history = h.history; alone = h.alone; foreign = h.foreign; unapplied = h.unapplied; rising = h.rising }
 
 -- ---- the reply

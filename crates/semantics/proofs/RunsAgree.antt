@@ -5,15 +5,13 @@ use Rattle.semantics.specs.Operations.{Operation}
 use Rattle.semantics.specs.LegalHistory.{IsLegal, IsAmong, has_id, HaveSameOperations}
 use Rattle.semantics.specs.Questions.{Question}
 use Rattle.semantics.specs.DocumentAnswer.{document_answer}
-use Rattle.semantics.specs.Entries.{stamped_of}
 use Rattle.semantics.specs.Replica.{operations}
 use Rattle.semantics.specs.OneWorld.{AreWithin}
 use Rattle.semantics.specs.Runs.{Replicas, IsReached}
 use Rattle.semantics.proofs.AbsentIds.{has_id-among}
 use Rattle.semantics.proofs.LegalFacts.{among_from, same_operation}
 use Rattle.semantics.proofs.DocumentIsView.{document_is_view, document_is_view_of_set}
-use Rattle.semantics.proofs.NamedOperations.{legal}
-use Rattle.semantics.proofs.EntryHistories.{entries_legal}
+use Rattle.semantics.proofs.GrowingWorld.{legal_entries}
 use Rattle.semantics.proofs.ReachedWorlds.{one_world}
 
 -- in one world what has an id has its operation
@@ -28,10 +26,12 @@ held K H J l wh wj same o m =
 same_ids_same_operations : (K H J : List Operation) → IsLegal K → AreWithin H K → AreWithin J K → ((a : OpId) → has_id H a ≡ has_id J a) → HaveSameOperations H J
 same_ids_same_operations K H J l wh wj same o = (held K H J l wh wj same o, held K J H l wj wh (λ a. sym (same a)) o)
 
+-- in one world histories that have the same ids answer alike
+pub histories_agree : (K H J : List Operation) → IsLegal K → IsLegal H → IsLegal J → AreWithin H K → AreWithin J K → ((a : OpId) → has_id H a ≡ has_id J a) → (q : Question) → document_answer H q ≡ document_answer J q
+histories_agree K H J l lh lj wh wj same q = document_is_view H lh q ∙ sym (document_is_view_of_set J H lj (same_ids_same_operations K H J l wh wj same) q)
+
 pub runs_agree : (members : ℕ → List ℕ) (W : Replicas) → IsReached members W → (p q : ℕ) → ((a : OpId) → has_id (operations (W p)) a ≡ has_id (operations (W q)) a)
     → (x : Question) → document_answer (operations (W p)) x ≡ document_answer (operations (W q)) x
 runs_agree members W r p q same x =
     let w = one_world members W r in
-    let lp : IsLegal (operations (W p)) = legal (stamped_of (W p).entries) (entries_legal (W p).own (W p).entries (w.2 p).running.history) in
-    let lq : IsLegal (operations (W q)) = legal (stamped_of (W q).entries) (entries_legal (W q).own (W q).entries (w.2 q).running.history) in
-    document_is_view (operations (W p)) lp x ∙ sym (document_is_view_of_set (operations (W q)) (operations (W p)) lq (same_ids_same_operations w.0 (operations (W p)) (operations (W q)) w.1 (w.2 p).within (w.2 q).within same) x)
+    histories_agree w.0 (operations (W p)) (operations (W q)) w.1 (legal_entries (W p) (w.2 p).running) (legal_entries (W q) (w.2 q).running) (w.2 p).within (w.2 q).within same x

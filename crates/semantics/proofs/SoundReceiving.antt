@@ -1,11 +1,11 @@
 -- An engine stays sound where it answers a hello, and where a client receives what a peer sent.
-use Rattle.std.proofs.Common.{◌≡◌, ℕ, suc, Bool, true, false, List, [], ◌∷◌, length, Option, Some, None, refl, slice_get}
+use Rattle.std.proofs.Common.{◌≡◌, ℕ, suc, Bool, true, false, List, [], ◌∷◌, Option, Some, None, refl, slice_get}
 use Rattle.ids.specs.declared.refusal.Refusal.{Refusal}
 use Rattle.semantics.specs.Stamped.{Stamped}
 use Rattle.semantics.specs.LegalAnswer.{OfPeer}
 use Rattle.semantics.specs.Engine.{Engine, Client, Message, Hello, Bundle}
 use Rattle.semantics.specs.WriteSteps.{push}
-use Rattle.semantics.specs.PeerSteps.{names_members, answer_hello, Receipt, refusal_in, unless_refused, submit_all, receive_lines, before_stranger, stranger_fault, receive_message}
+use Rattle.semantics.specs.PeerSteps.{names_members, answer_hello, refusal_in, unless_refused, submit_all, receive_lines, before_stranger, stranger_fault, receive_message}
 use Rattle.semantics.proofs.SoundEngines.{IsSound, IsLater}
 use Rattle.semantics.proofs.SoundSeeing.{later_refl, later_trans, seen_all}
 use Rattle.semantics.proofs.SoundSubmitting.{pushed}

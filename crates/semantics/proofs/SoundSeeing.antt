@@ -1,5 +1,5 @@
 -- An engine stays sound where a token sees more of what is published: at a poll and at a question.
-use Rattle.std.proofs.Common.{◌≡◌, ℕ, zero, suc, ◌-◌, ◌<◌, ◌≤◌, max, List, [], ◌∷◌, length, get_or, Option, Some, None, refl, ap, arith, slice_get, slice_set}
+use Rattle.std.proofs.Common.{◌≡◌, ℕ, zero, suc, ◌-◌, ◌≤◌, max, List, [], ◌∷◌, length, get_or, Option, Some, None, refl, ap, arith, slice_get, slice_set}
 use Rattle.std.proofs.Math.Nat.{le-max_left, max-le}
 use Rattle.semantics.specs.LegalAnswer.{Asked}
 use Rattle.semantics.specs.Engine.{Engine, Client, Cell, Given}

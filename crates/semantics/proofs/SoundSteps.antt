@@ -12,7 +12,7 @@ use Rattle.semantics.proofs.SoundTaking.{took}
 use Rattle.semantics.proofs.SoundPublishing.{published}
 use Rattle.semantics.proofs.SoundGiving.{answer_given}
 
-taken_for : (n : ℕ) (E : Engine) → IsSound E → IsLater E (take_for n E)
+pub taken_for : (n : ℕ) (E : Engine) → IsSound E → IsLater E (take_for n E)
 taken_for zero E s = later_refl E s
 taken_for (suc n) E s =
     let one = took E s in

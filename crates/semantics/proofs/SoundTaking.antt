@@ -27,7 +27,7 @@ module _ (E : Engine) (x : Submitted) (queue : List Submitted) (s : IsSound E) (
   client_cell k h = sym (ap (cell_of x.serial) h) ∙ its_cell
 
   -- the history is no shorter than what the client had seen
-  floor_within : x.floor ≤ length E.replica.entries
+  pub floor_within : x.floor ≤ length E.replica.entries
   floor_within = at_client (slice_get E.clients x.client) refl
     where
       at_client : (o : Option Client) → slice_get E.clients x.client ≡ o → x.floor ≤ length E.replica.entries

@@ -56,7 +56,7 @@ sound_opened (c ∷ cs) (suc e) E h = sound_opened cs e E h
 
 -- ---- a step
 
-sound_step : (W : World) (w : WorldStep) → IsSoundWorld W → IsSoundWorld (world_step W w).world
+pub sound_step : (W : World) (w : WorldStep) → IsSoundWorld W → IsSoundWorld (world_step W w).world
 sound_step W w s = at_engine (slice_get W.engines (mover w)) refl
   where
     at_engine : (o : Option Engine) → slice_get W.engines (mover w) ≡ o → IsSoundWorld (world_step W w).world
@@ -97,7 +97,7 @@ grown_after W (w ∷ steps) s e E F h k =
     let one = later_step W w s e E h in
     grown_trans E one.0 F one.2.grown (grown_after (world_step W w).world steps (sound_step W w s) e one.0 F one.1 k)
 
-after_more : (W : World) (steps more : List WorldStep) → world_after W (steps ++ more) ≡ world_after (world_after W steps) more
+pub after_more : (W : World) (steps more : List WorldStep) → world_after W (steps ++ more) ≡ world_after (world_after W steps) more
 after_more W [] more = refl
 after_more W (w ∷ steps) more = after_more (world_step W w).world steps more
 

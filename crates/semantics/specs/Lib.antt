@@ -29,4 +29,5 @@ pub mod ReadSteps
 pub mod PeerSteps
 pub mod World
 pub mod WorldHistory
+pub mod WorldExchange
 pub mod Codes

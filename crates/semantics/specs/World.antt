@@ -6,7 +6,7 @@ use Rattle.ids.specs.declared.refusal.Refusal.{Refusal}
 use Rattle.semantics.specs.Stamped.{Stamped}
 use Rattle.semantics.specs.Making.{Command}
 use Rattle.semantics.specs.LegalAnswer.{OfCommand, Asked}
-use Rattle.semantics.specs.Engine.{Engine, Client, Message, Hello, StepReply, Idle, Dropped, Turn}
+use Rattle.semantics.specs.Engine.{Engine, Message, Hello, StepReply, Idle, Dropped, Turn}
 use Rattle.semantics.specs.WriteSteps.{push, take_item, publish, give, whole_step}
 use Rattle.semantics.specs.ReadSteps.{poll, ask, learn}
 use Rattle.semantics.specs.PeerSteps.{published_vector, say_hello, answer_hello, answer_sent, receive_lines, receive_message}

@@ -11,3 +11,4 @@ pub mod one_world;
 pub mod replica;
 pub mod vectors;
 pub mod world;
+pub mod world_exchange;

@@ -1,18 +1,22 @@
 //! What holds of every run of a world, over every list of steps.
 
-ghost use Rattle.std.specs.Prelude.{◌≡◌, ◌+◌, ◌<◌, ◌≤◌, ℕ, suc, List, ◌++◌, length, Some, slice_get};
+ghost use Rattle.std.specs.Prelude.{◌≡◌, ◌+◌, ◌<◌, ◌≤◌, ℕ, suc, List, ◌++◌, length, Option, Some, slice_get};
 ghost use Rattle.ids.specs.Configurations.{Configuration};
 ghost use Rattle.semantics.specs.Ids.{OpId};
+ghost use Rattle.semantics.specs.LegalHistory.{IsAmong};
+ghost use Rattle.semantics.specs.NamedIds.{vector_of};
+ghost use Rattle.semantics.specs.Vectors.{Vector};
 ghost use Rattle.semantics.specs.Questions.{Question};
 ghost use Rattle.semantics.specs.View.{view};
 ghost use Rattle.semantics.specs.Stamped.{Stamped};
 ghost use Rattle.semantics.specs.Making.{Command};
-ghost use Rattle.semantics.specs.Entries.{IsEntryHistory, Own, applied, entry_at, first_entries};
+ghost use Rattle.semantics.specs.Entries.{IsEntryHistory, Own, applied, entry_at, first_entries, stamped_of};
 ghost use Rattle.semantics.specs.LegalAnswer.{Request, OfCommand, Submitted, Reply, Made, Asked, OfDocument, Reading, Answered, IsLegalReply, reading_of};
-ghost use Rattle.semantics.specs.Engine.{Engine, Client, Given, Ticket, Replied, Read, published_entries};
+ghost use Rattle.semantics.specs.Engine.{Engine, Client, Given, Message, Hello, Bundle, Ticket, Replied, Read, SentBundle, published_entries};
 ghost use Rattle.semantics.specs.WriteSteps.{next_item, push};
-ghost use Rattle.semantics.specs.ReadSteps.{poll, ask, seen_by};
-ghost use Rattle.semantics.specs.World.{WorldStep};
+ghost use Rattle.semantics.specs.ReadSteps.{poll, ask, learn, seen_by};
+ghost use Rattle.semantics.specs.PeerSteps.{say_hello, answer_hello};
+ghost use Rattle.semantics.specs.World.{WorldStep, sent_by};
 ghost use Rattle.semantics.specs.WorldHistory.{IsEngineAfter, BeginsWith, WasSubmitted, WasGiven, IsNotBelow, HasGrown};
 
 /// Each history is an entry history of its replica. What is published is a beginning of it, and no token has seen more than that.
@@ -60,14 +64,26 @@ pub fn readings_are_of_what_is_published()
         R ≡ Answered (view (applied (published_entries E)) q) }
 {}
 
-/// What a token reads, it has seen: after a question all that is published, after a poll at least what was published with the answer.
+/// What a token reads, it has seen: after a question, a hello and an answer to one all that is published, after a poll and after it learnt of an answer at least what was published with that.
 pub fn tokens_see_what_they_read()
-    ensures client { (E : Engine) (c : ℕ) (k : Client) (q : Asked) → slice_get E.clients c ≡ Some k →
-        seen_by (ask E c q).engine c ≡ E.published }
-    ensures reader { (E : Engine) (i : ℕ) (q : Asked) → i < length E.readers →
-        seen_by (ask E (length E.clients + i) q).engine (length E.clients + i) ≡ E.published }
+    ensures asked { (E : Engine) (t : ℕ) (q : Asked) → t < length E.clients + length E.readers →
+        seen_by (ask E t q).engine t ≡ E.published }
+    ensures greeted { (E : Engine) (t k : ℕ) → t < length E.clients + length E.readers →
+        seen_by (say_hello E t k).engine t ≡ E.published }
+    ensures answered { (E : Engine) (t k j n : ℕ) (m : Option Message) → t < length E.clients + length E.readers →
+        (answer_hello E t k m).reply ≡ SentBundle j n → seen_by (answer_hello E t k m).engine t ≡ E.published }
     ensures polled { (E : Engine) (c serial : ℕ) (g : Given) → WasGiven E c serial g →
         g.published ≤ seen_by (poll E c serial).engine c }
+    ensures learnt { (E : Engine) (t c serial : ℕ) (g : Given) → t < length E.clients + length E.readers → WasGiven E c serial g →
+        g.published ≤ seen_by (learn E t c serial).engine t }
+{}
+
+/// What is sent is published: a hello names what is, and each operation of a bundle stands in the published history.
+pub fn what_is_sent_is_published()
+    ensures hello { (ms : List Message) (step : WorldStep) (E : Engine) (v : Vector) → IsAmong (Hello v) (sent_by ms step E) →
+        v ≡ vector_of (applied (published_entries E)) }
+    ensures bundle { (ms : List Message) (step : WorldStep) (E : Engine) (ss : List Stamped) → IsAmong (Bundle ss) (sent_by ms step E) →
+        (s : Stamped) → IsAmong s ss → IsAmong s (stamped_of (published_entries E)) }
 {}
 
 /// Nothing that was seen goes away: histories, what is published of them and what tokens have seen only grow, and what was submitted and answered stays.

@@ -1,0 +1,51 @@
+-- What a step sends is published.
+use Rattle.std.proofs.Common.{◌≡◌, inl, inr, ℕ, Bool, true, false, not, cond, List, [], ◌∷◌, Option, Some, None, refl, sym, subst, slice_get, reverse}
+use Rattle.semantics.specs.Vectors.{Vector, covers}
+use Rattle.semantics.specs.LegalHistory.{IsAmong}
+use Rattle.semantics.specs.NamedIds.{vector_of}
+use Rattle.semantics.specs.Stamped.{Stamped}
+use Rattle.semantics.specs.Entries.{applied, stamped_of, missing}
+use Rattle.semantics.specs.Engine.{Engine, Message, Hello, Bundle, published_entries}
+use Rattle.semantics.specs.PeerSteps.{answer_sent, lacked, names_members}
+use Rattle.semantics.specs.World.{WorldStep, Push, Take, Publish, Give, Whole, Poll, Ask, Learn, SayHello, AnswerHello, Deliver, Lines, CountDropped, sent_by}
+use Rattle.semantics.proofs.AmongLists.{in_reverse, in_filter}
+
+-- a hello of the vector of what is published, or a bundle of published operations
+abbrev IsPublished : Engine → Message → Type 0
+IsPublished E (Hello v) = v ≡ vector_of (applied (published_entries E))
+IsPublished E (Bundle ss) = (s : Stamped) → IsAmong s ss → IsAmong s (stamped_of (published_entries E))
+
+lacked_published : (E : Engine) (v : Vector) (s : Stamped) → IsAmong s (lacked E v) → IsAmong s (stamped_of (published_entries E))
+lacked_published E v s m = in_filter (λ x. not (covers v x.id)) (stamped_of (published_entries E)) s (in_reverse (missing v (stamped_of (published_entries E))) s m)
+
+answer_published : (E : Engine) (o : Option Message) (m : Message) → IsAmong m (answer_sent E o) → IsPublished E m
+answer_published E None m h = absurd h
+answer_published E (Some (Bundle ss)) m h = absurd h
+answer_published E (Some (Hello v)) m h = at_test (names_members E v) h
+  where
+    at_test : (b : Bool) → IsAmong m (cond b (Bundle (lacked E v) ∷ []) []) → IsPublished E m
+    at_test true (inl e) = subst (IsPublished E) (sym e) (lacked_published E v)
+    at_test true (inr n) = absurd n
+    at_test false n = absurd n
+
+sent_published : (ms : List Message) (step : WorldStep) (E : Engine) (m : Message) → IsAmong m (sent_by ms step E) → IsPublished E m
+sent_published ms (SayHello e t) E m (inl h) = subst (IsPublished E) (sym h) refl
+sent_published ms (SayHello e t) E m (inr n) = absurd n
+sent_published ms (AnswerHello e t k) E m h = answer_published E (slice_get ms k) m h
+sent_published ms (Push e c command) E m h = absurd h
+sent_published ms (Take e) E m h = absurd h
+sent_published ms (Publish e) E m h = absurd h
+sent_published ms (Give e) E m h = absurd h
+sent_published ms (Whole e) E m h = absurd h
+sent_published ms (Poll e c serial) E m h = absurd h
+sent_published ms (Ask e t q) E m h = absurd h
+sent_published ms (Learn e t c serial) E m h = absurd h
+sent_published ms (Deliver e c k) E m h = absurd h
+sent_published ms (Lines e c ss bad) E m h = absurd h
+sent_published ms (CountDropped e) E m h = absurd h
+
+pub hello_published : (ms : List Message) (step : WorldStep) (E : Engine) (v : Vector) → IsAmong (Hello v) (sent_by ms step E) → v ≡ vector_of (applied (published_entries E))
+hello_published ms step E v m = sent_published ms step E (Hello v) m
+
+pub bundle_published : (ms : List Message) (step : WorldStep) (E : Engine) (ss : List Stamped) → IsAmong (Bundle ss) (sent_by ms step E) → (s : Stamped) → IsAmong s ss → IsAmong s (stamped_of (published_entries E))
+bundle_published ms step E ss m = sent_published ms step E (Bundle ss) m

@@ -1,0 +1,45 @@
+//! What holds of every run of a world in which all that is received was sent by its engines, and no two have one own number.
+
+ghost use Rattle.std.specs.Prelude.{◌≡◌, ◌⊎◌, ℕ, List, ◌++◌, Some, slice_get};
+ghost use Rattle.ids.specs.Configurations.{Configuration};
+ghost use Rattle.semantics.specs.Ids.{OpId};
+ghost use Rattle.semantics.specs.Operations.{Operation};
+ghost use Rattle.semantics.specs.LegalHistory.{IsLegal, has_id};
+ghost use Rattle.semantics.specs.Questions.{Question};
+ghost use Rattle.semantics.specs.DocumentAnswer.{document_answer};
+ghost use Rattle.semantics.specs.Entries.{Entry, applied};
+ghost use Rattle.semantics.specs.OneWorld.{IsReplicaOf};
+ghost use Rattle.semantics.specs.Engine.{Engine, Message, published_entries};
+ghost use Rattle.semantics.specs.World.{WorldStep, opened, world_after};
+ghost use Rattle.semantics.specs.WorldHistory.{IsEngineAfter};
+ghost use Rattle.semantics.specs.WorldExchange.{HaveOwnNumbers, AreWithoutLines, IsExchange, IsHandledBelow, HasApplied, IsFullWithout};
+
+/// All histories are of one legal history, and no engine drops anything.
+pub fn histories_are_of_one_world()
+    ensures { (cs : List Configuration) (steps : List WorldStep) → HaveOwnNumbers cs → AreWithoutLines steps →
+        (K : List Operation) × IsLegal K
+        × ((e : ℕ) (E : Engine) → IsEngineAfter cs steps e E → IsReplicaOf K E.replica.own E.replica) }
+{}
+
+/// Engines that have published the same ids answer every question alike.
+pub fn engines_answer_alike()
+    ensures { (cs : List Configuration) (steps : List WorldStep) → HaveOwnNumbers cs → AreWithoutLines steps →
+        (d e : ℕ) (D E : Engine) → IsEngineAfter cs steps d D → IsEngineAfter cs steps e E →
+        ((a : OpId) → has_id (applied (published_entries D)) a ≡ has_id (applied (published_entries E)) a) →
+        (q : Question) → document_answer (applied (published_entries D)) q ≡ document_answer (applied (published_entries E)) q }
+{}
+
+/// A message that was sent stays under its number.
+pub fn messages_stay()
+    ensures { (cs : List Configuration) (steps more : List WorldStep) (k : ℕ) (m : Message) →
+        slice_get (world_after (opened cs) steps).messages k ≡ Some m →
+        slice_get (world_after (opened cs) (steps ++ more)).messages k ≡ Some m }
+{}
+
+/// An engine that said hello and received the answer has, once what came is handled, all that its peer had published when it answered, and none of it waits, unless its history was full before all of it was there.
+pub fn an_exchange_of_messages_is_complete()
+    ensures { (cs : List Configuration) (steps : List WorldStep) → HaveOwnNumbers cs → AreWithoutLines steps →
+        (a b c end : ℕ) (published : List Entry) (A : Engine) → IsExchange cs steps a b c end published →
+        IsEngineAfter cs steps a A → IsHandledBelow A c end →
+        IsFullWithout A.replica (applied published) ⊎ HasApplied A.replica (applied published) }
+{}
