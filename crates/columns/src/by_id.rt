@@ -100,26 +100,43 @@ fn id_at<T>(ids: &IdColumns, beside: &[(ReplicaId, T)], place: usize) -> OpId
     OpId { counter, replica }
 }
 
-/// The place of an id, or the one to which it goes. It looks from the end.
-fn find_from_end<T>(ids: &IdColumns, beside: &[(ReplicaId, T)], id: OpId) -> Result<usize, usize>
+/// The place of an id, or the one to which it goes. One comparison where it goes to the end, and else a search by halves.
+fn find_id<T>(ids: &IdColumns, beside: &[(ReplicaId, T)], id: OpId) -> Result<usize, usize>
     requires { AreEntries ids.now.ids beside.now }
     ensures { MatchResult result (StandsAt id_cmp id (keys_of (entries_of ids.now.ids beside.now))) (GoesTo id_cmp id (keys_of (entries_of ids.now.ids beside.now))) }
 {
-    let mut place = beside.len();
-    while place > 0 {
-        match id.cmp(&id_at(ids, beside, place - 1)) {
-            Ordering::Greater => return Err(place),
-            Ordering::Equal => return Ok(place - 1),
-            Ordering::Less => place -= 1,
+    if is_greatest(ids, beside, id) {
+        return Err(beside.len());
+    }
+    let mut low = 0;
+    let mut high = beside.len();
+    while low < high {
+        let middle = low + (high - low) / 2;
+        match id.cmp(&id_at(ids, beside, middle)) {
+            Ordering::Less => high = middle,
+            Ordering::Equal => return Ok(middle),
+            Ordering::Greater => low = middle + 1,
         }
     }
-    Err(0)
+    Err(low)
+}
+
+/// Whether the id is greater than all.
+fn is_greatest<T>(ids: &IdColumns, beside: &[(ReplicaId, T)], id: OpId) -> bool
+    requires { AreEntries ids.now.ids beside.now }
+    ensures { IsTrue result → GoesTo id_cmp id (keys_of (entries_of ids.now.ids beside.now)) (length beside.now) }
+{
+    let count = beside.len();
+    if count == 0 {
+        return true;
+    }
+    id.cmp(&id_at(ids, beside, count - 1)).is_gt()
 }
 
 impl<T: Drop> ById<T> {
     /// Puts an entry in its place, where `index` is the place of the id's replica in the table. What stood beside the id goes, if there was something.
     ///
-    /// Takes no memory. It looks from the end and moves each entry of a greater id, so for the greatest id it is one push.
+    /// Takes no memory. It searches by halves and moves each entry of a greater id; for the greatest id it is one comparison and one push.
     pub fn put(&mut self, id: OpId, index: usize, value: T)
         requires { 0 < self.old.room }
         ensures entries { self.new.entries ≡ put id_cmp id value self.old.entries }
@@ -161,7 +178,7 @@ fn put_in<T: Drop>(
     ensures capacity { vec_capacity beside.new ≡ vec_capacity beside.old }
 {
     let OpId { counter, replica } = id;
-    match find_from_end(ids, beside, id) {
+    match find_id(ids, beside, id) {
         Ok(place) => beside[place] = (replica, value),
         Err(place) => {
             ids.insert(place, counter, index);
