@@ -4,6 +4,7 @@ mod asking;
 mod checks;
 mod orders;
 mod receiving;
+mod refused_memory;
 
 use super::*;
 use cursor::Place;
