@@ -1,7 +1,7 @@
 //! The program's words.
 
-ghost use Rattle.std.specs.Prelude.{◌≡◌, ◌⊎◌, true, false, IfOk, map};
-ghost use Rattle.clap.specs.Words.{app_of};
+ghost use Rattle.std.specs.Prelude.{◌≡◌, ◌≢◌, ◌⊎◌, true, false, IfOk, map};
+ghost use Rattle.clap.specs.Words.{app_of, kind_of};
 ghost use Rattle.clap.specs.Faults.{fault_of};
 ghost use Rattle.clap.specs.declared.builder.command.Command.TheViews.{out-Command as fields_of};
 ghost use Rattle.clap.specs.Kinds.{FailsBy};
@@ -57,7 +57,8 @@ fn command<'a>(alloc: Global) -> Result<Command<'a>, AllocError>
 
 /// Tells what is wrong with the words, or the help that they ask for, and gives the status of the run.
 pub fn report<W: Write>(error: &Error, faults: &mut W) -> Status
-    ensures { (result ≡ BadInput) ⊎ ((result ≡ NoMemory) ⊎ (result ≡ NotWritten)) }
+    ensures memory { kind_of error.now ≡ ErrorKind.OutOfMemory → (result ≡ NoMemory) ⊎ (result ≡ NotWritten) }
+    ensures other { kind_of error.now ≢ ErrorKind.OutOfMemory → (result ≡ BadInput) ⊎ (result ≡ NotWritten) }
 {
     if error.kind() == ErrorKind::OutOfMemory {
         return Fault::NoMemory.report(faults);

@@ -7,6 +7,8 @@ ghost use Rattle.world.specs.Worlds.{IsAskedBeside, tables_of};
 
 mod documents;
 mod lives;
+mod peers;
+mod phases;
 mod sessions;
 
 use super::*;
@@ -49,6 +51,9 @@ enum Act<'a> {
     Insert(usize, &'a [To<'a>], Wrote<'a>),
     Delete(usize, &'a [To<'a>]),
     Step,
+    Take,
+    Publish,
+    Give,
     /// This client polls this serial.
     Poll(usize, u64),
     /// This token asks for the values at this key.
@@ -59,9 +64,21 @@ enum Act<'a> {
     Items(usize, &'a [To<'a>]),
     Conflicts(usize, &'a [To<'a>]),
     Vector(usize),
+    /// This token learns of the answer to this client's serial.
+    Learn(usize, usize, u64),
+    /// This token says hello, or answers the hello of this number.
+    Hello(usize),
+    Bundle(usize, usize),
+    /// This client receives the bundle of this number, or these lines.
+    Deliver(usize, usize),
+    Lines(usize, &'a str),
+    Dropped,
 }
 
-use Act::{Ask, Assign, Conflicts, Delete, Insert, Items, Keys, Poll, Push, Step, Values, Vector};
+use Act::{
+    Ask, Assign, Bundle, Conflicts, Delete, Deliver, Dropped, Give, Hello, Insert, Items, Keys,
+    Learn, Lines, Poll, Publish, Push, Step, Take, Values, Vector,
+};
 use To::{Key as AtKey, Place};
 use Wrote::{List, Map, Null, Truth, Whole, Words};
 
@@ -148,15 +165,54 @@ fn question(alloc: Global, act: Act) -> Result<Option<(usize, Question)>, Refusa
     })
 }
 
-fn step(alloc: Global, engine: usize, act: Act) -> Result<WorldStep, Refusal>
-    ensures { (tables : List (List ℕ)) → IfOk result (IsAskedBeside tables) }
+/// The step of an act that is a phase of the writer, a poll, or of peers.
+fn other_step(alloc: Global, engine: usize, act: Act) -> Result<Option<WorldStep>, Refusal>
+    ensures { IfOk result (λ o. IfSome o (λ s. (tables : List (List ℕ)) → IsAskedBeside tables s)) }
 {
-    if let Poll(client, serial) = act {
-        return Ok(WorldStep::Poll {
+    Ok(Some(match act {
+        Take => WorldStep::Take { engine },
+        Publish => WorldStep::Publish { engine },
+        Give => WorldStep::Give { engine },
+        Poll(client, serial) => WorldStep::Poll {
             engine,
             client,
             serial,
-        });
+        },
+        Learn(token, client, serial) => WorldStep::Learn {
+            engine,
+            token,
+            client,
+            serial,
+        },
+        Hello(token) => WorldStep::Hello { engine, token },
+        Bundle(token, message) => WorldStep::Bundle {
+            engine,
+            token,
+            message,
+        },
+        Deliver(client, message) => WorldStep::Deliver {
+            engine,
+            client,
+            message,
+        },
+        Lines(client, text) => {
+            let text = text.as_bytes().to_vec(alloc)?;
+            WorldStep::Line {
+                engine,
+                client,
+                text,
+            }
+        }
+        Dropped => WorldStep::Dropped { engine },
+        _ => return Ok(None),
+    }))
+}
+
+fn step(alloc: Global, engine: usize, act: Act) -> Result<WorldStep, Refusal>
+    ensures { (tables : List (List ℕ)) → IfOk result (IsAskedBeside tables) }
+{
+    if let Some(step) = other_step(alloc, engine, act)? {
+        return Ok(step);
     }
     if let Some((client, command)) = command(alloc, act)? {
         return Ok(WorldStep::Push {
@@ -260,11 +316,34 @@ fn reading_shown(alloc: Global, reading: &Reading) -> Result<String, Fail> {
             }
         }
         Reading::Vector(vector) => {
-            for index in 0..vector.width() {
-                let counter = vector.get(index);
-                write!(text, " {counter}")?;
-            }
+            let counters = vector_shown(alloc, vector)?;
+            write!(text, "{counters}")?;
         }
+    }
+    Ok(text)
+}
+
+/// What was received as tests write it: `Received 2 from 1`, and where that stopped, `E22 at 3`.
+fn receipt_shown(
+    alloc: Global,
+    first: u64,
+    submitted: u64,
+    stopped: Option<(u64, Refusal)>,
+) -> Result<String, Fail> {
+    match stopped {
+        Some((line, why)) => {
+            Ok(format!(in alloc; "Received {submitted} from {first}, {why} at {line}")?)
+        }
+        None => Ok(format!(in alloc; "Received {submitted} from {first}")?),
+    }
+}
+
+/// The vector as tests write it, a counter for each member.
+fn vector_shown(alloc: Global, vector: &VersionVector) -> Result<String, Fail> {
+    let mut text = String::new(alloc);
+    for index in 0..vector.width() {
+        let counter = vector.get(index);
+        write!(text, " {counter}")?;
     }
     Ok(text)
 }
@@ -281,6 +360,23 @@ fn shown(alloc: Global, reply: &WorldReply) -> Result<String, Fail> {
             format!(in alloc; "Read {seen}:{text}")?
         }
         WorldReply::NotRead { seen, why } => format!(in alloc; "Not read {seen}: {why}")?,
+        WorldReply::Hello {
+            message,
+            vector,
+            ..
+        } => {
+            let text = vector_shown(alloc, vector)?;
+            format!(in alloc; "Hello {message}:{text}")?
+        }
+        WorldReply::Bundle {
+            message,
+            operations,
+        } => format!(in alloc; "Bundle {message} of {operations}")?,
+        WorldReply::Received {
+            first,
+            submitted,
+            stopped,
+        } => receipt_shown(alloc, *first, *submitted, *stopped)?,
         other => format!(in alloc; "{other:?}")?,
     })
 }

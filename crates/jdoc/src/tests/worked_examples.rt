@@ -322,6 +322,10 @@ fn lists_meet(rt: HostRuntime) {
 [\"step\",1]
 [\"ask\",0,1,[\"items\",[\"l\"]]]
 [\"ask\",1,1,[\"items\",[\"l\"]]]
+[\"ask\",1,1,[\"values\",[\"l\",1]]]
+[\"ask\",1,1,[\"values\",[\"l\",2]]]
+[\"ask\",1,1,[\"values\",[\"l\",3]]]
+[\"ask\",1,1,[\"values\",[\"l\",4]]]
 ";
     let replies = b"[\"ticket\",1]
 [\"published\",1]
@@ -351,6 +355,10 @@ fn lists_meet(rt: HostRuntime) {
 [\"published\",2]
 [\"reading\",5,[[2,2],[3,2],[2,1],[3,1]]]
 [\"reading\",5,[[2,2],[3,2],[2,1],[3,1]]]
+[\"reading\",5,[[[2,2],\"a\"]]]
+[\"reading\",5,[[[3,2],\"b\"]]]
+[\"reading\",5,[[[2,1],\"x\"]]]
+[\"reading\",5,[[[3,1],\"y\"]]]
 ";
     replies_so(&rt, rt.alloc(), script, replies);
 }
