@@ -343,7 +343,7 @@ fn zero(alloc: Global, document: &Document) -> Result<VersionVector, Refusal>
     Ok(VersionVector::zero(alloc, width)?)
 }
 
-/// Compares what that vector doesn't name.
+/// Compares what that vector doesn't name, by a call and by a question.
 fn assert_missing(
     rt: &impl Abort,
     alloc: Global,
@@ -352,10 +352,32 @@ fn assert_missing(
 ) -> Result<(), Fail> {
     let vector = zero(alloc, document)?;
     let missing = again(|| document.missing(alloc, &vector))?;
-    assert_eq!(rt; missing.len(), wanted.len());
-    for (op, pair) in missing.iter().zip(wanted) {
+    assert_ids(rt, &missing, wanted)?;
+    let Reading::Missing(missing) = answer(alloc, document, &Question::Missing(vector))? else {
+        return Err("no operations")?;
+    };
+    assert_ids(rt, &missing, wanted)
+}
+
+fn assert_ids(rt: &impl Abort, ops: &[Op], wanted: &[Pair]) -> Result<(), Fail> {
+    assert_eq!(rt; ops.len(), wanted.len());
+    for (op, pair) in ops.iter().zip(wanted) {
         assert!(rt; op.id == id(*pair)?);
     }
+    Ok(())
+}
+
+/// Compares the greatest counter that was applied.
+fn assert_greatest(
+    rt: &impl Abort,
+    alloc: Global,
+    document: &Document,
+    wanted: u64,
+) -> Result<(), Fail> {
+    let Reading::Vector(vector) = answer(alloc, document, &Question::Vector)? else {
+        return Err("no vector")?;
+    };
+    assert_eq!(rt; vector.greatest(), wanted);
     Ok(())
 }
 
@@ -386,5 +408,6 @@ fn both_kinds_stand(rt: HostRuntime) -> Result<(), Fail> {
     })?;
     let wanted = [((1, 1), Tag::Map), ((1, 2), Tag::List)];
     assert_conflicts(&rt, alloc, &document, &wanted)?;
-    assert_missing(&rt, alloc, &document, &[(1, 1), (1, 2)])
+    assert_missing(&rt, alloc, &document, &[(1, 1), (1, 2)])?;
+    assert_greatest(&rt, alloc, &document, 1)
 }
