@@ -1,6 +1,6 @@
 //! What stands at each id: columns of ids, and what stands beside them.
 
-ghost use Rattle.std.specs.Prelude.{◌≡◌, ◌≤◌, ◌<◌, ◌+◌, ℕ, List, [], length, map, Some, slice_get, slice_index_or, IsTrue, OnOk, MatchResult, vec_len, vec_capacity};
+ghost use Rattle.std.specs.Prelude.{◌≡◌, ◌↔◌, ◌≤◌, ◌<◌, ◌+◌, ℕ, List, [], length, map, Some, slice_get, slice_index_or, IsTrue, OnOk, MatchResult, vec_len, vec_capacity};
 ghost use Rattle.std.specs.List.{All, filter, zip};
 ghost use Rattle.std.specs.FinMap.{put, is_sorted};
 ghost use Rattle.ids.specs.Members.{AreDistinct};
@@ -124,7 +124,7 @@ fn find_id<T>(ids: &IdColumns, beside: &[(ReplicaId, T)], id: OpId) -> Result<us
 /// Whether the id is greater than all.
 fn is_greatest<T>(ids: &IdColumns, beside: &[(ReplicaId, T)], id: OpId) -> bool
     requires { AreEntries ids.now.ids beside.now }
-    ensures { IsTrue result → GoesTo id_cmp id (keys_of (entries_of ids.now.ids beside.now)) (length beside.now) }
+    ensures { IsTrue result ↔ GoesTo id_cmp id (keys_of (entries_of ids.now.ids beside.now)) (length beside.now) }
 {
     let count = beside.len();
     if count == 0 {

@@ -1,6 +1,7 @@
 //! A number by each id.
 
-ghost use Rattle.std.specs.Prelude.{◌≡◌, ◌≤◌, ◌<◌, ◌+◌, [], not, length, Some, slice_get, IsTrue, OnOk, MatchResult, vec_len, vec_capacity};
+ghost use Rattle.std.specs.Prelude.{◌≡◌, ◌≤◌, ◌<◌, ◌+◌, [], nat_lt, not, length, Some, slice_get, IsTrue, OnOk, MatchResult, vec_len, vec_capacity};
+ghost use Rattle.std.specs.List.{filter};
 ghost use Rattle.std.specs.FinMap.{find, put, is_sorted};
 ghost use Rattle.std.specs.FinMap.Entries.{where_key};
 ghost use Rattle.semantics.specs.Ids.{id_cmp, is_same_id};
@@ -67,6 +68,13 @@ impl Numbers {
         }
     }
 
+    /// The entries whose ids have a greater counter than this, rising by id. A search by halves.
+    pub fn above(&self, counter: u64) -> &[(OpId, usize)]
+        ensures { result.now ≡ filter (λ e. nat_lt counter e.0.counter) self.now.entries }
+    {
+        above(&self.entries, counter)
+    }
+
     /// Makes room for one more entry.
     ///
     /// # Errors
@@ -119,6 +127,15 @@ fn find_id(entries: &[(OpId, usize)], id: &OpId) -> Result<usize, usize>
         }
     }
     Err(low)
+}
+
+/// The entries whose ids have a greater counter than this. A search by halves.
+fn above(entries: &[(OpId, usize)], counter: u64) -> &[(OpId, usize)]
+    requires { IsTrue (is_sorted id_cmp entries.now) }
+    ensures { result.now ≡ filter (λ e. nat_lt counter e.0.counter) entries.now }
+{
+    let first = entries.partition_point(|(id, _)| id.counter <= counter);
+    &entries[first..]
 }
 
 /// Puts the number of an id. The number that the id had goes, if it had one.

@@ -293,6 +293,23 @@ fn numbers_rise_by_id(rt: HostRuntime) -> Result<(), Fail> {
 }
 
 #[test]
+fn numbers_above_a_counter(rt: HostRuntime) -> Result<(), Fail> {
+    let rows = [(1, 1, 7), (1, 2, 5), (2, 1, 9), (10, 1, 0)];
+    let numbers = numbers(rt.alloc(), &rows)?;
+    for (counter, first) in [(0, 0), (1, 2), (2, 3), (9, 3), (10, 4), (u64::MAX, 4)] {
+        let above = numbers.above(counter);
+        let want = &rows[first..];
+        assert_eq!(rt; above.len(), want.len(), "above {counter}");
+        for ((found, number), row) in above.iter().zip(want) {
+            assert_eq!(rt; *found, id(row.0, row.1)?, "above {counter}");
+            assert_eq!(rt; *number, row.2, "above {counter}");
+        }
+    }
+    assert!(rt; Numbers::new(rt.alloc()).above(0).is_empty());
+    Ok(())
+}
+
+#[test]
 fn a_put_number_replaces(rt: HostRuntime) -> Result<(), Fail> {
     let rows = [(1, 1, 7), (2, 1, 8), (1, 1, 9)];
     let numbers = numbers(rt.alloc(), &rows)?;

@@ -4,7 +4,7 @@ use Rattle.std.proofs.lemmas.Bool.{and_from, and_left, and_right, cases_eq, eq-e
 use Rattle.semantics.specs.Ids.{OpId, is_same_id}
 use Rattle.semantics.specs.LegalHistory.{has_id}
 use Rattle.semantics.specs.Vectors.{Vector, at, is_at_most}
-use Rattle.semantics.specs.Stamped.{IsLegalStamped, operation_after}
+use Rattle.semantics.specs.Stamped.{IsLegalStamped, MayFollow, operation_after}
 use Rattle.semantics.specs.Entries.{Entry, applied, entry_at, stamped_in, stamped_of}
 use Rattle.semantics.specs.Faults.{is_open}
 use Rattle.semantics.proofs.AbsentIds.{fresh}
@@ -22,6 +22,14 @@ placed (e ∷ G) a = at_test (is_same_id (stamped_in e).id a) (placed G a)
     at_test : (b : Bool) → is_some (place_of a G) ≡ has_id (applied G) a → is_some (cond b (Some (length G)) (place_of a G)) ≡ (b || has_id (applied G) a)
     at_test true rest = refl
     at_test false rest = rest
+
+-- an operation that may follow has an id that stands nowhere
+pub new_place : (G : List Entry) (e : Entry) → MayFollow (applied G) (stamped_in e) → place_of (stamped_in e).id G ≡ None
+new_place G e may = by (place_of (stamped_in e).id G) (placed G (stamped_in e).id ∙ fresh may.1)
+  where
+    by : (o : Option ℕ) → is_some o ≡ false → o ≡ None
+    by None is = refl
+    by (Some n) is = absurd (true≢false is)
 
 -- a place is one of the entries
 place_within : (G : List Entry) (a : OpId) (n : ℕ) → place_of a G ≡ Some n → n < length G

@@ -1,5 +1,6 @@
--- Histories as the lists that begin with the oldest, what their columns mark, and where their operations stand.
+-- Histories as the lists that begin with the oldest, where their operations stand, and which of them are missing.
 pub mod Oldest
+pub mod Rising
 pub mod Missing
 pub mod Found
 pub mod Places

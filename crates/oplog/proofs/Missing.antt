@@ -1,27 +1,27 @@
--- What a vector doesn't cover, by columns and by the rules.
-use Rattle.std.proofs.Common.{◌≡◌, refl, sym, ap, ◌∙◌, ℕ, zero, suc, ◌+◌, ◌<◌, ◌≤◌, ◌==◌, ◌⊎◌, inl, inr, not, Bool, true, false, cond, nat_lt, nat_le, List, [], ◌∷◌, ◌++◌, map, reverse, length, get_or, arith, Option, Some, slice_get}
+-- What a vector doesn't cover, by the places of each replica and by the rules.
+use Rattle.std.proofs.Common.{◌≡◌, refl, sym, ap, ◌∙◌, ℕ, zero, suc, ◌+◌, ◌<◌, ◌≤◌, ◌==◌, ◌||◌, ◌⊎◌, inl, inr, not, Bool, true, false, cond, nat_lt, nat_le, IsTrue, Ordering, Less, Equal, Greater, List, [], ◌∷◌, ◌++◌, map, reverse, length, get_or, drop, subst, arith, Option, Some, None}
 use Rattle.std.specs.Option.{option_map}
-use Rattle.std.specs.List.{zip, items_where_true, range_with_len}
-use Rattle.std.proofs.lemmas.List.{append-nil, map-append, reverse-append, length-reverse, length-map}
-use Rattle.std.proofs.lemmas.List.FromFn.{length-range_with_len, length-map-range_with_len, map-range_with_len_more}
-use Rattle.std.proofs.lemmas.Bool.{cases_lt, lt-ltb, lt-leb, le-ltb, le-leb, eq-eqb, eqb-true}
-use Rattle.ids.specs.Members.{AreDistinct}
-use Rattle.semantics.specs.Vectors.{Vector, covers}
-use Rattle.semantics.specs.Tables.{by_table}
+use Rattle.std.specs.Ordering.{is_eq}
+use Rattle.std.specs.List.{filter}
+use Rattle.std.specs.List.Sorted.{IsPermutation, IsSorted}
+use Rattle.std.specs.Ordering.{nat_cmp}
+use Rattle.std.specs.FinMap.{find, put}
+use Rattle.std.specs.FinMap.Entries.{by_order}
+use Rattle.std.proofs.lemmas.List.{append-nil, map-append, reverse-append}
+use Rattle.std.proofs.lemmas.Bool.{cases_lt, lt-ltb, lt-leb, le-ltb, le-leb, eq-eqb, eqb-true, eqb-false, ne_eqb, or_left}
+use Rattle.ids.specs.declared.id.OpId.{OpId}
+use Rattle.ids.specs.Members.{AreDistinct, is_member}
+use Rattle.semantics.specs.Ids.{id_cmp}
+use Rattle.semantics.specs.Vectors.{Vector, at, covers}
+use Rattle.semantics.specs.Tables.{by_table, component}
 use Rattle.semantics.specs.Stamped.{Stamped}
 use Rattle.semantics.specs.Entries.{Entry as TheEntry, entry_at, missing, stamped_in, stamped_of}
-use Rattle.lanes.specs.Kernels.{is_set}
-use Rattle.operation.specs.declared.command.Entry.{Entry}
-use Rattle.operation.specs.Meanings.{entry_of}
-use Rattle.version.specs.Columns.{is_uncovered, uncovered, first_bits}
-use Rattle.version.proofs.TableColumns.{covers-by_table}
-use Rattle.version.proofs.MarkedMoves.{items_where_true_last}
-use Rattle.oplog.specs.Logs.{StandAt, history, id_in, missing_places}
-use Rattle.oplog.proofs.Oldest.{reverse-twice, same-id}
-
--- the vector doesn't cover the entry's id
-abbrev pub is_missing : Vector → Entry → Bool
-is_missing v e = not (covers v (id_in e))
+use Rattle.semantics.proofs.TableVectors.{at-by_table}
+use Rattle.version.proofs.TableColumns.{component-get}
+use Rattle.columns.specs.Numbered.{Numbered}
+use Rattle.oplog.specs.Logs.{AreOfMembers, HaveOwnIds, missing_places, numbers_above, numbers_of, place_of, places_by}
+use Rattle.oplog.proofs.Places.{all_others, places_by-find, places_by-other, places_by-own}
+use Rattle.oplog.proofs.Rising.{AreTo, Rises, count, count-append, count-permutation, rises-last, rises-sorted, same_rising}
 
 above-not : (x c : ℕ) → nat_lt x c ≡ not (nat_le c x)
 above-not x c = by_cases (cases_lt x c)
@@ -30,71 +30,148 @@ above-not x c = by_cases (cases_lt x c)
     by_cases (inl lt) = lt-ltb x c lt ∙ ap not (sym (lt-leb c x lt))
     by_cases (inr le) = le-ltb x c le ∙ ap not (sym (le-leb c x le))
 
--- the marks of the columns are those of the entries
-pub marks-are : (table cs counters indices : List ℕ) (entries : List Entry) → AreDistinct table → length cs ≡ length table
-    → counters ≡ map (λ e. (id_in e).counter) entries → StandAt table indices entries
-    → uncovered cs (zip counters indices) ≡ map (is_missing (by_table table cs)) entries
-marks-are table cs counters indices entries distinct long e stand =
-    ap (λ l. uncovered cs (zip l indices)) e ∙ by_entries indices entries stand
+-- a column is what a function gives of each replica of the table
+by_places : (f : ℕ → ℕ) (ps cs : List ℕ) → length cs ≡ length ps → ((i : ℕ) → i < length ps → f (get_or ps i 0) ≡ get_or cs i 0) → map f ps ≡ cs
+by_places f [] [] long at_place = refl
+by_places f [] (c ∷ cs) long at_place = absurd (omega arith)
+by_places f (p ∷ ps) [] long at_place = absurd (omega arith)
+by_places f (p ∷ ps) (c ∷ cs) long at_place = (λ t. at_place 0 (omega arith) t ∷ by_places f ps cs (omega arith) (λ i lt. at_place (suc i) (omega arith)) t)
+
+-- the counters beside a table are those that their vector names
+pub counters-are : (ps cs : List ℕ) → AreDistinct ps → length cs ≡ length ps → map (at (by_table ps cs)) ps ≡ cs
+counters-are ps cs distinct long = by_places (at (by_table ps cs)) ps cs long (λ i lt. at-by_table ps cs distinct (get_or ps i 0) ∙ component-get ps cs i distinct lt long)
+
+-- the numbers of the ids above a counter
+abbrev pub above : ℕ → List (OpId × ℕ) → List ℕ
+above c es = map (λ e. e.1) (filter (λ e. nat_lt c e.0.counter) es)
+
+-- what is above in the columns from a place on
+pub next-above : (cs : List ℕ) (ns : List (Numbered OpId)) (i : ℕ) (d : Numbered OpId) → length cs ≡ length ns → i < length ns
+    → numbers_above (drop i cs) (numbers_of (drop i ns)) ≡ above (get_or cs i 0) (get_or ns i d).entries ++ numbers_above (drop (suc i) cs) (numbers_of (drop (suc i) ns))
+next-above [] [] i d same inside = absurd (omega arith)
+next-above [] (n ∷ ns) i d same inside = absurd (omega arith)
+next-above (c ∷ cs) [] i d same inside = absurd (omega arith)
+next-above (c ∷ cs) (n ∷ ns) zero d same inside = refl
+next-above (c ∷ cs) (n ∷ ns) (suc i) d same inside = next-above cs ns i d (omega arith) (omega arith)
+
+-- how often n stands at an entry, where its counter is above c
+abbrev counted : ℕ → ℕ → OpId → ℕ → ℕ
+counted n c a v = cond (nat_lt c a.counter) (cond (n == v) 1 0) 0
+
+-- one entry in front
+count-front : (n c : ℕ) (e : OpId × ℕ) (es : List (OpId × ℕ)) → count n (above c (e ∷ es)) ≡ counted n c e.0 e.1 + count n (above c es)
+count-front n c e es = at_test (nat_lt c e.0.counter)
   where
-    by_entries : (is : List ℕ) (es : List Entry) → StandAt table is es
-        → uncovered cs (zip (map (λ e. (id_in e).counter) es) is) ≡ map (is_missing (by_table table cs)) es
-    by_entries [] [] h = refl
-    by_entries [] (f ∷ es) h = absurd h
-    by_entries (i ∷ is) [] h = absurd h
-    by_entries (i ∷ is) (f ∷ es) h = (λ t. here i f h.0 t ∷ by_entries is es h.1 t)
-      where
-        here : (i : ℕ) (f : Entry) → slice_get table i ≡ Some (id_in f).replica → is_uncovered cs ((id_in f).counter, i) ≡ is_missing (by_table table cs) f
-        here i f found = above-not (get_or cs i 0) (id_in f).counter ∙ ap not (sym (covers-by_table table cs distinct long i (id_in f).replica (id_in f).counter found))
+    at_test : (b : Bool) → count n (map (λ f. f.1) (cond b (e ∷ filter (λ f. nat_lt c f.0.counter) es) (filter (λ f. nat_lt c f.0.counter) es))) ≡ cond b (cond (n == e.1) 1 0) 0 + count n (above c es)
+    at_test true = refl
+    at_test false = omega arith
 
-range-more : (a n : ℕ) → range_with_len a (suc n) ≡ range_with_len a n ++ (a + n) ∷ []
-range-more a zero = ap (λ m. m ∷ []) (omega arith)
-range-more a (suc n) = ap (λ l. a ∷ l) (range-more (a + 1) n ∙ ap (λ m. range_with_len (a + 1) n ++ m ∷ []) (omega arith))
+-- one entry that is put where its id wasn't
+count-put : (n c v : ℕ) (a : OpId) (es : List (OpId × ℕ)) → find id_cmp a es ≡ None → count n (above c (put id_cmp a v es)) ≡ counted n c a v + count n (above c es)
+count-put n c v a [] absent = count-front n c (a, v) []
+count-put n c v a (e ∷ es) absent =
+    elim (id_cmp a e.0) as (λ r. cond (is_eq r) (Some e.1) (find id_cmp a es) ≡ None → count n (above c (by_order r ((a, v) ∷ e ∷ es) ((e.0, v) ∷ es) (e ∷ put id_cmp a v es))) ≡ counted n c a v + count n (above c (e ∷ es))) [
+      | Less ↦ λ none. count-front n c (a, v) (e ∷ es)
+      | Equal ↦ λ none. cc
+      | Greater ↦ λ none. (
+          let rest = count-put n c v a es none in
+          let new = count-front n c e (put id_cmp a v es) in
+          let old = count-front n c e es in
+          omega arith)
+    ] absent
 
-range-from-zero : (n : ℕ) → range_with_len 0 (suc n) ≡ range_with_len 0 n ++ n ∷ []
-range-from-zero n = range-more 0 n ∙ ap (λ m. range_with_len 0 n ++ m ∷ []) (omega arith)
-
--- one more bit of a mask marks one more place, or none
-pub places-more : (mask : List ℕ) (n : ℕ) (m : Bool) → is_set mask n ≡ m
-    → items_where_true (first_bits mask (n + 1)) (range_with_len 0 (n + 1)) ≡ items_where_true (first_bits mask n) (range_with_len 0 n) ++ cond m (n ∷ []) []
-places-more mask n m is =
-    (λ t. items_where_true (map-range_with_len_more (is_set mask) 0 n n (omega arith) t) ((ap (range_with_len 0) one ∙ range-from-zero n) t))
-    ∙ (λ t. items_where_true (first_bits mask n ++ is t ∷ []) (range_with_len 0 n ++ n ∷ []))
-    ∙ items_where_true_last (first_bits mask n) (range_with_len 0 n) m n (length-map-range_with_len (is_set mask) 0 n ∙ sym (length-range_with_len 0 n))
+-- one more entry, whose id is new and whose replica is in the table
+count-more : (n : ℕ) (f : ℕ → ℕ) (G : List TheEntry) (x : TheEntry) (ps : List ℕ) → AreDistinct ps → IsTrue (is_member ps (stamped_in x).id.replica) → place_of (stamped_in x).id G ≡ None
+    → count n (numbers_above (map f ps) (map (λ p. places_by p (x ∷ G)) ps))
+    ≡ counted n (f (stamped_in x).id.replica) (stamped_in x).id (length G) + count n (numbers_above (map f ps) (map (λ p. places_by p G) ps))
+count-more n f G x [] distinct member new = cc
+count-more n f G x (p ∷ ps) distinct member new = at_test (p == (stamped_in x).id.replica) refl member (λ m. count-more n f G x ps distinct.1 m new)
   where
-    one : n + 1 ≡ suc n
-    one = omega arith
+    id : OpId
+    id = (stamped_in x).id
 
-turned : {X : Type 0} (b : Bool) (xs : List X) → cond b [] xs ≡ cond (not b) xs []
-turned true xs = refl
-turned false xs = refl
+    with_x : List ℕ
+    with_x = numbers_above (map f ps) (map (λ q. places_by q (x ∷ G)) ps)
 
-by_newest : (v : Vector) (table : List ℕ) (R : List Entry)
-    → missing_places v (map (entry_of table) R) ≡ items_where_true (map (is_missing v) (reverse R)) (range_with_len 0 (length R))
-by_newest v table [] = refl
-by_newest v table (e ∷ R) =
-    (λ t. by_newest v table R t ++ cond (covers v (same-id table e t)) [] (length-map R (entry_of table) t ∷ []))
-    ∙ ap (λ l. items_where_true (map (is_missing v) (reverse R)) (range_with_len 0 (length R)) ++ l) (turned (covers v (id_in e)) (length R ∷ []))
-    ∙ sym (items_where_true_last (map (is_missing v) (reverse R)) (range_with_len 0 (length R)) (is_missing v e) (length R)
-    (length-map (reverse R) (is_missing v) ∙ length-reverse R ∙ sym (length-range_with_len 0 (length R))))
-    ∙ (λ t. items_where_true (sym marks t) (sym (range-from-zero (length R)) t))
+    without_x : List ℕ
+    without_x = numbers_above (map f ps) (map (λ q. places_by q G) ps)
+
+    split_x : count n (above (f p) (places_by p (x ∷ G)) ++ with_x) ≡ count n (above (f p) (places_by p (x ∷ G))) + count n with_x
+    split_x = count-append n (above (f p) (places_by p (x ∷ G))) with_x
+
+    split : count n (above (f p) (places_by p G) ++ without_x) ≡ count n (above (f p) (places_by p G)) + count n without_x
+    split = count-append n (above (f p) (places_by p G)) without_x
+
+    Claim : Type 0
+    Claim = count n (above (f p) (places_by p (x ∷ G)) ++ with_x) ≡ counted n (f id.replica) id (length G) + count n (above (f p) (places_by p G) ++ without_x)
+
+    at_test : (b : Bool) → (p == id.replica) ≡ b → (b || is_member ps id.replica) ≡ true → (IsTrue (is_member ps id.replica) → count n with_x ≡ counted n (f id.replica) id (length G) + count n without_x) → Claim
+    at_test true e m rest =
+        let own : p ≡ id.replica = eqb-true p id.replica e in
+        let here : count n (above (f p) (places_by p (x ∷ G))) ≡ counted n (f id.replica) id (length G) + count n (above (f p) (places_by p G)) =
+        ap (λ es. count n (above (f p) es)) (places_by-own p G x (sym own))
+        ∙ count-put n (f p) (length G) id (places_by p G) (places_by-find p G id (sym own) ∙ new)
+        ∙ ap (λ q. counted n (f q) id (length G) + count n (above (f p) (places_by p G))) own in
+        let others : count n with_x ≡ count n without_x = ap (λ ms. count n (numbers_above (map f ps) ms)) (all_others G x ps (λ m. distinct.0 (ap (is_member ps) own ∙ m))) in
+        omega (arith, split_x, split, here, others)
+    at_test false e m rest =
+        let here : count n (above (f p) (places_by p (x ∷ G))) ≡ count n (above (f p) (places_by p G)) =
+        ap (λ es. count n (above (f p) es)) (places_by-other p G x (λ same. eqb-false p id.replica e (sym same))) in
+        let others = rest m in
+        omega (arith, split_x, split, here, others)
+
+-- no entry, nothing above
+count-none : (n : ℕ) (f : ℕ → ℕ) (ps : List ℕ) → count n (numbers_above (map f ps) (map (λ p. places_by p []) ps)) ≡ 0
+count-none n f [] = refl
+count-none n f (p ∷ ps) = count-none n f ps
+
+-- each place is missing as often as its id is above the counter of its replica
+count-missing : (n : ℕ) (v : Vector) (G : List TheEntry) (ps : List ℕ) → AreDistinct ps → AreOfMembers ps G → HaveOwnIds G
+    → count n (numbers_above (map (at v) ps) (map (λ p. places_by p G) ps)) ≡ count n (missing_places v G)
+count-missing n v [] ps distinct members own = count-none n (at v) ps
+count-missing n v (x ∷ G) ps distinct members own =
+    let id = (stamped_in x).id in
+    let more = count-more n (at v) G x ps distinct members.1 own.1 in
+    let rest = count-missing n v G ps distinct members.0 own.0 in
+    let last = count-append n (missing_places v G) (cond (covers v id) [] (length G ∷ [])) in
+    let same : counted n (at v id.replica) id (length G) ≡ count n (cond (covers v id) [] (length G ∷ [])) =
+    ap (λ b. cond b (cond (n == length G) 1 0) 0) (above-not (at v id.replica) id.counter) ∙ at_test (covers v id) in
+    omega (arith, more, rest, last, same)
   where
-    marks : map (is_missing v) (reverse (e ∷ R)) ≡ map (is_missing v) (reverse R) ++ is_missing v e ∷ []
-    marks = ap (map (is_missing v)) (reverse-append (e ∷ []) R) ∙ map-append (is_missing v) (reverse R) (e ∷ [])
+    at_test : (b : Bool) → cond (not b) (cond (n == length G) 1 0) 0 ≡ count n (cond b [] (length G ∷ []))
+    at_test true = refl
+    at_test false = omega arith
 
-map-reverse : {X Y : Type 0} (f : X → Y) (xs : List X) → reverse (map f xs) ≡ map f (reverse xs)
-map-reverse f [] = refl
-map-reverse f (x ∷ xs) =
-    reverse-append (f x ∷ []) (map f xs) ∙ ap (λ l. l ++ f x ∷ []) (map-reverse f xs)
-    ∙ sym (map-append f (reverse xs) (x ∷ [])) ∙ ap (map f) (sym (reverse-append (x ∷ []) xs))
+-- missing places are below the length
+missing-to : (v : Vector) (m : ℕ) (G : List TheEntry) → length G ≤ m → AreTo m (missing_places v G)
+missing-to v m [] le = tt
+missing-to v m (x ∷ G) le = at_test (covers v (stamped_in x).id) (missing_places v G) (missing-to v m G (omega arith))
+  where
+    to-last : (k : ℕ) (xs : List ℕ) → AreTo m xs → k ≤ m → AreTo m (xs ++ k ∷ [])
+    to-last k [] to at_most = (at_most, tt)
+    to-last k (y ∷ xs) to at_most = (to.0, to-last k xs to.1 at_most)
 
--- the missing places are those that the entries' marks leave
-pub missing-marks : (v : Vector) (table : List ℕ) (entries : List Entry)
-    → missing_places v (history table entries) ≡ items_where_true (map (is_missing v) entries) (range_with_len 0 (length entries))
-missing-marks v table entries =
-    ap (missing_places v) (map-reverse (entry_of table) entries)
-    ∙ by_newest v table (reverse entries)
-    ∙ (λ t. items_where_true (map (is_missing v) (reverse-twice entries t)) (range_with_len 0 (length-reverse entries t)))
+    at_test : (b : Bool) (xs : List ℕ) → AreTo m xs → AreTo m (xs ++ cond b [] (length G ∷ []))
+    at_test true xs to = subst (AreTo m) (sym (append-nil xs)) to
+    at_test false xs to = to-last (length G) xs to (omega (arith, le))
+
+missing-rises : (v : Vector) (G : List TheEntry) → Rises (missing_places v G)
+missing-rises v [] = tt
+missing-rises v (x ∷ G) = at_test (covers v (stamped_in x).id) (missing_places v G) (missing-rises v G) (missing-to v (length G) G (omega arith))
+  where
+    at_test : (b : Bool) (xs : List ℕ) → Rises xs → AreTo (length G) xs → Rises (xs ++ cond b [] (length G ∷ []))
+    at_test true xs rises to = subst Rises (sym (append-nil xs)) rises
+    at_test false xs rises to = rises-last (length G) xs rises to
+
+-- the places above the counters, sorted, are those that are missing
+pub sorted-missing : (ps cs : List ℕ) (G : List TheEntry) (xs : List ℕ) → AreDistinct ps → length cs ≡ length ps → AreOfMembers ps G → HaveOwnIds G
+    → IsPermutation (numbers_above cs (map (λ p. places_by p G) ps)) xs → IsSorted nat_cmp xs → xs ≡ missing_places (by_table ps cs) G
+sorted-missing ps cs G xs distinct long members own moved sorted =
+    let v = by_table ps cs in
+    same_rising xs (missing_places v G) (rises-sorted xs sorted) (missing-rises v G)
+    (λ n. count-permutation n (numbers_above cs (map (λ p. places_by p G) ps)) xs moved
+    ∙ ap (λ ds. count n (numbers_above ds (map (λ p. places_by p G) ps))) (sym (counters-are ps cs distinct long))
+    ∙ count-missing n v G ps distinct members own)
 
 -- what reads the places of a history reads at the missing ones what is missing
 read_missing : (v : Vector) (G : List TheEntry) (h : ℕ → Option Stamped) → ((n : ℕ) → n < length G → h n ≡ option_map stamped_in (entry_at n G))

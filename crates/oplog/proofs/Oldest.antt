@@ -1,16 +1,14 @@
 -- A history that is kept oldest first: its places, and one more entry.
-use Rattle.std.proofs.Common.{◌≡◌, refl, sym, ap, ◌∙◌, ℕ, zero, suc, ◌<◌, Bool, true, false, cond, ◌==◌, List, [], ◌∷◌, ◌++◌, map, reverse, length, subst, arith, Some, None, slice_get}
+use Rattle.std.proofs.Common.{◌≡◌, refl, sym, ap, ◌∙◌, ℕ, zero, suc, ◌<◌, Bool, true, false, cond, ◌==◌, List, [], ◌∷◌, ◌++◌, map, reverse, length, arith, Some, None, slice_get}
 use Rattle.std.specs.Option.{option_map}
 use Rattle.std.proofs.lemmas.Bool.{eq-eqb, eqb-true, eqb-false, ne_eqb}
 use Rattle.std.proofs.lemmas.List.{map-append, reverse-append, length-reverse, length-map}
-use Rattle.std.specs.List.{All, zip}
-use Rattle.std.proofs.lemmas.List.Elements.{All-nil, All-cons}
-use Rattle.std.proofs.lemmas.Option.{slice_get-map, slice_get_within}
+use Rattle.std.proofs.lemmas.Option.{slice_get-map}
 use Rattle.semantics.specs.Entries.{Entry as TheEntry, entry_at, stamped_in}
 use Rattle.operation.specs.declared.command.Entry.{Entry}
 use Rattle.operation.specs.declared.command.Entry.TheVariants.{Own, Peer}
 use Rattle.operation.specs.Meanings.{entry_of}
-use Rattle.oplog.specs.Logs.{StandAt, history, id_in}
+use Rattle.oplog.specs.Logs.{history, id_in}
 
 pub reverse-twice : {X : Type 0} (xs : List X) → reverse (reverse xs) ≡ xs
 reverse-twice [] = refl
@@ -53,24 +51,3 @@ history-length table entries = length-reverse (map (entry_of table) entries) ∙
 pub same-id : (table : List ℕ) (e : Entry) → (stamped_in (entry_of table e)).id ≡ id_in e
 same-id table (Own client serial command op) = refl
 same-id table (Peer op) = refl
-
--- one more index
-pub StandAt-more : (table indices : List ℕ) (entries : List Entry) (i : ℕ) (e : Entry) → StandAt table indices entries
-    → slice_get table i ≡ Some (id_in e).replica → StandAt table (indices ++ i ∷ []) (entries ++ e ∷ [])
-StandAt-more table [] [] i e stand here = (here, tt)
-StandAt-more table [] (f ∷ entries) i e stand here = absurd stand
-StandAt-more table (j ∷ indices) [] i e stand here = absurd stand
-StandAt-more table (j ∷ indices) (f ∷ entries) i e stand here = (stand.0, StandAt-more table indices entries i e stand.1 here)
-
-pub StandAt-length : (table indices : List ℕ) (entries : List Entry) → StandAt table indices entries → length indices ≡ length entries
-StandAt-length table [] [] stand = refl
-StandAt-length table [] (e ∷ entries) stand = absurd stand
-StandAt-length table (i ∷ indices) [] stand = absurd stand
-StandAt-length table (i ∷ indices) (e ∷ entries) stand = ap suc (StandAt-length table indices entries stand.1)
-
-pub StandAt-within : (table counters indices : List ℕ) (entries : List Entry) (width : ℕ) → width ≡ length table → StandAt table indices entries → All (λ id. id.1 < width) (zip counters indices)
-StandAt-within table [] indices entries width e stand = All-nil (λ id. id.1 < width)
-StandAt-within table (c ∷ counters) [] entries width e stand = All-nil (λ id. id.1 < width)
-StandAt-within table (c ∷ counters) (i ∷ indices) [] width e stand = absurd stand
-StandAt-within table (c ∷ counters) (i ∷ indices) (f ∷ entries) width e stand =
-    All-cons (λ id. id.1 < width) (c, i) (zip counters indices) (subst (λ n. i < n) (sym e) (slice_get_within table i (id_in f).replica stand.0)) (StandAt-within table counters indices entries width e stand.1)

@@ -1,9 +1,9 @@
 -- The entries of a history beside the table of their replicas.
-use Rattle.std.specs.Prelude.{◌≡◌, ℕ, min, if◌then◌else◌, ⊤, List, [], ◌∷◌, ◌++◌, map, reverse, length, slice_get, Option, Some, None}
-use Rattle.std.specs.List.{All, AllZip}
-use Rattle.std.specs.FinMap.{find}
+use Rattle.std.specs.Prelude.{◌≡◌, ℕ, min, nat_lt, ◌==◌, if◌then◌else◌, ⊤, IsTrue, List, [], ◌∷◌, ◌++◌, map, reverse, length, Option, Some, None}
+use Rattle.std.specs.List.{All, filter}
+use Rattle.std.specs.FinMap.{put}
 use Rattle.ids.specs.declared.id.OpId.{OpId}
-use Rattle.ids.specs.Members.{AreDistinct}
+use Rattle.ids.specs.Members.{AreDistinct, is_member}
 use Rattle.semantics.specs.Ids.{id_cmp, is_same_id}
 use Rattle.semantics.specs.Vectors.{Vector, covers}
 use Rattle.semantics.specs.Entries.{Entry as TheEntry, stamped_in}
@@ -27,33 +27,43 @@ abbrev pub id_in : Entry → OpId
 id_in (Own client serial command op) = op.id
 id_in (Peer op) = op.id
 
--- each index is the place in the table of its entry's replica
-abbrev pub StandAt : List ℕ → List ℕ → List Entry → Type 0
-StandAt table [] [] = ⊤
-StandAt table [] (e ∷ entries) = ⊥
-StandAt table (i ∷ indices) [] = ⊥
-StandAt table (i ∷ indices) (e ∷ entries) = (slice_get table i ≡ Some (id_in e).replica) × StandAt table indices entries
-
 -- the place of the operation with this id, where the oldest is at 0; the newest where there are several
 abbrev pub place_of : OpId → List TheEntry → Option ℕ
 place_of a [] = None
 place_of a (e ∷ G) = if is_same_id (stamped_in e).id a then Some (length G) else place_of a G
 
--- of each id of replica p, the number is the place of its operation
-abbrev pub FindsPlaces : List TheEntry → ℕ → List (OpId × ℕ) → Type 0
-FindsPlaces G p numbers = (a : OpId) → a.replica ≡ p → find id_cmp a numbers ≡ place_of a G
+-- the places of the operations of replica p by their ids
+abbrev pub places_by : ℕ → List TheEntry → List (OpId × ℕ)
+places_by p [] = []
+places_by p (e ∷ G) = if (stamped_in e).id.replica == p then put id_cmp (stamped_in e).id (length G) (places_by p G) else places_by p G
+
+-- no two operations have one id
+abbrev pub HaveOwnIds : List TheEntry → Type 0
+HaveOwnIds [] = ⊤
+HaveOwnIds (e ∷ G) = HaveOwnIds G × (place_of (stamped_in e).id G ≡ None)
 
 -- what each of these columns holds, whatever its room
 abbrev pub numbers_of : List (Numbered OpId) → List (List (OpId × ℕ))
 numbers_of ns = map (λ n. n.entries) ns
 
--- the columns have each entry's counter, the place of its replica in the table, and its own place by its id; each vector has the table's width
-pub record IsIndexed (table counters indices : List ℕ) (places : List (Numbered OpId)) (entries : List Entry) : Type 0 where
+-- the operations are of replicas of the table
+abbrev pub AreOfMembers : List ℕ → List TheEntry → Type 0
+AreOfMembers table [] = ⊤
+AreOfMembers table (e ∷ G) = AreOfMembers table G × IsTrue (is_member table (stamped_in e).id.replica)
+
+-- for each replica of the table the places of its operations; the operations are of these replicas, and have ids of their own; each vector has the table's width
+pub record IsIndexed (table : List ℕ) (places : List (Numbered OpId)) (entries : List Entry) : Type 0 where
   pub distinct : AreDistinct table
-  pub counters_are : counters ≡ map (λ e. (id_in e).counter) entries
-  pub indices_stand : StandAt table indices entries
-  pub places_stand : AllZip (FindsPlaces (history table entries)) table (numbers_of places)
+  pub places_are : numbers_of places ≡ map (λ p. places_by p (history table entries)) table
+  pub members : AreOfMembers table (history table entries)
+  pub own_ids : HaveOwnIds (history table entries)
   pub wide : All (λ e. length (op_in e).deps ≡ length table) entries
+
+-- the numbers of the ids above the counter beside each of these maps, one map after the other
+abbrev pub numbers_above : List ℕ → List (List (OpId × ℕ)) → List ℕ
+numbers_above cs [] = []
+numbers_above [] (m ∷ ms) = []
+numbers_above (c ∷ cs) (m ∷ ms) = map (λ e. e.1) (filter (λ e. nat_lt c e.0.counter) m) ++ numbers_above cs ms
 
 -- the places of the operations that the vector doesn't cover, rising
 abbrev pub missing_places : Vector → List TheEntry → List ℕ

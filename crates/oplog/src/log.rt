@@ -1,7 +1,6 @@
-//! A list of entries, with a column of their counters and one of their replicas, and for each replica the places of its operations.
+//! A list of entries, and for each replica of a table the places of its operations.
 
-ghost use Rattle.std.specs.Prelude.{◌≡◌, ◌≤◌, ◌<◌, ◌+◌, ◌∷◌, [], IsTrue, ℕ, List, Some, option_map, map, replicate, reverse, set, length, IfOk, IfErr, IfSome, OnOk, slice_index_or};
-ghost use Rattle.std.specs.List.{items_where_true, range_with_len};
+ghost use Rattle.std.specs.Prelude.{◌≡◌, ◌≤◌, ◌<◌, ◌+◌, ◌++◌, ◌∷◌, [], IsTrue, ℕ, List, Some, None, option_map, map, replicate, reverse, set, length, IfOk, IfErr, IfSome, OnOk, slice_index_or};
 ghost use Rattle.std.specs.FinMap.{put};
 ghost use Rattle.ids.specs.declared.refusal.Refusal.TheVariants.{NoMemory};
 ghost use Rattle.ids.specs.Members.{AreDistinct, is_member};
@@ -10,29 +9,26 @@ ghost use Rattle.semantics.specs.Tables.{by_table};
 ghost use Rattle.semantics.specs.Vectors.{Vector};
 ghost use Rattle.semantics.specs.Entries.{Entry as TheEntry, entry_at, missing, stamped_in, stamped_of};
 ghost use Rattle.operation.specs.Meanings.{entry_of, op_in};
-ghost use Rattle.version.specs.Columns.{first_bits};
-ghost use Rattle.oplog.specs.Logs.{history, least_room, missing_places, numbers_of, place_of};
+ghost use Rattle.oplog.specs.Logs.{history, least_room, missing_places, numbers_above, numbers_of, place_of};
 
 use columns::Numbers;
 use ids::{OpId, Refusal, ReplicaTable};
 use operation::Entry;
 use std::alloc::{AllocError, Global};
 use std::marker::Model;
-use version::{VersionVector, mark_uncovered};
+use version::VersionVector;
 
 /// The entries of a history, beside the table of their replicas. Contracts see the table, the entries, the newest first, and how many more fit without memory.
 #[derive(Debug, Drop)]
 pub struct Log {
     table: ReplicaTable,
     entries: Vec<Entry>,
-    counters: Vec<u64>,
-    indices: Vec<usize>,
     /// For each replica of the table the places of its operations, by their ids.
     places: Vec<Numbers>,
 }
 
 impl Model for Log {
-    ghost use Rattle.std.specs.Prelude.{min, ◌-◌, vec_len, vec_capacity};
+    ghost use Rattle.std.specs.Prelude.{◌-◌, vec_len, vec_capacity};
     ghost use Rattle.std.specs.Coded.{codes};
     ghost use Rattle.semantics.specs.Codes.{coded_element};
     ghost use Rattle.oplog.specs.Logs.{Logged, IsIndexed, history, least_room};
@@ -41,9 +37,9 @@ impl Model for Log {
 
     ghost coded = { Prim.hlevel (codes, coded_element) };
 
-    ghost view = { λ l. record { table = l.table; entries = history l.table l.entries.items; room = min (vec_capacity l.entries - vec_len l.entries) (min (vec_capacity l.counters - vec_len l.counters) (least_room (vec_capacity l.indices - vec_len l.indices) l.places.items)) } };
+    ghost view = { λ l. record { table = l.table; entries = history l.table l.entries.items; room = least_room (vec_capacity l.entries - vec_len l.entries) l.places.items } };
 
-    ghost invariant = { λ l. IsIndexed l.table l.counters.items l.indices.items l.places.items l.entries.items };
+    ghost invariant = { λ l. IsIndexed l.table l.places.items l.entries.items };
 }
 
 impl Log {
@@ -60,8 +56,6 @@ impl Log {
         Ok(Log {
             table,
             entries: Vec::new(alloc),
-            counters: Vec::new(alloc),
-            indices: Vec::new(alloc),
             places,
         })
     }
@@ -95,7 +89,7 @@ impl Log {
         self.places[index].get(&id)
     }
 
-    /// The places of the operations that the vector doesn't cover, rising. Compares eight counters at once; takes memory for a bound and a bit of each entry, and for the answer.
+    /// The places of the operations that the vector doesn't cover, rising. A search by halves for each replica, and a sort of what was found.
     ///
     /// # Errors
     /// `NoMemory` where a growth was refused.
@@ -104,19 +98,9 @@ impl Log {
         ensures ok { IfOk result (λ places. places.items ≡ missing_places (by_table self.now.table vector.now) self.now.entries) }
         ensures err { IfErr result (λ why. why ≡ NoMemory) }
     {
-        let count = self.counters.len();
-        let mut bounds = Vec::new(alloc);
-        bounds.resize(count, 0)?;
-        let mut mask = Vec::new(alloc);
-        mask.resize(count.div_ceil(64), 0)?;
-        mark_uncovered(
-            vector,
-            &self.counters,
-            &self.indices,
-            &mut bounds,
-            &mut mask,
-        );
-        places_of(alloc, &mask, count)
+        let mut places = places_above(alloc, &self.places, vector)?;
+        places.sort_unstable();
+        Ok(places)
     }
 
     /// Makes room for one more entry, of whichever replica. Looks at the room of each replica's places.
@@ -130,16 +114,15 @@ impl Log {
         ensures kept { self.old.room ≤ self.new.room }
     {
         self.entries.reserve(1)?;
-        self.counters.reserve(1)?;
-        self.indices.reserve(1)?;
         reserve_places(&mut self.places)
     }
 
-    /// Appends an entry, for which there is room. Takes no memory.
+    /// Appends an entry, for which there is room, and whose id no entry has yet. Takes no memory. Moves the places of its replica's greater ids, and of a history none is greater.
     pub fn push(&mut self, entry: Entry)
         requires room { 0 < self.old.room }
         requires width { length (op_in entry).deps ≡ length self.old.table }
         requires member { IsTrue (is_member self.old.table (stamped_in (entry_of self.old.table entry)).id.replica) }
+        requires new { place_of (stamped_in (entry_of self.old.table entry)).id self.old.entries ≡ None }
         ensures table { self.new.table ≡ self.old.table }
         ensures entries { self.new.entries ≡ entry_of self.old.table entry ∷ self.old.entries }
         ensures room { self.old.room ≤ self.new.room + 1 }
@@ -151,8 +134,6 @@ impl Log {
         let id = OpId { counter, replica };
         let place = self.entries.len();
         put_place(&mut self.places, index, id, place);
-        self.counters.push_reserved(counter);
-        self.indices.push_reserved(index);
         self.entries.push_reserved(entry);
     }
 
@@ -199,18 +180,33 @@ fn put_place(places: &mut Vec<Numbers>, index: usize, id: OpId, place: usize)
     numbers.put(id, place);
 }
 
-/// The places below `count` whose bits are set, rising.
-fn places_of(alloc: Global, mask: &[u64], count: usize) -> Result<Vec<usize>, Refusal>
-    ensures ok { IfOk result (λ places. places.items ≡ items_where_true (first_bits mask.now count) (range_with_len 0 count)) }
+/// The places of the ids that the vector doesn't cover, replica by replica.
+fn places_above(
+    alloc: Global,
+    places: &[Numbers],
+    vector: &VersionVector,
+) -> Result<Vec<usize>, Refusal>
+    requires { length vector.now ≡ length places.now }
+    ensures ok { IfOk result (λ v. v.items ≡ numbers_above vector.now (numbers_of places.now)) }
     ensures err { IfErr result (λ why. why ≡ NoMemory) }
 {
-    let mut places = Vec::new(alloc);
-    for place in 0..count {
-        if lanes::is_set(mask, place) {
-            places.push(place)?;
-        }
+    let mut above = Vec::new(alloc);
+    for (index, numbers) in places.iter().enumerate() {
+        push_numbers(&mut above, numbers.above(vector.get(index)))?;
     }
-    Ok(places)
+    Ok(above)
+}
+
+/// Appends the number of each entry.
+fn push_numbers(numbers: &mut Vec<usize>, entries: &[(OpId, usize)]) -> Result<(), Refusal>
+    ensures ok { OnOk result (numbers.new.items ≡ numbers.old.items ++ map (λ e. e.1) entries.now) }
+    ensures err { IfErr result (λ why. why ≡ NoMemory) }
+{
+    numbers.reserve(entries.len())?;
+    for (_, number) in entries {
+        numbers.push_reserved(*number);
+    }
+    Ok(())
 }
 
 /// The operations at the missing places are those that the rules call missing, the oldest first.

@@ -64,6 +64,9 @@ fn append(log: &mut Log, entry: Entry) -> Result<(), Fail> {
     if entry.op().deps.width() != log.table().len() {
         return Err("another width".into());
     }
+    if log.find(entry.op().id).is_some() {
+        return Err("there already".into());
+    }
     log.reserve_one()?;
     log.push(entry);
     Ok(())
@@ -122,10 +125,25 @@ fn entries_stand_in_order(rt: HostRuntime) -> Result<(), Fail> {
     Ok(())
 }
 
-/// Twelve entries of three replicas, each with rising counters, in an order that isn't that of the ids.
-fn interleaved(alloc: Global, ids: &[(u64, u32); 12]) -> Result<Log, Fail> {
+/// Three replicas with rising counters, in an order that isn't that of the ids.
+const INTERLEAVED: [(u64, u32); 12] = [
+    (1, 3),
+    (2, 3),
+    (1, 1),
+    (5, 2),
+    (3, 1),
+    (6, 2),
+    (4, 3),
+    (9, 1),
+    (10, 2),
+    (7, 3),
+    (12, 1),
+    (13, 2),
+];
+
+fn interleaved(alloc: Global) -> Result<Log, Fail> {
     let mut log = new_log(alloc)?;
-    for &(counter, replica) in ids {
+    for (counter, replica) in INTERLEAVED {
         append(
             &mut log,
             Entry::Peer(op(alloc, counter, replica, &[0, 0, 0])?),
@@ -137,22 +155,8 @@ fn interleaved(alloc: Global, ids: &[(u64, u32); 12]) -> Result<Log, Fail> {
 #[test]
 fn each_replica_has_its_places(rt: HostRuntime) -> Result<(), Fail> {
     let alloc = rt.alloc();
-    let ids = [
-        (1, 3),
-        (2, 3),
-        (1, 1),
-        (5, 2),
-        (3, 1),
-        (6, 2),
-        (4, 3),
-        (9, 1),
-        (10, 2),
-        (7, 3),
-        (12, 1),
-        (13, 2),
-    ];
-    let log = interleaved(alloc, &ids)?;
-    for (place, &(counter, replica)) in ids.iter().enumerate() {
+    let log = interleaved(alloc)?;
+    for (place, &(counter, replica)) in INTERLEAVED.iter().enumerate() {
         let want = id(counter, replica)?;
         assert_eq!(rt; log.find(want), Some(place), "of {want}");
     }
@@ -193,6 +197,25 @@ fn what_a_vector_lacks(rt: HostRuntime) -> Result<(), Fail> {
     let none = new_log(alloc)?;
     assert_eq!(rt; none.len(), 0);
     assert!(rt; missing(&rt, alloc, &none, &[0, 0, 0])?.is_empty());
+    Ok(())
+}
+
+#[test]
+fn what_a_vector_lacks_of_each(rt: HostRuntime) -> Result<(), Fail> {
+    let alloc = rt.alloc();
+    let log = interleaved(alloc)?;
+    assert_eq!(rt; log.table().len(), 3);
+    let rows: [([u64; 3], &[usize]); 5] = [
+        ([0, 0, 0], &[0, 1, 2, 3, 4, 5, 6, 7, 8, 9, 10, 11]),
+        ([3, 6, 4], &[7, 8, 9, 10, 11]),
+        ([12, 0, 2], &[3, 5, 6, 8, 9, 11]),
+        ([8, 5, 7], &[5, 7, 8, 10, 11]),
+        ([12, 13, 7], &[]),
+    ];
+    for (counters, want) in rows {
+        let missing = missing(&rt, alloc, &log, &counters)?;
+        assert_eq!(rt; missing.as_slice(), want, "beyond {counters:?}");
+    }
     Ok(())
 }
 

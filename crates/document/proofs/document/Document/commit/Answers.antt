@@ -9,6 +9,7 @@ use Rattle.operation.specs.Meanings.{entry_of, stamped_of}
 use Rattle.tree.specs.Trees.{IsPlaced, document}
 use Rattle.document.specs.Documents.{Kept, MayFollowEntries}
 use Rattle.version.proofs.TableColumns.{component-raised}
+use Rattle.document.proofs.PlacesOfIds.{new_place}
 use Rattle.document.proofs.KeptFacts.{fits, kept_next}
 use Rattle.document.proofs.document.Document.commit.Goals as goal
 
@@ -22,6 +23,11 @@ apply-requires-clause-placed c =
     let same = ap (λ table. stamped_of table c.op-op.result.now) c.self.invariant.beside ∙ c.op-op.ensures.stamped d.log.table in
     subst (IsPlaced (document d.tree)) (sym same)
     (fits d.log.table d.applied d.log.entries d.tree (stamped_in (entry_of d.log.table c.args.entry)) c.self.invariant (lawful _ _ c.args.entry c.self.view_is c.requires.lawful))
+
+pub push-requires-clause-new : goal.push-requires-clause-new
+push-requires-clause-new c =
+    let d = c.self.inside in
+    new_place d.log.entries (entry_of d.log.table c.args.entry) (lawful _ _ c.args.entry c.self.view_is c.requires.lawful)
 
 pub raise-requires : goal.raise-requires
 raise-requires c =

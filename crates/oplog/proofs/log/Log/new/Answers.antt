@@ -1,16 +1,18 @@
-use Rattle.std.proofs.Common.{rules, [], replicate, ap, ◌∙◌, sym, subst}
-use Rattle.std.specs.List.{AllZip}
-use Rattle.oplog.specs.Logs.{FindsPlaces, history, numbers_of}
-use Rattle.oplog.proofs.Places.{all_find_none}
+use Rattle.std.proofs.Common.{rules, [], map, replicate, ap, ◌∙◌, sym, subst}
+use Rattle.oplog.specs.Logs.{AreOfMembers, HaveOwnIds, history, places_by}
+use Rattle.oplog.proofs.Places.{all_none}
 use Rattle.oplog.proofs.log.Log.new.Goals as goal
 
 pub invariant_of-result : goal.invariant_of-result
-invariant_of-result c = record {
-  distinct = c.requires;
-  counters_are = search rules;
-  indices_stand = search rules;
-  places_stand =
-      subst (λ entries. AllZip (FindsPlaces (history c.args.table entries)) c.args.table (numbers_of c.in_ok-places.places.items)) (sym c.new.ensures.items)
-      (subst (AllZip (FindsPlaces []) c.args.table) (sym (c.in_ok-places.ensures ∙ ap (λ n. replicate n []) c.len.ensures.length)) (all_find_none c.args.table));
-  wide = search rules;
-}
+invariant_of-result c =
+    let none = ap (history c.args.table) c.new.ensures.items in
+    record {
+      distinct = c.requires;
+      places_are =
+          c.in_ok-places.ensures ∙ ap (λ n. replicate n []) c.len.ensures.length
+          ∙ sym (all_none c.args.table)
+          ∙ ap (λ H. map (λ p. places_by p H) c.args.table) (sym none);
+      members = subst (AreOfMembers c.args.table) (sym none) tt;
+      own_ids = subst HaveOwnIds (sym none) tt;
+      wide = search rules;
+    }
