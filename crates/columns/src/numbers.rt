@@ -1,6 +1,6 @@
 //! A number by each id.
 
-ghost use Rattle.std.specs.Prelude.{◌≡◌, ◌≤◌, ◌<◌, ◌+◌, [], nat_lt, not, length, Some, slice_get, IsTrue, OnOk, MatchResult, vec_len, vec_capacity};
+ghost use Rattle.std.specs.Prelude.{◌≡◌, ◌↔◌, ◌≤◌, ◌<◌, ◌+◌, [], nat_lt, not, length, Some, None, slice_get, IsTrue, OnOk, IfSome, MatchResult, vec_len, vec_capacity};
 ghost use Rattle.std.specs.List.{filter};
 ghost use Rattle.std.specs.FinMap.{find, put, is_sorted};
 ghost use Rattle.std.specs.FinMap.Entries.{where_key};
@@ -68,6 +68,21 @@ impl Numbers {
         }
     }
 
+    /// The number of an id, as `get` has it. It looks beside the place `near` first, and searches by halves where the id stands at neither side; `near` becomes the id's place. So a walk along neighbours costs one or two comparisons for each.
+    pub fn get_near(&self, id: &OpId, near: &mut usize) -> Option<usize>
+        ensures number { result ≡ find id_cmp id.now self.now.entries }
+        ensures there { IfSome result (λ number. slice_get self.now.entries near.new ≡ Some (id.now, number)) }
+        ensures nowhere { result ≡ None → near.new ≡ near.old }
+    {
+        match find_near(&self.entries, id, *near) {
+            Ok(place) => {
+                *near = place;
+                Some(self.entries[place].1)
+            }
+            Err(_) => None,
+        }
+    }
+
     /// The entries whose ids have a greater counter than this, rising by id. A search by halves.
     pub fn above(&self, counter: u64) -> &[(OpId, usize)]
         ensures { result.now ≡ filter (λ e. nat_lt counter e.0.counter) self.now.entries }
@@ -127,6 +142,33 @@ fn find_id(entries: &[(OpId, usize)], id: &OpId) -> Result<usize, usize>
         }
     }
     Err(low)
+}
+
+/// The place of an id, or the one to which it goes. One or two comparisons where the id stands beside `near`, and else a search by halves.
+fn find_near(entries: &[(OpId, usize)], id: &OpId, near: usize) -> Result<usize, usize>
+    requires { IsTrue (is_sorted id_cmp entries.now) }
+    ensures { MatchResult result (StandsAt id_cmp id.now (keys_of entries.now)) (GoesTo id_cmp id.now (keys_of entries.now)) }
+{
+    let next = near.saturating_add(1);
+    if stands_at(entries, id, next) {
+        return Ok(next);
+    }
+    let previous = near.saturating_sub(1);
+    if stands_at(entries, id, previous) {
+        return Ok(previous);
+    }
+    find_id(entries, id)
+}
+
+/// Whether an id stands at a place.
+fn stands_at(entries: &[(OpId, usize)], id: &OpId, place: usize) -> bool
+    requires { IsTrue (is_sorted id_cmp entries.now) }
+    ensures { IsTrue result ↔ StandsAt id_cmp id.now (keys_of entries.now) place }
+{
+    if place >= entries.len() {
+        return false;
+    }
+    id.cmp(&entries[place].0).is_eq()
 }
 
 /// The entries whose ids have a greater counter than this. A search by halves.

@@ -310,6 +310,24 @@ fn numbers_above_a_counter(rt: HostRuntime) -> Result<(), Fail> {
 }
 
 #[test]
+fn numbers_near_a_place(rt: HostRuntime) -> Result<(), Fail> {
+    let rows = [(1, 1, 7), (1, 2, 5), (2, 1, 9), (10, 1, 0)];
+    let numbers = numbers(rt.alloc(), &rows)?;
+    for from in [0, 1, 2, 3, 4, 9, usize::MAX] {
+        for (place, row) in rows.iter().enumerate() {
+            let mut near = from;
+            let found = numbers.get_near(&id(row.0, row.1)?, &mut near);
+            assert_eq!(rt; found, Some(row.2), "{place} from {from}");
+            assert_eq!(rt; near, place, "from {from}");
+        }
+        let mut near = from;
+        assert_eq!(rt; numbers.get_near(&id(2, 2)?, &mut near), None, "from {from}");
+        assert_eq!(rt; near, from);
+    }
+    Ok(())
+}
+
+#[test]
 fn a_put_number_replaces(rt: HostRuntime) -> Result<(), Fail> {
     let rows = [(1, 1, 7), (2, 1, 8), (1, 1, 9)];
     let numbers = numbers(rt.alloc(), &rows)?;

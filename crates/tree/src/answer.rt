@@ -7,7 +7,7 @@ ghost use Rattle.semantics.specs.DocumentAnswer.{is_any, visible_items, visible_
 ghost use Rattle.tree.specs.Nodes.{IsTree, context, is_written, number, presence_of, tagged, valued};
 
 use crate::node::{Node, NodeNumber, node_at};
-use crate::walk::{count_fields, field_at, item_of, walk};
+use crate::walk::{count_fields, field_at, item_near, walk};
 use columns::{Presence, Register};
 use cursor::{Place, Tag};
 use ids::OpId;
@@ -132,13 +132,13 @@ fn is_present(nodes: &[Node], at: NodeNumber) -> bool
     node_at(nodes, at).presence.len() > 0
 }
 
-/// Whether something stands at an item of a node's list.
-fn is_visible(nodes: &[Node], at: NodeNumber, id: &OpId) -> bool
+/// Whether something stands at an item of a node's list. Its node is looked for beside that of the item before, whose place among the ids is `near`.
+fn is_visible(nodes: &[Node], at: NodeNumber, id: &OpId, near: &mut usize) -> bool
     requires tree { IsTree nodes.now }
     requires inside { at < length nodes.now }
     ensures { (e : Element) → number nodes.now e ≡ Some at → result ≡ is_any ((context nodes.now).presence (Item e id.now)) }
 {
-    match item_of(nodes, at, id) {
+    match item_near(nodes, at, id, near) {
         Some(item) => is_present(nodes, item),
         None => false,
     }
@@ -151,8 +151,9 @@ fn items_at(nodes: &[Node], at: NodeNumber, alloc: Global) -> Result<Vec<OpId>, 
     ensures { IfOk result (λ v. (e : Element) → number nodes.now e ≡ Some at → v.items ≡ visible_items (context nodes.now) e) }
 {
     let mut items = Vec::new(alloc);
+    let mut near = 0;
     for id in node_at(nodes, at).order.iter() {
-        if is_visible(nodes, at, &id) {
+        if is_visible(nodes, at, &id, &mut near) {
             items.push(id)?;
         }
     }
@@ -166,8 +167,9 @@ pub fn item_at(nodes: &[Node], at: NodeNumber, place: u64) -> Option<OpId>
     ensures { (e : Element) → number nodes.now e ≡ Some at → result ≡ slice_get (visible_items (context nodes.now) e) place }
 {
     let mut left = place;
+    let mut near = 0;
     for id in node_at(nodes, at).order.iter() {
-        if is_visible(nodes, at, &id) {
+        if is_visible(nodes, at, &id, &mut near) {
             if left == 0 {
                 return Some(id);
             }

@@ -141,7 +141,7 @@ impl VersionVector {
 }
 
 /// Sets the bit of each id that the vector doesn't cover, and clears the others, where the ids stand in two columns. The bounds are scratch. Takes no memory.
-pub fn mark_uncovered(
+fn mark_uncovered(
     vector: &VersionVector,
     counters: &[u64],
     indices: &[usize],
