@@ -61,7 +61,7 @@ fn only_engines_in(alloc: Global, parts: &[Value]) -> Result<Vec<Engine>, Refusa
         return Err(Refusal::BadLine);
     };
     let engines = engines_in(alloc, list_in(engines)?)?;
-    if engines.len() < 1 || engines.len() > 16 {
+    if engines.is_empty() || engines.len() > 16 {
         return Err(Refusal::BadLine);
     }
     Ok(engines)

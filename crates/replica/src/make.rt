@@ -5,7 +5,7 @@ ghost use Rattle.ids.specs.declared.refusal.Refusal.TheVariants.{NoMemory};
 ghost use Rattle.semantics.specs.Elements.{Value};
 ghost use Rattle.semantics.specs.Operations.{Assign, Insert, Delete};
 ghost use Rattle.semantics.specs.Entries.{applied};
-ghost use Rattle.semantics.specs.Making.{make, place_for};
+ghost use Rattle.semantics.specs.Making.{is_full, make, place_for};
 ghost use Rattle.operation.specs.Meanings.{command_of, stamped_of};
 ghost use Rattle.replica.specs.Replicas.{IsMade};
 
@@ -16,7 +16,14 @@ use operation::{Command, Op};
 use std::alloc::Global;
 
 /// The most operations that a history holds.
-pub const MOST_ENTRIES: usize = 1_048_576;
+const MOST_ENTRIES: usize = 1_048_576;
+
+/// Whether no more operations may be appended.
+pub fn is_full(document: &Document) -> bool
+    ensures { result ≡ is_full document.now.entries }
+{
+    document.len() >= MOST_ENTRIES
+}
 
 /// The operation that the command makes after the history.
 ///
@@ -32,7 +39,7 @@ pub fn make(
     ensures width { IfOk result (λ op. length op.deps ≡ length document.now.table) }
     ensures err { IfErr result (λ why. (why ≡ NoMemory) ⊎ (make (applied document.now.entries) own (command_of command.now) ≡ Err why)) }
 {
-    if document.len() >= MOST_ENTRIES {
+    if is_full(document) {
         return Err(Refusal::HistoryFull);
     }
     let place = document.resolve(alloc, command.expression())?;

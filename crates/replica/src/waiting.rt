@@ -7,14 +7,13 @@ ghost use Rattle.semantics.specs.LegalHistory.{IsAmong};
 ghost use Rattle.semantics.specs.Stamped.{Stamped};
 ghost use Rattle.semantics.specs.Entries.{stamped_of as stamped_entries};
 ghost use Rattle.semantics.specs.Faults.{fault_of};
-ghost use Rattle.semantics.specs.Making.{is_full};
 ghost use Rattle.semantics.specs.Delivery.{Kept as IsKept, NotKept};
 ghost use Rattle.operation.specs.Meanings.{stamped_of};
 ghost use Rattle.document.specs.Documents.{HasRoomFor};
 ghost use Rattle.inbox.specs.Inboxes.{StandAlone};
 ghost use Rattle.replica.specs.Replicas.{answer_to_new, next_in, replica_with};
 
-use crate::make::MOST_ENTRIES;
+use crate::make::is_full;
 use document::Document;
 use ids::{OpId, Refusal, ReplicaId};
 use inbox::Inbox;
@@ -55,13 +54,6 @@ fn check_ready(document: &Document, op: &Op) -> Result<(), Refusal>
         MatchResult result (λ _. fault ≡ None) (λ why. fault ≡ Some why) }
 {
     document.check(op)
-}
-
-/// Whether no more operations may be appended.
-fn is_full(document: &Document) -> bool
-    ensures { result ≡ is_full document.now.entries }
-{
-    document.len() >= MOST_ENTRIES
 }
 
 /// The next operation that leaves: the smallest ready one, unless the history is full.

@@ -1,9 +1,10 @@
-use Rattle.std.proofs.Common.{◌≡◌, ◌<◌, ℕ, List, false, nat_le, suc, inl, inr, ◌+◌, true, Result, Ok, Err, subst, length, sym, ap, ◌∙◌, arith, add-one}
+use Rattle.std.proofs.Common.{◌≡◌, ◌<◌, ℕ, Bool, List, false, nat_le, suc, inl, inr, ◌+◌, true, Result, Ok, Err, subst, length, sym, ap, ◌∙◌, arith, add-one}
 use Rattle.std.specs.Prelude.{IfErr, IsErrAnd}
 use Rattle.std.proofs.lemmas.Bool.{le-leb, lt-leb}
 use Rattle.semantics.specs.LegalHistory.{greatest_of}
 use Rattle.semantics.specs.NamedIds.{vector_of}
 use Rattle.semantics.specs.Tables.{by_table}
+use Rattle.semantics.specs.Making.{is_full}
 use Rattle.semantics.specs.Questions.{resolve}
 use Rattle.semantics.specs.Context.{doc}
 use Rattle.semantics.specs.DocumentAnswer.{visible_items}
@@ -13,14 +14,14 @@ use Rattle.operation.specs.Meanings.{command_of}
 use Rattle.replica.proofs.MadeOperations.{make-full, make-resolved, make-placed, made_at}
 use Rattle.replica.proofs.make.make.Goals as goal
 
-has_room : (G : List Entry) (n : ℕ) → n ≡ length G → n < 1048576 → nat_le 1048576 (length (applied G)) ≡ false
-has_room G n len few = let same = length-applied G in lt-leb 1048576 (length (applied G)) (omega arith)
+-- the history is full where its operations are as many
+full : (G : List Entry) (b : Bool) → is_full G ≡ b → nat_le 1048576 (length (applied G)) ≡ b
+full G b is = ap (nat_le 1048576) (length-applied G) ∙ is
 
-pub returns-then-len-ge-MOST_ENTRIES-clause-err : goal.returns-then-len-ge-MOST_ENTRIES-clause-err
-returns-then-len-ge-MOST_ENTRIES-clause-err c =
+pub returns-then-is_full-clause-err : goal.returns-then-is_full-clause-err
+returns-then-is_full-clause-err c =
     let G = c.args.document.now.entries in
-    let n = length-applied G in
-    inr (make-full (applied G) c.args.own (command_of c.args.command.now) (le-leb 1048576 (length (applied G)) (omega (arith, n, c.len.ensures))))
+    inr (make-full (applied G) c.args.own (command_of c.args.command.now) (full G true (sym c.is_full.ensures ∙ c.if-is_full.true)))
 
 -- a refusal that is passed on
 passed : {T E : Type 0} (r : Result T E) (x : E) (P : E → Type 0) → IsErrAnd r (λ y. y ≡ x) → P x → IfErr r P
@@ -34,7 +35,7 @@ returns-in_err-place-clause-err c =
     passed c.from_residual.result c.in_err-place.field-0.0 _ c.from_residual.ensures.1
     (elim c.in_err-place.ensures.err [
       | inl none ↦ inl none
-      | inr e ↦ inr (make-resolved (applied G) c.args.own command (Err c.in_err-place.field-0.0) (has_room c.args.document.now.entries _ c.len.ensures c.if-len-ge-MOST_ENTRIES.false) (ap (resolve (visible_items (doc (applied G)))) (sym c.expression.ensures) ∙ e))
+      | inr e ↦ inr (make-resolved (applied G) c.args.own command (Err c.in_err-place.field-0.0) (full G false (sym c.is_full.ensures ∙ c.if-is_full.false)) (ap (resolve (visible_items (doc (applied G)))) (sym c.expression.ensures) ∙ e))
     ])
 
 pub returns-in_err-check_place-clause-err : goal.returns-in_err-check_place-clause-err
@@ -42,14 +43,14 @@ returns-in_err-check_place-clause-err c =
     let G = c.args.document.now.entries in
     let command = command_of c.args.command.now in
     passed c.from_residual-in_err-check_place.result c.in_err-check_place.field-0.0 _ c.from_residual-in_err-check_place.ensures.1
-    (inr (make-placed (applied G) c.args.own command c.in_ok-place.place (Err c.in_err-check_place.field-0.0) (has_room c.args.document.now.entries _ c.len.ensures c.if-len-ge-MOST_ENTRIES.false) (ap (resolve (visible_items (doc (applied G)))) (sym c.expression.ensures) ∙ c.in_ok-place.ensures.ok) c.in_err-check_place.ensures))
+    (inr (make-placed (applied G) c.args.own command c.in_ok-place.place (Err c.in_err-check_place.field-0.0) (full G false (sym c.is_full.ensures ∙ c.if-is_full.false)) (ap (resolve (visible_items (doc (applied G)))) (sym c.expression.ensures) ∙ c.in_ok-place.ensures.ok) c.in_err-check_place.ensures))
 
 pub returns-clause-made : goal.returns-clause-made
 returns-clause-made c =
     let G = c.args.document.now.entries in
     let table = c.args.document.now.table in
     let command = command_of c.args.command.now in
-    let room = has_room c.args.document.now.entries _ c.len.ensures c.if-len-ge-MOST_ENTRIES.false in
+    let room = full G false (sym c.is_full.ensures ∙ c.if-is_full.false) in
     let same_deps : c.in_ok-deps.deps ≡ c.applied-applied.result.now = c.in_ok-deps.ensures.cases in
     let counter : c.greatest-counter.result + 1 ≡ suc (greatest_of (λ a. true) (applied G)) =
     add-one c.greatest-counter.result ∙ ap suc (c.greatest-counter.ensures ∙ c.applied-applied.ensures.greatest) in
