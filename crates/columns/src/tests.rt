@@ -321,7 +321,11 @@ fn numbers_near_a_place(rt: HostRuntime) -> Result<(), Fail> {
             assert_eq!(rt; near, place, "from {from}");
         }
         let mut near = from;
-        assert_eq!(rt; numbers.get_near(&id(2, 2)?, &mut near), None, "from {from}");
+        assert_eq!(rt;
+            numbers.get_near(&id(2, 2)?, &mut near),
+            None,
+            "from {from}"
+        );
         assert_eq!(rt; near, from);
     }
     Ok(())

@@ -1,5 +1,5 @@
 -- What a vector doesn't cover, by the places of each replica and by the rules.
-use Rattle.std.proofs.Common.{◌≡◌, refl, sym, ap, ◌∙◌, ℕ, zero, suc, ◌+◌, ◌<◌, ◌≤◌, ◌==◌, ◌||◌, ◌⊎◌, inl, inr, not, Bool, true, false, cond, nat_lt, nat_le, IsTrue, Ordering, Less, Equal, Greater, List, [], ◌∷◌, ◌++◌, map, reverse, length, get_or, drop, subst, arith, Option, Some, None}
+use Rattle.std.proofs.Common.{◌≡◌, refl, sym, ap, ◌∙◌, ℕ, zero, suc, ◌+◌, ◌<◌, ◌≤◌, ◌==◌, ◌||◌, ◌⊎◌, inl, inr, not, Bool, true, false, cond, nat_lt, nat_le, IsTrue, Less, Equal, Greater, List, [], ◌∷◌, ◌++◌, map, reverse, length, get_or, drop, subst, arith, Option, Some, None}
 use Rattle.std.specs.Option.{option_map}
 use Rattle.std.specs.Ordering.{is_eq}
 use Rattle.std.specs.List.{filter}
@@ -8,12 +8,12 @@ use Rattle.std.specs.Ordering.{nat_cmp}
 use Rattle.std.specs.FinMap.{find, put}
 use Rattle.std.specs.FinMap.Entries.{by_order}
 use Rattle.std.proofs.lemmas.List.{append-nil, map-append, reverse-append}
-use Rattle.std.proofs.lemmas.Bool.{cases_lt, lt-ltb, lt-leb, le-ltb, le-leb, eq-eqb, eqb-true, eqb-false, ne_eqb, or_left}
+use Rattle.std.proofs.lemmas.Bool.{cases_lt, lt-ltb, lt-leb, le-ltb, le-leb, eq-eqb, eqb-true, eqb-false}
 use Rattle.ids.specs.declared.id.OpId.{OpId}
 use Rattle.ids.specs.Members.{AreDistinct, is_member}
 use Rattle.semantics.specs.Ids.{id_cmp}
 use Rattle.semantics.specs.Vectors.{Vector, at, covers}
-use Rattle.semantics.specs.Tables.{by_table, component}
+use Rattle.semantics.specs.Tables.{by_table}
 use Rattle.semantics.specs.Stamped.{Stamped}
 use Rattle.semantics.specs.Entries.{Entry as TheEntry, entry_at, missing, stamped_in, stamped_of}
 use Rattle.semantics.proofs.TableVectors.{at-by_table}

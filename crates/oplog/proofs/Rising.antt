@@ -1,10 +1,10 @@
 -- Numbers that rise, and how often each stands among them.
-use Rattle.std.proofs.Common.{◌≡◌, refl, sym, ap, ◌∙◌, ℕ, zero, suc, ◌+◌, ◌<◌, ◌≤◌, ◌==◌, ◌⊎◌, inl, inr, Bool, true, false, cond, List, [], ◌∷◌, ◌++◌, length, get_or, subst, arith}
+use Rattle.std.proofs.Common.{◌≡◌, refl, sym, ap, ◌∙◌, ℕ, suc, ◌+◌, ◌<◌, ◌≤◌, ◌==◌, ◌⊎◌, inl, inr, false, cond, List, [], ◌∷◌, ◌++◌, get_or, subst, arith}
 use Rattle.std.specs.Prelude.{⊤}
 use Rattle.std.specs.List.{sum_by}
 use Rattle.std.specs.List.Sorted.{IsPermutation, IsSorted}
 use Rattle.std.specs.Ordering.{is_lt, nat_cmp}
-use Rattle.std.proofs.lemmas.Bool.{cases_lt, eq-eqb, eqb-true, ne_eqb}
+use Rattle.std.proofs.lemmas.Bool.{cases_lt, eq-eqb, ne_eqb}
 use Rattle.std.proofs.lemmas.List.Sorted.{sum_by-IsPermutation}
 use Rattle.std.proofs.lemmas.List.Sums.{sum_by-cons}
 use Rattle.std.proofs.lemmas.Map.Keys.{ge_from_not_lt}

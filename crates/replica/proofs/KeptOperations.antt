@@ -1,13 +1,11 @@
 -- What a replica holds after a delivery.
-use Rattle.std.proofs.Common.{◌≡◌, ◌≢◌, ◌⊎◌, inl, inr, ℕ, Bool, true, false, cond, ◌||◌, ◌==◌, List, Result, Ok, Err, Option, Some, None, refl, sym, ap, ◌∙◌, subst}
+use Rattle.std.proofs.Common.{◌≡◌, ◌≢◌, ◌⊎◌, inl, inr, ℕ, false, cond, ◌||◌, List, Result, Ok, Err, None, refl, sym, ap, ◌∙◌, subst}
 use Rattle.ids.specs.declared.refusal.Refusal.{Refusal}
-use Rattle.ids.specs.declared.refusal.Refusal.TheVariants.{HistoryFull, OwnName}
 use Rattle.semantics.specs.LegalHistory.{has_id, IsAmong}
 use Rattle.semantics.specs.Stamped.{Stamped}
 use Rattle.semantics.specs.Faults.{alone_fault}
-use Rattle.semantics.specs.Making.{is_full}
 use Rattle.semantics.specs.Replica.{Replica, IsRunning, operations}
-use Rattle.semantics.specs.Delivery.{Kept as IsKept, Known, NotKept, answer_to, answer_after, deliver, is_waiting, kept_by, put_waiting, room_answer}
+use Rattle.semantics.specs.Delivery.{Kept as IsKept, Known, answer_after, deliver, is_waiting, kept_by, put_waiting}
 use Rattle.semantics.proofs.Delivered.{delivered}
 use Rattle.operation.specs.declared.op.Op.{Op}
 use Rattle.operation.specs.declared.command.Delivered.{Delivered}

@@ -11,7 +11,6 @@ use Rattle.semantics.specs.Delivery.{Delivered, Kept, Known, NotKept, answer_to,
 use Rattle.semantics.specs.Drain.{counted, drain_for, drain, with_peers}
 use Rattle.semantics.proofs.Beginnings.{above_more}
 use Rattle.semantics.proofs.Drained.{drained, part_drained}
-use Rattle.replica.specs.Replicas.{Running, replica_of}
 
 above_peers : (client serial : ℕ) (M : List Stamped) (G : List Entry) → IsAbove client serial G → IsAbove client serial (with_peers M G)
 above_peers client serial [] G h = h

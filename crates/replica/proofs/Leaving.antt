@@ -1,16 +1,15 @@
 -- What leaves the inbox of a replica, and what the replica holds then.
-use Rattle.std.proofs.Common.{◌≡◌, ◌∷◌, ◌⊎◌, inl, inr, ℕ, suc, min, true, List, [], Option, Some, None, sym, ap, ◌∙◌, subst, true≢false}
+use Rattle.std.proofs.Common.{◌≡◌, ◌∷◌, inl, inr, ℕ, true, List, [], Some, None, sym, ap, ◌∙◌, subst, true≢false}
 use Rattle.std.proofs.lemmas.Bool.{or_left, or_right}
 use Rattle.ids.specs.Members.{is_member}
-use Rattle.ids.specs.declared.refusal.Refusal.{Refusal}
 use Rattle.semantics.specs.Ids.{OpId, is_same_id, is_smaller_id}
 use Rattle.semantics.specs.LegalHistory.{IsAmong}
 use Rattle.semantics.specs.Stamped.{Stamped, MayFollow}
 use Rattle.semantics.specs.Faults.{fault_of}
 use Rattle.semantics.specs.Entries.{Peer, applied, stamped_of as stamped_entries}
-use Rattle.semantics.specs.Replica.{Replica, IsRunning, IsRising}
+use Rattle.semantics.specs.Replica.{IsRunning, IsRising}
 use Rattle.semantics.specs.Delivery.{is_waiting}
-use Rattle.semantics.specs.Drain.{counted, drain_for, taken, without_waiting}
+use Rattle.semantics.specs.Drain.{drain_for, without_waiting}
 use Rattle.semantics.proofs.EntryHistories.{entries_legal}
 use Rattle.semantics.proofs.FaultlessFollows.{follows_without_fault}
 use Rattle.semantics.proofs.Orders.{id_tested}
@@ -21,7 +20,7 @@ use Rattle.operation.specs.Meanings.{stamped_of}
 use Rattle.document.specs.Documents.{Kept}
 use Rattle.inbox.specs.Inboxes.{StandAlone, waiting_in}
 use Rattle.replica.specs.Replicas.{Running, IsReplica, IsNextReady, next_of, replica_of}
-use Rattle.replica.proofs.Turns.{appending, counted_running, dropping, turn}
+use Rattle.replica.proofs.Turns.{appending, turn}
 
 -- what is among the operations is among the stamped ones
 pub among_stamped : (table : List ℕ) (ws : List Op) (o : Op) → IsAmong o ws → IsAmong (stamped_of table o) (waiting_in table ws)

@@ -1,11 +1,10 @@
 -- When a replica can be opened, and what holds of it then.
-use Rattle.std.proofs.Common.{◌≡◌, ◌⊎◌, inl, inr, ℕ, ◌≤◌, Bool, true, false, ◌&&◌, ◌==◌, nat_le, List, [], ◌∷◌, refl, sym, ap, ◌∙◌, arith}
+use Rattle.std.proofs.Common.{◌≡◌, ◌⊎◌, inl, inr, ℕ, ◌≤◌, Bool, true, false, ◌&&◌, ◌==◌, nat_le, List, [], ◌∷◌, refl, ap, ◌∙◌, arith}
 use Rattle.std.specs.Prelude.{IsTrue, IsFalse}
 use Rattle.std.specs.List.{list_all}
 use Rattle.std.proofs.lemmas.Bool.{and_parts, or_from, leb-true, ne_eqb}
 use Rattle.ids.specs.Members.{is_member}
 use Rattle.ids.specs.Configurations.{are_members}
-use Rattle.semantics.specs.Entries.{IsEntryHistory}
 use Rattle.replica.specs.Replicas.{Running, IsReplica}
 
 no_zero : (ps : List ℕ) → list_all (λ p. nat_le 1 p) ps ≡ true → is_member ps 0 ≡ false

@@ -2,7 +2,6 @@
 use Rattle.std.proofs.Common.{◌≡◌, ℕ, [], ◌∷◌, List, Ok, sym, ap, ◌∙◌, subst}
 use Rattle.ids.specs.Members.{is_member}
 use Rattle.semantics.specs.NamedIds.{NamesAll}
-use Rattle.semantics.specs.Operations.{Operation}
 use Rattle.semantics.specs.Stamped.{Stamped, operation_after, MayFollow}
 use Rattle.semantics.specs.Making.{Command, make}
 use Rattle.semantics.specs.Entries.{Entry, Own, applied, stamped_of, IsAbove, IsEntryHistory}

@@ -1,16 +1,15 @@
 -- The turns of a drain, where what is dropped is counted up to the greatest number.
-use Rattle.std.proofs.Common.{◌≡◌, ◌∷◌, ◌⊎◌, inl, inr, ℕ, zero, suc, min, ◌+◌, ◌-◌, ◌<◌, ◌≤◌, Bool, true, false, cond, List, length, Option, Some, None, refl, sym, ap, ◌∙◌, arith, true≢false}
+use Rattle.std.proofs.Common.{◌≡◌, ◌∷◌, ◌⊎◌, inl, inr, ℕ, zero, suc, min, ◌+◌, ◌-◌, ◌<◌, ◌≤◌, Bool, true, false, cond, length, Option, Some, None, refl, sym, ap, ◌∙◌, arith, true≢false}
 use Rattle.std.proofs.lemmas.Bool.{cases_lt}
 use Rattle.ids.specs.declared.refusal.Refusal.{Refusal}
-use Rattle.semantics.specs.LegalHistory.{IsAmong}
 use Rattle.semantics.specs.Stamped.{Stamped}
-use Rattle.semantics.specs.Faults.{is_ready, fault_of}
+use Rattle.semantics.specs.Faults.{fault_of}
 use Rattle.semantics.specs.Making.{is_full}
 use Rattle.semantics.specs.Entries.{Peer, stamped_of}
 use Rattle.semantics.specs.Replica.{Replica, operations, IsRunning}
 use Rattle.semantics.specs.Drain.{counted, first_ready, without_waiting, taken_with, taken, at_ready, drain_for, drain, IsDrained}
 use Rattle.semantics.proofs.EarlyEnd.{goes_on}
-use Rattle.semantics.proofs.Waiting.{none_ready, ready_first}
+use Rattle.semantics.proofs.Waiting.{ready_first}
 use Rattle.semantics.proofs.Drained.{drained}
 use Rattle.replica.specs.Replicas.{next_of}
 

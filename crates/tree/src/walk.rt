@@ -74,16 +74,14 @@ pub fn item_of(nodes: &[Node], at: NodeNumber, id: &OpId) -> Option<NodeNumber>
 }
 
 /// The number of the node of an item, by its id. It is looked for beside the place `near` among the items' ids, which becomes its own, and by halves where it isn't there.
-pub fn item_near(
-    nodes: &[Node],
-    at: NodeNumber,
-    id: &OpId,
-    near: &mut usize,
-) -> Option<NodeNumber>
+pub fn item_near(nodes: &[Node], at: NodeNumber, id: &OpId, near: &mut usize) -> Option<NodeNumber>
     requires { at < length nodes.now }
     ensures { result ≡ child_number nodes.now at (ItemKey id.now) }
 {
-    node_at(nodes, at).items.get_near(id, near).map(NodeNumber::new)
+    node_at(nodes, at)
+        .items
+        .get_near(id, near)
+        .map(NodeNumber::new)
 }
 
 /// The number of the node at the end of a path from the root.

@@ -1,8 +1,8 @@
 -- What an answer to a hello leaves, replies and sends.
-use Rattle.std.proofs.Common.{◌≡◌, ℕ, true, false, List, [], ◌∷◌, length, Option, Some, None, refl}
+use Rattle.std.proofs.Common.{◌≡◌, ℕ, true, false, [], ◌∷◌, length, Option, Some, None, refl}
 use Rattle.ids.specs.declared.refusal.Refusal.TheVariants.{UnknownReplica}
 use Rattle.semantics.specs.Vectors.{Vector}
-use Rattle.semantics.specs.Engine.{Engine, Message, Hello, Bundle, Turn, Denied, NoMessage, SentBundle}
+use Rattle.semantics.specs.Engine.{Engine, Message, Hello, Bundle, Denied, NoMessage, SentBundle}
 use Rattle.semantics.specs.ReadSteps.{see_published}
 use Rattle.semantics.specs.PeerSteps.{answer_hello, answer_sent, lacked, names_members}
 use Rattle.world.specs.Engines.{IsNoHello}

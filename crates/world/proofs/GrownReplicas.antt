@@ -1,10 +1,10 @@
 -- What is handled leaves the members of a replica, and makes its history longer.
-use Rattle.std.proofs.Common.{◌≡◌, ℕ, List, [], ◌∷◌, Result, Ok, Err, refl, sym, ap, ◌∙◌, subst}
+use Rattle.std.proofs.Common.{◌≡◌, ℕ, [], ◌∷◌, Result, Ok, Err, sym, ap, ◌∙◌, subst}
 use Rattle.std.specs.Prelude.{OnErr, OnOk}
 use Rattle.ids.specs.declared.refusal.Refusal.{Refusal}
 use Rattle.semantics.specs.Stamped.{Stamped}
 use Rattle.semantics.specs.Making.{Command}
-use Rattle.semantics.specs.Entries.{Entry, Own}
+use Rattle.semantics.specs.Entries.{Own}
 use Rattle.semantics.specs.Replica.{Replica as TheReplica, IsRunning, commit_own}
 use Rattle.semantics.specs.Delivery.{answer_to, deliver}
 use Rattle.semantics.specs.Drain.{counted, drain_for}

@@ -1,5 +1,5 @@
 -- What a replica makes of an item whose floor it has reached.
-use Rattle.std.proofs.Common.{◌≡◌, false, cond, nat_lt, length, refl}
+use Rattle.std.proofs.Common.{◌≡◌, false, nat_lt, length, refl}
 use Rattle.semantics.specs.LegalAnswer.{Request, Submitted}
 use Rattle.semantics.specs.Replica.{Replica}
 use Rattle.semantics.specs.WriteSteps.{after_item, after_request, reply_requested, reply_to}

@@ -1,12 +1,12 @@
 -- What a request leaves, whether it is taken or refused.
-use Rattle.std.proofs.Common.{◌≡◌, ℕ, zero, suc, ◌<◌, Bool, true, false, nat_le, List, [], ◌∷◌, length, Option, Some, None, refl, ap, arith, slice_get}
+use Rattle.std.proofs.Common.{◌≡◌, ℕ, zero, suc, ◌<◌, Bool, true, false, nat_le, List, [], ◌∷◌, length, Option, Some, None, refl, arith, slice_get}
 use Rattle.std.proofs.lemmas.List.{length-set}
 use Rattle.ids.specs.declared.refusal.Refusal.{Refusal}
 use Rattle.semantics.specs.Stamped.{Stamped}
 use Rattle.semantics.specs.LegalAnswer.{Request, OfPeer}
 use Rattle.semantics.specs.Engine.{Engine, Client, Ticket, Denied}
 use Rattle.semantics.specs.WriteSteps.{next_item, with_cell, submit, push}
-use Rattle.semantics.specs.PeerSteps.{Receipt, as_received, receive_lines, submit_all}
+use Rattle.semantics.specs.PeerSteps.{as_received, receive_lines, submit_all}
 
 -- what stands at a place within the list
 pub found : {X : Type 0} (xs : List X) (i : ℕ) → i < length xs → (x : X) × (slice_get xs i ≡ Some x)

@@ -4,10 +4,9 @@ use Rattle.std.specs.List.{All}
 use Rattle.ids.specs.declared.refusal.Refusal.{Refusal}
 use Rattle.semantics.specs.LegalAnswer.{Request as TheRequest, OfCommand, OfPeer, Submitted}
 use Rattle.semantics.specs.Engine as engine
-use Rattle.semantics.specs.Entries.{Entry, first_entries}
+use Rattle.semantics.specs.Entries.{first_entries}
 use Rattle.semantics.specs.WorldHistory.{BeginsWith}
 use Rattle.semantics.specs.Tables.{by_table}
-use Rattle.operation.specs.declared.op.Op.{Op}
 use Rattle.operation.specs.Meanings.{command_of, stamped_of}
 use Rattle.document.specs.Documents.{Kept}
 use Rattle.replica.specs.Replicas.{Running}

@@ -1,12 +1,11 @@
 -- Steps, replies, clients and messages of the program as those of the definitions.
-use Rattle.std.specs.Prelude.{ℕ, ⊤, List, map, option_map}
+use Rattle.std.specs.Prelude.{ℕ, ⊤, List}
 use Rattle.semantics.specs.Questions.{Refused as NotAnswered}
-use Rattle.semantics.specs.Making.{Command as TheCommand}
 use Rattle.semantics.specs.Tables.{by_table}
-use Rattle.semantics.specs.LegalAnswer.{Request as TheRequest, OfCommand, OfPeer, Submitted, Reply as TheReply, Made as MadeAs, NotMade, KeptAt, KnownAt, Answered}
+use Rattle.semantics.specs.LegalAnswer.{Reply as TheReply, Made as MadeAs, NotMade, KeptAt, KnownAt, Answered}
 use Rattle.semantics.specs.Engine as engine
 use Rattle.semantics.specs.World as world
-use Rattle.operation.specs.Meanings.{command_of, stamped_of}
+use Rattle.operation.specs.Meanings.{command_of}
 use Rattle.document.specs.Documents.{IsBeside, asked_of, said_by}
 use Rattle.wire.specs.Bundles.{readable}
 use Rattle.world.specs.declared.step.WorldStep.{WorldStep}

@@ -1,7 +1,7 @@
 use Rattle.std.proofs.Common.{◌≡◌, ◌<◌, ◌≤◌, ◌-◌, ◌∙◌, ℕ, Bool, true, false, true≢false, IsTrue, refl, ap, sym, arith, Ordering, length, get_or, Less, Equal, Greater}
 use Rattle.std.specs.Ordering.{is_gt}
 use Rattle.std.specs.FinMap.{is_sorted}
-use Rattle.semantics.specs.Ids.{OpId, id_cmp}
+use Rattle.semantics.specs.Ids.{id_cmp}
 use Rattle.semantics.proofs.Orders.{id_total}
 use Rattle.columns.specs.Rank.{rank, keys_of, as_set}
 use Rattle.columns.specs.Entries.{entries_of}

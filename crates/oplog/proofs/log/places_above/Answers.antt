@@ -3,7 +3,6 @@ use Rattle.std.proofs.Math.Seq.{drop-length}
 use Rattle.std.specs.List.{filter}
 use Rattle.std.proofs.lemmas.List.{append-nil, append_assoc}
 use Rattle.semantics.specs.Ids.{OpId}
-use Rattle.columns.specs.Numbered.{Numbered}
 use Rattle.oplog.specs.Logs.{numbers_above, numbers_of}
 use Rattle.oplog.proofs.Missing.{above, next-above}
 use Rattle.oplog.proofs.log.places_above.Goals as goal

@@ -1,6 +1,5 @@
-use Rattle.std.proofs.Common.{◌≡◌, ◌<◌, ℕ, Bool, List, false, nat_le, suc, inl, inr, ◌+◌, true, Result, Ok, Err, subst, length, sym, ap, ◌∙◌, arith, add-one}
+use Rattle.std.proofs.Common.{◌≡◌, Bool, List, false, nat_le, suc, inl, inr, ◌+◌, true, Result, Ok, Err, subst, length, sym, ap, ◌∙◌, add-one}
 use Rattle.std.specs.Prelude.{IfErr, IsErrAnd}
-use Rattle.std.proofs.lemmas.Bool.{le-leb, lt-leb}
 use Rattle.semantics.specs.LegalHistory.{greatest_of}
 use Rattle.semantics.specs.NamedIds.{vector_of}
 use Rattle.semantics.specs.Tables.{by_table}

@@ -1,7 +1,7 @@
-use Rattle.std.proofs.Common.{◌≡◌, ◌≤◌, false, nat_lt, length, Result, Ok, Err, sym, ap, ◌∙◌, arith}
+use Rattle.std.proofs.Common.{◌≡◌, false, nat_lt, length, Result, Ok, Err, sym, ap, ◌∙◌, arith}
 use Rattle.std.specs.Prelude.{OnOk}
 use Rattle.std.proofs.lemmas.Bool.{le-ltb}
-use Rattle.semantics.specs.LegalAnswer.{Request, OfPeer, Submitted}
+use Rattle.semantics.specs.LegalAnswer.{OfPeer, Submitted}
 use Rattle.semantics.specs.WriteSteps.{after_request}
 use Rattle.operation.specs.Meanings.{stamped_of}
 use Rattle.replica.specs.Replicas.{replica_of}

@@ -1,4 +1,4 @@
-use Rattle.std.proofs.Common.{◌≡◌, ◌∙◌, sym, ap, subst, length, rules}
+use Rattle.std.proofs.Common.{◌≡◌, ◌∙◌, sym, ap, subst, length}
 use Rattle.std.specs.List.Sorted.{IsPermutation}
 use Rattle.semantics.specs.Tables.{by_table}
 use Rattle.oplog.specs.Logs.{Logged, history, missing_places, numbers_above, numbers_of}

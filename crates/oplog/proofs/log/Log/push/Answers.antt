@@ -1,4 +1,4 @@
-use Rattle.std.proofs.Common.{◌≡◌, ◌-◌, sym, ap, ◌∙◌, ◌++◌, ◌∷◌, [], IsTrue, map, length, get_or, set, Some, None, subst, arith, vec_len, vec_capacity}
+use Rattle.std.proofs.Common.{◌≡◌, ◌-◌, sym, ap, ◌∙◌, ◌∷◌, [], IsTrue, map, length, get_or, set, Some, None, subst, arith, vec_len, vec_capacity}
 use Rattle.std.specs.List.{All}
 use Rattle.std.specs.FinMap.{put}
 use Rattle.std.proofs.lemmas.List.Elements.{All-push}

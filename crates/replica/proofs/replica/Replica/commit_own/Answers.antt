@@ -1,8 +1,8 @@
-use Rattle.std.proofs.Common.{ap, subst, sym}
+use Rattle.std.proofs.Common.{subst, sym}
 use Rattle.semantics.specs.Entries.{IsAbove}
 use Rattle.operation.specs.Meanings.{command_of, stamped_of}
 use Rattle.replica.specs.Replicas.{Running, IsMade}
-use Rattle.replica.proofs.OwnEntries.{may_append, made_by, own_appended}
+use Rattle.replica.proofs.OwnEntries.{may_append, own_appended}
 use Rattle.replica.proofs.replica.Replica.commit_own.Goals as goal
 
 pub commit-requires-clause-lawful : goal.commit-requires-clause-lawful

@@ -1,9 +1,7 @@
 use Rattle.std.proofs.Common.{◌≡◌, ◌∷◌, sym, ap, ◌∙◌, subst, true≢false}
-use Rattle.semantics.specs.Ids.{OpId}
 use Rattle.semantics.specs.Stamped.{Stamped}
 use Rattle.semantics.specs.Entries.{Peer}
 use Rattle.semantics.specs.Drain.{drain_for, without_waiting}
-use Rattle.operation.specs.Meanings.{stamped_of}
 use Rattle.document.specs.Documents.{HasRoomFor}
 use Rattle.inbox.specs.Inboxes.{waiting_in}
 use Rattle.replica.specs.Replicas.{Running, IsNextReady, replica_of}

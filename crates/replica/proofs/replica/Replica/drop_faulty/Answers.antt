@@ -1,4 +1,4 @@
-use Rattle.std.proofs.Common.{◌≡◌, sym, ap, ◌∙◌, add-one, min}
+use Rattle.std.proofs.Common.{sym, ap, ◌∙◌, add-one, min}
 use Rattle.semantics.specs.Ids.{OpId}
 use Rattle.semantics.specs.Drain.{counted, drain_for, without_waiting}
 use Rattle.inbox.specs.Inboxes.{waiting_in}

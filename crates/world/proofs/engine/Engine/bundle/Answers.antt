@@ -1,9 +1,9 @@
-use Rattle.std.proofs.Common.{inl, inr, arith, ◌≡◌, ℕ, [], ◌∷◌, ◌++◌, List, length, map, Option, Some, sym, ap, ◌∙◌, subst, slice_get, true, false, append-nil}
+use Rattle.std.proofs.Common.{inl, inr, arith, ◌≡◌, [], ◌∷◌, ◌++◌, List, length, map, Option, Some, sym, ap, ◌∙◌, subst, slice_get, false, append-nil}
 use Rattle.std.proofs.lemmas.List.{length-map, map-append}
 use Rattle.semantics.specs.Tables.{by_table}
 use Rattle.semantics.specs.Engine.{Engine as TheEngine, Message as TheMessage, Hello as TheHello, Bundle as TheBundle, Turn, SentBundle}
 use Rattle.semantics.specs.Stamped.{Stamped}
-use Rattle.semantics.specs.PeerSteps.{answer_sent, lacked, names_members}
+use Rattle.semantics.specs.PeerSteps.{lacked, names_members}
 use Rattle.operation.specs.Meanings.{stamped_of}
 use Rattle.world.specs.Engines.{IsNoHello, message_of}
 use Rattle.world.proofs.AnsweredHellos.{answer-foreign, answer-given, answer-none}

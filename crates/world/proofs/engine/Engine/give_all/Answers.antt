@@ -1,4 +1,4 @@
-use Rattle.std.proofs.Common.{◌≡◌, ◌+◌, ◌-◌, ap, ◌∙◌}
+use Rattle.std.proofs.Common.{◌+◌, ◌-◌, ap, ◌∙◌}
 use Rattle.semantics.specs.Engine.{Engine}
 use Rattle.semantics.specs.WriteSteps.{give_for}
 use Rattle.world.proofs.WholeSteps.{give_next}

@@ -1,7 +1,4 @@
 use Rattle.std.proofs.Common.{◌≡◌, ◌∙◌, ℕ, List, length, map, sym, ap}
-use Rattle.semantics.specs.Engine.{Client, Handled}
-use Rattle.semantics.specs.LegalAnswer.{Submitted}
-use Rattle.semantics.specs.Replica.{Replica}
 use Rattle.semantics.specs.World.{opened_engine}
 use Rattle.ids.specs.Configurations.{Configuration}
 use Rattle.ids.specs.contracts.config.Config.{the_view}

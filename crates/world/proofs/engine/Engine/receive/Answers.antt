@@ -1,7 +1,7 @@
-use Rattle.std.proofs.Common.{◌≡◌, ℕ, suc, ◌+◌, ◌<◌, ◌==◌, cond, List, length, map, sym, ap, ◌∙◌, arith, add-one}
+use Rattle.std.proofs.Common.{◌≡◌, ℕ, suc, ◌<◌, ◌==◌, cond, length, map, sym, ap, ◌∙◌, arith, add-one}
 use Rattle.std.proofs.lemmas.List.{length-map}
 use Rattle.semantics.specs.Engine.{Engine as TheEngine, Turn, Received}
-use Rattle.semantics.specs.PeerSteps.{Receipt, as_received, receive_lines, submit_all}
+use Rattle.semantics.specs.PeerSteps.{Receipt, as_received}
 use Rattle.operation.specs.Meanings.{stamped_of}
 use Rattle.world.specs.Engines.{client_of, stop_after}
 use Rattle.world.proofs.SubmittedRequests.{found, receive-there}
