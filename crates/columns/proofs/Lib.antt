@@ -3,6 +3,7 @@ pub mod Ranks
 pub mod Puts
 pub mod Zipped
 pub mod Halves
+pub mod Searched
 pub mod Columns
 pub mod Above
 pub mod Beside
