@@ -4,6 +4,7 @@ pub mod Puts
 pub mod Zipped
 pub mod Halves
 pub mod Searched
+pub mod Placed
 pub mod Columns
 pub mod Above
 pub mod Beside

@@ -1,9 +1,10 @@
 //! The keys of a map, in byte order.
 
-ghost use Rattle.std.specs.Prelude.{◌≡◌, ◌≤◌, ◌<◌, ◌+◌, ◌^◌, ℕ, [], length, Some, slice_get, IsTrue, OnOk, MatchResult};
+ghost use Rattle.std.specs.Prelude.{◌≡◌, ◌≤◌, ◌<◌, ◌+◌, ◌^◌, ℕ, [], length, Some, slice_get, slice_index_or, IsTrue, OnOk, MatchResult};
 ghost use Rattle.std.specs.List.{insert};
 ghost use Rattle.std.specs.FinMap.{put, is_sorted};
-ghost use Rattle.semantics.specs.Elements.{name_cmp};
+ghost use Rattle.semantics.specs.Elements.{Name, name_cmp};
+ghost use Rattle.columns.specs.Keys.{AreNumbers, AreOrdered, numbered};
 ghost use Rattle.columns.specs.Rank.{GoesTo, as_set, rank};
 
 use std::alloc::{AllocError, Global};
@@ -13,32 +14,34 @@ use value::Key;
 
 /// Different keys in byte order. What stands at each key stands beside them, in columns of the caller's.
 ///
-/// Contracts see the keys, and how many more fit without memory.
+/// A key stays where it was put, and a number for it moves, since a key is three times as long. Contracts see the keys, the number of each, and how many more fit without memory.
 #[derive(Debug, Drop)]
 pub struct SortedKeys {
+    /// As they were put.
     keys: Vec<Key>,
+    /// The number of the key at each place in byte order.
+    order: Vec<usize>,
 }
 
 impl Model for SortedKeys {
-    ghost use Rattle.std.specs.Prelude.{IsTrue, vec_len, vec_capacity, ◌-◌};
-    ghost use Rattle.std.specs.FinMap.{is_sorted};
-    ghost use Rattle.semantics.specs.Elements.{name_cmp};
-    ghost use Rattle.columns.specs.Keys.{Keys};
-    ghost use Rattle.columns.specs.Rank.{as_set};
+    ghost use Rattle.std.specs.Prelude.{[], min, vec_len, vec_capacity, ◌-◌};
+    ghost use Rattle.columns.specs.Keys.{AreOrdered, Keys, numbered};
 
     ghost Value = { Keys };
 
-    ghost view = { λ k. record { keys = k.keys.items; room = vec_capacity k.keys - vec_len k.keys } };
+    ghost view = { λ k. record { keys = numbered [] k.keys.items k.order.items; numbers = k.order.items; room = min (vec_capacity k.keys - vec_len k.keys) (vec_capacity k.order - vec_len k.order) } };
 
-    ghost invariant = { λ k. IsTrue (is_sorted name_cmp (as_set k.keys.items)) };
+    ghost invariant = { λ k. AreOrdered k.keys.items k.order.items };
 }
 
 impl SortedKeys {
     pub fn new(alloc: Global) -> SortedKeys
-        ensures { result.keys ≡ [] }
+        ensures keys { result.keys ≡ [] }
+        ensures numbers { result.numbers ≡ [] }
     {
         SortedKeys {
             keys: Vec::new(alloc),
+            order: Vec::new(alloc),
         }
     }
 
@@ -47,7 +50,7 @@ impl SortedKeys {
         ensures length { result ≡ length self.now.keys }
         ensures rising { IsTrue (is_sorted name_cmp (as_set self.now.keys)) }
     {
-        self.keys.len()
+        self.order.len()
     }
 
     /// The key at a place.
@@ -55,7 +58,16 @@ impl SortedKeys {
         requires { place < length self.now.keys }
         ensures { slice_get self.now.keys place ≡ Some result.now }
     {
-        &self.keys[place]
+        key_at(&self.keys, &self.order, place)
+    }
+
+    /// How many keys were put before the one at a place.
+    pub fn number(&self, place: usize) -> usize
+        requires { place < length self.now.keys }
+        ensures number { slice_get self.now.numbers place ≡ Some result }
+        ensures numbers { AreNumbers (length self.now.keys) self.now.numbers }
+    {
+        self.order[place]
     }
 
     /// Makes room for one more key.
@@ -64,10 +76,12 @@ impl SortedKeys {
     /// Want of memory.
     pub fn reserve_one(&mut self) -> Result<(), AllocError>
         ensures same { self.new.keys ≡ self.old.keys }
+        ensures numbers { self.new.numbers ≡ self.old.numbers }
         ensures room { OnOk result (0 < self.new.room) }
         ensures kept { self.old.room ≤ self.new.room }
     {
-        self.keys.reserve(1)
+        self.keys.reserve(1)?;
+        self.order.reserve(1)
     }
 
     /// The place of a key, or the one to which it goes. A search by halves, which compares the key with at most as many as the number of keys has binary digits: n has at most k where n is below 2 to the k. Each comparison adds 1 to `probes`.
@@ -78,37 +92,49 @@ impl SortedKeys {
         ensures any_probe { 0 < length self.now.keys → probes.old < probes.new }
         ensures counted { probes.old ≤ probes.new }
     {
-        find_in(&self.keys, key, probes)
+        find_in(&self.keys, &self.order, key, probes)
     }
 
-    /// Puts a key that isn't there, at the place that `find` gives for it. Takes no memory; each key from there on moves.
+    /// Puts a key that isn't there, at the place that `find` gives for it. Takes no memory; the number of each key from there on moves.
     pub fn put(&mut self, place: usize, key: Key)
         requires place { GoesTo name_cmp key self.old.keys place }
         requires room { 0 < self.old.room }
         ensures keys { self.new.keys ≡ insert self.old.keys place key }
         ensures set { as_set self.new.keys ≡ put name_cmp key tt (as_set self.old.keys) }
+        ensures numbers { self.new.numbers ≡ insert self.old.numbers place (length self.old.keys) }
         ensures room { self.old.room ≤ self.new.room + 1 }
     {
-        let _ = self.keys.insert(place, key);
+        let _ = self.order.insert(place, self.keys.len());
+        self.keys.push_reserved(key);
     }
 }
 
+/// The key at a place in byte order.
+fn key_at<'a>(keys: &'a [Key], order: &[usize], place: usize) -> &'a Key
+    requires numbers { AreNumbers (length keys.now) order.now }
+    requires within { place < length order.now }
+    ensures { (d : Name) → slice_index_or (numbered [] keys.now order.now) place d ≡ result.now }
+{
+    &keys[order[place]]
+}
+
 /// The place of a key, or the one to which it goes. A search by halves.
-fn find_in(keys: &[Key], key: &Key, probes: &mut u64) -> Result<usize, usize>
-    requires rising { IsTrue (is_sorted name_cmp (as_set keys.now)) }
-    requires fits { length keys.now < 2 ^ 64 }
+fn find_in(keys: &[Key], order: &[usize], key: &Key, probes: &mut u64) -> Result<usize, usize>
+    requires ordered { AreOrdered keys.now order.now }
+    requires fits { length order.now < 2 ^ 64 }
     requires probes { probes.old ≤ 18446744073709551551 }
-    ensures place { MatchResult result (λ place. (slice_get keys.now place ≡ Some key.now) × (place ≡ rank name_cmp key.now keys.now)) (GoesTo name_cmp key.now keys.now) }
-    ensures few_probes { (k : ℕ) → length keys.now < 2 ^ k → probes.new ≤ probes.old + k }
-    ensures any_probe { 0 < length keys.now → probes.old < probes.new }
+    ensures place { let sorted = numbered [] keys.now order.now in
+        MatchResult result (λ place. (slice_get sorted place ≡ Some key.now) × (place ≡ rank name_cmp key.now sorted)) (GoesTo name_cmp key.now sorted) }
+    ensures few_probes { (k : ℕ) → length order.now < 2 ^ k → probes.new ≤ probes.old + k }
+    ensures any_probe { 0 < length order.now → probes.old < probes.new }
     ensures counted { probes.old ≤ probes.new }
 {
     let mut low = 0;
-    let mut high = keys.len();
+    let mut high = order.len();
     while low < high {
         let middle = low + (high - low) / 2;
         *probes += 1;
-        match key.cmp(&keys[middle]) {
+        match key.cmp(key_at(keys, order, middle)) {
             Ordering::Less => high = middle,
             Ordering::Equal => return Ok(middle),
             Ordering::Greater => low = middle + 1,
