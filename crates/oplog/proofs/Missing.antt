@@ -1,5 +1,5 @@
 -- What a vector doesn't cover, by the places of each replica and by the rules.
-use Rattle.std.proofs.Common.{◌≡◌, refl, sym, ap, ◌∙◌, ℕ, zero, suc, ◌+◌, ◌<◌, ◌≤◌, ◌==◌, ◌||◌, ◌⊎◌, inl, inr, not, Bool, true, false, cond, nat_lt, nat_le, IsTrue, Less, Equal, Greater, List, [], ◌∷◌, ◌++◌, map, reverse, length, get_or, drop, subst, arith, Option, Some, None}
+use Rattle.std.proofs.Common.{◌≡◌, refl, sym, ap, ◌∙◌, ℕ, zero, suc, ◌+◌, ◌<◌, ◌≤◌, ◌==◌, ◌||◌, not, Bool, true, false, cond, nat_lt, nat_le, IsTrue, Less, Equal, Greater, List, [], ◌∷◌, ◌++◌, map, reverse, length, get_or, drop, subst, arith, Option, Some, None}
 use Rattle.std.specs.Option.{option_map}
 use Rattle.std.specs.Ordering.{is_eq}
 use Rattle.std.specs.List.{filter}
@@ -7,8 +7,9 @@ use Rattle.std.specs.List.Sorted.{IsPermutation, IsSorted}
 use Rattle.std.specs.Ordering.{nat_cmp}
 use Rattle.std.specs.FinMap.{find, put}
 use Rattle.std.specs.FinMap.Entries.{by_order}
+use Rattle.std.proofs.lemmas.Bool.Decides.{nat_tests}
 use Rattle.std.proofs.lemmas.List.{append-nil, map-append, reverse-append}
-use Rattle.std.proofs.lemmas.Bool.{cases_lt, lt-ltb, lt-leb, le-ltb, le-leb, eq-eqb, eqb-true, eqb-false}
+use Rattle.std.proofs.lemmas.Bool.{eq-eqb, eqb-true, eqb-false}
 use Rattle.ids.specs.declared.id.OpId.{OpId}
 use Rattle.ids.specs.Members.{AreDistinct, is_member}
 use Rattle.semantics.specs.Ids.{id_cmp}
@@ -24,11 +25,7 @@ use Rattle.oplog.proofs.Places.{all_others, places_by-find, places_by-other, pla
 use Rattle.oplog.proofs.Rising.{AreTo, Rises, count, count-append, count-permutation, rises-last, rises-sorted, same_rising}
 
 above-not : (x c : ℕ) → nat_lt x c ≡ not (nat_le c x)
-above-not x c = by_cases (cases_lt x c)
-  where
-    by_cases : (x < c) ⊎ (c ≤ x) → nat_lt x c ≡ not (nat_le c x)
-    by_cases (inl lt) = lt-ltb x c lt ∙ ap not (sym (lt-leb c x lt))
-    by_cases (inr le) = le-ltb x c le ∙ ap not (sym (le-leb c x le))
+above-not x c = grind (arith, nat_tests)
 
 -- a column is what a function gives of each replica of the table
 by_places : (f : ℕ → ℕ) (ps cs : List ℕ) → length cs ≡ length ps → ((i : ℕ) → i < length ps → f (get_or ps i 0) ≡ get_or cs i 0) → map f ps ≡ cs
