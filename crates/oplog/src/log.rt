@@ -117,7 +117,7 @@ impl Log {
         reserve_places(&mut self.places)
     }
 
-    /// Appends an entry, for which there is room, and whose id no entry has yet. Takes no memory. Moves the places of its replica's greater ids, and of a history none is greater.
+    /// Appends an entry, for which there is room, and whose id no entry has yet. Takes no memory. It moves the places of its replica's greater ids, of which a history has none.
     pub fn push(&mut self, entry: Entry)
         requires room { 0 < self.old.room }
         requires width { length (op_in entry).deps ≡ length self.old.table }
