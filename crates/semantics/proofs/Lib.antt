@@ -108,6 +108,11 @@ pub mod StartedReceipts
 pub mod HandledReceipts
 pub mod CompleteMessages
 pub mod WholeExchanges
+-- items that are handled where an allocation may fail
+pub mod HandledAnswers
+pub mod HandledBatches
+pub mod OutsideRules
+pub mod TrueReceipts
 -- the premises of the laws are met
 pub mod LegalExample
 pub mod ExchangeWitness

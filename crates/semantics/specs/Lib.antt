@@ -30,4 +30,8 @@ pub mod PeerSteps
 pub mod World
 pub mod WorldHistory
 pub mod WorldExchange
+pub mod Receipts
+pub mod Handling
+pub mod Batches
+pub mod Publication
 pub mod Codes

@@ -5,9 +5,11 @@
 pub mod answers;
 pub mod convergence;
 pub mod exchange;
+pub mod handling;
 pub mod legality;
 pub mod list_order;
 pub mod one_world;
+pub mod receipts;
 pub mod replica;
 pub mod vectors;
 pub mod world;

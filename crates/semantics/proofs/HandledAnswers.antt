@@ -1,0 +1,213 @@
+-- What handling an item keeps, with want of memory or without.
+use Rattle.std.proofs.Common.{◌≡◌, ◌⊎◌, inl, inr, ℕ, suc, ◌+◌, ◌<◌, ◌≤◌, Bool, true, false, nat_lt, List, [], ◌∷◌, ◌++◌, length, Option, Some, None, Result, Ok, Err, refl, sym, ap, ◌∙◌, subst, arith}
+use Rattle.std.proofs.lemmas.Bool.{ltb-true, ltb-false}
+use Rattle.ids.specs.declared.refusal.Refusal.{Refusal}
+use Rattle.ids.specs.declared.refusal.Refusal.TheVariants.{NoMemory, BadFloor}
+use Rattle.semantics.specs.Ids.{OpId}
+use Rattle.semantics.specs.Operations.{Operation}
+use Rattle.semantics.specs.Stamped.{Stamped}
+use Rattle.semantics.specs.Making.{Command, make}
+use Rattle.semantics.specs.Entries.{Entry, Own, Peer, applied, first_entries, IsAbove}
+use Rattle.semantics.specs.LegalAnswer.{Request, OfCommand, OfPeer, Submitted, Reply, Made, NotMade, KeptAt, KnownAt, LacksSerial, IsLegalAnswer}
+use Rattle.semantics.specs.Replica.{Replica, operations, IsRunning}
+use Rattle.semantics.specs.Delivery.{Delivered, Kept, Known, NotKept, answer_after, answer_to, deliver}
+use Rattle.semantics.specs.Drain.{counted, drain_for, receive, with_peers}
+use Rattle.semantics.specs.WriteSteps.{stamp, after_made, reply_made, after_request, reply_requested, after_item, reply_to, reply_delivered}
+use Rattle.semantics.specs.WorldHistory.{BeginsWith}
+use Rattle.semantics.proofs.AppliedVectors.{at-vector_of}
+use Rattle.semantics.proofs.Beginnings.{first_of_longer, no_shorter}
+use Rattle.semantics.proofs.Delivered.{delivered, own_committed}
+use Rattle.semantics.proofs.Drained.{part_drained}
+use Rattle.semantics.proofs.HandledItems.{as_stamped}
+use Rattle.semantics.proofs.OwnReplies.{own_made, own_refused, all_first}
+use Rattle.semantics.proofs.ReceivedItems.{same_own, same_members, same_entries, running_counted}
+use Rattle.semantics.proofs.Replies.{made_stays, refused_stays}
+use Rattle.semantics.specs.Receipts.{answer_with, WasAnswered, IsReceipt, IsFromFloor, IsAnswer}
+use Rattle.semantics.specs.Handling.{Handler, DrainsTo, IsWhole, IsTurnedAway, IsCutShort, Handles, AreFor, IsAfter}
+
+-- ---- drains
+
+-- q is r after so many turns of a drain
+pub record IsPart (r q : Replica) : Type 0 where
+  pub own : q.own ≡ r.own
+  pub members : q.members ≡ r.members
+  pub appended : List Stamped
+  pub entries : q.entries ≡ with_peers appended r.entries
+  pub running : IsRunning q
+
+pub part : (n : ℕ) (r q : Replica) → IsRunning r → q ≡ counted (drain_for n r) → IsPart r q
+part n r q h e =
+    let d = part_drained n r h in record {
+      own = ap (λ (p : Replica). p.own) e ∙ d.1.own;
+      members = ap (λ (p : Replica). p.members) e ∙ d.1.members;
+      appended = d.1.appended;
+      entries = ap (λ (p : Replica). p.entries) e ∙ d.1.entries;
+      running = subst IsRunning (sym e) (running_counted (drain_for n r) d.0);
+    }
+
+-- a drain that ended early or not made some turns
+pub part_to : (b : Bool) (r q : Replica) → IsRunning r → DrainsTo r b q → IsPart r q
+part_to true r q h d = part d.0 r q h d.1
+part_to false r q h d = part (length r.waiting) r q h d
+
+pub delivered_part : (n : ℕ) (r q : Replica) (s : Stamped) → IsRunning r → q ≡ counted (drain_for n (deliver r s)) → IsPart r q
+delivered_part n r q s h e =
+    let p = part n (deliver r s) q (delivered r s h) e in record {
+      own = p.own ∙ same_own r s (answer_to r s);
+      members = p.members ∙ same_members r s (answer_to r s);
+      appended = p.appended;
+      entries = p.entries ∙ ap (with_peers p.appended) (same_entries r s (answer_to r s));
+      running = p.running;
+    }
+
+pub peers_before : (M : List Stamped) (G : List Entry) → with_peers M G ≡ with_peers M [] ++ G
+peers_before [] G = refl
+peers_before (s ∷ M) G = ap (λ (F : List Entry). Peer s ∷ F) (peers_before M G)
+
+pub peers_for : (x : Submitted) (M : List Stamped) → AreFor x (with_peers M [])
+peers_for x [] = tt
+peers_for x (s ∷ M) = peers_for x M
+
+-- ---- answers to deliveries
+
+same_answer : (r : Replica) (s : Stamped) (f : Option Refusal) → answer_after (record { own = r.own; members = r.members; entries = r.entries; waiting = r.waiting; dropped = 0 }) s f ≡ answer_after r s f
+same_answer r s (Some f) = refl
+same_answer r s None = refl
+
+answered : (r : Replica) (s : Stamped) (floor : ℕ) (more G : List Entry) → G ≡ more ++ r.entries → floor ≤ length r.entries → (d : Delivered) → answer_to r s ≡ d → WasAnswered r.own r.members G s floor (length G) d
+answered r s floor more G e l d is = record {
+  k = length r.entries;
+  from = l;
+  to = no_shorter G r.entries (more, e);
+  within = omega arith;
+  waiting = r.waiting;
+  answer = ap (λ (F : List Entry). answer_with r.own r.members F r.waiting s) (ap (first_entries (length r.entries)) e ∙ first_of_longer (length r.entries) more r.entries (omega arith) ∙ all_first r.entries)
+      ∙ same_answer r s _ ∙ is;
+}
+
+receipt : (r : Replica) (x : Submitted) (s : Stamped) (more G : List Entry) → G ≡ more ++ r.entries → x.floor ≤ length r.entries → (d : Delivered) → answer_to r s ≡ d → IsReceipt r.own r.members G x s (reply_delivered (length G) d)
+receipt r x s more G e l Kept is = answered r s x.floor more G e l Kept is
+receipt r x s more G e l Known is = answered r s x.floor more G e l Known is
+receipt r x s more G e l (NotKept why) is = inl (answered r s x.floor more G e l (NotKept why) is)
+
+-- ---- items
+
+above_lacks : (client serial : ℕ) (G : List Entry) → IsAbove client serial G → LacksSerial client serial G
+above_lacks client serial [] h = tt
+above_lacks client serial (Own k n c s ∷ G) h = (λ e f. (let l : n < serial = h.0 e in omega arith), above_lacks client serial G h.1)
+above_lacks client serial (Peer s ∷ G) h = above_lacks client serial G h
+
+-- the replica as it was
+unchanged : (r : Replica) (x : Submitted) (y : Reply) → IsRunning r → IsAnswer r.own r.members r.entries x y → IsAfter r x y r
+unchanged r x y h a = record { own = refl; members = refl; more = []; entries = refl; for_it = tt; running = h; answer = a }
+
+-- a refusal for what isn't a rule
+refused_lacking : (r : Replica) (x : Submitted) (c : Command) → IsAbove x.client x.serial r.entries → LacksSerial x.client x.serial (first_entries (length r.entries) r.entries)
+refused_lacking r x c above = subst (LacksSerial x.client x.serial) (sym (all_first r.entries)) (above_lacks x.client x.serial r.entries above)
+
+no_memory : (r : Replica) (x : Submitted) → IsAbove x.client x.serial r.entries → x.floor ≤ length r.entries → IsAnswer r.own r.members r.entries x (NotMade NoMemory (length r.entries))
+no_memory r x above floor = of_request x.request refl
+  where
+    of_request : (q : Request) → x.request ≡ q → IsAnswer r.own r.members r.entries x (NotMade NoMemory (length r.entries))
+    of_request (OfCommand c) is = rw is ((omega arith, inr (inl refl), refused_lacking r x c above), inl floor)
+    of_request (OfPeer s) is = rw is (inr (inl (refl, floor, omega arith)))
+
+bad_floor : (r : Replica) (x : Submitted) → IsAbove x.client x.serial r.entries → length r.entries < x.floor → IsAnswer r.own r.members r.entries x (NotMade BadFloor (length r.entries))
+bad_floor r x above below = of_request x.request refl
+  where
+    of_request : (q : Request) → x.request ≡ q → IsAnswer r.own r.members r.entries x (NotMade BadFloor (length r.entries))
+    of_request (OfCommand c) is = rw is ((omega arith, inr (inr (refl, below)), refused_lacking r x c above), inr refl)
+    of_request (OfPeer s) is = rw is (inr (inr (refl, below, omega arith)))
+
+-- an operation of a peer, after whose delivery a drain made so many turns
+peer_part : (n : ℕ) (r q : Replica) (x : Submitted) (s : Stamped) → IsRunning r → x.floor ≤ length r.entries → x.request ≡ OfPeer s → q ≡ counted (drain_for n (deliver r s))
+    → IsAfter r x (reply_delivered (length q.entries) (answer_to r s)) q
+peer_part n r q x s h floor is e =
+    let p = delivered_part n r q s h e in
+    let entries : q.entries ≡ with_peers p.appended [] ++ r.entries = p.entries ∙ peers_before p.appended r.entries in
+    let y : Reply = reply_delivered (length q.entries) (answer_to r s) in
+    let here : IsReceipt r.own r.members q.entries x s y = receipt r x s (with_peers p.appended []) q.entries entries floor (answer_to r s) refl in record {
+      own = p.own;
+      members = p.members;
+      more = with_peers p.appended [];
+      entries = entries;
+      for_it = peers_for x p.appended;
+      running = p.running;
+      answer = rw is (subst (λ k. IsReceipt k q.members q.entries x s y) (sym p.own) (subst (λ ps. IsReceipt r.own ps q.entries x s y) (sym p.members) here));
+    }
+
+made : (r : Replica) (x : Submitted) (c : Command) → x.request ≡ OfCommand c → IsRunning r → IsAbove x.client x.serial r.entries → x.floor ≤ length r.entries
+    → (m : Result Operation Refusal) → make (operations r) r.own c ≡ m → IsAfter r x (reply_made r m) (after_made r x c m)
+made r x c is h above floor (Err why) e = unchanged r x (NotMade why (length r.entries)) h (rw is (own_refused r.own r.entries x c why above e, inl floor))
+made r x c is h above floor (Ok o) e = record {
+  own = refl;
+  members = refl;
+  more = Own x.client x.serial c (stamp (operations r) o) ∷ [];
+  entries = refl;
+  for_it = (refl, refl, is, tt);
+  running = own_committed r x.client x.serial c (stamp (operations r) o) h (at-vector_of (operations r)) (e ∙ (λ i. Ok (as_stamped r c o h.history e i))) above;
+  answer = rw is (own_made r.own r.entries x c (stamp (operations r) o), floor);
+}
+
+requested : (r : Replica) (x : Submitted) → IsRunning r → IsAbove x.client x.serial r.entries → x.floor ≤ length r.entries
+    → (q : Request) → x.request ≡ q → IsAfter r x (reply_requested r q) (after_request r x q)
+requested r x h above floor (OfCommand c) is = made r x c is h above floor (make (operations r) r.own c) refl
+requested r x h above floor (OfPeer s) is = peer_part (length (deliver r s).waiting) r (counted (receive r s)) x s h floor is refl
+
+-- as the rules have it
+whole : (r : Replica) (x : Submitted) → IsRunning r → IsAbove x.client x.serial r.entries → IsAfter r x (reply_to r x) (after_item r x)
+whole r x h above = by_test (nat_lt (length r.entries) x.floor) refl
+  where
+    by_test : (b : Bool) → nat_lt (length r.entries) x.floor ≡ b → IsAfter r x (reply_to r x) (after_item r x)
+    by_test true t = rw t (unchanged r x (NotMade BadFloor (length r.entries)) h (bad_floor r x above (ltb-true (length r.entries) x.floor t)))
+    by_test false t = rw t (requested r x h above (ltb-false (length r.entries) x.floor t) x.request refl)
+
+-- the same where the reply and the replica have other names
+pub named : (r t u : Replica) (x : Submitted) (y z : Reply) → y ≡ z → t ≡ u → IsAfter r x z u → IsAfter r x y t
+named r t u x y z reply replica a = subst (λ (q : Replica). IsAfter r x y q) (sym replica) (subst (λ (k : Reply). IsAfter r x k u) (sym reply) a)
+
+pub handled : (w v : Handler) (x : Submitted) (y : Reply) → IsRunning w.replica → IsAbove x.client x.serial w.replica.entries → Handles w x y v → IsAfter w.replica x y v.replica
+handled w v x y h above (inl k) = named w.replica v.replica (after_item w.replica x) x y (reply_to w.replica x) k.reply k.replica (whole w.replica x h above)
+handled w v x y h above (inr (inl k)) =
+    named w.replica v.replica w.replica x y (NotMade NoMemory (length w.replica.entries)) k.reply (ap (λ (u : Handler). u.replica) k.same)
+    (unchanged w.replica x (NotMade NoMemory (length w.replica.entries)) h (no_memory w.replica x above k.floor))
+handled w v x y h above (inr (inr k)) =
+    named w.replica v.replica v.replica x y (reply_delivered (length v.replica.entries) (answer_to w.replica k.stamped)) k.reply refl
+    (peer_part k.replica.0 w.replica v.replica x k.stamped h k.floor k.request k.replica.1)
+
+-- ---- answers stay legal
+
+command_stays : (p : ℕ) (more F : List Entry) (x : Submitted) (c : Command) (y : Reply) → IsLegalAnswer p F x c y → IsLegalAnswer p (more ++ F) x c y
+command_stays p [] F x c y a = a
+command_stays p (e ∷ more) F x c y a = one y (command_stays p more F x c y a)
+  where
+    one : (z : Reply) → IsLegalAnswer p (more ++ F) x c z → IsLegalAnswer p (e ∷ more ++ F) x c z
+    one (Made a n) h = made_stays p (more ++ F) e x c a n h
+    one (NotMade why m) h = refused_stays p (more ++ F) e x c why m h
+    one (KeptAt m) h = h
+    one (KnownAt m) h = h
+
+was_longer : (p : ℕ) (ps : List ℕ) (more F : List Entry) (s : Stamped) (floor m : ℕ) (d : Delivered) → WasAnswered p ps F s floor m d → WasAnswered p ps (more ++ F) s floor m d
+was_longer p ps more F s floor m d a = record {
+  k = a.k;
+  from = a.from;
+  to = a.to;
+  within = (let l : length F ≤ length (more ++ F) = no_shorter (more ++ F) F (more, refl) in omega (arith, a.within));
+  waiting = a.waiting;
+  answer = ap (λ (G : List Entry). answer_with p ps G a.waiting s) (first_of_longer a.k more F (omega (arith, a.to, a.within))) ∙ a.answer;
+}
+
+receipt_stays : (p : ℕ) (ps : List ℕ) (more F : List Entry) (x : Submitted) (s : Stamped) (y : Reply) → IsReceipt p ps F x s y → IsReceipt p ps (more ++ F) x s y
+receipt_stays p ps more F x s (Made a n) h = h
+receipt_stays p ps more F x s (KeptAt m) h = was_longer p ps more F s x.floor m Kept h
+receipt_stays p ps more F x s (KnownAt m) h = was_longer p ps more F s x.floor m Known h
+receipt_stays p ps more F x s (NotMade why m) (inl h) = inl (was_longer p ps more F s x.floor m (NotKept why) h)
+receipt_stays p ps more F x s (NotMade why m) (inr (inl h)) = inr (inl (h.0, h.1, (let l : length F ≤ length (more ++ F) = no_shorter (more ++ F) F (more, refl) in omega (arith, h.2))))
+receipt_stays p ps more F x s (NotMade why m) (inr (inr h)) = inr (inr (h.0, h.1, (let l : length F ≤ length (more ++ F) = no_shorter (more ++ F) F (more, refl) in omega (arith, h.2))))
+
+pub answer_stays : (p : ℕ) (ps : List ℕ) (G F : List Entry) (x : Submitted) (y : Reply) → BeginsWith G F → IsAnswer p ps F x y → IsAnswer p ps G x y
+answer_stays p ps G F x y b a = subst (λ (K : List Entry). IsAnswer p ps K x y) (sym b.1) (of_request x.request refl a)
+  where
+    of_request : (q : Request) → x.request ≡ q → IsAnswer p ps F x y → IsAnswer p ps (b.0 ++ F) x y
+    of_request (OfCommand c) is = rw is (λ h. (command_stays p b.0 F x c y h.0, h.1))
+    of_request (OfPeer s) is = rw is (receipt_stays p ps b.0 F x s y)

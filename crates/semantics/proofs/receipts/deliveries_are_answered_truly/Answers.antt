@@ -1,0 +1,8 @@
+use Rattle.semantics.proofs.TrueReceipts.{refused_truly, kept_as_new}
+use Rattle.semantics.proofs.receipts.deliveries_are_answered_truly.Goals as goal
+
+pub returns-clause-refused : goal.returns-clause-refused
+returns-clause-refused c = refused_truly
+
+pub returns-clause-kept : goal.returns-clause-kept
+returns-clause-kept c = kept_as_new

@@ -1,0 +1,51 @@
+-- What holds of a batch of items that a writer handled, and of all that it has taken.
+use Rattle.std.specs.Prelude.{◌≡◌, ◌==◌, ◌-◌, ◌<◌, ℕ, cond, ⊤, Some, List, [], ◌∷◌, ◌++◌, length, map, slice_get}
+use Rattle.semantics.specs.Making.{Command}
+use Rattle.semantics.specs.Entries.{Entry, Own, Peer}
+use Rattle.semantics.specs.LegalAnswer.{OfCommand, Submitted}
+use Rattle.semantics.specs.Replica.{Replica, IsRunning}
+use Rattle.semantics.specs.Engine.{Handled}
+use Rattle.semantics.specs.WorldHistory.{BeginsWith}
+use Rattle.semantics.specs.Receipts.{IsAnswer}
+use Rattle.semantics.specs.Handling.{Handler, Runs}
+
+-- the items of one client, in their order
+abbrev pub of_client : ℕ → List Submitted → List Submitted
+of_client c [] = []
+of_client c (x ∷ xs) = cond (x.client == c) (x ∷ of_client c xs) (of_client c xs)
+
+-- of one client's items, numbered from serial 1 on, the one with that serial asks for the command
+abbrev pub AsksFor : List Submitted → ℕ → Command → Type 0
+AsksFor xs serial c = (x : Submitted) × (0 < serial) × (slice_get xs (serial - 1) ≡ Some x) × (x.request ≡ OfCommand c)
+
+-- each own entry is of a command that was taken, under its client and serial
+abbrev pub ComeFrom : List Submitted → List Entry → Type 0
+ComeFrom took [] = ⊤
+ComeFrom took (Own client serial c s ∷ G) = AsksFor (of_client client took) serial c × ComeFrom took G
+ComeFrom took (Peer s ∷ G) = ComeFrom took G
+
+-- each reply is a legal answer in the history
+abbrev pub AreAnswers : ℕ → List ℕ → List Entry → List Handled → Type 0
+AreAnswers p ps G [] = ⊤
+AreAnswers p ps G (h ∷ hs) = IsAnswer p ps G h.submitted h.reply × AreAnswers p ps G hs
+
+-- the items that were handled
+abbrev pub items_of : List Handled → List Submitted
+items_of hs = map (λ h. h.submitted) hs
+
+-- these items were handled from w on, which had taken `took` before; v is what came of it
+pub record IsBatch (w : Handler) (took : List Submitted) (hs : List Handled) (v : Handler) : Type 0 where
+  pub runs : Runs w hs v
+  pub own : v.replica.own ≡ w.replica.own
+  pub members : v.replica.members ≡ w.replica.members
+  pub running : IsRunning v.replica
+  pub come_from : ComeFrom (took ++ items_of hs) v.replica.entries
+  pub answers : AreAnswers v.replica.own v.replica.members v.replica.entries hs
+
+-- v is w after it resumed: what holds of a writer still does
+pub record IsResumed (w : Handler) (took : List Submitted) (v : Handler) : Type 0 where
+  pub own : v.replica.own ≡ w.replica.own
+  pub members : v.replica.members ≡ w.replica.members
+  pub entries : BeginsWith v.replica.entries w.replica.entries
+  pub running : IsRunning v.replica
+  pub come_from : ComeFrom took v.replica.entries
