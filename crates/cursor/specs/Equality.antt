@@ -1,9 +1,12 @@
--- When two keys of paths or two places are one, and that these tests are equalities.
-use Rattle.std.specs.Prelude.{◌≡◌, Bool, true, false}
-use Rattle.std.proofs.Common.{sym, ap, true≢false}
+-- When two keys of paths, two places, two steps or two expressions are one, and that these tests are equalities.
+use Rattle.std.specs.Prelude.{◌≡◌, ◌==◌, Bool, true, false, List}
+use Rattle.std.proofs.Common.{refl, sym, ap, true≢false}
 use Rattle.std.specs.Bool.{Decides}
-use Rattle.std.specs.Cmp.{IsEquivalence, decided}
+use Rattle.std.specs.Cmp.{IsEquivalence, decided, unsigned_Decides}
+use Rattle.std.specs.Cmp.Lexicographic.{pointwise}
+use Rattle.std.proofs.lemmas.Slice.Eq.{slice_eq-Decides}
 use Rattle.semantics.specs.Elements.{Place, At, HeadOf, name_cmp, is_same}
+use Rattle.semantics.specs.Questions.{Step, Get, Idx}
 use Rattle.semantics.specs.Paths.{Key, FieldKey, ItemKey, is_same_key}
 use Rattle.semantics.proofs.Orders.{Equal_from_test, element_itself, id_itself, ids_from_test, name_itself, same_elements, same_names}
 
@@ -44,3 +47,31 @@ place_decides p q = (same_places p q, λ is. rw (← is) (place_itself p))
 
 pub same_place_equiv : IsEquivalence is_same_place
 same_place_equiv = decided is_same_place place_decides
+
+-- s and t are one step
+abbrev pub is_same_step : Step → Step → Bool
+is_same_step (Get n) (Get m) = is_same_key (FieldKey n) (FieldKey m)
+is_same_step (Idx i) (Idx j) = i == j
+is_same_step _ _ = false
+
+step_itself : (s : Step) → is_same_step s s ≡ true
+step_itself (Get n) = name_itself n
+step_itself (Idx i) = (unsigned_Decides i i).1 refl
+
+same_steps : (s t : Step) → is_same_step s t ≡ true → s ≡ t
+same_steps (Get n) (Get m) h = ap Get (same_names n m (Equal_from_test (name_cmp n m) h))
+same_steps (Idx i) (Idx j) h = ap Idx ((unsigned_Decides i j).0 h)
+same_steps (Get n) (Idx j) h = absurd (true≢false (sym h))
+same_steps (Idx i) (Get m) h = absurd (true≢false (sym h))
+
+pub step_decides : (s t : Step) → Decides (is_same_step s t) (s ≡ t)
+step_decides s t = (same_steps s t, λ is. rw (← is) (step_itself s))
+
+pub same_step_equiv : IsEquivalence is_same_step
+same_step_equiv = decided is_same_step step_decides
+
+pub expression_decides : (e f : List Step) → Decides (pointwise is_same_step e f) (e ≡ f)
+expression_decides e f = slice_eq-Decides step_decides e f (pointwise is_same_step e f) refl
+
+pub same_expression_equiv : IsEquivalence (pointwise is_same_step)
+same_expression_equiv = decided (pointwise is_same_step) expression_decides

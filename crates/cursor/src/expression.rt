@@ -1,6 +1,9 @@
 //! Expressions, as clients write them.
 
 ghost use Rattle.std.specs.Prelude.{◌≡◌, map};
+ghost use Rattle.std.specs.Cmp;
+ghost use Rattle.std.specs.Cmp.Lexicographic.{pointwise};
+ghost use Rattle.cursor.specs.Equality.{is_same_step, same_expression_equiv, same_step_equiv};
 ghost use Rattle.cursor.specs.Meanings.{step_of};
 
 use std::alloc::AllocError;
@@ -8,7 +11,7 @@ use std::marker::Model;
 use value::Key;
 
 /// One step of an expression.
-#[derive(Debug, PartialEq, Eq, Drop)]
+#[derive(Debug, Drop)]
 pub enum Step {
     /// Into the map here, to the field with this key.
     Get(Key),
@@ -25,6 +28,24 @@ impl Clone for Step {
             Step::Idx(index) => Ok(Step::Idx(*index)),
         }
     }
+}
+
+impl PartialEq for Step {
+    ghost eq = { λ s t. is_same_step (step_of s) (step_of t) };
+
+    ghost laws = { Cmp.partial_equiv_from_equiv (Cmp.on_equiv step_of same_step_equiv) };
+
+    fn eq(&self, other: &Step) -> bool {
+        match (self, other) {
+            (Step::Get(key), Step::Get(other)) => key == other,
+            (Step::Idx(index), Step::Idx(other)) => index == other,
+            _ => false,
+        }
+    }
+}
+
+impl Eq for Step {
+    ghost laws = { Cmp.on_equiv step_of same_step_equiv };
 }
 
 /// The steps from the root to an element. Contracts see the list of steps.
@@ -74,4 +95,18 @@ impl Clone for Expr {
             steps: self.steps.clone()?,
         })
     }
+}
+
+impl PartialEq for Expr {
+    ghost eq = { pointwise is_same_step };
+
+    ghost laws = { Cmp.partial_equiv_from_equiv same_expression_equiv };
+
+    fn eq(&self, other: &Expr) -> bool {
+        self.steps == other.steps
+    }
+}
+
+impl Eq for Expr {
+    ghost laws = { same_expression_equiv };
 }

@@ -4,3 +4,4 @@ pub mod MissingOps
 pub mod NamedOfColumns
 pub mod PlacesOfIds
 pub mod ReceivedFaults
+pub mod LawfulNext

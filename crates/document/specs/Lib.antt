@@ -1,3 +1,4 @@
 -- What a document holds, and what it answers.
 pub mod Documents
 pub mod Checks
+pub mod Lawful

@@ -1,6 +1,9 @@
 //! Commands, the entries of a history that are made of them or come from peers, and what a delivery is answered.
 
 ghost use Rattle.std.specs.Prelude.{◌≡◌, IfOk};
+ghost use Rattle.std.specs.Cmp;
+ghost use Rattle.operation.specs.Equality.{is_same_command, same_command_equiv};
+ghost use Rattle.operation.specs.Meanings.{command_of};
 
 use crate::op::{Mutation, Op};
 use cursor::Expr;
@@ -61,6 +64,27 @@ impl Clone for Command {
             Command::Delete(expression) => Ok(Command::Delete(expression.clone()?)),
         }
     }
+}
+
+impl PartialEq for Command {
+    ghost eq = { λ c d. is_same_command (command_of c) (command_of d) };
+
+    ghost laws = { Cmp.partial_equiv_from_equiv (Cmp.on_equiv command_of same_command_equiv) };
+
+    fn eq(&self, other: &Command) -> bool {
+        match (self, other) {
+            (Command::Assign(place, value), Command::Assign(other_place, other))
+            | (Command::InsertAfter(place, value), Command::InsertAfter(other_place, other)) => {
+                place == other_place && value == other
+            }
+            (Command::Delete(place), Command::Delete(other)) => place == other,
+            _ => false,
+        }
+    }
+}
+
+impl Eq for Command {
+    ghost laws = { Cmp.on_equiv command_of same_command_equiv };
 }
 
 /// An operation of a history, with where it came from.

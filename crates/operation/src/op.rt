@@ -1,6 +1,9 @@
 //! Operations, as they are kept and sent.
 
 ghost use Rattle.std.specs.Prelude.{◌≡◌};
+ghost use Rattle.std.specs.Cmp;
+ghost use Rattle.operation.specs.Equality.{counted_of, is_same_mutation, is_same_operation, same_mutation_equiv, same_operation_equiv};
+ghost use Rattle.operation.specs.Meanings.{mutation_of};
 
 use cursor::Place;
 use ids::OpId;
@@ -9,7 +12,7 @@ use value::Val;
 use version::VersionVector;
 
 /// What an operation does at its place.
-#[derive(Debug, PartialEq, Eq, Drop)]
+#[derive(Debug, Drop)]
 pub enum Mutation {
     /// Clears the element, and writes the value there.
     Assign(Val),
@@ -42,6 +45,25 @@ impl Clone for Mutation {
     }
 }
 
+impl PartialEq for Mutation {
+    ghost eq = { λ m n. is_same_mutation (mutation_of m) (mutation_of n) };
+
+    ghost laws = { Cmp.partial_equiv_from_equiv (Cmp.on_equiv mutation_of same_mutation_equiv) };
+
+    fn eq(&self, other: &Mutation) -> bool {
+        match (self, other) {
+            (Mutation::Assign(value), Mutation::Assign(other)) => value == other,
+            (Mutation::Insert(value), Mutation::Insert(other)) => value == other,
+            (Mutation::Delete, Mutation::Delete) => true,
+            _ => false,
+        }
+    }
+}
+
+impl Eq for Mutation {
+    ghost laws = { Cmp.on_equiv mutation_of same_mutation_equiv };
+}
+
 /// An operation.
 #[derive(Debug, Drop)]
 pub struct Op {
@@ -63,4 +85,21 @@ impl Clone for Op {
             mutation: self.mutation.clone()?,
         })
     }
+}
+
+impl PartialEq for Op {
+    ghost eq = { λ o p. is_same_operation (counted_of o) (counted_of p) };
+
+    ghost laws = { Cmp.partial_equiv_from_equiv (Cmp.on_equiv counted_of same_operation_equiv) };
+
+    fn eq(&self, other: &Op) -> bool {
+        self.id == other.id
+            && self.deps == other.deps
+            && self.place == other.place
+            && self.mutation == other.mutation
+    }
+}
+
+impl Eq for Op {
+    ghost laws = { Cmp.on_equiv counted_of same_operation_equiv };
 }

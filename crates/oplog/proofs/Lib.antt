@@ -5,3 +5,5 @@ pub mod Missing
 pub mod Found
 pub mod Places
 pub mod Room
+pub mod KnownMembers
+pub mod LongerHistories

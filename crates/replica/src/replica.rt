@@ -11,6 +11,7 @@ ghost use Rattle.semantics.specs.Making.{make};
 ghost use Rattle.semantics.specs.Replica.{IsRunning, commit_own};
 ghost use Rattle.semantics.specs.Delivery.{Kept as ToBeKept, NotKept, deliver};
 ghost use Rattle.semantics.specs.Drain.{counted, IsDrained, drain, drain_for};
+ghost use Rattle.operation.specs.Alone.{fault_alone};
 ghost use Rattle.operation.specs.Meanings.{command_of, stamped_of};
 ghost use Rattle.oplog.specs.Logs.{history};
 ghost use Rattle.document.specs.Documents.{HasRoomFor};
@@ -86,6 +87,14 @@ impl Replica {
         self.document.len()
     }
 
+    /// How many operations of peers wait.
+    pub fn waiting_len(&self) -> usize
+        ensures length { result ≡ length self.now.waiting }
+        ensures counted { counted (replica_of self.now) ≡ replica_of self.now }
+    {
+        self.inbox.len()
+    }
+
     /// How many operations of peers were dropped since they turned out to be unlawful. Stays at 18446744073709551615.
     pub fn dropped(&self) -> u64
         ensures { result ≡ self.now.dropped }
@@ -101,6 +110,7 @@ impl Replica {
         ensures same { replica_of self.new ≡ replica_of self.old }
         ensures made { IfOk result (λ op. IsMade self.old.document.entries self.old.own (command_of command.now) (stamped_of self.old.document.table op)) }
         ensures width { IfOk result (λ op. length op.deps ≡ length self.old.document.table) }
+        ensures member { IfOk result (λ op. IsTrue (is_member self.old.document.table op.id.replica)) }
         ensures room { IfOk result (λ op. HasRoomFor self.new.document (stamped_of self.new.document.table op)) }
         ensures err { IfErr result (λ why. (why ≡ NoMemory) ⊎ (make (applied self.old.document.entries) self.old.own (command_of command.now) ≡ Err why)) }
     {
@@ -153,6 +163,7 @@ impl Replica {
     pub fn next_ready(&mut self, alloc: Global) -> Result<Option<Op>, Refusal>
         ensures dropped { (n : ℕ) × (replica_of self.new ≡ counted (drain_for n (replica_of self.old))) × (self.new.document.entries ≡ self.old.document.entries) }
         ensures next { IfOk result (λ o. option_map (stamped_of self.new.document.table) o ≡ next_of (replica_of self.new)) }
+        ensures alone { IfOk result (λ o. IfSome o (λ op. fault_alone self.new.document.table op ≡ None)) }
         ensures ready { IfOk result (λ o. IfSome o (λ op. IsNextReady self.new (stamped_of self.new.document.table op))) }
         ensures err { IfErr result (λ why. why ≡ NoMemory) }
     {

@@ -34,12 +34,14 @@ pub mod FaultlessFollows
 pub mod FollowsFaultless
 pub mod AloneTests
 pub mod LawfulAlone
+pub mod KnownItems
 -- what is made, and entry histories
 pub mod ListedItems
 pub mod MadeLawful
 pub mod EntryHistories
 pub mod Replies
 pub mod OwnReplies
+pub mod EntryBeginnings
 -- deliveries and drains
 pub mod Waiting
 pub mod Taken

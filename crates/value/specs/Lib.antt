@@ -1,3 +1,4 @@
--- What values mean, and their form in JSON.
+-- What values mean, when two are one, and their form in JSON.
 pub mod Meanings
 pub mod Forms
+pub mod Equality

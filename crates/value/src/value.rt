@@ -1,12 +1,15 @@
 //! The values that operations write.
 
 ghost use Rattle.std.specs.Prelude.{◌≡◌};
+ghost use Rattle.std.specs.Cmp;
+ghost use Rattle.value.specs.Equality.{is_same_scalar, is_same_value, same_scalar_equiv, same_value_equiv};
+ghost use Rattle.value.specs.Meanings.{scalar_of, value_of};
 
 use crate::text::Text;
 use std::alloc::AllocError;
 
 /// A value without parts.
-#[derive(Debug, PartialEq, Eq, Drop)]
+#[derive(Debug, Drop)]
 pub enum Scalar {
     Null,
     Bool(bool),
@@ -28,8 +31,28 @@ impl Clone for Scalar {
     }
 }
 
+impl PartialEq for Scalar {
+    ghost eq = { λ s t. is_same_scalar (scalar_of s) (scalar_of t) };
+
+    ghost laws = { Cmp.partial_equiv_from_equiv (Cmp.on_equiv scalar_of same_scalar_equiv) };
+
+    fn eq(&self, other: &Scalar) -> bool {
+        match (self, other) {
+            (Scalar::Null, Scalar::Null) => true,
+            (Scalar::Bool(truth), Scalar::Bool(other)) => truth == other,
+            (Scalar::Whole(whole), Scalar::Whole(other)) => whole == other,
+            (Scalar::Text(text), Scalar::Text(other)) => text == other,
+            _ => false,
+        }
+    }
+}
+
+impl Eq for Scalar {
+    ghost laws = { Cmp.on_equiv scalar_of same_scalar_equiv };
+}
+
 /// A value that an operation writes: one without parts, or an empty map or list.
-#[derive(Debug, PartialEq, Eq, Drop)]
+#[derive(Debug, Drop)]
 pub enum Val {
     Scalar(Scalar),
     EmptyMap,
@@ -46,4 +69,22 @@ impl Clone for Val {
             Val::EmptyList => Ok(Val::EmptyList),
         }
     }
+}
+
+impl PartialEq for Val {
+    ghost eq = { λ v w. is_same_value (value_of v) (value_of w) };
+
+    ghost laws = { Cmp.partial_equiv_from_equiv (Cmp.on_equiv value_of same_value_equiv) };
+
+    fn eq(&self, other: &Val) -> bool {
+        match (self, other) {
+            (Val::Scalar(scalar), Val::Scalar(other)) => scalar == other,
+            (Val::EmptyMap, Val::EmptyMap) | (Val::EmptyList, Val::EmptyList) => true,
+            _ => false,
+        }
+    }
+}
+
+impl Eq for Val {
+    ghost laws = { Cmp.on_equiv value_of same_value_equiv };
 }

@@ -1,0 +1,68 @@
+//! Answers. By its type each is a legal one to the item that it names.
+
+ghost use Rattle.std.specs.Prelude.{◌≡◌, Some, None, MatchOption};
+ghost use Rattle.semantics.specs.Receipts.{IsAnswer};
+ghost use Rattle.items.specs.Meanings.{answer_of, submitted_of};
+
+use items::{Item, Reply};
+use published::{EngineName, Notice};
+use std::marker::Model;
+
+/// A reply, and the history in which it is legal.
+#[derive(Drop)]
+pub struct Given<N: EngineName> {
+    pub reply: Reply,
+    pub notice: Notice<N>,
+}
+
+/// The item that a client submitted, and, once it is filled, what is answered.
+#[derive(Drop)]
+pub struct Answer<N: EngineName> {
+    item: Item,
+    given: Option<Given<N>>,
+}
+
+impl<N: EngineName> Model for Answer<N> {
+    ghost use Rattle.std.specs.Prelude.{IfSome, option_map};
+    ghost use Rattle.std.specs.Coded.{codes};
+    ghost use Rattle.semantics.specs.Codes.{coded_element};
+    ghost use Rattle.semantics.specs.Receipts.{IsAnswer};
+    ghost use Rattle.items.specs.Meanings.{answer_of, submitted_of};
+    ghost use Rattle.command.specs.Answers.{Answered};
+
+    ghost Value = { Answered };
+
+    ghost coded = { Prim.hlevel (codes, coded_element) };
+
+    ghost view = { λ a. record { item = a.item; given = option_map (λ g. record { reply = g.reply; history = g.notice }) a.given } };
+
+    ghost invariant = { λ a. IfSome a.given (λ g. IsAnswer N.own N.table g.notice (submitted_of N.table a.item) (answer_of g.reply)) };
+}
+
+impl<N: EngineName> Answer<N> {
+    pub fn blank(item: Item) -> Answer<N>
+        ensures { (result.item ≡ item) × (result.given ≡ None) }
+    {
+        Answer { item, given: None }
+    }
+
+    pub fn item(&self) -> &Item
+        ensures { result.now ≡ self.now.item }
+    {
+        &self.item
+    }
+
+    pub fn fill(&mut self, reply: Reply, notice: Notice<N>)
+        requires { IsAnswer N.own N.table notice (submitted_of N.table self.old.item) (answer_of reply) }
+        ensures { (self.new.item ≡ self.old.item) × (self.new.given ≡ Some (record { reply = reply; history = notice })) }
+    {
+        self.given = Some(Given { reply, notice });
+    }
+
+    pub fn given(&self) -> Option<&Given<N>>
+        ensures { MatchOption result (self.now.given ≡ None)
+            (λ g. (self.now.given ≡ Some (record { reply = g.now.reply; history = g.now.notice })) × IsAnswer N.own N.table g.now.notice (submitted_of N.table self.now.item) (answer_of g.now.reply)) }
+    {
+        self.given.as_ref()
+    }
+}

@@ -1,0 +1,88 @@
+//! What clients submit, and what it is answered.
+
+ghost use Rattle.std.specs.Prelude.{◌≡◌, ℕ, List, IsTrue};
+ghost use Rattle.items.specs.Meanings.{request_of, submitted_of};
+
+use ids::{OpId, Refusal};
+use operation::{Command, Op};
+use std::alloc::AllocError;
+
+/// What a client asks of the writer.
+#[derive(Debug, Drop)]
+pub enum Request {
+    /// To make an operation of the command.
+    Command(Command),
+    /// To take an operation of a peer.
+    Peer(Op),
+}
+
+impl Clone for Request {
+    ghost is_clone = { λ q r. r ≡ q };
+
+    fn clone(&self) -> Result<Request, AllocError> {
+        match self {
+            Request::Command(command) => Ok(Request::Command(command.clone()?)),
+            Request::Peer(op) => Ok(Request::Peer(op.clone()?)),
+        }
+    }
+}
+
+/// What a client submitted: its number, the serial, and the length of the history that it had seen, the floor.
+#[derive(Debug, Drop)]
+pub struct Item {
+    pub client: usize,
+    pub serial: u64,
+    pub floor: usize,
+    pub request: Request,
+}
+
+impl Item {
+    /// Whether both ask for the same under one client, serial and floor. Linear in the size of the request.
+    pub fn is_same(&self, other: &Item) -> bool
+        ensures same { IsTrue result → (table : List ℕ) → submitted_of table self.now ≡ submitted_of table other.now }
+        ensures alike { self.now ≡ other.now → IsTrue result }
+    {
+        self.client == other.client
+            && self.serial == other.serial
+            && self.floor == other.floor
+            && is_same_request(&self.request, &other.request)
+    }
+}
+
+/// Whether both ask for the same.
+fn is_same_request(request: &Request, other: &Request) -> bool
+    ensures same { IsTrue result → (table : List ℕ) → request_of table request.now ≡ request_of table other.now }
+    ensures alike { request.now ≡ other.now → IsTrue result }
+{
+    match (request, other) {
+        (Request::Command(command), Request::Command(other)) => command == other,
+        (Request::Peer(op), Request::Peer(other)) => op == other,
+        _ => false,
+    }
+}
+
+impl Clone for Item {
+    ghost is_clone = { λ x y. y ≡ x };
+
+    fn clone(&self) -> Result<Item, AllocError> {
+        Ok(Item {
+            client: self.client,
+            serial: self.serial,
+            floor: self.floor,
+            request: self.request.clone()?,
+        })
+    }
+}
+
+/// The answer to what a client submitted.
+#[derive(Clone, Copy, Debug, PartialEq, Eq)]
+pub enum Reply {
+    /// The operation of this id is the entry at this position of the history, counted from 0.
+    Made(OpId, u64),
+    /// The peer's operation was kept, and applied if it was ready. The history had this length then.
+    Kept(u64),
+    /// The peer's operation was there already. The history had this length then.
+    Known(u64),
+    /// Why it was refused, and the length of the history then.
+    Refused(Refusal, u64),
+}

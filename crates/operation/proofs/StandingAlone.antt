@@ -1,0 +1,48 @@
+-- What holds of an operation that shows no fault alone.
+use Rattle.std.proofs.Common.{◌≡◌, ℕ, Bool, true, false, ◌&&◌, cond, nat_eq, List, length, Some, None, eqb-true, refl}
+use Rattle.std.specs.List.{list_all}
+use Rattle.std.proofs.lemmas.Bool.{and_parts}
+use Rattle.ids.specs.declared.refusal.Refusal.TheVariants.{UnknownReplica}
+use Rattle.ids.specs.Members.{is_member}
+use Rattle.semantics.specs.Stamped.{Stamped}
+use Rattle.semantics.specs.Operations.{element_of}
+use Rattle.semantics.specs.Faults.{StandsAlone, alone_fault, first_failed, is_of_members, items_of_members}
+use Rattle.semantics.proofs.AloneTests.{stands_alone}
+use Rattle.semantics.specs.Entries.{stamped_in}
+use Rattle.operation.specs.declared.command.Entry.{Entry}
+use Rattle.operation.specs.declared.command.Entry.TheVariants.{Own, Peer}
+use Rattle.operation.specs.declared.op.Op.{Op}
+use Rattle.operation.specs.Alone.{fault_alone}
+use Rattle.operation.specs.Meanings.{entry_of, op_in, stamped_of}
+
+-- the operation of an entry, indexed by a table
+pub stamped_same : (table : List ℕ) (e : Entry) → stamped_in (entry_of table e) ≡ stamped_of table (op_in e)
+stamped_same table (Own client serial c o) = refl
+stamped_same table (Peer o) = refl
+
+first_true : (a b c d : Bool) → first_failed a b c d ≡ None → a ≡ true
+first_true false b c d h = cc
+first_true true b c d h = refl
+
+pub width_alone : (table : List ℕ) (o : Op) → fault_alone table o ≡ None → length o.deps ≡ length table
+width_alone table o h = at_test (nat_eq (length o.deps) (length table)) refl h
+  where
+    at_test : (b : Bool) → nat_eq (length o.deps) (length table) ≡ b → cond b (alone_fault table (stamped_of table o)) (Some UnknownReplica) ≡ None → length o.deps ≡ length table
+    at_test true e h = eqb-true (length o.deps) (length table) e
+    at_test false e h = cc
+
+pub alone : (table : List ℕ) (o : Op) → fault_alone table o ≡ None → alone_fault table (stamped_of table o) ≡ None
+alone table o h = at_test (nat_eq (length o.deps) (length table)) h
+  where
+    at_test : (b : Bool) → cond b (alone_fault table (stamped_of table o)) (Some UnknownReplica) ≡ None → alone_fault table (stamped_of table o) ≡ None
+    at_test true h = h
+    at_test false h = cc
+
+pub alone_stands : (table : List ℕ) (o : Op) → fault_alone table o ≡ None → StandsAlone (stamped_of table o)
+alone_stands table o h = stands_alone table (stamped_of table o) (alone table o h)
+
+pub alone_member : (table : List ℕ) (o : Op) → fault_alone table o ≡ None → is_member table o.id.replica ≡ true
+alone_member table o h =
+    let s : Stamped = stamped_of table o in
+    let known = and_parts (is_member table s.id.replica && list_all (λ a. is_member table a.replica) s.vector) (items_of_members table (element_of s.place)) (first_true (is_of_members table s) _ _ _ (alone table o h)) in
+    (and_parts (is_member table s.id.replica) (list_all (λ a. is_member table a.replica) s.vector) known.0).0

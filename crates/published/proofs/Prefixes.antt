@@ -1,0 +1,31 @@
+-- Prefixes of one list, and the histories that they stand for.
+use Rattle.std.proofs.Common.{◌≡◌, ℕ, ◌≤◌, List, [], ◌∷◌, ◌++◌, length, refl, sym, subst, arith}
+use mathlib.Core.List.{IsPrefix}
+use Rattle.semantics.specs.Entries.{Entry as TheEntry}
+use Rattle.semantics.specs.WorldHistory.{BeginsWith}
+use Rattle.operation.specs.declared.command.Entry.{Entry}
+use Rattle.oplog.specs.Logs.{history}
+use Rattle.oplog.proofs.LongerHistories.{begins_of}
+
+-- of two prefixes of one list the shorter is a prefix of the longer
+pub prefix_shorter : {A : Type 0} (xs ys zs : List A) → IsPrefix xs zs → IsPrefix ys zs → length xs ≤ length ys → IsPrefix xs ys
+prefix_shorter [] ys zs p q le = (ys, refl)
+prefix_shorter (x ∷ xs) [] zs p q le = absurd (omega arith)
+prefix_shorter (x ∷ xs) (y ∷ ys) [] p q le = absurd (cc (p.1))
+prefix_shorter (x ∷ xs) (y ∷ ys) (z ∷ zs) p q le =
+    let heads : x ≡ y = cc (p.1, q.1) in
+    let rest = prefix_shorter xs ys zs (p.0, cc (p.1)) (q.0, cc (q.1)) (omega arith) in
+    (rest.0, cc (heads, rest.1))
+
+-- a prefix as long as the whole is the whole
+pub prefix_whole : {A : Type 0} (xs ys : List A) → IsPrefix xs ys → length ys ≤ length xs → xs ≡ ys
+prefix_whole [] [] p le = refl
+prefix_whole [] (y ∷ ys) p le = absurd (omega arith)
+prefix_whole (x ∷ xs) [] p le = absurd (cc (p.1))
+prefix_whole (x ∷ xs) (y ∷ ys) p le =
+    let rest = prefix_whole xs ys (p.0, cc (p.1)) (omega arith) in cc (p.1, rest)
+
+-- what was seen, and what has become longer
+pub grown : (table : List ℕ) (xs ys zs : List Entry) (G : List TheEntry) → IsPrefix xs ys → zs ≡ ys → history table xs ≡ G → BeginsWith (history table zs) G
+grown table xs ys zs G p same is =
+    subst (λ (F : List TheEntry). BeginsWith (history table zs) F) is (subst (λ (l : List Entry). BeginsWith (history table l) (history table xs)) (sym same) (begins_of table xs ys p))

@@ -1,0 +1,53 @@
+-- The two copies of the document, and their rule: readers are shown a snapshot of the engine's history, which begins with all that each seat has read.
+use Rattle.std.specs.Prelude.{ℕ, ◌≡◌, cond, List, ◌∷◌}
+use mathlib.Core.Option.{some}
+use lib.ListN.{get_elem?}
+use Rattle.logbook.specs.Pages.{Book}
+use Rattle.semantics.specs.Entries.{Entry as TheEntry, IsEntryHistory}
+use Rattle.semantics.specs.WorldHistory.{BeginsWith}
+use Rattle.operation.specs.declared.command.Entry.{Entry}
+use Rattle.operation.specs.Meanings.{entry_of, op_in}
+use Rattle.oplog.specs.Logs.{history}
+use Rattle.document.specs.Lawful.{is_lawful}
+use Rattle.published.specs.declared.seen.View.{View}
+
+-- a copy: the table and the entries of its document, and the beginning of the history that it is to stand for
+pub record Snapshot : Type 0 where
+  pub table : List ℕ
+  pub entries : List TheEntry
+  pub log : List Entry
+  pub book : Book
+
+-- an entry that is appended and not yet published, and the history after it
+pub record Pending : Type 0 where
+  pub entry : Entry
+  pub log : List Entry
+  pub book : Book
+
+-- the copy with one more entry; its history is then the one that comes with the entry
+abbrev pub appended_to : Snapshot → Pending → Snapshot
+appended_to s w = record { table = s.table; entries = entry_of s.table w.entry ∷ s.entries; log = w.log; book = w.book }
+
+-- an entry is absorbed where it is lawful, and else left out
+abbrev pub applied_to : Snapshot → Pending → Snapshot
+applied_to s w = cond (is_lawful s.table s.entries (op_in w.entry)) (appended_to s w) s
+
+-- the copy of these entries of the history, the oldest first
+abbrev pub snapshot : Book → List ℕ → List Entry → Snapshot
+snapshot book table log = record { table = table; entries = history table log; log = log; book = book }
+
+abbrev pub reader_of : List Entry → View
+reader_of read = record { read = read }
+
+module _ (book : Book) (own : ℕ) (table : List ℕ) where
+  -- the copy is a snapshot of an entry history of this engine
+  abbrev pub IsSnapshot : Snapshot → Type 0
+  IsSnapshot s = (s ≡ snapshot book table s.log) × IsEntryHistory own (history table s.log)
+
+  -- the rule: what is shown is a snapshot, and begins with all that each seat has read
+  abbrev pub HoldsOfCopies : Snapshot → List View → Type 0
+  HoldsOfCopies shown views = IsSnapshot shown × ((seat : ℕ) (v : View) → get_elem? views seat ≡ some v → BeginsWith shown.entries (history table v.read))
+
+  -- what one step reads: what is shown after it, which begins with what was read before
+  abbrev pub Sees : View → Snapshot → Snapshot → View → Type 0
+  Sees v before after w = (after ≡ snapshot book table w.read) × IsEntryHistory own (history table w.read) × BeginsWith (history table w.read) (history table v.read)

@@ -1,0 +1,25 @@
+//! A history that one writer publishes and many seats read without locks, in two copies of a document.
+//!
+//! The writer appends entries and publishes them. A seat asks, and is answered from a snapshot: the history as it was
+//! published at one atomic step, which begins with all that the seat had seen. Atomic steps, each with what it owes:
+//!
+//! - *publish* (the writer, in `Publisher::publish`): what is shown afterwards is the snapshot of all that was appended;
+//! - *enter* (a reader, in `Seat::ask`): what is read is what is shown at that step.
+//!
+//! An entry is cloned once on its way to the two copies (`docs/SPEED.md` has what that costs); a read clones its answer.
+#![tactic(auto)]
+
+mod book;
+mod copy;
+mod notice;
+mod publisher;
+mod publishes;
+mod seat;
+mod seen;
+#[cfg(test)]
+mod tests;
+
+pub use book::Opened;
+pub use notice::{EngineName, Notice};
+pub use publisher::{Publisher, open};
+pub use seat::Seat;

@@ -1,0 +1,259 @@
+//! The one writer of a history.
+
+ghost use Rattle.std.specs.Prelude.{◌≡◌, ◌^◌, ◌<◌, ◌⊎◌, ◌++◌, ◌∷◌, [], List, length, drop, fold, MatchResult, IfOk, IfErr, IsTrue, IsFalse, Some, None, option_to_list};
+ghost use Rattle.std.specs.List.{All};
+ghost use Rattle.ids.specs.declared.refusal.Refusal.TheVariants.{NoMemory, NoReaderPlace};
+ghost use Rattle.ids.specs.Members.{is_member};
+ghost use Rattle.semantics.specs.Making.{is_full};
+ghost use Rattle.semantics.specs.Entries.{IsEntryHistory, stamped_in};
+ghost use Rattle.semantics.specs.WorldHistory.{BeginsWith};
+ghost use Rattle.operation.specs.declared.command.Entry.{Entry as AnEntry};
+ghost use Rattle.operation.specs.Meanings.{entry_of, op_in};
+ghost use Rattle.oplog.specs.Logs.{history};
+ghost use Rattle.published.specs.Copies.{applied_to, snapshot};
+
+use crate::book::{Law, Opened, Point};
+use crate::copy::{Copy, Pending};
+use crate::notice::{EngineName, Notice};
+use crate::seat::{Seat, Sees, Shown};
+use crate::seen::View;
+use core::mem::replace_with;
+use document::Document;
+use ids::Refusal;
+use left_right::writer::Writer;
+use logbook::Word;
+use operation::Entry;
+use std::alloc::Global;
+use std::marker::Model;
+use std::sync::Wait;
+
+/// The writer's end of the copies, with one place for an entry that their log had no room for. It isn't `Drop`: call `end`.
+/// Contracts see what is published and all that was appended, the newest first.
+pub struct Publisher<N: EngineName> {
+    writer: Writer<Copy, Pending, View, Shown<N>>,
+    next: Option<Pending>,
+    head: Word<Entry, u64, Law>,
+    all: Point,
+}
+
+impl<N: EngineName> Model for Publisher<N> {
+    ghost use Rattle.std.specs.Prelude.{◌++◌, drop, option_to_list};
+    ghost use Rattle.std.specs.Coded.{codes};
+    ghost use Rattle.semantics.specs.Codes.{coded_element};
+    ghost use Rattle.oplog.specs.Logs.{history};
+    ghost use Rattle.published.specs.Publishers.{IsPublisher};
+    ghost use Rattle.semantics.specs.Publication.{Publication};
+
+    ghost Value = { Publication };
+
+    ghost coded = { Prim.hlevel (codes, coded_element) };
+
+    ghost view = { λ p. record { own = N.own; members = N.table; published = p.writer.desk.shown.value.entries; appended = history N.table p.all.log } };
+
+    ghost invariant = { λ p. IsPublisher N.book N.own N.table p.writer.desk.shown.value (drop p.writer.behind p.writer.log.items ++ option_to_list p.next) p.head p.all };
+}
+
+/// Opens the two copies over two new documents of one table, with a seat for each of so many readers.
+///
+/// # Errors
+/// `NoReaderPlace` if the copies have no place for one of the readers, `NoMemory` if allocation fails. Nothing is opened then.
+pub fn open<N: EngineName>(
+    rt: &impl Wait,
+    alloc: Global,
+    opened: Opened,
+    first: Document,
+    second: Document,
+    readers: usize,
+) -> Result<(Publisher<N>, Vec<Seat<N>>), Refusal>
+    requires name { opened.seen.book ≡ N.book }
+    requires tables { (first.table ≡ N.table) × (second.table ≡ N.table) }
+    requires new { (first.entries ≡ []) × (second.entries ≡ []) }
+    requires readers { (0 < readers) × (readers < 2 ^ 32) }
+    ensures publisher { IfOk result (λ r. (r.0.published ≡ []) × (r.0.appended ≡ [])) }
+    ensures seats { IfOk result (λ r. (length r.1.items ≡ readers) × All (λ s. s.seen ≡ []) r.1.items) }
+    ensures err { IfErr result (λ why. (why ≡ NoMemory) ⊎ (why ≡ NoReaderPlace)) }
+{
+    let (head, all) = opened.start();
+    let first = Copy {
+        alloc,
+        document: first,
+        point: all.again(),
+    };
+    let second = Copy {
+        alloc,
+        document: second,
+        point: all.again(),
+    };
+    let Ok(writer) = Writer::new(alloc, first, second, readers) else {
+        return Err(Refusal::NoMemory);
+    };
+    match seats::<N>(alloc, &writer, &all, readers) {
+        Ok(seats) => Ok((
+            Publisher {
+                writer,
+                next: None,
+                head,
+                all,
+            },
+            seats,
+        )),
+        Err(refusal) => {
+            drop(writer.take(rt));
+            Err(refusal)
+        }
+    }
+}
+
+/// A seat that has seen nothing for each of so many readers.
+fn seats<N: EngineName>(
+    alloc: Global,
+    writer: &Writer<Copy, Pending, View, Shown<N>>,
+    all: &Point,
+    readers: usize,
+) -> Result<Vec<Seat<N>>, Refusal>
+    requires { (all.now.log ≡ []) × (all.now.book ≡ N.book) }
+    ensures seats { IfOk result (λ v. (length v.items ≡ readers) × All (λ s. s.seen ≡ []) v.items) }
+    ensures err { IfErr result (λ why. (why ≡ NoMemory) ⊎ (why ≡ NoReaderPlace)) }
+{
+    let mut seats = Vec::new(alloc);
+    for _ in 0..readers {
+        let Ok(reader) = writer.factory().reader() else {
+            return Err(Refusal::NoReaderPlace);
+        };
+        if seats.push(Seat::new(reader, all.again())).is_err() {
+            return Err(Refusal::NoMemory);
+        }
+    }
+    Ok(seats)
+}
+
+/// Moves the entry in the one place on to the log of the copies, and says whether the place is free.
+fn flush<N: EngineName>(
+    writer: &mut Writer<Copy, Pending, View, Shown<N>>,
+    next: &mut Option<Pending>,
+) -> bool
+    ensures shown { writer.new.desk.shown ≡ writer.old.desk.shown }
+    ensures pending { drop writer.new.behind writer.new.log.items ++ option_to_list next.new ≡ drop writer.old.behind writer.old.log.items ++ option_to_list next.old }
+    ensures flushed { IsTrue result → next.new ≡ None }
+{
+    match next.take() {
+        None => true,
+        Some(pending) => match writer.append(pending) {
+            Ok(()) => true,
+            Err(back) => {
+                *next = Some(back);
+                false
+            }
+        },
+    }
+}
+
+/// Puts an entry into the one place. A function of its own keeps the drop of what stood there out of `append`'s proof.
+fn put(next: &mut Option<Pending>, pending: Pending)
+    ensures { next.new ≡ Some pending }
+{
+    *next = Some(pending);
+}
+
+/// Shows readers all that is pending.
+fn show_all<N: EngineName>(
+    rt: &impl Wait,
+    writer: &mut Writer<Copy, Pending, View, Shown<N>>,
+) -> Result<(), Refusal>
+    requires { (log : List AnEntry) × (fold applied_to writer.old.desk.shown.value (drop writer.old.behind writer.old.log.items) ≡ snapshot N.book N.table log) × IsEntryHistory N.own (history N.table log) }
+    ensures { MatchResult result
+        (λ _. (writer.new.desk.shown.value ≡ fold applied_to writer.old.desk.shown.value (drop writer.old.behind writer.old.log.items)) × (drop writer.new.behind writer.new.log.items ≡ []))
+        (λ why. (why ≡ NoMemory) × (writer.new.desk.shown.value ≡ writer.old.desk.shown.value) × (drop writer.new.behind writer.new.log.items ≡ drop writer.old.behind writer.old.log.items)) }
+{
+    replace_with(writer, rt, |writer, rt| show::<N, _>(rt, writer))
+}
+
+/// The same for a writer by value, as the copies' crate has it.
+fn show<N: EngineName, R: Wait>(
+    rt: &R,
+    writer: Writer<Copy, Pending, View, Shown<N>>,
+) -> (Writer<Copy, Pending, View, Shown<N>>, Result<(), Refusal>)
+    requires { (log : List AnEntry) × (fold applied_to writer.desk.shown.value (drop writer.behind writer.log.items) ≡ snapshot N.book N.table log) × IsEntryHistory N.own (history N.table log) }
+    ensures { MatchResult result.1
+        (λ _. (result.0.desk.shown.value ≡ fold applied_to writer.desk.shown.value (drop writer.behind writer.log.items)) × (drop result.0.behind result.0.log.items ≡ []))
+        (λ why. (why ≡ NoMemory) × (result.0.desk.shown.value ≡ writer.desk.shown.value) × (drop result.0.behind result.0.log.items ≡ drop writer.behind writer.log.items)) }
+{
+    let (writer, shown) = writer.publish_as::<Sees<N>, R>(rt);
+    match shown {
+        Ok(()) => (writer, Ok(())),
+        Err(_) => (writer, Err(Refusal::NoMemory)),
+    }
+}
+
+impl<N: EngineName> Publisher<N> {
+    /// A notice of what is published. Takes no memory and doesn't wait.
+    pub fn notice(&self) -> Notice<N>
+        ensures published { result ≡ self.now.published }
+        ensures appended { BeginsWith self.now.appended self.now.published }
+    {
+        let copy = self.writer.published();
+        Notice::of(copy.point.again())
+    }
+
+    /// Appends the entry, which readers see from the next `publish` on. Amortized O(1); what was appended is never lost.
+    ///
+    /// # Errors
+    /// `NoMemory` if allocation fails. Nothing was appended then, and the entry is dropped.
+    pub fn append(&mut self, entry: Entry) -> Result<(), Refusal>
+        requires follows { IsEntryHistory N.own (entry_of N.table entry ∷ self.old.appended) }
+        requires room { IsFalse (is_full self.old.appended) }
+        requires member { IsTrue (is_member N.table (stamped_in (entry_of N.table entry)).id.replica) }
+        requires width { length (op_in entry).deps ≡ length N.table }
+        ensures published { self.new.published ≡ self.old.published }
+        ensures appended { MatchResult result (λ _. self.new.appended ≡ entry_of N.table entry ∷ self.old.appended) (λ why. (why ≡ NoMemory) × (self.new.appended ≡ self.old.appended)) }
+    {
+        if !flush::<N>(&mut self.writer, &mut self.next) {
+            return Err(Refusal::NoMemory);
+        }
+        let mut after = self.all.again();
+        if !after.extend(&self.head, &entry) {
+            return Err(Refusal::NoMemory);
+        }
+        let pending = Pending {
+            entry,
+            after: after.again(),
+        };
+        put(&mut self.next, pending);
+        self.all = after;
+        Ok(())
+    }
+
+    /// Shows readers all that was appended. Waits for readers that still read the copy that is brought up to date.
+    /// Clones each pending entry once.
+    ///
+    /// # Errors
+    /// `NoMemory` if allocation fails. All that is pending stays then, and another `publish` goes on with it.
+    pub fn publish(&mut self, rt: &impl Wait) -> Result<(), Refusal>
+        ensures { MatchResult result (λ _. (self.new.published ≡ self.old.appended) × (self.new.appended ≡ self.old.appended)) (λ why. (why ≡ NoMemory) × (self.new ≡ self.old)) }
+    {
+        if !flush::<N>(&mut self.writer, &mut self.next) {
+            return Err(Refusal::NoMemory);
+        }
+        show_all::<N>(rt, &mut self.writer)
+    }
+
+    /// Ends the copies and returns the published document, with a notice of it. Waits for readers that still read.
+    /// What is pending is dropped.
+    pub fn end(self, rt: &impl Wait) -> (Document, Notice<N>)
+        ensures document { (result.0.table ≡ N.table) × (result.0.entries ≡ self.published) }
+        ensures notice { result.1 ≡ self.published }
+    {
+        let Publisher {
+            writer,
+            next: _next,
+            head: _head,
+            all: _all,
+        } = self;
+        let Copy {
+            alloc: _,
+            document,
+            point,
+        } = Box::into_inner(writer.take(rt));
+        (document, Notice::of(point))
+    }
+}

@@ -1,0 +1,15 @@
+//! A publisher is where the entries of a replica go.
+
+use crate::notice::EngineName;
+use crate::publisher::Publisher;
+use ids::Refusal;
+use items::Publish;
+use operation::Entry;
+
+impl<N: EngineName> Publish for Publisher<N> {
+    ghost publication = { λ p. record p { own = N.own; members = N.table } };
+
+    fn add(&mut self, entry: Entry) -> Result<(), Refusal> {
+        self.append(entry)
+    }
+}
