@@ -1,4 +1,4 @@
-//! Answers. By its type each is a legal one to the item that it names.
+//! Answers: by its type each is legal for the item that it names, in the history of its notice.
 
 ghost use Rattle.std.specs.Prelude.{◌≡◌, Some, None, MatchOption};
 ghost use Rattle.semantics.specs.Receipts.{IsAnswer};
@@ -8,14 +8,15 @@ use items::{Item, Reply};
 use published::{EngineName, Notice};
 use std::marker::Model;
 
-/// A reply, and the history in which it is legal.
+/// A reply, with a notice of the history in which it is legal.
 #[derive(Drop)]
 pub struct Given<N: EngineName> {
     pub reply: Reply,
     pub notice: Notice<N>,
 }
 
-/// The item that a client submitted, and, once it is filled, what is answered.
+/// What a client submitted and, once it is filled in, what it is answered. Contracts see the item, the reply and the
+/// history; an answer that isn't legal for its item can't be made.
 #[derive(Drop)]
 pub struct Answer<N: EngineName> {
     item: Item,
@@ -40,18 +41,21 @@ impl<N: EngineName> Model for Answer<N> {
 }
 
 impl<N: EngineName> Answer<N> {
+    /// The answer to an item, not filled in yet.
     pub fn blank(item: Item) -> Answer<N>
         ensures { (result.item ≡ item) × (result.given ≡ None) }
     {
         Answer { item, given: None }
     }
 
+    /// The item that is answered.
     pub fn item(&self) -> &Item
         ensures { result.now ≡ self.now.item }
     {
         &self.item
     }
 
+    /// Fills in a reply that is legal in the notice's history.
     pub fn fill(&mut self, reply: Reply, notice: Notice<N>)
         requires { IsAnswer N.own N.table notice (submitted_of N.table self.old.item) (answer_of reply) }
         ensures { (self.new.item ≡ self.old.item) × (self.new.given ≡ Some (record { reply = reply; history = notice })) }
@@ -59,6 +63,7 @@ impl<N: EngineName> Answer<N> {
         self.given = Some(Given { reply, notice });
     }
 
+    /// The reply and its notice, once they are filled in.
     pub fn given(&self) -> Option<&Given<N>>
         ensures { MatchOption result (self.now.given ≡ None)
             (λ g. (self.now.given ≡ Some (record { reply = g.now.reply; history = g.now.notice })) × IsAnswer N.own N.table g.now.notice (submitted_of N.table self.now.item) (answer_of g.now.reply)) }

@@ -19,7 +19,7 @@ use crate::seat::{Seat, Sees, Shown};
 use crate::seen::View;
 use core::mem::replace_with;
 use document::Document;
-use ids::Refusal;
+use ids::{Refusal, ReplicaTable};
 use left_right::writer::Writer;
 use logbook::Word;
 use operation::Entry;
@@ -73,6 +73,9 @@ pub fn open<N: EngineName>(
     ensures seats { IfOk result (λ r. (length r.1.items ≡ readers) × All (λ s. s.seen ≡ []) r.1.items) }
     ensures err { IfErr result (λ why. (why ≡ NoMemory) ⊎ (why ≡ NoReaderPlace)) }
 {
+    let Ok(table) = first.table().clone() else {
+        return Err(Refusal::NoMemory);
+    };
     let (head, all) = opened.start();
     let first = Copy {
         alloc,
@@ -87,7 +90,7 @@ pub fn open<N: EngineName>(
     let Ok(writer) = Writer::new(alloc, first, second, readers) else {
         return Err(Refusal::NoMemory);
     };
-    match seats::<N>(alloc, &writer, &all, readers) {
+    match seats::<N>(alloc, &writer, &all, &table, readers) {
         Ok(seats) => Ok((
             Publisher {
                 writer,
@@ -109,9 +112,10 @@ fn seats<N: EngineName>(
     alloc: Global,
     writer: &Writer<Copy, Pending, View, Shown<N>>,
     all: &Point,
+    table: &ReplicaTable,
     readers: usize,
 ) -> Result<Vec<Seat<N>>, Refusal>
-    requires { (all.now.log ≡ []) × (all.now.book ≡ N.book) }
+    requires { (all.now.log ≡ []) × (all.now.book ≡ N.book) × (table.now ≡ N.table) }
     ensures seats { IfOk result (λ v. (length v.items ≡ readers) × All (λ s. s.seen ≡ []) v.items) }
     ensures err { IfErr result (λ why. (why ≡ NoMemory) ⊎ (why ≡ NoReaderPlace)) }
 {
@@ -120,9 +124,8 @@ fn seats<N: EngineName>(
         let Ok(reader) = writer.factory().reader() else {
             return Err(Refusal::NoReaderPlace);
         };
-        if seats.push(Seat::new(reader, all.again())).is_err() {
-            return Err(Refusal::NoMemory);
-        }
+        let seat = Seat::new(reader, all.again(), table.clone()?);
+        seats.push(seat)?;
     }
     Ok(seats)
 }

@@ -16,7 +16,7 @@ use crate::notice::{EngineName, Notice};
 use crate::seen::View;
 use crossbeam_utils::rule::{Outcome, Protocol};
 use document::{Question, Reading};
-use ids::Refusal;
+use ids::{Refusal, ReplicaTable};
 use left_right::reader::Reader;
 use std::alloc::Global;
 use std::marker::{Model, PhantomData};
@@ -52,6 +52,7 @@ impl<N: EngineName> Outcome<Copy, View> for Sees<N> {
 pub struct Seat<N: EngineName> {
     reader: Option<Reader<Copy, View, Shown<N>>>,
     seen: Point,
+    table: ReplicaTable,
 }
 
 impl<N: EngineName> Model for Seat<N> {
@@ -68,11 +69,16 @@ impl<N: EngineName> Model for Seat<N> {
 
     ghost view = { λ s. record { seen = history N.table s.seen.log; read = history N.table (read_of s.reader) } };
 
-    ghost invariant = { λ s. (s.seen.book ≡ N.book) × IsEntryHistory N.own (history N.table s.seen.log) };
+    ghost invariant = { λ s. (s.seen.book ≡ N.book) × IsEntryHistory N.own (history N.table s.seen.log) × (s.table ≡ N.table) };
 }
 
 impl<N: EngineName> Seat<N> {
-    pub(crate) fn new(reader: Reader<Copy, View, Shown<N>>, seen: Point) -> Seat<N>
+    pub(crate) fn new(
+        reader: Reader<Copy, View, Shown<N>>,
+        seen: Point,
+        table: ReplicaTable,
+    ) -> Seat<N>
+        requires table { table ≡ N.table }
         requires book { seen.book ≡ N.book }
         requires legal { IsEntryHistory N.own (history N.table seen.log) }
         ensures { result.seen ≡ history N.table seen.log }
@@ -80,7 +86,15 @@ impl<N: EngineName> Seat<N> {
         Seat {
             reader: Some(reader),
             seen,
+            table,
         }
+    }
+
+    /// The table of the engine's members, which indexes the vectors of its questions and readings.
+    pub fn table(&self) -> &ReplicaTable
+        ensures { result.now ≡ N.table }
+    {
+        &self.table
     }
 
     /// How many entries it has seen.
