@@ -1,7 +1,7 @@
 //! What clients submit, and what it is answered.
 
-ghost use Rattle.std.specs.Prelude.{◌≡◌, ℕ, List, IsTrue};
-ghost use Rattle.items.specs.Meanings.{request_of, submitted_of};
+ghost use Rattle.std.specs.Prelude.{◌≡◌};
+ghost use Rattle.items.specs.Same.{is_same_item, is_same_request};
 
 use ids::{OpId, Refusal};
 use operation::{Command, Op};
@@ -37,10 +37,9 @@ pub struct Item {
 }
 
 impl Item {
-    /// Whether both ask for the same under one client, serial and floor. Linear in the size of the request.
+    /// Whether both ask for the same, under one client, serial and floor. Linear in the size of the request.
     pub fn is_same(&self, other: &Item) -> bool
-        ensures same { IsTrue result → (table : List ℕ) → submitted_of table self.now ≡ submitted_of table other.now }
-        ensures alike { self.now ≡ other.now → IsTrue result }
+        ensures { result ≡ is_same_item self.now other.now }
     {
         self.client == other.client
             && self.serial == other.serial
@@ -51,8 +50,7 @@ impl Item {
 
 /// Whether both ask for the same.
 fn is_same_request(request: &Request, other: &Request) -> bool
-    ensures same { IsTrue result → (table : List ℕ) → request_of table request.now ≡ request_of table other.now }
-    ensures alike { request.now ≡ other.now → IsTrue result }
+    ensures { result ≡ is_same_request request.now other.now }
 {
     match (request, other) {
         (Request::Command(command), Request::Command(other)) => command == other,

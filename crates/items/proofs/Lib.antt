@@ -1,0 +1,2 @@
+-- Lemmas on items.
+pub mod SameItems
