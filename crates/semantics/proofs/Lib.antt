@@ -83,6 +83,10 @@ pub mod SoundTaking
 pub mod SoundPublishing
 pub mod SoundSteps
 pub mod SoundWorlds
+pub mod KeptSubmissions
+pub mod KeptSubmitting
+pub mod KeptGiving
+pub mod AllSubmissions
 pub mod WorldReplies
 pub mod SeenReadings
 -- worlds whose engines send each other what they have

@@ -13,7 +13,7 @@ use Rattle.semantics.proofs.SoundEngines.{waiting_items, IsInTurn, IsSound, IsLa
 use Rattle.semantics.proofs.SoundSeeing.{later_refl}
 use Rattle.semantics.proofs.SoundGrowing.{client_grows}
 
-none_due : (due : List Handled) → is_any due ≡ false → due ≡ []
+pub none_due : (due : List Handled) → is_any due ≡ false → due ≡ []
 none_due [] e = refl
 none_due (h ∷ due) e = cc
 

@@ -1,9 +1,10 @@
 -- What is said of every run of a world.
-use Rattle.std.specs.Prelude.{◌≡◌, ℕ, ◌≤◌, List, ◌++◌, Some, slice_get}
+use Rattle.std.specs.Prelude.{◌≡◌, ℕ, suc, ◌≤◌, ◌==◌, cond, List, [], ◌∷◌, ◌++◌, map, Option, None, Some, slice_get}
 use Rattle.ids.specs.Configurations.{Configuration}
+use Rattle.semantics.specs.LegalHistory.{IsAmong}
 use Rattle.semantics.specs.Entries.{Entry}
 use Rattle.semantics.specs.LegalAnswer.{Submitted, Reply, Made, NotMade, KeptAt, KnownAt}
-use Rattle.semantics.specs.Engine.{Engine, Cell, Given}
+use Rattle.semantics.specs.Engine.{Engine, Client, Cell, Given}
 use Rattle.semantics.specs.ReadSteps.{cell_under, seen_by}
 use Rattle.semantics.specs.World.{WorldStep, opened, world_after}
 
@@ -38,3 +39,29 @@ pub record HasGrown (E F : Engine) : Type 0 where
   pub seen : (t : ℕ) → seen_by E t ≤ seen_by F t
   pub submitted : (c serial : ℕ) (x : Submitted) → WasSubmitted E c serial x → WasSubmitted F c serial x
   pub given : (c serial : ℕ) (g : Given) → WasGiven E c serial g → WasGiven F c serial g
+
+-- ---- all that was submitted
+
+-- the items of one client, in their order
+abbrev pub of_client : ℕ → List Submitted → List Submitted
+of_client c [] = []
+of_client c (x ∷ xs) = cond (x.client == c) (x ∷ of_client c xs) (of_client c xs)
+
+-- what was submitted and isn't answered, the oldest first: the due items, the handled ones, and the queue
+abbrev pub unanswered : Engine → List Submitted
+unanswered E = map (λ h. h.submitted) E.due ++ (map (λ h. h.submitted) E.handled ++ E.queue)
+
+-- the cells of client c, none where there is no such client
+abbrev pub cells_of : Engine → ℕ → List Cell
+cells_of E c = in_client (slice_get E.clients c)
+  where
+    in_client : Option Client → List Cell
+    in_client None = []
+    in_client (Some k) = k.cells
+
+-- All that client c submitted is there. Its cells are those of the serials 1, 2, 3 and so on. The first ones have an answer. The rest are the cells of the client's unanswered items, each item as it was submitted, once, and in order.
+pub record HasAllSubmitted (E : Engine) (c : ℕ) : Type 0 where
+  pub serials : (n : ℕ) (cell : Cell) → slice_get (cells_of E c) n ≡ Some cell → (cell.submitted.client ≡ c) × (cell.submitted.serial ≡ suc n)
+  pub answered : List Cell
+  pub given : (cell : Cell) → IsAmong cell answered → (g : Given) × (cell.answer ≡ Some g)
+  pub cells : cells_of E c ≡ answered ++ map (λ x. record { submitted = x; answer = None }) (of_client c (unanswered E))

@@ -17,7 +17,7 @@ ghost use Rattle.semantics.specs.WriteSteps.{next_item, push};
 ghost use Rattle.semantics.specs.ReadSteps.{poll, ask, learn, seen_by};
 ghost use Rattle.semantics.specs.PeerSteps.{say_hello, answer_hello};
 ghost use Rattle.semantics.specs.World.{WorldStep, sent_by};
-ghost use Rattle.semantics.specs.WorldHistory.{IsEngineAfter, BeginsWith, WasSubmitted, WasGiven, IsNotBelow, HasGrown};
+ghost use Rattle.semantics.specs.WorldHistory.{IsEngineAfter, BeginsWith, WasSubmitted, WasGiven, IsNotBelow, HasGrown, HasAllSubmitted};
 
 /// Each history is an entry history of its replica. What is published is a beginning of it, and no token has seen more than that.
 pub fn histories_are_entry_histories()
@@ -34,6 +34,12 @@ pub fn tickets_are_for_what_was_submitted()
     ensures { (E : Engine) (c : ℕ) (request : Request) (serial : ℕ) → (push E c request).reply ≡ Ticket serial →
         (k : Client) × (slice_get E.clients c ≡ Some k) × (serial ≡ suc (length k.cells))
         × WasSubmitted (push E c request).engine c serial (next_item c k request) }
+{}
+
+/// No accepted write vanishes. What a client submitted stands in its cells under the serials 1, 2, 3 and so on. The first ones have their answers; the rest are, in the same order and each once, what is due, handled or in the queue. A command answered Made stands in the history (`made_commands_stand_once`).
+pub fn no_submission_vanishes()
+    ensures { (cs : List Configuration) (steps : List WorldStep) (e : ℕ) (E : Engine) → IsEngineAfter cs steps e E →
+        (c : ℕ) → HasAllSubmitted E c }
 {}
 
 /// Each reply to a poll is a legal answer, in the published history, to what was submitted under that serial, and not below its floor.
