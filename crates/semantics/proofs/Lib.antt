@@ -95,6 +95,7 @@ pub mod PublishedMessages
 pub mod KeptMessages
 pub mod GrownWorlds
 pub mod SettledItems
+pub mod FullHistories
 pub mod EngineMoves
 pub mod KeptSteps
 pub mod TrackedEngines

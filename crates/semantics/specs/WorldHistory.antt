@@ -1,10 +1,10 @@
 -- What is said of every run of a world.
-use Rattle.std.specs.Prelude.{◌≡◌, ℕ, suc, ◌≤◌, ◌==◌, cond, List, [], ◌∷◌, ◌++◌, map, Option, None, Some, slice_get}
+use Rattle.std.specs.Prelude.{◌≡◌, ◌⊎◌, ℕ, suc, ◌≤◌, ◌==◌, cond, List, [], ◌∷◌, ◌++◌, map, Option, None, Some, slice_get}
 use Rattle.ids.specs.Configurations.{Configuration}
 use Rattle.semantics.specs.LegalHistory.{IsAmong}
 use Rattle.semantics.specs.Entries.{Entry}
 use Rattle.semantics.specs.LegalAnswer.{Submitted, Reply, Made, NotMade, KeptAt, KnownAt}
-use Rattle.semantics.specs.Engine.{Engine, Client, Cell, Given}
+use Rattle.semantics.specs.Engine.{Engine, Client, Cell, Given, Handled}
 use Rattle.semantics.specs.ReadSteps.{cell_under, seen_by}
 use Rattle.semantics.specs.World.{WorldStep, opened, world_after}
 
@@ -24,6 +24,12 @@ WasSubmitted E c serial x = (cell : Cell) × (cell_under E c serial ≡ Some cel
 abbrev pub WasGiven : Engine → ℕ → ℕ → Given → Type 0
 WasGiven E c serial g = (cell : Cell) × (cell_under E c serial ≡ Some cell) × (cell.answer ≡ Some g)
 
+-- r is what the writer replied to client c's serial: its answer, or the reply of a handled item that isn't answered yet
+abbrev pub WasReplied : Engine → ℕ → ℕ → Reply → Type 0
+WasReplied E c serial r =
+    ((g : Given) × WasGiven E c serial g × (g.reply ≡ r))
+    ⊎ ((h : Handled) × IsAmong h (E.due ++ E.handled) × (h.submitted.client ≡ c) × (h.submitted.serial ≡ serial) × (h.reply ≡ r))
+
 -- the place or the length that a reply names isn't below the floor
 abbrev pub IsNotBelow : ℕ → Reply → Type 0
 IsNotBelow floor (Made a n) = floor ≤ n
@@ -31,13 +37,14 @@ IsNotBelow floor (NotMade why m) = floor ≤ m
 IsNotBelow floor (KeptAt m) = floor ≤ m
 IsNotBelow floor (KnownAt m) = floor ≤ m
 
--- F is E later: the history and what is published of it only got longer, no token has seen less, and what was submitted and what was answered stay
+-- F is E later: the history and what is published of it only got longer, no token has seen less, and what was submitted, replied and answered stays
 pub record HasGrown (E F : Engine) : Type 0 where
   pub own : F.replica.own ≡ E.replica.own
   pub entries : BeginsWith F.replica.entries E.replica.entries
   pub published : E.published ≤ F.published
   pub seen : (t : ℕ) → seen_by E t ≤ seen_by F t
   pub submitted : (c serial : ℕ) (x : Submitted) → WasSubmitted E c serial x → WasSubmitted F c serial x
+  pub replied : (c serial : ℕ) (r : Reply) → WasReplied E c serial r → WasReplied F c serial r
   pub given : (c serial : ℕ) (g : Given) → WasGiven E c serial g → WasGiven F c serial g
 
 -- ---- all that was submitted
