@@ -107,6 +107,7 @@ pub mod ComingHistory
 pub mod ArrivedItems
 pub mod ComingItems
 pub mod WholeSubmissions
+pub mod KeptTickets
 pub mod ReceivedBundles
 pub mod ExchangedMessages
 pub mod StartedReceipts
@@ -135,3 +136,4 @@ pub mod NextIds
 pub mod OneEngineWorld
 pub mod PlacedItems
 pub mod SingleSteps
+pub mod LostItem
