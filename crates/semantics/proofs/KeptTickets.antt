@@ -110,9 +110,7 @@ module _ (E : Engine) (c : ℕ) (k : Client) (bad : Option Refusal) (n : ℕ) (s
 
   at_push : AreSubmittedAfter → IsPushed E c k s (push E c (OfPeer s)) → (i : ℕ) → n + i < (submit_all c bad n E (s ∷ ss)).submitted
       → IsSubmittedAt (submit_all c bad n E (s ∷ ss)).engine c (suc (length k.cells)) k.seen (s ∷ ss) i
-  at_push later (inl r) i l =
-      let same : submit_all c bad n E (s ∷ ss) ≡ record { engine = E; submitted = n; stopped = Some (suc n, r.0) } = ap (λ o. unless_refused E n o (rest (push E c (OfPeer s)).engine)) r.1 in
-      absurd (omega (arith, l, ap (λ (q : Receipt). q.submitted) same))
+  at_push later (inl r) i l = (let refused = rw r.1 at l in absurd (omega (arith, refused)))
   at_push later (inr p) i l =
       let same : submit_all c bad n E (s ∷ ss) ≡ rest after = ap (λ o. unless_refused E n o (rest (push E c (OfPeer s)).engine)) p.1 ∙ ap rest p.0 in
       subst (λ (q : Receipt). IsSubmittedAt q.engine c (suc (length k.cells)) k.seen (s ∷ ss) i) (sym same)
