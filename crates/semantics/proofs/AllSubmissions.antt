@@ -19,7 +19,8 @@ use Rattle.semantics.proofs.KeptGiving.{complete_given}
 -- ---- tokens see
 
 -- a client that has seen more has the cells that it had
-client_seen : (E : Engine) (c : ℕ) (k : Client) (m : ℕ) → slice_get E.clients c ≡ Some k → IsComplete E → IsComplete (record E { clients = slice_set E.clients c (record k { seen = m }) })
+client_seen : (E : Engine) (c : ℕ) (k : Client) (m : ℕ) → slice_get E.clients c ≡ Some k → IsComplete E
+    → IsComplete (record E { clients = slice_set E.clients c (record k { seen = m }) })
 client_seen E c k m there h = complete_still E _ same refl h
   where
     same : (d : ℕ) → cells_in (slice_get (slice_set E.clients c (record k { seen = m })) d) ≡ cells_of E d
@@ -41,7 +42,8 @@ complete_seen E t m h = at_client (slice_get E.clients t) refl
 complete_polled : (E : Engine) (c serial : ℕ) → IsComplete E → IsComplete (poll E c serial).engine
 complete_polled E c serial h = at_client (slice_get E.clients c) refl
   where
-    at_answer : (k : Client) → slice_get E.clients c ≡ Some k → (cell : Cell) (o : Option Given) → cell.answer ≡ o → IsComplete (poll_cell E c k (Some cell)).engine
+    at_answer : (k : Client) → slice_get E.clients c ≡ Some k → (cell : Cell) (o : Option Given) → cell.answer ≡ o
+        → IsComplete (poll_cell E c k (Some cell)).engine
     at_answer k there cell None e = rw e h
     at_answer k there cell (Some g) e = rw e (client_seen E c k (max k.seen g.published) there h)
 
@@ -56,7 +58,8 @@ complete_polled E c serial h = at_client (slice_get E.clients c) refl
 complete_learnt : (E : Engine) (t c serial : ℕ) → IsComplete E → IsComplete (learn E t c serial).engine
 complete_learnt E t c serial h = at_cell (cell_under E c serial) refl
   where
-    at_answer : (cell : Cell) → cell_under E c serial ≡ Some cell → (o : Option Given) → cell.answer ≡ o → IsComplete (learn E t c serial).engine
+    at_answer : (cell : Cell) → cell_under E c serial ≡ Some cell → (o : Option Given) → cell.answer ≡ o
+        → IsComplete (learn E t c serial).engine
     at_answer cell e None f = rw (e, f) h
     at_answer cell e (Some g) f = rw (e, f) (complete_seen E t _ h)
 
@@ -86,7 +89,8 @@ complete_gives (suc n) E h = complete_gives n (give E).engine (complete_given E 
 complete_whole : (E : Engine) → IsComplete E → IsComplete (whole_step E).engine
 complete_whole E h = complete_gives (length (handle_all E).due) (handle_all E) (complete_published (take_for E.batch E) (complete_takes E.batch E h))
 
-complete_submits : (c : ℕ) (bad : Option Refusal) (n : ℕ) (E : Engine) (ss : List Stamped) → IsComplete E → IsComplete (submit_all c bad n E ss).engine
+complete_submits : (c : ℕ) (bad : Option Refusal) (n : ℕ) (E : Engine) (ss : List Stamped) → IsComplete E
+    → IsComplete (submit_all c bad n E ss).engine
 complete_submits c bad n E [] h = h
 complete_submits c bad n E (s ∷ ss) h =
     at_refusal (complete_submits c bad (suc n) (push E c (OfPeer s)).engine ss (complete_pushed E c (OfPeer s) h)) (refusal_in (push E c (OfPeer s)).reply)
@@ -96,7 +100,8 @@ complete_submits c bad n E (s ∷ ss) h =
     at_refusal rest None = rest
     at_refusal rest (Some why) = h
 
-complete_lines : (E : Engine) (c : ℕ) (ss : List Stamped) (bad : Option Refusal) → IsComplete E → IsComplete (receive_lines E c ss bad).engine
+complete_lines : (E : Engine) (c : ℕ) (ss : List Stamped) (bad : Option Refusal) → IsComplete E
+    → IsComplete (receive_lines E c ss bad).engine
 complete_lines E c ss bad h = at_client (slice_get E.clients c) refl
   where
     at_client : (o : Option Client) → slice_get E.clients c ≡ o → IsComplete (receive_lines E c ss bad).engine
@@ -167,5 +172,6 @@ complete_after W [] h = h
 complete_after W (w ∷ steps) h = complete_after (world_step W w).world steps (world_complete W w h)
 
 -- In every run all that a client submitted is there.
-pub all_submitted : (cs : List Configuration) (steps : List WorldStep) (e : ℕ) (E : Engine) → IsEngineAfter cs steps e E → (c : ℕ) → HasAllSubmitted E c
+pub all_submitted : (cs : List Configuration) (steps : List WorldStep) (e : ℕ) (E : Engine) → IsEngineAfter cs steps e E → (c : ℕ)
+    → HasAllSubmitted E c
 all_submitted cs steps e E h = complete_after (opened cs) steps (complete_opened cs) e E h

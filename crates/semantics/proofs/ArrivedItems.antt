@@ -44,15 +44,18 @@ members_stay r x h = (let other = at_request x.request in elim (nat_lt (length r
 abbrev pub HasCome : Replica → Stamped → Type 0
 HasCome r s = ((is_full r.entries ≡ true) × (is_waiting r.waiting s.id ≡ true)) ⊎ (has_id (operations r) s.id ≡ true)
 
-arrived : (K : List Operation) → IsLegal K → (p : ℕ) (r : Replica) (s : Stamped) (F : List Stamped) → IsSettled K p r → IsLegalStamped (s ∷ F) → AreWithin (operations_of (s ∷ F)) K → is_of_members r.members s ≡ true → HasThose r F
+arrived : (K : List Operation) → IsLegal K → (p : ℕ) (r : Replica) (s : Stamped) (F : List Stamped) → IsSettled K p r
+    → IsLegalStamped (s ∷ F) → AreWithin (operations_of (s ∷ F)) K → is_of_members r.members s ≡ true → HasThose r F
     → is_full r.entries ≡ false → HasCome (receive r s) s
 arrived K lk p r s F h l w known there few = elim (cases_Bool (has_id (operations r) s.id)) [
   | inl t ↦ inr ((receive_grows r s h.world.running).1 s.id t)
   | inr t ↦ comes_in K lk p r h.world h.end h.few s F l w known there few t
 ]
 
-pub item_arrived : (K : List Operation) → IsLegal K → (p : ℕ) (r : Replica) (x : Submitted) (s : Stamped) (F : List Stamped) → IsSettled K p r → x.floor ≤ length r.entries → x.request ≡ OfPeer s
-    → IsLegalStamped (s ∷ F) → AreWithin (operations_of (s ∷ F)) K → is_of_members r.members s ≡ true → HasThose r F → is_full r.entries ≡ false
+pub item_arrived : (K : List Operation) → IsLegal K → (p : ℕ) (r : Replica) (x : Submitted) (s : Stamped) (F : List Stamped)
+    → IsSettled K p r → x.floor ≤ length r.entries → x.request ≡ OfPeer s
+    → IsLegalStamped (s ∷ F) → AreWithin (operations_of (s ∷ F)) K → is_of_members r.members s ≡ true → HasThose r F
+    → is_full r.entries ≡ false
     → HasCome (after_item r x) s
 item_arrived K lk p r x s F h floor is l w known there few =
     let test : nat_lt (length r.entries) x.floor ≡ false = le-ltb (length r.entries) x.floor floor in

@@ -44,7 +44,8 @@ awaited c start end (x ∷ queue) = cond (is_of_receipt c start end x) (x.reques
 abbrev pub HasArrived : ℕ → ℕ → ℕ → Engine → Stamped → Type 0
 HasArrived c start end E s = (has_id (operations E.replica) s.id ≡ true) ⊎ ((is_full E.replica.entries ≡ true) × ((is_waiting E.replica.waiting s.id ≡ true) ⊎ WasRefusedFull E c start end s))
 
-refused_still : (c start end : ℕ) (E G : Engine) → HasGrown E G → (s : Stamped) → WasRefusedFull E c start end s → WasRefusedFull G c start end s
+refused_still : (c start end : ℕ) (E G : Engine) → HasGrown E G → (s : Stamped) → WasRefusedFull E c start end s
+    → WasRefusedFull G c start end s
 refused_still c start end E G g s x = record {
   serial = x.serial;
   from = x.from;
@@ -57,7 +58,9 @@ refused_still c start end E G g s x = record {
 }
 
 -- what came stays as it is where a full history keeps what waits
-arrived_still : (c start end : ℕ) (E G : Engine) → HasGrown E G → (is_full E.replica.entries ≡ true → G.replica.waiting ≡ E.replica.waiting) → (s : Stamped) → HasArrived c start end E s → HasArrived c start end G s
+arrived_still : (c start end : ℕ) (E G : Engine) → HasGrown E G
+    → (is_full E.replica.entries ≡ true → G.replica.waiting ≡ E.replica.waiting) → (s : Stamped) → HasArrived c start end E s
+    → HasArrived c start end G s
 arrived_still c start end E G g waits s (inl t) = inl (ids_stay G.replica.entries E.replica.entries g.entries s.id t)
 arrived_still c start end E G g waits s (inr x) = inr (
   full_stays G.replica.entries E.replica.entries g.entries x.0,
@@ -65,7 +68,8 @@ arrived_still c start end E G g waits s (inr x) = inr (
 )
 
 -- where the history isn't full, it is applied
-applied_there : (c start end : ℕ) (E : Engine) (s : Stamped) → is_full E.replica.entries ≡ false → HasArrived c start end E s → has_id (operations E.replica) s.id ≡ true
+applied_there : (c start end : ℕ) (E : Engine) (s : Stamped) → is_full E.replica.entries ≡ false → HasArrived c start end E s
+    → has_id (operations E.replica) s.id ≡ true
 applied_there c start end E s few (inl t) = t
 applied_there c start end E s few (inr x) = absurd (true≢false (sym x.0 ∙ few))
 
@@ -87,7 +91,9 @@ module _ (c start end : ℕ) (ms : List ℕ) (base : List Operation) (F : List S
   coming_wider K L E v h = record { legal = h.legal; short = h.short; within = λ x m. v x (h.within x m); members = h.members; based = h.based; there = h.there; came = h.came; comes = h.comes; used = h.used }
 
   -- the engine goes on, and the history with it to a later beginning
-  coming_on : (K : List Operation) (E G : Engine) → IsComing K E → HasGrown E G → G.replica.members ≡ E.replica.members → (there : List Stamped) → AllAre (HasArrived c start end G) there → Comes ms base F there (awaited c start end G.queue) → IsComing K G
+  coming_on : (K : List Operation) (E G : Engine) → IsComing K E → HasGrown E G → G.replica.members ≡ E.replica.members
+      → (there : List Stamped) → AllAre (HasArrived c start end G) there → Comes ms base F there (awaited c start end G.queue)
+      → IsComing K G
   coming_on K E G h g members there came comes = record {
     legal = h.legal;
     short = h.short;
@@ -101,7 +107,8 @@ module _ (c start end : ℕ) (ms : List ℕ) (base : List Operation) (F : List S
   }
 
   -- the engine keeps its replica
-  coming_same : (K : List Operation) (E G : Engine) → HasGrown E G → G.replica ≡ E.replica → (h : IsComing K E) → Comes ms base F h.there (awaited c start end G.queue) → IsComing K G
+  coming_same : (K : List Operation) (E G : Engine) → HasGrown E G → G.replica ≡ E.replica → (h : IsComing K E)
+      → Comes ms base F h.there (awaited c start end G.queue) → IsComing K G
   coming_same K E G g same h comes = coming_on K E G h g (ap (λ (r : Replica). r.members) same) h.there
       (λ s m. arrived_still c start end E G g (λ f. ap (λ (r : Replica). r.waiting) same) s (h.came s m)) comes
 
@@ -110,19 +117,22 @@ module _ (c start end : ℕ) (ms : List ℕ) (base : List Operation) (F : List S
 
   -- ---- an item more
 
-  awaited_last : (queue : List Submitted) (x : Submitted) → is_of_receipt c start end x ≡ false → awaited c start end (queue ++ x ∷ []) ≡ awaited c start end queue
+  awaited_last : (queue : List Submitted) (x : Submitted) → is_of_receipt c start end x ≡ false
+      → awaited c start end (queue ++ x ∷ []) ≡ awaited c start end queue
   awaited_last [] x e = ap (λ b. cond b (x.request ∷ []) []) e
   awaited_last (y ∷ queue) x e = ap (λ qs. cond (is_of_receipt c start end y) (y.request ∷ qs) qs) (awaited_last queue x e)
 
   -- its serial is above those of the receipt
-  not_of_receipt : (K : List Operation) (E G : Engine) (x : Submitted) → HasSubmitted E G x → IsComing K E → is_of_receipt c start end x ≡ false
+  not_of_receipt : (K : List Operation) (E G : Engine) (x : Submitted) → HasSubmitted E G x → IsComing K E
+      → is_of_receipt c start end x ≡ false
   not_of_receipt K E G x l h = false_from_ne_true (is_of_receipt c start end x) (λ t.
       let one = and_parts (x.client == c) (nat_le start x.serial && nat_lt x.serial end) t in
       let two = and_parts (nat_le start x.serial) (nat_lt x.serial end) one.1 in
       let y = h.used x.serial (leb-true start x.serial two.0) (ltb-true x.serial end two.1) in
       at_client (eqb-true x.client c one.0) y.1.0 y.1.1 (slice_get E.clients c) refl)
     where
-      at_client : x.client ≡ c → (cell : Cell) → cell_of x.serial (slice_get E.clients c) ≡ Some cell → (o : Option Client) → slice_get E.clients c ≡ o → ⊥
+      at_client : x.client ≡ c → (cell : Cell) → cell_of x.serial (slice_get E.clients c) ≡ Some cell → (o : Option Client)
+          → slice_get E.clients c ≡ o → ⊥
       at_client is cell there None e = none-some cell (sym (ap (cell_of x.serial) e) ∙ there)
       at_client is cell there (Some k) e =
           let within : x.serial ≤ length k.cells = cell_within k.cells x.serial cell (sym (ap (cell_of x.serial) e) ∙ there) in

@@ -40,11 +40,13 @@ drained_short : (n : ℕ) (r : Replica) → IsShort r → IsShort (drain_for n r
 drained_short zero r h = h
 drained_short (suc n) r h = at_full (λ q k. drained_short n q k) (is_full r.entries) refl
   where
-    at_first : ((q : Replica) → IsShort q → IsShort (drain_for n q)) → is_full r.entries ≡ false → (w : Option Stamped) → IsShort (at_ready w r (λ s. drain_for n (taken r s)))
+    at_first : ((q : Replica) → IsShort q → IsShort (drain_for n q)) → is_full r.entries ≡ false → (w : Option Stamped)
+        → IsShort (at_ready w r (λ s. drain_for n (taken r s)))
     at_first rest few None = h
     at_first rest few (Some s) = rest (taken r s) (taken_short r s few)
 
-    at_full : ((q : Replica) → IsShort q → IsShort (drain_for n q)) → (b : Bool) → is_full r.entries ≡ b → IsShort (cond b r (at_ready (first_ready (operations r) r.waiting) r (λ s. drain_for n (taken r s))))
+    at_full : ((q : Replica) → IsShort q → IsShort (drain_for n q)) → (b : Bool) → is_full r.entries ≡ b
+        → IsShort (cond b r (at_ready (first_ready (operations r) r.waiting) r (λ s. drain_for n (taken r s))))
     at_full rest true e = h
     at_full rest false e = at_first rest e (first_ready (operations r) r.waiting)
 
@@ -52,7 +54,8 @@ length_applied : (r : Replica) → length (operations r) ≡ length r.entries
 length_applied r = length_operations (stamped_of r.entries) ∙ length_stamped r.entries
 
 -- what is made is made of a history that isn't full
-made_short : (r : Replica) (x : Submitted) (c : Command) → IsShort r → (m : Result Operation Refusal) → make (operations r) r.own c ≡ m → IsShort (after_made r x c m)
+made_short : (r : Replica) (x : Submitted) (c : Command) → IsShort r → (m : Result Operation Refusal) → make (operations r) r.own c ≡ m
+    → IsShort (after_made r x c m)
 made_short r x c h (Err why) e = h
 made_short r x c h (Ok o) e = at_full (is_full (operations r)) refl
   where
@@ -61,7 +64,9 @@ made_short r x c h (Ok o) e = at_full (is_full (operations r)) refl
     at_full false f = (let room : length (operations r) ≤ 1048575 = ltb-false 1048575 (length (operations r)) f in omega (arith, room, length_applied r))
 
 pub item_short : (r : Replica) (x : Submitted) → IsShort r → IsShort (after_item r x)
-item_short r x h = (let other = at_request x.request in elim (nat_lt (length r.entries) x.floor) as (λ b. IsShort (cond b r (after_request r x x.request))) [ true ↦ h | false ↦ other ])
+item_short r x h =
+    let other = at_request x.request in
+    elim (nat_lt (length r.entries) x.floor) as (λ b. IsShort (cond b r (after_request r x x.request))) [ true ↦ h | false ↦ other ]
   where
     at_request : (q : Request) → IsShort (after_request r x q)
     at_request (OfCommand c) = made_short r x c h (make (operations r) r.own c) refl
@@ -78,7 +83,8 @@ drained_full (suc n) r e = ap (λ b. cond b r (at_ready (first_ready (operations
 delivered_full : (r : Replica) (s : Stamped) → is_full r.entries ≡ true → deliver r s ≡ r
 delivered_full r s e = at_alone (alone_fault r.members s)
   where
-    at_tests : (known own : Bool) → kept_by r s (cond known Known (cond own (NotKept OwnName) (cond (is_full r.entries) (NotKept HistoryFull) (room_answer r s)))) ≡ r
+    at_tests : (known own : Bool)
+        → kept_by r s (cond known Known (cond own (NotKept OwnName) (cond (is_full r.entries) (NotKept HistoryFull) (room_answer r s)))) ≡ r
     at_tests true own = refl
     at_tests false true = refl
     at_tests false false = ap (λ b. kept_by r s (cond b (NotKept HistoryFull) (room_answer r s))) e
@@ -92,7 +98,9 @@ received_full r s e = ap drain (delivered_full r s e) ∙ drained_full (length r
 
 -- what waits stays
 pub waits_full : (r : Replica) (x : Submitted) → is_full r.entries ≡ true → (after_item r x).waiting ≡ r.waiting
-waits_full r x e = (let other = at_request x.request in elim (nat_lt (length r.entries) x.floor) as (λ b. (cond b r (after_request r x x.request)).waiting ≡ r.waiting) [ true ↦ refl | false ↦ other ])
+waits_full r x e =
+    let other = at_request x.request in
+    elim (nat_lt (length r.entries) x.floor) as (λ b. (cond b r (after_request r x x.request)).waiting ≡ r.waiting) [ true ↦ refl | false ↦ other ]
   where
     at_made : (c : Command) (m : Result Operation Refusal) → (after_made r x c m).waiting ≡ r.waiting
     at_made c (Err why) = refl
@@ -110,10 +118,17 @@ refused_by_tests true own full w a b e = absurd (true≢false a)
 refused_by_tests false true full w a b e = absurd (true≢false b)
 refused_by_tests false false false w a b e = absurd (true≢false (sym e))
 
+-- the item's operation is applied, or waits, or is refused for the full history
+abbrev IsMetFull : Replica → Submitted → Stamped → Type 0
+IsMetFull r x s =
+    (has_id (operations r) s.id ≡ true) ⊎ (is_waiting r.waiting s.id ≡ true) ⊎ (reply_to r x ≡ NotMade HistoryFull (length (receive r s).entries))
+
 -- An operation of the world that comes to a full history is applied, or waits, or is refused for that.
-pub item_full : (K : List Operation) → IsLegal K → (p : ℕ) (r : Replica) (x : Submitted) (s : Stamped) (F : List Stamped) → IsSettled K p r → x.floor ≤ length r.entries → x.request ≡ OfPeer s
-    → IsLegalStamped (s ∷ F) → length F < 1048576 → AreWithin (operations_of (s ∷ F)) K → is_of_members r.members s ≡ true → is_full r.entries ≡ true
-    → (has_id (operations r) s.id ≡ true) ⊎ (is_waiting r.waiting s.id ≡ true) ⊎ (reply_to r x ≡ NotMade HistoryFull (length (receive r s).entries))
+pub item_full : (K : List Operation) → IsLegal K → (p : ℕ) (r : Replica) (x : Submitted) (s : Stamped) (F : List Stamped)
+    → IsSettled K p r → x.floor ≤ length r.entries → x.request ≡ OfPeer s
+    → IsLegalStamped (s ∷ F) → length F < 1048576 → AreWithin (operations_of (s ∷ F)) K → is_of_members r.members s ≡ true
+    → is_full r.entries ≡ true
+    → IsMetFull r x s
 item_full K lk p r x s F h floor is l few w known full = at_applied (has_id (operations r) s.id) refl
   where
     alone : alone_fault r.members s ≡ None
@@ -125,7 +140,8 @@ item_full K lk p r x s F h floor is l few w known full = at_applied (has_id (ope
         let o : Operation = operation_after (operations_of F) s in
         true≢false (sym (h.world.made o (w o (means_first F s l).among) (eqb-true s.id.replica r.own t ∙ h.world.own)) ∙ new))
 
-    reply : has_id (operations r) s.id ≡ false → is_waiting r.waiting s.id ≡ false → reply_to r x ≡ NotMade HistoryFull (length (receive r s).entries)
+    reply : has_id (operations r) s.id ≡ false → is_waiting r.waiting s.id ≡ false
+        → reply_to r x ≡ NotMade HistoryFull (length (receive r s).entries)
     reply new absent =
         let test : nat_lt (length r.entries) x.floor ≡ false = le-ltb (length r.entries) x.floor floor in
         let answer : answer_to r s ≡ NotKept HistoryFull =
@@ -134,10 +150,11 @@ item_full K lk p r x s F h floor is l few w known full = at_applied (has_id (ope
         rw test (ap (reply_requested r) is ∙ ap (reply_delivered (length (receive r s).entries)) answer)
 
     at_waiting : has_id (operations r) s.id ≡ false → (b : Bool) → is_waiting r.waiting s.id ≡ b
-        → (has_id (operations r) s.id ≡ true) ⊎ (is_waiting r.waiting s.id ≡ true) ⊎ (reply_to r x ≡ NotMade HistoryFull (length (receive r s).entries))
+        → IsMetFull r x s
     at_waiting new true e = inr (inl e)
     at_waiting new false e = inr (inr (reply new e))
 
-    at_applied : (b : Bool) → has_id (operations r) s.id ≡ b → (has_id (operations r) s.id ≡ true) ⊎ (is_waiting r.waiting s.id ≡ true) ⊎ (reply_to r x ≡ NotMade HistoryFull (length (receive r s).entries))
+    at_applied : (b : Bool) → has_id (operations r) s.id ≡ b
+        → IsMetFull r x s
     at_applied true e = inl e
     at_applied false e = at_waiting e (is_waiting r.waiting s.id) refl

@@ -16,7 +16,8 @@ use Rattle.semantics.proofs.ComingHistory.{AllAre, all_came}
 use Rattle.semantics.proofs.ComingItems.{is_of_receipt, awaited, HasArrived, IsComing, coming_kept}
 use Rattle.semantics.proofs.StartedReceipts.{awaited_after}
 
-none_awaited : (A : Engine) (c first many serial count : ℕ) → serial ≡ cond (count == 0) 0 first → count ≡ many → IsHandledBelow A c (serial + count) → awaited c first (first + many) A.queue ≡ []
+none_awaited : (A : Engine) (c first many serial count : ℕ) → serial ≡ cond (count == 0) 0 first → count ≡ many
+    → IsHandledBelow A c (serial + count) → awaited c first (first + many) A.queue ≡ []
 none_awaited A c first many serial count start all handled =
     ap (awaited c first (first + many)) (sym (append-nil A.queue)) ∙ awaited_after c first (first + many) A.queue [] none
   where
@@ -32,16 +33,20 @@ none_awaited A c first many serial count start all handled =
         omega (arith, is, all, from, below, over))
 
 -- what was refused under serials of the receipt was so under those that the reply to it named
-refused_named : (A : Engine) (c first many serial count : ℕ) → serial ≡ cond (count == 0) 0 first → count ≡ many → (s : Stamped) → WasRefusedFull A c first (first + many) s → WasRefusedFull A c serial (serial + count) s
+refused_named : (A : Engine) (c first many serial count : ℕ) → serial ≡ cond (count == 0) 0 first → count ≡ many → (s : Stamped)
+    → WasRefusedFull A c first (first + many) s → WasRefusedFull A c serial (serial + count) s
 refused_named A c first many serial count start all s x =
     let some : (count == 0) ≡ false = ne_eqb count 0 (λ e. absurd (omega (arith, e, all, x.from, x.below))) in
     let is : serial ≡ first = start ∙ ap (λ b. cond b 0 first) some in
     let end : first + many ≡ serial + count = omega (arith, is, all) in
     subst (λ n. WasRefusedFull A c serial n s) end (subst (λ n. WasRefusedFull A c n (first + many) s) (sym is) x)
 
-pub came_through : (c first many serial count : ℕ) (ms : List ℕ) (base : List Operation) (F : List Stamped) → serial ≡ cond (count == 0) 0 first → count ≡ many
-    → (K : List Operation) (W : World) (steps : List WorldStep) → IsSoundWorld W → AreWithoutLines steps → IsWorldOf K W → (a : ℕ) (G : Engine) → slice_get W.engines a ≡ Some G → IsComing c first (first + many) ms base F K G
-    → (A : Engine) → slice_get (world_after W steps).engines a ≡ Some A → IsHandledBelow A c (serial + count) → AllAre (HasArrived c serial (serial + count) A) F
+pub came_through : (c first many serial count : ℕ) (ms : List ℕ) (base : List Operation) (F : List Stamped)
+    → serial ≡ cond (count == 0) 0 first → count ≡ many
+    → (K : List Operation) (W : World) (steps : List WorldStep) → IsSoundWorld W → AreWithoutLines steps → IsWorldOf K W
+    → (a : ℕ) (G : Engine) → slice_get W.engines a ≡ Some G → IsComing c first (first + many) ms base F K G
+    → (A : Engine) → slice_get (world_after W steps).engines a ≡ Some A → IsHandledBelow A c (serial + count)
+    → AllAre (HasArrived c serial (serial + count) A) F
 came_through c first many serial count ms base F start all K W steps sound known is a G there coming A e handled =
     let later = further_by_run (IsComing c first (first + many) ms base F) (coming_kept c first (first + many) ms base F) a K W steps sound known is
     (λ X q. (let same : G ≡ X = cc in subst (IsComing c first (first + many) ms base F K) same coming)) in

@@ -1,5 +1,5 @@
 -- All that clients submitted stays there where the writer sets an answer.
-use Rattle.std.proofs.Common.{◌≡◌, inl, inr, ℕ, suc, List, [], ◌∷◌, ◌++◌, map, length, Option, Some, None, refl, sym, ap, ◌∙◌, subst, append_assoc, slice_get, slice_set}
+use Rattle.std.proofs.Common.{◌≡◌, ◌⊎◌, inl, inr, ℕ, suc, List, [], ◌∷◌, ◌++◌, map, length, Option, Some, None, refl, sym, ap, ◌∙◌, subst, append_assoc, slice_get, slice_set}
 use Rattle.std.proofs.lemmas.Bool.{cases_eq}
 use Rattle.semantics.specs.LegalHistory.{IsAmong}
 use Rattle.semantics.specs.LegalAnswer.{Submitted}
@@ -35,11 +35,15 @@ module _ (E : Engine) (h : IsComplete E) (first : Handled) (due : List Handled) 
   was_first = ap (λ (d : List Handled). waiting_items d E.handled E.queue) oldest
 
   was_next : cells_of E owner ≡ (h owner).answered ++ open_cell first.submitted ∷ map open_cell (of_client owner rest)
-  was_next = (h owner).cells ∙ ap (λ xs. (h owner).answered ++ map open_cell xs) (ap (of_client owner) was_first ∙ of_client-own owner first.submitted rest refl)
+  was_next = (h owner).cells
+      ∙ ap (λ xs. (h owner).answered ++ map open_cell xs) (ap (of_client owner) was_first ∙ of_client-own owner first.submitted rest refl)
+
+  was_there : slice_get (cells_of E owner) (length (h owner).answered) ≡ Some (open_cell first.submitted)
+  was_there = ap (λ cs. slice_get cs (length (h owner).answered)) was_next
+      ∙ get-there (h owner).answered (open_cell first.submitted) (map open_cell (of_client owner rest))
 
   its_serial : first.submitted.serial ≡ suc (length (h owner).answered)
-  its_serial = ((h owner).serials (length (h owner).answered) (open_cell first.submitted)
-      (ap (λ cs. slice_get cs (length (h owner).answered)) was_next ∙ get-there (h owner).answered (open_cell first.submitted) (map open_cell (of_client owner rest)))).1
+  its_serial = ((h owner).serials (length (h owner).answered) (open_cell first.submitted) was_there).1
 
   abbrev new_cell : Cell
   new_cell = record { submitted = first.submitted; answer = Some answer }
@@ -55,7 +59,7 @@ module _ (E : Engine) (h : IsComplete E) (first : Handled) (due : List Handled) 
     its_cells = ap cells_in there
 
     its_cell : slice_get k.cells (length (h owner).answered) ≡ Some (open_cell first.submitted)
-    its_cell = ap (λ cs. slice_get cs (length (h owner).answered)) (sym its_cells ∙ was_next) ∙ get-there (h owner).answered (open_cell first.submitted) (map open_cell (of_client owner rest))
+    its_cell = ap (λ cs. slice_get cs (length (h owner).answered)) (sym its_cells) ∙ was_there
 
     set_cells : answered.cells ≡ slice_set k.cells (length (h owner).answered) new_cell
     set_cells = ap (λ n. (with_answer k n answer).cells) its_serial
@@ -63,6 +67,11 @@ module _ (E : Engine) (h : IsComplete E) (first : Handled) (due : List Handled) 
 
     now_cells : cells_of after owner ≡ slice_set k.cells (length (h owner).answered) new_cell
     now_cells = ap cells_in (get-set_same E.clients owner k answered there) ∙ set_cells
+
+    -- a cell is the new one, or it was there
+    at_set : (n : ℕ) (cell : Cell) → slice_get (slice_set k.cells (length (h owner).answered) new_cell) n ≡ Some cell
+        → ((n ≡ length (h owner).answered) × (cell ≡ new_cell)) ⊎ (slice_get k.cells n ≡ Some cell)
+    at_set n cell = get-set_cases k.cells (length (h owner).answered) n (open_cell first.submitted) new_cell cell its_cell
 
     all_given : (cell : Cell) → IsAmong cell ((h owner).answered ++ new_cell ∷ []) → (g : Given) × (cell.answer ≡ Some g)
     all_given cell m = elim (among_last (h owner).answered new_cell cell m) [
@@ -72,7 +81,7 @@ module _ (E : Engine) (h : IsComplete E) (first : Handled) (due : List Handled) 
 
     owner_complete : HasAllSubmitted after owner
     owner_complete = record {
-      serials = λ n cell w. elim (get-set_cases k.cells (length (h owner).answered) n (open_cell first.submitted) new_cell cell its_cell (sym (ap (λ cs. slice_get cs n) now_cells) ∙ w)) [
+      serials = λ n cell w. elim (at_set n cell (sym (ap (λ cs. slice_get cs n) now_cells) ∙ w)) [
         | inl e ↦ (ap (λ (x : Cell). x.submitted.client) e.1, ap (λ (x : Cell). x.submitted.serial) e.1 ∙ its_serial ∙ ap suc (sym e.0))
         | inr o ↦ (h owner).serials n cell (ap (λ cs. slice_get cs n) its_cells ∙ o)
       ];
@@ -91,7 +100,8 @@ module _ (E : Engine) (h : IsComplete E) (first : Handled) (due : List Handled) 
           serials = λ i cell w. (h d).serials i cell (sym (ap (λ cs. slice_get cs i) same) ∙ w);
           answered = (h d).answered;
           given = (h d).given;
-          cells = same ∙ (h d).cells ∙ ap (λ xs. (h d).answered ++ map open_cell xs) (ap (of_client d) was_first ∙ of_client-other d first.submitted rest (λ e. n (sym e)));
+          cells = same ∙ (h d).cells
+              ∙ ap (λ xs. (h d).answered ++ map open_cell xs) (ap (of_client d) was_first ∙ of_client-other d first.submitted rest (λ e. n (sym e)));
         }
 
     given_now : IsComplete after
@@ -112,7 +122,8 @@ module _ (E : Engine) (h : IsComplete E) (first : Handled) (due : List Handled) 
 pub complete_given : (E : Engine) → IsComplete E → IsComplete (give E).engine
 complete_given E h = at_due E.due refl
   where
-    at_client : (first : Handled) (due : List Handled) → E.due ≡ first ∷ due → (o : Option Client) → slice_get E.clients first.submitted.client ≡ o → IsComplete (give_oldest E (first ∷ due)).engine
+    at_client : (first : Handled) (due : List Handled) → E.due ≡ first ∷ due → (o : Option Client)
+        → slice_get E.clients first.submitted.client ≡ o → IsComplete (give_oldest E (first ∷ due)).engine
     at_client first due e None f = absurd (no_client E h first due e f)
     at_client first due e (Some k) f = rw f (given_now E h first due e k f)
 

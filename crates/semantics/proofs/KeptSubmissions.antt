@@ -51,9 +51,11 @@ complete_still E F same items h c = record {
 pub complete_taken : (E : Engine) → IsComplete E → IsComplete (take_item E).engine
 complete_taken E h = at_queue E.queue refl
   where
-    at_test : (x : Submitted) (queue : List Submitted) → E.queue ≡ x ∷ queue → (b : Bool) → (is_any E.due || nat_le E.batch (length E.handled)) ≡ b → IsComplete (take_oldest E (x ∷ queue)).engine
+    at_test : (x : Submitted) (queue : List Submitted) → E.queue ≡ x ∷ queue → (b : Bool)
+        → (is_any E.due || nat_le E.batch (length E.handled)) ≡ b → IsComplete (take_oldest E (x ∷ queue)).engine
     at_test x queue e true f = rw f h
-    at_test x queue e false f = rw f (complete_still E _ (λ c. refl) (waiting-taken E.due E.handled queue _ ∙ ap (waiting_items E.due E.handled) (sym e)) h)
+    at_test x queue e false f =
+        rw f (complete_still E _ (λ c. refl) (waiting-taken E.due E.handled queue _ ∙ ap (waiting_items E.due E.handled) (sym e)) h)
 
     at_queue : (q : List Submitted) → E.queue ≡ q → IsComplete (take_oldest E q).engine
     at_queue [] e = h
@@ -68,4 +70,5 @@ complete_published E h = at_test (is_any E.due || not (is_any E.handled)) refl
 
     at_test : (b : Bool) → (is_any E.due || not (is_any E.handled)) ≡ b → IsComplete (publish E).engine
     at_test true e = rw e h
-    at_test false e = rw e (complete_still E _ (λ c. refl) (items (none_due E.due (or_parts (is_any E.due) (not (is_any E.handled)) e).0)) h)
+    at_test false e =
+        rw e (complete_still E _ (λ c. refl) (items (none_due E.due (or_parts (is_any E.due) (not (is_any E.handled)) e).0)) h)

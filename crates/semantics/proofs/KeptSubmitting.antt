@@ -21,6 +21,12 @@ module _ (E : Engine) (h : IsComplete E) (c : ℕ) (k : Client) (request : Reque
   items : (d : ℕ) → of_client d (unanswered after) ≡ of_client d (unanswered E) ++ of_client d (item ∷ [])
   items d = ap (of_client d) (waiting-submitted E.due E.handled E.queue item) ∙ of_client-append d (unanswered E) (item ∷ [])
 
+  own_items : of_client c (unanswered after) ≡ of_client c (unanswered E) ++ item ∷ []
+  own_items = items c ∙ ap (λ xs. of_client c (unanswered E) ++ xs) (of_client-own c item [] refl)
+
+  other_items : (d : ℕ) → (d ≡ c → ⊥) → of_client d (unanswered after) ≡ of_client d (unanswered E)
+  other_items d n = items d ∙ ap (λ xs. of_client d (unanswered E) ++ xs) (of_client-other d item [] (λ e. n (sym e))) ∙ append-nil (of_client d (unanswered E))
+
   its_cells : cells_of E c ≡ k.cells
   its_cells = ap cells_in there
 
@@ -38,7 +44,7 @@ module _ (E : Engine) (h : IsComplete E) (c : ℕ) (k : Client) (request : Reque
     cells = more_cells
         ∙ ap (λ cs. cs ++ open_cell item ∷ []) (sym its_cells ∙ (h c).cells)
         ∙ append_assoc (h c).answered (map open_cell (of_client c (unanswered E))) (open_cell item ∷ [])
-        ∙ ap (λ cs. (h c).answered ++ cs) (sym (ap (map open_cell) (items c ∙ ap (λ xs. of_client c (unanswered E) ++ xs) (of_client-own c item [] refl)) ∙ map-append open_cell (of_client c (unanswered E)) (item ∷ [])));
+        ∙ ap (λ cs. (h c).answered ++ cs) (sym (ap (map open_cell) own_items ∙ map-append open_cell (of_client c (unanswered E)) (item ∷ [])));
   }
 
   other_complete : (d : ℕ) → (d ≡ c → ⊥) → HasAllSubmitted after d
@@ -48,8 +54,7 @@ module _ (E : Engine) (h : IsComplete E) (c : ℕ) (k : Client) (request : Reque
         serials = λ i cell w. (h d).serials i cell (sym (ap (λ cs. slice_get cs i) same) ∙ w);
         answered = (h d).answered;
         given = (h d).given;
-        cells = same ∙ (h d).cells ∙ ap (λ xs. (h d).answered ++ map open_cell xs)
-            (sym (items d ∙ ap (λ xs. of_client d (unanswered E) ++ xs) (of_client-other d item [] (λ e. n (sym e))) ∙ append-nil (of_client d (unanswered E))));
+        cells = same ∙ (h d).cells ∙ ap (λ xs. (h d).answered ++ map open_cell xs) (sym (other_items d n));
       }
 
   submitted : IsComplete after
@@ -62,7 +67,8 @@ module _ (E : Engine) (h : IsComplete E) (c : ℕ) (k : Client) (request : Reque
 pub complete_pushed : (E : Engine) (c : ℕ) (request : Request) → IsComplete E → IsComplete (push E c request).engine
 complete_pushed E c request h = at_client (slice_get E.clients c) refl
   where
-    at_room : (k : Client) → slice_get E.clients c ≡ Some k → (a b : Bool) → nat_le E.serials (length k.cells) ≡ a → nat_le E.places (length E.queue) ≡ b → IsComplete (submit E c k (next_item c k request)).engine
+    at_room : (k : Client) → slice_get E.clients c ≡ Some k → (a b : Bool) → nat_le E.serials (length k.cells) ≡ a
+        → nat_le E.places (length E.queue) ≡ b → IsComplete (submit E c k (next_item c k request)).engine
     at_room k there true b e f = rw e h
     at_room k there false true e f = rw (e, f) h
     at_room k there false false e f = rw (e, f) (submitted E h c k request there)

@@ -25,7 +25,8 @@ use Rattle.semantics.proofs.WholeSubmissions.{IsPushed, pushed_cases}
 abbrev with_request : Engine → ℕ → Client → Request → Engine
 with_request E c k request = with_client E (E.queue ++ next_item c k request ∷ []) E.due c (with_cell k (next_item c k request))
 
-now_submitted : (E : Engine) (c : ℕ) (k : Client) (request : Request) → slice_get E.clients c ≡ Some k → WasSubmitted (with_request E c k request) c (suc (length k.cells)) (next_item c k request)
+now_submitted : (E : Engine) (c : ℕ) (k : Client) (request : Request) → slice_get E.clients c ≡ Some k
+    → WasSubmitted (with_request E c k request) c (suc (length k.cells)) (next_item c k request)
 now_submitted E c k request there = (
   open_cell (next_item c k request),
   ap (cell_of (suc (length k.cells))) (get-set_same E.clients c k (with_cell k (next_item c k request)) there) ∙ newest_cell k.cells (open_cell (next_item c k request)),
@@ -42,8 +43,10 @@ pub ticketed : (E : Engine) (c : ℕ) (request : Request) (serial : ℕ) → (pu
     → (k : Client) × (slice_get E.clients c ≡ Some k) × (serial ≡ suc (length k.cells)) × WasSubmitted (push E c request).engine c serial (next_item c k request)
 ticketed E c request serial h = at_client (slice_get E.clients c) refl
   where
-    at_room : (k : Client) → slice_get E.clients c ≡ Some k → (a b : Bool) → nat_le E.serials (length k.cells) ≡ a → nat_le E.places (length E.queue) ≡ b
-        → (submit E c k (next_item c k request)).reply ≡ Ticket serial → IsTicketed k c request serial (submit E c k (next_item c k request)).engine
+    at_room : (k : Client) → slice_get E.clients c ≡ Some k → (a b : Bool) → nat_le E.serials (length k.cells) ≡ a
+        → nat_le E.places (length E.queue) ≡ b
+        → (submit E c k (next_item c k request)).reply ≡ Ticket serial
+        → IsTicketed k c request serial (submit E c k (next_item c k request)).engine
     at_room k there true b e f r = (let z = rw e at r in cc)
     at_room k there false true e f r = (let z = rw (e, f) at r in cc)
     at_room k there false false e f r =
@@ -60,13 +63,17 @@ ticketed E c request serial h = at_client (slice_get E.clients c) refl
     at_client (Some k) e = (let t = at_found k e in (k, e, t.0, t.1))
 
 -- What got a ticket at a step of a run stays under its serial in all that follows.
-pub ticket_kept : (cs : List Configuration) (steps more : List WorldStep) (e c : ℕ) (command : Command) (serial : ℕ) (E F : Engine) → IsEngineAfter cs steps e E → (push E c (OfCommand command)).reply ≡ Ticket serial
-    → IsEngineAfter cs (steps ++ Push e c command ∷ more) e F → (k : Client) × (slice_get E.clients c ≡ Some k) × WasSubmitted F c serial (next_item c k (OfCommand command))
+pub ticket_kept : (cs : List Configuration) (steps more : List WorldStep) (e c : ℕ) (command : Command) (serial : ℕ) (E F : Engine)
+    → IsEngineAfter cs steps e E → (push E c (OfCommand command)).reply ≡ Ticket serial
+    → IsEngineAfter cs (steps ++ Push e c command ∷ more) e F
+    → (k : Client) × (slice_get E.clients c ≡ Some k) × WasSubmitted F c serial (next_item c k (OfCommand command))
 ticket_kept cs steps more e c command serial E F there ticket later =
     let W : World = world_after (opened cs) steps in
     let t = ticketed E c (OfCommand command) serial ticket in
-    let after : slice_get (world_step W (Push e c command)).world.engines e ≡ Some (push E c (OfCommand command)).engine = rw there (get-set_same W.engines e E (push E c (OfCommand command)).engine there) in
-    let grown = grown_after (world_step W (Push e c command)).world more (sound_step W (Push e c command) (sound_after (opened cs) steps (sound_opened cs))) e (push E c (OfCommand command)).engine F after
+    let G : Engine = (push E c (OfCommand command)).engine in
+    let after : slice_get (world_step W (Push e c command)).world.engines e ≡ Some G = rw there (get-set_same W.engines e E G there) in
+    let sound = sound_step W (Push e c command) (sound_after (opened cs) steps (sound_opened cs)) in
+    let grown = grown_after (world_step W (Push e c command)).world more sound e G F after
     (subst (λ (X : World). slice_get X.engines e ≡ Some F) (after_more (opened cs) steps (Push e c command ∷ more)) later) in
     (t.0, t.1, grown.submitted c serial (next_item c t.0 (OfCommand command)) t.3)
 
@@ -74,12 +81,16 @@ ticket_kept cs steps more e c command serial E F there ticket later =
 
 -- operation i of these was submitted under serial i after the first, when the token had seen so many entries
 abbrev IsSubmittedAt : Engine → ℕ → ℕ → ℕ → List Stamped → ℕ → Type 0
-IsSubmittedAt F c first seen ss i = (s : Stamped) × (slice_get ss i ≡ Some s) × WasSubmitted F c (first + i) (record { client = c; serial = first + i; request = OfPeer s; floor = seen })
+IsSubmittedAt F c first seen ss i =
+    (s : Stamped) × (slice_get ss i ≡ Some s) × WasSubmitted F c (first + i) (record { client = c; serial = first + i; request = OfPeer s; floor = seen })
 
-under_serial : (F : Engine) (c m n seen : ℕ) (s : Stamped) → m ≡ n → WasSubmitted F c m (record { client = c; serial = m; request = OfPeer s; floor = seen }) → WasSubmitted F c n (record { client = c; serial = n; request = OfPeer s; floor = seen })
+under_serial : (F : Engine) (c m n seen : ℕ) (s : Stamped) → m ≡ n
+    → WasSubmitted F c m (record { client = c; serial = m; request = OfPeer s; floor = seen })
+    → WasSubmitted F c n (record { client = c; serial = n; request = OfPeer s; floor = seen })
 under_serial F c m n seen s e w = subst (λ i. WasSubmitted F c i (record { client = c; serial = i; request = OfPeer s; floor = seen })) e w
 
-module _ (E : Engine) (c : ℕ) (k : Client) (bad : Option Refusal) (n : ℕ) (s : Stamped) (ss : List Stamped) (sound : IsSound E) (there : slice_get E.clients c ≡ Some k) where
+module _ (E : Engine) (c : ℕ) (k : Client) (bad : Option Refusal) (n : ℕ) (s : Stamped) (ss : List Stamped)
+    (sound : IsSound E) (there : slice_get E.clients c ≡ Some k) where
   abbrev item : Submitted
   item = next_item c k (OfPeer s)
 
@@ -97,7 +108,8 @@ module _ (E : Engine) (c : ℕ) (k : Client) (bad : Option Refusal) (n : ℕ) (s
   AreSubmittedAfter = (i : ℕ) → IsSound after → slice_get after.clients c ≡ Some (with_cell k item) → suc n + i < (rest after).submitted
       → IsSubmittedAt (rest after).engine c (suc (length (with_cell k item).cells)) k.seen ss i
 
-  at_index : AreSubmittedAfter → IsSound after → (i : ℕ) → n + i < (rest after).submitted → IsSubmittedAt (rest after).engine c (suc (length k.cells)) k.seen (s ∷ ss) i
+  at_index : AreSubmittedAfter → IsSound after → (i : ℕ) → n + i < (rest after).submitted
+      → IsSubmittedAt (rest after).engine c (suc (length k.cells)) k.seen (s ∷ ss) i
   at_index later sound_after zero l = (
     s,
     refl,
@@ -116,7 +128,8 @@ module _ (E : Engine) (c : ℕ) (k : Client) (bad : Option Refusal) (n : ℕ) (s
       subst (λ (q : Receipt). IsSubmittedAt q.engine c (suc (length k.cells)) k.seen (s ∷ ss) i) (sym same)
       (at_index later (subst IsSound p.0 (pushed E c (OfPeer s) sound).sound) i (omega (arith, l, ap (λ (q : Receipt). q.submitted) same)))
 
-submitted_at : (c : ℕ) (bad : Option Refusal) (n : ℕ) (E : Engine) (k : Client) (ss : List Stamped) → IsSound E → slice_get E.clients c ≡ Some k → (i : ℕ) → n + i < (submit_all c bad n E ss).submitted
+submitted_at : (c : ℕ) (bad : Option Refusal) (n : ℕ) (E : Engine) (k : Client) (ss : List Stamped) → IsSound E
+    → slice_get E.clients c ≡ Some k → (i : ℕ) → n + i < (submit_all c bad n E ss).submitted
     → IsSubmittedAt (submit_all c bad n E ss).engine c (suc (length k.cells)) k.seen ss i
 submitted_at c bad n E k [] sound there = λ i l. absurd (omega (arith, l))
 submitted_at c bad n E k (s ∷ ss) sound there =
@@ -124,13 +137,21 @@ submitted_at c bad n E k (s ∷ ss) sound there =
     (λ i after is l. submitted_at c bad (suc n) (with_request E c k (OfPeer s)) (with_cell k (next_item c k (OfPeer s))) ss after is i l)
     (pushed_cases E c k s there)
 
+-- it was, where the client had the token
+abbrev WasReceivedAt : Engine → Engine → ℕ → ℕ → List Stamped → ℕ → Type 0
+WasReceivedAt E F c first ss i =
+    (k : Client) × (s : Stamped) × (slice_get E.clients c ≡ Some k) × (slice_get ss i ≡ Some s)
+    × WasSubmitted F c (first + i) (record { client = c; serial = first + i; request = OfPeer s; floor = k.seen })
+
 -- What a client received was submitted in order, as many operations as the reply counts.
-pub received_submitted : (E : Engine) → IsSound E → (c first n : ℕ) (ss : List Stamped) (bad : Option Refusal) (stop : Option (ℕ × Refusal)) → (receive_lines E c ss bad).reply ≡ Received first n stop → (i : ℕ) → i < n
-    → (k : Client) × (s : Stamped) × (slice_get E.clients c ≡ Some k) × (slice_get ss i ≡ Some s) × WasSubmitted (receive_lines E c ss bad).engine c (first + i) (record { client = c; serial = first + i; request = OfPeer s; floor = k.seen })
+pub received_submitted : (E : Engine) → IsSound E
+    → (c first n : ℕ) (ss : List Stamped) (bad : Option Refusal) (stop : Option (ℕ × Refusal))
+    → (receive_lines E c ss bad).reply ≡ Received first n stop → (i : ℕ) → i < n
+    → WasReceivedAt E (receive_lines E c ss bad).engine c first ss i
 received_submitted E sound c first n ss bad stop h i l = at_client (slice_get E.clients c) refl
   where
     at_client : (o : Option Client) → slice_get E.clients c ≡ o
-        → (k : Client) × (s : Stamped) × (slice_get E.clients c ≡ Some k) × (slice_get ss i ≡ Some s) × WasSubmitted (receive_lines E c ss bad).engine c (first + i) (record { client = c; serial = first + i; request = OfPeer s; floor = k.seen })
+        → WasReceivedAt E (receive_lines E c ss bad).engine c first ss i
     at_client None e = (let z = rw e at h in cc)
     at_client (Some k) e =
         let r : Receipt = submit_all c bad 0 E ss in

@@ -31,7 +31,8 @@ AreWithoutLines steps = (s : WorldStep) → IsAmong s steps → is_of_lines s �
 abbrev pub reply_after : List Configuration → List WorldStep → WorldStep → StepReply
 reply_after cs steps s = (world_step (world_after (opened cs) steps) s).reply
 
--- In these steps engine a says hello, engine b answers it from these published entries, and client c of a receives the answer without a stop, under the serials from the first on and below the end. Other steps may come before, between and after.
+-- In these steps engine a says hello, engine b answers it from these published entries, and client c of a receives the answer
+-- without a stop, under the serials from the first on and below the end. Other steps may come before, between and after.
 pub record IsExchange (cs : List Configuration) (steps : List WorldStep) (a b c first end : ℕ) (published : List Entry) : Type 0 where
   pub before : List WorldStep
   pub between : List WorldStep
@@ -78,4 +79,5 @@ pub record WasRefusedFull (E : Engine) (c first end : ℕ) (s : Stamped) : Type 
 -- the operation is applied; or the history is full, and the operation waits, or was refused for that
 abbrev pub IsAppliedUnlessFull : Engine → ℕ → ℕ → ℕ → Stamped → Type 0
 IsAppliedUnlessFull E c first end s =
-    HasApplied E.replica s ⊎ (IsTrue (is_full E.replica.entries) × (IsTrue (is_waiting E.replica.waiting s.id) ⊎ WasRefusedFull E c first end s))
+    HasApplied E.replica s
+    ⊎ (IsTrue (is_full E.replica.entries) × (IsTrue (is_waiting E.replica.waiting s.id) ⊎ WasRefusedFull E c first end s))

@@ -37,7 +37,8 @@ IsNotBelow floor (NotMade why m) = floor ≤ m
 IsNotBelow floor (KeptAt m) = floor ≤ m
 IsNotBelow floor (KnownAt m) = floor ≤ m
 
--- F is E later: the history and what is published of it only got longer, no token has seen less, and what was submitted, replied and answered stays
+-- F is E later: the history and what is published of it only got longer, no token has seen less,
+-- and what was submitted, replied and answered stays
 pub record HasGrown (E F : Engine) : Type 0 where
   pub own : F.replica.own ≡ E.replica.own
   pub entries : BeginsWith F.replica.entries E.replica.entries
@@ -66,9 +67,11 @@ cells_of E c = in_client (slice_get E.clients c)
     in_client None = []
     in_client (Some k) = k.cells
 
--- All that client c submitted is there. Its cells are those of the serials 1, 2, 3 and so on. The first ones have an answer. The rest are the cells of the client's unanswered items, each item as it was submitted, once, and in order.
+-- All that client c submitted is there. Its cells are those of the serials 1, 2, 3 and so on. The first ones have an answer.
+-- The rest are the cells of the client's unanswered items, each item as it was submitted, once, and in order.
 pub record HasAllSubmitted (E : Engine) (c : ℕ) : Type 0 where
-  pub serials : (n : ℕ) (cell : Cell) → slice_get (cells_of E c) n ≡ Some cell → (cell.submitted.client ≡ c) × (cell.submitted.serial ≡ suc n)
+  pub serials : (n : ℕ) (cell : Cell) → slice_get (cells_of E c) n ≡ Some cell
+      → (cell.submitted.client ≡ c) × (cell.submitted.serial ≡ suc n)
   pub answered : List Cell
   pub given : (cell : Cell) → IsAmong cell answered → (g : Given) × (cell.answer ≡ Some g)
   pub cells : cells_of E c ≡ answered ++ map (λ x. record { submitted = x; answer = None }) (of_client c (unanswered E))

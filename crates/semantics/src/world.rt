@@ -30,21 +30,27 @@ pub fn histories_are_entry_histories()
         (t : ℕ) → seen_by E t ≤ E.published }
 {}
 
-/// A ticket is for what was submitted: the client's request, with its next serial and with what its token has seen as the floor. It stays under that serial. What is received is submitted in the same way, each operation in turn under the next serial, as many as the reply counts.
+/// A ticket is for what was submitted: the client's request, with its next serial and with what its token has seen as the floor.
+/// It stays under that serial. What is received is submitted in the same way, each operation in turn, as many as the reply counts.
 pub fn tickets_are_for_what_was_submitted()
     ensures ticket { (E : Engine) (c : ℕ) (request : Request) (serial : ℕ) → (push E c request).reply ≡ Ticket serial →
         (k : Client) × (slice_get E.clients c ≡ Some k) × (serial ≡ suc (length k.cells))
         × WasSubmitted (push E c request).engine c serial (next_item c k request) }
     ensures kept { (cs : List Configuration) (steps more : List WorldStep) (e c : ℕ) (command : Command) (serial : ℕ) (E F : Engine) →
-        IsEngineAfter cs steps e E → (push E c (OfCommand command)).reply ≡ Ticket serial → IsEngineAfter cs (steps ++ Push e c command ∷ more) e F →
+        IsEngineAfter cs steps e E → (push E c (OfCommand command)).reply ≡ Ticket serial →
+        IsEngineAfter cs (steps ++ Push e c command ∷ more) e F →
         (k : Client) × (slice_get E.clients c ≡ Some k) × WasSubmitted F c serial (next_item c k (OfCommand command)) }
     ensures received { (cs : List Configuration) (steps : List WorldStep) (e : ℕ) (E : Engine) → IsEngineAfter cs steps e E →
-        (c first n : ℕ) (ss : List Stamped) (bad : Option Refusal) (stop : Option (ℕ × Refusal)) → (receive_lines E c ss bad).reply ≡ Received first n stop →
-        (i : ℕ) → i < n → (k : Client) × (s : Stamped) × (slice_get E.clients c ≡ Some k) × (slice_get ss i ≡ Some s)
-        × WasSubmitted (receive_lines E c ss bad).engine c (first + i) (record { client = c; serial = first + i; request = OfPeer s; floor = k.seen }) }
+        (c first n : ℕ) (ss : List Stamped) (bad : Option Refusal) (stop : Option (ℕ × Refusal)) →
+        (receive_lines E c ss bad).reply ≡ Received first n stop → (i : ℕ) → i < n →
+        (k : Client) × (s : Stamped) × (slice_get E.clients c ≡ Some k) × (slice_get ss i ≡ Some s)
+        × WasSubmitted (receive_lines E c ss bad).engine c (first + i)
+        (record { client = c; serial = first + i; request = OfPeer s; floor = k.seen }) }
 {}
 
-/// No accepted write vanishes. What a client submitted stands in its cells under the serials 1, 2, 3 and so on. The first ones have their answers; the rest are, in the same order and each once, what is due, handled or in the queue. A command answered Made stands in the history (`made_commands_stand_once`).
+/// No accepted write vanishes. What a client submitted stands in its cells, under the serials 1, 2, 3 and so on. The first ones
+/// have their answers; the rest are, in the same order and each once, what is due, handled or in the queue. A command that was
+/// answered Made stands in the history (`made_commands_stand_once`).
 pub fn no_submission_vanishes()
     ensures { (cs : List Configuration) (steps : List WorldStep) (e : ℕ) (E : Engine) → IsEngineAfter cs steps e E →
         (c : ℕ) → HasAllSubmitted E c }
@@ -100,7 +106,7 @@ pub fn what_is_sent_is_published()
         (s : Stamped) → IsAmong s ss → IsAmong s (stamped_of (published_entries E)) }
 {}
 
-/// Nothing that was seen goes away: histories, what is published of them and what tokens have seen only grow, and what was submitted and answered stays.
+/// Nothing that was seen goes away: histories, what is published of them and what tokens have seen only grow, and what was submitted, replied and answered stays.
 pub fn worlds_only_grow()
     ensures { (cs : List Configuration) (steps more : List WorldStep) (e : ℕ) (E : Engine) (F : Engine) →
         IsEngineAfter cs steps e E → IsEngineAfter cs (steps ++ more) e F → HasGrown E F }

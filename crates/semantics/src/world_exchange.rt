@@ -37,7 +37,9 @@ pub fn messages_stay()
         slice_get (world_after (opened cs) (steps ++ more)).messages k ≡ Some m }
 {}
 
-/// An engine that said hello and received the answer has, once what came is handled, all that its peer had published when it answered, and none of it waits. Only where its history is full may an operation wait, or have been refused with HistoryFull when it was delivered.
+/// An engine that said hello and received the answer has, once what came is handled, all that its peer had published when it
+/// answered, and none of it waits. Only where its history is full may an operation wait, or have been refused with HistoryFull
+/// when it was delivered.
 pub fn an_exchange_of_messages_is_complete()
     ensures { (cs : List Configuration) (steps : List WorldStep) → HaveOwnNumbers cs → AreWithoutLines steps →
         (a b c first end : ℕ) (published : List Entry) (A : Engine) → IsExchange cs steps a b c first end published →
