@@ -87,13 +87,15 @@ complete_gives zero E h = h
 complete_gives (suc n) E h = complete_gives n (give E).engine (complete_given E h)
 
 complete_whole : (E : Engine) → IsComplete E → IsComplete (whole_step E).engine
-complete_whole E h = complete_gives (length (handle_all E).due) (handle_all E) (complete_published (take_for E.batch E) (complete_takes E.batch E h))
+complete_whole E h =
+    complete_gives (length (handle_all E).due) (handle_all E) (complete_published (take_for E.batch E) (complete_takes E.batch E h))
 
 complete_submits : (c : ℕ) (bad : Option Refusal) (n : ℕ) (E : Engine) (ss : List Stamped) → IsComplete E
     → IsComplete (submit_all c bad n E ss).engine
 complete_submits c bad n E [] h = h
 complete_submits c bad n E (s ∷ ss) h =
-    at_refusal (complete_submits c bad (suc n) (push E c (OfPeer s)).engine ss (complete_pushed E c (OfPeer s) h)) (refusal_in (push E c (OfPeer s)).reply)
+    let rest = complete_submits c bad (suc n) (push E c (OfPeer s)).engine ss (complete_pushed E c (OfPeer s) h) in
+    at_refusal rest (refusal_in (push E c (OfPeer s)).reply)
   where
     at_refusal : IsComplete (submit_all c bad (suc n) (push E c (OfPeer s)).engine ss).engine → (o : Option Refusal)
         → IsComplete (unless_refused E n o (submit_all c bad (suc n) (push E c (OfPeer s)).engine ss)).engine
@@ -111,7 +113,8 @@ complete_lines E c ss bad h = at_client (slice_get E.clients c) refl
 complete_message : (E : Engine) (c : ℕ) (m : Option Message) → IsComplete E → IsComplete (receive_message E c m).engine
 complete_message E c None h = h
 complete_message E c (Some (Hello v)) h = h
-complete_message E c (Some (Bundle ss)) h = complete_lines E c (before_stranger E.replica.members ss) (stranger_fault E.replica.members ss) h
+complete_message E c (Some (Bundle ss)) h =
+    complete_lines E c (before_stranger E.replica.members ss) (stranger_fault E.replica.members ss) h
 
 -- ---- each step
 

@@ -1,5 +1,5 @@
 -- A settled replica that takes the next operation of a history has it then, or its history is full and the operation waits.
-use Rattle.std.proofs.Common.{◌≡◌, ◌⊎◌, inl, inr, ℕ, ◌≤◌, true, false, nat_lt, List, ◌∷◌, length, Result, Ok, Err, refl, sym, ap, ◌∙◌, subst, cond}
+use Rattle.std.proofs.Common.{◌≡◌, inl, inr, ℕ, ◌≤◌, true, false, nat_lt, List, ◌∷◌, length, Result, Ok, Err, refl, sym, ap, ◌∙◌, subst, cond}
 use Rattle.std.proofs.lemmas.Bool.{cases_Bool, le-ltb}
 use Rattle.ids.specs.declared.refusal.Refusal.{Refusal}
 use Rattle.semantics.specs.Ids.{OpId}
@@ -11,7 +11,6 @@ use Rattle.semantics.specs.Making.{Command, make, is_full}
 use Rattle.semantics.specs.Entries.{Entry, applied}
 use Rattle.semantics.specs.LegalAnswer.{Request, OfCommand, OfPeer, Submitted}
 use Rattle.semantics.specs.Replica.{Replica, operations, IsRunning}
-use Rattle.semantics.specs.Delivery.{is_waiting}
 use Rattle.semantics.specs.Drain.{counted, receive}
 use Rattle.semantics.specs.OneWorld.{AreWithin}
 use Rattle.semantics.specs.Exchange.{IsSettled}
@@ -20,7 +19,7 @@ use Rattle.semantics.specs.WorldHistory.{BeginsWith}
 use Rattle.semantics.proofs.AbsentIds.{has_id-among}
 use Rattle.semantics.proofs.LegalFacts.{among_from}
 use Rattle.semantics.proofs.Growing.{receive_grows}
-use Rattle.semantics.proofs.Arriving.{comes_in}
+use Rattle.semantics.proofs.Arriving.{HasCome, comes_in}
 use Rattle.semantics.proofs.ReceivedItems.{received}
 use Rattle.semantics.proofs.SentOperations.{applied_begins}
 use Rattle.semantics.proofs.ComingHistory.{HasThose}
@@ -39,10 +38,6 @@ members_stay r x h = (let other = at_request x.request in elim (nat_lt (length r
     at_request : (q : Request) → (after_request r x q).members ≡ r.members
     at_request (OfCommand c) = at_made c (make (operations r) r.own c)
     at_request (OfPeer s) = (received r s h).members
-
--- the operation is applied, or the history is full and the operation waits
-abbrev pub HasCome : Replica → Stamped → Type 0
-HasCome r s = ((is_full r.entries ≡ true) × (is_waiting r.waiting s.id ≡ true)) ⊎ (has_id (operations r) s.id ≡ true)
 
 arrived : (K : List Operation) → IsLegal K → (p : ℕ) (r : Replica) (s : Stamped) (F : List Stamped) → IsSettled K p r
     → IsLegalStamped (s ∷ F) → AreWithin (operations_of (s ∷ F)) K → is_of_members r.members s ≡ true → HasThose r F

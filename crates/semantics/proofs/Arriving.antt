@@ -40,8 +40,13 @@ waiting_one (y ∷ W) a h = elim (or_cases (is_same_id y.id a) (is_waiting W a) 
 
 waiting_under : (W : List Stamped) (s : Stamped) → IsAmong s W → is_waiting W s.id ≡ true
 waiting_under [] s m = absurd m
-waiting_under (y ∷ W) s (inl e) = or_left (is_same_id y.id s.id) (is_waiting W s.id) (ap (λ (z : Stamped). is_same_id z.id s.id) (sym e) ∙ id_itself s.id)
+waiting_under (y ∷ W) s (inl e) =
+    or_left (is_same_id y.id s.id) (is_waiting W s.id) (ap (λ (z : Stamped). is_same_id z.id s.id) (sym e) ∙ id_itself s.id)
 waiting_under (y ∷ W) s (inr m) = or_right (is_same_id y.id s.id) (is_waiting W s.id) (waiting_under W s m)
+
+-- the operation is applied, or the history is full and the operation waits
+abbrev pub HasCome : Replica → Stamped → Type 0
+HasCome r s = ((is_full r.entries ≡ true) × (is_waiting r.waiting s.id ≡ true)) ⊎ (has_id (operations r) s.id ≡ true)
 
 module _ (K : List Operation) (lk : IsLegal K) (p : ℕ) (r : Replica) (w : IsReplicaOf K p r) (end : IsDrained r) (le : length r.waiting ≤ 4096)
     (s : Stamped) (F : List Stamped) (l : IsLegalStamped (s ∷ F)) (wf : AreWithin (operations_of (s ∷ F)) K) (known : is_of_members r.members s ≡ true)
@@ -83,8 +88,7 @@ module _ (K : List Operation) (lk : IsLegal K) (p : ℕ) (r : Replica) (w : IsRe
       (ready-from (operations r) s (ready_where_follows may)) (le-ltb 4096 (length r.waiting) (omega (arith, le)))
       (no_fault_where_follows (stamped_of r.entries) s (entries_legal r.own r.entries w.running.history) may)
 
-  -- it is applied, or the history is full and it waits
-  pub comes_in : ((is_full (receive r s).entries ≡ true) × (is_waiting (receive r s).waiting s.id ≡ true)) ⊎ (has_id (operations (receive r s)) s.id ≡ true)
+  pub comes_in : HasCome (receive r s) s
   comes_in =
       let q : Replica = record r { waiting = put_waiting s r.waiting } in
       let same : receive r s ≡ drain q = ap (λ a. drain (kept_by r s a)) is_kept in
@@ -96,7 +100,7 @@ module _ (K : List Operation) (lk : IsLegal K) (p : ℕ) (r : Replica) (w : IsRe
       let keeps = keeps_for K lk (length q.waiting) q run w.within of in
       let more : (a : OpId) → has_id (operations r) a ≡ true → has_id (operations (drain q)) a ≡ true = λ a t.
       subst (λ (G : List Entry). has_id (operations_of (stamped_of G)) a ≡ true) (sym done.1.entries) (has_more done.1.appended r.entries a t) in
-      subst (λ (d : Replica). ((is_full d.entries ≡ true) × (is_waiting d.waiting s.id ≡ true)) ⊎ (has_id (operations d) s.id ≡ true)) (sym same)
+      subst (λ (d : Replica). HasCome d s) (sym same)
       (elim stay [
         | inr t ↦ inr t
         | inl m ↦ elim done.2 [

@@ -36,7 +36,8 @@ one_more_is P s F p h x (inl e) = subst P (sym e) p
 one_more_is P s F p h x (inr m) = h x m
 
 -- the first request is for an operation, and what is before that is as P says
-pub record HasNext (ms : List ℕ) (base : List Operation) (F : List Stamped) (P : Stamped → Type 0) (q : Request) (qs : List Request) : Type 0 where
+pub record HasNext (ms : List ℕ) (base : List Operation) (F : List Stamped) (P : Stamped → Type 0) (q : Request) (qs : List Request)
+    : Type 0 where
   pub operation : Stamped
   pub before : List Stamped
   pub is : q ≡ OfPeer operation
@@ -75,11 +76,16 @@ module _ (ms : List ℕ) (base : List Operation) (F : List Stamped) where
 
   pub beginning_shorter : (there : List Stamped) (qs : List Request) → Comes ms base F there qs → length there ≤ length F
   beginning_shorter _ _ End = omega arith
-  beginning_shorter there qs (Had s _ _ e h) = (let l : suc (length there) ≤ length F = beginning_shorter (s ∷ there) qs h in omega (arith, l))
-  beginning_shorter there _ (Next s _ qs k h) = (let l : suc (length there) ≤ length F = beginning_shorter (s ∷ there) qs h in omega (arith, l))
+  beginning_shorter there qs (Had s _ _ e h) =
+      let l : suc (length there) ≤ length F = beginning_shorter (s ∷ there) qs h in
+      omega (arith, l)
+  beginning_shorter there _ (Next s _ qs k h) =
+      let l : suc (length there) ≤ length F = beginning_shorter (s ∷ there) qs h in
+      omega (arith, l)
 
   module _ (P : Stamped → Type 0) (based : (s : Stamped) → has_id base s.id ≡ true → P s) where
-    pub next_comes : (there : List Stamped) (all : List Request) → Comes ms base F there all → AllAre P there → (q : Request) (qs : List Request) → all ≡ q ∷ qs → HasNext ms base F P q qs
+    pub next_comes : (there : List Stamped) (all : List Request) → Comes ms base F there all → AllAre P there
+        → (q : Request) (qs : List Request) → all ≡ q ∷ qs → HasNext ms base F P q qs
     next_comes _ _ End had q qs e = cc
     next_comes there all (Had s _ _ b h) had q qs e = next_comes (s ∷ there) all h (one_more_is P s there (based s b) had) q qs e
     next_comes there _ (Next s _ all k h) had q qs e =

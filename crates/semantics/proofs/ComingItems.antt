@@ -1,4 +1,5 @@
--- While the items of a receipt are in the queue, the rest of a history is on its way, whatever else is handled between them, and however full the receiver's history is.
+-- While the items of a receipt are in the queue, the rest of a history is on its way, whatever else is handled between them,
+-- and however full the receiver's history is.
 use Rattle.std.proofs.Common.{◌≡◌, ◌⊎◌, inl, inr, ℕ, suc, ◌<◌, ◌≤◌, Bool, true, false, cond, ◌&&◌, ◌==◌, nat_le, nat_lt, List, [], ◌∷◌, ◌++◌, length, Option, Some, None, refl, sym, ap, ◌∙◌, subst, arith, true≢false, slice_get}
 use Rattle.std.proofs.lemmas.Bool.{cases_Bool, and_parts, false_from_ne_true, eqb-true, leb-true, ltb-true}
 use Rattle.std.proofs.lemmas.Option.{none-some}
@@ -27,6 +28,7 @@ use Rattle.semantics.proofs.FullHistories.{waits_full, item_full}
 use Rattle.semantics.proofs.EngineMoves.{IsStill, HasSubmitted, HasTaken}
 use Rattle.semantics.proofs.TrackedEngines.{IsEngineOf, IsTracked}
 use Rattle.semantics.proofs.ComingHistory.{Comes, AllAre, one_more_is, HasNext, next_comes, those_from, beginning_legal, beginning_within, beginning_shorter}
+use Rattle.semantics.proofs.Arriving.{HasCome}
 use Rattle.semantics.proofs.ArrivedItems.{ids_stay, members_stay, item_arrived}
 
 -- the item is client c's, under a serial from the start on and below the end
@@ -42,7 +44,9 @@ awaited c start end (x ∷ queue) = cond (is_of_receipt c start end x) (x.reques
 
 -- the operation is applied, or the history is full, and the operation waits or was refused for that
 abbrev pub HasArrived : ℕ → ℕ → ℕ → Engine → Stamped → Type 0
-HasArrived c start end E s = (has_id (operations E.replica) s.id ≡ true) ⊎ ((is_full E.replica.entries ≡ true) × ((is_waiting E.replica.waiting s.id ≡ true) ⊎ WasRefusedFull E c start end s))
+HasArrived c start end E s =
+    (has_id (operations E.replica) s.id ≡ true)
+    ⊎ ((is_full E.replica.entries ≡ true) × ((is_waiting E.replica.waiting s.id ≡ true) ⊎ WasRefusedFull E c start end s))
 
 refused_still : (c start end : ℕ) (E G : Engine) → HasGrown E G → (s : Stamped) → WasRefusedFull E c start end s
     → WasRefusedFull G c start end s
@@ -74,7 +78,8 @@ applied_there c start end E s few (inl t) = t
 applied_there c start end E s few (inr x) = absurd (true≢false (sym x.0 ∙ few))
 
 module _ (c start end : ℕ) (ms : List ℕ) (base : List Operation) (F : List Stamped) where
-  -- The history F is a legal one of the world K, and no longer than one may be. A beginning of it came to the engine, and what it awaits is the rest.
+  -- The history F is a legal one of the world K, and no longer than one may be.
+  -- A beginning of it came to the engine, and what it awaits is the rest.
   pub record IsComing (K : List Operation) (E : Engine) : Type 0 where
     pub legal : IsLegalStamped F
     pub short : length F ≤ 1048576
@@ -88,7 +93,17 @@ module _ (c start end : ℕ) (ms : List ℕ) (base : List Operation) (F : List S
     pub used : (n : ℕ) → start ≤ n → n < end → (x : Submitted) × WasSubmitted E c n x
 
   pub coming_wider : (K L : List Operation) (E : Engine) → AreWithin K L → IsComing K E → IsComing L E
-  coming_wider K L E v h = record { legal = h.legal; short = h.short; within = λ x m. v x (h.within x m); members = h.members; based = h.based; there = h.there; came = h.came; comes = h.comes; used = h.used }
+  coming_wider K L E v h = record {
+    legal = h.legal;
+    short = h.short;
+    within = λ x m. v x (h.within x m);
+    members = h.members;
+    based = h.based;
+    there = h.there;
+    came = h.came;
+    comes = h.comes;
+    used = h.used;
+  }
 
   -- the engine goes on, and the history with it to a later beginning
   coming_on : (K : List Operation) (E G : Engine) → IsComing K E → HasGrown E G → G.replica.members ≡ E.replica.members
@@ -113,7 +128,8 @@ module _ (c start end : ℕ) (ms : List ℕ) (base : List Operation) (F : List S
       (λ s m. arrived_still c start end E G g (λ f. ap (λ (r : Replica). r.waiting) same) s (h.came s m)) comes
 
   coming_still : (K : List Operation) (E G : Engine) → IsLater E G → IsStill E G → IsComing K E → IsComing K G
-  coming_still K E G l still h = coming_same K E G l.grown still.0 h (subst (λ q. Comes ms base F h.there (awaited c start end q)) (sym still.1) h.comes)
+  coming_still K E G l still h =
+      coming_same K E G l.grown still.0 h (subst (λ q. Comes ms base F h.there (awaited c start end q)) (sym still.1) h.comes)
 
   -- ---- an item more
 
@@ -166,7 +182,8 @@ module _ (c start end : ℕ) (ms : List ℕ) (base : List Operation) (F : List S
       first = queue ∙ ap (λ b. cond b (x.request ∷ awaited c start end G.queue) (awaited c start end G.queue)) e
 
       next : HasNext ms base F (HasArrived c start end E) x.request (awaited c start end G.queue)
-      next = next_comes ms base F (HasArrived c start end E) (λ s t. inl (h.based s.id t)) h.there (awaited c start end E.queue) h.comes h.came x.request (awaited c start end G.queue) first
+      next = next_comes ms base F (HasArrived c start end E) (λ s t. inl (h.based s.id t)) h.there (awaited c start end E.queue)
+          h.comes h.came x.request (awaited c start end G.queue) first
 
       abbrev s : Stamped
       s = next.operation
@@ -189,7 +206,8 @@ module _ (c start end : ℕ) (ms : List ℕ) (base : List Operation) (F : List S
 
       serials : (start ≤ x.serial) × (x.serial < end)
       serials =
-          let two = and_parts (nat_le start x.serial) (nat_lt x.serial end) (and_parts (x.client == c) (nat_le start x.serial && nat_lt x.serial end) e).1 in
+          let one = and_parts (x.client == c) (nat_le start x.serial && nat_lt x.serial end) e in
+          let two = and_parts (nat_le start x.serial) (nat_lt x.serial end) one.1 in
           (leb-true start x.serial two.0, ltb-true x.serial end two.1)
 
       was_submitted : WasSubmitted G c x.serial x
@@ -220,19 +238,24 @@ module _ (c start end : ℕ) (ms : List ℕ) (base : List Operation) (F : List S
       ]
         where
           short : length next.before < 1048576
-          short = (let n : suc (length next.before) ≤ length F = beginning_shorter ms base F (s ∷ next.before) (awaited c start end G.queue) next.comes in omega (arith, n, h.short))
+          short =
+              let n : suc (length next.before) ≤ length F = beginning_shorter ms base F (s ∷ next.before) (awaited c start end G.queue) next.comes in
+              omega (arith, n, h.short)
 
       came_free : is_full E.replica.entries ≡ false → HasArrived c start end G s
-      came_free f = subst (λ (r : Replica). (has_id (operations r) s.id ≡ true) ⊎ ((is_full r.entries ≡ true) × ((is_waiting r.waiting s.id ≡ true) ⊎ WasRefusedFull G c start end s))) (sym l.replica)
-          (elim (item_arrived K lk E.replica.own E.replica x s next.before is.settled floor next.is legal within known
-          (those_from E.replica next.before (λ y m. applied_there c start end E y f (next.had y m))) f) [
+      came_free f =
+          let there = those_from E.replica next.before (λ y m. applied_there c start end E y f (next.had y m)) in
+          let came = item_arrived K lk E.replica.own E.replica x s next.before is.settled floor next.is legal within known there f in
+          elim (subst (λ (r : Replica). HasCome r s) (sym l.replica) came) [
             | inl w ↦ inr (w.0, inl w.1)
             | inr t ↦ inl t
-          ])
+          ]
 
       next_taken : IsComing K G
       next_taken = coming_on K E G h l.later.grown members (s ∷ next.before)
-          (one_more_is (HasArrived c start end G) s next.before (elim (cases_Bool (is_full E.replica.entries)) [ inl f ↦ came_full f | inr f ↦ came_free f ]) (λ y m. came_still y (next.had y m)))
+          (one_more_is (HasArrived c start end G) s next.before
+          (elim (cases_Bool (is_full E.replica.entries)) [ inl f ↦ came_full f | inr f ↦ came_free f ])
+          (λ y m. came_still y (next.had y m)))
           next.comes
 
     took_one : IsComing K G
@@ -243,4 +266,4 @@ module _ (c start end : ℕ) (ms : List ℕ) (base : List Operation) (F : List S
         at_test false e = other_taken e
 
   pub coming_kept : IsTracked IsComing
-  coming_kept = record { grown = coming_wider; still = coming_still; submitted = coming_submitted; taken = λ K E G x lk sound is l h. took_one K E G x lk sound is l h }
+  coming_kept = record { grown = coming_wider; still = coming_still; submitted = coming_submitted; taken = took_one }

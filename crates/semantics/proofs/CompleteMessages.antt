@@ -1,4 +1,5 @@
--- An engine that said hello and received the answer has each operation of it in the end, or its history is full, and the operation waits or was refused for that.
+-- An engine that said hello and received the answer has each operation of it in the end, or its history is full,
+-- and the operation waits or was refused for that.
 use Rattle.std.proofs.Common.{◌≡◌, inl, inr, ℕ, suc, ◌+◌, ◌≤◌, List, [], ◌∷◌, ◌++◌, reverse, length, None, Some, sym, subst, arith, slice_get}
 use Rattle.semantics.specs.Operations.{Operation}
 use Rattle.semantics.specs.LegalHistory.{IsAmong}

@@ -61,7 +61,9 @@ made_short r x c h (Ok o) e = at_full (is_full (operations r)) refl
   where
     at_full : (b : Bool) → is_full (operations r) ≡ b → suc (length r.entries) ≤ 1048576
     at_full true f = (let z = rw f at e in cc)
-    at_full false f = (let room : length (operations r) ≤ 1048575 = ltb-false 1048575 (length (operations r)) f in omega (arith, room, length_applied r))
+    at_full false f =
+        let room : length (operations r) ≤ 1048575 = ltb-false 1048575 (length (operations r)) f in
+        omega (arith, room, length_applied r)
 
 pub item_short : (r : Replica) (x : Submitted) → IsShort r → IsShort (after_item r x)
 item_short r x h =
@@ -100,7 +102,10 @@ received_full r s e = ap drain (delivered_full r s e) ∙ drained_full (length r
 pub waits_full : (r : Replica) (x : Submitted) → is_full r.entries ≡ true → (after_item r x).waiting ≡ r.waiting
 waits_full r x e =
     let other = at_request x.request in
-    elim (nat_lt (length r.entries) x.floor) as (λ b. (cond b r (after_request r x x.request)).waiting ≡ r.waiting) [ true ↦ refl | false ↦ other ]
+    elim (nat_lt (length r.entries) x.floor) as (λ b. (cond b r (after_request r x x.request)).waiting ≡ r.waiting) [
+      | true ↦ refl
+      | false ↦ other
+    ]
   where
     at_made : (c : Command) (m : Result Operation Refusal) → (after_made r x c m).waiting ≡ r.waiting
     at_made c (Err why) = refl
@@ -121,7 +126,8 @@ refused_by_tests false false false w a b e = absurd (true≢false (sym e))
 -- the item's operation is applied, or waits, or is refused for the full history
 abbrev IsMetFull : Replica → Submitted → Stamped → Type 0
 IsMetFull r x s =
-    (has_id (operations r) s.id ≡ true) ⊎ (is_waiting r.waiting s.id ≡ true) ⊎ (reply_to r x ≡ NotMade HistoryFull (length (receive r s).entries))
+    (has_id (operations r) s.id ≡ true) ⊎ (is_waiting r.waiting s.id ≡ true)
+    ⊎ (reply_to r x ≡ NotMade HistoryFull (length (receive r s).entries))
 
 -- An operation of the world that comes to a full history is applied, or waits, or is refused for that.
 pub item_full : (K : List Operation) → IsLegal K → (p : ℕ) (r : Replica) (x : Submitted) (s : Stamped) (F : List Stamped)
@@ -145,7 +151,8 @@ item_full K lk p r x s F h floor is l few w known full = at_applied (has_id (ope
     reply new absent =
         let test : nat_lt (length r.entries) x.floor ≡ false = le-ltb (length r.entries) x.floor floor in
         let answer : answer_to r s ≡ NotKept HistoryFull =
-        ap (answer_after r s) alone ∙ refused_by_tests (has_id (operations r) s.id || is_waiting r.waiting s.id) (s.id.replica == r.own) (is_full r.entries) (room_answer r s)
+        ap (answer_after r s) alone
+        ∙ refused_by_tests (has_id (operations r) s.id || is_waiting r.waiting s.id) (s.id.replica == r.own) (is_full r.entries) (room_answer r s)
         (or_from (has_id (operations r) s.id) (is_waiting r.waiting s.id) new absent) (other new) full in
         rw test (ap (reply_requested r) is ∙ ap (reply_delivered (length (receive r s).entries)) answer)
 

@@ -63,7 +63,8 @@ module _ (E : Engine) (h : IsComplete E) (first : Handled) (due : List Handled) 
 
     set_cells : answered.cells ≡ slice_set k.cells (length (h owner).answered) new_cell
     set_cells = ap (λ n. (with_answer k n answer).cells) its_serial
-        ∙ answered_cells k (length (h owner).answered) answer (open_cell first.submitted) (cell_at-suc k.cells (length (h owner).answered) ∙ its_cell)
+        ∙ answered_cells k (length (h owner).answered) answer (open_cell first.submitted)
+        (cell_at-suc k.cells (length (h owner).answered) ∙ its_cell)
 
     now_cells : cells_of after owner ≡ slice_set k.cells (length (h owner).answered) new_cell
     now_cells = ap cells_in (get-set_same E.clients owner k answered there) ∙ set_cells
@@ -101,7 +102,8 @@ module _ (E : Engine) (h : IsComplete E) (first : Handled) (due : List Handled) 
           answered = (h d).answered;
           given = (h d).given;
           cells = same ∙ (h d).cells
-              ∙ ap (λ xs. (h d).answered ++ map open_cell xs) (ap (of_client d) was_first ∙ of_client-other d first.submitted rest (λ e. n (sym e)));
+              ∙ ap (λ xs. (h d).answered ++ map open_cell xs)
+              (ap (of_client d) was_first ∙ of_client-other d first.submitted rest (λ e. n (sym e)));
         }
 
     given_now : IsComplete after

@@ -25,7 +25,9 @@ module _ (E : Engine) (h : IsComplete E) (c : ℕ) (k : Client) (request : Reque
   own_items = items c ∙ ap (λ xs. of_client c (unanswered E) ++ xs) (of_client-own c item [] refl)
 
   other_items : (d : ℕ) → (d ≡ c → ⊥) → of_client d (unanswered after) ≡ of_client d (unanswered E)
-  other_items d n = items d ∙ ap (λ xs. of_client d (unanswered E) ++ xs) (of_client-other d item [] (λ e. n (sym e))) ∙ append-nil (of_client d (unanswered E))
+  other_items d n = items d
+      ∙ ap (λ xs. of_client d (unanswered E) ++ xs) (of_client-other d item [] (λ e. n (sym e)))
+      ∙ append-nil (of_client d (unanswered E))
 
   its_cells : cells_of E c ≡ k.cells
   its_cells = ap cells_in there
@@ -44,7 +46,8 @@ module _ (E : Engine) (h : IsComplete E) (c : ℕ) (k : Client) (request : Reque
     cells = more_cells
         ∙ ap (λ cs. cs ++ open_cell item ∷ []) (sym its_cells ∙ (h c).cells)
         ∙ append_assoc (h c).answered (map open_cell (of_client c (unanswered E))) (open_cell item ∷ [])
-        ∙ ap (λ cs. (h c).answered ++ cs) (sym (ap (map open_cell) own_items ∙ map-append open_cell (of_client c (unanswered E)) (item ∷ [])));
+        ∙ ap (λ cs. (h c).answered ++ cs)
+        (sym (ap (map open_cell) own_items ∙ map-append open_cell (of_client c (unanswered E)) (item ∷ [])));
   }
 
   other_complete : (d : ℕ) → (d ≡ c → ⊥) → HasAllSubmitted after d

@@ -29,7 +29,8 @@ now_submitted : (E : Engine) (c : ℕ) (k : Client) (request : Request) → slic
     → WasSubmitted (with_request E c k request) c (suc (length k.cells)) (next_item c k request)
 now_submitted E c k request there = (
   open_cell (next_item c k request),
-  ap (cell_of (suc (length k.cells))) (get-set_same E.clients c k (with_cell k (next_item c k request)) there) ∙ newest_cell k.cells (open_cell (next_item c k request)),
+  ap (cell_of (suc (length k.cells))) (get-set_same E.clients c k (with_cell k (next_item c k request)) there)
+      ∙ newest_cell k.cells (open_cell (next_item c k request)),
   refl,
 )
 
@@ -40,7 +41,8 @@ abbrev IsTicketed : Client → ℕ → Request → ℕ → Engine → Type 0
 IsTicketed k c request serial F = (serial ≡ suc (length k.cells)) × WasSubmitted F c serial (next_item c k request)
 
 pub ticketed : (E : Engine) (c : ℕ) (request : Request) (serial : ℕ) → (push E c request).reply ≡ Ticket serial
-    → (k : Client) × (slice_get E.clients c ≡ Some k) × (serial ≡ suc (length k.cells)) × WasSubmitted (push E c request).engine c serial (next_item c k request)
+    → (k : Client) × (slice_get E.clients c ≡ Some k) × (serial ≡ suc (length k.cells))
+    × WasSubmitted (push E c request).engine c serial (next_item c k request)
 ticketed E c request serial h = at_client (slice_get E.clients c) refl
   where
     at_room : (k : Client) → slice_get E.clients c ≡ Some k → (a b : Bool) → nat_le E.serials (length k.cells) ≡ a
@@ -52,13 +54,15 @@ ticketed E c request serial h = at_client (slice_get E.clients c) refl
     at_room k there false false e f r =
         let given : Ticket (suc (length k.cells)) ≡ Ticket serial = rw (e, f) at r in
         let is : suc (length k.cells) ≡ serial = cc in
-        rw (e, f) (sym is, subst (λ n. WasSubmitted (with_request E c k request) c n (next_item c k request)) is (now_submitted E c k request there))
+        let now = subst (λ n. WasSubmitted (with_request E c k request) c n (next_item c k request)) is (now_submitted E c k request there) in
+        rw (e, f) (sym is, now)
 
     at_found : (k : Client) → slice_get E.clients c ≡ Some k → IsTicketed k c request serial (push E c request).engine
     at_found k e = rw e (at_room k e (nat_le E.serials (length k.cells)) (nat_le E.places (length E.queue)) refl refl (rw e at h))
 
     at_client : (o : Option Client) → slice_get E.clients c ≡ o
-        → (k : Client) × (slice_get E.clients c ≡ Some k) × (serial ≡ suc (length k.cells)) × WasSubmitted (push E c request).engine c serial (next_item c k request)
+        → (k : Client) × (slice_get E.clients c ≡ Some k) × (serial ≡ suc (length k.cells))
+        × WasSubmitted (push E c request).engine c serial (next_item c k request)
     at_client None e = (let z = rw e at h in cc)
     at_client (Some k) e = (let t = at_found k e in (k, e, t.0, t.1))
 
@@ -82,7 +86,8 @@ ticket_kept cs steps more e c command serial E F there ticket later =
 -- operation i of these was submitted under serial i after the first, when the token had seen so many entries
 abbrev IsSubmittedAt : Engine → ℕ → ℕ → ℕ → List Stamped → ℕ → Type 0
 IsSubmittedAt F c first seen ss i =
-    (s : Stamped) × (slice_get ss i ≡ Some s) × WasSubmitted F c (first + i) (record { client = c; serial = first + i; request = OfPeer s; floor = seen })
+    (s : Stamped) × (slice_get ss i ≡ Some s)
+    × WasSubmitted F c (first + i) (record { client = c; serial = first + i; request = OfPeer s; floor = seen })
 
 under_serial : (F : Engine) (c m n seen : ℕ) (s : Stamped) → m ≡ n
     → WasSubmitted F c m (record { client = c; serial = m; request = OfPeer s; floor = seen })
@@ -113,18 +118,21 @@ module _ (E : Engine) (c : ℕ) (k : Client) (bad : Option Refusal) (n : ℕ) (s
   at_index later sound_after zero l = (
     s,
     refl,
-    under_serial (rest after).engine c (suc (length k.cells)) (suc (length k.cells) + 0) k.seen s (omega arith)
-        ((submitted_all c bad (suc n) after ss sound_after).grown.submitted c (suc (length k.cells)) item (now_submitted E c k (OfPeer s) there)),
+    (let grown = (submitted_all c bad (suc n) after ss sound_after).grown in
+        under_serial (rest after).engine c (suc (length k.cells)) (suc (length k.cells) + 0) k.seen s (omega arith)
+        (grown.submitted c (suc (length k.cells)) item (now_submitted E c k (OfPeer s) there))),
   )
   at_index later sound_after (suc i) l =
       let x = later i sound_after (get-set_same E.clients c k (with_cell k item) there) (omega (arith, l)) in
-      (x.0, x.1, under_serial (rest after).engine c (suc (length (with_cell k item).cells) + i) (suc (length k.cells) + suc i) k.seen x.0 (omega (arith, one_more)) x.2)
+      let same : suc (length (with_cell k item).cells) + i ≡ suc (length k.cells) + suc i = omega (arith, one_more) in
+      (x.0, x.1, under_serial (rest after).engine c (suc (length (with_cell k item).cells) + i) (suc (length k.cells) + suc i) k.seen x.0 same x.2)
 
   at_push : AreSubmittedAfter → IsPushed E c k s (push E c (OfPeer s)) → (i : ℕ) → n + i < (submit_all c bad n E (s ∷ ss)).submitted
       → IsSubmittedAt (submit_all c bad n E (s ∷ ss)).engine c (suc (length k.cells)) k.seen (s ∷ ss) i
   at_push later (inl r) i l = (let refused = rw r.1 at l in absurd (omega (arith, refused)))
   at_push later (inr p) i l =
-      let same : submit_all c bad n E (s ∷ ss) ≡ rest after = ap (λ o. unless_refused E n o (rest (push E c (OfPeer s)).engine)) p.1 ∙ ap rest p.0 in
+      let same : submit_all c bad n E (s ∷ ss) ≡ rest after =
+      ap (λ o. unless_refused E n o (rest (push E c (OfPeer s)).engine)) p.1 ∙ ap rest p.0 in
       subst (λ (q : Receipt). IsSubmittedAt q.engine c (suc (length k.cells)) k.seen (s ∷ ss) i) (sym same)
       (at_index later (subst IsSound p.0 (pushed E c (OfPeer s) sound).sound) i (omega (arith, l, ap (λ (q : Receipt). q.submitted) same)))
 

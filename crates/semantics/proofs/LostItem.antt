@@ -20,7 +20,10 @@ abbrev lost : Engine
 lost = record submitted { queue = [] }
 
 abbrev the_cell : Cell
-the_cell = record { submitted = record { client = 0; serial = 1; request = OfCommand (assign (Get (codes "a") ∷ []) (whole 1)); floor = 0 }; answer = None }
+the_cell = record {
+  submitted = record { client = 0; serial = 1; request = OfCommand (assign (Get (codes "a") ∷ []) (whole 1)); floor = 0 };
+  answer = None;
+}
 
 is_there : cells_of lost 0 ≡ the_cell ∷ []
 is_there = refl

@@ -87,7 +87,9 @@ grown_by_client E queue due c k j h m still = record {
       | inr n ↦ inr (x.0, among_right due E.handled x.0 n, x.2, x.3, x.4)
       | inl n ↦ elim (still x.0 n) [
         | inl o ↦ inr (x.0, among_left due E.handled x.0 o, x.2, x.3, x.4)
-        | inr g ↦ inl (g.0, subst (λ n. WasGiven (with_client E queue due c j) d n g.0) x.3 (subst (λ n. WasGiven (with_client E queue due c j) n x.0.submitted.serial g.0) x.2 g.1), g.2 ∙ x.4)
+        | inr g ↦
+            (let client = subst (λ n. WasGiven (with_client E queue due c j) n x.0.submitted.serial g.0) x.2 g.1 in
+            inl (g.0, subst (λ n. WasGiven (with_client E queue due c j) d n g.0) x.3 client, g.2 ∙ x.4))
       ]
     ]
 

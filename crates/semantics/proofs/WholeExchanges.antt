@@ -57,7 +57,8 @@ module _ (cs : List Configuration) (steps : List WorldStep) (a b c first end : �
   to_end : world_after (opened cs) steps ≡ world_after (world_after (world_after start asking) answering) receiving
   to_end = ap (world_after (opened cs)) x.all ∙ after_more (opened cs) (x.before ++ asking ++ answering) receiving ∙ ap (λ W. world_after W receiving) to_receipt
 
-  exchanged : HaveOwnNumbers cs → AreWithoutLines steps → (A : Engine) → IsEngineAfter cs steps a A → IsHandledBelow A c end → AllAre (HasArrived c first end A) (stamped_of published)
+  exchanged : HaveOwnNumbers cs → AreWithoutLines steps → (A : Engine) → IsEngineAfter cs steps a A → IsHandledBelow A c end
+      → AllAre (HasArrived c first end A) (stamped_of published)
   exchanged own known A e handled =
       let all : AreWithoutLines (x.before ++ asking ++ answering ++ receiving) = subst AreWithoutLines x.all known in
       let to_third = front_known (x.before ++ asking ++ answering) receiving all in
@@ -71,9 +72,12 @@ module _ (cs : List Configuration) (steps : List WorldStep) (a b c first end : �
       A (subst (λ (W : World). slice_get W.engines a ≡ Some A) to_end e) (subst (IsHandledBelow A c) x.last handled) in
       subst (λ (G : List Entry). AllAre (HasArrived c first end A) (stamped_of G)) x.had (subst (λ n. AllAre (HasArrived c first n A) (stamped_of (published_entries x.answerer))) (sym x.last) through)
 
-pub messages_complete : (cs : List Configuration) (steps : List WorldStep) → HaveOwnNumbers cs → AreWithoutLines steps → (a b c first end : ℕ) (published : List Entry) (A : Engine) → IsExchange cs steps a b c first end published
-    → IsEngineAfter cs steps a A → IsHandledBelow A c end → (s : Stamped) → IsAmong s (stamped_of published) → IsAppliedUnlessFull A c first end s
-messages_complete cs steps own known a b c first end published A x e handled s m = elim (exchanged cs steps a b c first end published x own known A e handled s m) [
-  | inl t ↦ inl (t, none_waits A.replica (sound_engine cs steps a A e).running s.id t)
-  | inr f ↦ inr f
-]
+pub messages_complete : (cs : List Configuration) (steps : List WorldStep) → HaveOwnNumbers cs → AreWithoutLines steps
+    → (a b c first end : ℕ) (published : List Entry) (A : Engine) → IsExchange cs steps a b c first end published
+    → IsEngineAfter cs steps a A → IsHandledBelow A c end → (s : Stamped) → IsAmong s (stamped_of published)
+    → IsAppliedUnlessFull A c first end s
+messages_complete cs steps own known a b c first end published A x e handled s m =
+    elim (exchanged cs steps a b c first end published x own known A e handled s m) [
+      | inl t ↦ inl (t, none_waits A.replica (sound_engine cs steps a A e).running s.id t)
+      | inr f ↦ inr f
+    ]
