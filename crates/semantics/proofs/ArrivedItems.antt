@@ -1,5 +1,5 @@
--- A settled replica that takes the next operation of a history has it then, unless its history is full.
-use Rattle.std.proofs.Common.{◌≡◌, ◌⊎◌, inl, inr, ℕ, ◌≤◌, true, false, nat_lt, List, ◌∷◌, length, Result, Ok, Err, refl, sym, ap, ◌∙◌, subst, cond}
+-- A settled replica that takes the next operation of a history has it then, or its history is full and the operation waits.
+use Rattle.std.proofs.Common.{◌≡◌, inl, inr, ℕ, ◌≤◌, true, false, nat_lt, List, ◌∷◌, length, Result, Ok, Err, refl, sym, ap, ◌∙◌, subst, cond}
 use Rattle.std.proofs.lemmas.Bool.{cases_Bool, le-ltb}
 use Rattle.ids.specs.declared.refusal.Refusal.{Refusal}
 use Rattle.semantics.specs.Ids.{OpId}
@@ -18,8 +18,8 @@ use Rattle.semantics.specs.WriteSteps.{after_made, after_request, after_item}
 use Rattle.semantics.specs.WorldHistory.{BeginsWith}
 use Rattle.semantics.proofs.AbsentIds.{has_id-among}
 use Rattle.semantics.proofs.LegalFacts.{among_from}
-use Rattle.semantics.proofs.Growing.{receive_grows, still_full}
-use Rattle.semantics.proofs.Arriving.{comes_in}
+use Rattle.semantics.proofs.Growing.{receive_grows}
+use Rattle.semantics.proofs.Arriving.{HasCome, comes_in}
 use Rattle.semantics.proofs.ReceivedItems.{received}
 use Rattle.semantics.proofs.SentOperations.{applied_begins}
 use Rattle.semantics.proofs.ComingHistory.{HasThose}
@@ -39,20 +39,20 @@ members_stay r x h = (let other = at_request x.request in elim (nat_lt (length r
     at_request (OfCommand c) = at_made c (make (operations r) r.own c)
     at_request (OfPeer s) = (received r s h).members
 
-arrived : (K : List Operation) → IsLegal K → (p : ℕ) (r : Replica) (s : Stamped) (F : List Stamped) → IsSettled K p r → IsLegalStamped (s ∷ F) → AreWithin (operations_of (s ∷ F)) K → is_of_members r.members s ≡ true → HasThose r F
-    → (is_full (receive r s).entries ≡ true) ⊎ (has_id (operations (receive r s)) s.id ≡ true)
-arrived K lk p r s F h l w known there = elim (cases_Bool (is_full r.entries)) [
-  | inl e ↦ inl (still_full r s h.world.running e)
-  | inr e ↦ elim (cases_Bool (has_id (operations r) s.id)) [
-    | inl t ↦ inr ((receive_grows r s h.world.running).1 s.id t)
-    | inr t ↦ comes_in K lk p r h.world h.end h.few s F l w known there e t
-  ]
+arrived : (K : List Operation) → IsLegal K → (p : ℕ) (r : Replica) (s : Stamped) (F : List Stamped) → IsSettled K p r
+    → IsLegalStamped (s ∷ F) → AreWithin (operations_of (s ∷ F)) K → is_of_members r.members s ≡ true → HasThose r F
+    → is_full r.entries ≡ false → HasCome (receive r s) s
+arrived K lk p r s F h l w known there few = elim (cases_Bool (has_id (operations r) s.id)) [
+  | inl t ↦ inr ((receive_grows r s h.world.running).1 s.id t)
+  | inr t ↦ comes_in K lk p r h.world h.end h.few s F l w known there few t
 ]
 
-pub item_arrived : (K : List Operation) → IsLegal K → (p : ℕ) (r : Replica) (x : Submitted) (s : Stamped) (F : List Stamped) → IsSettled K p r → x.floor ≤ length r.entries → x.request ≡ OfPeer s
+pub item_arrived : (K : List Operation) → IsLegal K → (p : ℕ) (r : Replica) (x : Submitted) (s : Stamped) (F : List Stamped)
+    → IsSettled K p r → x.floor ≤ length r.entries → x.request ≡ OfPeer s
     → IsLegalStamped (s ∷ F) → AreWithin (operations_of (s ∷ F)) K → is_of_members r.members s ≡ true → HasThose r F
-    → (is_full (after_item r x).entries ≡ true) ⊎ (has_id (operations (after_item r x)) s.id ≡ true)
-item_arrived K lk p r x s F h floor is l w known there =
+    → is_full r.entries ≡ false
+    → HasCome (after_item r x) s
+item_arrived K lk p r x s F h floor is l w known there few =
     let test : nat_lt (length r.entries) x.floor ≡ false = le-ltb (length r.entries) x.floor floor in
     let same : after_item r x ≡ counted (receive r s) = ap (λ b. cond b r (after_request r x x.request)) test ∙ ap (after_request r x) is in
-    subst (λ (t : Replica). (is_full t.entries ≡ true) ⊎ (has_id (operations t) s.id ≡ true)) (sym same) (arrived K lk p r s F h l w known there)
+    subst (λ (t : Replica). HasCome t s) (sym same) (arrived K lk p r s F h l w known there few)

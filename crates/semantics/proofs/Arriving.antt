@@ -1,6 +1,6 @@
 -- An operation whose dependencies are there is applied by its delivery.
 use Rattle.std.proofs.Common.{◌≡◌, ◌⊎◌, inl, inr, ℕ, ◌≤◌, true, false, ◌||◌, ◌==◌, nat_lt, List, [], ◌∷◌, None, refl, sym, ap, ◌∙◌, subst, true≢false, arith, length}
-use Rattle.std.proofs.lemmas.Bool.{and_parts, or_cases, or_from, ltb-false, le-ltb, false_from_ne_true, eqb-true}
+use Rattle.std.proofs.lemmas.Bool.{and_parts, or_cases, or_from, or_left, or_right, ltb-false, le-ltb, false_from_ne_true, eqb-true}
 use Rattle.semantics.specs.Ids.{OpId, is_same_id}
 use Rattle.semantics.specs.Operations.{Operation}
 use Rattle.semantics.specs.LegalHistory.{IsLegal, has_id, IsAmong}
@@ -13,7 +13,7 @@ use Rattle.semantics.specs.Replica.{Replica, operations, IsRunning}
 use Rattle.semantics.specs.Delivery.{Kept, is_waiting, put_waiting, answer_after, answer_to, kept_by}
 use Rattle.semantics.specs.Drain.{drain, receive, IsDrained}
 use Rattle.semantics.specs.OneWorld.{AreWithin, IsOfWorld, IsReplicaOf}
-use Rattle.semantics.proofs.Orders.{ids_from_test}
+use Rattle.semantics.proofs.Orders.{id_itself, ids_from_test}
 use Rattle.semantics.proofs.LegalFacts.{same_operation}
 use Rattle.semantics.proofs.NamedOperations.{means_first, meaning_of, ready_where_follows}
 use Rattle.semantics.proofs.VectorCounters.{ready-from}
@@ -37,6 +37,16 @@ waiting_one (y ∷ W) a h = elim (or_cases (is_same_id y.id a) (is_waiting W a) 
   | inl e ↦ (y, inl refl, ids_from_test y.id a e)
   | inr e ↦ (let r = waiting_one W a e in (r.0, inr r.1, r.2))
 ]
+
+waiting_under : (W : List Stamped) (s : Stamped) → IsAmong s W → is_waiting W s.id ≡ true
+waiting_under [] s m = absurd m
+waiting_under (y ∷ W) s (inl e) =
+    or_left (is_same_id y.id s.id) (is_waiting W s.id) (ap (λ (z : Stamped). is_same_id z.id s.id) (sym e) ∙ id_itself s.id)
+waiting_under (y ∷ W) s (inr m) = or_right (is_same_id y.id s.id) (is_waiting W s.id) (waiting_under W s m)
+
+-- the operation is applied, or the history is full and the operation waits
+abbrev pub HasCome : Replica → Stamped → Type 0
+HasCome r s = ((is_full r.entries ≡ true) × (is_waiting r.waiting s.id ≡ true)) ⊎ (has_id (operations r) s.id ≡ true)
 
 module _ (K : List Operation) (lk : IsLegal K) (p : ℕ) (r : Replica) (w : IsReplicaOf K p r) (end : IsDrained r) (le : length r.waiting ≤ 4096)
     (s : Stamped) (F : List Stamped) (l : IsLegalStamped (s ∷ F)) (wf : AreWithin (operations_of (s ∷ F)) K) (known : is_of_members r.members s ≡ true)
@@ -78,7 +88,7 @@ module _ (K : List Operation) (lk : IsLegal K) (p : ℕ) (r : Replica) (w : IsRe
       (ready-from (operations r) s (ready_where_follows may)) (le-ltb 4096 (length r.waiting) (omega (arith, le)))
       (no_fault_where_follows (stamped_of r.entries) s (entries_legal r.own r.entries w.running.history) may)
 
-  pub comes_in : (is_full (receive r s).entries ≡ true) ⊎ (has_id (operations (receive r s)) s.id ≡ true)
+  pub comes_in : HasCome (receive r s) s
   comes_in =
       let q : Replica = record r { waiting = put_waiting s r.waiting } in
       let same : receive r s ≡ drain q = ap (λ a. drain (kept_by r s a)) is_kept in
@@ -90,11 +100,11 @@ module _ (K : List Operation) (lk : IsLegal K) (p : ℕ) (r : Replica) (w : IsRe
       let keeps = keeps_for K lk (length q.waiting) q run w.within of in
       let more : (a : OpId) → has_id (operations r) a ≡ true → has_id (operations (drain q)) a ≡ true = λ a t.
       subst (λ (G : List Entry). has_id (operations_of (stamped_of G)) a ≡ true) (sym done.1.entries) (has_more done.1.appended r.entries a t) in
-      subst (λ (d : Replica). (is_full d.entries ≡ true) ⊎ (has_id (operations d) s.id ≡ true)) (sym same)
+      subst (λ (d : Replica). HasCome d s) (sym same)
       (elim stay [
         | inr t ↦ inr t
         | inl m ↦ elim done.2 [
-          | inl f ↦ inl f
+          | inl f ↦ inl (f, waiting_under (drain q).waiting s m)
           | inr f ↦ absurd (true≢false (sym (ready_where_there K lk (operations (drain q)) (operations_of (s ∷ F)) (legal_entries (drain q) done.0) keeps.within wf s o means (λ a d. more a (before a d))) ∙ f s m))
         ]
       ])

@@ -1,5 +1,5 @@
 -- The rest of a history that comes in requests, one operation after the other.
-use Rattle.std.proofs.Common.{◌≡◌, inl, inr, ℕ, Bool, true, false, not, cond, List, [], ◌∷◌, ◌++◌, map, reverse, refl, sym, ap, ◌∙◌, subst, append_assoc}
+use Rattle.std.proofs.Common.{◌≡◌, inl, inr, ℕ, suc, ◌≤◌, Bool, true, false, not, cond, List, [], ◌∷◌, ◌++◌, map, reverse, length, refl, sym, ap, ◌∙◌, subst, append_assoc, true≢false, arith}
 use Rattle.std.proofs.lemmas.List.{reverse-append, map-append}
 use Rattle.semantics.specs.Ids.{OpId}
 use Rattle.semantics.specs.Operations.{Operation}
@@ -23,13 +23,26 @@ pub data Comes (ms : List ℕ) (base : List Operation) (F : List Stamped) : List
 abbrev pub HasThose : Replica → List Stamped → Type 0
 HasThose r F = (i : OpId) → has_id (operations_of F) i ≡ true → has_id (operations r) i ≡ true
 
--- the first request is for s, and r has what is before it
-pub record HasNext (ms : List ℕ) (base : List Operation) (F : List Stamped) (r : Replica) (q : Request) (qs : List Request) : Type 0 where
+pub those_from : (r : Replica) (F : List Stamped) → ((s : Stamped) → IsAmong s F → has_id (operations r) s.id ≡ true) → HasThose r F
+those_from r [] h = λ i e. absurd (true≢false (sym e))
+those_from r (s ∷ F) h = one_more s F r (h s (inl refl)) (those_from r F (λ x m. h x (inr m)))
+
+-- what P says is so of each of these
+abbrev pub AllAre : (Stamped → Type 0) → List Stamped → Type 0
+AllAre P F = (s : Stamped) → IsAmong s F → P s
+
+pub one_more_is : (P : Stamped → Type 0) (s : Stamped) (F : List Stamped) → P s → AllAre P F → AllAre P (s ∷ F)
+one_more_is P s F p h x (inl e) = subst P (sym e) p
+one_more_is P s F p h x (inr m) = h x m
+
+-- the first request is for an operation, and what is before that is as P says
+pub record HasNext (ms : List ℕ) (base : List Operation) (F : List Stamped) (P : Stamped → Type 0) (q : Request) (qs : List Request)
+    : Type 0 where
   pub operation : Stamped
   pub before : List Stamped
   pub is : q ≡ OfPeer operation
   pub known : is_of_members ms operation ≡ true
-  pub had : HasThose r before
+  pub had : AllAre P before
   pub comes : Comes ms base F (operation ∷ before) qs
 
 module _ (ms : List ℕ) (base : List Operation) (F : List Stamped) where
@@ -61,17 +74,27 @@ module _ (ms : List ℕ) (base : List Operation) (F : List Stamped) where
   beginning_within K there qs (Had s _ _ e h) w = λ x m. beginning_within K (s ∷ there) qs h w x (inr m)
   beginning_within K there _ (Next s _ qs k h) w = λ x m. beginning_within K (s ∷ there) qs h w x (inr m)
 
-  module _ (r : Replica) (based : (i : OpId) → has_id base i ≡ true → has_id (operations r) i ≡ true) where
-    pub next_comes : (there : List Stamped) (all : List Request) → Comes ms base F there all → HasThose r there → (q : Request) (qs : List Request) → all ≡ q ∷ qs → HasNext ms base F r q qs
+  pub beginning_shorter : (there : List Stamped) (qs : List Request) → Comes ms base F there qs → length there ≤ length F
+  beginning_shorter _ _ End = omega arith
+  beginning_shorter there qs (Had s _ _ e h) =
+      let l : suc (length there) ≤ length F = beginning_shorter (s ∷ there) qs h in
+      omega (arith, l)
+  beginning_shorter there _ (Next s _ qs k h) =
+      let l : suc (length there) ≤ length F = beginning_shorter (s ∷ there) qs h in
+      omega (arith, l)
+
+  module _ (P : Stamped → Type 0) (based : (s : Stamped) → has_id base s.id ≡ true → P s) where
+    pub next_comes : (there : List Stamped) (all : List Request) → Comes ms base F there all → AllAre P there
+        → (q : Request) (qs : List Request) → all ≡ q ∷ qs → HasNext ms base F P q qs
     next_comes _ _ End had q qs e = cc
-    next_comes there all (Had s _ _ b h) had q qs e = next_comes (s ∷ there) all h (one_more s there r (based s.id b) had) q qs e
+    next_comes there all (Had s _ _ b h) had q qs e = next_comes (s ∷ there) all h (one_more_is P s there (based s b) had) q qs e
     next_comes there _ (Next s _ all k h) had q qs e =
         let first : OfPeer s ≡ q = cc in
         let rest : all ≡ qs = cc in
         record { operation = s; before = there; is = sym first; known = k; had = had; comes = subst (Comes ms base F (s ∷ there)) rest h }
 
-    -- where no request is left, all of the history is there
-    pub all_came : (there : List Stamped) (all : List Request) → Comes ms base F there all → HasThose r there → all ≡ [] → HasThose r F
+    -- where no request is left, all of the history is so
+    pub all_came : (there : List Stamped) (all : List Request) → Comes ms base F there all → AllAre P there → all ≡ [] → AllAre P F
     all_came _ _ End had e = had
-    all_came there all (Had s _ _ b h) had e = all_came (s ∷ there) all h (one_more s there r (based s.id b) had) e
+    all_came there all (Had s _ _ b h) had e = all_came (s ∷ there) all h (one_more_is P s there (based s b) had) e
     all_came there _ (Next s _ all k h) had e = cc

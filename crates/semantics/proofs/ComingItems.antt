@@ -1,27 +1,34 @@
--- While the items of a receipt are in the queue, the rest of a history is on its way, whatever else is handled between them.
-use Rattle.std.proofs.Common.{◌≡◌, ◌⊎◌, inl, inr, ℕ, suc, ◌<◌, ◌≤◌, Bool, true, false, cond, ◌&&◌, ◌==◌, nat_le, nat_lt, List, [], ◌∷◌, ◌++◌, length, Option, Some, None, refl, sym, ap, ◌∙◌, subst, arith, slice_get}
-use Rattle.std.proofs.lemmas.Bool.{and_parts, false_from_ne_true, eqb-true, leb-true, ltb-true}
+-- While the items of a receipt are in the queue, the rest of a history is on its way, whatever else is handled between them,
+-- and however full the receiver's history is.
+use Rattle.std.proofs.Common.{◌≡◌, ◌⊎◌, inl, inr, ℕ, suc, ◌<◌, ◌≤◌, Bool, true, false, cond, ◌&&◌, ◌==◌, nat_le, nat_lt, List, [], ◌∷◌, ◌++◌, length, Option, Some, None, refl, sym, ap, ◌∙◌, subst, arith, true≢false, slice_get}
+use Rattle.std.proofs.lemmas.Bool.{cases_Bool, and_parts, false_from_ne_true, eqb-true, leb-true, ltb-true}
 use Rattle.std.proofs.lemmas.Option.{none-some}
 use Rattle.semantics.specs.Ids.{OpId}
 use Rattle.semantics.specs.Operations.{Operation}
-use Rattle.semantics.specs.LegalHistory.{IsLegal, has_id}
+use Rattle.ids.specs.declared.refusal.Refusal.TheVariants.{HistoryFull}
+use Rattle.semantics.specs.LegalHistory.{IsLegal, IsAmong, has_id}
 use Rattle.semantics.specs.Stamped.{Stamped, operations_of, IsLegalStamped}
 use Rattle.semantics.specs.Faults.{is_of_members}
 use Rattle.semantics.specs.Making.{is_full}
-use Rattle.semantics.specs.LegalAnswer.{Request, Submitted}
+use Rattle.semantics.specs.LegalAnswer.{Request, Submitted, NotMade}
 use Rattle.semantics.specs.Replica.{Replica, operations}
+use Rattle.semantics.specs.Delivery.{is_waiting}
 use Rattle.semantics.specs.OneWorld.{AreWithin}
 use Rattle.semantics.specs.Engine.{Engine, Client, Cell}
+use Rattle.semantics.specs.WriteSteps.{reply_to}
 use Rattle.semantics.specs.WorldHistory.{WasSubmitted, HasGrown}
+use Rattle.semantics.specs.WorldExchange.{WasRefusedFull}
 use Rattle.semantics.proofs.ClientCells.{cell_within}
 use Rattle.semantics.proofs.MovedTokens.{cell_of}
-use Rattle.semantics.proofs.SoundEngines.{IsSound, IsLater}
+use Rattle.semantics.proofs.SoundEngines.{open_cell, IsSound, IsLater}
+use Rattle.semantics.proofs.ItemsInTurn.{among_right, queued_waits}
 use Rattle.semantics.proofs.SoundTaking.{floor_within}
 use Rattle.semantics.proofs.GrownWorlds.{full_stays}
-use Rattle.semantics.proofs.CompleteExchange.{one_more}
+use Rattle.semantics.proofs.FullHistories.{waits_full, item_full}
 use Rattle.semantics.proofs.EngineMoves.{IsStill, HasSubmitted, HasTaken}
 use Rattle.semantics.proofs.TrackedEngines.{IsEngineOf, IsTracked}
-use Rattle.semantics.proofs.ComingHistory.{Comes, HasThose, HasNext, next_comes, beginning_legal, beginning_within}
+use Rattle.semantics.proofs.ComingHistory.{Comes, AllAre, one_more_is, HasNext, next_comes, those_from, beginning_legal, beginning_within, beginning_shorter}
+use Rattle.semantics.proofs.Arriving.{HasCome}
 use Rattle.semantics.proofs.ArrivedItems.{ids_stay, members_stay, item_arrived}
 
 -- the item is client c's, under a serial from the start on and below the end
@@ -33,77 +40,125 @@ abbrev pub awaited : ℕ → ℕ → ℕ → List Submitted → List Request
 awaited c start end [] = []
 awaited c start end (x ∷ queue) = cond (is_of_receipt c start end x) (x.request ∷ awaited c start end queue) (awaited c start end queue)
 
+-- ---- what came
+
+-- the operation is applied, or the history is full, and the operation waits or was refused for that
+abbrev pub HasArrived : ℕ → ℕ → ℕ → Engine → Stamped → Type 0
+HasArrived c start end E s =
+    (has_id (operations E.replica) s.id ≡ true)
+    ⊎ ((is_full E.replica.entries ≡ true) × ((is_waiting E.replica.waiting s.id ≡ true) ⊎ WasRefusedFull E c start end s))
+
+refused_still : (c start end : ℕ) (E G : Engine) → HasGrown E G → (s : Stamped) → WasRefusedFull E c start end s
+    → WasRefusedFull G c start end s
+refused_still c start end E G g s x = record {
+  serial = x.serial;
+  from = x.from;
+  below = x.below;
+  item = x.item;
+  submitted = g.submitted c x.serial x.item x.submitted;
+  delivered = x.delivered;
+  length = x.length;
+  reply = g.replied c x.serial (NotMade HistoryFull x.length) x.reply;
+}
+
+-- what came stays as it is where a full history keeps what waits
+arrived_still : (c start end : ℕ) (E G : Engine) → HasGrown E G
+    → (is_full E.replica.entries ≡ true → G.replica.waiting ≡ E.replica.waiting) → (s : Stamped) → HasArrived c start end E s
+    → HasArrived c start end G s
+arrived_still c start end E G g waits s (inl t) = inl (ids_stay G.replica.entries E.replica.entries g.entries s.id t)
+arrived_still c start end E G g waits s (inr x) = inr (
+  full_stays G.replica.entries E.replica.entries g.entries x.0,
+  elim x.1 [ inl w ↦ inl (ap (λ W. is_waiting W s.id) (waits x.0) ∙ w) | inr r ↦ inr (refused_still c start end E G g s r) ],
+)
+
+-- where the history isn't full, it is applied
+applied_there : (c start end : ℕ) (E : Engine) (s : Stamped) → is_full E.replica.entries ≡ false → HasArrived c start end E s
+    → has_id (operations E.replica) s.id ≡ true
+applied_there c start end E s few (inl t) = t
+applied_there c start end E s few (inr x) = absurd (true≢false (sym x.0 ∙ few))
+
 module _ (c start end : ℕ) (ms : List ℕ) (base : List Operation) (F : List Stamped) where
-  -- The history F is a legal one of the world K. The engine has a beginning of it, and what it awaits is the rest.
+  -- The history F is a legal one of the world K, and no longer than one may be.
+  -- A beginning of it came to the engine, and what it awaits is the rest.
   pub record IsComing (K : List Operation) (E : Engine) : Type 0 where
     pub legal : IsLegalStamped F
+    pub short : length F ≤ 1048576
     pub within : AreWithin (operations_of F) K
     pub members : E.replica.members ≡ ms
     pub based : (i : OpId) → has_id base i ≡ true → has_id (operations E.replica) i ≡ true
     pub there : List Stamped
-    pub had : HasThose E.replica there
+    pub came : AllAre (HasArrived c start end E) there
     pub comes : Comes ms base F there (awaited c start end E.queue)
     -- nothing else is submitted under these serials
     pub used : (n : ℕ) → start ≤ n → n < end → (x : Submitted) × WasSubmitted E c n x
 
-  -- the engine's history is full, or the rest is coming
-  abbrev pub IsFullOrComing : List Operation → Engine → Type 0
-  IsFullOrComing K E = (is_full E.replica.entries ≡ true) ⊎ IsComing K E
-
   pub coming_wider : (K L : List Operation) (E : Engine) → AreWithin K L → IsComing K E → IsComing L E
-  coming_wider K L E v h = record { legal = h.legal; within = λ x m. v x (h.within x m); members = h.members; based = h.based; there = h.there; had = h.had; comes = h.comes; used = h.used }
-
-  coming_grown : (K L : List Operation) (E : Engine) → AreWithin K L → IsFullOrComing K E → IsFullOrComing L E
-  coming_grown K L E v (inl f) = inl f
-  coming_grown K L E v (inr h) = inr (coming_wider K L E v h)
+  coming_wider K L E v h = record {
+    legal = h.legal;
+    short = h.short;
+    within = λ x m. v x (h.within x m);
+    members = h.members;
+    based = h.based;
+    there = h.there;
+    came = h.came;
+    comes = h.comes;
+    used = h.used;
+  }
 
   -- the engine goes on, and the history with it to a later beginning
-  coming_on : (K : List Operation) (E G : Engine) → IsComing K E → HasGrown E G → G.replica.members ≡ E.replica.members → (there : List Stamped) → HasThose G.replica there → Comes ms base F there (awaited c start end G.queue) → IsComing K G
-  coming_on K E G h g members there had comes = record {
+  coming_on : (K : List Operation) (E G : Engine) → IsComing K E → HasGrown E G → G.replica.members ≡ E.replica.members
+      → (there : List Stamped) → AllAre (HasArrived c start end G) there → Comes ms base F there (awaited c start end G.queue)
+      → IsComing K G
+  coming_on K E G h g members there came comes = record {
     legal = h.legal;
+    short = h.short;
     within = h.within;
     members = members ∙ h.members;
     based = λ i t. ids_stay G.replica.entries E.replica.entries g.entries i (h.based i t);
     there = there;
-    had = had;
+    came = came;
     comes = comes;
     used = λ n l u. (let x = h.used n l u in (x.0, g.submitted c n x.0 x.1));
   }
 
-  had_still : (K : List Operation) (E G : Engine) (h : IsComing K E) → HasGrown E G → HasThose G.replica h.there
-  had_still K E G h g i t = ids_stay G.replica.entries E.replica.entries g.entries i (h.had i t)
+  -- the engine keeps its replica
+  coming_same : (K : List Operation) (E G : Engine) → HasGrown E G → G.replica ≡ E.replica → (h : IsComing K E)
+      → Comes ms base F h.there (awaited c start end G.queue) → IsComing K G
+  coming_same K E G g same h comes = coming_on K E G h g (ap (λ (r : Replica). r.members) same) h.there
+      (λ s m. arrived_still c start end E G g (λ f. ap (λ (r : Replica). r.waiting) same) s (h.came s m)) comes
 
-  coming_still : (K : List Operation) (E G : Engine) → IsLater E G → IsStill E G → IsFullOrComing K E → IsFullOrComing K G
-  coming_still K E G l still (inl f) = inl (full_stays G.replica.entries E.replica.entries l.grown.entries f)
-  coming_still K E G l still (inr h) = inr (coming_on K E G h l.grown (ap (λ (r : Replica). r.members) still.0) h.there (had_still K E G h l.grown)
-      (subst (λ q. Comes ms base F h.there (awaited c start end q)) (sym still.1) h.comes))
+  coming_still : (K : List Operation) (E G : Engine) → IsLater E G → IsStill E G → IsComing K E → IsComing K G
+  coming_still K E G l still h =
+      coming_same K E G l.grown still.0 h (subst (λ q. Comes ms base F h.there (awaited c start end q)) (sym still.1) h.comes)
 
   -- ---- an item more
 
-  awaited_last : (queue : List Submitted) (x : Submitted) → is_of_receipt c start end x ≡ false → awaited c start end (queue ++ x ∷ []) ≡ awaited c start end queue
+  awaited_last : (queue : List Submitted) (x : Submitted) → is_of_receipt c start end x ≡ false
+      → awaited c start end (queue ++ x ∷ []) ≡ awaited c start end queue
   awaited_last [] x e = ap (λ b. cond b (x.request ∷ []) []) e
   awaited_last (y ∷ queue) x e = ap (λ qs. cond (is_of_receipt c start end y) (y.request ∷ qs) qs) (awaited_last queue x e)
 
   -- its serial is above those of the receipt
-  not_of_receipt : (K : List Operation) (E G : Engine) (x : Submitted) → HasSubmitted E G x → IsComing K E → is_of_receipt c start end x ≡ false
+  not_of_receipt : (K : List Operation) (E G : Engine) (x : Submitted) → HasSubmitted E G x → IsComing K E
+      → is_of_receipt c start end x ≡ false
   not_of_receipt K E G x l h = false_from_ne_true (is_of_receipt c start end x) (λ t.
       let one = and_parts (x.client == c) (nat_le start x.serial && nat_lt x.serial end) t in
       let two = and_parts (nat_le start x.serial) (nat_lt x.serial end) one.1 in
       let y = h.used x.serial (leb-true start x.serial two.0) (ltb-true x.serial end two.1) in
       at_client (eqb-true x.client c one.0) y.1.0 y.1.1 (slice_get E.clients c) refl)
     where
-      at_client : x.client ≡ c → (cell : Cell) → cell_of x.serial (slice_get E.clients c) ≡ Some cell → (o : Option Client) → slice_get E.clients c ≡ o → ⊥
+      at_client : x.client ≡ c → (cell : Cell) → cell_of x.serial (slice_get E.clients c) ≡ Some cell → (o : Option Client)
+          → slice_get E.clients c ≡ o → ⊥
       at_client is cell there None e = none-some cell (sym (ap (cell_of x.serial) e) ∙ there)
       at_client is cell there (Some k) e =
           let within : x.serial ≤ length k.cells = cell_within k.cells x.serial cell (sym (ap (cell_of x.serial) e) ∙ there) in
           let next : x.serial ≡ suc (length k.cells) = l.next k (ap (slice_get E.clients) is ∙ e) in
           omega arith
 
-  coming_submitted : (K : List Operation) (E G : Engine) (x : Submitted) → HasSubmitted E G x → IsFullOrComing K E → IsFullOrComing K G
-  coming_submitted K E G x l (inl f) = inl (full_stays G.replica.entries E.replica.entries l.later.grown.entries f)
-  coming_submitted K E G x l (inr h) =
+  coming_submitted : (K : List Operation) (E G : Engine) (x : Submitted) → HasSubmitted E G x → IsComing K E → IsComing K G
+  coming_submitted K E G x l h =
       let queue : awaited c start end E.queue ≡ awaited c start end G.queue = sym (ap (awaited c start end) l.queue ∙ awaited_last E.queue x (not_of_receipt K E G x l h)) in
-      inr (coming_on K E G h l.later.grown (ap (λ (r : Replica). r.members) l.replica) h.there (had_still K E G h l.later.grown) (subst (Comes ms base F h.there) queue h.comes))
+      coming_same K E G l.later.grown l.replica h (subst (Comes ms base F h.there) queue h.comes)
 
   -- ---- one item less
 
@@ -114,36 +169,101 @@ module _ (c start end : ℕ) (ms : List ℕ) (base : List Operation) (F : List S
     queue : awaited c start end E.queue ≡ cond (is_of_receipt c start end x) (x.request ∷ awaited c start end G.queue) (awaited c start end G.queue)
     queue = ap (awaited c start end) l.oldest
 
+    came_still : (s : Stamped) → HasArrived c start end E s → HasArrived c start end G s
+    came_still = arrived_still c start end E G l.later.grown (λ f. ap (λ (r : Replica). r.waiting) l.replica ∙ waits_full E.replica x f)
+
     other_taken : is_of_receipt c start end x ≡ false → IsComing K G
     other_taken e =
         let same : awaited c start end E.queue ≡ awaited c start end G.queue = queue ∙ ap (λ b. cond b (x.request ∷ awaited c start end G.queue) (awaited c start end G.queue)) e in
-        coming_on K E G h l.later.grown members h.there (had_still K E G h l.later.grown) (subst (Comes ms base F h.there) same h.comes)
+        coming_on K E G h l.later.grown members h.there (λ s m. came_still s (h.came s m)) (subst (Comes ms base F h.there) same h.comes)
 
-    next_taken : is_of_receipt c start end x ≡ true → IsFullOrComing K G
-    next_taken e =
-        let first : awaited c start end E.queue ≡ x.request ∷ awaited c start end G.queue = queue ∙ ap (λ b. cond b (x.request ∷ awaited c start end G.queue) (awaited c start end G.queue)) e in
-        let n : HasNext ms base F E.replica x.request (awaited c start end G.queue) = next_comes ms base F E.replica h.based h.there (awaited c start end E.queue) h.comes h.had x.request (awaited c start end G.queue) first in
-        let s : Stamped = n.operation in
-        let came = item_arrived K lk E.replica.own E.replica x s n.before is.settled (floor_within E x G.queue sound l.oldest) n.is
-        (beginning_legal ms base F (s ∷ n.before) (awaited c start end G.queue) n.comes h.legal)
-        (beginning_within ms base F K (s ∷ n.before) (awaited c start end G.queue) n.comes h.within)
-        (ap (λ ps. is_of_members ps s) h.members ∙ n.known) n.had in
-        elim came [
-          | inl f ↦ inl (ap (λ (r : Replica). is_full r.entries) l.replica ∙ f)
-          | inr t ↦ inr (coming_on K E G h l.later.grown members (s ∷ n.before)
-              (one_more s n.before G.replica (ap (λ (r : Replica). has_id (operations r) s.id) l.replica ∙ t) (λ i u. ids_stay G.replica.entries E.replica.entries l.later.grown.entries i (n.had i u))) n.comes)
+    module _ (e : is_of_receipt c start end x ≡ true) where
+      first : awaited c start end E.queue ≡ x.request ∷ awaited c start end G.queue
+      first = queue ∙ ap (λ b. cond b (x.request ∷ awaited c start end G.queue) (awaited c start end G.queue)) e
+
+      next : HasNext ms base F (HasArrived c start end E) x.request (awaited c start end G.queue)
+      next = next_comes ms base F (HasArrived c start end E) (λ s t. inl (h.based s.id t)) h.there (awaited c start end E.queue)
+          h.comes h.came x.request (awaited c start end G.queue) first
+
+      abbrev s : Stamped
+      s = next.operation
+
+      legal : IsLegalStamped (s ∷ next.before)
+      legal = beginning_legal ms base F (s ∷ next.before) (awaited c start end G.queue) next.comes h.legal
+
+      within : AreWithin (operations_of (s ∷ next.before)) K
+      within = beginning_within ms base F K (s ∷ next.before) (awaited c start end G.queue) next.comes h.within
+
+      known : is_of_members E.replica.members s ≡ true
+      known = ap (λ ps. is_of_members ps s) h.members ∙ next.known
+
+      floor : x.floor ≤ length E.replica.entries
+      floor = floor_within E x G.queue sound l.oldest
+
+      -- the item is the client's, under a serial of the receipt
+      client : x.client ≡ c
+      client = eqb-true x.client c (and_parts (x.client == c) (nat_le start x.serial && nat_lt x.serial end) e).0
+
+      serials : (start ≤ x.serial) × (x.serial < end)
+      serials =
+          let one = and_parts (x.client == c) (nat_le start x.serial && nat_lt x.serial end) e in
+          let two = and_parts (nat_le start x.serial) (nat_lt x.serial end) one.1 in
+          (leb-true start x.serial two.0, ltb-true x.serial end two.1)
+
+      was_submitted : WasSubmitted G c x.serial x
+      was_submitted =
+          let there = sound.unanswered x (queued_waits E.due E.handled E.queue x (subst (IsAmong x) (sym l.oldest) (inl refl))) in
+          subst (λ n. WasSubmitted G n x.serial x) client (l.later.grown.submitted x.client x.serial x (open_cell x, there, refl))
+
+      refused : (n : ℕ) → reply_to E.replica x ≡ NotMade HistoryFull n → WasRefusedFull G c start end s
+      refused n reply = record {
+        serial = x.serial;
+        from = serials.0;
+        below = serials.1;
+        item = x;
+        submitted = was_submitted;
+        delivered = next.is;
+        length = n;
+        reply = inr (record { submitted = x; reply = reply_to E.replica x }, among_right G.due G.handled _ l.replied, client, refl, reply);
+      }
+
+      -- it came to a full history, or to one that isn't
+      came_full : is_full E.replica.entries ≡ true → HasArrived c start end G s
+      came_full f = elim (item_full K lk E.replica.own E.replica x s next.before is.settled floor next.is legal short within known f) [
+        | inl t ↦ came_still s (inl t)
+        | inr y ↦ elim y [
+          | inl w ↦ came_still s (inr (f, inl w))
+          | inr reply ↦ inr (full_stays G.replica.entries E.replica.entries l.later.grown.entries f, inr (refused _ reply))
         ]
+      ]
+        where
+          short : length next.before < 1048576
+          short =
+              let n : suc (length next.before) ≤ length F = beginning_shorter ms base F (s ∷ next.before) (awaited c start end G.queue) next.comes in
+              omega (arith, n, h.short)
 
-    took_one : IsFullOrComing K G
+      came_free : is_full E.replica.entries ≡ false → HasArrived c start end G s
+      came_free f =
+          let there = those_from E.replica next.before (λ y m. applied_there c start end E y f (next.had y m)) in
+          let came = item_arrived K lk E.replica.own E.replica x s next.before is.settled floor next.is legal within known there f in
+          elim (subst (λ (r : Replica). HasCome r s) (sym l.replica) came) [
+            | inl w ↦ inr (w.0, inl w.1)
+            | inr t ↦ inl t
+          ]
+
+      next_taken : IsComing K G
+      next_taken = coming_on K E G h l.later.grown members (s ∷ next.before)
+          (one_more_is (HasArrived c start end G) s next.before
+          (elim (cases_Bool (is_full E.replica.entries)) [ inl f ↦ came_full f | inr f ↦ came_free f ])
+          (λ y m. came_still y (next.had y m)))
+          next.comes
+
+    took_one : IsComing K G
     took_one = at_test (is_of_receipt c start end x) refl
       where
-        at_test : (b : Bool) → is_of_receipt c start end x ≡ b → IsFullOrComing K G
+        at_test : (b : Bool) → is_of_receipt c start end x ≡ b → IsComing K G
         at_test true e = next_taken e
-        at_test false e = inr (other_taken e)
+        at_test false e = other_taken e
 
-  coming_taken : (K : List Operation) (E G : Engine) (x : Submitted) → IsLegal K → IsSound E → IsEngineOf K E → HasTaken E G x → IsFullOrComing K E → IsFullOrComing K G
-  coming_taken K E G x lk sound is l (inl f) = inl (full_stays G.replica.entries E.replica.entries l.later.grown.entries f)
-  coming_taken K E G x lk sound is l (inr h) = took_one K E G x lk sound is l h
-
-  pub coming_kept : IsTracked IsFullOrComing
-  coming_kept = record { grown = coming_grown; still = coming_still; submitted = coming_submitted; taken = coming_taken }
+  pub coming_kept : IsTracked IsComing
+  coming_kept = record { grown = coming_wider; still = coming_still; submitted = coming_submitted; taken = took_one }

@@ -54,7 +54,7 @@ all_next K lk p r d s F h a l wf known = record {
       | inr f ↦ elim (cases_Bool (has_id (operations d) s.id)) [
         | inl t ↦ inr (one_more s F (receive d s) (grows.1 s.id t) (λ b u. grows.1 b (f b u)))
         | inr t ↦ elim (comes_in K lk p d h.world h.end h.few s F l wf (ap (λ ps. is_of_members ps s) a.members ∙ known) f e t) [
-          | inl g ↦ inl g
+          | inl g ↦ inl g.0
           | inr g ↦ inr (one_more s F (receive d s) g (λ b u. grows.1 b (f b u)))
         ]
       ]

@@ -1,11 +1,11 @@
--- An engine that said hello and received the answer has all of it in the end, unless its history is full.
-use Rattle.std.proofs.Common.{◌≡◌, ◌⊎◌, inl, inr, ℕ, suc, ◌+◌, ◌≤◌, true, List, [], ◌∷◌, ◌++◌, reverse, length, None, Some, sym, subst, arith, slice_get}
+-- An engine that said hello and received the answer has each operation of it in the end, or its history is full,
+-- and the operation waits or was refused for that.
+use Rattle.std.proofs.Common.{◌≡◌, inl, inr, ℕ, suc, ◌+◌, ◌≤◌, List, [], ◌∷◌, ◌++◌, reverse, length, None, Some, sym, subst, arith, slice_get}
 use Rattle.semantics.specs.Operations.{Operation}
 use Rattle.semantics.specs.LegalHistory.{IsAmong}
 use Rattle.semantics.specs.NamedIds.{greatest_counter}
 use Rattle.semantics.specs.Vectors.{Vector, at}
 use Rattle.semantics.specs.Stamped.{Stamped, IsLegalStamped}
-use Rattle.semantics.specs.Making.{is_full}
 use Rattle.semantics.specs.Entries.{stamped_of, applied, missing}
 use Rattle.semantics.specs.Replica.{operations}
 use Rattle.semantics.specs.OneWorld.{AreWithin}
@@ -16,14 +16,17 @@ use Rattle.semantics.specs.WorldHistory.{HasGrown}
 use Rattle.semantics.specs.WorldExchange.{AreWithoutLines, IsHandledBelow}
 use Rattle.semantics.proofs.NamedOperations.{vector_counts, vector_cases}
 use Rattle.semantics.proofs.AppliedVectors.{at-vector_of}
+use Rattle.semantics.proofs.LawfulAlone.{length_stamped}
+use Rattle.semantics.proofs.Beginnings.{no_shorter, begins_first}
+use Rattle.semantics.proofs.FullHistories.{IsShort}
 use Rattle.semantics.proofs.SoundWorlds.{IsSoundWorld, sound_after, grown_after, after_more}
 use Rattle.semantics.proofs.KeptMessages.{message_kept_after}
 use Rattle.semantics.proofs.SentOperations.{applied_begins, published_within}
 use Rattle.semantics.proofs.EnginesOfOneWorld.{one_world_after}
 use Rattle.semantics.proofs.OpenedWorlds.{IsWorldOf}
 use Rattle.semantics.proofs.EnginesAgree.{published_legal, published_of_world}
-use Rattle.semantics.proofs.ComingHistory.{HasThose}
-use Rattle.semantics.proofs.ComingItems.{coming_wider}
+use Rattle.semantics.proofs.ComingHistory.{AllAre}
+use Rattle.semantics.proofs.ComingItems.{HasArrived, coming_wider}
 use Rattle.semantics.proofs.ReceivedBundles.{HasReceivedAll}
 use Rattle.semantics.proofs.ExchangedMessages.{said_hello, hello_answered, bundle_delivered}
 use Rattle.semantics.proofs.StartedReceipts.{receipt_started}
@@ -40,14 +43,20 @@ named_later A G g q =
           omega (arith, named, counts, x.3))
     ]
 
+published_short : (B : Engine) → IsShort B.replica → length (stamped_of (published_entries B)) ≤ 1048576
+published_short B h =
+    let n = length_stamped (published_entries B) in
+    let l = no_shorter B.replica.entries (published_entries B) (begins_first B.published B.replica.entries) in
+    omega (arith, n, l, h)
+
 -- ---- from the receipt on
 
 -- in W engine a receives what v doesn't cover of what B had published
 pub received_through : (K : List Operation) (W : World) (after : List WorldStep) → IsSoundWorld W → IsWorldOf K W → (a c k serial count : ℕ) (v : Vector) (B : Engine) → AreWithoutLines (Deliver a c k ∷ after)
-    → IsLegalStamped (stamped_of (published_entries B)) → AreWithin (applied (published_entries B)) K → ((E : Engine) → slice_get W.engines a ≡ Some E → (q : ℕ) → at v q ≤ greatest_counter (operations E.replica) q)
+    → IsLegalStamped (stamped_of (published_entries B)) → length (stamped_of (published_entries B)) ≤ 1048576 → AreWithin (applied (published_entries B)) K → ((E : Engine) → slice_get W.engines a ≡ Some E → (q : ℕ) → at v q ≤ greatest_counter (operations E.replica) q)
     → slice_get W.messages k ≡ Some (Bundle (lacked B v)) → (world_step W (Deliver a c k)).reply ≡ Received serial count None
-    → (A : Engine) → slice_get (world_after W (Deliver a c k ∷ after)).engines a ≡ Some A → IsHandledBelow A c (serial + count) → (is_full A.replica.entries ≡ true) ⊎ HasThose A.replica (stamped_of (published_entries B))
-received_through K W after sound is a c k serial count v B known legal within named bundle receipt A e handled =
+    → (A : Engine) → slice_get (world_after W (Deliver a c k ∷ after)).engines a ≡ Some A → IsHandledBelow A c (serial + count) → AllAre (HasArrived c serial (serial + count) A) (stamped_of (published_entries B))
+received_through K W after sound is a c k serial count v B known legal short within named bundle receipt A e handled =
     let F : List Stamped = stamped_of (published_entries B) in
     let got = bundle_delivered W a c k serial count (reverse (missing v F)) bundle receipt in
     let E : Engine = got.0 in
@@ -56,7 +65,7 @@ received_through K W after sound is a c k serial count v B known legal within na
     let next = one_world_after K W (Deliver a c k ∷ []) sound first_known is in
     let first : ℕ = suc (length r.client.cells) in
     let many : ℕ = length (reverse (missing v F)) in
-    let started = receipt_started K is.legal E G (sound a E got.2) (is.engines a E got.2) v F legal within c serial count r (named E got.2) in
+    let started = receipt_started K is.legal E G (sound a E got.2) (is.engines a E got.2) v F legal short within c serial count r (named E got.2) in
     let coming = coming_wider c first (first + many) E.replica.members (operations E.replica) F K next.0 G next.1 started in
     came_through c first many serial count E.replica.members (operations E.replica) F r.first r.all next.0 (world_step W (Deliver a c k)).world after
     (sound_after W (Deliver a c k ∷ []) sound) (λ s m. known s (inr m)) next.2 a G got.3 coming A e handled
@@ -74,7 +83,7 @@ pub exchanged_through : (K : List Operation) (W : World) (between later after : 
     → slice_get (world_after W (SayHello a t ∷ between)).engines b ≡ Some B → (world_step (world_after W (SayHello a t ∷ between)) (AnswerHello b u h)).reply ≡ SentBundle k sent
     → (world_step (world_after (world_after W (SayHello a t ∷ between)) (AnswerHello b u h ∷ later)) (Deliver a c k)).reply ≡ Received serial count None
     → (A : Engine) → slice_get (world_after (world_after (world_after W (SayHello a t ∷ between)) (AnswerHello b u h ∷ later)) (Deliver a c k ∷ after)).engines a ≡ Some A → IsHandledBelow A c (serial + count)
-    → (is_full A.replica.entries ≡ true) ⊎ HasThose A.replica (stamped_of (published_entries B))
+    → AllAre (HasArrived c serial (serial + count) A) (stamped_of (published_entries B))
 exchanged_through K W between later after sound is a b c t h u k sent serial count v B known_between known_later known_after hello there answer receipt A e handled =
     let asked : World = world_after W (SayHello a t ∷ between) in
     let arrived : World = world_after asked (AnswerHello b u h ∷ later) in
@@ -84,7 +93,7 @@ exchanged_through K W between later after sound is a b c t h u k sent serial cou
     let sound_asked = sound_after W (SayHello a t ∷ between) sound in
     let second = one_world_after first.0 asked (AnswerHello b u h ∷ later) sound_asked known_later first.2 in
     let published = first.2.engines b B there in
-    received_through second.0 arrived after (sound_after asked (AnswerHello b u h ∷ later) sound_asked) second.2 a c k serial count v B known_after (published_legal first.0 B published) (λ x m. second.1 x (published_of_world first.0 B published x m))
+    received_through second.0 arrived after (sound_after asked (AnswerHello b u h ∷ later) sound_asked) second.2 a c k serial count v B known_after (published_legal first.0 B published) (published_short B published.short) (λ x m. second.1 x (published_of_world first.0 B published x m))
     (λ E at_receipt q. subst (λ (x : Vector). at x q ≤ greatest_counter (operations E.replica) q) (sym said.2) (named_later said.0 E (grown said.0 said.1 E at_receipt) q))
     (message_kept_after (world_step asked (AnswerHello b u h)).world later k (Bundle (lacked B v)) bundle) receipt A e handled
   where

@@ -1,11 +1,13 @@
 -- What the steps of an engine do to its replica and its queue: nothing, an item more that was submitted, or one less that was handled.
-use Rattle.std.proofs.Common.{◌≡◌, ℕ, suc, Bool, true, false, ◌||◌, not, nat_le, List, [], ◌∷◌, ◌++◌, length, Option, Some, None, refl, subst, slice_get}
+use Rattle.std.proofs.Common.{◌≡◌, inl, ℕ, suc, Bool, true, false, ◌||◌, not, nat_le, List, [], ◌∷◌, ◌++◌, length, Option, Some, None, refl, subst, slice_get}
+use Rattle.semantics.specs.LegalHistory.{IsAmong}
 use Rattle.semantics.specs.DocumentAnswer.{is_any}
 use Rattle.semantics.specs.LegalAnswer.{Request, Submitted}
 use Rattle.semantics.specs.Engine.{Engine, Client, Cell, Given, Handled}
-use Rattle.semantics.specs.WriteSteps.{next_item, submit, push, after_item, take_oldest, take_item, publish, give_oldest, give}
+use Rattle.semantics.specs.WriteSteps.{next_item, submit, push, after_item, reply_to, take_oldest, take_item, publish, give_oldest, give}
 use Rattle.semantics.specs.ReadSteps.{cell_at, cell_under, poll_cell, poll, see, learn}
 use Rattle.semantics.proofs.SoundEngines.{IsSound, IsLater}
+use Rattle.semantics.proofs.ItemsInTurn.{among_right}
 use Rattle.semantics.proofs.SoundSubmitting.{pushed}
 use Rattle.semantics.proofs.SoundTaking.{took}
 
@@ -20,11 +22,12 @@ pub record HasSubmitted (E F : Engine) (x : Submitted) : Type 0 where
   pub queue : F.queue ≡ E.queue ++ x ∷ []
   pub next : (k : Client) → slice_get E.clients x.client ≡ Some k → x.serial ≡ suc (length k.cells)
 
--- F is E after the oldest item x was handled
+-- F is E after the oldest item x was handled, with this reply
 pub record HasTaken (E F : Engine) (x : Submitted) : Type 0 where
   pub later : IsLater E F
   pub oldest : E.queue ≡ x ∷ F.queue
   pub replica : F.replica ≡ after_item E.replica x
+  pub replied : IsAmong (record { submitted = x; reply = reply_to E.replica x }) F.handled
 
 -- A claim on an engine that is kept as it goes on, where what is submitted is as P says.
 pub record IsKeptOn (P : Request → Type 0) (Claim : Engine → Type 0) : Type 0 where
@@ -106,7 +109,7 @@ module _ (P : Request → Type 0) (Claim : Engine → Type 0) (kept : IsKeptOn P
       at_test x queue e true f l = rw f h
       at_test x queue e false f l =
           let after = rw f at l in
-          rw f (kept.taken E _ x s (record { later = after; oldest = e; replica = refl }) h)
+          rw f (kept.taken E _ x s (record { later = after; oldest = e; replica = refl; replied = among_right E.handled (_ ∷ []) _ (inl refl) }) h)
 
       at_queue : (q : List Submitted) → E.queue ≡ q → Claim (take_oldest E q).engine
       at_queue [] e = h

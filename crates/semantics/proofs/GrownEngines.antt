@@ -1,5 +1,6 @@
 -- An engine has grown from itself, and from what it has grown from in two steps.
-use Rattle.std.proofs.Common.{◌≡◌, ℕ, ◌≤◌, List, [], ◌++◌, refl, sym, ap, ◌∙◌, arith, append_assoc}
+use Rattle.std.proofs.Common.{◌≡◌, inl, inr, ℕ, ◌≤◌, List, [], ◌++◌, refl, sym, ap, ◌∙◌, arith, append_assoc}
+use Rattle.semantics.specs.LegalHistory.{IsAmong}
 use Rattle.semantics.specs.Entries.{Entry}
 use Rattle.semantics.specs.LegalAnswer.{Submitted}
 use Rattle.semantics.specs.Replica.{Replica}
@@ -16,6 +17,7 @@ grown_refl E = record {
   published = omega arith;
   seen = λ t. omega arith;
   submitted = λ c serial x h. h;
+  replied = λ c serial r h. h;
   given = λ c serial g h. h;
 }
 
@@ -26,6 +28,7 @@ grown_trans E F G f g = record {
   published = omega (arith, f.published, g.published);
   seen = λ t. omega (arith, f.seen t, g.seen t);
   submitted = λ c serial x h. g.submitted c serial x (f.submitted c serial x h);
+  replied = λ c serial r h. g.replied c serial r (f.replied c serial r h);
   given = λ c serial a h. g.given c serial a (f.given c serial a h);
 }
 
@@ -36,12 +39,13 @@ abbrev pub with_history : Engine → Replica → List Submitted → List Handled
 with_history E r queue handled due published = record E { replica = r; queue = queue; handled = handled; due = due; published = published }
 
 pub grown_by_history : (E : Engine) (r : Replica) (queue : List Submitted) (handled due : List Handled) (published : ℕ) → r.own ≡ E.replica.own → BeginsWith r.entries E.replica.entries → E.published ≤ published
-    → HasGrown E (with_history E r queue handled due published)
-grown_by_history E r queue handled due published own entries more = record {
+    → ((h : Handled) → IsAmong h (E.due ++ E.handled) → IsAmong h (due ++ handled)) → HasGrown E (with_history E r queue handled due published)
+grown_by_history E r queue handled due published own entries more still = record {
   own = own;
   entries = entries;
   published = more;
   seen = λ t. omega arith;
   submitted = λ c serial x w. w;
+  replied = λ c serial a w. elim w [ inl g ↦ inl g | inr h ↦ inr (h.0, still h.0 h.1, h.2, h.3, h.4) ];
   given = λ c serial g w. w;
 }

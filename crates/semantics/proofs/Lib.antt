@@ -85,6 +85,10 @@ pub mod SoundTaking
 pub mod SoundPublishing
 pub mod SoundSteps
 pub mod SoundWorlds
+pub mod KeptSubmissions
+pub mod KeptSubmitting
+pub mod KeptGiving
+pub mod AllSubmissions
 pub mod WorldReplies
 pub mod SeenReadings
 -- worlds whose engines send each other what they have
@@ -93,6 +97,7 @@ pub mod PublishedMessages
 pub mod KeptMessages
 pub mod GrownWorlds
 pub mod SettledItems
+pub mod FullHistories
 pub mod EngineMoves
 pub mod KeptSteps
 pub mod TrackedEngines
@@ -104,6 +109,7 @@ pub mod ComingHistory
 pub mod ArrivedItems
 pub mod ComingItems
 pub mod WholeSubmissions
+pub mod KeptTickets
 pub mod ReceivedBundles
 pub mod ExchangedMessages
 pub mod StartedReceipts
@@ -137,3 +143,4 @@ pub mod NextIds
 pub mod OneEngineWorld
 pub mod PlacedItems
 pub mod SingleSteps
+pub mod LostItem

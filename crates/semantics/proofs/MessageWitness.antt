@@ -1,16 +1,18 @@
 -- The premises of an exchange of messages are met: one engine writes, and another one gets what it lacks.
-use Rattle.std.proofs.Common.{◌≡◌, ◌⊎◌, ℕ, zero, suc, Bool, true, false, not, List, [], ◌∷◌, Some, refl, sym, ap, arith}
+use Rattle.std.proofs.Common.{◌≡◌, ℕ, zero, suc, Bool, true, false, not, List, [], ◌∷◌, Some, refl, sym, ap, arith}
 use Rattle.std.specs.Prelude.{codes}
 use Rattle.ids.specs.Configurations.{Configuration}
 use Rattle.semantics.specs.Questions.{Get}
-use Rattle.semantics.specs.Entries.{applied}
+use Rattle.semantics.specs.LegalHistory.{IsAmong}
+use Rattle.semantics.specs.Stamped.{Stamped}
+use Rattle.semantics.specs.Entries.{stamped_of}
 use Rattle.semantics.specs.LegalAnswer.{OfCommand}
 use Rattle.semantics.specs.Engine.{Engine, Bundle, published_entries}
 use Rattle.semantics.specs.WriteSteps.{push, take_item, whole_step}
 use Rattle.semantics.specs.ReadSteps.{see_published}
 use Rattle.semantics.specs.PeerSteps.{lacked, receive_message}
 use Rattle.semantics.specs.World.{opened_engine, WorldStep, Push, Take, Whole, SayHello, AnswerHello, Deliver}
-use Rattle.semantics.specs.WorldExchange.{HaveOwnNumbers, is_of_lines, AreWithoutLines, IsExchange, IsHandledBelow, HasApplied, IsFullWithout}
+use Rattle.semantics.specs.WorldExchange.{HaveOwnNumbers, is_of_lines, AreWithoutLines, IsExchange, IsHandledBelow, IsAppliedUnlessFull}
 use Rattle.semantics.proofs.AmongLists.{all_pass}
 use Rattle.semantics.proofs.WholeExchanges.{messages_complete}
 use Rattle.semantics.proofs.ExampleWords.{whole, assign}
@@ -56,7 +58,7 @@ without_lines s m = false_from_not (is_of_lines s) (all_pass (λ x. not (is_of_l
     false_from_not true e = sym e
     false_from_not false e = refl
 
-exchange : IsExchange both steps 1 0 0 2 (published_entries writer)
+exchange : IsExchange both steps 1 0 0 1 2 (published_entries writer)
 exchange = record {
   before = writes ∷ Whole 0 ∷ [];
   between = [];
@@ -73,7 +75,6 @@ exchange = record {
   answerer = writer;
   there = refl;
   had = refl;
-  serial = 1;
   count = 1;
   receipt = refl;
   last = refl;
@@ -83,5 +84,5 @@ exchange = record {
 handled : IsHandledBelow reader 0 2
 handled x m = absurd m
 
-complete : IsFullWithout reader.replica (applied (published_entries writer)) ⊎ HasApplied reader.replica (applied (published_entries writer))
-complete = messages_complete both steps own_numbers without_lines 1 0 0 2 (published_entries writer) reader exchange refl handled
+complete : (s : Stamped) → IsAmong s (stamped_of (published_entries writer)) → IsAppliedUnlessFull reader 0 1 2 s
+complete = messages_complete both steps own_numbers without_lines 1 0 0 1 2 (published_entries writer) reader exchange refl handled

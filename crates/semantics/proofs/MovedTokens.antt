@@ -1,12 +1,15 @@
 -- An engine has grown where a client or a reader has seen more, and where a client's cells keep what stands in them.
-use Rattle.std.proofs.Common.{◌≡◌, ◌⊎◌, inl, inr, ℕ, zero, suc, ◌-◌, ◌≤◌, List, [], ◌∷◌, length, get_or, Option, Some, None, refl, sym, ap, ◌∙◌, arith, slice_get, slice_set}
+use Rattle.std.proofs.Common.{◌≡◌, ◌⊎◌, inl, inr, ℕ, zero, suc, ◌-◌, ◌≤◌, List, [], ◌∷◌, length, get_or, Option, Some, None, refl, sym, ap, ◌∙◌, subst, arith, slice_get, slice_set}
 use Rattle.std.proofs.lemmas.Bool.{cases_eq}
 use Rattle.std.proofs.lemmas.List.{length-set}
-use Rattle.semantics.specs.LegalAnswer.{Submitted}
+use Rattle.semantics.specs.LegalHistory.{IsAmong}
+use Rattle.semantics.specs.LegalAnswer.{Submitted, Reply}
 use Rattle.semantics.specs.Engine.{Engine, Client, Cell, Given, Handled}
 use Rattle.semantics.specs.ReadSteps.{cell_at, seen_by}
-use Rattle.semantics.specs.WorldHistory.{WasSubmitted, WasGiven, HasGrown}
+use Rattle.semantics.specs.WorldHistory.{WasSubmitted, WasGiven, WasReplied, HasGrown}
 use Rattle.semantics.proofs.SetElements.{get-set_same, get-set_other}
+use Rattle.semantics.proofs.ItemsInTurn.{among_cases, among_right}
+use Rattle.semantics.proofs.AmongLists.{among_left}
 
 -- ---- one client moves
 
@@ -30,14 +33,19 @@ cell_of serial (Some k) = cell_at k.cells serial
 abbrev pub with_client : Engine → List Submitted → List Handled → ℕ → Client → Engine
 with_client E queue due c j = record E { queue = queue; due = due; clients = slice_set E.clients c j }
 
+-- a due item stays, or its reply is its answer
+abbrev pub IsStillReplied : Engine → Handled → Type 0
+IsStillReplied F x = IsAmong x F.due ⊎ ((g : Given) × WasGiven F x.submitted.client x.submitted.serial g × (g.reply ≡ x.reply))
+
 pub grown_by_client : (E : Engine) (queue : List Submitted) (due : List Handled) (c : ℕ) (k j : Client) → slice_get E.clients c ≡ Some k → HasMoved k j
-    → HasGrown E (with_client E queue due c j)
-grown_by_client E queue due c k j h m = record {
+    → ((x : Handled) → IsAmong x E.due → IsStillReplied (with_client E queue due c j) x) → HasGrown E (with_client E queue due c j)
+grown_by_client E queue due c k j h m still = record {
   own = refl;
   entries = ([], refl);
   published = omega arith;
   seen = λ t. seen_now t (cases_eq t c);
   submitted = λ d serial x w. submitted_now d serial x w (cases_eq d c);
+  replied = λ d serial r w. replied_now d serial r w;
   given = λ d serial g w. given_now d serial g w (cases_eq d c);
 }
   where
@@ -73,6 +81,18 @@ grown_by_client E queue due c k j h m = record {
         (l.0, ap (cell_of serial) (same d e) ∙ l.1, l.3 g w.2)
     given_now d serial g w (inr n) = (w.0, ap (cell_of serial) (other d n) ∙ w.1, w.2)
 
+    replied_now : (d serial : ℕ) (r : Reply) → WasReplied E d serial r → WasReplied (with_client E queue due c j) d serial r
+    replied_now d serial r (inl g) = inl (g.0, given_now d serial g.0 g.1 (cases_eq d c), g.2)
+    replied_now d serial r (inr x) = elim (among_cases E.due E.handled x.0 x.1) [
+      | inr n ↦ inr (x.0, among_right due E.handled x.0 n, x.2, x.3, x.4)
+      | inl n ↦ elim (still x.0 n) [
+        | inl o ↦ inr (x.0, among_left due E.handled x.0 o, x.2, x.3, x.4)
+        | inr g ↦
+            (let client = subst (λ n. WasGiven (with_client E queue due c j) n x.0.submitted.serial g.0) x.2 g.1 in
+            inl (g.0, subst (λ n. WasGiven (with_client E queue due c j) d n g.0) x.3 client, g.2 ∙ x.4))
+      ]
+    ]
+
 -- ---- a reader sees
 
 abbrev pub with_reader : Engine → ℕ → ℕ → Engine
@@ -92,6 +112,7 @@ grown_by_reader E i m h = record {
   published = omega arith;
   seen = λ t. seen_now t (slice_get E.clients t) refl;
   submitted = λ c serial x w. w;
+  replied = λ c serial r w. w;
   given = λ c serial g w. w;
 }
   where

@@ -36,6 +36,7 @@ new_engine c = record {
     end = inr (λ s m. absurd m);
     few = omega arith;
   };
+  short = omega arith;
   queued = λ x m. absurd m;
 }
 

@@ -10,7 +10,8 @@ use Rattle.semantics.specs.WriteSteps.{with_answer, give_oldest, give}
 use Rattle.semantics.specs.ReadSteps.{cell_at, cell_under}
 use Rattle.semantics.proofs.ClientCells.{answered_there, answered_elsewhere, length-answered}
 use Rattle.semantics.proofs.Beginnings.{IsGoodReply}
-use Rattle.semantics.proofs.MovedTokens.{HasMoved, with_client, cell_of, grown_by_client}
+use Rattle.semantics.proofs.SetElements.{get-set_same}
+use Rattle.semantics.proofs.MovedTokens.{HasMoved, with_client, cell_of, IsStillReplied, grown_by_client}
 use Rattle.semantics.proofs.SoundEngines.{waiting_items, IsInTurn, open_cell, IsSoundCell, IsSoundClient, IsSound, IsLater}
 use Rattle.semantics.proofs.SoundClients.{cell_moved, sound_by_client}
 use Rattle.semantics.proofs.SoundSeeing.{later_refl}
@@ -85,13 +86,26 @@ module _ (E : Engine) (h : Handled) (due : List Handled) (s : IsSound E) (oldest
   after_it : (x : Submitted) → IsAmong x (waiting_items due E.handled E.queue) → x.client ≡ item.client → cell_at answered.cells x.serial ≡ cell_at k.cells x.serial
   after_it x m e = answered_elsewhere k item.serial x.serial answer (open_cell item) its_cell (λ z. (let l : item.serial < x.serial = in_turn.0 x m e in omega arith))
 
+  -- its reply is its answer, and the other items are still due
+  still : (x : Handled) → IsAmong x (h ∷ due) → IsStillReplied after x
+  still x (inr m) = inl m
+  still x (inl e) = subst (λ (y : Handled). IsStillReplied after y) (sym e) (inr (
+    answer,
+    (
+      record { submitted = item; answer = Some answer },
+      ap (cell_of item.serial) (get-set_same E.clients item.client k answered there) ∙ answered_there k item.serial answer (open_cell item) its_cell,
+      refl,
+    ),
+    refl,
+  ))
+
   given_now : IsLater E after
   given_now = record {
     sound = sound_by_client E E.queue due item.client k answered s there sound_answered in_turn.1
         (λ x m. cell_moved E E.queue due item.client k answered there x.client x.serial (open_cell x) (was_open x (inr m)) (λ e q. after_it x m e ∙ q))
         s.queued
         (λ g m. s.due g (subst (IsAmong g) (sym oldest) (inr m)));
-    grown = grown_by_client E E.queue due item.client k answered there moved;
+    grown = grown_by_client E E.queue due item.client k answered there moved (λ x m. still x (subst (IsAmong x) oldest m));
   }
 
 -- An answer that is set keeps an engine sound.

@@ -1,5 +1,5 @@
 -- An engine stays sound where the writer publishes what it handled.
-use Rattle.std.proofs.Common.{◌≡◌, Bool, true, false, ◌||◌, not, List, [], ◌∷◌, length, refl, sym, subst, arith}
+use Rattle.std.proofs.Common.{◌≡◌, Bool, true, false, ◌||◌, not, List, [], ◌∷◌, ◌++◌, length, refl, sym, subst, arith}
 use Rattle.std.proofs.lemmas.Bool.{or_parts}
 use Rattle.semantics.specs.LegalHistory.{IsAmong}
 use Rattle.semantics.specs.DocumentAnswer.{is_any}
@@ -10,10 +10,11 @@ use Rattle.semantics.proofs.OwnReplies.{all_first}
 use Rattle.semantics.proofs.Beginnings.{IsGoodReply}
 use Rattle.semantics.proofs.GrownEngines.{with_history, grown_by_history}
 use Rattle.semantics.proofs.SoundEngines.{waiting_items, IsInTurn, IsSound, IsLater}
+use Rattle.semantics.proofs.AmongLists.{among_left}
 use Rattle.semantics.proofs.SoundSeeing.{later_refl}
 use Rattle.semantics.proofs.SoundGrowing.{client_grows}
 
-none_due : (due : List Handled) → is_any due ≡ false → due ≡ []
+pub none_due : (due : List Handled) → is_any due ≡ false → due ≡ []
 none_due [] e = refl
 none_due (h ∷ due) e = cc
 
@@ -30,7 +31,8 @@ publishes E s none = record {
     handled = λ h m. absurd m;
     due = λ h m. subst (λ (G : List Entry). IsGoodReply E.replica.own G h.submitted h.reply) (sym (all_first E.replica.entries)) (s.handled h m);
   };
-  grown = grown_by_history E E.replica E.queue [] E.handled (length E.replica.entries) refl ([], refl) s.published;
+  grown = grown_by_history E E.replica E.queue [] E.handled (length E.replica.entries) refl ([], refl) s.published
+      (λ h m. among_left E.handled [] h (subst (λ (d : List Handled). IsAmong h (d ++ E.handled)) none m));
 }
 
 -- The writer's publication keeps an engine sound.

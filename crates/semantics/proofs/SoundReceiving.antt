@@ -20,7 +20,7 @@ hello_answered E t k (Some (Hello v)) s = at_test (names_members E v) refl
     at_test true e = rw e (seen_all E t s)
     at_test false e = rw e (later_refl E s)
 
-submitted_all : (c : ℕ) (bad : Option Refusal) (n : ℕ) (E : Engine) (ss : List Stamped) → IsSound E → IsLater E (submit_all c bad n E ss).engine
+pub submitted_all : (c : ℕ) (bad : Option Refusal) (n : ℕ) (E : Engine) (ss : List Stamped) → IsSound E → IsLater E (submit_all c bad n E ss).engine
 submitted_all c bad n E [] s = later_refl E s
 submitted_all c bad n E (x ∷ ss) s =
     let one = pushed E c (OfPeer x) s in

@@ -1,5 +1,5 @@
 -- An engine stays sound where a token sees more of what is published: at a poll and at a question.
-use Rattle.std.proofs.Common.{◌≡◌, ℕ, zero, suc, ◌-◌, ◌≤◌, max, List, [], ◌∷◌, length, get_or, Option, Some, None, refl, ap, arith, slice_get, slice_set}
+use Rattle.std.proofs.Common.{◌≡◌, inl, ℕ, zero, suc, ◌-◌, ◌≤◌, max, List, [], ◌∷◌, length, get_or, Option, Some, None, refl, ap, arith, slice_get, slice_set}
 use Rattle.std.proofs.Math.Nat.{le-max_left, max-le}
 use Rattle.semantics.specs.LegalAnswer.{Asked}
 use Rattle.semantics.specs.Engine.{Engine, Client, Cell, Given}
@@ -21,7 +21,7 @@ client_sees E c k m s h l u = record {
   sound = sound_by_client E E.queue E.due c k (record k { seen = m }) s h seen_more s.turns
       (λ x w. cell_moved E E.queue E.due c k (record k { seen = m }) h x.client x.serial (record { submitted = x; answer = None }) (s.unanswered x w) (λ e q. q))
       s.queued s.due;
-  grown = grown_by_client E E.queue E.due c k (record k { seen = m }) h (record { seen = l; cells = λ n cell q. (cell, q, refl, λ g w. w) });
+  grown = grown_by_client E E.queue E.due c k (record k { seen = m }) h (record { seen = l; cells = λ n cell q. (cell, q, refl, λ g w. w) }) (λ x n. inl n);
 }
   where
     seen_more : IsSoundClient E.replica.own E.replica.entries E.published c (record k { seen = m })

@@ -72,7 +72,7 @@ module _ (E : Engine) (c : ℕ) (k : Client) (request : Request) (s : IsSound E)
   submitted : IsLater E after
   submitted = record {
     sound = sound_by_client E (E.queue ++ item ∷ []) E.due c k submitter s h sound_submitter all_in_turn all_open all_above s.due;
-    grown = grown_by_client E (E.queue ++ item ∷ []) E.due c k submitter h (record { seen = omega arith; cells = λ n cell q. (cell, cell_kept k.cells (open_cell item ∷ []) n cell q, refl, λ g w. w) });
+    grown = grown_by_client E (E.queue ++ item ∷ []) E.due c k submitter h (record { seen = omega arith; cells = λ n cell q. (cell, cell_kept k.cells (open_cell item ∷ []) n cell q, refl, λ g w. w) }) (λ x m. inl m);
   }
 
 -- A client's request keeps an engine sound.

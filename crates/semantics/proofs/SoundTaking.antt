@@ -15,7 +15,8 @@ use Rattle.semantics.proofs.HandledItems.{IsHandled, handled}
 use Rattle.semantics.proofs.GrownEngines.{with_history, grown_by_history}
 use Rattle.semantics.proofs.MovedTokens.{cell_of}
 use Rattle.semantics.proofs.SoundEngines.{waiting_items, IsInTurn, open_cell, IsSoundClient, IsSound, IsLater}
-use Rattle.semantics.proofs.ItemsInTurn.{among_last, turns_right, queued_waits, waiting-taken}
+use Rattle.semantics.proofs.ItemsInTurn.{among_cases, among_right, among_last, turns_right, queued_waits, waiting-taken}
+use Rattle.semantics.proofs.AmongLists.{among_left}
 use Rattle.semantics.proofs.SoundSeeing.{later_refl}
 use Rattle.semantics.proofs.SoundGrowing.{begins_published, client_grows}
 
@@ -70,6 +71,12 @@ module _ (E : Engine) (x : Submitted) (queue : List Submitted) (s : IsSound E) (
       | inr e ↦ subst (λ (f : Handled). IsGoodReply r.own r.entries f.submitted f.reply) (sym e) h.good
     ]
 
+    still : (g : Handled) → IsAmong g (E.due ++ E.handled) → IsAmong g (E.due ++ (E.handled ++ as_handled ∷ []))
+    still g m = elim (among_cases E.due E.handled g m) [
+      | inl a ↦ among_left E.due (E.handled ++ as_handled ∷ []) g a
+      | inr b ↦ among_right E.due (E.handled ++ as_handled ∷ []) g (among_left E.handled (as_handled ∷ []) g b)
+    ]
+
     taken : IsLater E after
     taken = record {
       sound = record {
@@ -84,7 +91,7 @@ module _ (E : Engine) (x : Submitted) (queue : List Submitted) (s : IsSound E) (
         due = λ g m. subst (λ p. IsGoodReply p (published_entries after) g.submitted g.reply) (sym h.own)
             (good_in_longer E.replica.own (published_entries after) (published_entries E) g.submitted g.reply (begins_published r.entries E.replica.entries E.published E.published h.entries s.published (omega arith)) (s.due g m));
       };
-      grown = grown_by_history E r queue (E.handled ++ as_handled ∷ []) E.due E.published h.own h.entries (omega arith);
+      grown = grown_by_history E r queue (E.handled ++ as_handled ∷ []) E.due E.published h.own h.entries (omega arith) still;
     }
 
 -- The writer's take keeps an engine sound.

@@ -1,5 +1,5 @@
 -- With the receipt of a bundle the rest of its sender's history is on its way.
-use Rattle.std.proofs.Common.{◌≡◌, inl, inr, ℕ, zero, suc, ◌+◌, ◌<◌, ◌≤◌, true, false, not, cond, ◌&&◌, ◌==◌, nat_le, nat_lt, List, [], ◌∷◌, ◌++◌, map, reverse, length, Some, refl, sym, ap, ◌∙◌, subst, arith, true≢false, slice_get}
+use Rattle.std.proofs.Common.{◌≡◌, inl, inr, ℕ, zero, suc, ◌+◌, ◌<◌, ◌≤◌, true, false, not, cond, ◌&&◌, ◌==◌, nat_le, nat_lt, List, [], ◌∷◌, ◌++◌, map, reverse, length, Some, refl, sym, ap, ◌∙◌, subst, arith, slice_get}
 use Rattle.std.proofs.lemmas.Bool.{and_parts, false_from_ne_true, eqb-true, leb-true, not_from_false}
 use Rattle.std.proofs.lemmas.List.{append-nil}
 use Rattle.std.proofs.lemmas.Option.{slice_get_cases}
@@ -36,7 +36,7 @@ awaited_after c start end (x ∷ queue) more none =
 
 -- ---- the receipt
 
-module _ (K : List Operation) (lk : IsLegal K) (A G : Engine) (sound : IsSound A) (is : IsEngineOf K A) (v : Vector) (F : List Stamped) (l : IsLegalStamped F) (w : AreWithin (operations_of F) K) (c serial count : ℕ)
+module _ (K : List Operation) (lk : IsLegal K) (A G : Engine) (sound : IsSound A) (is : IsEngineOf K A) (v : Vector) (F : List Stamped) (l : IsLegalStamped F) (short : length F ≤ 1048576) (w : AreWithin (operations_of F) K) (c serial count : ℕ)
     (r : HasReceivedAll A c (reverse (missing v F)) serial count G) (named : (q : ℕ) → at v q ≤ greatest_counter (operations A.replica) q) where
   -- the serials of the receipt
   abbrev pub first_serial : ℕ
@@ -89,11 +89,12 @@ module _ (K : List Operation) (lk : IsLegal K) (A G : Engine) (sound : IsSound A
   pub receipt_started : IsComing c first_serial end_serial A.replica.members (operations A.replica) F K G
   receipt_started = record {
     legal = l;
+    short = short;
     within = w;
     members = ap (λ (x : Replica). x.members) same_replica;
     based = λ i t. ap (λ (x : Replica). has_id (operations x) i) same_replica ∙ t;
     there = [];
-    had = λ i t. absurd (true≢false (sym t));
+    came = λ s m. absurd m;
     comes = all_come;
     used = used;
   }

@@ -13,15 +13,17 @@ use Rattle.semantics.proofs.ItemsInTurn.{among_last}
 use Rattle.semantics.proofs.SoundEngines.{IsSound, IsLater}
 use Rattle.semantics.proofs.GrownWorlds.{IsGrownBy, grown_not, grown_further, of_grown, settled_beside}
 use Rattle.semantics.proofs.SettledItems.{GoesOn, item_handled}
+use Rattle.semantics.proofs.FullHistories.{IsShort, item_short}
 use Rattle.semantics.proofs.EngineMoves.{IsStill, HasSubmitted, HasTaken, IsKeptOn}
 
 -- the request is a command, or a peer's operation of the world K
 abbrev pub IsRequestOf : List Operation → Request → Type 0
 IsRequestOf K q = (s : Stamped) → q ≡ OfPeer s → IsOfWorld K s
 
--- E is an engine of the world K: its replica is settled there, and what peers sent is of K
+-- E is an engine of the world K: its replica is settled there, its history isn't too long, and what peers sent is of K
 pub record IsEngineOf (K : List Operation) (E : Engine) : Type 0 where
   pub settled : IsSettled K E.replica.own E.replica
+  pub short : IsShort E.replica
   pub queued : (x : Submitted) → IsAmong x E.queue → IsRequestOf K x.request
 
 -- A claim on an engine of a world that is kept as both go on.
@@ -43,6 +45,7 @@ pub record HasGoneOn (Claim : List Operation → Engine → Type 0) (K : List Op
 pub engine_beside : (p : ℕ) (K L : List Operation) (E : Engine) → (p ≡ E.replica.own → ⊥) → IsGrownBy p K L → IsEngineOf K E → IsEngineOf L E
 engine_beside p K L E other g h = record {
   settled = settled_beside p E.replica.own K L E.replica other g h.settled;
+  short = h.short;
   queued = λ x m s is. of_grown K L s g.within (h.queued x m s is);
 }
 
@@ -57,6 +60,7 @@ module _ (Claim : List Operation → Engine → Type 0) (kept : IsTracked Claim)
     own = l.grown.own ∙ h.own;
     engine = record {
       settled = settled_as h.world E.replica.own F.replica E.replica still.0 h.engine.settled;
+      short = subst IsShort (sym still.0) h.engine.short;
       queued = λ x m. h.engine.queued x (subst (IsAmong x) still.1 m);
     };
     claim = kept.still h.world E F l still h.claim;
@@ -69,6 +73,7 @@ module _ (Claim : List Operation → Engine → Type 0) (kept : IsTracked Claim)
     own = l.later.grown.own ∙ h.own;
     engine = record {
       settled = settled_as h.world E.replica.own F.replica E.replica l.replica h.engine.settled;
+      short = subst IsShort (sym l.replica) h.engine.short;
       queued = λ y m. elim (among_last E.queue x y (subst (IsAmong y) l.queue m)) [
         | inl n ↦ h.engine.queued y n
         | inr e ↦ subst (λ (z : Submitted). IsRequestOf h.world z.request) (sym e) (λ s is. of_grown K h.world s h.grown.within (of s is))
@@ -84,6 +89,7 @@ module _ (Claim : List Operation → Engine → Type 0) (kept : IsTracked Claim)
     own = l.later.grown.own ∙ h.own;
     engine = record {
       settled = settled_as next.world E.replica.own F.replica (after_item E.replica x) l.replica next.settled;
+      short = subst IsShort (sym l.replica) (item_short E.replica x h.engine.short);
       queued = λ y m s is. of_grown h.world next.world s grown.within (h.engine.queued y (subst (IsAmong y) (sym l.oldest) (inr m)) s is);
     };
     claim = kept.grown h.world next.world F grown.within (kept.taken h.world E F x h.grown.legal sound h.engine l h.claim);

@@ -1,26 +1,24 @@
 -- In a run without lines of any origin an exchange of messages is complete.
-use Rattle.std.proofs.Common.{◌≡◌, ◌⊎◌, inl, inr, ℕ, true, false, List, [], ◌∷◌, ◌++◌, None, Some, sym, ap, ◌∙◌, subst, true≢false, slice_get}
-use Rattle.std.proofs.lemmas.Bool.{false_from_ne_true, cases_Bool, or_left, or_right}
+use Rattle.std.proofs.Common.{◌≡◌, inl, inr, ℕ, true, false, List, ◌∷◌, ◌++◌, None, Some, sym, ap, ◌∙◌, subst, true≢false, slice_get}
+use Rattle.std.proofs.lemmas.Bool.{false_from_ne_true}
 use Rattle.ids.specs.Configurations.{Configuration}
-use Rattle.semantics.specs.Ids.{OpId, is_same_id}
-use Rattle.semantics.specs.LegalHistory.{has_id}
-use Rattle.semantics.specs.Stamped.{Stamped, operations_of}
-use Rattle.semantics.specs.Making.{is_full}
-use Rattle.semantics.specs.Entries.{Entry, stamped_of, applied}
+use Rattle.semantics.specs.Ids.{OpId}
+use Rattle.semantics.specs.LegalHistory.{IsAmong, has_id}
+use Rattle.semantics.specs.Stamped.{Stamped}
+use Rattle.semantics.specs.Entries.{Entry, stamped_of}
 use Rattle.semantics.specs.Replica.{Replica, operations, IsRunning}
 use Rattle.semantics.specs.Delivery.{is_waiting}
-use Rattle.semantics.specs.Engine.{Engine, SentBundle, Received}
+use Rattle.semantics.specs.Engine.{Engine, published_entries, SentBundle, Received}
 use Rattle.semantics.specs.World.{World, WorldStep, SayHello, AnswerHello, Deliver, opened, world_step, world_after}
 use Rattle.semantics.specs.WorldHistory.{IsEngineAfter}
-use Rattle.semantics.specs.WorldExchange.{HaveOwnNumbers, AreWithoutLines, IsExchange, IsHandledBelow, HasApplied, IsFullWithout}
-use Rattle.semantics.proofs.Orders.{id_itself}
-use Rattle.semantics.proofs.CompleteExchange.{one_more}
+use Rattle.semantics.specs.WorldExchange.{HaveOwnNumbers, AreWithoutLines, IsExchange, IsHandledBelow, IsAppliedUnlessFull}
 use Rattle.semantics.proofs.Arriving.{waiting_one}
 use Rattle.semantics.proofs.ItemsInTurn.{among_right}
 use Rattle.semantics.proofs.SoundWorlds.{sound_opened, sound_after, sound_engine, after_more}
 use Rattle.semantics.proofs.EnginesOfOneWorld.{one_world_after}
 use Rattle.semantics.proofs.OpenedWorlds.{opened_world}
-use Rattle.semantics.proofs.ComingHistory.{HasThose}
+use Rattle.semantics.proofs.ComingHistory.{AllAre}
+use Rattle.semantics.proofs.ComingItems.{HasArrived}
 use Rattle.semantics.proofs.AmongLists.{among_left}
 use Rattle.semantics.proofs.CompleteMessages.{exchanged_through}
 
@@ -36,7 +34,7 @@ front_known xs ys h s m = h s (among_left xs ys s m)
 rest_known : (xs ys : List WorldStep) → AreWithoutLines (xs ++ ys) → AreWithoutLines ys
 rest_known xs ys h s m = h s (among_right xs ys s m)
 
-module _ (cs : List Configuration) (steps : List WorldStep) (a b c end : ℕ) (published : List Entry) (x : IsExchange cs steps a b c end published) where
+module _ (cs : List Configuration) (steps : List WorldStep) (a b c first end : ℕ) (published : List Entry) (x : IsExchange cs steps a b c first end published) where
   -- the steps to the answer, from there to the receipt, and from there on
   abbrev asking : List WorldStep
   asking = SayHello a x.t ∷ x.between
@@ -59,37 +57,27 @@ module _ (cs : List Configuration) (steps : List WorldStep) (a b c end : ℕ) (p
   to_end : world_after (opened cs) steps ≡ world_after (world_after (world_after start asking) answering) receiving
   to_end = ap (world_after (opened cs)) x.all ∙ after_more (opened cs) (x.before ++ asking ++ answering) receiving ∙ ap (λ W. world_after W receiving) to_receipt
 
-  exchanged : HaveOwnNumbers cs → AreWithoutLines steps → (A : Engine) → IsEngineAfter cs steps a A → IsHandledBelow A c end → (is_full A.replica.entries ≡ true) ⊎ HasThose A.replica (stamped_of published)
+  exchanged : HaveOwnNumbers cs → AreWithoutLines steps → (A : Engine) → IsEngineAfter cs steps a A → IsHandledBelow A c end
+      → AllAre (HasArrived c first end A) (stamped_of published)
   exchanged own known A e handled =
       let all : AreWithoutLines (x.before ++ asking ++ answering ++ receiving) = subst AreWithoutLines x.all known in
       let to_third = front_known (x.before ++ asking ++ answering) receiving all in
       let to_second = front_known (x.before ++ asking) answering to_third in
       let world = one_world_after _ (opened cs) x.before (sound_opened cs) (front_known x.before asking to_second) (opened_world cs own) in
-      let through = exchanged_through world.0 start x.between x.later x.after (sound_after (opened cs) x.before (sound_opened cs)) world.2 a b c x.t x.h x.u x.k x.sent x.serial x.count x.vector x.answerer
+      let through = exchanged_through world.0 start x.between x.later x.after (sound_after (opened cs) x.before (sound_opened cs)) world.2 a b c x.t x.h x.u x.k x.sent first x.count x.vector x.answerer
       (rest_known x.before asking to_second) (rest_known (x.before ++ asking) answering to_third) (rest_known (x.before ++ asking ++ answering) receiving all) x.hello
       (subst (λ (W : World). slice_get W.engines b ≡ Some x.answerer) to_answer x.there)
       (subst (λ (W : World). (world_step W (AnswerHello b x.u x.h)).reply ≡ SentBundle x.k x.sent) to_answer x.answer)
-      (subst (λ (W : World). (world_step W (Deliver a c x.k)).reply ≡ Received x.serial x.count None) to_receipt x.receipt)
+      (subst (λ (W : World). (world_step W (Deliver a c x.k)).reply ≡ Received first x.count None) to_receipt x.receipt)
       A (subst (λ (W : World). slice_get W.engines a ≡ Some A) to_end e) (subst (IsHandledBelow A c) x.last handled) in
-      subst (λ (G : List Entry). (is_full A.replica.entries ≡ true) ⊎ HasThose A.replica (stamped_of G)) x.had through
+      subst (λ (G : List Entry). AllAre (HasArrived c first end A) (stamped_of G)) x.had (subst (λ n. AllAre (HasArrived c first n A) (stamped_of (published_entries x.answerer))) (sym x.last) through)
 
--- r has all of the history, or lacks one
-all_or_lacks : (r : Replica) (F : List Stamped) → HasThose r F ⊎ ((i : OpId) × (has_id (operations_of F) i ≡ true) × (has_id (operations r) i ≡ false))
-all_or_lacks r [] = inl (λ i e. absurd (true≢false (sym e)))
-all_or_lacks r (s ∷ F) = elim (cases_Bool (has_id (operations r) s.id)) [
-  | inl t ↦ elim (all_or_lacks r F) [
-    | inl h ↦ inl (one_more s F r t h)
-    | inr x ↦ inr (x.0, or_right (is_same_id s.id x.0) (has_id (operations_of F) x.0) x.1, x.2)
-  ]
-  | inr f ↦ inr (s.id, or_left (is_same_id s.id s.id) (has_id (operations_of F) s.id) (id_itself s.id), f)
-]
-
-pub messages_complete : (cs : List Configuration) (steps : List WorldStep) → HaveOwnNumbers cs → AreWithoutLines steps → (a b c end : ℕ) (published : List Entry) (A : Engine) → IsExchange cs steps a b c end published
-    → IsEngineAfter cs steps a A → IsHandledBelow A c end → IsFullWithout A.replica (applied published) ⊎ HasApplied A.replica (applied published)
-messages_complete cs steps own known a b c end published A x e handled = elim (all_or_lacks A.replica (stamped_of published)) [
-  | inl has ↦ inr (λ i t. (has i t, none_waits A.replica (sound_engine cs steps a A e).running i (has i t)))
-  | inr l ↦ elim (exchanged cs steps a b c end published x own known A e handled) [
-    | inl f ↦ inl (record { full = f; one = l.0; wanted = l.1; unapplied = l.2 })
-    | inr has ↦ absurd (true≢false (sym (has l.0 l.1) ∙ l.2))
-  ]
-]
+pub messages_complete : (cs : List Configuration) (steps : List WorldStep) → HaveOwnNumbers cs → AreWithoutLines steps
+    → (a b c first end : ℕ) (published : List Entry) (A : Engine) → IsExchange cs steps a b c first end published
+    → IsEngineAfter cs steps a A → IsHandledBelow A c end → (s : Stamped) → IsAmong s (stamped_of published)
+    → IsAppliedUnlessFull A c first end s
+messages_complete cs steps own known a b c first end published A x e handled s m =
+    elim (exchanged cs steps a b c first end published x own known A e handled s m) [
+      | inl t ↦ inl (t, none_waits A.replica (sound_engine cs steps a A e).running s.id t)
+      | inr f ↦ inr f
+    ]

@@ -13,14 +13,14 @@ use Rattle.semantics.proofs.MovedTokens.{with_client}
 use Rattle.semantics.proofs.ComingItems.{is_of_receipt, awaited}
 
 -- the engine after the client submitted a peer's operation
-abbrev with_item : Engine → ℕ → Client → Stamped → Engine
+abbrev pub with_item : Engine → ℕ → Client → Stamped → Engine
 with_item E c k s = with_client E (E.queue ++ next_item c k (OfPeer s) ∷ []) E.due c (with_cell k (next_item c k (OfPeer s)))
 
-abbrev IsPushed : Engine → ℕ → Client → Stamped → Turn → Type 0
+abbrev pub IsPushed : Engine → ℕ → Client → Stamped → Turn → Type 0
 IsPushed E c k s t = ((why : Refusal) × (refusal_in t.reply ≡ Some why)) ⊎ ((t.engine ≡ with_item E c k s) × (refusal_in t.reply ≡ None))
 
 -- a push is refused, or the item stands in the queue
-pushed_cases : (E : Engine) (c : ℕ) (k : Client) (s : Stamped) → slice_get E.clients c ≡ Some k → IsPushed E c k s (push E c (OfPeer s))
+pub pushed_cases : (E : Engine) (c : ℕ) (k : Client) (s : Stamped) → slice_get E.clients c ≡ Some k → IsPushed E c k s (push E c (OfPeer s))
 pushed_cases E c k s h = rw h (at_room (nat_le E.serials (length k.cells)) (nat_le E.places (length E.queue)) refl refl)
   where
     at_room : (a b : Bool) → nat_le E.serials (length k.cells) ≡ a → nat_le E.places (length E.queue) ≡ b → IsPushed E c k s (submit E c k (next_item c k (OfPeer s)))

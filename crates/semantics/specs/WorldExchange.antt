@@ -1,18 +1,18 @@
 -- Runs of a world in which engines send each other what they have.
-use Rattle.std.specs.Prelude.{◌≡◌, ℕ, ◌+◌, ◌≤◌, Bool, true, false, IsTrue, IsFalse, List, ◌∷◌, ◌++◌, None, Some, slice_get}
+use Rattle.std.specs.Prelude.{◌≡◌, ◌⊎◌, ℕ, ◌+◌, ◌<◌, ◌≤◌, Bool, true, false, IsTrue, IsFalse, List, ◌∷◌, ◌++◌, None, Some, slice_get}
 use Rattle.ids.specs.Configurations.{Configuration}
-use Rattle.semantics.specs.Ids.{OpId}
-use Rattle.semantics.specs.Operations.{Operation}
+use Rattle.ids.specs.declared.refusal.Refusal.TheVariants.{HistoryFull}
 use Rattle.semantics.specs.LegalHistory.{IsAmong, has_id}
 use Rattle.semantics.specs.Vectors.{Vector}
+use Rattle.semantics.specs.Stamped.{Stamped}
 use Rattle.semantics.specs.Making.{is_full}
 use Rattle.semantics.specs.Entries.{Entry}
-use Rattle.semantics.specs.LegalAnswer.{Submitted}
+use Rattle.semantics.specs.LegalAnswer.{OfPeer, Submitted, NotMade}
 use Rattle.semantics.specs.Replica.{Replica, operations}
 use Rattle.semantics.specs.Delivery.{is_waiting}
 use Rattle.semantics.specs.Engine.{Engine, published_entries, StepReply, SentHello, SentBundle, Received}
 use Rattle.semantics.specs.World.{WorldStep, Lines, SayHello, AnswerHello, Deliver, opened, world_step, world_after}
-use Rattle.semantics.specs.WorldHistory.{IsEngineAfter}
+use Rattle.semantics.specs.WorldHistory.{IsEngineAfter, WasSubmitted, WasReplied}
 
 -- no two engines have the same own number
 abbrev pub HaveOwnNumbers : List Configuration → Type 0
@@ -31,8 +31,9 @@ AreWithoutLines steps = (s : WorldStep) → IsAmong s steps → is_of_lines s �
 abbrev pub reply_after : List Configuration → List WorldStep → WorldStep → StepReply
 reply_after cs steps s = (world_step (world_after (opened cs) steps) s).reply
 
--- In these steps engine a says hello, engine b answers it from these published entries, and client c of a receives the answer without a stop, under serials below the end. Other steps may come before, between and after.
-pub record IsExchange (cs : List Configuration) (steps : List WorldStep) (a b c end : ℕ) (published : List Entry) : Type 0 where
+-- In these steps engine a says hello, engine b answers it from these published entries, and client c of a receives the answer
+-- without a stop, under the serials from the first on and below the end. Other steps may come before, between and after.
+pub record IsExchange (cs : List Configuration) (steps : List WorldStep) (a b c first end : ℕ) (published : List Entry) : Type 0 where
   pub before : List WorldStep
   pub between : List WorldStep
   pub later : List WorldStep
@@ -51,23 +52,32 @@ pub record IsExchange (cs : List Configuration) (steps : List WorldStep) (a b c 
   pub there : IsEngineAfter cs (before ++ SayHello a t ∷ between) b answerer
   pub had : published_entries answerer ≡ published
   -- the client receives it
-  pub serial : ℕ
   pub count : ℕ
-  pub receipt : reply_after cs (before ++ SayHello a t ∷ between ++ AnswerHello b u h ∷ later) (Deliver a c k) ≡ Received serial count None
-  pub last : end ≡ serial + count
+  pub receipt : reply_after cs (before ++ SayHello a t ∷ between ++ AnswerHello b u h ∷ later) (Deliver a c k) ≡ Received first count None
+  pub last : end ≡ first + count
   pub all : steps ≡ before ++ SayHello a t ∷ between ++ AnswerHello b u h ∷ later ++ Deliver a c k ∷ after
 
 -- all that client c submitted under serials below the end is handled
 abbrev pub IsHandledBelow : Engine → ℕ → ℕ → Type 0
 IsHandledBelow E c end = (x : Submitted) → IsAmong x E.queue → x.client ≡ c → end ≤ x.serial
 
--- each of these operations is applied, and none of them waits
-abbrev pub HasApplied : Replica → List Operation → Type 0
-HasApplied r O = (i : OpId) → IsTrue (has_id O i) → IsTrue (has_id (operations r) i) × IsFalse (is_waiting r.waiting i)
+-- the operation is applied, and doesn't wait
+abbrev pub HasApplied : Replica → Stamped → Type 0
+HasApplied r s = IsTrue (has_id (operations r) s.id) × IsFalse (is_waiting r.waiting s.id)
 
--- the history is full, and one of these operations isn't applied
-pub record IsFullWithout (r : Replica) (O : List Operation) : Type 0 where
-  pub full : IsTrue (is_full r.entries)
-  pub one : OpId
-  pub wanted : IsTrue (has_id O one)
-  pub unapplied : IsFalse (has_id (operations r) one)
+-- client c delivered the operation, under a serial from the first on and below the end, and the reply to that was HistoryFull
+pub record WasRefusedFull (E : Engine) (c first end : ℕ) (s : Stamped) : Type 0 where
+  pub serial : ℕ
+  pub from : first ≤ serial
+  pub below : serial < end
+  pub item : Submitted
+  pub submitted : WasSubmitted E c serial item
+  pub delivered : item.request ≡ OfPeer s
+  pub length : ℕ
+  pub reply : WasReplied E c serial (NotMade HistoryFull length)
+
+-- the operation is applied; or the history is full, and the operation waits, or was refused for that
+abbrev pub IsAppliedUnlessFull : Engine → ℕ → ℕ → ℕ → Stamped → Type 0
+IsAppliedUnlessFull E c first end s =
+    HasApplied E.replica s
+    ⊎ (IsTrue (is_full E.replica.entries) × (IsTrue (is_waiting E.replica.waiting s.id) ⊎ WasRefusedFull E c first end s))

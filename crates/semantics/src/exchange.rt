@@ -1,4 +1,4 @@
-//! An exchange leaves all that the other history had.
+//! An exchange leaves all that the other history had, unless the receiver's is full.
 
 ghost use Rattle.std.specs.Prelude.{◌≤◌, ℕ, List, IsTrue};
 ghost use Rattle.semantics.specs.Operations.{Operation};

@@ -1,7 +1,8 @@
 //! What holds of every run of a world, over every list of steps.
 
-ghost use Rattle.std.specs.Prelude.{◌≡◌, ◌+◌, ◌<◌, ◌≤◌, ℕ, suc, List, ◌++◌, length, Option, Some, slice_get};
+ghost use Rattle.std.specs.Prelude.{◌≡◌, ◌+◌, ◌<◌, ◌≤◌, ℕ, suc, List, ◌∷◌, ◌++◌, length, Option, Some, slice_get};
 ghost use Rattle.ids.specs.Configurations.{Configuration};
+ghost use Rattle.ids.specs.declared.refusal.Refusal.{Refusal};
 ghost use Rattle.semantics.specs.Ids.{OpId};
 ghost use Rattle.semantics.specs.LegalHistory.{IsAmong};
 ghost use Rattle.semantics.specs.NamedIds.{vector_of};
@@ -11,13 +12,13 @@ ghost use Rattle.semantics.specs.View.{view};
 ghost use Rattle.semantics.specs.Stamped.{Stamped};
 ghost use Rattle.semantics.specs.Making.{Command};
 ghost use Rattle.semantics.specs.Entries.{IsEntryHistory, Own, applied, entry_at, first_entries, stamped_of};
-ghost use Rattle.semantics.specs.LegalAnswer.{Request, OfCommand, Submitted, Reply, Made, Asked, OfDocument, Reading, Answered, IsLegalReply, reading_of};
-ghost use Rattle.semantics.specs.Engine.{Engine, Client, Given, Message, Hello, Bundle, Ticket, Replied, Read, SentBundle, published_entries};
+ghost use Rattle.semantics.specs.LegalAnswer.{Request, OfCommand, OfPeer, Submitted, Reply, Made, Asked, OfDocument, Reading, Answered, IsLegalReply, reading_of};
+ghost use Rattle.semantics.specs.Engine.{Engine, Client, Given, Message, Hello, Bundle, Ticket, Replied, Read, SentBundle, Received, published_entries};
 ghost use Rattle.semantics.specs.WriteSteps.{next_item, push};
 ghost use Rattle.semantics.specs.ReadSteps.{poll, ask, learn, seen_by};
-ghost use Rattle.semantics.specs.PeerSteps.{say_hello, answer_hello};
-ghost use Rattle.semantics.specs.World.{WorldStep, sent_by};
-ghost use Rattle.semantics.specs.WorldHistory.{IsEngineAfter, BeginsWith, WasSubmitted, WasGiven, IsNotBelow, HasGrown};
+ghost use Rattle.semantics.specs.PeerSteps.{say_hello, answer_hello, receive_lines};
+ghost use Rattle.semantics.specs.World.{WorldStep, Push, sent_by};
+ghost use Rattle.semantics.specs.WorldHistory.{IsEngineAfter, BeginsWith, WasSubmitted, WasGiven, IsNotBelow, HasGrown, HasAllSubmitted};
 
 /// Each history is an entry history of its replica. What is published is a beginning of it, and no token has seen more than that.
 pub fn histories_are_entry_histories()
@@ -30,10 +31,29 @@ pub fn histories_are_entry_histories()
 {}
 
 /// A ticket is for what was submitted: the client's request, with its next serial and with what its token has seen as the floor.
+/// It stays under that serial. What is received is submitted in the same way, each operation in turn, as many as the reply counts.
 pub fn tickets_are_for_what_was_submitted()
-    ensures { (E : Engine) (c : ℕ) (request : Request) (serial : ℕ) → (push E c request).reply ≡ Ticket serial →
+    ensures ticket { (E : Engine) (c : ℕ) (request : Request) (serial : ℕ) → (push E c request).reply ≡ Ticket serial →
         (k : Client) × (slice_get E.clients c ≡ Some k) × (serial ≡ suc (length k.cells))
         × WasSubmitted (push E c request).engine c serial (next_item c k request) }
+    ensures kept { (cs : List Configuration) (steps more : List WorldStep) (e c : ℕ) (command : Command) (serial : ℕ) (E F : Engine) →
+        IsEngineAfter cs steps e E → (push E c (OfCommand command)).reply ≡ Ticket serial →
+        IsEngineAfter cs (steps ++ Push e c command ∷ more) e F →
+        (k : Client) × (slice_get E.clients c ≡ Some k) × WasSubmitted F c serial (next_item c k (OfCommand command)) }
+    ensures received { (cs : List Configuration) (steps : List WorldStep) (e : ℕ) (E : Engine) → IsEngineAfter cs steps e E →
+        (c first n : ℕ) (ss : List Stamped) (bad : Option Refusal) (stop : Option (ℕ × Refusal)) →
+        (receive_lines E c ss bad).reply ≡ Received first n stop → (i : ℕ) → i < n →
+        (k : Client) × (s : Stamped) × (slice_get E.clients c ≡ Some k) × (slice_get ss i ≡ Some s)
+        × WasSubmitted (receive_lines E c ss bad).engine c (first + i)
+        (record { client = c; serial = first + i; request = OfPeer s; floor = k.seen }) }
+{}
+
+/// No accepted write vanishes. What a client submitted stands in its cells, under the serials 1, 2, 3 and so on. The first ones
+/// have their answers; the rest are, in the same order and each once, what is due, handled or in the queue. A command that was
+/// answered Made stands in the history (`made_commands_stand_once`).
+pub fn no_submission_vanishes()
+    ensures { (cs : List Configuration) (steps : List WorldStep) (e : ℕ) (E : Engine) → IsEngineAfter cs steps e E →
+        (c : ℕ) → HasAllSubmitted E c }
 {}
 
 /// Each reply to a poll is a legal answer, in the published history, to what was submitted under that serial, and not below its floor.
@@ -86,7 +106,7 @@ pub fn what_is_sent_is_published()
         (s : Stamped) → IsAmong s ss → IsAmong s (stamped_of (published_entries E)) }
 {}
 
-/// Nothing that was seen goes away: histories, what is published of them and what tokens have seen only grow, and what was submitted and answered stays.
+/// Nothing that was seen goes away: histories, what is published of them and what tokens have seen only grow, and what was submitted, replied and answered stays.
 pub fn worlds_only_grow()
     ensures { (cs : List Configuration) (steps more : List WorldStep) (e : ℕ) (E : Engine) (F : Engine) →
         IsEngineAfter cs steps e E → IsEngineAfter cs (steps ++ more) e F → HasGrown E F }

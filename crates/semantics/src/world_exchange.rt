@@ -1,18 +1,19 @@
 //! What holds of every run of a world in which all that is received was sent by its engines, and no two have one own number.
 
-ghost use Rattle.std.specs.Prelude.{◌≡◌, ◌⊎◌, ℕ, List, ◌++◌, Some, slice_get};
+ghost use Rattle.std.specs.Prelude.{◌≡◌, ℕ, List, ◌++◌, Some, slice_get};
 ghost use Rattle.ids.specs.Configurations.{Configuration};
 ghost use Rattle.semantics.specs.Ids.{OpId};
 ghost use Rattle.semantics.specs.Operations.{Operation};
-ghost use Rattle.semantics.specs.LegalHistory.{IsLegal, has_id};
+ghost use Rattle.semantics.specs.LegalHistory.{IsLegal, IsAmong, has_id};
 ghost use Rattle.semantics.specs.Questions.{Question};
 ghost use Rattle.semantics.specs.DocumentAnswer.{document_answer};
-ghost use Rattle.semantics.specs.Entries.{Entry, applied};
+ghost use Rattle.semantics.specs.Stamped.{Stamped};
+ghost use Rattle.semantics.specs.Entries.{Entry, applied, stamped_of};
 ghost use Rattle.semantics.specs.OneWorld.{IsReplicaOf};
 ghost use Rattle.semantics.specs.Engine.{Engine, Message, published_entries};
 ghost use Rattle.semantics.specs.World.{WorldStep, opened, world_after};
 ghost use Rattle.semantics.specs.WorldHistory.{IsEngineAfter};
-ghost use Rattle.semantics.specs.WorldExchange.{HaveOwnNumbers, AreWithoutLines, IsExchange, IsHandledBelow, HasApplied, IsFullWithout};
+ghost use Rattle.semantics.specs.WorldExchange.{HaveOwnNumbers, AreWithoutLines, IsExchange, IsHandledBelow, IsAppliedUnlessFull};
 
 /// All histories are of one legal history, and no engine drops anything.
 pub fn histories_are_of_one_world()
@@ -36,10 +37,12 @@ pub fn messages_stay()
         slice_get (world_after (opened cs) (steps ++ more)).messages k ≡ Some m }
 {}
 
-/// An engine that said hello and received the answer has, once what came is handled, all that its peer had published when it answered, and none of it waits, unless its history was full before all of it was there.
+/// An engine that said hello and received the answer has, once what came is handled, all that its peer had published when it
+/// answered, and none of it waits. Only where its history is full may an operation wait, or have been refused with HistoryFull
+/// when it was delivered.
 pub fn an_exchange_of_messages_is_complete()
     ensures { (cs : List Configuration) (steps : List WorldStep) → HaveOwnNumbers cs → AreWithoutLines steps →
-        (a b c end : ℕ) (published : List Entry) (A : Engine) → IsExchange cs steps a b c end published →
+        (a b c first end : ℕ) (published : List Entry) (A : Engine) → IsExchange cs steps a b c first end published →
         IsEngineAfter cs steps a A → IsHandledBelow A c end →
-        IsFullWithout A.replica (applied published) ⊎ HasApplied A.replica (applied published) }
+        (s : Stamped) → IsAmong s (stamped_of published) → IsAppliedUnlessFull A c first end s }
 {}
