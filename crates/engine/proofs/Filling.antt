@@ -7,7 +7,8 @@ use Rattle.semantics.specs.Replica.{IsRunning}
 use Rattle.semantics.specs.Engine.{Handled}
 use Rattle.semantics.specs.Receipts.{IsAnswer}
 use Rattle.semantics.specs.Handling.{Handler, Handles}
-use Rattle.semantics.specs.Batches.{ComeFrom, AreAnswers, IsBatch, items_of, of_client}
+use Rattle.semantics.specs.Batches.{ComeFrom, AreAnswers, IsBatch, items_of}
+use Rattle.semantics.specs.WorldHistory.{of_client}
 use Rattle.semantics.specs.Publication.{Holds}
 use Rattle.semantics.proofs.HandledBatches.{next_above, no_batch, one_more, taken_items}
 use Rattle.items.specs.declared.item.Item.{Item}

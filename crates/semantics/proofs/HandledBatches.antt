@@ -9,10 +9,10 @@ use Rattle.semantics.specs.LegalAnswer.{OfCommand, Submitted, Reply}
 use Rattle.semantics.specs.Replica.{Replica, IsRunning}
 use Rattle.semantics.specs.Drain.{with_peers}
 use Rattle.semantics.specs.Engine.{Handled}
-use Rattle.semantics.specs.WorldHistory.{BeginsWith}
+use Rattle.semantics.specs.WorldHistory.{BeginsWith, of_client}
 use Rattle.semantics.specs.Receipts.{IsAnswer}
 use Rattle.semantics.specs.Handling.{Handler, DrainsTo, Resumes, ResumesIf, Handles, Runs, AreFor, IsAfter}
-use Rattle.semantics.specs.Batches.{of_client, AsksFor, ComeFrom, AreAnswers, items_of, IsBatch, IsResumed}
+use Rattle.semantics.specs.Batches.{AsksFor, ComeFrom, AreAnswers, items_of, IsBatch, IsResumed}
 use Rattle.semantics.proofs.HandledAnswers.{IsPart, part_to, peers_before, peers_for, handled, answer_stays}
 
 -- ---- serials

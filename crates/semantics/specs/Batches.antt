@@ -1,18 +1,13 @@
 -- What holds of a batch of items that a writer handled, and of all that it has taken.
-use Rattle.std.specs.Prelude.{◌≡◌, ◌==◌, ◌-◌, ◌<◌, ℕ, cond, ⊤, Some, List, [], ◌∷◌, ◌++◌, length, map, slice_get}
+use Rattle.std.specs.Prelude.{◌≡◌, ◌-◌, ◌<◌, ℕ, ⊤, Some, List, [], ◌∷◌, ◌++◌, length, map, slice_get}
 use Rattle.semantics.specs.Making.{Command}
 use Rattle.semantics.specs.Entries.{Entry, Own, Peer}
 use Rattle.semantics.specs.LegalAnswer.{OfCommand, Submitted}
 use Rattle.semantics.specs.Replica.{Replica, IsRunning}
 use Rattle.semantics.specs.Engine.{Handled}
-use Rattle.semantics.specs.WorldHistory.{BeginsWith}
+use Rattle.semantics.specs.WorldHistory.{BeginsWith, of_client}
 use Rattle.semantics.specs.Receipts.{IsAnswer}
 use Rattle.semantics.specs.Handling.{Handler, Runs}
-
--- the items of one client, in their order
-abbrev pub of_client : ℕ → List Submitted → List Submitted
-of_client c [] = []
-of_client c (x ∷ xs) = cond (x.client == c) (x ∷ of_client c xs) (of_client c xs)
 
 -- of one client's items, numbered from serial 1 on, the one with that serial asks for the command
 abbrev pub AsksFor : List Submitted → ℕ → Command → Type 0

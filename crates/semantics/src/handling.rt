@@ -7,10 +7,10 @@ ghost use Rattle.semantics.specs.Entries.{IsAbove, Entry};
 ghost use Rattle.semantics.specs.LegalAnswer.{Submitted, Reply, NotMade};
 ghost use Rattle.semantics.specs.Replica.{IsRunning};
 ghost use Rattle.semantics.specs.Engine.{Handled};
-ghost use Rattle.semantics.specs.WorldHistory.{BeginsWith};
+ghost use Rattle.semantics.specs.WorldHistory.{BeginsWith, of_client};
 ghost use Rattle.semantics.specs.Handling.{Handler, Resumes, Handles, IsAfter, is_outside_rules};
 ghost use Rattle.semantics.specs.Receipts.{IsAnswer};
-ghost use Rattle.semantics.specs.Batches.{ComeFrom, IsBatch, IsResumed, items_of, of_client};
+ghost use Rattle.semantics.specs.Batches.{ComeFrom, IsBatch, IsResumed, items_of};
 
 /// Handling an item keeps what holds of a replica, whether an allocation fails or not, and the reply is a legal answer.
 pub fn handling_keeps_replicas()
