@@ -1,6 +1,7 @@
 -- What contracts see of a client.
 use Rattle.std.specs.Prelude.{ℕ, ◌≡◌, ◌+◌, ◌<◌, ◌≤◌, ⊤, cond, Option, Some, None, IfSome, List, [], ◌∷◌, length, map, option_map, slice_get, slice_set}
 use Rattle.atomic_table.specs.Seated.{TableId}
+use Rattle.ids.specs.Configurations.{Configuration}
 use Rattle.semantics.specs.Entries.{Entry}
 use Rattle.semantics.specs.WorldHistory.{BeginsWith}
 use Rattle.items.specs.declared.item.Item.{Item}
@@ -50,6 +51,14 @@ pub record Polls (c d : Client) (i : ℕ) (o : Option Reply) : Type 0 where
   pub item : after.item ≡ before.item
   pub known : IfSome before.known (λ a. after.known ≡ Some a)
   pub reply : o ≡ option_map (λ g. g.reply) (answer_of after)
+
+-- a client of a new engine with this configuration: it has seen and submitted nothing
+pub record IsNewClient (config : Configuration) (c : Client) : Type 0 where
+  pub replica : c.replica ≡ config.own
+  pub serials : c.serials ≡ config.serials
+  pub capacity : c.capacity ≡ config.queue
+  pub seen : c.seen ≡ []
+  pub kept : c.kept ≡ []
 
 -- clients of this queue, numbered from n on
 abbrev pub AreClients : TableId → ℕ → List Client → Type 0

@@ -122,12 +122,7 @@ impl<N: EngineName> Client<N> {
     }
 
     /// Submits a request under the next serial.
-    fn send(
-        &mut self,
-        rt: &impl Wait,
-        alloc: Global,
-        request: Request,
-    ) -> Result<Ticket, Refusal>
+    fn send(&mut self, rt: &impl Wait, alloc: Global, request: Request) -> Result<Ticket, Refusal>
         ensures ticket { IfOk result (λ t. t ≡ record { replica = self.old.replica; client = self.old.number; serial = length self.old.kept + 1 }) }
         ensures kept { MatchResult result
             (λ _. self.new ≡ record self.old { kept = self.old.kept ++ (record { item = record { client = self.old.number; serial = length self.old.kept + 1; floor = length self.old.seen; request = request }; known = None }) ∷ [] })
@@ -272,10 +267,7 @@ impl<N: EngineName> Client<N> {
 ///
 /// # Errors
 /// `NoMemory` if allocation fails.
-fn envelope_for<N: EngineName>(
-    alloc: Global,
-    item: Item,
-) -> Result<(Envelope<N>, Kept<N>), Refusal>
+fn envelope_for<N: EngineName>(alloc: Global, item: Item) -> Result<(Envelope<N>, Kept<N>), Refusal>
     ensures item { IfOk result (λ r. (r.0.answer.value.item ≡ item) × (r.1.item ≡ item) × (r.1.known ≡ None)) }
     ensures err { IfErr result (λ why. why ≡ NoMemory) }
 {

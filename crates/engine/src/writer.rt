@@ -61,7 +61,7 @@ pub struct Writer<N: EngineName> {
     pub(crate) taker: Taker<N>,
     /// Handled and not answered, the oldest first, with room for a batch.
     pub(crate) held: Vec<Handled<N>>,
-    batch: usize,
+    pub(crate) batch: usize,
 }
 
 impl<N: EngineName> Model for Writer<N> {

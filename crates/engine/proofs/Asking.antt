@@ -1,0 +1,44 @@
+-- What a client keeps, as it polls.
+use Rattle.std.proofs.Common.{◌≡◌, ℕ, zero, suc, ◌<◌, Option, Some, None, List, [], ◌∷◌, length, map, set, get_or, slice_get, sym, refl, ap, ◌∙◌}
+use Rattle.std.specs.Option.{option_map, IfSome}
+use Rattle.std.proofs.lemmas.Option.{slice_get_read, slice_get-map}
+use Rattle.semantics.specs.Entries.{Entry}
+use Rattle.semantics.specs.LegalAnswer.{Reply as TheReply}
+use Rattle.semantics.specs.WorldHistory.{BeginsWith}
+use Rattle.semantics.specs.Receipts.{IsAnswer}
+use Rattle.semantics.proofs.HandledAnswers.{answer_stays}
+use Rattle.items.specs.declared.item.Item.{Item}
+use Rattle.items.specs.declared.item.Reply.{Reply}
+use Rattle.items.specs.Meanings.{submitted_of}
+use Rattle.command.specs.Answers.{Given}
+use Rattle.engine.specs.Clients.{Keeps, Client, items_by, answer_of, Polls}
+
+pub kept_at : (kept : List Keeps) (n i : ℕ) (k : Keeps) → n ≡ length kept → i < n → k ≡ get_or kept i k → slice_get kept i ≡ Some k
+kept_at kept n i k len lt is = slice_get_read kept n i k len lt is
+
+pub item_at : (kept : List Keeps) (i : ℕ) (k : Keeps) → slice_get kept i ≡ Some k → slice_get (map (λ (z : Keeps). z.item) kept) i ≡ Some k.item
+item_at kept i k at = slice_get-map (λ (z : Keeps). z.item) kept i ∙ ap (option_map (λ (z : Keeps). z.item)) at
+
+pub items_set : (kept : List Keeps) (i : ℕ) (k old : Keeps) → slice_get kept i ≡ Some old → k.item ≡ old.item → map (λ (z : Keeps). z.item) (set kept i k) ≡ map (λ (z : Keeps). z.item) kept
+items_set [] i k old at same = refl
+items_set (x ∷ kept) zero k old at same = let is : x ≡ old = cc in ap (λ (a : Item). a ∷ map (λ (z : Keeps). z.item) kept) (same ∙ ap (λ (z : Keeps). z.item) (sym is))
+items_set (x ∷ kept) (suc i) k old at same = ap (λ (l : List Item). x.item ∷ l) (items_set kept i k old at same)
+
+-- the clause on what was submitted, and the one on the legal reply
+pub legal_reply : (own : ℕ) (table : List ℕ) (c : Client) (kept : List Keeps) (i : ℕ) (k : Keeps) (r : TheReply) (G H : List Entry) → kept ≡ c.kept → slice_get kept i ≡ Some k → BeginsWith H G → IsAnswer own table G (submitted_of table k.item) r
+    → (x : Item) × (slice_get (items_by c) i ≡ Some x) × IsAnswer own table H (submitted_of table x) r
+legal_reply own table c kept i k r G H is at b h = (k.item, ap (λ (l : List Keeps). slice_get (map (λ (z : Keeps). z.item) l) i) (sym is) ∙ item_at kept i k at, answer_stays own table H G (submitted_of table k.item) r b h)
+
+pub polled : (c d : Client) (kept : List Keeps) (i : ℕ) (k after : Keeps) (o : Option Reply) → kept ≡ c.kept → slice_get kept i ≡ Some k → d.kept ≡ set kept i after → after.item ≡ k.item → IfSome k.known (λ a. after.known ≡ Some a) → o ≡ option_map (λ (g : Given). g.reply) (answer_of after) → Polls c d i o
+polled c d kept i k after o is at now same known reply = record {
+  before = k;
+  after = after;
+  at = ap (λ (l : List Keeps). slice_get l i) (sym is) ∙ at;
+  kept = now ∙ ap (λ (l : List Keeps). set l i after) is;
+  item = same;
+  known = known;
+  reply = reply;
+}
+
+pub no_reply : (k : Keeps) → answer_of k ≡ None → {r : Option Reply} → r ≡ None → r ≡ option_map (λ (g : Given). g.reply) (answer_of k)
+no_reply k e z = z ∙ ap (option_map (λ (g : Given). g.reply)) (sym e)

@@ -1,0 +1,47 @@
+use Rattle.std.proofs.Common.{◌≡◌, ◌++◌, List, Some, length, slice_get, sym, ap, ◌∙◌, subst, arith, refl, rules}
+use Rattle.crossbeam_queue.specs.Passes.{view}
+use Rattle.semantics.specs.Entries.{Entry, Own, entry_at}
+use Rattle.semantics.specs.WorldHistory.{BeginsWith}
+use Rattle.semantics.specs.Publication.{Publication}
+use Rattle.items.specs.declared.item.Item.{Item}
+use Rattle.command.specs.Fifo.{of}
+use Rattle.engine.specs.Clients.{items_by, AreClients}
+use Rattle.engine.specs.Turns.{Writer}
+use Rattle.engine.proofs.OwnSubmissions.{own_submitted}
+use Rattle.engine.proofs.Gathering.{gathering_none, gathering_head, gathering_more, gathered_seen, known_at}
+use Rattle.engine.proofs.closing.close.Goals as goal
+
+pub end-requires-clause-queue : goal.end-requires-clause-queue
+end-requires-clause-queue g c = (gathering_head _ _ _ c.next.new.self.rest.items c.in-Some.client _ _ _ c.loop-client.invariant.2 c.in-Some.ensures.steps.0).1 ∙ sym c.loop-client.invariant.4
+
+pub end-requires-clause-number : goal.end-requires-clause-number
+end-requires-clause-number g c = (gathering_head _ _ _ c.next.new.self.rest.items c.in-Some.client _ _ _ c.loop-client.invariant.2 c.in-Some.ensures.steps.0).0
+
+pub loop-client-init : goal.loop-client-init
+loop-client-init g c = let q = ap (λ (w : Writer). w.queue) c.writer.view_is in (tt, tt, gathering_none _ _ _ _ _ (subst (λ t. AreClients t 0 c.args.clients.items) (sym q) c.requires) (search rules) c.writer.invariant.4, refl, refl)
+
+pub loop-client-preserved : goal.loop-client-preserved
+loop-client-preserved g c = (
+  tt,
+  tt,
+  gathering_more _ _ _ c.next.new.self.rest.items c.in-Some.client _ _ _ _ _ c.loop-client.invariant.2 c.in-Some.ensures.steps.0 c.end.ensures.taker.2 c.end.ensures.seen c.notice-notice.ensures.published,
+  c.end.ensures.taker.1 ∙ c.loop-client.invariant.3,
+  c.end.ensures.taker.0 ∙ c.loop-client.invariant.4,
+)
+
+pub returns-clause-seen : goal.returns-clause-seen
+returns-clause-seen g c = gathered_seen _ _ _ _ _ _ _ c.loop-client.invariant.2 (search rules) (c.into_entries.ensures ∙ c.end-document.ensures.document)
+
+pub returns-clause-taken : goal.returns-clause-taken
+returns-clause-taken g c =
+    let q = c.rest.ensures.whole in
+    let got : (view c.loop-client.taker.pass).got ≡ c.args.writer.took = c.loop-client.invariant.3 ∙ ap (λ (w : Writer). w.took) c.writer.view_is in
+    let held : c.len-2.result ≡ length c.writer.inside.held.items = search rules in
+    let same : length c.writer.inside.held.items ≡ length c.args.writer.held = ap (λ (w : Writer). length w.held) c.writer.view_is in (
+      q.0,
+      omega (arith, held, same, q.1),
+      λ k d at. ap (λ (l : List Item). of k (l ++ q.0)) (sym got) ∙ q.2 k (items_by d) (known_at _ _ _ _ _ _ c.loop-client.invariant.2 (search rules) k d at),
+    )
+
+pub returns-clause-own : goal.returns-clause-own
+returns-clause-own g c k d at n serial command s there = ?
