@@ -1,6 +1,6 @@
 use Rattle.std.proofs.Common.{inl, inr, List, ℕ, sym, ap, ◌∙◌}
 use Rattle.operation.specs.Alone.{fault_alone}
-use Rattle.inbox.proofs.tests.put.Goals as goal
+use Rattle.inbox.proofs.tests.playing.put.Goals as goal
 
 pub returns : goal.returns
 returns c o m =
