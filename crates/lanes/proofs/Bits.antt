@@ -176,22 +176,3 @@ ones-packed bits =
     ∙ ones_of (chunk (64 * w) 64 bits) ∙ ap (λ m. count_true (take 64 (drop m bits))) (mul_comm 64 w))
     (omega arith)
     (length-map (packed bits) count_ones ∙ length-map-range_with_len (word_at bits) 0 all)
-
--- ---- the lowest one of a word
-
--- a number with a one at a place is at least the one there
-at_least_one_bit : (n i : ℕ) → bit_at n i ≡ 1 → 2 ^ i ≤ n
-at_least_one_bit n i h =
-    let whole = shr_split n i in
-    let some : 1 ≤ n / 2 ^ i = omega arith in
-    omega (arith, whole, mul-le 1 (2 ^ i) (n / 2 ^ i) (2 ^ i) some (omega arith))
-
-pub lowest_fits : (n : ℕ) → 0 < n → n < 2 ^ 64 → 1 * 2 ^ trailing_zeros w64 n % 2 ^ 64 ≤ n
-lowest_fits n some fits =
-    let low = bit_at-trailing_zeros w64 n some fits in
-    rw (one_shl (trailing_zeros w64 n) 64 low.0) (at_least_one_bit n (trailing_zeros w64 n) low.1)
-
-pub rest_of_lowest : (n : ℕ) → 0 < n → n < 2 ^ 64 → n - 1 * 2 ^ trailing_zeros w64 n % 2 ^ 64 + 2 ^ trailing_zeros w64 n ≡ n
-rest_of_lowest n some fits =
-    let low = bit_at-trailing_zeros w64 n some fits in
-    rw (one_shl (trailing_zeros w64 n) 64 low.0) (omega (arith, at_least_one_bit n (trailing_zeros w64 n) low.1))

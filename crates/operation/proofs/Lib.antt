@@ -1,3 +1,4 @@
 -- Places by their keys, and the faults of an operation alone.
 pub mod PlaceKeys
 pub mod AloneFaults
+pub mod PassedAlone

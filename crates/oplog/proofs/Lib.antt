@@ -5,3 +5,4 @@ pub mod Missing
 pub mod Found
 pub mod Places
 pub mod Room
+pub mod PlacedIds
