@@ -41,7 +41,7 @@ module _ (f : ℕ → Bool) where
       at_test false here rest = raised (id_at c p) (by_table ps cs) here rest
 
 -- each number of a list is its member
-members_all : (ps : List ℕ) → list_all (is_member ps) ps ≡ true
+pub members_all : (ps : List ℕ) → list_all (is_member ps) ps ≡ true
 members_all [] = refl
 members_all (p ∷ ps) = and_from (is_member (p ∷ ps) p) (list_all (is_member (p ∷ ps)) ps) (or_left (p == p) (is_member ps p) (eq-eqb p p refl)) (more ps (members_all ps))
   where
