@@ -31,7 +31,7 @@ use Rattle.wire.proofs.NormalNumbers.{AreNormal, IsNormal}
 
 -- ---- what an answer was made of
 
-same_ok : {A : Type 0} (x y : A) → Ok {A = A} {E = Refusal} x ≡ Ok y → x ≡ y
+same_ok : {A : Type 0} (x y : A) → ◌≡◌ {A = Result A Refusal} (Ok x) (Ok y) → x ≡ y
 same_ok x y h = cc
 
 pub made_of : {A B : Type 0} (f : A → Result B Refusal) (r : Result A Refusal) (y : B) → and_then f r ≡ Ok y → (x : A) × (r ≡ Ok x) × (f x ≡ Ok y)
@@ -267,28 +267,30 @@ at_last f before AsRegister HeadKey p h = absurd (cc)
 
 below : (f : Element) (before : Data) (t : Tag) (xs : List Entered) (last : LastKey) (p : Place) → place_below f (Some t) xs last ≡ Ok p → LeadTo f before (part_data before t ∷ parts_data xs) (key_data last) p
 below f before t [] last p h = at_last f before t last p h
-below f before t (x ∷ xs) last p h = by t x.key (ap key_data refl) (made_of (λ g. place_below g (Some x.tag) xs last) (element_at f (Some t) x.key) p h)
+below f before t (x ∷ xs) last p h = by t x.key refl (λ e d there. below e d x.tag xs last p there) (made_of (λ g. place_below g (Some x.tag) xs last) (element_at f (Some t) x.key) p h)
   where
-    by : (t : Tag) (k : LastKey) → key_data x.key ≡ key_data k → (g : Element) × (element_at f (Some t) k ≡ Ok g) × (place_below g (Some x.tag) xs last ≡ Ok p)
+    by : (t : Tag) (k : LastKey) → key_data x.key ≡ key_data k
+        → ((e : Element) (d : Data) → place_below e (Some x.tag) xs last ≡ Ok p → LeadTo e d (part_data d x.tag ∷ parts_data xs) (key_data last) p)
+        → (g : Element) × (element_at f (Some t) k ≡ Ok g) × (place_below g (Some x.tag) xs last ≡ Ok p)
         → LeadTo f before (part_data before t ∷ part_data (key_data x.key) x.tag ∷ parts_data xs) (key_data last) p
-    by AsMap (FieldName n) same g =
+    by AsMap (FieldName n) same rest g =
         let there : place_below (Field f n) (Some x.tag) xs last ≡ Ok p = subst (λ e. place_below e (Some x.tag) xs last ≡ Ok p) (sym (same_ok (Field f n) g.0 g.1)) g.2 in
         one_field f before n (part_data (key_data x.key) x.tag ∷ parts_data xs) (key_data last) p
-        (subst (λ d. LeadTo (Field f n) (string n) (part_data d x.tag ∷ parts_data xs) (key_data last) p) (sym same) (below (Field f n) (string n) x.tag xs last p there))
-    by AsList (ItemId a) same g =
+        (subst (λ d. LeadTo (Field f n) (string n) (part_data d x.tag ∷ parts_data xs) (key_data last) p) (sym same) (rest (Field f n) (string n) there))
+    by AsList (ItemId a) same rest g =
         let there : place_below (Item f a) (Some x.tag) xs last ≡ Ok p = subst (λ e. place_below e (Some x.tag) xs last ≡ Ok p) (sym (same_ok (Item f a) g.0 g.1)) g.2 in
         one_item f before a (part_data (key_data x.key) x.tag ∷ parts_data xs) (key_data last) p
-        (subst (λ d. LeadTo (Item f a) (id_json a) (part_data d x.tag ∷ parts_data xs) (key_data last) p) (sym same) (below (Item f a) (id_json a) x.tag xs last p there))
-    by AsMap DocKey same g = absurd (let e = g.1 in cc)
-    by AsMap (ItemId a) same g = absurd (let e = g.1 in cc)
-    by AsMap HeadKey same g = absurd (let e = g.1 in cc)
-    by AsList DocKey same g = absurd (let e = g.1 in cc)
-    by AsList (FieldName n) same g = absurd (let e = g.1 in cc)
-    by AsList HeadKey same g = absurd (let e = g.1 in cc)
-    by AsRegister DocKey same g = absurd (let e = g.1 in cc)
-    by AsRegister (FieldName n) same g = absurd (let e = g.1 in cc)
-    by AsRegister (ItemId a) same g = absurd (let e = g.1 in cc)
-    by AsRegister HeadKey same g = absurd (let e = g.1 in cc)
+        (subst (λ d. LeadTo (Item f a) (id_json a) (part_data d x.tag ∷ parts_data xs) (key_data last) p) (sym same) (rest (Item f a) (id_json a) there))
+    by AsMap DocKey same rest g = absurd (let e = g.1 in cc)
+    by AsMap (ItemId a) same rest g = absurd (let e = g.1 in cc)
+    by AsMap HeadKey same rest g = absurd (let e = g.1 in cc)
+    by AsList DocKey same rest g = absurd (let e = g.1 in cc)
+    by AsList (FieldName n) same rest g = absurd (let e = g.1 in cc)
+    by AsList HeadKey same rest g = absurd (let e = g.1 in cc)
+    by AsRegister DocKey same rest g = absurd (let e = g.1 in cc)
+    by AsRegister (FieldName n) same rest g = absurd (let e = g.1 in cc)
+    by AsRegister (ItemId a) same rest g = absurd (let e = g.1 in cc)
+    by AsRegister HeadKey same rest g = absurd (let e = g.1 in cc)
 
 -- what leads from the root to a place is that place, as it is written
 led : (ds : List Data) (last : Data) (p : Place) → LeadTo Doc root_json ds last p → (array (items_of ds) ≡ path_json p) × (last ≡ last_json p)
