@@ -1,10 +1,10 @@
 -- The places of the operations of a history, and what they say of its ids.
-use Rattle.std.proofs.Common.{◌≡◌, ◌≢◌, inl, inr, ℕ, suc, ◌<◌, Bool, true, false, not, cond, ◌&&◌, ◌||◌, ◌==◌, List, [], ◌∷◌, length, Option, Some, None, is_some, refl, sym, ap, ◌∙◌, subst, true≢false, arith}
+use Rattle.std.proofs.Common.{◌≡◌, ◌≢◌, inl, inr, ℕ, suc, ◌<◌, Bool, true, false, not, cond, ◌&&◌, ◌==◌, List, [], ◌∷◌, length, Option, Some, None, is_some, refl, sym, ap, ◌∙◌, subst, true≢false, arith}
 use Rattle.std.proofs.lemmas.Bool.{and_from, and_left, and_right, cases_eq, eq-eqb, ne_eqb, or_from, or_left, or_right}
 use Rattle.semantics.specs.Ids.{OpId, is_same_id}
 use Rattle.semantics.specs.LegalHistory.{has_id}
 use Rattle.semantics.specs.Vectors.{Vector, at, is_at_most}
-use Rattle.semantics.specs.Stamped.{IsLegalStamped, MayFollow, operation_after}
+use Rattle.semantics.specs.Stamped.{IsLegalStamped, operation_after}
 use Rattle.semantics.specs.Entries.{Entry, applied, entry_at, stamped_in, stamped_of}
 use Rattle.semantics.specs.Faults.{is_open}
 use Rattle.semantics.proofs.AbsentIds.{fresh}

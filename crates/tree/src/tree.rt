@@ -120,7 +120,11 @@ impl Tree {
     ///
     /// # Errors
     /// `AllocError` if allocation fails.
-    pub fn values(&self, alloc: Global, element: &ElementPlace) -> Result<Vec<(OpId, Scalar)>, AllocError>
+    pub fn values(
+        &self,
+        alloc: Global,
+        element: &ElementPlace,
+    ) -> Result<Vec<(OpId, Scalar)>, AllocError>
         ensures { IfOk result (λ v. valued v.items ≡ (document self.now).register element.now) }
     {
         values(&self.nodes, element, alloc)
@@ -130,7 +134,11 @@ impl Tree {
     ///
     /// # Errors
     /// `AllocError` if allocation fails.
-    pub fn conflicts(&self, alloc: Global, element: &ElementPlace) -> Result<Vec<(OpId, Tag)>, AllocError>
+    pub fn conflicts(
+        &self,
+        alloc: Global,
+        element: &ElementPlace,
+    ) -> Result<Vec<(OpId, Tag)>, AllocError>
         ensures { IfOk result (λ v. tagged v.items ≡ (document self.now).presence element.now) }
     {
         conflicts(&self.nodes, element, alloc)

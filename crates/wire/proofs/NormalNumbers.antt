@@ -1,11 +1,11 @@
 -- What is read of a text has each number below 0 as such a number.
-use Rattle.std.proofs.Common.{◌≡◌, ◌<◌, ◌^◌, ◌&&◌, ◌==◌, ℕ, zero, suc, Bool, true, false, cond, nat_lt, nat_le, List, Option, Some, None, refl, sym, ap, ◌∙◌, arith}
-use Rattle.std.specs.Prelude.{⊤, pos, negsuc, option_map, option_and_then, slice_index, drop, length}
+use Rattle.std.proofs.Common.{◌≡◌, ◌<◌, ◌^◌, ◌&&◌, ◌==◌, ℕ, zero, suc, Bool, true, false, cond, nat_lt, nat_le, List, Option, Some, None, refl, arith}
+use Rattle.std.specs.Prelude.{⊤, pos, negsuc, option_map, option_and_then, slice_index, drop}
 use Rattle.std.specs.Float.{binary64, float_is_finite}
 use Rattle.std.proofs.lemmas.Bool.{and_parts, ltb-true}
 use Rattle.fast_float.specs.Text.{Parts, digits_of, minus, nearest, scan, with_sign}
 use Rattle.json.specs.Json as json
-use Rattle.serde_json.specs.Data.{Num, unsigned, negative, float, Data, null, boolean, number, string, array, object, Items, no_items, item, Members, no_members, member}
+use Rattle.serde_json.specs.Data.{Num, unsigned, negative, float, Data, null, boolean, number, string, array, object, Items, no_items, item, no_members}
 use Rattle.serde_json.specs.Read.{float_of, is_integer, max_depth, number_from, number_of, of_items, of_json, of_members, read}
 use Rattle.json.specs.Lex.{tokens}
 

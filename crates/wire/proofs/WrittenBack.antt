@@ -1,5 +1,5 @@
 -- What is read as an operation or a vector is the JSON that writing it gives.
-use Rattle.std.proofs.Common.{◌≡◌, ◌⊎◌, ◌^◌, inl, inr, ◌==◌, ℕ, nat_lt, length, Bool, true, false, cond, List, [], ◌∷◌, ◌++◌, map, Option, Some, None, Result, Ok, Err, refl, sym, ap, ◌∙◌, subst}
+use Rattle.std.proofs.Common.{◌≡◌, ◌⊎◌, ◌^◌, inl, inr, ◌==◌, ℕ, nat_lt, length, Bool, true, false, cond, List, [], ◌∷◌, ◌++◌, map, Some, None, Result, Ok, Err, refl, sym, ap, ◌∙◌, subst}
 use Rattle.std.specs.Prelude.{codes, pos, negsuc, option_map}
 use Rattle.std.specs.Option.{ok_or}
 use Rattle.std.proofs.lemmas.Bool.{eqb-true}
@@ -23,8 +23,8 @@ use Rattle.value.specs.Forms.{json_of, value_form}
 use Rattle.wire.specs.Forms.{and_then, list_form, number_form, phrase_form, phrase_of, text_form, with_parts}
 use Rattle.wire.specs.Members.{counter_form, id_of, limited_form, member_form, member_of, replica_form}
 use Rattle.wire.specs.Messages.{hello_json, hello_of, only_vector}
-use Rattle.wire.specs.Operations.{entered_json, head_json, id_json, key_json, last_from, last_json, mutation_json, operation_json, parts_from, path_json, phrase, root_json}
-use Rattle.wire.specs.Places.{Entered, count_parts, element_at, entered_of, field_key, item_key, key_form, numbered_key, only_key, path_form, path_of, parts_of, place_at_last, place_below, place_form, tag_form}
+use Rattle.wire.specs.Operations.{head_json, id_json, last_from, last_json, mutation_json, operation_json, parts_from, path_json, phrase, root_json}
+use Rattle.wire.specs.Places.{Entered, count_parts, element_at, entered_of, key_form, numbered_key, only_key, path_form, path_of, parts_of, place_at_last, place_below, place_form, tag_form}
 use Rattle.wire.specs.Reading.{Fields, fields_form, fields_of, five_parts, mutation_form, mutation_of, nothing_more, only_value, operation_form, parts_after}
 use Rattle.wire.specs.Vectors.{count, next_of, pair_form, pair_json, pair_of, pairs_above, vector_form, vector_json}
 use Rattle.wire.proofs.NormalNumbers.{AreNormal, IsNormal}
@@ -295,14 +295,12 @@ below f before t (x ∷ xs) last p h = by t x.key refl (λ e d there. below e d 
 -- what leads from the root to a place is that place, as it is written
 led : (ds : List Data) (last : Data) (p : Place) → LeadTo Doc root_json ds last p → (array (items_of ds) ≡ path_json p) × (last ≡ last_json p)
 led ds last p (inl l) =
-    let keys : l.0 ≡ keys_from_root (down Doc l.0) = sym (keys_from_root-down l.0) in
-    (
+    let keys : l.0 ≡ keys_from_root (down Doc l.0) = sym (keys_from_root-down l.0) in (
       ap (λ (es : List Data). array (items_of es)) (l.2 ∙ ap (parts_from root_json) keys) ∙ ap path_json (sym l.1),
       l.3 ∙ ap (last_from root_json) keys ∙ ap last_json (sym l.1),
     )
 led ds last p (inr l) =
-    let keys : l.0 ≡ keys_from_root (down Doc l.0) = sym (keys_from_root-down l.0) in
-    (
+    let keys : l.0 ≡ keys_from_root (down Doc l.0) = sym (keys_from_root-down l.0) in (
       ap (λ (es : List Data). array (items_of es)) (l.2 ∙ ap (λ ks. parts_from root_json ks ++ phrase (codes "l") (last_from root_json ks ∷ []) ∷ []) keys) ∙ ap path_json (sym l.1),
       l.3 ∙ ap last_json (sym l.1),
     )

@@ -14,7 +14,8 @@ mod tests;
 mod vectors;
 
 pub use bundles::{
-    LinesRead, bundles_are_read_back, bundles_are_written_alike, read_bundle, read_lines, write_bundle,
+    LinesRead, bundles_are_read_back, bundles_are_written_alike, read_bundle, read_lines,
+    write_bundle,
 };
 pub use forms::{json_of, list_in, number_in, phrase_in, text_in};
 pub use lines::{Line, Lines};

@@ -1,4 +1,4 @@
-use Rattle.std.proofs.Common.{◌≡◌, inl, inr, length, List, ℕ, sym, ap, ◌∙◌, arith}
+use Rattle.std.proofs.Common.{inl, inr, length, ap, ◌∙◌, arith}
 use Rattle.operation.specs.declared.op.Op.{Op}
 use Rattle.inbox.proofs.tests.put.Goals as goal
 

@@ -9,7 +9,7 @@ use Rattle.operation.specs.Meanings.{stamped_of}
 use Rattle.slab.specs.Slab.{Slab, get}
 use Rattle.inbox.specs.Inboxes.{ops_at, waiting_in}
 use Rattle.inbox.proofs.KeptOps.{kept_put, kept_same}
-use Rattle.inbox.proofs.KeyedOps.{absent, same-at_keys, same-ops_at, put-at_keys, put-ops_at, waiting-put, in_put}
+use Rattle.inbox.proofs.KeyedOps.{absent, same-ops_at, put-ops_at, waiting-put, in_put}
 use Rattle.inbox.proofs.inbox.Inbox.put.Goals as goal
 
 -- ---- a growth of the slab was refused

@@ -5,7 +5,7 @@ use Rattle.semantics.specs.Delivery.{is_waiting}
 use Rattle.semantics.specs.Drain.{without_waiting}
 use Rattle.inbox.specs.Inboxes.{ops_at, waiting_in}
 use Rattle.inbox.proofs.KeptOps.{kept_left}
-use Rattle.inbox.proofs.KeyedOps.{found, waiting-found, keeps_others, left-at_keys, left-ops_at, waiting-without, in_without}
+use Rattle.inbox.proofs.KeyedOps.{found, waiting-found, keeps_others, left-ops_at, waiting-without, in_without}
 use Rattle.inbox.proofs.inbox.Inbox.take.Goals as goal
 
 if_none : {X : Type 0} (r : Option X) (P : Type 0) → P → IfNone r P
