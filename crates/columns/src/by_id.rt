@@ -77,7 +77,7 @@ impl<T> ById<T> {
     /// Makes room for one more entry.
     ///
     /// # Errors
-    /// Want of memory.
+    /// `AllocError` if allocation fails.
     pub fn reserve_one(&mut self) -> Result<(), AllocError>
         ensures entries { self.new.entries ≡ self.old.entries }
         ensures indices { self.new.indices ≡ self.old.indices }

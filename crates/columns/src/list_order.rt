@@ -67,7 +67,7 @@ impl ListOrder {
     /// Makes room for one more item.
     ///
     /// # Errors
-    /// Want of memory.
+    /// `AllocError` if allocation fails.
     pub fn reserve_one(&mut self) -> Result<(), AllocError>
         ensures same { self.new.items ≡ self.old.items }
         ensures room { OnOk result (0 < self.new.room) }

@@ -62,7 +62,7 @@ impl SortedKeys {
     }
 
     /// How many keys were put before the one at a place.
-    pub fn number(&self, place: usize) -> usize
+    pub(crate) fn number(&self, place: usize) -> usize
         requires { place < length self.now.keys }
         ensures number { slice_get self.now.numbers place ≡ Some result }
         ensures numbers { AreNumbers (length self.now.keys) self.now.numbers }
@@ -73,7 +73,7 @@ impl SortedKeys {
     /// Makes room for one more key.
     ///
     /// # Errors
-    /// Want of memory.
+    /// `AllocError` if allocation fails.
     pub fn reserve_one(&mut self) -> Result<(), AllocError>
         ensures same { self.new.keys ≡ self.old.keys }
         ensures numbers { self.new.numbers ≡ self.old.numbers }

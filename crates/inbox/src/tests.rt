@@ -1,7 +1,7 @@
 //! What waits, in which order it comes out, and how much may wait.
 
 ghost use Rattle.std.specs.Prelude.{ℕ, List};
-ghost use Rattle.inbox.specs.Inboxes.{StandAlone};
+ghost use Rattle.inbox.specs.Inboxes.{AreAsWide};
 
 mod order;
 mod room;
@@ -10,7 +10,7 @@ use super::*;
 use cursor::Place;
 use document::Document;
 use ids::{OpId, Refusal, ReplicaId};
-use operation::{Delivered, Mutation, Op, check_alone};
+use operation::{Delivered, Mutation, Op};
 use std::alloc::Global;
 use std::process::Abort;
 use std::test::Fail;
@@ -41,12 +41,14 @@ fn op(alloc: Global, id: OpId, counters: [u64; 3]) -> Result<Op, Fail> {
     })
 }
 
-/// Puts an operation that stands alone where only such ones wait.
+/// Puts an operation, whose vector has the table's width.
 fn put(inbox: &mut Inbox, op: Op, document: &Document) -> Result<Result<Delivered, Refusal>, Fail>
-    requires { StandAlone document.now.table inbox.old }
-    ensures { StandAlone document.now.table inbox.new }
+    requires { AreAsWide document.now.table inbox.old }
+    ensures { AreAsWide document.now.table inbox.new }
 {
-    check_alone(&op, document.table())?;
+    if op.deps.width() != document.table().len() {
+        return Err("another width".into());
+    }
     Ok(inbox.put(op, document))
 }
 
@@ -58,8 +60,8 @@ fn answers(
     document: &Document,
     want: Result<Delivered, Refusal>,
 ) -> Result<(), Fail>
-    requires { StandAlone document.now.table inbox.old }
-    ensures { StandAlone document.now.table inbox.new }
+    requires { AreAsWide document.now.table inbox.old }
+    ensures { AreAsWide document.now.table inbox.new }
 {
     let id = op.id;
     let answer = put(inbox, op, document)?;
@@ -74,7 +76,7 @@ fn first_of(alloc: Global, replica: u32) -> Result<Op, Fail> {
 
 /// The counter and the replica of the smallest ready one.
 fn smallest(inbox: &Inbox, document: &Document) -> Option<(u64, u32)>
-    requires { StandAlone document.now.table inbox.now }
+    requires { AreAsWide document.now.table inbox.now }
 {
     let id = inbox.smallest_ready(document)?.id;
     Some((id.counter, id.replica.number()))
@@ -82,7 +84,7 @@ fn smallest(inbox: &Inbox, document: &Document) -> Option<(u64, u32)>
 
 /// The replica of the operation with this id, which is taken.
 fn take(inbox: &mut Inbox, id: OpId) -> Option<u32>
-    ensures { (table : List ℕ) → StandAlone table inbox.old → StandAlone table inbox.new }
+    ensures { (table : List ℕ) → AreAsWide table inbox.old → AreAsWide table inbox.new }
 {
     Some(inbox.take(id)?.id.replica.number())
 }

@@ -12,7 +12,7 @@ use crate::question::{Question, Reading};
 use cursor::{Expr, Place, Step, Tag};
 use ids::{OpId, Refusal};
 use operation::{Entry, Mutation, Op};
-use std::alloc::Global;
+use std::alloc::{AllocError, Global};
 use std::process::Abort;
 use std::test::Fail;
 use value::{Key, Scalar, Text, Val};
@@ -72,7 +72,12 @@ fn text(alloc: Global, text: &str) -> Result<Val, Refusal> {
 }
 
 /// Takes the memory for it, at the second attempt where the first is refused.
-fn reserve(rt: &impl Abort, alloc: Global, document: &mut Document, op: &Op) -> Result<(), Refusal>
+fn reserve(
+    rt: &impl Abort,
+    alloc: Global,
+    document: &mut Document,
+    op: &Op,
+) -> Result<(), AllocError>
     ensures table { document.new.table ≡ document.old.table }
     ensures entries { document.new.entries ≡ document.old.entries }
     ensures room { OnOk result (HasRoomFor document.new (stamped_of document.new.table op.now)) }
@@ -351,7 +356,7 @@ fn assert_missing(
     wanted: &[Pair],
 ) -> Result<(), Fail> {
     let vector = zero(alloc, document)?;
-    let missing = again(|| document.missing(alloc, &vector))?;
+    let missing = again(|| Ok(document.missing(alloc, &vector)?))?;
     assert_ids(rt, &missing, wanted)?;
     let Reading::Missing(missing) = answer(alloc, document, &Question::Missing(vector))? else {
         return Err("no operations")?;

@@ -1,13 +1,13 @@
 //! What waits is found by its id, and comes out by rising id.
 
 ghost use Rattle.std.specs.Prelude.{IfOk};
-ghost use Rattle.inbox.specs.Inboxes.{StandAlone};
+ghost use Rattle.inbox.specs.Inboxes.{AreAsWide};
 
 use super::*;
 
 /// The first operations of three members, put in this order.
 fn firsts(alloc: Global, replicas: [u32; 3], document: &Document) -> Result<Inbox, Fail>
-    ensures { IfOk result (StandAlone document.now.table) }
+    ensures { IfOk result (AreAsWide document.now.table) }
 {
     let mut inbox = Inbox::new(alloc);
     for replica in replicas {
@@ -97,5 +97,17 @@ fn what_is_stuck_is_passed_over(rt: HostRuntime) -> Result<(), Fail> {
     assert_eq!(rt; take(&mut inbox, id(1, 3)?), Some(3));
     assert_eq!(rt; smallest(&inbox, &document), None);
     assert!(rt; inbox.contains(id(2, 2)?));
+    Ok(())
+}
+
+#[test]
+fn a_counter_that_nothing_explains_is_no_bar(rt: HostRuntime) -> Result<(), Fail> {
+    let document = Document::new(rt.alloc(), &[1, 2, 3])?;
+    let mut inbox = Inbox::new(rt.alloc());
+    let stuck = op(rt.alloc(), id(3, 3)?, [0, 2, 0])?;
+    answers(&rt, &mut inbox, stuck, &document, Ok(Delivered::Kept))?;
+    let far = op(rt.alloc(), id(9, 2)?, [0, 0, 0])?;
+    answers(&rt, &mut inbox, far, &document, Ok(Delivered::Kept))?;
+    assert_eq!(rt; smallest(&inbox, &document), Some((9, 2)));
     Ok(())
 }

@@ -1,7 +1,7 @@
 //! How much may wait: 4,096 operations, and one more that is ready.
 
 ghost use Rattle.std.specs.Prelude.{◌<◌};
-ghost use Rattle.inbox.specs.Inboxes.{StandAlone};
+ghost use Rattle.inbox.specs.Inboxes.{AreAsWide};
 
 use super::*;
 
@@ -21,8 +21,8 @@ fn fill(
     count: u64,
 ) -> Result<(), Fail>
     requires few { count < 10000 }
-    requires alone { StandAlone document.now.table inbox.old }
-    ensures { StandAlone document.now.table inbox.new }
+    requires alone { AreAsWide document.now.table inbox.old }
+    ensures { AreAsWide document.now.table inbox.new }
 {
     for place in 0..count {
         let op = stuck(alloc, place + 2)?;
@@ -38,8 +38,8 @@ fn refuses_the_stuck(
     alloc: Global,
     document: &Document,
 ) -> Result<(), Fail>
-    requires { StandAlone document.now.table inbox.old }
-    ensures { StandAlone document.now.table inbox.new }
+    requires { AreAsWide document.now.table inbox.old }
+    ensures { AreAsWide document.now.table inbox.new }
 {
     assert_eq!(rt; smallest(inbox, document), None);
     let next = stuck(alloc, 4098)?;
@@ -55,7 +55,7 @@ fn keeps_one_ready(
     alloc: Global,
     document: &Document,
 ) -> Result<(), Fail>
-    requires { StandAlone document.now.table inbox.old }
+    requires { AreAsWide document.now.table inbox.old }
 {
     let op = first_of(alloc, 2)?;
     answers(rt, inbox, op, document, Ok(Delivered::Kept))?;

@@ -13,7 +13,7 @@ use super::playing::*;
 use super::*;
 use ids::{OpId, Refusal};
 use operation::{Command, Delivered, Mutation, Op};
-use std::alloc::Global;
+use std::alloc::{AllocError, Global};
 use std::process::Abort;
 
 /// A replica of the number 1.
@@ -107,7 +107,7 @@ fn answer(
 }
 
 /// A copy of the next one, where there is one. What an earlier call dropped is not dropped again.
-fn next(rt: &impl Abort, alloc: Global, replica: &mut Replica) -> Result<Option<Op>, Refusal>
+fn next(rt: &impl Abort, alloc: Global, replica: &mut Replica) -> Result<Option<Op>, AllocError>
     ensures entries { replica.new.document.entries ≡ replica.old.document.entries }
     ensures ready { IfOk result (λ o. IfSome o (λ op. IsNextReady replica.new (stamped_of replica.new.document.table op))) }
 {
@@ -139,7 +139,7 @@ fn append_next(
 }
 
 /// Drains, and goes on where that ended early.
-fn drain(rt: &impl Abort, alloc: Global, replica: &mut Replica) -> Result<(), Refusal> {
+fn drain(rt: &impl Abort, alloc: Global, replica: &mut Replica) -> Result<(), AllocError> {
     let (len, dropped) = lengths(replica);
     let answer = replica.drain(alloc);
     if answer.is_ok() {

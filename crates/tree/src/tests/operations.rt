@@ -5,12 +5,17 @@ use super::playing::{
 };
 use super::*;
 use crate::tree::Tree;
-use cursor::{Place, Tag};
+use cursor::{ElementPlace, Place, Tag};
 use operation::{Mutation, Op};
 use std::alloc::Global;
 use std::process::Abort;
 use std::test::Fail;
 use value::Val;
+
+/// The place, which is no head, as that of an element.
+fn element(place: &Place) -> Result<ElementPlace, Fail> {
+    Ok(place.clone()?.into_element().ok_or("a head")?)
+}
 
 pub fn assert_items(
     rt: &impl Abort,
@@ -20,7 +25,7 @@ pub fn assert_items(
     wanted: &[Pair],
 ) -> Result<(), Fail> {
     let wanted = ids(alloc, wanted)?;
-    let items = tree.items(alloc, &field(alloc, &[list])?)?;
+    let items = tree.items(alloc, &element(&field(alloc, &[list])?)?)?;
     assert!(rt; items == wanted);
     Ok(())
 }
@@ -32,7 +37,7 @@ pub fn assert_values(
     place: &Place,
     wanted: &[(Pair, &str)],
 ) -> Result<(), Fail> {
-    let values = tree.values(alloc, place)?;
+    let values = tree.values(alloc, &element(place)?)?;
     assert!(rt; values.len() == wanted.len());
     for ((found, scalar), (pair, value)) in values.iter().zip(wanted) {
         assert!(rt; *found == id(*pair)?);
@@ -48,7 +53,7 @@ pub fn assert_conflicts(
     place: &Place,
     wanted: &[(Pair, Tag)],
 ) -> Result<(), Fail> {
-    let conflicts = tree.conflicts(alloc, place)?;
+    let conflicts = tree.conflicts(alloc, &element(place)?)?;
     assert!(rt; conflicts.len() == wanted.len());
     for ((found, tag), (pair, wanted)) in conflicts.iter().zip(wanted) {
         assert!(rt; *found == id(*pair)?);
@@ -64,7 +69,7 @@ pub fn assert_keys(
     place: &Place,
     wanted: &[&str],
 ) -> Result<(), Fail> {
-    let keys = tree.keys(alloc, place)?;
+    let keys = tree.keys(alloc, &element(place)?)?;
     assert!(rt; keys.len() == wanted.len());
     for (key, wanted) in keys.iter().zip(wanted) {
         assert!(rt; key.as_str() == *wanted);
