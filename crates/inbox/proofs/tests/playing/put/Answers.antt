@@ -1,0 +1,10 @@
+use Rattle.std.proofs.Common.{inl, inr, length, ap, ◌∙◌, arith}
+use Rattle.operation.specs.declared.op.Op.{Op}
+use Rattle.inbox.proofs.tests.playing.put.Goals as goal
+
+pub returns : goal.returns
+returns c o m =
+    elim (c.put.ensures.among o m) [
+      | inl new ↦ ap (λ (p : Op). length p.deps) new ∙ omega arith
+      | inr old ↦ c.requires o old
+    ]
