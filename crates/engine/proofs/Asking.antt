@@ -1,17 +1,19 @@
 -- What a client keeps, as it polls.
-use Rattle.std.proofs.Common.{◌≡◌, ℕ, zero, suc, ◌<◌, Option, Some, None, List, [], ◌∷◌, length, map, set, get_or, slice_get, sym, refl, ap, ◌∙◌}
+use Rattle.std.proofs.Common.{◌≡◌, ℕ, zero, suc, ◌<◌, true, cond, subst, Option, Some, None, List, [], ◌∷◌, length, map, set, get_or, slice_get, sym, refl, ap, ◌∙◌}
 use Rattle.std.specs.Option.{option_map, IfSome}
 use Rattle.std.proofs.lemmas.Option.{slice_get_read, slice_get-map}
 use Rattle.semantics.specs.Entries.{Entry}
-use Rattle.semantics.specs.LegalAnswer.{Reply as TheReply}
+use Rattle.semantics.specs.LegalAnswer.{Submitted, Reply as TheReply}
 use Rattle.semantics.specs.WorldHistory.{BeginsWith}
 use Rattle.semantics.specs.Receipts.{IsAnswer}
 use Rattle.semantics.proofs.HandledAnswers.{answer_stays}
 use Rattle.items.specs.declared.item.Item.{Item}
 use Rattle.items.specs.declared.item.Reply.{Reply}
 use Rattle.items.specs.Meanings.{submitted_of}
-use Rattle.command.specs.Answers.{Given}
-use Rattle.engine.specs.Clients.{Keeps, Client, items_by, answer_of, Polls}
+use Rattle.items.specs.Same.{is_same_item}
+use Rattle.items.proofs.SameItems.{one_submission}
+use Rattle.command.specs.Answers.{Answered, Given}
+use Rattle.engine.specs.Clients.{Keeps, Client, items_by, answer_in, answer_of, Polls}
 
 pub kept_at : (kept : List Keeps) (n i : ℕ) (k : Keeps) → n ≡ length kept → i < n → k ≡ get_or kept i k → slice_get kept i ≡ Some k
 kept_at kept n i k len lt is = slice_get_read kept n i k len lt is
@@ -42,3 +44,11 @@ polled c d kept i k after o is at now same known reply = record {
 
 pub no_reply : (k : Keeps) → answer_of k ≡ None → {r : Option Reply} → r ≡ None → r ≡ option_map (λ (g : Given). g.reply) (answer_of k)
 no_reply k e z = z ∙ ap (option_map (λ (g : Given). g.reply)) (sym e)
+
+-- the cell's answer is for the item that is waited for
+pub answered : (k : Keeps) (a : Answered) (x : Item) → k.known ≡ Some a → k.item ≡ x → is_same_item a.item x ≡ true → answer_of k ≡ a.given
+answered k a x known is same = ap (answer_in k.item) known ∙ ap (λ (y : Item). cond (is_same_item a.item y) a.given None) is ∙ ap (λ b. cond b a.given None) same
+
+-- an answer that is legal for the same item, in the same history
+pub legal_for : (own : ℕ) (table : List ℕ) (G H : List Entry) (x y : Item) (r : TheReply) → G ≡ H → is_same_item x y ≡ true → IsAnswer own table G (submitted_of table x) r → IsAnswer own table H (submitted_of table y) r
+legal_for own table G H x y r e same h = subst (λ (F : List Entry). IsAnswer own table F (submitted_of table y) r) e (subst (λ (z : Submitted). IsAnswer own table G z r) (one_submission x y same table) h)

@@ -1,5 +1,5 @@
 -- A batch that is being filled.
-use Rattle.std.proofs.Common.{◌≡◌, ◌==◌, ℕ, ◌+◌, ◌≤◌, Bool, true, false, cond, List, [], ◌∷◌, ◌++◌, length, map, refl, sym, ap, ◌∙◌, subst, arith, append_assoc}
+use Rattle.std.proofs.Common.{◌≡◌, ◌==◌, ℕ, ◌+◌, ◌≤◌, Bool, true, false, cond, List, [], ◌∷◌, ◌++◌, length, map, reverse, refl, sym, ap, ◌∙◌, subst, arith, append_assoc}
 use Rattle.std.proofs.lemmas.List.{append-nil, map-append}
 use Rattle.semantics.specs.Entries.{Entry, IsAbove}
 use Rattle.semantics.specs.LegalAnswer.{Submitted, Reply}
@@ -76,3 +76,12 @@ answers_last p ps G (g ∷ hs) h a = answers_last p ps G hs h a.1
 
 pub answers_pop : (p : ℕ) (ps : List ℕ) (G : List Entry) (whole rest : List Handled) (h : Handled) → whole ≡ rest ++ h ∷ [] → AreAnswers p ps G whole → AreAnswers p ps G rest × IsAnswer p ps G h.submitted h.reply
 answers_pop p ps G whole rest h is a = let k = subst (λ (l : List Handled). AreAnswers p ps G l) is a in (answers_front p ps G rest h k, answers_last p ps G rest h k)
+
+answers_snoc : (p : ℕ) (ps : List ℕ) (G : List Entry) (hs : List Handled) (h : Handled) → AreAnswers p ps G hs → IsAnswer p ps G h.submitted h.reply → AreAnswers p ps G (hs ++ h ∷ [])
+answers_snoc p ps G [] h a k = (k, tt)
+answers_snoc p ps G (g ∷ hs) h a k = (a.0, answers_snoc p ps G hs h a.1 k)
+
+-- in the other order they are answers too
+pub answers_reversed : (p : ℕ) (ps : List ℕ) (G : List Entry) (hs : List Handled) → AreAnswers p ps G hs → AreAnswers p ps G (reverse hs)
+answers_reversed p ps G [] a = tt
+answers_reversed p ps G (h ∷ hs) a = answers_snoc p ps G (reverse hs) h (answers_reversed p ps G hs a.1) a.0

@@ -32,7 +32,7 @@ get_longer (y ∷ xs) ys (suc n) x h = get_longer xs ys n x h
 -- an own entry of the history is of a command that was taken
 asked_at : (took : List Submitted) (G : List Entry) (n k serial : ℕ) (c : Command) (s : Stamped) → ComeFrom took G → entry_at n G ≡ Some (Own k serial c s) → AsksFor (of_client k took) serial c
 asked_at took [] n k serial c s h at = absurd cc
-asked_at took (e ∷ G) n k serial c s h at = by (length G == n) refl at
+asked_at took (e ∷ G) n k serial c s h at = by (length G == n) (λ is. asked_at took G n k serial c s (of_rest e h) is) at
   where
     of_newest : (f : Entry) → ComeFrom took (f ∷ G) → f ≡ Own k serial c s → AsksFor (of_client k took) serial c
     of_newest f h is = (subst (λ (z : Entry). ComeFrom took (z ∷ G)) is h).0
@@ -41,9 +41,9 @@ asked_at took (e ∷ G) n k serial c s h at = by (length G == n) refl at
     of_rest (Own i m d t) h = h.1
     of_rest (Peer t) h = h
 
-    by : (b : Bool) → (length G == n) ≡ b → cond b (Some e) (entry_at n G) ≡ Some (Own k serial c s) → AsksFor (of_client k took) serial c
-    by true t is = of_newest e h cc
-    by false t is = asked_at took G n k serial c s (of_rest e h) is
+    by : (b : Bool) → (entry_at n G ≡ Some (Own k serial c s) → AsksFor (of_client k took) serial c) → cond b (Some e) (entry_at n G) ≡ Some (Own k serial c s) → AsksFor (of_client k took) serial c
+    by true rest is = of_newest e h cc
+    by false rest is = rest is
 
 -- what was taken of the client, and what is still queued, is all that it submitted
 pub own_submitted : (table : List ℕ) (took queued mine : List Item) (P A : List Entry) (n k serial : ℕ) (c : Command) (s : Stamped) → ComeFrom (submitted_in table took) A → BeginsWith A P → of k (took ++ queued) ≡ mine

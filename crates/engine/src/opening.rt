@@ -2,6 +2,8 @@
 
 ghost use Rattle.std.specs.Prelude.{◌≡◌, ◌+◌, ◌<◌, ◌≤◌, ◌⊎◌, ◌↔◌, [], length, true, Err, IfOk, IfErr, IsTrue, IsFalse, vec_capacity};
 ghost use Rattle.std.specs.List.{All};
+ghost use Rattle.std.specs.Coded.{codes};
+ghost use Rattle.semantics.specs.Codes.{coded_element};
 ghost use Rattle.crossbeam_queue.specs.Passes.{view};
 ghost use Rattle.ids.specs.declared.refusal.Refusal.TheVariants.{BadConfig, NoMemory, NoReaderPlace};
 ghost use Rattle.ids.specs.Configurations.{is_within_limits};
@@ -30,7 +32,7 @@ pub struct Parts {
     pub ghost good: { is_within_limits config ≡ true },
     pub ghost numbered: { (own ≡ config.own) × (replica.own ≡ config.own) },
     pub ghost members: { (replica.document.table ≡ in_order config.members) × (first.table ≡ in_order config.members) × (second.table ≡ in_order config.members) },
-    pub ghost empty: { (replica.document.entries ≡ []) × (first.entries ≡ []) × (second.entries ≡ []) },
+    pub ghost empty: { (replica.document.entries ≡ []) × (first.entries ≡ []) × (second.entries ≡ []) } by { Prim.hlevel (codes, coded_element) },
 }
 
 /// Makes the parts of an engine with this configuration: an empty replica, and two empty documents for its readers.

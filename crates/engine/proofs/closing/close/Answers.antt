@@ -18,7 +18,7 @@ pub end-requires-clause-number : goal.end-requires-clause-number
 end-requires-clause-number g c = (gathering_head _ _ _ c.next.new.self.rest.items c.in-Some.client _ _ _ c.loop-client.invariant.2 c.in-Some.ensures.steps.0).0
 
 pub loop-client-init : goal.loop-client-init
-loop-client-init g c = let q = ap (λ (w : Writer). w.queue) c.writer.view_is in (tt, tt, gathering_none _ _ _ _ _ (subst (λ t. AreClients t 0 c.args.clients.items) (sym q) c.requires) (search rules) c.writer.invariant.4, refl, refl)
+loop-client-init g c = let q = ap (λ (w : Writer). w.queue) c.writer.view_is in (tt, tt, gathering_none _ _ _ _ _ (subst (λ t. AreClients t 0 c.args.clients.items) (sym q) c.requires) (search rules) c.writer.invariant.none_ended, refl, refl)
 
 pub loop-client-preserved : goal.loop-client-preserved
 loop-client-preserved g c = (
@@ -30,7 +30,7 @@ loop-client-preserved g c = (
 )
 
 pub returns-clause-seen : goal.returns-clause-seen
-returns-clause-seen g c = gathered_seen _ _ _ _ _ _ _ c.loop-client.invariant.2 (search rules) (c.into_entries.ensures ∙ c.end-document.ensures.document)
+returns-clause-seen g c = gathered_seen _ _ _ _ _ _ _ c.loop-client.invariant.2 (search rules) (ap (λ (w : Writer). w.published) (sym c.writer.view_is))
 
 pub returns-clause-taken : goal.returns-clause-taken
 returns-clause-taken g c =
@@ -44,4 +44,11 @@ returns-clause-taken g c =
     )
 
 pub returns-clause-own : goal.returns-clause-own
-returns-clause-own g c k d at n serial command s there = ?
+returns-clause-own g c k d at n serial command s there =
+    let table = g.N.EngineName.table in
+    let q = c.rest.ensures.whole in
+    let P : List Entry = c.writer.inside.publisher.published in
+    let begins : BeginsWith c.writer.inside.handler.replica.document.entries P = subst (λ (G : List Entry). BeginsWith G P) c.writer.invariant.holds.appended c.notice-notice.ensures.appended in
+    let all : of k ((view c.writer.inside.taker.pass).got ++ q.0) ≡ items_by d = ap (λ (l : List Item). of k (l ++ q.0)) (sym c.loop-client.invariant.3) ∙ q.2 k (items_by d) (known_at _ _ _ _ _ _ c.loop-client.invariant.2 (search rules) k d at) in
+    own_submitted table (view c.writer.inside.taker.pass).got q.0 (items_by d) P c.writer.inside.handler.replica.document.entries n k serial command s c.writer.invariant.come_from begins all
+    (subst (λ (G : List Entry). entry_at n G ≡ Some (Own k serial command s)) (sym (ap (λ (w : Writer). w.published) c.writer.view_is)) there)

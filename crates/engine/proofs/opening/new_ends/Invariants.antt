@@ -12,8 +12,8 @@ invariant-loop-number g l = record {
   made : (view l.taker.pass).made ≡ l.number;
   are : AreClients l.taker.pass.table_id 0 l.clients.items;
   count : length l.clients.items ≡ l.number;
-  new : All (IsNewClient l.fn.config.now) l.clients.items;
-  seats : length l.seats.items + l.number ≡ l.fn.config.now.clients + l.fn.config.now.readers;
+  new : All (IsNewClient l.fn.config) l.clients.items;
+  seats : length l.seats.items + l.number ≡ l.fn.config.clients + l.fn.config.readers;
   unseen : All (λ s. s.seen ≡ []) l.seats.items;
-  room : l.fn.config.now.clients ≤ vec_capacity l.clients;
+  room : l.fn.config.clients ≤ vec_capacity l.clients;
 }

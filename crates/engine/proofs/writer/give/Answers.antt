@@ -2,9 +2,10 @@ use Rattle.std.proofs.Common.{List, sym, subst, ◌∙◌}
 use Rattle.semantics.specs.Entries.{Entry}
 use Rattle.semantics.specs.Engine.{Handled}
 use Rattle.semantics.specs.Receipts.{IsAnswer}
+use Rattle.semantics.specs.Batches.{AreAnswers}
 use Rattle.items.specs.Meanings.{answer_of, submitted_of}
 use Rattle.command.specs.Answers.{Answered}
-use Rattle.engine.proofs.Filling.{answers_pop}
+use Rattle.engine.proofs.Filling.{answers_pop, answers_reversed}
 use Rattle.engine.proofs.writer.give.Goals as goal
 
 pub fill-requires : goal.fill-requires
@@ -22,3 +23,9 @@ loop-handled-preserved g c = (
   (answers_pop g.N.EngineName.own g.N.EngineName.table c.args.notice.now c.loop-handled.held.items c.pop.new.self.items c.in-Some.handled c.in-Some.ensures.items c.loop-handled.invariant.0).0,
   c.pop.ensures.capacity ∙ c.loop-handled.invariant.1,
 )
+
+pub loop-handled-init : goal.loop-handled-init
+loop-handled-init g c =
+    let own = g.N.EngineName.own in
+    let table = g.N.EngineName.table in
+    (subst (λ (hs : List Handled). AreAnswers own table c.args.notice.now hs) (sym c.reverse.ensures.items) (answers_reversed own table c.args.notice.now c.args.held.now.items c.requires), c.reverse.ensures.capacity)
