@@ -1,0 +1,5 @@
+use Rattle.inbox.specs.Inboxes.{StandAlone}
+use Rattle.inbox.proofs.tests.playing.play.Given as goal
+
+abbrev pub invariant-loop-next : goal.invariant-loop-next
+invariant-loop-next g l = StandAlone l.document.table l.inbox

@@ -1,0 +1,216 @@
+//! What is done with an inbox in a test, as rows, and what plays them.
+
+ghost use Rattle.std.specs.Prelude.{◌<◌, ℕ, List};
+ghost use Rattle.inbox.specs.Inboxes.{StandAlone};
+
+use super::*;
+use cursor::Place;
+use document::Document;
+use ids::{OpId, ReplicaId};
+use operation::{Mutation, Op, check_alone};
+use std::alloc::Global;
+use std::process::Abort;
+use value::Val;
+use version::VersionVector;
+
+/// An id's counter and replica.
+pub type Pair = (u64, u32);
+
+/// What an operation writes at the root.
+#[derive(Clone, Copy, Debug, PartialEq, Eq)]
+pub enum Writes {
+    Map,
+    Delete,
+}
+
+/// Something that is done with an inbox, and what it answers.
+#[derive(Clone, Copy, Debug)]
+pub enum Turn {
+    /// Puts an operation at the root, with these counters of the replicas 1, 2 and 3 in its vector.
+    Put(Pair, [u64; 3], Writes, Result<Delivered, Refusal>),
+    /// The smallest ready one.
+    Smallest(Option<Pair>),
+    /// What the operation with this id, which is taken, writes.
+    Take(Pair, Option<Writes>),
+    /// Whether one with this id waits.
+    Has(Pair, bool),
+    /// Whether there is room for one more, which is ready or not.
+    Room(bool, bool),
+    Len(usize),
+}
+
+fn id_of(pair: Pair) -> Result<OpId, Fail> {
+    let replica = ReplicaId::new(pair.1).ok_or("numbered 0")?;
+    Ok(OpId {
+        counter: pair.0,
+        replica,
+    })
+}
+
+fn vector(alloc: Global, counters: [u64; 3]) -> Result<VersionVector, Fail> {
+    let mut vector = VersionVector::zero(alloc, 3)?;
+    vector.raise(0, counters[0]);
+    vector.raise(1, counters[1]);
+    vector.raise(2, counters[2]);
+    Ok(vector)
+}
+
+/// An operation at the root.
+fn op(alloc: Global, pair: Pair, counters: [u64; 3], writes: Writes) -> Result<Op, Fail> {
+    let id = id_of(pair)?;
+    let deps = vector(alloc, counters)?;
+    Ok(Op {
+        id,
+        deps,
+        place: Place::doc(alloc),
+        mutation: match writes {
+            Writes::Map => Mutation::Assign(Val::EmptyMap),
+            Writes::Delete => Mutation::Delete,
+        },
+    })
+}
+
+/// Puts an operation that stands alone where only such ones wait.
+fn put(inbox: &mut Inbox, op: Op, document: &Document) -> Result<Result<Delivered, Refusal>, Fail>
+    requires { StandAlone document.now.table inbox.old }
+    ensures { StandAlone document.now.table inbox.new }
+{
+    check_alone(&op, document.table())?;
+    Ok(inbox.put(op, document))
+}
+
+/// Puts an operation, which is answered so.
+fn answers(
+    rt: &impl Abort,
+    inbox: &mut Inbox,
+    op: Op,
+    document: &Document,
+    want: Result<Delivered, Refusal>,
+) -> Result<(), Fail>
+    requires { StandAlone document.now.table inbox.old }
+    ensures { StandAlone document.now.table inbox.new }
+{
+    let id = op.id;
+    let answer = put(inbox, op, document)?;
+    assert_eq!(rt; answer, want, "to {id:?}");
+    Ok(())
+}
+
+/// The id of the smallest ready one.
+fn smallest(inbox: &Inbox, document: &Document) -> Option<Pair>
+    requires { StandAlone document.now.table inbox.now }
+{
+    let id = inbox.smallest_ready(document)?.id;
+    Some((id.counter, id.replica.number()))
+}
+
+fn written(op: &Op) -> (Pair, Writes) {
+    let writes = match &op.mutation {
+        Mutation::Delete => Writes::Delete,
+        _ => Writes::Map,
+    };
+    ((op.id.counter, op.id.replica.number()), writes)
+}
+
+/// The id of the operation that is taken, which has this one, and what it writes.
+fn take(inbox: &mut Inbox, id: OpId) -> Option<(Pair, Writes)>
+    ensures { (table : List ℕ) → StandAlone table inbox.old → StandAlone table inbox.new }
+{
+    let taken = inbox.take(id)?;
+    Some(written(&taken))
+}
+
+fn beside(pair: Pair, writes: Option<Writes>) -> Option<(Pair, Writes)> {
+    Some((pair, writes?))
+}
+
+/// Does a turn.
+fn take_turn(
+    rt: &impl Abort,
+    alloc: Global,
+    inbox: &mut Inbox,
+    document: &Document,
+    turn: Turn,
+) -> Result<(), Fail>
+    requires { StandAlone document.now.table inbox.old }
+    ensures { StandAlone document.now.table inbox.new }
+{
+    match turn {
+        Turn::Put(pair, counters, writes, want) => {
+            let op = op(alloc, pair, counters, writes)?;
+            answers(rt, inbox, op, document, want)?;
+        }
+        Turn::Smallest(want) => assert_eq!(rt; smallest(inbox, document), want),
+        Turn::Take(pair, want) => {
+            let id = id_of(pair)?;
+            assert_eq!(rt; take(inbox, id), beside(pair, want));
+        }
+        Turn::Has(pair, want) => {
+            let id = id_of(pair)?;
+            assert_eq!(rt; inbox.contains(id), want, "{id:?}");
+        }
+        Turn::Room(ready, want) => assert_eq!(rt; inbox.has_room(ready), want),
+        Turn::Len(want) => assert_eq!(rt; inbox.len(), want),
+    }
+    Ok(())
+}
+
+/// Does these turns, one after another.
+fn play(
+    rt: &impl Abort,
+    alloc: Global,
+    inbox: &mut Inbox,
+    document: &Document,
+    turns: &[Turn],
+) -> Result<(), Fail>
+    requires { StandAlone document.now.table inbox.old }
+    ensures { StandAlone document.now.table inbox.new }
+{
+    for next in turns {
+        take_turn(rt, alloc, inbox, document, *next)?;
+    }
+    Ok(())
+}
+
+/// Puts so many operations of replica 2, from its second on. Each waits for the one of replica 3 whose counter is one less.
+fn fill(
+    rt: &impl Abort,
+    alloc: Global,
+    inbox: &mut Inbox,
+    document: &Document,
+    stuck: u64,
+) -> Result<(), Fail>
+    requires few { stuck < 10000 }
+    requires alone { StandAlone document.now.table inbox.old }
+    ensures { StandAlone document.now.table inbox.new }
+{
+    for place in 0..stuck {
+        let op = op(alloc, (place + 2, 2), [0, 0, place + 1], Writes::Map)?;
+        answers(rt, inbox, op, document, KEPT)?;
+    }
+    Ok(())
+}
+
+fn fill_and_play(
+    rt: &impl Abort,
+    alloc: Global,
+    inbox: &mut Inbox,
+    document: &Document,
+    stuck: u64,
+    turns: &[Turn],
+) -> Result<(), Fail>
+    requires few { stuck < 10000 }
+    requires alone { StandAlone document.now.table inbox.old }
+{
+    fill(rt, alloc, inbox, document, stuck)?;
+    play(rt, alloc, inbox, document, turns)
+}
+
+/// Does these turns with a new inbox of replica 1 among 1, 2 and 3, once so many operations wait there of which none is ready.
+pub fn on_new(rt: &impl Abort, alloc: Global, stuck: u64, turns: &[Turn]) -> Result<(), Fail>
+    requires { stuck < 10000 }
+{
+    let document = Document::new(alloc, &[1, 2, 3])?;
+    let mut inbox = Inbox::new(alloc);
+    fill_and_play(rt, alloc, &mut inbox, &document, stuck, turns)
+}
