@@ -5,9 +5,8 @@ ghost use Rattle.ids.specs.declared.refusal.Refusal.TheVariants.{NoMemory};
 ghost use Rattle.semantics.specs.WriteSteps.{next_item, with_cell, with_answer};
 ghost use Rattle.semantics.specs.ReadSteps.{cell_at};
 
-use crate::item::{Item, Request};
-use crate::step::Reply;
 use ids::Refusal;
+use items::{Item, Reply, Request};
 
 /// An answer that was set, with how many entries were published then.
 #[derive(Clone, Copy, Debug)]
@@ -31,7 +30,8 @@ pub struct Client {
 }
 
 impl Client {
-    ghost use Rattle.world.specs.Engines.{client_of, cell_of, given_of, request_of, submitted_of};
+    ghost use Rattle.items.specs.Meanings.{request_of, submitted_of};
+    ghost use Rattle.world.specs.Engines.{client_of, cell_of, given_of};
 
     /// The cell of a serial; none has the serial 0.
     pub fn cell(&self, serial: u64) -> Option<&Cell>

@@ -5,6 +5,7 @@ ghost use Rattle.ids.specs.declared.refusal.Refusal.TheVariants.{NoMemory, BadCo
 ghost use Rattle.ids.specs.Configurations.{is_within_limits};
 ghost use Rattle.semantics.specs.World.{engine_step, opened_engine, sent_by};
 ghost use Rattle.semantics.proofs.SoundEngines.{IsSound};
+ghost use Rattle.semantics.specs.Publication.{Holds};
 ghost use Rattle.replica.specs.Replicas.{replica_of};
 ghost use Rattle.world.specs.Engines.{client_of, message_of};
 ghost use Rattle.world.specs.Meanings.{AsksBeside, reply_of, step_of};
@@ -14,15 +15,24 @@ mod reading;
 mod writer;
 
 use crate::client::Client;
-use crate::item::{Handled, Item};
 use crate::message::Message;
+use crate::publisher::Publisher;
 use crate::step::{WorldReply, WorldStep};
 use document::Document;
+use handling::Handler;
 use ids::{Config, Refusal, ReplicaTable};
+use items::{Item, Reply};
 use replica::Replica;
 use std::alloc::Global;
 use std::collections::VecDeque;
 use std::marker::Model;
+
+/// An item that was handled, and what is to be answered.
+#[derive(Debug, Drop)]
+pub struct Handled {
+    item: Item,
+    reply: Reply,
+}
 
 /// An engine. Contracts see the engine of the definitions.
 #[derive(Debug, Drop)]
@@ -30,34 +40,34 @@ pub struct Engine {
     places: usize,
     batch: usize,
     serials: u64,
-    replica: Replica,
+    handler: Handler,
+    publisher: Publisher,
     queue: VecDeque<Item>,
     /// Handled and not published.
     handled: VecDeque<Handled>,
     /// Published and not answered.
     due: VecDeque<Handled>,
-    /// The document of what is published; the replica's goes ahead of it.
-    published: Document,
     clients: Vec<Client>,
     readers: Vec<usize>,
 }
 
 impl Model for Engine {
     ghost use Rattle.std.specs.Prelude.{map, length};
-    ghost use Rattle.std.specs.List.{All};
     ghost use Rattle.std.specs.Coded.{codes};
     ghost use Rattle.semantics.specs.Codes.{coded_element};
     ghost use Rattle.semantics.specs.Engine.{Engine as TheEngine};
+    ghost use Rattle.semantics.specs.Publication.{Holds};
     ghost use Rattle.replica.specs.Replicas.{replica_of};
-    ghost use Rattle.world.specs.Engines.{IsEngine, client_of, handled_of, submitted_of};
+    ghost use Rattle.items.specs.Meanings.{submitted_of};
+    ghost use Rattle.world.specs.Engines.{client_of, handled_of};
 
     ghost Value = { TheEngine };
 
     ghost coded = { Prim.hlevel (codes, coded_element) };
 
-    ghost view = { λ e. record { places = e.places; batch = e.batch; serials = e.serials; replica = replica_of e.replica; queue = map (submitted_of e.replica.document.table) e.queue.items; handled = map (handled_of e.replica.document.table) e.handled.items; due = map (handled_of e.replica.document.table) e.due.items; published = length e.published.entries; clients = map (client_of e.replica.document.table) e.clients.items; readers = e.readers.items } };
+    ghost view = { λ e. record { places = e.places; batch = e.batch; serials = e.serials; replica = replica_of e.handler.replica; queue = map (submitted_of e.handler.replica.document.table) e.queue.items; handled = map (handled_of e.handler.replica.document.table) e.handled.items; due = map (handled_of e.handler.replica.document.table) e.due.items; published = length e.publisher.published; clients = map (client_of e.handler.replica.document.table) e.clients.items; readers = e.readers.items } };
 
-    ghost invariant = { λ e. IsEngine e.replica e.published e.queue.items };
+    ghost invariant = { λ e. Holds e.publisher (replica_of e.handler.replica) };
 }
 
 impl Engine {
@@ -74,16 +84,16 @@ impl Engine {
         config.check()?;
         let clients = new_clients(alloc, config.clients as usize)?;
         let readers = new_readers(alloc, config.readers as usize)?;
-        let (replica, published) = new_histories(alloc, config)?;
+        let (handler, publisher) = new_histories(alloc, config)?;
         Ok(Engine {
             places: config.queue as usize,
             batch: config.batch as usize,
             serials: u64::from(config.serials),
-            replica,
+            handler,
+            publisher,
             queue: VecDeque::new(alloc),
             handled: VecDeque::new(alloc),
             due: VecDeque::new(alloc),
-            published,
             clients,
             readers,
         })
@@ -92,7 +102,7 @@ impl Engine {
     pub fn table(&self) -> &ReplicaTable
         ensures { result.now ≡ self.now.replica.members }
     {
-        self.replica.document().table()
+        self.handler.replica.document().table()
     }
 
     /// One step, after these messages. What it sends is put behind them.
@@ -144,20 +154,23 @@ impl Engine {
                 ..
             } => self.deliver(alloc, messages, *client, *message),
             WorldStep::Line { client, text, .. } => self.line(alloc, *client, text),
-            WorldStep::Dropped { .. } => Ok(WorldReply::Dropped(self.replica.dropped())),
+            WorldStep::Dropped { .. } => Ok(WorldReply::Dropped(self.handler.replica.dropped())),
         }
     }
 }
 
-/// A replica, and the document of what is published of it.
-fn new_histories(alloc: Global, config: &Config) -> Result<(Replica, Document), Refusal>
+/// A handler of a new replica, and a publisher of its history.
+fn new_histories(alloc: Global, config: &Config) -> Result<(Handler, Publisher), Refusal>
     requires { is_within_limits config.now ≡ true }
-    ensures new { IfOk result (λ p. (replica_of p.0 ≡ (opened_engine config.now).replica) × (p.1.entries ≡ []) × (p.1.table ≡ p.0.document.table)) }
+    ensures new { IfOk result (λ p. (replica_of p.0.replica ≡ (opened_engine config.now).replica) × Holds p.1 (replica_of p.0.replica) × (p.1.published ≡ [])) }
     ensures err { IfErr result (λ why. why ≡ NoMemory) }
 {
     let replica = Replica::new(alloc, config.own, &config.members)?;
-    let published = Document::new(alloc, &config.members)?;
-    Ok((replica, published))
+    let empty = Document::new(alloc, &config.members)?;
+    Ok((
+        Handler::new(replica),
+        Publisher::new(alloc, config.own, empty),
+    ))
 }
 
 /// So many readers that have seen nothing.

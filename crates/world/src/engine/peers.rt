@@ -11,15 +11,16 @@ ghost use Rattle.semantics.specs.WriteSteps.{push};
 ghost use Rattle.semantics.specs.PeerSteps.{answer_hello, answer_sent, lacked, names_members, published_vector, receive_lines, receive_message, say_hello, submit_all};
 ghost use Rattle.operation.specs.Meanings.{command_of, stamped_of};
 ghost use Rattle.wire.specs.Bundles.{readable};
-ghost use Rattle.world.specs.Engines.{HasWidth, IsNoHello, first_of, message_of, request_of, stop_after, taken_or_denied};
+ghost use Rattle.items.specs.Meanings.{request_of};
+ghost use Rattle.world.specs.Engines.{IsNoHello, first_of, message_of, stop_after, taken_or_denied};
 ghost use Rattle.world.specs.Meanings.{reply_of};
 
 use crate::engine::Engine;
-use crate::item::Request;
 use crate::message::{Message, NamedOps, NamedVector};
 use crate::naming::{ops_beside, vector_beside};
 use crate::step::WorldReply;
 use ids::Refusal;
+use items::Request;
 use operation::{Command, Op};
 use std::alloc::Global;
 use wire::{LinesRead, read_lines};
@@ -58,7 +59,6 @@ impl Engine {
     /// `NoMemory` where a growth was refused.
     fn submit(&mut self, client: usize, request: Request) -> Result<Option<Refusal>, Refusal>
         requires there { client < length self.old.clients }
-        requires wide { HasWidth self.old.replica.members request }
         ensures engine { OnOk result (self.new ≡ (push self.old client (request_of self.old.replica.members request)).engine) }
         ensures reply { IfOk result (λ w. (k : TheClient) → slice_get self.old.clients client ≡ Some k → (push self.old client (request_of self.old.replica.members request)).reply ≡ taken_or_denied (length k.cells + 1) w) }
         ensures err { IfErr result (λ why. why ≡ NoMemory) }
@@ -93,8 +93,8 @@ impl Engine {
         ensures err { IfErr result (λ why. why ≡ NoMemory) }
     {
         let message = messages.len() as u64;
-        let table = self.published.table().clone()?;
-        let vector = self.published.applied().clone()?;
+        let table = self.shown().table().clone()?;
+        let vector = self.shown().applied().clone()?;
         messages.push(Message::Hello(NamedVector {
             table: table.clone()?,
             vector: vector.clone()?,
@@ -152,9 +152,9 @@ impl Engine {
             (λ b. (map (stamped_of b.table) b.ops.items ≡ lacked self.now (by_table hello.now.table hello.now.vector)) × (names_members self.now (by_table hello.now.table hello.now.vector) ≡ true))
             (λ why. (why ≡ NoMemory) ⊎ ((why ≡ UnknownReplica) × (names_members self.now (by_table hello.now.table hello.now.vector) ≡ false))) }
     {
-        let table = self.published.table().clone()?;
+        let table = self.shown().table().clone()?;
         let vector = vector_beside(alloc, &hello.table, &hello.vector, &table)?;
-        let ops = self.published.missing(alloc, &vector)?;
+        let ops = self.shown().missing(alloc, &vector)?;
         Ok(NamedOps { table, ops })
     }
 
@@ -176,7 +176,7 @@ impl Engine {
         let Some(Message::Bundle(bundle)) = messages.get(message) else {
             return Ok(WorldReply::NoMessage);
         };
-        let read = ops_beside(alloc, bundle, self.published.table());
+        let read = ops_beside(alloc, bundle, self.shown().table());
         self.receive(client, read)
     }
 
@@ -189,7 +189,7 @@ impl Engine {
         ensures reply { IfOk result (λ r. reply_of r ≡ (receive_lines self.old client (readable self.old.replica.members text.now).operations (readable self.old.replica.members text.now).stopped).reply) }
         ensures err { IfErr result (λ why. why ≡ NoMemory) }
     {
-        let read = read_lines(alloc, text, self.published.table());
+        let read = read_lines(alloc, text, self.shown().table());
         self.receive(client, read)
     }
 

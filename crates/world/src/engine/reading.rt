@@ -1,6 +1,6 @@
 //! What tokens of an engine read: answers to what was submitted, and to questions. What a token reads, it has seen.
 
-ghost use Rattle.std.specs.Prelude.{◌≡◌, OnOk, IfOk, IfErr, map, option_map, option_and_then, List, ℕ};
+ghost use Rattle.std.specs.Prelude.{◌≡◌, OnOk, IfOk, IfErr, map, length, option_map, option_and_then, List, ℕ};
 ghost use Rattle.ids.specs.declared.refusal.Refusal.TheVariants.{NoMemory};
 ghost use Rattle.semantics.specs.Engine.{Engine as TheEngine, Read, published_entries};
 ghost use Rattle.semantics.specs.LegalAnswer.{reading_of};
@@ -12,7 +12,7 @@ ghost use Rattle.world.specs.Meanings.{reply_of};
 use crate::client::{Client, Given};
 use crate::engine::Engine;
 use crate::step::WorldReply;
-use document::Question;
+use document::{Document, Question};
 use ids::Refusal;
 use std::alloc::Global;
 
@@ -75,11 +75,11 @@ impl Engine {
         ensures reply { IfOk result (λ r. reply_of r ≡ Read self.now.published (reading_of (published_entries self.now) (asked_of self.now.replica.members question.now))) }
         ensures err { IfErr result (λ why. why ≡ NoMemory) }
     {
-        let seen = self.published.len() as u64;
-        match self.published.ask(alloc, question) {
+        let seen = self.shown().len() as u64;
+        match self.shown().ask(alloc, question) {
             Ok(reading) => Ok(WorldReply::Read {
                 seen,
-                table: self.published.table().clone()?,
+                table: self.shown().table().clone()?,
                 reading,
             }),
             Err(Refusal::NoMemory) => Err(Refusal::NoMemory),
@@ -87,11 +87,20 @@ impl Engine {
         }
     }
 
+    /// The document of what is published.
+    pub(super) fn shown(&self) -> &Document
+        ensures table { result.now.table ≡ self.now.replica.members }
+        ensures entries { result.now.entries ≡ published_entries self.now }
+        ensures length { length result.now.entries ≡ self.now.published }
+    {
+        self.publisher.published()
+    }
+
     /// A token sees all that is published.
     pub(super) fn see_published(&mut self, token: usize)
         ensures { self.new ≡ see self.old token self.old.published }
     {
-        let published = self.published.len();
+        let published = self.shown().len();
         see(&mut self.clients, &mut self.readers, token, published);
     }
 }

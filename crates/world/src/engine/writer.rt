@@ -2,18 +2,23 @@
 
 ghost use Rattle.std.specs.Prelude.{◌≡◌, OnOk, IfOk, IfErr, map, length, List, ℕ};
 ghost use Rattle.ids.specs.declared.refusal.Refusal.TheVariants.{NoMemory};
-ghost use Rattle.semantics.specs.WriteSteps.{give, give_for, give_to, publish, take_for, take_item, whole_step};
+ghost use Rattle.semantics.specs.Entries.{IsAbove};
+ghost use Rattle.semantics.specs.Replica.{IsRunning};
+ghost use Rattle.semantics.specs.Publication.{Holds};
+ghost use Rattle.semantics.specs.WriteSteps.{after_item, give, give_for, give_to, publish, reply_to, take_for, take_item, whole_step};
 ghost use Rattle.semantics.proofs.SoundEngines.{IsSound};
-ghost use Rattle.world.specs.Engines.{client_of, given_of};
+ghost use Rattle.replica.specs.Replicas.{replica_of};
+ghost use Rattle.items.specs.Meanings.{answer_of, submitted_of};
+ghost use Rattle.world.specs.Engines.{client_of, given_of, is_no_memory};
 ghost use Rattle.world.specs.Meanings.{reply_of};
 
 use crate::client::{Client, Given};
-use crate::engine::Engine;
-use crate::handling::handle;
-use crate::item::Handled;
-use crate::published::publish_new;
+use crate::engine::{Engine, Handled};
+use crate::publisher::Publisher;
 use crate::step::WorldReply;
+use handling::Handler;
 use ids::Refusal;
+use items::{Item, Reply};
 use std::alloc::Global;
 use std::mem;
 
@@ -34,12 +39,12 @@ impl Engine {
         let Some(item) = self.queue.pop_front() else {
             return Ok(WorldReply::Idle);
         };
-        let reply = handle(alloc, &mut self.replica, &item)?;
+        let reply = handle(alloc, &mut self.handler, &mut self.publisher, &item)?;
         self.handled.push_back(Handled { item, reply })?;
         Ok(WorldReply::Took)
     }
 
-    /// The writer publishes all that it handled. Copies the entries that weren't published yet.
+    /// The writer publishes all that it handled. Clones nothing.
     ///
     /// # Errors
     /// `NoMemory` where a growth was refused: some entries may be published then.
@@ -52,7 +57,7 @@ impl Engine {
             return Ok(WorldReply::Idle);
         }
         let count = self.handled.len();
-        publish_new(alloc, &self.replica, &mut self.published)?;
+        self.publisher.publish(alloc)?;
         mem::swap(&mut self.handled, &mut self.due);
         Ok(WorldReply::Published(count as u64))
     }
@@ -69,7 +74,7 @@ impl Engine {
         let serial = handled.item.serial;
         let given = Given {
             reply: handled.reply,
-            published: self.published.len(),
+            published: self.publisher.published().len(),
         };
         give_to(&mut self.clients, client, serial, given);
         WorldReply::Gave { client, serial }
@@ -118,6 +123,40 @@ impl Engine {
             self.give();
         }
     }
+}
+
+/// Handles an item as the rules have it. Clones what the history keeps.
+///
+/// # Errors
+/// `NoMemory` if allocation fails. The item may be handled in part then.
+fn handle(
+    alloc: Global,
+    handler: &mut Handler,
+    publisher: &mut Publisher,
+    item: &Item,
+) -> Result<Reply, Refusal>
+    requires holds { Holds publisher.old (replica_of handler.old.replica) }
+    requires running { IsRunning (replica_of handler.old.replica) }
+    requires above { IsAbove item.now.client item.now.serial handler.old.replica.document.entries }
+    ensures replica { OnOk result (replica_of handler.new.replica ≡ after_item (replica_of handler.old.replica) (submitted_of handler.old.replica.document.table item.now)) }
+    ensures reply { IfOk result (λ r. answer_of r ≡ reply_to (replica_of handler.old.replica) (submitted_of handler.old.replica.document.table item.now)) }
+    ensures table { handler.new.replica.document.table ≡ handler.old.replica.document.table }
+    ensures holds { Holds publisher.new (replica_of handler.new.replica) }
+    ensures published { publisher.new.published ≡ publisher.old.published }
+    ensures err { IfErr result (λ why. why ≡ NoMemory) }
+{
+    let reply = handler.handle(alloc, publisher, item);
+    if handler.behind || is_no_memory(&reply) {
+        return Err(Refusal::NoMemory);
+    }
+    Ok(reply)
+}
+
+/// Whether an item was refused because allocation failed.
+fn is_no_memory(reply: &Reply) -> bool
+    ensures { result ≡ is_no_memory (answer_of reply.now) }
+{
+    matches!(reply, Reply::Refused(Refusal::NoMemory, _))
 }
 
 /// The clients after the answer to one's serial is set.

@@ -13,7 +13,7 @@ returns-clause-engine c =
     let at = c.args.client in
     let ss = map (stamped_of A.replica.members) c.args.read.ops.items in
     let bad = c.args.read.stopped in
-    let there : at < length A.clients = omega (arith, ap (λ (F : TheEngine). length F.clients) c.self.view_is, length-map c.self.inside.clients.items (client_of c.self.inside.replica.document.table)) in
+    let there : at < length A.clients = omega (arith, ap (λ (F : TheEngine). length F.clients) c.self.view_is, length-map c.self.inside.clients.items (client_of c.self.inside.handler.replica.document.table)) in
     let k = found A.clients at there in
     sym (ap (λ (r : Receipt). r.engine) (c.in_ok-submitted.ensures.submitted bad))
     ∙ sym (ap (λ (t : Turn). t.engine) (receive-there A at ss bad k.0 k.1))
@@ -25,7 +25,7 @@ returns-clause-reply c =
     let ss = map (stamped_of A.replica.members) c.args.read.ops.items in
     let bad = c.args.read.stopped in
     let n : ℕ = c.in_ok-submitted.submitted in
-    let there : at < length A.clients = omega (arith, ap (λ (F : TheEngine). length F.clients) c.self.view_is, length-map c.self.inside.clients.items (client_of c.self.inside.replica.document.table)) in
+    let there : at < length A.clients = omega (arith, ap (λ (F : TheEngine). length F.clients) c.self.view_is, length-map c.self.inside.clients.items (client_of c.self.inside.handler.replica.document.table)) in
     let k = found A.clients at there in
     let serial : c.next_serial-serial.result ≡ suc (length k.0.cells) = c.next_serial-serial.ensures k.0 k.1 ∙ add-one (length k.0.cells) in
     let all = c.in_ok-submitted.ensures.submitted bad in

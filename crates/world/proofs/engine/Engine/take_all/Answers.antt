@@ -3,7 +3,7 @@ use Rattle.semantics.specs.Engine.{Engine}
 use Rattle.semantics.specs.WriteSteps.{take_for, take_item}
 use Rattle.semantics.proofs.SoundEngines.{IsSound}
 use Rattle.semantics.proofs.SoundTaking.{took}
-use Rattle.world.specs.Engines.{submitted_of}
+use Rattle.items.specs.Meanings.{submitted_of}
 use Rattle.world.proofs.WholeSteps.{take_next, take_none}
 use Rattle.world.proofs.engine.Engine.take_all.Goals as goal
 
@@ -16,7 +16,7 @@ returns-then-is_empty-clause-engine c =
     let E : Engine = c.loop.self in
     let q = c.self-in-loop.inside.queue in
     let none : length q.items ≡ 0 = (let e = eqb-true _ _ (sym c.is_empty.ensures ∙ c.if-is_empty.true) in omega (arith, e)) in
-    let empty : E.queue ≡ [] = ap (λ (F : Engine). F.queue) (sym c.self-in-loop.view_is) ∙ ap (map (submitted_of c.self-in-loop.inside.replica.document.table)) (none_of q.items none) in
+    let empty : E.queue ≡ [] = ap (λ (F : Engine). F.queue) (sym c.self-in-loop.view_is) ∙ ap (map (submitted_of c.self-in-loop.inside.handler.replica.document.table)) (none_of q.items none) in
     sym (take_none (c.args.self.now.batch - c.loop.counter) E empty) ∙ c.loop.invariant.taken
 
 pub loop-preserved : goal.loop-preserved
