@@ -1,10 +1,10 @@
 -- One step of a world, where its engine is there.
-use Rattle.std.proofs.Common.{◌≡◌, ℕ, zero, suc, ◌<◌, ◌≤◌, List, [], ◌∷◌, ◌++◌, length, get_or, Some, None, refl, sym, ap, ◌∙◌, arith, slice_get, slice_set}
+use Rattle.std.proofs.Common.{◌≡◌, ◌≢◌, ℕ, zero, suc, ◌<◌, ◌≤◌, List, [], ◌∷◌, ◌++◌, length, take, get_or, Some, None, refl, sym, ap, ◌∙◌, subst, arith, slice_get, slice_set}
 use Rattle.std.proofs.lemmas.Option.{slice_get_past}
 use Rattle.semantics.specs.Engine.{Engine, Message, Idle}
-use Rattle.semantics.specs.World.{WorldStep, mover, engine_step, sent_by, world_step}
+use Rattle.semantics.specs.World.{World, WorldStep, mover, engine_step, sent_by, world_after, world_step}
 use Rattle.semantics.proofs.SoundEngines.{IsSound}
-use Rattle.world.specs.Worlds.{world, tables_of, table_at, AllSound}
+use Rattle.world.specs.Worlds.{world, tables_of, table_at, AllSound, IsAnother, StopsAfter}
 
 pub sound_at : (Es : List Engine) (i : ℕ) (E : Engine) → AllSound Es → i < length Es → E ≡ get_or Es i E → IsSound E
 sound_at [] i E h l e = absurd (omega arith)
@@ -41,3 +41,24 @@ pub tables_set : (Es : List Engine) (i : ℕ) (E F : Engine) → slice_get Es i 
 tables_set [] i E F e m = refl
 tables_set (G ∷ Es) zero E F e m = let same : G ≡ E = cc in ap (λ table. table ∷ tables_of Es) (m ∙ sym (ap (λ (G : Engine). G.replica.members) same))
 tables_set (G ∷ Es) (suc i) E F e m = ap (λ tables. G.replica.members ∷ tables) (tables_set Es i E F e m)
+
+-- ---- steps that were done
+
+-- the world after one step more
+pub after_next : (W : World) (steps : List WorldStep) (n : ℕ) (s : WorldStep) → slice_get steps n ≡ Some s → world_after W (take (suc n) steps) ≡ (world_step (world_after W (take n steps)) s).world
+after_next W [] n s e = cc
+after_next W (t ∷ steps) zero s e = let same : t ≡ s = cc in ap (λ (u : WorldStep). (world_step W u).world) same
+after_next W (t ∷ steps) (suc n) s e = after_next (world_step W t).world steps n s e
+
+-- these were done whole
+pub stops_whole : (W V : World) (steps : List WorldStep) (n : ℕ) → n ≤ length steps → V ≡ world_after W (take n steps) → StopsAfter W steps n V
+stops_whole W V steps n l is = record { within = l; messages = ap (λ (U : World). U.messages) is; others = λ e other. ap (λ (U : World). slice_get U.engines e) is }
+
+-- and the next one in part
+pub stops_within : (W U V : World) (steps : List WorldStep) (n : ℕ) (s : WorldStep) → slice_get steps n ≡ Some s → n ≤ length steps → U ≡ world_after W (take n steps) → V.messages ≡ U.messages
+    → ((e : ℕ) → e ≢ mover s → slice_get V.engines e ≡ slice_get U.engines e) → StopsAfter W steps n V
+stops_within W U V steps n s at l is messages others = record {
+  within = l;
+  messages = messages ∙ ap (λ (T : World). T.messages) is;
+  others = λ e other. others e (subst (IsAnother e) at other) ∙ ap (λ (T : World). slice_get T.engines e) is;
+}

@@ -1,7 +1,7 @@
 -- What contracts see of a world of the program.
-use Rattle.std.specs.Prelude.{ℕ, Bool, ⊤, List, [], ◌∷◌, map, slice_index_or}
+use Rattle.std.specs.Prelude.{◌≡◌, ◌≢◌, ℕ, ◌≤◌, Bool, ⊤, List, [], ◌∷◌, map, take, length, Option, Some, None, slice_get, slice_index_or}
 use Rattle.semantics.specs.Engine.{Engine, Message}
-use Rattle.semantics.specs.World.{World, WorldStep as TheStep}
+use Rattle.semantics.specs.World.{World, WorldStep as TheStep, mover, world_after}
 use Rattle.world.specs.declared.step.WorldStep.{WorldStep}
 use Rattle.world.specs.Meanings.{AsksBeside, engine_in, step_of}
 use Rattle.semantics.proofs.SoundEngines.{IsSound}
@@ -41,3 +41,15 @@ IsAskedBeside tables s = AsksBeside (table_at tables (engine_in s)) s
 abbrev pub AllSound : List Engine → Type 0
 AllSound [] = ⊤
 AllSound (E ∷ Es) = IsSound E × AllSound Es
+
+-- the engine isn't the one that moves in this step, if there is one
+abbrev pub IsAnother : ℕ → Option TheStep → Type 0
+IsAnother e None = ⊤
+IsAnother e (Some s) = e ≢ mover s
+
+-- V is the world W that has done n of the steps whole, and the next one in part: the messages and all engines but the one
+-- that moves next are as after the n steps
+pub record StopsAfter (W : World) (steps : List TheStep) (n : ℕ) (V : World) : Type 0 where
+  pub within : n ≤ length steps
+  pub messages : V.messages ≡ (world_after W (take n steps)).messages
+  pub others : (e : ℕ) → IsAnother e (slice_get steps n) → slice_get V.engines e ≡ slice_get (world_after W (take n steps)).engines e

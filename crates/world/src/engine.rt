@@ -1,6 +1,6 @@
 //! One engine on one thread: its clients submit to a queue, its writer takes from it in batches, and tokens read what is published.
 
-ghost use Rattle.std.specs.Prelude.{◌≡◌, ◌↔◌, ◌⊎◌, OnOk, IfOk, IfErr, Err, IsTrue, IsFalse, true, map, [], length, replicate, List, ℕ, ◌++◌};
+ghost use Rattle.std.specs.Prelude.{◌≡◌, ◌↔◌, ◌⊎◌, OnOk, OnErr, IfOk, IfErr, Err, IsTrue, IsFalse, true, map, [], length, replicate, List, ℕ, ◌++◌};
 ghost use Rattle.ids.specs.declared.refusal.Refusal.TheVariants.{NoMemory, BadConfig};
 ghost use Rattle.ids.specs.Configurations.{is_within_limits};
 ghost use Rattle.semantics.specs.World.{engine_step, opened_engine, sent_by};
@@ -120,6 +120,7 @@ impl Engine {
         ensures engine { OnOk result (self.new ≡ (engine_step (map message_of messages.old.items) (step_of self.old.replica.members step.now) self.old).engine) }
         ensures reply { IfOk result (λ r. reply_of r ≡ (engine_step (map message_of messages.old.items) (step_of self.old.replica.members step.now) self.old).reply) }
         ensures sent { OnOk result (map message_of messages.new.items ≡ map message_of messages.old.items ++ sent_by (map message_of messages.old.items) (step_of self.old.replica.members step.now) self.old) }
+        ensures unsent { OnErr result (map message_of messages.new.items ≡ map message_of messages.old.items) }
         ensures err { IfErr result (λ why. why ≡ NoMemory) }
     {
         match step {

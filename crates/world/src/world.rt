@@ -1,13 +1,13 @@
 //! Engines on one thread and the messages between them, as a list of steps moves them.
 
-ghost use Rattle.std.specs.Prelude.{◌≡◌, ◌≤◌, ◌+◌, ◌↔◌, ◌⊎◌, OnOk, OnErr, IfOk, IfErr, Err, IsFalse, true, false, min, map, option_map, slice_get, length, List};
+ghost use Rattle.std.specs.Prelude.{◌≡◌, ◌≢◌, ◌+◌, ℕ, ◌↔◌, ◌⊎◌, OnOk, OnErr, IfOk, IfErr, Err, IsFalse, true, false, min, map, option_map, slice_get, length, List};
 ghost use Rattle.std.specs.List.{All, list_all};
 ghost use Rattle.ids.specs.declared.refusal.Refusal.TheVariants.{NoMemory, BadConfig};
 ghost use Rattle.ids.specs.Configurations.{is_within_limits};
-ghost use Rattle.semantics.specs.World.{opened, opened_engine, world_step, world_after, replies_of};
+ghost use Rattle.semantics.specs.World.{mover, opened, opened_engine, world_step, world_after, replies_of};
 ghost use Rattle.world.specs.Engines.{message_of};
 ghost use Rattle.world.specs.Meanings.{reply_of};
-ghost use Rattle.world.specs.Worlds.{AllSound, IsAskedBeside, step_in, tables_of, world, world_of};
+ghost use Rattle.world.specs.Worlds.{AllSound, IsAskedBeside, StopsAfter, step_in, tables_of, world, world_of};
 
 use crate::engine::Engine;
 use crate::message::Message;
@@ -78,7 +78,7 @@ impl World {
     /// Runs the steps in order, and gives the reply to each. A step of an engine that isn't there replies Idle.
     ///
     /// # Errors
-    /// `NoMemory` where a growth was refused, and at each call after that: `steps_done` steps were done whole, the next may be done in part.
+    /// `NoMemory` where a growth was refused, and at each call after that: `steps_done` steps were done whole, and the next may be done in part, by its engine alone.
     pub fn run(&mut self, alloc: Global, steps: &[WorldStep]) -> Result<Vec<WorldReply>, Refusal>
         requires { All (IsAskedBeside (tables_of self.old.engines)) steps.now }
         ensures replies { IfOk result (λ rs. map reply_of rs.items ≡ replies_of (world_of self.old) (map (step_in (tables_of self.old.engines)) steps.now)) }
@@ -86,7 +86,7 @@ impl World {
         ensures done { OnOk result (self.new.done ≡ min (self.old.done + length steps.now) 18446744073709551615) }
         ensures running { OnOk result ((self.old.failed ≡ false) × (self.new.failed ≡ false)) }
         ensures err { IfErr result (λ why. (why ≡ NoMemory) × (self.new.failed ≡ true)) }
-        ensures fewer { OnErr result ((self.old.done ≤ self.new.done) × (self.new.done ≤ self.old.done + length steps.now)) }
+        ensures stopped { OnErr result (self.old.failed ≡ false → (n : ℕ) × (self.new.done ≡ min (self.old.done + n) 18446744073709551615) × StopsAfter (world_of self.old) (map (step_in (tables_of self.old.engines)) steps.now) n (world_of self.new)) }
         ensures failed { self.old.failed ≡ true → (result ≡ Err NoMemory) × (self.new ≡ self.old) }
     {
         if self.failed {
@@ -156,13 +156,13 @@ fn run_all(
     ensures sound { OnOk result (AllSound engines.new.items) }
     ensures whole { OnOk result (whole.new ≡ length steps.now) }
     ensures err { IfErr result (λ why. why ≡ NoMemory) }
-    ensures fewer { whole.new ≤ length steps.now }
+    ensures stopped { OnErr result (StopsAfter (world engines.old.items (map message_of messages.old.items)) (map (step_in (tables_of engines.old.items)) steps.now) whole.new (world engines.new.items (map message_of messages.new.items))) }
 {
     let mut replies = Vec::with_capacity(alloc, steps.len())?;
     for step in steps {
         let reply = turn(alloc, engines, messages, step)?;
-        replies.push(reply)?;
         *whole += 1;
+        replies.push(reply)?;
     }
     Ok(replies)
 }
@@ -180,6 +180,8 @@ fn turn(
     ensures reply { IfOk result (λ r. reply_of r ≡ (world_step (world engines.old.items (map message_of messages.old.items)) (step_in (tables_of engines.old.items) step.now)).reply) }
     ensures sound { OnOk result (AllSound engines.new.items) }
     ensures tables { OnOk result (tables_of engines.new.items ≡ tables_of engines.old.items) }
+    ensures messages { OnErr result (map message_of messages.new.items ≡ map message_of messages.old.items) }
+    ensures others { OnErr result ((e : ℕ) → e ≢ mover (step_in (tables_of engines.old.items) step.now) → slice_get engines.new.items e ≡ slice_get engines.old.items e) }
     ensures err { IfErr result (λ why. why ≡ NoMemory) }
 {
     let mover = step.engine();

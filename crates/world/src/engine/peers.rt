@@ -1,6 +1,6 @@
 //! How clients of an engine submit, and what its tokens say to other engines and its clients receive from them.
 
-ghost use Rattle.std.specs.Prelude.{◌≡◌, ◌≢◌, ◌⊎◌, ◌++◌, ◌∷◌, [], ◌+◌, ◌<◌, ◌≤◌, ◌^◌, ◌==◌, cond, true, false, OnOk, IfOk, IfErr, IfNone, IfSome, MatchResult, Option, Some, map, length, slice_get};
+ghost use Rattle.std.specs.Prelude.{◌≡◌, ◌≢◌, ◌⊎◌, ◌++◌, ◌∷◌, [], ◌+◌, ◌<◌, ◌≤◌, ◌^◌, ◌==◌, cond, true, false, OnOk, OnErr, IfOk, IfErr, IfNone, IfSome, MatchResult, Option, Some, map, length, slice_get};
 ghost use Rattle.std.specs.List.{All};
 ghost use Rattle.ids.specs.declared.refusal.Refusal.TheVariants.{NoMemory, UnknownReplica};
 ghost use Rattle.ids.specs.declared.refusal.Refusal.{Refusal as TheRefusal};
@@ -90,6 +90,7 @@ impl Engine {
         ensures engine { OnOk result (self.new ≡ (say_hello self.old token (length messages.old.items)).engine) }
         ensures reply { IfOk result (λ r. reply_of r ≡ (say_hello self.old token (length messages.old.items)).reply) }
         ensures sent { OnOk result (map message_of messages.new.items ≡ map message_of messages.old.items ++ HelloOf (published_vector self.old) ∷ []) }
+        ensures unsent { OnErr result (map message_of messages.new.items ≡ map message_of messages.old.items) }
         ensures err { IfErr result (λ why. why ≡ NoMemory) }
     {
         let message = messages.len() as u64;
@@ -121,6 +122,7 @@ impl Engine {
         ensures engine { OnOk result (self.new ≡ (answer_hello self.old token (length messages.old.items) (slice_get (map message_of messages.old.items) message)).engine) }
         ensures reply { IfOk result (λ r. reply_of r ≡ (answer_hello self.old token (length messages.old.items) (slice_get (map message_of messages.old.items) message)).reply) }
         ensures sent { OnOk result (map message_of messages.new.items ≡ map message_of messages.old.items ++ answer_sent self.old (slice_get (map message_of messages.old.items) message)) }
+        ensures unsent { OnErr result (map message_of messages.new.items ≡ map message_of messages.old.items) }
         ensures err { IfErr result (λ why. why ≡ NoMemory) }
     {
         let Some(hello) = hello_at(messages, message) else {

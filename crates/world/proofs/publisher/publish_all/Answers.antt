@@ -1,4 +1,4 @@
-use Rattle.std.proofs.Common.{◌≡◌, ◌∙◌, List, drop, ap}
+use Rattle.std.proofs.Common.{◌∙◌, List, drop, ap}
 use Rattle.std.proofs.lemmas.List.{drop-drop}
 use Rattle.operation.specs.declared.command.Entry.{Entry}
 use Rattle.world.proofs.Publishing.{published_on}

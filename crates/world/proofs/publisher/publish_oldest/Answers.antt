@@ -1,4 +1,4 @@
-use Rattle.std.proofs.Common.{◌≡◌, ◌∷◌, sym}
+use Rattle.std.proofs.Common.{◌∷◌, sym}
 use Rattle.world.specs.Publishers.{PublishesMore}
 use Rattle.world.proofs.Publishing.{none_published, oldest_follows, one_published, published_on}
 use Rattle.world.proofs.publisher.publish_oldest.Goals as goal
