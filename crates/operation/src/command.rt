@@ -38,7 +38,7 @@ impl Command {
     /// What is to be done there. Copies the value.
     ///
     /// # Errors
-    /// Want of memory, where the value is a text.
+    /// `AllocError` if allocation fails, which only the clone of a text needs.
     pub fn mutation(&self) -> Result<Mutation, AllocError>
         ensures { IfOk result (λ m. mutation_of m ≡ (command_of self.now).mutation) }
     {

@@ -6,7 +6,7 @@
 //! - *publish* (the writer, in `Publisher::publish`): what is shown afterwards is the snapshot of all that was appended;
 //! - *enter* (a reader, in `Seat::ask`): what is read is what is shown at that step.
 //!
-//! An entry is cloned once on its way to the two copies (`docs/SPEED.md` has what that costs); a read clones its answer.
+//! An entry is cloned once on its way to the two copies; a read clones its answer and nothing of the history.
 #![tactic(auto)]
 
 mod book;

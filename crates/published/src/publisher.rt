@@ -214,6 +214,7 @@ impl<N: EngineName> Publisher<N> {
             return Err(Refusal::NoMemory);
         }
         let mut after = self.all.again();
+        // Never: only this publisher extends the history. No contract of the logbook says so.
         if !after.extend(&self.head, &entry) {
             return Err(Refusal::NoMemory);
         }

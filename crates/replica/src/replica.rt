@@ -56,7 +56,7 @@ impl Replica {
     /// A replica with this number among these members, and with no history.
     ///
     /// # Errors
-    /// `BadConfig` where the members aren't from 1 to 64 different numbers above 0, or the own number is none of them, else `NoMemory` where a growth was refused.
+    /// `BadConfig` where the members aren't from 1 to 64 different numbers above 0, or the own number is none of them, else `NoMemory` if allocation fails.
     pub fn new(alloc: Global, own: u32, members: &[u32]) -> Result<Replica, Refusal>
         ensures new { IfOk result (λ r. replica_of r ≡ record { own = own; members = in_order members.now; entries = []; waiting = []; dropped = 0 }) }
         ensures bad_config { (result ≡ Err BadConfig) ↔ IsFalse (are_members members.now && is_member members.now own) }
@@ -105,7 +105,7 @@ impl Replica {
     /// The operation that the command makes after the history. All that committing it needs is made too, and no content changes.
     ///
     /// # Errors
-    /// Those of the rules, in this order: `HistoryFull`; the refusal of the expression; `NotInList` for an insert that would stand neither at a head nor at an item, `AtHead` for another command at a head. Or `NoMemory` where a growth was refused.
+    /// Those of the rules, in this order: `HistoryFull`; the refusal of the expression; `NotInList` for an insert that would stand neither at a head nor at an item, `AtHead` for another command at a head. Or `NoMemory` if allocation fails.
     pub fn make(&mut self, alloc: Global, command: &Command) -> Result<Op, Refusal>
         ensures same { replica_of self.new ≡ replica_of self.old }
         ensures made { IfOk result (λ op. IsMade self.old.document.entries self.old.own (command_of command.now) (stamped_of self.old.document.table op)) }
@@ -140,7 +140,7 @@ impl Replica {
     /// `Known` where an operation with its id was applied or waits, whatever else it holds. The operation is gone, unless it is `Kept`.
     ///
     /// # Errors
-    /// The first of these that holds, and then the replica is as it was: those of `check_alone`; then, unless it is known, `OwnName` for the own number, `HistoryFull`, and `InboxFull`; and those of `Document::check` where it is ready. Or `NoMemory` where a growth was refused.
+    /// The first of these that holds, and then the replica is as it was: those of `check_alone`; then, unless it is known, `OwnName` for the own number, `HistoryFull`, and `InboxFull`; and those of `Document::check` where it is ready. Or `NoMemory` if allocation fails.
     pub fn deliver(&mut self, op: Op) -> Result<Delivered, Refusal>
         ensures answer { MatchResult result
             (λ d. answer_to (replica_of self.old) op ≡ delivered_of d)
@@ -159,7 +159,7 @@ impl Replica {
     /// A copy of the next operation of a peer that `commit_peer` appends: the smallest that is ready, unless the history is full. What is smaller, ready and unlawful is dropped and counted. All that committing it needs is made.
     ///
     /// # Errors
-    /// `NoMemory` where a growth was refused. What was dropped stays dropped then, and nothing else has changed.
+    /// `NoMemory` if allocation fails. What was dropped stays dropped then, and nothing else has changed.
     pub fn next_ready(&mut self, alloc: Global) -> Result<Option<Op>, Refusal>
         ensures dropped { (n : ℕ) × (replica_of self.new ≡ counted (drain_for n (replica_of self.old))) × (self.new.document.entries ≡ self.old.document.entries) }
         ensures next { IfOk result (λ o. option_map (stamped_of self.new.document.table) o ≡ next_of (replica_of self.new)) }
@@ -194,7 +194,7 @@ impl Replica {
     /// Appends or drops all that is ready, and all that becomes ready by it, the smallest first, until the history is full.
     ///
     /// # Errors
-    /// `NoMemory` where a growth was refused. The drain has ended early then, and another goes on.
+    /// `NoMemory` if allocation fails. The drain has ended early then, and another goes on.
     pub fn drain(&mut self, alloc: Global) -> Result<(), Refusal>
         ensures drained { OnOk result (replica_of self.new ≡ counted (drain (replica_of self.old))) }
         ensures settled { OnOk result (IsDrained (replica_of self.new)) }
