@@ -77,7 +77,7 @@ impl<T> ById<T> {
     /// Makes room for one more entry.
     ///
     /// # Errors
-    /// Want of memory.
+    /// `AllocError` if allocation fails.
     pub fn reserve_one(&mut self) -> Result<(), AllocError>
         ensures entries { self.new.entries ≡ self.old.entries }
         ensures indices { self.new.indices ≡ self.old.indices }
@@ -100,7 +100,7 @@ fn id_at<T>(ids: &IdColumns, beside: &[(ReplicaId, T)], place: usize) -> OpId
     OpId { counter, replica }
 }
 
-/// The place of an id, or the one to which it goes. One comparison where it goes to the end, and else a search by halves.
+/// The place of an id, or the one to which it goes. One comparison where it goes to the end, otherwise a binary search.
 fn find_id<T>(ids: &IdColumns, beside: &[(ReplicaId, T)], id: OpId) -> Result<usize, usize>
     requires { AreEntries ids.now.ids beside.now }
     ensures { MatchResult result (StandsAt id_cmp id (keys_of (entries_of ids.now.ids beside.now))) (GoesTo id_cmp id (keys_of (entries_of ids.now.ids beside.now))) }
@@ -136,7 +136,7 @@ fn is_greatest<T>(ids: &IdColumns, beside: &[(ReplicaId, T)], id: OpId) -> bool
 impl<T: Drop> ById<T> {
     /// Puts an entry in its place, where `index` is the place of the id's replica in the table. What stood beside the id goes, if there was something.
     ///
-    /// Takes no memory. It searches by halves and moves each entry of a greater id; for the greatest id it is one comparison and one push.
+    /// Takes no memory. A binary search and a move of each entry of a greater id; for the greatest id one comparison and one push.
     pub fn put(&mut self, id: OpId, index: usize, value: T)
         requires { 0 < self.old.room }
         ensures entries { self.new.entries ≡ put id_cmp id value self.old.entries }

@@ -67,7 +67,7 @@ impl ListOrder {
     /// Makes room for one more item.
     ///
     /// # Errors
-    /// Want of memory.
+    /// `AllocError` if allocation fails.
     pub fn reserve_one(&mut self) -> Result<(), AllocError>
         ensures same { self.new.items ≡ self.old.items }
         ensures room { OnOk result (0 < self.new.room) }
@@ -80,7 +80,7 @@ impl ListOrder {
 
     /// Puts a new item after `prev`, or after the head, past each next item that is greater.
     ///
-    /// Takes no memory. It searches for `prev` by halves, looks at each item that it goes past, and moves a number for each item of a greater id.
+    /// Takes no memory. It finds `prev` by binary search, looks at each item that it goes past, and moves a number for each item of a greater id.
     pub fn place(&mut self, prev: Option<OpId>, id: OpId)
         requires prev { IsTrue (has_place prev self.old.items) }
         requires id { IsFalse (has_item id self.old.items) }
@@ -96,14 +96,14 @@ impl ListOrder {
         self.ids.push_reserved(id);
     }
 
-    /// Whether this is one of the items. A search by halves.
+    /// Whether this is one of the items. Binary search.
     pub fn contains(&self, id: &OpId) -> bool
         ensures { result ≡ has_item id.now self.now.items }
     {
         number_of(&self.column, Some(*id)).is_some()
     }
 
-    /// The item after this one, or the first after the head. There is none past the last, and none after what is no item. A search by halves.
+    /// The item after this one, or the first after the head. There is none past the last, and none after what is no item. Binary search.
     pub fn next(&self, after: Option<OpId>) -> Option<OpId>
         ensures { result ≡ item_after after self.now.items }
     {

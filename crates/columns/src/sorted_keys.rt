@@ -62,7 +62,7 @@ impl SortedKeys {
     }
 
     /// How many keys were put before the one at a place.
-    pub fn number(&self, place: usize) -> usize
+    pub(crate) fn number(&self, place: usize) -> usize
         requires { place < length self.now.keys }
         ensures number { slice_get self.now.numbers place ≡ Some result }
         ensures numbers { AreNumbers (length self.now.keys) self.now.numbers }
@@ -73,7 +73,7 @@ impl SortedKeys {
     /// Makes room for one more key.
     ///
     /// # Errors
-    /// Want of memory.
+    /// `AllocError` if allocation fails.
     pub fn reserve_one(&mut self) -> Result<(), AllocError>
         ensures same { self.new.keys ≡ self.old.keys }
         ensures numbers { self.new.numbers ≡ self.old.numbers }
@@ -84,7 +84,7 @@ impl SortedKeys {
         self.order.reserve(1)
     }
 
-    /// The place of a key, or the one to which it goes. A search by halves, which compares the key with at most as many as the number of keys has binary digits: n has at most k where n is below 2 to the k. Each comparison adds 1 to `probes`.
+    /// The place of a key, or the one to which it goes. A binary search, which compares the key with at most as many as the number of keys has binary digits: n has at most k where n is below 2 to the k. Each comparison adds 1 to `probes`.
     pub fn find(&self, key: &Key, probes: &mut u64) -> Result<usize, usize>
         requires { probes.old ≤ 18446744073709551551 }
         ensures place { MatchResult result (λ place. (slice_get self.now.keys place ≡ Some key.now) × (place ≡ rank name_cmp key.now self.now.keys)) (GoesTo name_cmp key.now self.now.keys) }
@@ -118,7 +118,7 @@ fn key_at<'a>(keys: &'a [Key], order: &[usize], place: usize) -> &'a Key
     &keys[order[place]]
 }
 
-/// The place of a key, or the one to which it goes. A search by halves.
+/// The place of a key, or the one to which it goes. Binary search.
 fn find_in(keys: &[Key], order: &[usize], key: &Key, probes: &mut u64) -> Result<usize, usize>
     requires ordered { AreOrdered keys.now order.now }
     requires fits { length order.now < 2 ^ 64 }

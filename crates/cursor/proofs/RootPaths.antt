@@ -45,7 +45,7 @@ keys_below : (e : Element) (path : List Key) → keys_from_root (down e path) �
 keys_below e [] = sym (append_none (keys_from_root e))
 keys_below e (k ∷ path) = keys_below (child e k) path ∙ ap (λ ks. ks ++ path) (keys_from_root-child e k) ∙ append_assoc (keys_from_root e) (k ∷ []) path
 
-keys_from_root-down : (path : List Key) → keys_from_root (down Doc path) ≡ path
+pub keys_from_root-down : (path : List Key) → keys_from_root (down Doc path) ≡ path
 keys_from_root-down path = keys_below Doc path
 
 -- the hops of a place are its element's path

@@ -79,12 +79,6 @@ impl Expr {
     {
         &self.steps
     }
-
-    pub fn into_steps(self) -> Vec<Step>
-        ensures { map step_of result.items ≡ self }
-    {
-        self.steps
-    }
 }
 
 impl Clone for Expr {

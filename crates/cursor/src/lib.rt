@@ -10,5 +10,5 @@ mod tests;
 
 pub use expression::{Expr, Step};
 pub use hop::{Hop, Last};
-pub use place::{MOST_KEYS, Place};
+pub use place::{ElementPlace, MOST_KEYS, Place};
 pub use tag::Tag;

@@ -1,6 +1,6 @@
 //! Where an operation stands.
 
-ghost use Rattle.std.specs.Prelude.{◌≡◌, ◌≤◌, ℕ, suc, List, [], ◌∷◌, ◌++◌, map, Some, slice_get, IfOk};
+ghost use Rattle.std.specs.Prelude.{◌≡◌, ◌≤◌, ℕ, suc, true, List, [], ◌∷◌, ◌++◌, map, Some, slice_get, IfOk, MatchOption};
 ghost use Rattle.semantics.specs.Elements.{Element, Doc, At};
 ghost use Rattle.semantics.specs.Operations.{element_of};
 ghost use Rattle.semantics.specs.Paths.{child, keys_from_root};
@@ -43,6 +43,28 @@ impl Model for Place {
     ghost view = { λ p. place_at (map hop_of p.hops.items) p.is_head };
 
     ghost invariant = { λ p. depth_of (place_at (map hop_of p.hops.items) p.is_head) ≤ 32 };
+}
+
+/// A place that is no head. Contracts see its element.
+#[derive(Debug, Drop)]
+pub struct ElementPlace {
+    /// From the root down.
+    hops: Vec<Hop>,
+}
+
+impl Model for ElementPlace {
+    ghost use Rattle.std.specs.Prelude.{map};
+    ghost use Rattle.std.specs.Coded.{codes};
+    ghost use Rattle.semantics.specs.Codes.{coded_element};
+    ghost use Rattle.semantics.specs.Elements.{Doc, Element};
+    ghost use Rattle.semantics.specs.Paths.{down};
+    ghost use Rattle.cursor.specs.Meanings.{hop_of};
+
+    ghost Value = { Element };
+
+    ghost coded = { coded_element };
+
+    ghost view = { λ p. down Doc (map hop_of p.hops.items) };
 }
 
 impl Place {
@@ -100,6 +122,16 @@ impl Place {
         self.is_head
     }
 
+    /// The place as that of an element, or nothing for a head. Takes no memory.
+    pub fn into_element(self) -> Option<ElementPlace>
+        ensures { MatchOption result (is_head self ≡ true) (λ e. self ≡ At e) }
+    {
+        if self.is_head {
+            return None;
+        }
+        Some(ElementPlace { hops: self.hops })
+    }
+
     /// How many keys the path has.
     pub fn depth(&self) -> usize
         ensures keys { result ≡ depth_of self.now }
@@ -150,6 +182,15 @@ impl Place {
             hops: longer(alloc, self.hops(), hop)?,
             is_head: false,
         })
+    }
+}
+
+impl ElementPlace {
+    /// The hops from the root to the element.
+    pub fn hops(&self) -> &[Hop]
+        ensures { map hop_of result.now ≡ keys_from_root self.now }
+    {
+        self.hops.as_slice()
     }
 }
 

@@ -147,8 +147,8 @@ fn expressions_keep_their_steps(rt: HostRuntime) -> Result<(), Fail> {
     steps.push(Step::Idx(u64::MAX))?;
     let expression = Expr::new(steps);
     assert_eq!(rt; expression.steps().len(), 2);
-    let copy = expression.clone()?.into_steps();
-    let [Step::Get(key), Step::Idx(index)] = copy.as_slice() else {
+    let copy = expression.clone()?;
+    let [Step::Get(key), Step::Idx(index)] = copy.steps() else {
         return Err(Fail::from("other steps"));
     };
     assert_eq!(rt; key.as_str(), "tête");

@@ -1,10 +1,10 @@
 -- The places of the operations of a history, and what they say of its ids.
-use Rattle.std.proofs.Common.{◌≡◌, ◌≢◌, inl, inr, ℕ, suc, ◌<◌, Bool, true, false, not, cond, ◌&&◌, ◌||◌, ◌==◌, List, [], ◌∷◌, length, Option, Some, None, is_some, refl, sym, ap, ◌∙◌, subst, true≢false, arith}
+use Rattle.std.proofs.Common.{◌≡◌, ◌≢◌, inl, inr, ℕ, suc, ◌<◌, Bool, true, false, not, cond, ◌&&◌, ◌==◌, List, [], ◌∷◌, length, Option, Some, None, is_some, refl, sym, ap, ◌∙◌, subst, true≢false, arith}
 use Rattle.std.proofs.lemmas.Bool.{and_from, and_left, and_right, cases_eq, eq-eqb, ne_eqb, or_from, or_left, or_right}
 use Rattle.semantics.specs.Ids.{OpId, is_same_id}
 use Rattle.semantics.specs.LegalHistory.{has_id}
 use Rattle.semantics.specs.Vectors.{Vector, at, is_at_most}
-use Rattle.semantics.specs.Stamped.{IsLegalStamped, MayFollow, operation_after}
+use Rattle.semantics.specs.Stamped.{IsLegalStamped, operation_after}
 use Rattle.semantics.specs.Entries.{Entry, applied, entry_at, stamped_in, stamped_of}
 use Rattle.semantics.specs.Faults.{is_open}
 use Rattle.semantics.proofs.AbsentIds.{fresh}
@@ -12,24 +12,8 @@ use Rattle.semantics.proofs.LegalFacts.{counter_pos}
 use Rattle.semantics.proofs.NamedOperations.{follows_named, legal}
 use Rattle.semantics.proofs.Orders.{id_itself, ids_from_test}
 use Rattle.oplog.specs.Logs.{place_of}
+use Rattle.oplog.proofs.PlacedIds.{placed}
 use Rattle.document.specs.Checks.{entry_there, is_beyond, opens}
-
--- an id has a place where an operation has it
-pub placed : (G : List Entry) (a : OpId) → is_some (place_of a G) ≡ has_id (applied G) a
-placed [] a = refl
-placed (e ∷ G) a = at_test (is_same_id (stamped_in e).id a) (placed G a)
-  where
-    at_test : (b : Bool) → is_some (place_of a G) ≡ has_id (applied G) a → is_some (cond b (Some (length G)) (place_of a G)) ≡ (b || has_id (applied G) a)
-    at_test true rest = refl
-    at_test false rest = rest
-
--- an operation that may follow has an id that stands nowhere
-pub new_place : (G : List Entry) (e : Entry) → MayFollow (applied G) (stamped_in e) → place_of (stamped_in e).id G ≡ None
-new_place G e may = by (place_of (stamped_in e).id G) (placed G (stamped_in e).id ∙ fresh may.1)
-  where
-    by : (o : Option ℕ) → is_some o ≡ false → o ≡ None
-    by None is = refl
-    by (Some n) is = absurd (true≢false is)
 
 -- a place is one of the entries
 place_within : (G : List Entry) (a : OpId) (n : ℕ) → place_of a G ≡ Some n → n < length G

@@ -5,7 +5,6 @@ ghost use Rattle.std.specs.List.{All, cons_option};
 ghost use Rattle.ids.specs.declared.refusal.Refusal.TheVariants.{NoMemory};
 ghost use Rattle.semantics.specs.Tables.{by_table};
 ghost use Rattle.semantics.specs.Elements.{At, Element};
-ghost use Rattle.semantics.specs.Operations.{element_of};
 ghost use Rattle.semantics.specs.Entries.{entry_at, missing, stamped_in, stamped_of as stamped_entries};
 ghost use Rattle.semantics.specs.DocumentAnswer.{visible_items};
 ghost use Rattle.semantics.specs.Questions.{answer_at, resolve, Answer, Refused};
@@ -15,11 +14,11 @@ ghost use Rattle.tree.specs.Trees.{document};
 ghost use Rattle.document.specs.Documents.{IsBeside, IsKept, asked_of, said_by};
 
 use crate::question::{Question, Reading};
-use cursor::{Expr, Place};
+use cursor::{ElementPlace, Expr};
 use ids::Refusal;
 use operation::Op;
 use oplog::Log;
-use std::alloc::Global;
+use std::alloc::{AllocError, Global};
 use tree::Tree;
 use version::VersionVector;
 
@@ -38,20 +37,20 @@ pub fn answer(
 {
     match question {
         Question::Values(expression) => {
-            let place = find(alloc, tree, expression)?;
-            Ok(Reading::Values(tree.values(alloc, &place)?))
+            let element = find(alloc, tree, expression)?;
+            Ok(Reading::Values(tree.values(alloc, &element)?))
         }
         Question::Keys(expression) => {
-            let place = find(alloc, tree, expression)?;
-            Ok(Reading::Keys(tree.keys(alloc, &place)?))
+            let element = find(alloc, tree, expression)?;
+            Ok(Reading::Keys(tree.keys(alloc, &element)?))
         }
         Question::Items(expression) => {
-            let place = find(alloc, tree, expression)?;
-            Ok(Reading::Items(tree.items(alloc, &place)?))
+            let element = find(alloc, tree, expression)?;
+            Ok(Reading::Items(tree.items(alloc, &element)?))
         }
         Question::Conflicts(expression) => {
-            let place = find(alloc, tree, expression)?;
-            Ok(Reading::Conflicts(tree.conflicts(alloc, &place)?))
+            let element = find(alloc, tree, expression)?;
+            Ok(Reading::Conflicts(tree.conflicts(alloc, &element)?))
         }
         Question::Missing(vector) => Ok(Reading::Missing(missing(alloc, log, vector)?)),
         Question::Vector => Ok(Reading::Vector(applied.clone()?)),
@@ -59,23 +58,19 @@ pub fn answer(
 }
 
 /// The element that an expression leads to; a head is refused.
-fn find(alloc: Global, tree: &Tree, expression: &Expr) -> Result<Place, Refusal>
-    ensures ok { IfOk result (λ p. resolve (visible_items (document tree.now)) expression.now ≡ Ok (At (element_of p))) }
+fn find(alloc: Global, tree: &Tree, expression: &Expr) -> Result<ElementPlace, Refusal>
+    ensures ok { IfOk result (λ e. resolve (visible_items (document tree.now)) expression.now ≡ Ok (At e)) }
     ensures err { IfErr result (λ why. (why ≡ NoMemory) ⊎ ((f : Element → Answer) → answer_at f (resolve (visible_items (document tree.now)) expression.now) ≡ Refused why)) }
 {
     let place = tree.resolve(alloc, expression)?;
-    if place.is_head() {
-        return Err(Refusal::AtHead);
-    }
-    Ok(place)
+    place.into_element().ok_or(Refusal::AtHead)
 }
 
 /// Copies of the operations that the vector doesn't cover, the oldest first.
-pub fn missing(alloc: Global, log: &Log, vector: &VersionVector) -> Result<Vec<Op>, Refusal>
+pub fn missing(alloc: Global, log: &Log, vector: &VersionVector) -> Result<Vec<Op>, AllocError>
     requires { length vector.now ≡ length log.now.table }
     ensures ok { IfOk result (λ ops. reverse (map (stamped_of log.now.table) ops.items) ≡ missing (by_table log.now.table vector.now) (stamped_entries log.now.entries)) }
     ensures width { IfOk result (λ ops. All (λ o. length o.deps ≡ length log.now.table) ops.items) }
-    ensures err { IfErr result (λ why. why ≡ NoMemory) }
 {
     let places = log.missing(alloc, vector)?;
     let mut ops = Vec::with_capacity(alloc, places.len())?;
@@ -86,10 +81,9 @@ pub fn missing(alloc: Global, log: &Log, vector: &VersionVector) -> Result<Vec<O
 }
 
 /// Copies the operation at a place behind these, where there is one.
-fn push_copy(ops: &mut Vec<Op>, log: &Log, place: usize) -> Result<(), Refusal>
+fn push_copy(ops: &mut Vec<Op>, log: &Log, place: usize) -> Result<(), AllocError>
     ensures op { OnOk result (map (stamped_of log.now.table) ops.new.items ≡ map (stamped_of log.now.table) ops.old.items ++ cons_option (option_map stamped_in (entry_at place log.now.entries)) []) }
     ensures width { OnOk result (All (λ o. length o.deps ≡ length log.now.table) ops.old.items → All (λ o. length o.deps ≡ length log.now.table) ops.new.items) }
-    ensures err { IfErr result (λ why. why ≡ NoMemory) }
 {
     if let Some(entry) = log.get(place) {
         let op = entry.op().clone()?;

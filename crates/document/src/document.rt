@@ -9,13 +9,14 @@ ghost use Rattle.semantics.specs.NamedIds.{vector_of};
 ghost use Rattle.semantics.specs.Tables.{by_table, greatest_in};
 ghost use Rattle.semantics.specs.LegalHistory.{greatest_of, has_id};
 ghost use Rattle.semantics.specs.Stamped.{MayFollow};
-ghost use Rattle.semantics.specs.Faults.{StandsAlone, fault_of, is_ready};
+ghost use Rattle.semantics.specs.Faults.{fault_of, is_ready};
 ghost use Rattle.semantics.specs.Context.{doc};
 ghost use Rattle.semantics.specs.Entries.{applied, entry_at, missing, stamped_in, stamped_of as stamped_entries};
 ghost use Rattle.semantics.specs.DocumentAnswer.{visible_items};
 ghost use Rattle.semantics.specs.Questions.{resolve, Question as TheQuestion, Refused};
 ghost use Rattle.semantics.specs.LegalAnswer.{reading_of, Answered, OfDocument};
 ghost use Rattle.semantics.specs.View.{view};
+ghost use Rattle.operation.specs.Alone.{fault_alone};
 ghost use Rattle.operation.specs.Meanings.{entry_of, op_in, stamped_of};
 ghost use Rattle.oplog.specs.Logs.{history};
 
@@ -26,7 +27,7 @@ use cursor::{Expr, Place};
 use ids::{OpId, Refusal, ReplicaTable};
 use operation::{Entry, Op};
 use oplog::Log;
-use std::alloc::Global;
+use std::alloc::{AllocError, Global};
 use std::marker::Model;
 use tree::Tree;
 use version::VersionVector;
@@ -59,7 +60,7 @@ impl Document {
     /// A document with no history, of a replica with these members.
     ///
     /// # Errors
-    /// `BadConfig` where the members aren't from 1 to 64 different numbers above 0, else `NoMemory` where a growth was refused.
+    /// `BadConfig` if the members aren't 1 to 64 distinct numbers above 0, else `NoMemory` if allocation fails.
     pub fn new(alloc: Global, members: &[u32]) -> Result<Document, Refusal>
         ensures new { IfOk result (λ d. (d.table ≡ in_order members.now) × (d.entries ≡ [])) }
         ensures members { OnOk result (IsTrue (are_members members.now)) }
@@ -107,7 +108,7 @@ impl Document {
         &self.applied
     }
 
-    /// Whether an operation with this id was applied. A search by halves.
+    /// Whether an operation with this id was applied. Binary search.
     pub fn contains(&self, id: OpId) -> bool
         ensures { result ≡ has_id (applied self.now.entries) id }
     {
@@ -122,7 +123,7 @@ impl Document {
         op.deps.le(&self.applied)
     }
 
-    /// What is wrong with a ready operation, against the history. Takes no memory. For each counter of its vector it searches by halves, and it walks down its place.
+    /// What is wrong with a ready operation, against the history. One that passed `check_alone` beside this table may follow exactly where nothing is. Takes no memory. For each counter of its vector it does a binary search, and it walks down its place.
     ///
     /// # Errors
     /// In this order: `BrokenChain` where its vector doesn't name all that was applied of its own replica; `NamesNothing` where a counter of its vector is that of no applied operation; `NotClosed` where an operation that its vector names has a vector that isn't at most this; `BadPlace` where an item of its place was not inserted into that very list.
@@ -130,7 +131,7 @@ impl Document {
         requires width { length op.now.deps ≡ length self.now.table }
         ensures fault { let fault = fault_of (stamped_entries self.now.entries) (stamped_of self.now.table op.now) in
             MatchResult result (λ _. fault ≡ None) (λ why. fault ≡ Some why) }
-        ensures lawful { StandsAlone (stamped_of self.now.table op.now) → IsOk result ↔ MayFollow (applied self.now.entries) (stamped_of self.now.table op.now) }
+        ensures lawful { fault_alone self.now.table op.now ≡ None → IsOk result ↔ MayFollow (applied self.now.entries) (stamped_of self.now.table op.now) }
     {
         check(&self.log, &self.applied, &self.tree, op)
     }
@@ -138,7 +139,8 @@ impl Document {
     /// The place that an expression leads to.
     ///
     /// # Errors
-    /// As the rules have it: `AtHead` for a step from a head, `TooDeep` for one from an element 32 keys deep, `PastEnd` where the list has fewer visible items. Or `NoMemory` where a growth was refused.
+    /// `AtHead` for a step from a head, `TooDeep` for one from an element 32 keys deep, `PastEnd` if the list has fewer visible items:
+    /// the first step that fails decides. `NoMemory` if allocation fails.
     pub fn resolve(&self, alloc: Global, expression: &Expr) -> Result<Place, Refusal>
         ensures ok { IfOk result (λ p. resolve (visible_items (doc (applied self.now.entries))) expression.now ≡ Ok p) }
         ensures err { IfErr result (λ why. (why ≡ NoMemory) ⊎ (resolve (visible_items (doc (applied self.now.entries))) expression.now ≡ Err why)) }
@@ -149,19 +151,17 @@ impl Document {
     /// Takes the memory that committing this operation needs, and changes no content.
     ///
     /// # Errors
-    /// `NoMemory` where a growth was refused.
-    pub fn reserve(&mut self, alloc: Global, op: &Op) -> Result<(), Refusal>
+    /// `AllocError` if allocation fails.
+    pub fn reserve(&mut self, alloc: Global, op: &Op) -> Result<(), AllocError>
         ensures table { self.new.table ≡ self.old.table }
         ensures entries { self.new.entries ≡ self.old.entries }
         ensures room { OnOk result (HasRoomFor self.new (stamped_of self.new.table op.now)) }
-        ensures err { IfErr result (λ why. why ≡ NoMemory) }
     {
         self.log.reserve_one()?;
-        self.tree.reserve(alloc, op)?;
-        Ok(())
+        self.tree.reserve(alloc, op)
     }
 
-    /// Appends an entry for which there is room, and whose vector stands beside the table. Takes no memory.
+    /// Appends an entry for which there is room, and whose vector is indexed by the table. Takes no memory.
     pub fn commit(&mut self, entry: Entry)
         requires room { HasRoomFor self.old (stamped_in (entry_of self.old.table entry)) }
         requires lawful { MayFollowEntries self.old.entries (entry_of self.old.table entry) }
@@ -183,12 +183,13 @@ impl Document {
     /// The answer to a question: the history's, which for a question to the document is the view of its operations as a set. Copies what it answers.
     ///
     /// # Errors
-    /// The refusal of the expression, as the rules have it: those of `resolve`, and `AtHead` where it leads to a head. Or `NoMemory` where a growth was refused.
+    /// The refusal of the expression, as the rules have it: those of `resolve`, and `AtHead` where it leads to a head. The history and the view of its operations refuse alike. Or `NoMemory` if allocation fails.
     pub fn ask(&self, alloc: Global, question: &Question) -> Result<Reading, Refusal>
         requires { IsBeside self.now.table question.now }
         ensures answer { IfOk result (λ r. said_by self.now.table r ≡ reading_of self.now.entries (asked_of self.now.table question.now)) }
         ensures view { IfOk result (λ r. (q : TheQuestion) → asked_of self.now.table question.now ≡ OfDocument q → said_by self.now.table r ≡ Answered (view (applied self.now.entries) q)) }
         ensures err { IfErr result (λ why. (why ≡ NoMemory) ⊎ (reading_of self.now.entries (asked_of self.now.table question.now) ≡ Answered (Refused why))) }
+        ensures view_refuses { IfErr result (λ why. (why ≡ NoMemory) ⊎ ((q : TheQuestion) → asked_of self.now.table question.now ≡ OfDocument q → view (applied self.now.entries) q ≡ Refused why)) }
     {
         answer(alloc, &self.log, &self.applied, &self.tree, question)
     }
@@ -196,12 +197,11 @@ impl Document {
     /// Copies of the operations that the vector doesn't cover, the oldest first.
     ///
     /// # Errors
-    /// `NoMemory` where a growth was refused.
-    pub fn missing(&self, alloc: Global, vector: &VersionVector) -> Result<Vec<Op>, Refusal>
+    /// `AllocError` if allocation fails.
+    pub fn missing(&self, alloc: Global, vector: &VersionVector) -> Result<Vec<Op>, AllocError>
         requires { length vector.now ≡ length self.now.table }
         ensures ops { IfOk result (λ ops. reverse (map (stamped_of self.now.table) ops.items) ≡ missing (by_table self.now.table vector.now) (stamped_entries self.now.entries)) }
         ensures width { IfOk result (λ ops. All (λ o. length o.deps ≡ length self.now.table) ops.items) }
-        ensures err { IfErr result (λ why. why ≡ NoMemory) }
     {
         missing(alloc, &self.log, vector)
     }

@@ -1,6 +1,6 @@
 //! The table of an engine's replicas.
 
-ghost use Rattle.std.specs.Prelude.{◌≡◌, ◌≤◌, ◌↔◌, ◌⊎◌, nat_lt, length, slice_get, Some, Err, IsTrue, IsFalse, IfOk, OnOk, IfErr, IfSome, IsNone};
+ghost use Rattle.std.specs.Prelude.{◌≡◌, ◌≤◌, ◌↔◌, ◌⊎◌, ℕ, nat_lt, length, slice_get, Some, Err, IsTrue, IsFalse, IfOk, OnOk, IfErr, IfSome, IsNone};
 ghost use Rattle.std.specs.List.{position};
 ghost use Rattle.ids.specs.Members.{AreDistinct, is_member, in_order, put_number};
 ghost use Rattle.ids.specs.Configurations.{are_members};
@@ -32,12 +32,13 @@ impl Model for ReplicaTable {
 impl ReplicaTable {
     ghost use Rattle.ids.specs.declared.refusal.Refusal.TheVariants.{NoMemory, BadConfig};
 
-    /// The table of these members, in order. Compares each two of them at most twice.
+    /// The table of just these members, in order. Compares each two of them at most twice.
     ///
     /// # Errors
-    /// `BadConfig` where these aren't from 1 to 64 different numbers above 0. Otherwise `NoMemory` where a growth was refused.
+    /// `BadConfig` if these aren't 1 to 64 distinct numbers above 0, else `NoMemory` if allocation fails.
     pub fn new(alloc: Global, members: &[u32]) -> Result<ReplicaTable, Refusal>
         ensures table { IfOk result (λ table. table ≡ in_order members.now) }
+        ensures same { IfOk result (λ table. (p : ℕ) → is_member table p ≡ is_member members.now p) }
         ensures members { OnOk result (IsTrue (are_members members.now)) }
         ensures bad_config { (result ≡ Err BadConfig) ↔ IsFalse (are_members members.now) }
         ensures other { IfErr result (λ why. (why ≡ BadConfig) ⊎ (why ≡ NoMemory)) }
@@ -52,7 +53,7 @@ impl ReplicaTable {
         Ok(ReplicaTable { numbers })
     }
 
-    /// Where a replica stands, or nothing where it is no member. Searches by halves, so compares at most 7 numbers.
+    /// Where a replica stands, or nothing where it is no member. Binary search, so it compares at most 7 numbers.
     pub fn index_of(&self, replica: ReplicaId) -> Option<usize>
         ensures found { IfSome result (λ index. slice_get self.now index ≡ Some replica) }
         ensures none { IsNone result ↔ IsFalse (is_member self.now replica) }

@@ -1,3 +1,4 @@
 -- What waits at keys, and which of it is ready.
 pub mod KeyedOps
+pub mod KeptOps
 pub mod Ready

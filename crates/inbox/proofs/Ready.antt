@@ -1,5 +1,5 @@
 -- The first of what waits that is ready.
-use Rattle.std.proofs.Common.{◌≡◌, inl, inr, ℕ, suc, ◌+◌, ◌<◌, ◌≤◌, Bool, true, false, cond, ◌==◌, IsTrue, List, [], ◌∷◌, length, drop, Some, None, refl, sym, ap, ◌∙◌, subst, arith, true≢false, get_or, nat_eq, nat_lt, nat_cmp, slice_get}
+use Rattle.std.proofs.Common.{◌≡◌, ◌⊎◌, inl, inr, ℕ, suc, ◌+◌, ◌<◌, ◌≤◌, Bool, true, false, cond, ◌==◌, IsTrue, List, [], ◌∷◌, length, drop, Some, None, refl, sym, ap, ◌∙◌, subst, arith, true≢false, get_or, nat_lt, nat_cmp, slice_get}
 use Rattle.std.specs.declared.cmp.Ordering.TheVariants.{Less, Equal, Greater}
 use Rattle.std.specs.Ordering.{is_lt, ordering_then}
 use Rattle.std.specs.FinMap.{is_sorted}
@@ -7,23 +7,24 @@ use Rattle.std.specs.FinMap.Entries.{below_all}
 use Rattle.std.proofs.Math.Seq.{drop-cons}
 use Rattle.std.proofs.lemmas.Bool.{and_parts, false_from_ne_true, ltb-true, eqb-true}
 use Rattle.std.proofs.lemmas.Option.{slice_get_within, get_or_from_slice_get}
-use Rattle.ids.specs.declared.refusal.Refusal.TheVariants.{UnknownReplica}
 use Rattle.semantics.specs.Ids.{OpId, id_cmp, is_smaller_id}
 use Rattle.semantics.specs.Operations.{Operation}
 use Rattle.semantics.specs.LegalHistory.{IsAmong, greatest_of}
 use Rattle.semantics.specs.Vectors.{at, greatest}
 use Rattle.semantics.specs.NamedIds.{greatest_counter, vector_of}
 use Rattle.semantics.specs.Stamped.{Stamped}
-use Rattle.semantics.specs.Faults.{is_ready, alone_fault}
+use Rattle.semantics.specs.Faults.{is_ready}
+use Rattle.semantics.specs.Tables.{greatest_in}
 use Rattle.semantics.specs.Drain.{first_ready}
 use Rattle.semantics.proofs.VectorCounters.{ready-at, at_greatest, greatest_at}
 use Rattle.semantics.proofs.AppliedVectors.{at-vector_of, greatest-vector_of}
-use Rattle.semantics.proofs.AloneTests.{stands_alone}
+use Rattle.semantics.proofs.SkipOrder.{not_back, not_itself}
+use Rattle.semantics.proofs.TableVectors.{greatest-by_table}
+use Rattle.semantics.proofs.Waiting.{none_ready as none_waits, ready_first}
 use Rattle.operation.specs.declared.op.Op.{Op}
-use Rattle.operation.specs.Alone.{fault_alone}
 use Rattle.operation.specs.Meanings.{stamped_of}
 use Rattle.slab.specs.Slab.{Slab, get}
-use Rattle.inbox.specs.Inboxes.{AreAtKeys, ops_at, waiting_in}
+use Rattle.inbox.specs.Inboxes.{AreAsWide, AreAtKeys, AreNotReady, AreRising, AreWithin, IsLeastReady, ops_at, waiting_in}
 use Rattle.inbox.proofs.KeyedOps.{ops_at-first}
 
 -- ---- what is too far ahead isn't ready
@@ -48,24 +49,12 @@ ready_within H s ready =
           omega arith
     ]
 
-pub width_alone : (table : List ℕ) (o : Op) → fault_alone table o ≡ None → length o.deps ≡ length table
-width_alone table o h = at_test (nat_eq (length o.deps) (length table)) refl h
-  where
-    at_test : (b : Bool) → nat_eq (length o.deps) (length table) ≡ b → cond b (alone_fault table (stamped_of table o)) (Some UnknownReplica) ≡ None → length o.deps ≡ length table
-    at_test true e h = eqb-true (length o.deps) (length table) e
-    at_test false e h = cc
-
-pub alone : (table : List ℕ) (o : Op) → fault_alone table o ≡ None → alone_fault table (stamped_of table o) ≡ None
-alone table o h = at_test (nat_eq (length o.deps) (length table)) h
-  where
-    at_test : (b : Bool) → cond b (alone_fault table (stamped_of table o)) (Some UnknownReplica) ≡ None → alone_fault table (stamped_of table o) ≡ None
-    at_test true h = h
-    at_test false h = cc
-
-pub too_far : (H : List Operation) (table : List ℕ) (o : Op) → fault_alone table o ≡ None → suc (greatest_of (λ a. true) H) < o.id.counter → is_ready H (stamped_of table o) ≡ false
-too_far H table o fault far = false_from_ne_true (is_ready H (stamped_of table o)) (λ ready.
+-- what is ready has a counter at most this much above the greatest that was applied
+pub too_far : (H : List Operation) (table : List ℕ) (o : Op) (lead : ℕ) → length o.deps ≡ length table → o.id.counter ≤ greatest_in o.deps + lead → greatest_of (λ a. true) H + lead < o.id.counter
+    → is_ready H (stamped_of table o) ≡ false
+too_far H table o lead width near far = false_from_ne_true (is_ready H (stamped_of table o)) (λ ready.
     let within = ready_within H (stamped_of table o) ready in
-    let counter : o.id.counter ≡ suc (greatest (stamped_of table o).vector) = (stands_alone table (stamped_of table o) (alone table o fault)).counter in
+    let greatest : greatest (stamped_of table o).vector ≡ greatest_in o.deps = greatest-by_table table o.deps (omega (arith, width)) in
     absurd (omega arith))
 
 -- ---- nor is what stands after it
@@ -138,11 +127,12 @@ one_less H table s es rest e o l at_key ready =
     }
 
 -- where the first that is left is too far ahead, none is ready
-pub none_left : (H : List Operation) (table : List ℕ) (s : Slab Op) (es rest : List (OpId × ℕ)) (e : OpId × ℕ) → IsLeft H table s es (e ∷ rest) → ((o : Op) → IsAmong o (ops_at s es) → fault_alone table o ≡ None)
-    → suc (greatest_of (λ a. true) H) < e.0.counter → first_ready H (waiting_in table (ops_at s es)) ≡ None
-none_left H table s es rest e l alone far = l.first ∙ none_ready H table (ops_at s (e ∷ rest)) (λ o m. too_far H table o (alone o (l.among o m)) (above o m))
+pub none_left : (H : List Operation) (table : List ℕ) (s : Slab Op) (es rest : List (OpId × ℕ)) (e : OpId × ℕ) (lead : ℕ) → IsLeft H table s es (e ∷ rest) → AreAsWide table (ops_at s es) → AreWithin lead (ops_at s es)
+    → greatest_of (λ a. true) H + lead < e.0.counter → first_ready H (waiting_in table (ops_at s es)) ≡ None
+none_left H table s es rest e lead l wide within far =
+    l.first ∙ none_ready H table (ops_at s (e ∷ rest)) (λ o m. too_far H table o lead (wide o (l.among o m)) (within o (l.among o m)) (above o m))
   where
-    above : (o : Op) → IsAmong o (ops_at s (e ∷ rest)) → suc (greatest_of (λ a. true) H) < o.id.counter
+    above : (o : Op) → IsAmong o (ops_at s (e ∷ rest)) → greatest_of (λ a. true) H + lead < o.id.counter
     above o m =
         let here = l.at_keys.0 in
         elim (subst (IsAmong o) (ops_at-first s e rest here.0 here.1) m) [
@@ -153,3 +143,27 @@ none_left H table s es rest e l alone far = l.first ∙ none_ready H table (ops_
               let behind = counters_above s e.0 rest (and_parts (below_all id_cmp e.0 rest) (is_sorted id_cmp rest) l.rising).0 l.at_keys.1 o there in
               omega arith
         ]
+
+-- ---- the least ready one
+
+-- what is among the operations is among the stamped ones
+pub among_stamped : (table : List ℕ) (ops : List Op) (o : Op) → IsAmong o ops → IsAmong (stamped_of table o) (waiting_in table ops)
+among_stamped table [] o m = m
+among_stamped table (x ∷ ops) o (inl e) = inl (ap (stamped_of table) e)
+among_stamped table (x ∷ ops) o (inr m) = inr (among_stamped table ops o m)
+
+-- the first ready one is the least
+pub first_is_least : (H : List Operation) (table : List ℕ) (ops : List Op) (o : Op) → AreRising ops → IsAmong o ops → first_ready H (waiting_in table ops) ≡ Some (stamped_of table o) → IsLeastReady H table ops o
+first_is_least H table ops o rising among first = record { waits = among; ready = it.1; least = λ p m ready. least p (it.2 (stamped_of table p) (among_stamped table ops p m) ready) }
+  where
+    it : IsAmong (stamped_of table o) (waiting_in table ops) × (is_ready H (stamped_of table o) ≡ true)
+        × ((x : Stamped) → IsAmong x (waiting_in table ops) → is_ready H x ≡ true → (x ≡ stamped_of table o) ⊎ (is_smaller_id o.id x.id ≡ true))
+    it = ready_first H (waiting_in table ops) (rising table) (stamped_of table o) first
+
+    least : (p : Op) → (stamped_of table p ≡ stamped_of table o) ⊎ (is_smaller_id o.id p.id ≡ true) → is_smaller_id p.id o.id ≡ false
+    least p (inl e) = ap (λ (s : Stamped). is_smaller_id s.id o.id) e ∙ not_itself o.id
+    least p (inr smaller) = not_back o.id p.id smaller
+
+-- where there is none, none is ready
+pub none_is_ready : (H : List Operation) (table : List ℕ) (ops : List Op) → first_ready H (waiting_in table ops) ≡ None → AreNotReady H table ops
+none_is_ready H table ops none o m = none_waits H (waiting_in table ops) none (stamped_of table o) (among_stamped table ops o m)

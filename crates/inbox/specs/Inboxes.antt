@@ -1,9 +1,13 @@
 -- The operations that wait in an inbox.
-use Rattle.std.specs.Prelude.{◌≡◌, ℕ, Bool, ⊤, cond, nat_lt, List, [], ◌∷◌, length, map, filter_map, Some, None}
+use Rattle.std.specs.Prelude.{◌≡◌, ◌≤◌, ◌+◌, ℕ, Bool, true, false, ⊤, cond, nat_lt, List, [], ◌∷◌, length, map, filter_map, Some, None}
 use Rattle.ids.specs.declared.refusal.Refusal.TheVariants.{InboxFull}
-use Rattle.semantics.specs.Ids.{OpId}
+use Rattle.semantics.specs.Ids.{OpId, is_smaller_id}
+use Rattle.semantics.specs.Operations.{Operation}
 use Rattle.semantics.specs.LegalHistory.{IsAmong}
 use Rattle.semantics.specs.Stamped.{Stamped}
+use Rattle.semantics.specs.Tables.{greatest_in}
+use Rattle.semantics.specs.Faults.{is_ready}
+use Rattle.semantics.specs.Replica.{IsRising}
 use Rattle.semantics.specs.Delivery.{is_waiting}
 use Rattle.semantics.specs.Delivery as delivery
 use Rattle.operation.specs.declared.op.Op.{Op}
@@ -17,6 +21,10 @@ use Rattle.slab.specs.Slab.{Slab, get}
 abbrev pub StandAlone : List ℕ → List Op → Type 0
 StandAlone table ops = (o : Op) → IsAmong o ops → fault_alone table o ≡ None
 
+-- the vector of each is as wide as the table
+abbrev pub AreAsWide : List ℕ → List Op → Type 0
+AreAsWide table ops = (o : Op) → IsAmong o ops → length o.deps ≡ length table
+
 -- the answer to a delivery
 abbrev pub delivered_of : Delivered → delivery.Delivered
 delivered_of Known = delivery.Known
@@ -25,6 +33,20 @@ delivered_of Kept = delivery.Kept
 -- operations as those that wait in the definitions, where their vectors stand beside this table
 abbrev pub waiting_in : List ℕ → List Op → List Stamped
 waiting_in table ops = map (stamped_of table) ops
+
+-- by rising id, so each id once
+abbrev pub AreRising : List Op → Type 0
+AreRising ops = (table : List ℕ) → IsRising (waiting_in table ops)
+
+-- o is one of these and ready after H, and no ready one of these has a smaller id
+pub record IsLeastReady (H : List Operation) (table : List ℕ) (ops : List Op) (o : Op) : Type 0 where
+  pub waits : IsAmong o ops
+  pub ready : is_ready H (stamped_of table o) ≡ true
+  pub least : (p : Op) → IsAmong p ops → is_ready H (stamped_of table p) ≡ true → is_smaller_id p.id o.id ≡ false
+
+-- none of these is ready after H
+abbrev pub AreNotReady : List Operation → List ℕ → List Op → Type 0
+AreNotReady H table ops = (o : Op) → IsAmong o ops → is_ready H (stamped_of table o) ≡ false
 
 -- so many wait that no more may: one more place is held for what is ready
 abbrev pub is_crowded : Bool → ℕ → Bool
@@ -42,3 +64,13 @@ ops_at s entries = filter_map (λ e. get s e.1) entries
 abbrev pub AreAtKeys : Slab Op → List (OpId × ℕ) → Type 0
 AreAtKeys s [] = ⊤
 AreAtKeys s (e ∷ es) = ((o : Op) × (get s e.1 ≡ Some o) × (o.id ≡ e.0)) × AreAtKeys s es
+
+-- no counter is more than n above the greatest of its vector
+abbrev pub AreWithin : ℕ → List Op → Type 0
+AreWithin n ops = (o : Op) → IsAmong o ops → o.id.counter ≤ greatest_in o.deps + n
+
+-- what an inbox keeps
+pub record IsKept (s : Slab Op) (entries : List (OpId × ℕ)) (lead : ℕ) : Type 0 where
+  pub at_keys : AreAtKeys s entries
+  pub rising : AreRising (ops_at s entries)
+  pub within : AreWithin lead (ops_at s entries)

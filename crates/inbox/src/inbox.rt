@@ -1,4 +1,4 @@
-//! What waits, by rising id.
+//! What waits, as a set.
 
 ghost use Rattle.std.specs.Prelude.{◌≡◌, ◌≢◌, ◌⊎◌, ℕ, List, [], Some, Ok, not, length, option_map, IfNone, IfSome, MatchResult, false};
 ghost use Rattle.ids.specs.declared.refusal.Refusal.TheVariants.{NoMemory};
@@ -10,7 +10,7 @@ ghost use Rattle.semantics.specs.Drain.{first_ready, without_waiting};
 ghost use Rattle.operation.specs.declared.op.Op.{Op as AnOp};
 ghost use Rattle.operation.specs.declared.command.Delivered.TheVariants.{Kept};
 ghost use Rattle.operation.specs.Meanings.{stamped_of};
-ghost use Rattle.inbox.specs.Inboxes.{answer_to_put, delivered_of, is_crowded, waiting_in, StandAlone};
+ghost use Rattle.inbox.specs.Inboxes.{answer_to_put, delivered_of, is_crowded, waiting_in, AreAsWide, AreNotReady, AreRising, IsLeastReady};
 
 use columns::Numbers;
 use document::Document;
@@ -23,12 +23,14 @@ use std::marker::Model;
 /// The most operations that wait.
 const MOST_WAITING: usize = 4096;
 
-/// Operations that wait. Contracts see them by rising id, each id once.
+/// A set of operations that wait. Contracts see them by rising id, each id once.
 #[derive(Debug, Drop)]
 pub struct Inbox {
     ops: Slab<Op>,
     /// The key of each, by its id.
     keys: Numbers,
+    /// The most that the counter of an operation put here was above the greatest of its vector: 1 where each passed `check_alone`.
+    lead: u64,
 }
 
 impl Model for Inbox {
@@ -36,7 +38,7 @@ impl Model for Inbox {
     ghost use Rattle.std.specs.Coded.{codes};
     ghost use Rattle.semantics.specs.Codes.{coded_element};
     ghost use Rattle.operation.specs.declared.op.Op.{Op as AnOp};
-    ghost use Rattle.inbox.specs.Inboxes.{AreAtKeys, ops_at};
+    ghost use Rattle.inbox.specs.Inboxes.{IsKept, ops_at};
 
     ghost Value = { List AnOp };
 
@@ -44,7 +46,7 @@ impl Model for Inbox {
 
     ghost view = { λ w. ops_at w.ops w.keys.entries };
 
-    ghost invariant = { λ w. AreAtKeys w.ops w.keys.entries };
+    ghost invariant = { λ w. IsKept w.ops w.keys.entries w.lead };
 }
 
 impl Inbox {
@@ -55,17 +57,19 @@ impl Inbox {
         Inbox {
             ops: Slab::new(alloc),
             keys: Numbers::new(alloc),
+            lead: 0,
         }
     }
 
     /// How many operations wait.
     pub fn len(&self) -> usize
-        ensures { result ≡ length self.now }
+        ensures length { result ≡ length self.now }
+        ensures rising { AreRising self.now }
     {
         self.keys.len()
     }
 
-    /// Whether an operation with this id waits. A search by halves.
+    /// Whether an operation with this id waits. Binary search.
     pub fn contains(&self, id: OpId) -> bool
         ensures { (table : List ℕ) → result ≡ is_waiting (waiting_in table self.now) id }
     {
@@ -84,10 +88,10 @@ impl Inbox {
         self.len() <= most
     }
 
-    /// Keeps an operation until it is taken, unless one with its id waits already. A search by halves; it moves the keys of greater ids, and no operation.
+    /// Keeps an operation until it is taken, unless one with its id waits already. A binary search; it moves the keys of greater ids, and no operation.
     ///
     /// # Errors
-    /// `InboxFull` where no more may wait, else `NoMemory` where a growth was refused. What waited stays, and the operation is gone.
+    /// `InboxFull` if no more may wait, else `NoMemory` if allocation fails. What waited stays, and the operation is dropped.
     pub fn put(&mut self, op: Op, document: &Document) -> Result<Delivered, Refusal>
         requires width { length op.deps ≡ length document.now.table }
         ensures answer { let table = document.now.table in
@@ -105,23 +109,26 @@ impl Inbox {
         }
         self.keys.reserve_one()?;
         let id = op.id;
+        let lead = id.counter.saturating_sub(op.deps.greatest());
         let Ok(key) = self.ops.insert(op) else {
             return Err(Refusal::NoMemory);
         };
         self.keys.put(id, key);
+        self.lead = self.lead.max(lead);
         Ok(Delivered::Kept)
     }
 
-    /// The smallest that is ready, if there is one. Looks from the smallest on, and no further than the counter after the greatest that was applied, since nothing beyond it is ready: where nothing smaller is stuck, it looks at one operation.
+    /// The smallest that is ready, if there is one. Looks from the smallest on, and ends where a counter is so far above the greatest that was applied that nothing from there on is ready: where nothing smaller is stuck, it looks at one operation.
     pub fn smallest_ready(&self, document: &Document) -> Option<&Op>
-        requires alone { StandAlone document.now.table self.now }
-        ensures ready { option_map (λ o. stamped_of document.now.table o.now) result ≡ first_ready (applied document.now.entries) (waiting_in document.now.table self.now) }
-        ensures among { IfSome result (λ o. IsAmong o.now self.now) }
+        requires width { AreAsWide document.now.table self.now }
+        ensures some { IfSome result (λ o. IsLeastReady (applied document.now.entries) document.now.table self.now o.now) }
+        ensures none { IfNone result (AreNotReady (applied document.now.entries) document.now.table self.now) }
+        ensures first { option_map (λ o. stamped_of document.now.table o.now) result ≡ first_ready (applied document.now.entries) (waiting_in document.now.table self.now) }
     {
         let greatest = document.applied().greatest();
         for place in 0..self.keys.len() {
             let (id, key) = self.keys.at(place);
-            if id.counter.saturating_sub(1) > greatest {
+            if id.counter.saturating_sub(self.lead) > greatest {
                 return None;
             }
             let Some(op) = self.ops.get(key) else {
@@ -134,7 +141,7 @@ impl Inbox {
         None
     }
 
-    /// Takes an operation out. A search by halves; it moves the keys of greater ids.
+    /// Takes an operation out. A binary search; it moves the keys of greater ids.
     pub fn take(&mut self, id: OpId) -> Option<Op>
         ensures some { IfSome result (λ o. (o.id ≡ id) × IsAmong o self.old) }
         ensures none { (table : List ℕ) → IfNone result (is_waiting (waiting_in table self.old) id ≡ false) }

@@ -2,3 +2,6 @@ pub mod StepsLeft
 pub mod NoFloats
 pub mod WrongLengths
 pub mod AskedTables
+pub mod FoundNumbers
+pub mod MetSubcommands
+pub mod WrittenBack

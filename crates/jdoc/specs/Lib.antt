@@ -3,6 +3,7 @@ pub mod Expressions
 pub mod Faults
 pub mod NumberedSteps
 pub mod Numbers
+pub mod Plays
 pub mod Presence
 pub mod Replies
 pub mod Requests
@@ -11,3 +12,4 @@ pub mod Scripts
 pub mod Statuses
 pub mod Steps
 pub mod Words
+pub mod Written

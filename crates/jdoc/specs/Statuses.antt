@@ -1,6 +1,6 @@
 -- The statuses that a run ends with.
 use Rattle.jdoc.specs.declared.fault.Fault.{Fault}
-use Rattle.jdoc.specs.declared.fault.Fault.TheVariants.{BadLine, CannotRead, BadWord, NoMemory}
+use Rattle.jdoc.specs.declared.fault.Fault.TheVariants.{BadLine, CannotRead, BadWord, OutOfRange, NoMemory}
 use Rattle.jdoc.specs.declared.fault.Status.{Status}
 use Rattle.jdoc.specs.declared.fault.Status.TheVariants as status
 
@@ -8,4 +8,5 @@ abbrev pub status_of : Fault → Status
 status_of (BadLine line refusal) = status.BadInput
 status_of (CannotRead name) = status.BadInput
 status_of BadWord = status.BadInput
+status_of OutOfRange = status.BadInput
 status_of NoMemory = status.NoMemory

@@ -1,9 +1,17 @@
 -- The program's words, as the crate that parses them defines what a command takes and finds.
-use Rattle.std.specs.Prelude.{◌≡◌, List, true, codes, Option, Some, option_map}
-use Rattle.clap.specs.Words.{App, Rule, Shape, Text, first_of, new_app, new_rule, subcommand_of, with_rule, with_subcommand}
+use Rattle.std.specs.Prelude.{◌≡◌, ◌≢◌, ◌<◌, ℕ, List, true, codes, Option, Some, option_map}
+use Rattle.std.specs.Str.Parse.{IsNumeral, digits_value, without_leading_plus}
+use Rattle.clap.specs.Words.{App, Row, Rule, Shape, Text, first_of, kind_of, one_of, new_app, new_rule, subcommand_of, with_rule, with_subcommand}
+use Rattle.clap.specs.Faults.{fault_of}
+use Rattle.clap.specs.Kinds.{HasKind}
 use Rattle.clap.specs.Simple.{on_top}
+use Rattle.clap.specs.declared.builder.value_parser.ValueParser.TheVariants.{Unsigned}
+use Rattle.clap.specs.declared.error.kind.ErrorKind.TheVariants as kind
+use Rattle.bench.specs.declared.plan.Plan.{Plan}
+use Rattle.jdoc.specs.declared.words.BadWords.{BadWords}
+use Rattle.jdoc.specs.declared.words.BadWords.TheVariants.{Refused, OutOfRange}
 use Rattle.jdoc.specs.declared.words.Job.{Job}
-use Rattle.jdoc.specs.declared.words.Job.TheVariants.{Run}
+use Rattle.jdoc.specs.declared.words.Job.TheVariants.{Run, Bench}
 
 -- the optional word after `run`
 abbrev pub script_rule : Rule
@@ -12,20 +20,42 @@ script_rule = new_rule (codes "SCRIPT")
 abbrev pub run_app : App
 run_app = with_rule (new_app (codes "run")) script_rule
 
+-- an option that has to be given, with a number from 1 on
+abbrev pub number_rule : Text → ℕ → Rule
+number_rule name most = record (new_rule name) { long = Some name; required = true; parser = Some (Unsigned 1 most) }
+
+abbrev pub bench_app : App
+bench_app = with_rule (with_rule (with_rule (new_app (codes "bench")) (number_rule (codes "replicas") 1)) (number_rule (codes "writers") 16)) (number_rule (codes "ops") 4096)
+
 -- the program's own name is no word, and a subcommand is needed
 abbrev pub with_settings : Shape → Shape
 with_settings s = record s { no_binary_name = true; subcommand_required = true }
 
 abbrev pub jdoc_app : App
-jdoc_app = with_subcommand (on_top with_settings (new_app (codes "jdoc"))) run_app.top
+jdoc_app = with_subcommand (with_subcommand (on_top with_settings (new_app (codes "jdoc"))) run_app.top) bench_app.top
 
--- the script that the words name, where they are `run` with or without one
-abbrev pub script_in : List Text → Option (Option Text)
-script_in words = option_map (λ p. first_of (codes "SCRIPT") p.1) (subcommand_of jdoc_app words)
+-- the option's text is a decimal numeral, maybe after a plus, and this is its number
+abbrev pub IsNumber : Text → List Row → ℕ → Type 0
+IsNumber option rows n = (t : Text) × (one_of option rows ≡ Some t) × IsNumeral 10 (without_leading_plus t) × (n ≡ digits_value 10 (without_leading_plus t))
 
-abbrev pub script_of : Job → Option Text
-script_of (Run script) = option_map (λ s. s.now) script
+-- the plan is that of the options
+abbrev pub IsPlanOf : List Row → Plan → Type 0
+IsPlanOf rows plan = IsNumber (codes "replicas") rows 1 × IsNumber (codes "writers") rows plan.writers × IsNumber (codes "ops") rows plan.ops
 
--- the job is to run what the words name
+-- what a subcommand with what was found there asks for
+abbrev pub IsAskedBy : Text × List Row → Job → Type 0
+IsAskedBy p (Run script) = (p.0 ≢ codes "bench") × (first_of (codes "SCRIPT") p.1 ≡ option_map (λ s. s.now) script)
+IsAskedBy p (Bench plan) = (p.0 ≡ codes "bench") × IsPlanOf p.1 plan
+
+-- the job is what the words ask for
 abbrev pub IsJobOf : List Text → Job → Type 0
-IsJobOf words job = script_in words ≡ Some (script_of job)
+IsJobOf words job = (p : Text × List Row) × (subcommand_of jdoc_app words ≡ Some p) × IsAskedBy p job
+
+-- the words are refused, or they ask for nothing that could be done
+abbrev pub IsRefusedBy : List Text → BadWords → Type 0
+IsRefusedBy words (Refused error) = HasKind (fault_of jdoc_app words) error
+IsRefusedBy words OutOfRange = (job : Job) → IsJobOf words job → ⊥
+
+abbrev pub IsOutOfMemory : BadWords → Type 0
+IsOutOfMemory (Refused error) = kind_of error ≡ kind.OutOfMemory
+IsOutOfMemory OutOfRange = ⊥

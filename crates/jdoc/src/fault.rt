@@ -15,8 +15,12 @@ use thiserror::Error;
 #[derive(Clone, Copy, Debug, PartialEq, Eq)]
 pub enum Status {
     Done = 0,
+    /// A value of a bench wasn't read back.
+    Differ = 1,
     /// Bad words, or a script that is bad or can't be read.
     BadInput = 2,
+    /// A thread of a bench waited for too long.
+    TurnLimit = 3,
     NoMemory = 4,
     /// A write failed; nothing more is written after that.
     NotWritten = 5,
@@ -32,6 +36,8 @@ pub enum Fault<'a> {
     CannotRead(&'a str),
     #[error("jdoc: a word is no text")]
     BadWord,
+    #[error("jdoc: a number of bench is out of range")]
+    OutOfRange,
     #[error("jdoc: no memory")]
     NoMemory,
 }

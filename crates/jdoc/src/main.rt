@@ -1,4 +1,4 @@
-//! The program: it runs a script of engines and prints what each step replies.
+//! The program: it runs a script of engines and prints what each step replies, or lets threads write into an engine.
 #![tactic(auto)]
 
 mod configuration;
@@ -6,6 +6,7 @@ mod expressions;
 mod fault;
 mod numbered_steps;
 mod numbers;
+mod playing;
 mod presence;
 mod readings;
 mod replies;
@@ -18,15 +19,18 @@ mod tests;
 mod words;
 
 use fault::Fault;
+use playing::bench;
 use run::run_script;
 use std::alloc::AllocError;
 use std::process::ExitCode;
+use std::sync::Wait;
+use std::thread::Threads;
 use std::{env, fs, io};
 use words::{Job, read_words};
 
 fn main(rt: HostRuntime) -> ExitCode {
     let status = match own_words(&rt) {
-        Ok(owned) => start(&rt, owned.as_slice()),
+        Ok(owned) => start(&rt, &rt, owned.as_slice()),
         Err(error) => Fault::of_words(&error).report(&mut rt.stderr()) as u8,
     };
     ExitCode::from(status)
@@ -45,8 +49,8 @@ fn lent<'a>(rt: &HostRuntime, owned: &'a [String]) -> Result<Vec<&'a str>, Alloc
     owned.iter().map(|word| word.as_str()).collect(rt.alloc())
 }
 
-/// Does what the words ask for, and gives the status.
-fn start(rt: &HostRuntime, owned: &[String]) -> u8 {
+/// Does what the words ask for, and gives the status. Threads are started by the second handle.
+fn start<R: Threads + Wait + Sync>(rt: &HostRuntime, threads: &R, owned: &[String]) -> u8 {
     let mut faults = rt.stderr();
     let Ok(words) = lent(rt, owned) else {
         return Fault::NoMemory.report(&mut faults) as u8;
@@ -54,7 +58,8 @@ fn start(rt: &HostRuntime, owned: &[String]) -> u8 {
     match read_words(rt.alloc(), words.as_slice()) {
         Ok(Job::Run { script: None }) => run_input(rt),
         Ok(Job::Run { script: Some(name) }) => run_file(rt, name),
-        Err(error) => words::report(&error, &mut faults) as u8,
+        Ok(Job::Bench(plan)) => bench(threads, rt.alloc(), plan, &mut rt.stdout(), &mut faults),
+        Err(why) => why.report(&mut faults) as u8,
     }
 }
 

@@ -3,7 +3,8 @@
 ghost use Rattle.std.specs.Prelude.{◌≡◌, ◌++◌, ◌∷◌, [], map, IfOk, codes, decimal, string_bytes};
 ghost use Rattle.serde_json.specs.Written.{compact_text};
 ghost use Rattle.serde_json.specs.View.{view};
-ghost use Rattle.world.specs.Meanings.{answer_to, reply_of};
+ghost use Rattle.items.specs.Meanings.{answer_of};
+ghost use Rattle.world.specs.Meanings.{reply_of};
 ghost use Rattle.jdoc.specs.Replies.{received_json, refusal_name, reply_json, reply_text, step_reply_json};
 
 use crate::readings::reading_value;
@@ -74,7 +75,7 @@ fn world_reply(alloc: Global, reply: &WorldReply) -> Result<Value, AllocError>
 
 /// The answer to what was submitted.
 fn request_reply(alloc: Global, reply: Reply) -> Result<Value, AllocError>
-    ensures { IfOk result (λ v. view v ≡ reply_json (answer_to reply)) }
+    ensures { IfOk result (λ v. view v ≡ reply_json (answer_of reply)) }
 {
     match reply {
         Reply::Made(id, place) => json!(in alloc; ["made", id_value(alloc, id)?, place]),

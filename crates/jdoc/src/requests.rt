@@ -1,18 +1,22 @@
 //! Commands and questions in a script.
 #![tactic(auto, using(crate::proofs::WrongLengths::wrong_lengths))]
 
-ghost use Rattle.std.specs.Prelude.{◌≡◌, List, IfOk, length, option_map};
+ghost use Rattle.std.specs.Prelude.{◌≡◌, ℕ, List, Option, Ok, IfOk, length, option_map};
 ghost use Rattle.serde_json.specs.View.{view, items_view};
 ghost use Rattle.semantics.specs.Elements.{Value as TheValue};
 ghost use Rattle.semantics.specs.Operations.{Mutation as TheMutation};
 ghost use Rattle.semantics.specs.Questions.{AppliedVector, Step, Question as TheQuestion};
-ghost use Rattle.semantics.specs.LegalAnswer.{OfDocument};
+ghost use Rattle.semantics.specs.LegalAnswer.{Asked, OfDocument};
+ghost use Rattle.semantics.specs.Making.{Command as TheCommand};
+ghost use Rattle.semantics.specs.World.{Push, Ask};
 ghost use Rattle.semantics.specs.Tables.{by_table};
 ghost use Rattle.value.specs.Meanings.{value_of};
 ghost use Rattle.operation.specs.Meanings.{command_of};
 ghost use Rattle.document.specs.Documents.{IsBeside, asked_of};
-ghost use Rattle.wire.specs.Forms.{IsRead};
+ghost use Rattle.wire.specs.Forms.{IsRead, and_then, json_form};
 ghost use Rattle.jdoc.specs.Requests.{applied_of, asking_of, command_form, delete_of, missing_of, question_form, script_vector, table_in, writing_of};
+ghost use Rattle.jdoc.specs.Steps.{step_form};
+ghost use Rattle.jdoc.specs.Written.{ask_json, command_json, push_json, question_json};
 
 use crate::expressions::expression_in;
 use cursor::Expr;
@@ -139,3 +143,11 @@ fn check_none(parts: &[Value]) -> Result<(), Refusal>
     };
     Ok(())
 }
+
+/// A line that is read as a command or a question, or as a step that holds one, has the JSON that writing that gives, whatever its spaces and escapes.
+pub fn what_is_read_is_written_alike()
+    ensures command { (text : List ℕ) (c : TheCommand) → and_then command_form (json_form text) ≡ Ok c → json_form text ≡ Ok (command_json c) }
+    ensures question { (table : Option (List ℕ)) (text : List ℕ) (q : Asked) → and_then (question_form table) (json_form text) ≡ Ok q → json_form text ≡ Ok (question_json q) }
+    ensures push { (tables : List (List ℕ)) (text : List ℕ) (e c : ℕ) (k : TheCommand) → and_then (step_form tables) (json_form text) ≡ Ok (Push e c k) → json_form text ≡ Ok (push_json e c k) }
+    ensures ask { (tables : List (List ℕ)) (text : List ℕ) (e t : ℕ) (q : Asked) → and_then (step_form tables) (json_form text) ≡ Ok (Ask e t q) → json_form text ≡ Ok (ask_json e t q) }
+{}

@@ -33,7 +33,8 @@ pub fn run_script<R: Read, O: Write, F: Write>(
     }
 }
 
-fn print<W: Write>(out: &mut W, text: &[u8]) -> Status
+/// Writes the text, and gives the status of a run that is done.
+pub(crate) fn print<W: Write>(out: &mut W, text: &[u8]) -> Status
     ensures status { (result ≡ Done) ⊎ (result ≡ NotWritten) }
     ensures done { result ≡ Done → Appends (W.contents out.old) (W.contents out.new) text.now }
 {

@@ -1,15 +1,17 @@
 //! The program's words.
 
-ghost use Rattle.std.specs.Prelude.{◌≡◌, ◌≢◌, ◌⊎◌, true, false, IfOk, map};
-ghost use Rattle.clap.specs.Words.{app_of, kind_of};
+ghost use Rattle.std.specs.Prelude.{◌≡◌, ◌≢◌, ◌⊎◌, ◌<◌, ℕ, true, false, None, IfOk, IfErr, IfSome, map};
+ghost use Rattle.clap.specs.Words.{app_of, found_of, has_subcommand, kind_of, rows_of, rule_of, subcommand_of, subcommand_rows_of};
 ghost use Rattle.clap.specs.Faults.{fault_of};
 ghost use Rattle.clap.specs.declared.builder.command.Command.TheViews.{out-Command as fields_of};
 ghost use Rattle.clap.specs.Kinds.{FailsBy};
 ghost use Rattle.jdoc.specs.declared.fault.Status.TheVariants.{BadInput, NoMemory, NotWritten};
 
 use crate::fault::{Fault, Status};
+use bench::Plan;
+use clap::builder::ValueParser;
 use clap::error::ErrorKind;
-use clap::{Arg, Command, Error};
+use clap::{Arg, ArgMatches, Command, Error};
 use std::alloc::{AllocError, Global};
 use std::io::Write;
 
@@ -18,17 +20,41 @@ use std::io::Write;
 pub enum Job<'a> {
     /// Run the script in the file of this name, or on standard input where none is given.
     Run { script: Option<&'a str> },
+    /// Let threads write into an engine, as the plan says.
+    Bench(Plan),
 }
 
-ghost use Rattle.jdoc.specs.Words.{IsJobOf, jdoc_app};
+/// Why words ask for nothing.
+#[derive(Debug, Drop)]
+pub enum BadWords {
+    /// What `clap` says of them, help that they ask for included.
+    Refused(Error),
+    /// A number of `bench` is outside its limits.
+    OutOfRange,
+}
+
+ghost use Rattle.jdoc.specs.Words.{IsJobOf, IsNumber, IsOutOfMemory, IsPlanOf, IsRefusedBy, bench_app, jdoc_app, number_rule, run_app};
+ghost use Rattle.jdoc.specs.declared.words.BadWords.TheVariants.{Refused as RefusedBy};
+
+impl From<Error> for BadWords {
+    ghost from_gives = { λ e why. why ≡ RefusedBy e };
+
+    fn from(error: Error) -> BadWords {
+        BadWords::Refused(error)
+    }
+}
 
 /// What the words after the program's own name ask for.
-pub fn read_words<'a>(alloc: Global, words: &'a [&'a str]) -> Result<Job<'a>, Error>
+pub fn read_words<'a>(alloc: Global, words: &'a [&'a str]) -> Result<Job<'a>, BadWords>
     ensures job { IfOk result (IsJobOf (map (λ w. w.now) words.entry.now)) }
-    ensures refused { FailsBy (fault_of jdoc_app (map (λ w. w.now) words.entry.now)) result }
+    ensures refused { IfErr result (IsRefusedBy (map (λ w. w.now) words.entry.now)) }
 {
-    let matches = command(alloc)?.try_get_matches_from(words)?;
+    let matches = parse(alloc, words)?;
     match matches.subcommand() {
+        Some((name, found)) if name == "bench" => match plan_of(found) {
+            Some(plan) => Ok(Job::Bench(plan)),
+            None => Err(BadWords::OutOfRange),
+        },
         Some((_, found)) => Ok(Job::Run {
             script: found.get_str("SCRIPT"),
         }),
@@ -36,27 +62,102 @@ pub fn read_words<'a>(alloc: Global, words: &'a [&'a str]) -> Result<Job<'a>, Er
     }
 }
 
-/// `jdoc run [SCRIPT]`
+/// What `clap` finds in the words.
+fn parse<'a>(alloc: Global, words: &'a [&'a str]) -> Result<ArgMatches<'a>, Error>
+    ensures found { IfOk result (λ m. subcommand_rows_of m ≡ subcommand_of jdoc_app (map (λ w. w.now) words.entry.now)) }
+    ensures refused { FailsBy (fault_of jdoc_app (map (λ w. w.now) words.entry.now)) result }
+    ensures subcommand { IfOk result (λ m. has_subcommand m ≡ true) }
+{
+    command(alloc)?.try_get_matches_from(words)
+}
+
+/// The plan that the options of `bench` give. `clap` has tested their limits; they are tested again, since its contract says
+/// nothing of them below a subcommand.
+fn plan_of(found: &ArgMatches<'_>) -> Option<Plan>
+    ensures plan { IfSome result (IsPlanOf (rows_of (found_of found.now))) }
+    ensures none { result ≡ None → (plan : Plan) → IsPlanOf (rows_of (found_of found.now)) plan → ⊥ }
+{
+    if number_of(found, "replicas")? != 1 {
+        return None;
+    }
+    Plan::new(number_of(found, "writers")?, number_of(found, "ops")?).ok()
+}
+
+/// The number that an option has.
+fn number_of(found: &ArgMatches<'_>, option: &str) -> Option<u32>
+    ensures some { IfSome result (IsNumber option.now (rows_of (found_of found.now))) }
+    ensures none { result ≡ None → (n : ℕ) → n < 4294967296 → IsNumber option.now (rows_of (found_of found.now)) n → ⊥ }
+{
+    found.get_one(option)
+}
+
+/// `jdoc run [SCRIPT]`, and `jdoc bench --replicas 1 --writers W --ops K`
 fn command<'a>(alloc: Global) -> Result<Command<'a>, AllocError>
     ensures words { IfOk result (λ c. app_of c ≡ jdoc_app) }
     ensures local { IfOk result (λ c. (fields_of c).has_globals ≡ false) }
 {
-    let script = Arg::new(alloc, "SCRIPT").help(
-        "The file with the script; standard input where none is given",
-    );
-    let run = Command::new(alloc, "run")
-        .about("Runs a script and prints what each step replies")
-        .arg(script)?;
     Command::new(alloc, "jdoc")
         .bin_name("jdoc")?
         .about("Runs engines of a shared document")
         .no_binary_name(true)
         .subcommand_required(true)
-        .subcommand(run)
+        .subcommand(run_command(alloc)?)?
+        .subcommand(bench_command(alloc)?)
 }
 
-/// Tells what is wrong with the words, or the help that they ask for, and gives the status of the run.
-pub fn report<W: Write>(error: &Error, faults: &mut W) -> Status
+fn run_command<'a>(alloc: Global) -> Result<Command<'a>, AllocError>
+    ensures words { IfOk result (λ c. app_of c ≡ run_app) }
+    ensures local { IfOk result (λ c. (fields_of c).has_globals ≡ false) }
+{
+    let script = Arg::new(alloc, "SCRIPT").help(
+        "The file with the script; standard input where none is given",
+    );
+    Command::new(alloc, "run")
+        .about("Runs a script and prints what each step replies")
+        .arg(script)
+}
+
+fn bench_command<'a>(alloc: Global) -> Result<Command<'a>, AllocError>
+    ensures words { IfOk result (λ c. app_of c ≡ bench_app) }
+    ensures local { IfOk result (λ c. (fields_of c).has_globals ≡ false) }
+{
+    Command::new(alloc, "bench")
+        .about(
+            "Lets threads write into an engine at once, and checks that each reads back what it wrote",
+        )
+        .arg(number(alloc, "replicas", 1).help("How many engines: 1"))?
+        .arg(number(alloc, "writers", 16).help("How many threads write, from 1 to 16"))?
+        .arg(number(alloc, "ops", 4_096).help(
+            "How many commands each of them submits, from 1 to 4,096",
+        ))
+}
+
+/// A required option whose value is a number from 1 on.
+fn number<'a>(alloc: Global, name: &'a str, most: u64) -> Arg<'a>
+    ensures rule { rule_of result ≡ number_rule name.entry.now most }
+    ensures local { result.global ≡ false }
+{
+    Arg::new(alloc, name)
+        .long(name)
+        .required(true)
+        .value_parser(ValueParser::unsigned(1, most))
+}
+
+impl BadWords {
+    /// Tells what is wrong with the words, or the help that they ask for, and gives the status of the run.
+    pub fn report<W: Write>(&self, faults: &mut W) -> Status
+        ensures memory { IsOutOfMemory self.now → (result ≡ NoMemory) ⊎ (result ≡ NotWritten) }
+        ensures other { (IsOutOfMemory self.now → ⊥) → (result ≡ BadInput) ⊎ (result ≡ NotWritten) }
+    {
+        match self {
+            BadWords::Refused(error) => report(error, faults),
+            BadWords::OutOfRange => Fault::OutOfRange.report(faults),
+        }
+    }
+}
+
+/// Tells what `clap` says, and gives the status of the run.
+fn report<W: Write>(error: &Error, faults: &mut W) -> Status
     ensures memory { kind_of error.now ≡ ErrorKind.OutOfMemory → (result ≡ NoMemory) ⊎ (result ≡ NotWritten) }
     ensures other { kind_of error.now ≢ ErrorKind.OutOfMemory → (result ≡ BadInput) ⊎ (result ≡ NotWritten) }
 {

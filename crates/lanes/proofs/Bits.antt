@@ -1,14 +1,14 @@
 -- Lists of bits as numbers, part by part, and as words.
-use Rattle.std.proofs.Common.{◌≡◌, ℕ, zero, suc, ◌+◌, ◌-◌, ◌*◌, ◌/◌, ◌%◌, ◌^◌, ◌<◌, ◌≤◌, Bool, true, false, cond, eqb, ltb, List, [], ◌∷◌, ◌++◌, length, get_or, map, take, drop, refl, sym, ap, ◌∙◌, arith, pow-suc, bit_or, inl, inr, ◌⊎◌, min, mul_comm, suc-add, subst, w64}
+use Rattle.std.proofs.Common.{◌≡◌, ℕ, zero, suc, ◌+◌, ◌-◌, ◌*◌, ◌/◌, ◌%◌, ◌^◌, ◌<◌, ◌≤◌, Bool, true, false, cond, eqb, ltb, List, [], ◌∷◌, ◌++◌, length, get_or, map, take, drop, refl, sym, ap, ◌∙◌, arith, pow-suc, bit_or, inl, inr, ◌⊎◌, min, mul_comm, suc-add, subst}
 use Rattle.std.specs.List.{sum_by}
-use Rattle.std.specs.Int.{bit_at, div_ceil, trailing_zeros}
+use Rattle.std.specs.Int.{bit_at, div_ceil}
 use Rattle.std.specs.Int.RustNames.{count_ones}
 use Rattle.std.specs.Simd.Lanes.{chunk, mask_l}
 use mir.Val.{bool_byte}
 use lib.Bits.{or_shifted_r}
 use Rattle.std.proofs.lemmas.Bool.{cases_lt}
-use Rattle.std.proofs.lemmas.Nat.{shl_whole, shr_split, one_shl, mul-le}
-use Rattle.std.proofs.lemmas.Nat.Bits.{bit_at-zero, bit_at-trailing_zeros}
+use Rattle.std.proofs.lemmas.Nat.{shl_whole}
+use Rattle.std.proofs.lemmas.Nat.Bits.{bit_at-zero}
 use Rattle.std.proofs.lemmas.List.{take_min, length-take-le, length-take, length-drop, get_or_past, get_or-drop, map-id, get_or-map, length-map}
 use Rattle.std.proofs.lemmas.List.FromFn.{get_or-map-range_with_len, length-map-range_with_len}
 use Rattle.std.proofs.lemmas.List.Sums.{sum_by-append, sum-map, count_by-le-length}
@@ -176,22 +176,3 @@ ones-packed bits =
     ∙ ones_of (chunk (64 * w) 64 bits) ∙ ap (λ m. count_true (take 64 (drop m bits))) (mul_comm 64 w))
     (omega arith)
     (length-map (packed bits) count_ones ∙ length-map-range_with_len (word_at bits) 0 all)
-
--- ---- the lowest one of a word
-
--- a number with a one at a place is at least the one there
-at_least_one_bit : (n i : ℕ) → bit_at n i ≡ 1 → 2 ^ i ≤ n
-at_least_one_bit n i h =
-    let whole = shr_split n i in
-    let some : 1 ≤ n / 2 ^ i = omega arith in
-    omega (arith, whole, mul-le 1 (2 ^ i) (n / 2 ^ i) (2 ^ i) some (omega arith))
-
-pub lowest_fits : (n : ℕ) → 0 < n → n < 2 ^ 64 → 1 * 2 ^ trailing_zeros w64 n % 2 ^ 64 ≤ n
-lowest_fits n some fits =
-    let low = bit_at-trailing_zeros w64 n some fits in
-    rw (one_shl (trailing_zeros w64 n) 64 low.0) (at_least_one_bit n (trailing_zeros w64 n) low.1)
-
-pub rest_of_lowest : (n : ℕ) → 0 < n → n < 2 ^ 64 → n - 1 * 2 ^ trailing_zeros w64 n % 2 ^ 64 + 2 ^ trailing_zeros w64 n ≡ n
-rest_of_lowest n some fits =
-    let low = bit_at-trailing_zeros w64 n some fits in
-    rw (one_shl (trailing_zeros w64 n) 64 low.0) (omega (arith, at_least_one_bit n (trailing_zeros w64 n) low.1))

@@ -9,5 +9,5 @@ mod maxima;
 mod tests;
 
 pub use compare::{all_eq, all_le};
-pub use mask::{count_over, is_set, mask_over, masks_keep_counts, take_lowest};
+pub use mask::{count_over, is_set, mask_over, masks_keep_counts};
 pub use maxima::{greatest, max_into};

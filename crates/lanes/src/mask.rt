@@ -1,7 +1,7 @@
 //! Which counters are above their bounds, as bits in words.
 
-ghost use Rattle.std.specs.Prelude.{◌≡◌, ◌↔◌, ◌≤◌, ◌<◌, ◌+◌, ◌^◌, ℕ, Bool, false, List, length, slice_index_or, IfSome, IsNone, sum_by, count_ones};
-ghost use Rattle.std.specs.Int.{div_ceil, bit_at};
+ghost use Rattle.std.specs.Prelude.{◌≡◌, ◌≤◌, Bool, false, List, length, slice_index_or, sum_by, count_ones};
+ghost use Rattle.std.specs.Int.{div_ceil};
 ghost use Rattle.std.specs.Simd.Lanes.{mask_l};
 ghost use Rattle.lanes.specs.Kernels.{over, count_true, packed, is_set};
 
@@ -46,23 +46,6 @@ pub fn is_set(mask: &[u64], i: usize) -> bool
 {
     mask.get(i / 64)
         .is_some_and(|word| (word >> (i % 64)) & 1 == 1)
-}
-
-/// Takes the lowest 1 off a word and gives its place, or nothing of 0. Called until it gives nothing, it visits the places of all ones, rising.
-pub fn take_lowest(word: &mut u64) -> Option<u32>
-    ensures one { IfSome result (λ place. bit_at word.old place ≡ 1) }
-    ensures lowest { IfSome result (λ place. (i : ℕ) → i < place → bit_at word.old i ≡ 0) }
-    ensures rest { IfSome result (λ place. word.new + 2 ^ place ≡ word.old) }
-    ensures none { IsNone result ↔ (word.old ≡ 0) }
-    ensures same { IsNone result → word.new ≡ word.old }
-{
-    let left = *word;
-    if left == 0 {
-        return None;
-    }
-    let place = left.trailing_zeros();
-    *word = left - (1 << place);
-    Some(place)
 }
 
 /// How many counters are above their bounds.

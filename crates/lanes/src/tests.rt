@@ -105,22 +105,6 @@ fn masks_of_rows(rt: HostRuntime) {
 }
 
 #[test]
-fn ones_are_visited_rising(rt: HostRuntime) {
-    for (word, first, second, third) in [
-        (0, None, None, None),
-        (1, Some(0), None, None),
-        (0b1010, Some(1), Some(3), None),
-        ((1 << 63) + 6, Some(1), Some(2), Some(63)),
-    ] {
-        let mut left = word;
-        assert_eq!(rt; take_lowest(&mut left), first, "of {word}");
-        assert_eq!(rt; take_lowest(&mut left), second, "of {word}");
-        assert_eq!(rt; take_lowest(&mut left), third, "of {word}");
-        assert_eq!(rt; left, 0, "of {word}");
-    }
-}
-
-#[test]
 fn kernels_agree_with_plain_loops(rt: HostRuntime) -> Result<(), Fail> {
     for width in WIDTHS {
         for seed in 0..3 {

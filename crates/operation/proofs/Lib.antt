@@ -1,4 +1,5 @@
 -- Places by their keys, and the faults of an operation alone.
 pub mod PlaceKeys
 pub mod AloneFaults
+pub mod PassedAlone
 pub mod StandingAlone

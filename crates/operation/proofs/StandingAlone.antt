@@ -13,6 +13,7 @@ use Rattle.operation.specs.declared.command.Entry.{Entry}
 use Rattle.operation.specs.declared.command.Entry.TheVariants.{Own, Peer}
 use Rattle.operation.specs.declared.op.Op.{Op}
 use Rattle.operation.specs.Alone.{fault_alone}
+use Rattle.operation.proofs.PassedAlone.{alone}
 use Rattle.operation.specs.Meanings.{entry_of, op_in, stamped_of}
 
 -- the operation of an entry, indexed by a table
@@ -23,23 +24,6 @@ stamped_same table (Peer o) = refl
 first_true : (a b c d : Bool) → first_failed a b c d ≡ None → a ≡ true
 first_true false b c d h = cc
 first_true true b c d h = refl
-
-pub width_alone : (table : List ℕ) (o : Op) → fault_alone table o ≡ None → length o.deps ≡ length table
-width_alone table o h = at_test (nat_eq (length o.deps) (length table)) refl h
-  where
-    at_test : (b : Bool) → nat_eq (length o.deps) (length table) ≡ b → cond b (alone_fault table (stamped_of table o)) (Some UnknownReplica) ≡ None → length o.deps ≡ length table
-    at_test true e h = eqb-true (length o.deps) (length table) e
-    at_test false e h = cc
-
-pub alone : (table : List ℕ) (o : Op) → fault_alone table o ≡ None → alone_fault table (stamped_of table o) ≡ None
-alone table o h = at_test (nat_eq (length o.deps) (length table)) h
-  where
-    at_test : (b : Bool) → cond b (alone_fault table (stamped_of table o)) (Some UnknownReplica) ≡ None → alone_fault table (stamped_of table o) ≡ None
-    at_test true h = h
-    at_test false h = cc
-
-pub alone_stands : (table : List ℕ) (o : Op) → fault_alone table o ≡ None → StandsAlone (stamped_of table o)
-alone_stands table o h = stands_alone table (stamped_of table o) (alone table o h)
 
 pub alone_member : (table : List ℕ) (o : Op) → fault_alone table o ≡ None → is_member table o.id.replica ≡ true
 alone_member table o h =

@@ -7,3 +7,4 @@ pub mod Places
 pub mod Room
 pub mod KnownMembers
 pub mod LongerHistories
+pub mod PlacedIds

@@ -1,18 +1,19 @@
 //! A list of entries, and for each replica of a table the places of its operations.
 
-ghost use Rattle.std.specs.Prelude.{◌≡◌, ◌≤◌, ◌<◌, ◌+◌, ◌++◌, ◌∷◌, [], IsTrue, ℕ, List, Some, None, option_map, map, replicate, reverse, set, length, IfOk, IfErr, IfSome, OnOk, slice_index_or};
+ghost use Rattle.std.specs.Prelude.{◌≡◌, ◌≤◌, ◌<◌, ◌+◌, ◌++◌, ◌∷◌, [], IsTrue, ℕ, List, Some, false, option_map, map, replicate, reverse, set, length, IfOk, IfSome, OnOk, slice_index_or};
 ghost use Rattle.std.specs.FinMap.{put};
-ghost use Rattle.ids.specs.declared.refusal.Refusal.TheVariants.{NoMemory};
 ghost use Rattle.ids.specs.Members.{AreDistinct, is_member};
 ghost use Rattle.semantics.specs.Ids.{id_cmp};
 ghost use Rattle.semantics.specs.Tables.{by_table};
 ghost use Rattle.semantics.specs.Vectors.{Vector};
-ghost use Rattle.semantics.specs.Entries.{Entry as TheEntry, entry_at, missing, stamped_in, stamped_of};
+ghost use Rattle.semantics.specs.LegalHistory.{has_id};
+ghost use Rattle.semantics.specs.Stamped.{MayFollow, Stamped};
+ghost use Rattle.semantics.specs.Entries.{Entry as TheEntry, applied, entry_at, missing, stamped_in, stamped_of};
 ghost use Rattle.operation.specs.Meanings.{entry_of, op_in};
 ghost use Rattle.oplog.specs.Logs.{history, least_room, missing_places, numbers_above, numbers_of, place_of};
 
 use columns::Numbers;
-use ids::{OpId, Refusal, ReplicaTable};
+use ids::{OpId, ReplicaTable};
 use operation::Entry;
 use std::alloc::{AllocError, Global};
 use std::marker::Model;
@@ -46,7 +47,7 @@ impl Log {
     /// A log with no entries.
     ///
     /// # Errors
-    /// Want of memory.
+    /// `AllocError` if allocation fails.
     pub fn new(alloc: Global, table: ReplicaTable) -> Result<Log, AllocError>
         requires { AreDistinct table }
         ensures table { IfOk result (λ l. l.table ≡ table) }
@@ -81,7 +82,7 @@ impl Log {
         self.entries.get(place)
     }
 
-    /// The place of the operation with this id. A search by halves among those of its replica.
+    /// The place of the operation with this id. A binary search among those of its replica.
     pub fn find(&self, id: OpId) -> Option<usize>
         ensures { result ≡ place_of id self.now.entries }
     {
@@ -89,14 +90,13 @@ impl Log {
         self.places[index].get(&id)
     }
 
-    /// The places of the operations that the vector doesn't cover, rising. A search by halves for each replica, and a sort of what was found.
+    /// The places of the operations that the vector doesn't cover, rising. A binary search for each replica, and a sort of what was found.
     ///
     /// # Errors
-    /// `NoMemory` where a growth was refused.
-    pub fn missing(&self, alloc: Global, vector: &VersionVector) -> Result<Vec<usize>, Refusal>
+    /// `AllocError` if allocation fails.
+    pub fn missing(&self, alloc: Global, vector: &VersionVector) -> Result<Vec<usize>, AllocError>
         requires { length vector.now ≡ length self.now.table }
-        ensures ok { IfOk result (λ places. places.items ≡ missing_places (by_table self.now.table vector.now) self.now.entries) }
-        ensures err { IfErr result (λ why. why ≡ NoMemory) }
+        ensures { IfOk result (λ places. places.items ≡ missing_places (by_table self.now.table vector.now) self.now.entries) }
     {
         let mut places = places_above(alloc, &self.places, vector)?;
         places.sort_unstable();
@@ -106,7 +106,7 @@ impl Log {
     /// Makes room for one more entry, of whichever replica. Looks at the room of each replica's places.
     ///
     /// # Errors
-    /// Want of memory.
+    /// `AllocError` if allocation fails.
     pub fn reserve_one(&mut self) -> Result<(), AllocError>
         ensures table { self.new.table ≡ self.old.table }
         ensures entries { self.new.entries ≡ self.old.entries }
@@ -117,12 +117,14 @@ impl Log {
         reserve_places(&mut self.places)
     }
 
-    /// Appends an entry, for which there is room, and whose id no entry has yet. Takes no memory. It moves the places of its replica's greater ids, of which a history has none.
+    /// Appends an entry, for which there is room. Takes no memory. It moves the places of its replica's greater ids, of which a history has none.
+    ///
+    /// Its id may be that of no entry yet, and an operation that may follow has such an id (`what_may_follow_is_new`). That its replica is a member and that its vector has the table's width is nothing that a history knows.
     pub fn push(&mut self, entry: Entry)
         requires room { 0 < self.old.room }
         requires width { length (op_in entry).deps ≡ length self.old.table }
         requires member { IsTrue (is_member self.old.table (stamped_in (entry_of self.old.table entry)).id.replica) }
-        requires new { place_of (stamped_in (entry_of self.old.table entry)).id self.old.entries ≡ None }
+        requires new { has_id (applied self.old.entries) (stamped_in (entry_of self.old.table entry)).id ≡ false }
         ensures table { self.new.table ≡ self.old.table }
         ensures entries { self.new.entries ≡ entry_of self.old.table entry ∷ self.old.entries }
         ensures room { self.old.room ≤ self.new.room + 1 }
@@ -185,10 +187,9 @@ fn places_above(
     alloc: Global,
     places: &[Numbers],
     vector: &VersionVector,
-) -> Result<Vec<usize>, Refusal>
+) -> Result<Vec<usize>, AllocError>
     requires { length vector.now ≡ length places.now }
-    ensures ok { IfOk result (λ v. v.items ≡ numbers_above vector.now (numbers_of places.now)) }
-    ensures err { IfErr result (λ why. why ≡ NoMemory) }
+    ensures { IfOk result (λ v. v.items ≡ numbers_above vector.now (numbers_of places.now)) }
 {
     let mut above = Vec::new(alloc);
     for (index, numbers) in places.iter().enumerate() {
@@ -198,9 +199,8 @@ fn places_above(
 }
 
 /// Appends the number of each entry.
-fn push_numbers(numbers: &mut Vec<usize>, entries: &[(OpId, usize)]) -> Result<(), Refusal>
-    ensures ok { OnOk result (numbers.new.items ≡ numbers.old.items ++ map (λ e. e.1) entries.now) }
-    ensures err { IfErr result (λ why. why ≡ NoMemory) }
+fn push_numbers(numbers: &mut Vec<usize>, entries: &[(OpId, usize)]) -> Result<(), AllocError>
+    ensures { OnOk result (numbers.new.items ≡ numbers.old.items ++ map (λ e. e.1) entries.now) }
 {
     numbers.reserve(entries.len())?;
     for (_, number) in entries {
@@ -208,6 +208,11 @@ fn push_numbers(numbers: &mut Vec<usize>, entries: &[(OpId, usize)]) -> Result<(
     }
     Ok(())
 }
+
+/// An operation that may follow has an id that no entry has.
+pub fn what_may_follow_is_new()
+    ensures { (G : List TheEntry) (s : Stamped) → MayFollow (applied G) s → has_id (applied G) s.id ≡ false }
+{}
 
 /// The operations at the missing places are those that the rules call missing, the oldest first.
 pub fn places_name_what_is_missing()

@@ -1,10 +1,11 @@
 //! A publisher and its seats: what is asked before and after a publish, and what is learnt.
 
-ghost use Rattle.std.specs.Prelude.{◌≡◌, ◌≢◌, ◌∷◌, [], IsTrue, IfOk, OnOk, length};
+ghost use Rattle.std.specs.Prelude.{◌≡◌, ◌≢◌, ◌∷◌, ℕ, List, [], None, IsTrue, IfOk, OnOk, length};
+ghost use Rattle.document.specs.Documents.{IsBeside};
 ghost use Rattle.ids.specs.Members.{in_order, is_member};
 ghost use Rattle.semantics.specs.Entries.{IsEntryHistory, applied};
-ghost use Rattle.semantics.specs.Faults.{StandsAlone};
 ghost use Rattle.semantics.specs.Stamped.{MayFollow};
+ghost use Rattle.operation.specs.Alone.{fault_alone};
 ghost use Rattle.operation.specs.Meanings.{stamped_of};
 
 use super::*;
@@ -25,10 +26,14 @@ const MEMBERS: [u32; 3] = [1, 2, 9];
 
 #[test]
 fn one_thread(rt: HostRuntime) -> Result<(), Fail> {
-    alone::<Brand, _>(&rt, rt.alloc(), Opened::new())
+    Ok(alone::<Brand, _>(&rt, rt.alloc(), Opened::new())?)
 }
 
-fn alone<N: EngineName, R: Wait + Abort>(rt: &R, alloc: Global, opened: Opened) -> Result<(), Fail>
+fn alone<N: EngineName, R: Wait + Abort>(
+    rt: &R,
+    alloc: Global,
+    opened: Opened,
+) -> Result<(), Refusal>
     requires book { opened.seen.book ≡ N.book }
     requires own { N.own ≡ 9 }
     requires table { N.table ≡ in_order (1 ∷ 2 ∷ 9 ∷ []) }
@@ -60,7 +65,7 @@ fn mirrored<N: EngineName, R: Wait + Abort>(
     alloc: Global,
     publisher: &mut Publisher<N>,
     seats: &mut Vec<Seat<N>>,
-) -> Result<(), Fail>
+) -> Result<(), Refusal>
     requires own { N.own ≡ 9 }
     requires table { N.table ≡ in_order (1 ∷ 2 ∷ 9 ∷ []) }
     requires new { publisher.old.appended ≡ [] }
@@ -71,14 +76,14 @@ fn mirrored<N: EngineName, R: Wait + Abort>(
 
 #[test]
 fn two_threads(rt: HostRuntime) -> Result<(), Fail> {
-    shared::<Brand, _>(&rt, rt.alloc(), Opened::new())
+    Ok(shared::<Brand, _>(&rt, rt.alloc(), Opened::new())?)
 }
 
 fn shared<N: EngineName + Send + Sync, R: Threads + Wait + Abort + Sync>(
     rt: &R,
     alloc: Global,
     opened: Opened,
-) -> Result<(), Fail>
+) -> Result<(), Refusal>
     requires book { opened.seen.book ≡ N.book }
     requires own { N.own ≡ 9 }
     requires table { N.table ≡ in_order (1 ∷ 2 ∷ 9 ∷ []) }
@@ -95,13 +100,13 @@ fn meanwhile<N: EngineName + Send + Sync, R: Threads + Wait + Abort + Sync>(
     alloc: Global,
     publisher: &mut Publisher<N>,
     seats: &mut Vec<Seat<N>>,
-) -> Result<(), Fail>
+) -> Result<(), Refusal>
     requires own { N.own ≡ 9 }
     requires table { N.table ≡ in_order (1 ∷ 2 ∷ 9 ∷ []) }
     requires new { publisher.old.appended ≡ [] }
 {
     fill(rt, alloc, publisher)?;
-    let mut seat = seats.pop().ok_or("a seat")?;
+    let mut seat = seats.pop().ok_or(Refusal::NoReading)?;
     let read = both(rt, alloc, publisher, &mut seat);
     assert!(rt; read);
     assert!(rt; seat.seen_len() == 2);
@@ -113,7 +118,7 @@ fn fill<N: EngineName, R: Abort>(
     rt: &R,
     alloc: Global,
     publisher: &mut Publisher<N>,
-) -> Result<(), Fail>
+) -> Result<(), Refusal>
     requires own { N.own ≡ 9 }
     requires table { N.table ≡ in_order (1 ∷ 2 ∷ 9 ∷ []) }
     requires new { publisher.old.appended ≡ [] }
@@ -161,14 +166,14 @@ fn seated<N: EngineName, R: Wait + Abort>(
     mirror: &mut Document,
     publisher: &mut Publisher<N>,
     seats: &mut Vec<Seat<N>>,
-) -> Result<(), Fail>
+) -> Result<(), Refusal>
     requires own { N.own ≡ 9 }
     requires table { N.table ≡ mirror.old.table }
     requires mirror { publisher.old.appended ≡ mirror.old.entries }
     requires legal { IsEntryHistory N.own mirror.old.entries }
 {
-    let mut late = seats.pop().ok_or("a seat")?;
-    let mut seat = seats.pop().ok_or("a seat")?;
+    let mut late = seats.pop().ok_or(Refusal::NoReading)?;
+    let mut seat = seats.pop().ok_or(Refusal::NoReading)?;
     session(rt, alloc, mirror, publisher, &mut seat, &mut late)
 }
 
@@ -179,7 +184,7 @@ fn session<N: EngineName, R: Wait + Abort>(
     publisher: &mut Publisher<N>,
     seat: &mut Seat<N>,
     late: &mut Seat<N>,
-) -> Result<(), Fail>
+) -> Result<(), Refusal>
     requires own { N.own ≡ 9 }
     requires table { N.table ≡ mirror.old.table }
     requires mirror { publisher.old.appended ≡ mirror.old.entries }
@@ -250,7 +255,7 @@ fn write_two<N: EngineName, R: Abort>(
     alloc: Global,
     mirror: &mut Document,
     publisher: &mut Publisher<N>,
-) -> Result<(), Fail>
+) -> Result<(), Refusal>
     requires own { N.own ≡ 9 }
     requires table { N.table ≡ mirror.old.table }
     requires mirror { publisher.old.appended ≡ mirror.old.entries }
@@ -264,12 +269,19 @@ fn write_two<N: EngineName, R: Abort>(
     Ok(())
 }
 
-/// The whole number at the key `a`, if there is one.
-fn value<N: EngineName>(alloc: Global, seat: &mut Seat<N>) -> Result<Option<i64>, Refusal> {
+/// Asks for the values at the key `a`.
+fn question(alloc: Global) -> Result<Question, Refusal>
+    ensures { IfOk result (λ q. (table : List ℕ) → IsBeside table q) }
+{
+    let key = Key::new(alloc, "a")?;
     let mut steps = Vec::new(alloc);
-    steps.push(Step::Get(Key::new(alloc, "a")?))?;
-    let question = Question::Values(Expr::new(steps));
-    let Reading::Values(values) = seat.ask(alloc, &question)? else {
+    steps.push(Step::Get(key))?;
+    Ok(Question::Values(Expr::new(steps)))
+}
+
+/// The first whole number among what was read, if anything was.
+fn first_number(reading: &Reading) -> Result<Option<i64>, Refusal> {
+    let Reading::Values(values) = reading else {
         return Err(Refusal::BadLine);
     };
     match values.first() {
@@ -277,6 +289,13 @@ fn value<N: EngineName>(alloc: Global, seat: &mut Seat<N>) -> Result<Option<i64>
         Some((_, Scalar::Whole(number))) => Ok(Some(*number)),
         Some(_) => Err(Refusal::BadLine),
     }
+}
+
+/// The whole number at the key `a`, if there is one.
+fn value<N: EngineName>(alloc: Global, seat: &mut Seat<N>) -> Result<Option<i64>, Refusal> {
+    let question = question(alloc)?;
+    let reading = seat.ask(alloc, &question)?;
+    first_number(&reading)
 }
 
 /// Appends that replica 1 assigned the number at the key `a`, to the publisher and to a document that holds the same.
@@ -287,7 +306,7 @@ fn write<N: EngineName, R: Abort>(
     publisher: &mut Publisher<N>,
     counter: u64,
     number: i64,
-) -> Result<(), Fail>
+) -> Result<(), Refusal>
     requires own { N.own ≡ 9 }
     requires table { N.table ≡ mirror.old.table }
     requires mirror { publisher.old.appended ≡ mirror.old.entries }
@@ -305,22 +324,33 @@ fn write<N: EngineName, R: Abort>(
     Ok(())
 }
 
+/// The id of this counter and replica 1.
+fn id(counter: u64) -> Result<OpId, Refusal> {
+    let replica = ReplicaId::new(1).ok_or(Refusal::UnknownReplica)?;
+    Ok(OpId { counter, replica })
+}
+
+/// The key `a` of the root.
+fn place(alloc: Global) -> Result<Place, Refusal> {
+    let key = Key::new(alloc, "a")?;
+    Place::doc(alloc).get(alloc, key)
+}
+
 /// Replica 1 assigns the number at the key `a`, after all that was applied.
-fn assign(alloc: Global, document: &Document, counter: u64, number: i64) -> Result<Op, Fail> {
+fn assign(alloc: Global, document: &Document, counter: u64, number: i64) -> Result<Op, Refusal> {
+    let id = id(counter)?;
+    let place = place(alloc)?;
     Ok(Op {
-        id: OpId {
-            counter,
-            replica: ReplicaId::new(1).ok_or("numbered 0")?,
-        },
+        id,
         deps: document.applied().clone()?,
-        place: Place::doc(alloc).get(alloc, Key::new(alloc, "a")?)?,
+        place,
         mutation: Mutation::Assign(Val::Scalar(Scalar::Whole(number))),
     })
 }
 
 /// Whether nothing is wrong with the operation alone.
 fn stands_alone(document: &Document, op: &Op) -> bool
-    ensures alone { IsTrue result → StandsAlone (stamped_of document.now.table op.now) }
+    ensures alone { IsTrue result → fault_alone document.now.table op.now ≡ None }
     ensures member { IsTrue result → IsTrue (is_member document.now.table op.now.id.replica) }
     ensures width { IsTrue result → length op.now.deps ≡ length document.now.table }
 {

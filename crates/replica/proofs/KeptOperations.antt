@@ -12,8 +12,8 @@ use Rattle.operation.specs.declared.command.Delivered.{Delivered}
 use Rattle.operation.specs.declared.command.Delivered.TheVariants as answer
 use Rattle.operation.specs.Alone.{fault_alone}
 use Rattle.operation.specs.Meanings.{stamped_of}
+use Rattle.operation.proofs.PassedAlone.{alone}
 use Rattle.inbox.specs.Inboxes.{waiting_in}
-use Rattle.inbox.proofs.Ready.{alone}
 use Rattle.replica.specs.Replicas.{Running, IsReplica, answer_to_new, replica_of}
 
 -- an operation that passed all tests is kept

@@ -19,14 +19,9 @@ use Rattle.operation.specs.declared.op.Op.{Op}
 use Rattle.operation.specs.Meanings.{stamped_of}
 use Rattle.document.specs.Documents.{Kept}
 use Rattle.inbox.specs.Inboxes.{StandAlone, waiting_in}
+use Rattle.inbox.proofs.Ready.{among_stamped}
 use Rattle.replica.specs.Replicas.{Running, IsReplica, IsNextReady, next_of, replica_of}
 use Rattle.replica.proofs.Turns.{appending, turn}
-
--- what is among the operations is among the stamped ones
-pub among_stamped : (table : List ℕ) (ws : List Op) (o : Op) → IsAmong o ws → IsAmong (stamped_of table o) (waiting_in table ws)
-among_stamped table [] o m = m
-among_stamped table (w ∷ ws) o (inl e) = inl (ap (stamped_of table) e)
-among_stamped table (w ∷ ws) o (inr m) = inr (among_stamped table ws o m)
 
 -- what is among them waits
 pub among_waits : (table : List ℕ) (ws : List Op) (o : Op) → IsAmong o ws → is_waiting (waiting_in table ws) o.id ≡ true

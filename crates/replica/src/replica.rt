@@ -23,7 +23,7 @@ use document::Document;
 use ids::{Refusal, ReplicaId};
 use inbox::Inbox;
 use operation::{Command, Delivered, Entry, Op, check_alone};
-use std::alloc::Global;
+use std::alloc::{AllocError, Global};
 use std::marker::Model;
 
 /// One replica of a document. Contracts see its own number, its document, what waits and how many operations were dropped.
@@ -159,13 +159,12 @@ impl Replica {
     /// A copy of the next operation of a peer that `commit_peer` appends: the smallest that is ready, unless the history is full. What is smaller, ready and unlawful is dropped and counted. All that committing it needs is made.
     ///
     /// # Errors
-    /// `NoMemory` if allocation fails. What was dropped stays dropped then, and nothing else has changed.
-    pub fn next_ready(&mut self, alloc: Global) -> Result<Option<Op>, Refusal>
+    /// `AllocError` if allocation fails. What was dropped stays dropped then, and nothing else has changed.
+    pub fn next_ready(&mut self, alloc: Global) -> Result<Option<Op>, AllocError>
         ensures dropped { (n : ℕ) × (replica_of self.new ≡ counted (drain_for n (replica_of self.old))) × (self.new.document.entries ≡ self.old.document.entries) }
         ensures next { IfOk result (λ o. option_map (stamped_of self.new.document.table) o ≡ next_of (replica_of self.new)) }
         ensures alone { IfOk result (λ o. IfSome o (λ op. fault_alone self.new.document.table op ≡ None)) }
         ensures ready { IfOk result (λ o. IfSome o (λ op. IsNextReady self.new (stamped_of self.new.document.table op))) }
-        ensures err { IfErr result (λ why. why ≡ NoMemory) }
     {
         if !self.prepare(alloc)? {
             return Ok(None);
@@ -194,12 +193,11 @@ impl Replica {
     /// Appends or drops all that is ready, and all that becomes ready by it, the smallest first, until the history is full.
     ///
     /// # Errors
-    /// `NoMemory` if allocation fails. The drain has ended early then, and another goes on.
-    pub fn drain(&mut self, alloc: Global) -> Result<(), Refusal>
+    /// `AllocError` if allocation fails. The drain has ended early then, and another goes on.
+    pub fn drain(&mut self, alloc: Global) -> Result<(), AllocError>
         ensures drained { OnOk result (replica_of self.new ≡ counted (drain (replica_of self.old))) }
         ensures settled { OnOk result (IsDrained (replica_of self.new)) }
         ensures partly { (n : ℕ) × (replica_of self.new ≡ counted (drain_for n (replica_of self.old))) }
-        ensures err { IfErr result (λ why. why ≡ NoMemory) }
     {
         for _ in 0..self.inbox.len() {
             if !self.prepare(alloc)? {
@@ -211,11 +209,10 @@ impl Replica {
     }
 
     /// Drops what is ready and unlawful, as far as it comes before what isn't, and makes all that committing the next one needs. Answers whether there is one.
-    fn prepare(&mut self, alloc: Global) -> Result<bool, Refusal>
+    fn prepare(&mut self, alloc: Global) -> Result<bool, AllocError>
         ensures dropped { (n : ℕ) × (replica_of self.new ≡ counted (drain_for n (replica_of self.old))) × (self.new.document.entries ≡ self.old.document.entries) }
         ensures none { result ≡ Ok false → next_of (replica_of self.new) ≡ None }
         ensures next { result ≡ Ok true → (s : Stamped) × IsNextReady self.new s }
-        ensures err { IfErr result (λ why. why ≡ NoMemory) }
     {
         self.drop_faulty();
         reserve_next(alloc, &mut self.document, &self.inbox)

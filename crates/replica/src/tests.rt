@@ -1,4 +1,4 @@
-//! What replicas reply, and what they keep, as their rules have it.
+//! What replicas reply, and what they keep, as their rules have it. Each test is turns that a replica takes one after another, and the history that they leave.
 
 mod deliveries;
 mod leaving;
@@ -6,45 +6,36 @@ mod playing;
 mod refused_memory;
 
 use super::*;
-use ids::{OpId, Refusal};
-use playing::{assign, assigning, id, new_replica};
+use ids::Refusal;
+use operation::Delivered;
+use playing::{Answer, Pair, Turn, Writes, on_new, on_new_after};
 use std::alloc::Global;
 use std::process::Abort;
 use std::test::Fail;
 
-/// Makes an operation, which is not committed, and compares its id and the length of the history.
-fn expect_made(
-    rt: &impl Abort,
-    alloc: Global,
-    replica: &mut Replica,
-    want: OpId,
-    len: usize,
-) -> Result<(), Fail> {
-    let command = assigning(alloc, "a", "1")?;
-    let op = replica.make(alloc, &command)?;
-    assert_eq!(rt; op.id, want);
-    assert_eq!(rt; replica.history_len(), len);
-    Ok(())
-}
+const KEPT: Answer = Ok(Delivered::Kept);
+
+const NAMES_NOTHING: Answer = Err(Refusal::NamesNothing);
 
 #[test]
 fn the_same_is_made_until_it_is_committed(rt: HostRuntime) -> Result<(), Fail> {
-    let alloc = rt.alloc();
-    let mut replica = new_replica(alloc, 1)?;
-    expect_made(&rt, alloc, &mut replica, id(1, 1)?, 0)?;
-    expect_made(&rt, alloc, &mut replica, id(1, 1)?, 0)
+    let turns = [
+        Turn::Make((1, 1)),
+        Turn::Lengths(0, 0),
+        Turn::Make((1, 1)),
+        Turn::Lengths(0, 0),
+    ];
+    on_new(&rt, rt.alloc(), 1, &turns, &[])
 }
 
 #[test]
 fn counters_go_on_after_a_commit(rt: HostRuntime) -> Result<(), Fail> {
-    let alloc = rt.alloc();
-    let mut replica = new_replica(alloc, 1)?;
-    let first = assign(&mut replica, alloc, 1, "a", "1")?;
-    assert_eq!(rt; first, id(1, 1)?);
-    expect_made(&rt, alloc, &mut replica, id(2, 1)?, 1)?;
-    let entries = replica.into_entries();
-    assert_eq!(rt; entries.len(), 1);
-    Ok(())
+    let turns = [
+        Turn::Assign("a", "1", (1, 1)),
+        Turn::Make((2, 1)),
+        Turn::Lengths(1, 0),
+    ];
+    on_new(&rt, rt.alloc(), 1, &turns, &[(1, 1)])
 }
 
 /// Opens no replica of this number among these members.

@@ -1,8 +1,7 @@
 //! What is asked of an operation that is to wait, and of the next one that leaves.
 
-ghost use Rattle.std.specs.Prelude.{◌≡◌, true, false, Ok, Some, None, length, option_map, IfErr, IfNone, IfSome, MatchResult};
+ghost use Rattle.std.specs.Prelude.{◌≡◌, true, false, Ok, Some, None, length, option_map, IfNone, IfSome, MatchResult};
 ghost use Rattle.ids.specs.declared.refusal.Refusal.{Refusal as ARefusal};
-ghost use Rattle.ids.specs.declared.refusal.Refusal.TheVariants.{NoMemory};
 ghost use Rattle.semantics.specs.LegalHistory.{IsAmong};
 ghost use Rattle.semantics.specs.Stamped.{Stamped};
 ghost use Rattle.semantics.specs.Entries.{stamped_of as stamped_entries};
@@ -18,7 +17,7 @@ use document::Document;
 use ids::{OpId, Refusal, ReplicaId};
 use inbox::Inbox;
 use operation::Op;
-use std::alloc::Global;
+use std::alloc::{AllocError, Global};
 
 /// Whether an operation that is neither applied nor waits may wait.
 pub fn check_wanted(
@@ -82,13 +81,16 @@ pub fn next_faulty(document: &Document, inbox: &Inbox) -> Option<OpId>
 }
 
 /// Makes all that committing the next one needs. Answers whether there is one.
-pub fn reserve_next(alloc: Global, document: &mut Document, inbox: &Inbox) -> Result<bool, Refusal>
+pub fn reserve_next(
+    alloc: Global,
+    document: &mut Document,
+    inbox: &Inbox,
+) -> Result<bool, AllocError>
     requires { StandAlone document.old.table inbox.now }
     ensures table { document.new.table ≡ document.old.table }
     ensures entries { document.new.entries ≡ document.old.entries }
     ensures none { result ≡ Ok false → next_in document.new inbox.now ≡ None }
     ensures some { result ≡ Ok true → (s : Stamped) × (next_in document.new inbox.now ≡ Some s) × HasRoomFor document.new s }
-    ensures err { IfErr result (λ why. why ≡ NoMemory) }
 {
     let Some(op) = next(document, inbox) else {
         return Ok(false);

@@ -2,77 +2,76 @@
 
 ghost use Rattle.std.specs.Prelude.{◌≡◌, ◌<◌, ◌&&◌, Some, IfOk, length, slice_get, IfSome};
 ghost use Rattle.semantics.specs.Elements.{Element, Item};
-ghost use Rattle.semantics.specs.Operations.{element_of};
 ghost use Rattle.semantics.specs.DocumentAnswer.{is_any, visible_items, visible_names};
 ghost use Rattle.tree.specs.Nodes.{IsTree, context, is_written, number, presence_of, tagged, valued};
 
 use crate::node::{Node, NodeNumber, node_at};
 use crate::walk::{count_fields, field_at, item_near, walk};
 use columns::{Presence, Register};
-use cursor::{Place, Tag};
+use cursor::{ElementPlace, Tag};
 use ids::OpId;
 use std::alloc::{AllocError, Global};
 use value::{Key, Scalar};
 
-/// The register's values at a place, rising by id. Copies each.
+/// The register's values at an element, rising by id. Copies each.
 pub fn values(
     nodes: &[Node],
-    place: &Place,
+    element: &ElementPlace,
     alloc: Global,
 ) -> Result<Vec<(OpId, Scalar)>, AllocError>
     requires { IsTree nodes.now }
-    ensures { IfOk result (λ v. valued v.items ≡ (context nodes.now).register (element_of place.now)) }
+    ensures { IfOk result (λ v. valued v.items ≡ (context nodes.now).register element.now) }
 {
-    match node_of(nodes, place) {
+    match node_of(nodes, element) {
         Some(at) => copy_values(&node_at(nodes, at).register, alloc),
         None => Ok(Vec::new(alloc)),
     }
 }
 
-/// The presence at a place, rising by id.
+/// The presence at an element, rising by id.
 pub fn conflicts(
     nodes: &[Node],
-    place: &Place,
+    element: &ElementPlace,
     alloc: Global,
 ) -> Result<Vec<(OpId, Tag)>, AllocError>
     requires { IsTree nodes.now }
-    ensures { IfOk result (λ v. tagged v.items ≡ (context nodes.now).presence (element_of place.now)) }
+    ensures { IfOk result (λ v. tagged v.items ≡ (context nodes.now).presence element.now) }
 {
-    match node_of(nodes, place) {
+    match node_of(nodes, element) {
         Some(at) => copy_tags(&node_at(nodes, at).presence, alloc),
         None => Ok(Vec::new(alloc)),
     }
 }
 
-/// The keys of the fields at a place at which something stands, in byte order.
-pub fn keys(nodes: &[Node], place: &Place, alloc: Global) -> Result<Vec<Key>, AllocError>
+/// The keys of an element's fields at which something stands, in byte order.
+pub fn keys(nodes: &[Node], element: &ElementPlace, alloc: Global) -> Result<Vec<Key>, AllocError>
     requires { IsTree nodes.now }
-    ensures { IfOk result (λ v. v.items ≡ visible_names (context nodes.now) (element_of place.now)) }
+    ensures { IfOk result (λ v. v.items ≡ visible_names (context nodes.now) element.now) }
 {
-    match node_of(nodes, place) {
+    match node_of(nodes, element) {
         Some(at) => keys_at(nodes, at, alloc),
         None => Ok(Vec::new(alloc)),
     }
 }
 
-/// The items at a place at which something stands, in list order.
-pub fn items(nodes: &[Node], place: &Place, alloc: Global) -> Result<Vec<OpId>, AllocError>
+/// The items of an element's list at which something stands, in list order.
+pub fn items(nodes: &[Node], element: &ElementPlace, alloc: Global) -> Result<Vec<OpId>, AllocError>
     requires { IsTree nodes.now }
-    ensures { IfOk result (λ v. v.items ≡ visible_items (context nodes.now) (element_of place.now)) }
+    ensures { IfOk result (λ v. v.items ≡ visible_items (context nodes.now) element.now) }
 {
-    match node_of(nodes, place) {
+    match node_of(nodes, element) {
         Some(at) => items_at(nodes, at, alloc),
         None => Ok(Vec::new(alloc)),
     }
 }
 
-/// The number of the node of a place's element, or of the element whose list has the head.
-fn node_of(nodes: &[Node], place: &Place) -> Option<NodeNumber>
+/// The number of an element's node, where one was made.
+fn node_of(nodes: &[Node], element: &ElementPlace) -> Option<NodeNumber>
     requires { IsTree nodes.now }
-    ensures number { result ≡ number nodes.now (element_of place.now) }
+    ensures number { result ≡ number nodes.now element.now }
     ensures inside { IfSome result (λ at. at < length nodes.now) }
 {
-    walk(nodes, place.hops())
+    walk(nodes, element.hops())
 }
 
 /// A copy of a register's entries.

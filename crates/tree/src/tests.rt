@@ -1,16 +1,28 @@
-//! Trees as operations leave them.
+//! Trees as operations leave them. Each test is rows that `on_new` does one after another.
 
+mod applying;
 mod operations;
 mod playing;
 mod reserving;
+mod rows;
 
 use super::*;
-use ids::ReplicaTable;
+use cursor::Tag;
+use playing::Turn::{Conflicts, Items, Keys, Play, Reserve, Values};
+use playing::{Turn, on_new};
+use rows::{Does, ROOT, Where};
 use std::test::Fail;
 
 #[test]
 fn new_trees_are_empty(rt: HostRuntime) -> Result<(), Fail> {
-    let table = ReplicaTable::new(rt.alloc(), &[1, 2])?;
-    let _tree = Tree::new(rt.alloc(), &table)?;
-    Ok(())
+    on_new(
+        &rt,
+        rt.alloc(),
+        &[&[
+            Keys(ROOT, &[]),
+            Items(ROOT, &[]),
+            Values(ROOT, &[]),
+            Conflicts(ROOT, &[]),
+        ]],
+    )
 }

@@ -20,7 +20,7 @@ use crate::node::Node;
 use crate::reserve::reserve_operation;
 use crate::resolve::resolve;
 use crate::stamp::Stamp;
-use cursor::{Expr, Place, Tag};
+use cursor::{ElementPlace, Expr, Place, Tag};
 use ids::{OpId, Refusal, ReplicaTable};
 use operation::Op;
 use std::alloc::{AllocError, Global};
@@ -50,7 +50,7 @@ impl Tree {
     /// An empty document, of a replica with this table. Copies the table.
     ///
     /// # Errors
-    /// Want of memory.
+    /// `AllocError` if allocation fails.
     pub fn new(alloc: Global, table: &ReplicaTable) -> Result<Tree, AllocError>
         ensures table { IfOk result (λ t. t.table ≡ table.now) }
         ensures empty { IfOk result (λ t. document t ≡ empty) }
@@ -68,7 +68,7 @@ impl Tree {
     /// Makes all that applying this operation needs: nodes, room, and copies of keys and of the scalar. What the tree holds stays, whatever the answer.
     ///
     /// # Errors
-    /// Want of memory.
+    /// `AllocError` if allocation fails.
     pub fn reserve(&mut self, alloc: Global, op: &Op) -> Result<(), AllocError>
         ensures table { self.new.table ≡ self.old.table }
         ensures same { document self.new ≡ document self.old }
@@ -98,7 +98,7 @@ impl Tree {
         run(&mut self.nodes, op, &stamp, scalar);
     }
 
-    /// Whether each item on the way to the place stands in the list that it is entered from. A search by halves for each key.
+    /// Whether each item on the way to the place stands in the list that it is entered from. A binary search for each key.
     pub fn has_items(&self, place: &Place) -> bool
         ensures { result ≡ items_stand (document self.now) (element_of place.now) }
     {
@@ -116,43 +116,51 @@ impl Tree {
         resolve(alloc, &self.nodes, expression)
     }
 
-    /// The values in the register at an element, rising by id, or at the element whose list has the head. Copies each.
+    /// The values in the register at an element, rising by id. Copies each.
     ///
     /// # Errors
-    /// Want of memory.
-    pub fn values(&self, alloc: Global, place: &Place) -> Result<Vec<(OpId, Scalar)>, AllocError>
-        ensures { IfOk result (λ v. valued v.items ≡ (document self.now).register (element_of place.now)) }
+    /// `AllocError` if allocation fails.
+    pub fn values(
+        &self,
+        alloc: Global,
+        element: &ElementPlace,
+    ) -> Result<Vec<(OpId, Scalar)>, AllocError>
+        ensures { IfOk result (λ v. valued v.items ≡ (document self.now).register element.now) }
     {
-        values(&self.nodes, place, alloc)
+        values(&self.nodes, element, alloc)
     }
 
     /// The presence there, rising by id.
     ///
     /// # Errors
-    /// Want of memory.
-    pub fn conflicts(&self, alloc: Global, place: &Place) -> Result<Vec<(OpId, Tag)>, AllocError>
-        ensures { IfOk result (λ v. tagged v.items ≡ (document self.now).presence (element_of place.now)) }
+    /// `AllocError` if allocation fails.
+    pub fn conflicts(
+        &self,
+        alloc: Global,
+        element: &ElementPlace,
+    ) -> Result<Vec<(OpId, Tag)>, AllocError>
+        ensures { IfOk result (λ v. tagged v.items ≡ (document self.now).presence element.now) }
     {
-        conflicts(&self.nodes, place, alloc)
+        conflicts(&self.nodes, element, alloc)
     }
 
     /// The keys of the fields there at which something stands, in byte order. Looks at each field that ever was.
     ///
     /// # Errors
-    /// Want of memory.
-    pub fn keys(&self, alloc: Global, place: &Place) -> Result<Vec<Key>, AllocError>
-        ensures { IfOk result (λ v. v.items ≡ visible_names (document self.now) (element_of place.now)) }
+    /// `AllocError` if allocation fails.
+    pub fn keys(&self, alloc: Global, element: &ElementPlace) -> Result<Vec<Key>, AllocError>
+        ensures { IfOk result (λ v. v.items ≡ visible_names (document self.now) element.now) }
     {
-        keys(&self.nodes, place, alloc)
+        keys(&self.nodes, element, alloc)
     }
 
     /// The items there at which something stands, in list order. Looks at each item that ever was.
     ///
     /// # Errors
-    /// Want of memory.
-    pub fn items(&self, alloc: Global, place: &Place) -> Result<Vec<OpId>, AllocError>
-        ensures { IfOk result (λ v. v.items ≡ visible_items (document self.now) (element_of place.now)) }
+    /// `AllocError` if allocation fails.
+    pub fn items(&self, alloc: Global, element: &ElementPlace) -> Result<Vec<OpId>, AllocError>
+        ensures { IfOk result (λ v. v.items ≡ visible_items (document self.now) element.now) }
     {
-        items(&self.nodes, place, alloc)
+        items(&self.nodes, element, alloc)
     }
 }

@@ -52,7 +52,7 @@ pub fn item_at(nodes: &[Node], at: NodeNumber, place: usize) -> NodeNumber
     NodeNumber::new(node_at(nodes, at).items.at(place).1)
 }
 
-/// The number of the node one hop down. A search by halves.
+/// The number of the node one hop down. Binary search.
 pub fn child_of(nodes: &[Node], at: NodeNumber, hop: &Hop) -> Option<NodeNumber>
     requires inside { at < length nodes.now }
     ensures { result ≡ child_number nodes.now at (hop_of hop.now) }
@@ -65,7 +65,7 @@ pub fn child_of(nodes: &[Node], at: NodeNumber, hop: &Hop) -> Option<NodeNumber>
     child.map(NodeNumber::new)
 }
 
-/// The number of the node of an item, by its id. A search by halves.
+/// The number of the node of an item, by its id. Binary search.
 pub fn item_of(nodes: &[Node], at: NodeNumber, id: &OpId) -> Option<NodeNumber>
     requires { at < length nodes.now }
     ensures { result ≡ child_number nodes.now at (ItemKey id.now) }
@@ -73,7 +73,7 @@ pub fn item_of(nodes: &[Node], at: NodeNumber, id: &OpId) -> Option<NodeNumber>
     node_at(nodes, at).items.get(id).map(NodeNumber::new)
 }
 
-/// The number of the node of an item, by its id. It is looked for beside the place `near` among the items' ids, which becomes its own, and by halves where it isn't there.
+/// The number of the node of an item, by its id. It is looked for beside the place `near` among the items' ids, which becomes its own, and by binary search where it isn't there.
 pub fn item_near(nodes: &[Node], at: NodeNumber, id: &OpId, near: &mut usize) -> Option<NodeNumber>
     requires { at < length nodes.now }
     ensures { result ≡ child_number nodes.now at (ItemKey id.now) }

@@ -63,7 +63,7 @@ impl IdColumns {
     /// Makes room for one more id.
     ///
     /// # Errors
-    /// Want of memory.
+    /// `AllocError` if allocation fails.
     pub fn reserve_one(&mut self) -> Result<(), AllocError>
         ensures same { self.new.ids ≡ self.old.ids }
         ensures room { OnOk result (0 < self.new.room) }

@@ -8,7 +8,7 @@ use Rattle.wire.specs.Lines.{IsFirstLine}
 use Rattle.wire.specs.Messages.{op_line}
 use Rattle.wire.specs.Operations.{operation_json}
 use Rattle.wire.specs.Reading.{op_form}
-use Rattle.wire.specs.Sent.{IsSent}
+use Rattle.wire.specs.Sent.{CanBeSent}
 use Rattle.wire.proofs.BundleLines.{after, after-op}
 use Rattle.wire.proofs.LineEnds.{compact_no_end}
 
@@ -40,7 +40,7 @@ bundle_form-bundle table ss h =
 
 -- where the operation can be sent, its line is read as that operation
 pub record IsBackIfSent (table : List ℕ) (s : Stamped) : Type 0 where
-  pub back : IsSent table s → op_form table (op_line s) ≡ Ok s
+  pub back : CanBeSent table s → op_form table (op_line s) ≡ Ok s
 
-pub sent_bundle_back : (table : List ℕ) (ss : List Stamped) → All (IsSent table) ss → All (IsBackIfSent table) ss → bundle_form table (bundle_text ss) ≡ Ok ss
+pub sent_bundle_back : (table : List ℕ) (ss : List Stamped) → All (CanBeSent table) ss → All (IsBackIfSent table) ss → bundle_form table (bundle_text ss) ≡ Ok ss
 sent_bundle_back table ss sent h = bundle_form-bundle table ss (λ k d lt. (h k d lt).back (sent k d lt))

@@ -7,6 +7,9 @@ pub mod ReadPlaces
 pub mod CutLines
 pub mod BundleLines
 pub mod ReadBack
+pub mod NormalNumbers
+pub mod WrittenBack
+pub mod WrittenLines
 pub mod ShallowForms
 pub mod JsonTexts
 pub mod LineEnds

@@ -1,15 +1,25 @@
 -- What is written of an operation is read as that operation.
-use Rattle.std.proofs.Common.{◌≡◌, ◌≤◌, ℕ, suc, false, List, [], ◌∷◌, ◌++◌, length, map, Option, Some, None, Ok, refl, ap, ◌∙◌, arith}
+use Rattle.std.proofs.Common.{◌≡◌, ◌≤◌, ◌&&◌, ℕ, suc, true, false, nat_le, sym, List, [], ◌∷◌, ◌++◌, length, map, Option, Some, None, Ok, refl, ap, ◌∙◌, arith}
 use Rattle.std.specs.Prelude.{codes, pos, negsuc}
-use Rattle.std.proofs.lemmas.Bool.{lt-ltb, le-ltb}
+use Rattle.std.specs.List.{list_all}
+use Rattle.std.proofs.lemmas.Bool.{and_parts, leb-true, lt-ltb, le-ltb}
 use Rattle.std.proofs.lemmas.List.{length-append}
+use Rattle.ids.specs.Members.{is_member}
 use Rattle.semantics.specs.Ids.{OpId}
+use Rattle.semantics.specs.Faults.{items_of_members}
+use Rattle.semantics.specs.Tables.{by_table}
 use Rattle.semantics.specs.Elements.{Element, Doc, Field, Item, Place, At, HeadOf, Tag, AsMap, AsList, Value, Plain, EmptyMap, EmptyList, Null, Boolean, Whole, Text, depth}
 use Rattle.semantics.specs.Operations.{Mutation, Assign, Insert, Delete, element_of}
 use Rattle.semantics.specs.Paths.{Key, FieldKey, ItemKey, child, down, keys_from_root}
 use Rattle.semantics.specs.Stamped.{Stamped}
-use Rattle.semantics.specs.Vectors.{Vector}
+use Rattle.semantics.specs.Vectors.{AreAbove, IsCanonical, Vector}
 use Rattle.semantics.proofs.ElementPaths.{down-keys_from_root}
+use Rattle.semantics.proofs.TableVectors.{canonical-by_table}
+use Rattle.operation.specs.declared.op.Op.{Op}
+use Rattle.operation.specs.Alone.{key_of_member}
+use Rattle.operation.specs.Meanings.{stamped_of}
+use Rattle.operation.proofs.AloneFaults.{all-by_table, members_all}
+use Rattle.operation.proofs.PlaceKeys.{items_of_members-keys}
 use Rattle.serde_json.specs.Data.{Data}
 use Rattle.serde_json.specs.View.{items_of}
 use Rattle.cursor.specs.Places.{LastKey, DocKey, FieldName, ItemId, HeadKey, depth_of}
@@ -20,7 +30,7 @@ use Rattle.wire.specs.Messages.{hello_json, hello_of}
 use Rattle.wire.specs.Operations.{entered_json, id_json, key_json, last_from, last_json, mutation_json, operation_json, parts_from, path_json, phrase, root_json}
 use Rattle.wire.specs.Places.{Entered, count_parts, element_at, entered_of, is_list_head, key_form, parts_of, place_below, place_form}
 use Rattle.wire.specs.Reading.{mutation_form, operation_form}
-use Rattle.wire.specs.Sent.{AreSentKeys, IsSent, IsSentId, IsSentKey, IsSentMutation, IsSentVector}
+use Rattle.wire.specs.Sent.{AreReplicas, AreSentKeys, AreTypedKeys, CanBeSent, IsSent, IsSentId, IsSentKey, IsSentMutation, IsSentVector, IsTyped, are_counters, is_counter, key_counted}
 use Rattle.wire.specs.Vectors.{pair_json, pairs_above}
 
 -- ---- ids and vectors
@@ -148,3 +158,39 @@ operation_back table s h =
 
 pub hello_back : (table : List ℕ) (v : Vector) → IsSentVector table 0 v → and_then (hello_of table) (phrase_form (hello_json v)) ≡ Ok v
 hello_back table v h = rw (pairs_back table 0 v h) refl
+
+-- ---- what types keep, beside what a caller answers for
+
+sent_vector : (table : List ℕ) (p : ℕ) (v : Vector) → IsCanonical v → AreAbove p v → AreReplicas v → list_all (λ a. is_member table a.replica) v ≡ true → are_counters v ≡ true → IsSentVector table p v
+sent_vector table p [] rising above typed members counters = tt
+sent_vector table p (a ∷ v) rising above typed members counters =
+    let m = and_parts (is_member table a.replica) (list_all (λ (b : OpId). is_member table b.replica) v) members in
+    let n = and_parts (is_counter a.counter) (are_counters v) counters in
+    (above.0, (n.0, typed.0, m.0), sent_vector table a.replica v rising.2 rising.1 typed.1 m.1 n.1)
+
+above_zero : (v : Vector) → AreReplicas v → AreAbove 0 v
+above_zero [] h = tt
+above_zero (a ∷ v) h = let some = and_parts (nat_le 1 a.replica) (nat_le a.replica 4294967295) h.0 in let above : 1 ≤ a.replica = leb-true 1 a.replica some.0 in (omega (arith, above), above_zero v h.1)
+
+-- the vector of a column, where its counters are those of the wire
+pub sent_column : (table column : List ℕ) → AreReplicas (by_table table column) → are_counters (by_table table column) ≡ true → IsSentVector table 0 (by_table table column)
+sent_column table column typed counters =
+    sent_vector table 0 (by_table table column) (canonical-by_table table column) (above_zero (by_table table column) typed) typed
+    (all-by_table (is_member table) table column (members_all table)) counters
+
+sent_keys : (table : List ℕ) (ks : List Key) → AreTypedKeys ks → list_all (key_of_member table) ks ≡ true → list_all key_counted ks ≡ true → AreSentKeys table ks
+sent_keys table [] typed members counters = tt
+sent_keys table (FieldKey n ∷ ks) typed members counters = (typed.0, sent_keys table ks typed.1 members counters)
+sent_keys table (ItemKey a ∷ ks) typed members counters =
+    let m = and_parts (is_member table a.replica) (list_all (key_of_member table) ks) members in
+    let n = and_parts (is_counter a.counter) (list_all key_counted ks) counters in
+    ((n.0, typed.0, m.0), sent_keys table ks typed.1 m.1 n.1)
+
+pub typed_back : (table : List ℕ) (o : Op) → IsTyped (stamped_of table o) → CanBeSent table (stamped_of table o) → operation_form table (operation_json (stamped_of table o)) ≡ Ok (stamped_of table o)
+typed_back table o typed sent =
+    let s : Stamped = stamped_of table o in
+    let parts = and_parts (is_member table s.id.replica && list_all (λ (a : OpId). is_member table a.replica) s.vector) (items_of_members table (element_of s.place)) sent.members in
+    let own = and_parts (is_member table s.id.replica) (list_all (λ (a : OpId). is_member table a.replica) s.vector) parts.0 in
+    let id : IsSentId table s.id = (sent.id, typed.id, own.0) in
+    let keys : AreSentKeys table (keys_from_root (element_of s.place)) = sent_keys table (keys_from_root (element_of s.place)) typed.place.keys (sym (items_of_members-keys table (element_of s.place)) ∙ parts.1) sent.items in
+    rw (id_back table s.id id, pairs_back table 0 s.vector (sent_column table o.deps typed.vector sent.vector), place_back table s.place keys typed.place.few, typed.mutation) refl

@@ -1,14 +1,19 @@
--- The operations that a line can carry beside a table of replicas.
-use Rattle.std.specs.Prelude.{ℕ, ◌<◌, ◌≤◌, ⊤, IsTrue, List, [], ◌∷◌, length}
+-- The operations that a line can carry beside a table of replicas, and what of that types keep.
+use Rattle.std.specs.Prelude.{◌≡◌, ℕ, ◌<◌, ◌≤◌, ⊤, IsTrue, Bool, true, List, [], ◌∷◌, length, Ok}
+use Rattle.std.specs.List.{list_all}
 use Rattle.ids.specs.Configurations.{is_from_one_to}
 use Rattle.ids.specs.Members.{is_member}
 use Rattle.semantics.specs.Ids.{OpId}
+use Rattle.semantics.specs.Elements.{Place}
+use Rattle.semantics.specs.Faults.{is_of_members}
 use Rattle.semantics.specs.Operations.{Mutation, Assign, Insert, Delete, element_of}
 use Rattle.semantics.specs.Paths.{Key, FieldKey, ItemKey, keys_from_root}
 use Rattle.semantics.specs.Stamped.{Stamped}
 use Rattle.semantics.specs.Vectors.{Vector}
 use Rattle.cursor.specs.Places.{depth_of}
 use Rattle.value.specs.Forms.{IsWithinLimits}
+use Rattle.wire.specs.Operations.{mutation_json}
+use Rattle.wire.specs.Reading.{mutation_form}
 
 -- the id of a member's operation, whose numbers are within their limits
 abbrev pub IsSentId : List ℕ → OpId → Type 0
@@ -42,3 +47,56 @@ pub record IsSent (table : List ℕ) (s : Stamped) : Type 0 where
   pub keys : AreSentKeys table (keys_from_root (element_of s.place))
   pub few : depth_of s.place ≤ 32
   pub mutation : IsSentMutation s.mutation
+
+-- ---- what a caller answers for, and what types keep
+
+-- the counter is one of those on the wire
+abbrev pub is_counter : ℕ → Bool
+is_counter c = is_from_one_to 4611686018427387904 c
+
+-- the counter of each id is
+abbrev pub are_counters : Vector → Bool
+are_counters v = list_all (λ a. is_counter a.counter) v
+
+-- the key is a field's, or has such a counter
+abbrev pub key_counted : Key → Bool
+key_counted (FieldKey n) = true
+key_counted (ItemKey a) = is_counter a.counter
+
+-- all names are of members, and all counters are those of the wire: in its id, its vector and its place
+pub record CanBeSent (table : List ℕ) (s : Stamped) : Type 0 where
+  pub members : IsTrue (is_of_members table s)
+  pub id : IsTrue (is_counter s.id.counter)
+  pub vector : IsTrue (are_counters s.vector)
+  pub items : IsTrue (list_all key_counted (keys_from_root (element_of s.place)))
+
+-- the number of a replica, from 1 to the greatest of 32 bits
+abbrev pub IsReplica : ℕ → Type 0
+IsReplica p = IsTrue (is_from_one_to 4294967295 p)
+
+-- the replica of each id has such a number
+abbrev pub AreReplicas : Vector → Type 0
+AreReplicas [] = ⊤
+AreReplicas (a ∷ v) = IsReplica a.replica × AreReplicas v
+
+-- what the type of a key keeps: at most 256 bytes of a name, or the number of a replica
+abbrev pub IsTypedKey : Key → Type 0
+IsTypedKey (FieldKey n) = length n ≤ 256
+IsTypedKey (ItemKey a) = IsReplica a.replica
+
+-- such keys
+abbrev pub AreTypedKeys : List Key → Type 0
+AreTypedKeys [] = ⊤
+AreTypedKeys (k ∷ ks) = IsTypedKey k × AreTypedKeys ks
+
+-- what the types of a place keep
+pub record IsTypedPlace (p : Place) : Type 0 where
+  pub keys : AreTypedKeys (keys_from_root (element_of p))
+  pub few : depth_of p ≤ 32
+
+-- what the types of an operation keep: of its ids, its place, and the value that it writes
+pub record IsTyped (s : Stamped) : Type 0 where
+  pub id : IsReplica s.id.replica
+  pub vector : AreReplicas s.vector
+  pub place : IsTypedPlace s.place
+  pub mutation : mutation_form (mutation_json s.mutation) ≡ Ok s.mutation

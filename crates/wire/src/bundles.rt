@@ -1,29 +1,31 @@
 //! Bundles: operations that are sent together, one a line, each line with its line feed.
 
-ghost use Rattle.std.specs.Prelude.{◌≡◌, ◌⊎◌, ◌++◌, ℕ, List, Some, Ok, IfErr, IfOk, MatchResult, length, map, take};
+ghost use Rattle.std.specs.Prelude.{◌≡◌, ◌⊎◌, ◌++◌, ℕ, List, [], Some, Ok, IfOk, MatchResult, length, map, take};
 ghost use Rattle.std.specs.List.{All};
 ghost use Rattle.ids.specs.declared.refusal.Refusal.TheVariants.{NoMemory};
 ghost use Rattle.semantics.specs.Stamped.{Stamped};
 ghost use Rattle.operation.specs.Meanings.{stamped_of};
 ghost use Rattle.wire.specs.Bundles.{IsBadOf, bundle_form, bundle_text, readable};
+ghost use Rattle.wire.specs.Forms.{json_form};
+ghost use Rattle.wire.specs.Lines.{cut};
 ghost use Rattle.wire.specs.Messages.{op_line};
+ghost use Rattle.wire.specs.Operations.{operation_json};
 ghost use Rattle.wire.specs.Reading.{op_form};
-ghost use Rattle.wire.specs.Sent.{IsSent};
+ghost use Rattle.wire.specs.Sent.{CanBeSent};
 
 use crate::lines::{LINE_END, Lines};
 use crate::messages::{read_op, write_op};
 use ids::{Refusal, ReplicaTable};
 use operation::Op;
-use std::alloc::Global;
+use std::alloc::{AllocError, Global};
 
-/// The lines of the operations in their order. No operation is no byte. Where each operation is one that `write_op` writes and `read_op` reads as the same, `read_bundle` reads all of them as the same.
+/// The lines of the operations in their order. No operation is no byte. Where all names are of members, and all counters those of the wire, `read_bundle` reads the same operations.
 ///
 /// # Errors
-/// `NoMemory` where a growth was refused.
-pub fn write_bundle(alloc: Global, ops: &[Op], table: &ReplicaTable) -> Result<Vec<u8>, Refusal>
+/// `AllocError` if allocation fails.
+pub fn write_bundle(alloc: Global, ops: &[Op], table: &ReplicaTable) -> Result<Vec<u8>, AllocError>
     ensures text { IfOk result (λ text. text.items ≡ bundle_text (map (stamped_of table.now) ops.now)) }
-    ensures reads_back { IfOk result (λ text. All (λ o. IsSent table.now (stamped_of table.now o)) ops.now → bundle_form table.now text.items ≡ Ok (map (stamped_of table.now) ops.now)) }
-    ensures err { IfErr result (λ why. why ≡ NoMemory) }
+    ensures reads_back { IfOk result (λ text. All (λ o. CanBeSent table.now (stamped_of table.now o)) ops.now → bundle_form table.now text.items ≡ Ok (map (stamped_of table.now) ops.now)) }
 {
     let mut text = Vec::new(alloc);
     for op in ops {
@@ -102,4 +104,10 @@ pub fn bundles_are_read_back()
     ensures bundle { (table : List ℕ) (ss : List Stamped) → All (λ s. op_form table (op_line s) ≡ Ok s) ss → bundle_form table (bundle_text ss) ≡ Ok ss }
     ensures operations { (table : List ℕ) (ss : List Stamped) (rest : List ℕ) → All (λ s. op_form table (op_line s) ≡ Ok s) ss → (readable table (bundle_text ss ++ rest)).operations ≡ ss ++ (readable table rest).operations }
     ensures stopped { (table : List ℕ) (ss : List Stamped) (rest : List ℕ) → All (λ s. op_form table (op_line s) ≡ Ok s) ss → (readable table (bundle_text ss ++ rest)).stopped ≡ (readable table rest).stopped }
+{}
+
+/// A text that is read as a bundle is whole lines, each with the JSON that writing its operation gives.
+pub fn bundles_are_written_alike()
+    ensures lines { (table text : List ℕ) (ss : List Stamped) → bundle_form table text ≡ Ok ss → map json_form (cut text).lines ≡ map (λ s. Ok (operation_json s)) ss }
+    ensures tail { (table text : List ℕ) (ss : List Stamped) → bundle_form table text ≡ Ok ss → (cut text).tail ≡ [] }
 {}

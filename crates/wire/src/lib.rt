@@ -13,11 +13,15 @@ mod reading;
 mod tests;
 mod vectors;
 
-pub use bundles::{LinesRead, bundles_are_read_back, read_bundle, read_lines, write_bundle};
+pub use bundles::{
+    LinesRead, bundles_are_read_back, bundles_are_written_alike, read_bundle, read_lines,
+    write_bundle,
+};
 pub use forms::{json_of, list_in, number_in, phrase_in, text_in};
 pub use lines::{Line, Lines};
 pub use messages::{
-    lines_are_read_back, operations_are_read_back, read_op, read_vector, write_op, write_vector,
+    lines_are_read_back, operations_are_read_back, read_op, read_vector,
+    what_is_read_is_written_alike, write_op, write_vector,
 };
 pub use operations::{id_value, operation_value};
 pub use vectors::{vector_in, vector_value};

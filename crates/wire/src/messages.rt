@@ -1,17 +1,17 @@
 //! Messages: an operation or a vector, each as the text of one line without its line feed.
 #![tactic(auto, using(crate::proofs::WrongLengths::wrong_lengths))]
 
-ghost use Rattle.std.specs.Prelude.{◌≡◌, ℕ, List, Ok, IfErr, IfOk, IsUtf8, length};
-ghost use Rattle.ids.specs.declared.refusal.Refusal.TheVariants.{NoMemory};
+ghost use Rattle.std.specs.Prelude.{◌≡◌, ℕ, List, Ok, IfOk, IsTrue, IsUtf8, length};
 ghost use Rattle.semantics.specs.Tables.{by_table};
 ghost use Rattle.serde_json.specs.View.{view, items_view};
 ghost use Rattle.operation.specs.Meanings.{stamped_of};
-ghost use Rattle.wire.specs.Forms.{IsRead};
+ghost use Rattle.wire.specs.Forms.{IsRead, json_form};
 ghost use Rattle.wire.specs.Messages.{hello_form, hello_json, only_vector, op_line, vector_line};
 ghost use Rattle.semantics.specs.Stamped.{Stamped};
+ghost use Rattle.semantics.specs.Vectors.{Vector};
 ghost use Rattle.wire.specs.Operations.{operation_json};
 ghost use Rattle.wire.specs.Reading.{op_form, operation_form};
-ghost use Rattle.wire.specs.Sent.{IsSent, IsSentVector};
+ghost use Rattle.wire.specs.Sent.{AreReplicas, CanBeSent, IsSent, are_counters};
 
 use crate::forms::{json_of, phrase_in};
 use crate::operations::operation_value;
@@ -23,30 +23,28 @@ use serde_json::{Value, json};
 use std::alloc::{AllocError, Global};
 use version::VersionVector;
 
-/// The line of an operation, whose vector stands beside the table. Where its names are of members, and its numbers within their limits, `read_op` reads it as the same operation.
+/// The line of an operation, whose vector stands beside the table. Where its names are of members, and its counters those of the wire, `read_op` reads it as the same operation.
 ///
 /// # Errors
-/// `NoMemory` where a growth was refused.
-pub fn write_op(alloc: Global, op: &Op, table: &ReplicaTable) -> Result<Vec<u8>, Refusal>
+/// `AllocError` if allocation fails.
+pub fn write_op(alloc: Global, op: &Op, table: &ReplicaTable) -> Result<Vec<u8>, AllocError>
     ensures line { IfOk result (λ text. text.items ≡ op_line (stamped_of table.now op.now)) }
-    ensures reads_back { IfOk result (λ text. IsSent table.now (stamped_of table.now op.now) → op_form table.now text.items ≡ Ok (stamped_of table.now op.now)) }
-    ensures err { IfErr result (λ why. why ≡ NoMemory) }
+    ensures reads_back { IfOk result (λ text. CanBeSent table.now (stamped_of table.now op.now) → op_form table.now text.items ≡ Ok (stamped_of table.now op.now)) }
 {
     Ok(operation_value(alloc, table, op)?.to_vec(alloc)?)
 }
 
-/// The line of a vector beside the table, which says all that its sender has applied. Where its counters are within their limit, `read_vector` reads it as the same vector.
+/// The line of a vector beside the table, which says all that its sender has applied. Where its counters are those of the wire, `read_vector` reads it as the same vector.
 ///
 /// # Errors
-/// `NoMemory` where a growth was refused.
+/// `AllocError` if allocation fails.
 pub fn write_vector(
     alloc: Global,
     vector: &VersionVector,
     table: &ReplicaTable,
-) -> Result<Vec<u8>, Refusal>
+) -> Result<Vec<u8>, AllocError>
     ensures line { IfOk result (λ text. text.items ≡ vector_line (by_table table.now vector.now)) }
-    ensures reads_back { IfOk result (λ text. IsSentVector table.now 0 (by_table table.now vector.now) → hello_form table.now text.items ≡ Ok (by_table table.now vector.now)) }
-    ensures err { IfErr result (λ why. why ≡ NoMemory) }
+    ensures reads_back { IfOk result (λ text. IsTrue (are_counters (by_table table.now vector.now)) → hello_form table.now text.items ≡ Ok (by_table table.now vector.now)) }
 {
     Ok(hello_value(alloc, table, vector)?.to_vec(alloc)?)
 }
@@ -56,7 +54,8 @@ fn hello_value(
     table: &ReplicaTable,
     vector: &VersionVector,
 ) -> Result<Value, AllocError>
-    ensures { IfOk result (λ v. view v ≡ hello_json (by_table table.now vector.now)) }
+    ensures json { IfOk result (λ v. view v ≡ hello_json (by_table table.now vector.now)) }
+    ensures typed { IfOk result (λ _. AreReplicas (by_table table.now vector.now)) }
 {
     let vector = vector_value(alloc, table, vector)?;
     json!(in alloc; ["hello", vector])
@@ -119,4 +118,10 @@ pub fn operations_are_read_back()
 /// The line of an operation whose names are of members, whose lengths and numbers are within their limits and whose texts are UTF-8, is read as that operation.
 pub fn lines_are_read_back()
     ensures { (table : List ℕ) (s : Stamped) → IsSent table s → IsUtf8 (op_line s) → op_form table (op_line s) ≡ Ok s }
+{}
+
+/// A line that is read as an operation or as a vector has the JSON that writing it gives, whatever its spaces and escapes.
+pub fn what_is_read_is_written_alike()
+    ensures operation { (table text : List ℕ) (s : Stamped) → op_form table text ≡ Ok s → json_form text ≡ Ok (operation_json s) }
+    ensures vector { (table text : List ℕ) (v : Vector) → hello_form table text ≡ Ok v → json_form text ≡ Ok (hello_json v) }
 {}

@@ -1,23 +1,27 @@
 //! Operations as JSON, as they are sent.
 
-ghost use Rattle.std.specs.Prelude.{◌≡◌, map, IfOk};
+ghost use Rattle.std.specs.Prelude.{◌≡◌, map, IfOk, Ok};
 ghost use Rattle.serde_json.specs.View.{view};
 ghost use Rattle.cursor.specs.Meanings.{hop_of};
 ghost use Rattle.operation.specs.Meanings.{mutation_of, stamped_of};
 ghost use Rattle.wire.specs.Operations.{entered_json, head_json, id_json, key_json, last_from, last_json, mutation_json, operation_json, parts_from, path_json, root_json};
+ghost use Rattle.wire.specs.Reading.{mutation_form};
+ghost use Rattle.wire.specs.Sent.{AreTypedKeys, IsTyped, IsTypedKey, IsTypedPlace};
 
 use crate::vectors::vector_value;
-use cursor::{Hop, Place};
+use cursor::{Hop, MOST_KEYS, Place};
 use ids::{OpId, ReplicaTable};
 use operation::{Mutation, Op};
 use serde_json::{Value, json};
 use std::alloc::{AllocError, Global};
 use std::mem;
 
-/// The operation, whose vector stands beside the table.
+/// The operation, whose vector stands beside the table. What its types keep is what a reader wants of it.
 pub fn operation_value(alloc: Global, table: &ReplicaTable, op: &Op) -> Result<Value, AllocError>
-    ensures { IfOk result (λ v. view v ≡ operation_json (stamped_of table.now op.now)) }
+    ensures json { IfOk result (λ v. view v ≡ operation_json (stamped_of table.now op.now)) }
+    ensures typed { IfOk result (λ _. IsTyped (stamped_of table.now op.now)) }
 {
+    prove!(op.id.replica.number() >= 1);
     let id = id_value(alloc, op.id)?;
     let vector = vector_value(alloc, table, &op.deps)?;
     let (path, last) = place_values(alloc, &op.place)?;
@@ -34,8 +38,10 @@ pub fn id_value(alloc: Global, id: OpId) -> Result<Value, AllocError>
 
 /// What a place stands in, and its own key.
 fn place_values(alloc: Global, place: &Place) -> Result<(Value, Value), AllocError>
-    ensures { IfOk result (λ p. (view p.0 ≡ path_json place.now) × (view p.1 ≡ last_json place.now)) }
+    ensures json { IfOk result (λ p. (view p.0 ≡ path_json place.now) × (view p.1 ≡ last_json place.now)) }
+    ensures typed { IfOk result (λ _. IsTypedPlace place.now) }
 {
+    prove!(place.depth() <= MOST_KEYS);
     let (mut parts, last) = path_parts(alloc, place.hops())?;
     if place.is_head() {
         parts.push(json!(in alloc; ["l", last])?)?;
@@ -46,7 +52,8 @@ fn place_values(alloc: Global, place: &Place) -> Result<(Value, Value), AllocErr
 
 /// A key with its tag for each hop, and the key of the last.
 fn path_parts(alloc: Global, hops: &[Hop]) -> Result<(Vec<Value>, Value), AllocError>
-    ensures { IfOk result (λ p. (map view p.0.items ≡ parts_from root_json (map hop_of hops.now)) × (view p.1 ≡ last_from root_json (map hop_of hops.now))) }
+    ensures json { IfOk result (λ p. (map view p.0.items ≡ parts_from root_json (map hop_of hops.now)) × (view p.1 ≡ last_from root_json (map hop_of hops.now))) }
+    ensures typed { IfOk result (λ _. AreTypedKeys (map hop_of hops.now)) }
 {
     let mut parts = Vec::new(alloc);
     let mut last = Value::from(0_u64);
@@ -68,16 +75,21 @@ fn entered(alloc: Global, before: Value, hop: &Hop) -> Result<Value, AllocError>
 }
 
 fn key_value(alloc: Global, hop: &Hop) -> Result<Value, AllocError>
-    ensures { IfOk result (λ v. view v ≡ key_json (hop_of hop.now)) }
+    ensures json { IfOk result (λ v. view v ≡ key_json (hop_of hop.now)) }
+    ensures typed { IfOk result (λ _. IsTypedKey (hop_of hop.now)) }
 {
     match hop {
         Hop::Field(key) => Ok(Value::String(String::from_str(alloc, key.as_str())?)),
-        Hop::Item(id) => id_value(alloc, *id),
+        Hop::Item(id) => {
+            prove!(id.replica.number() >= 1);
+            id_value(alloc, *id)
+        }
     }
 }
 
 fn mutation_value(alloc: Global, mutation: &Mutation) -> Result<Value, AllocError>
-    ensures { IfOk result (λ v. view v ≡ mutation_json (mutation_of mutation.now)) }
+    ensures json { IfOk result (λ v. view v ≡ mutation_json (mutation_of mutation.now)) }
+    ensures typed { IfOk result (λ _. mutation_form (mutation_json (mutation_of mutation.now)) ≡ Ok (mutation_of mutation.now)) }
 {
     match mutation {
         Mutation::Assign(value) => json!(in alloc; ["a", value.to_json(alloc)?]),

@@ -5,10 +5,9 @@ mod operations;
 mod vectors;
 
 use cursor::Place;
-use ids::{OpId, ReplicaId};
+use ids::{OpId, Refusal, ReplicaId};
 use operation::{Mutation, Op};
-use std::alloc::Global;
-use std::test::Fail;
+use std::alloc::{AllocError, Global};
 use value::{Key, Scalar, Text, Val};
 use version::VersionVector;
 
@@ -21,40 +20,121 @@ const LINES: [&str; 5] = [
     r#"["op",[5,1],[[1,4]],[["m",0],["l","shopping"]],[3,1],["i","milk"]]"#,
 ];
 
-fn id(counter: u64, replica: u32) -> Result<OpId, Fail> {
-    let replica = ReplicaId::new(replica).ok_or("numbered 0")?;
+/// Where an operation of the list stands: at the root, at the list, at its head, or at its item 3@1.
+#[derive(Clone, Copy)]
+enum At {
+    Root,
+    List,
+    Head,
+    Item,
+}
+
+/// What it does there.
+#[derive(Clone, Copy)]
+enum Does<'a> {
+    Map,
+    List,
+    Insert(&'a str),
+}
+
+/// How many operations of replica 1 come before an operation of it, where it stands, and what it does.
+type Row<'a> = (u64, At, Does<'a>);
+
+/// The operations of the five lines.
+const FIVE: &[Row] = &[
+    (0, At::Root, Does::Map),
+    (1, At::List, Does::List),
+    (2, At::Head, Does::Insert("eggs")),
+    (3, At::Head, Does::Insert("cheese")),
+    (4, At::Item, Does::Insert("milk")),
+];
+
+fn id(counter: u64, replica: u32) -> Result<OpId, Refusal> {
+    let replica = ReplicaId::new(replica).ok_or(Refusal::UnknownReplica)?;
     Ok(OpId { counter, replica })
 }
 
-/// The operation of replica 1 that comes after so many others of it, beside the table 1, 2.
-fn next_op(alloc: Global, before: u64, place: Place, mutation: Mutation) -> Result<Op, Fail> {
+/// The list at the key `shopping`.
+fn list(alloc: Global) -> Result<Place, Refusal> {
+    let key = Key::new(alloc, "shopping")?;
+    Place::doc(alloc).get(alloc, key)
+}
+
+fn head(alloc: Global) -> Result<Place, Refusal> {
+    let list = list(alloc)?;
+    list.head(alloc)
+}
+
+fn item(alloc: Global) -> Result<Place, Refusal> {
+    let id = id(3, 1)?;
+    let list = list(alloc)?;
+    list.item(alloc, id)
+}
+
+fn place(alloc: Global, at: At) -> Result<Place, Refusal> {
+    match at {
+        At::Root => Ok(Place::doc(alloc)),
+        At::List => list(alloc),
+        At::Head => head(alloc),
+        At::Item => item(alloc),
+    }
+}
+
+fn mutation(alloc: Global, does: Does) -> Result<Mutation, Refusal> {
+    match does {
+        Does::Map => Ok(Mutation::Assign(Val::EmptyMap)),
+        Does::List => Ok(Mutation::Assign(Val::EmptyList)),
+        Does::Insert(text) => {
+            Ok(Mutation::Insert(Val::Scalar(Scalar::Text(Text::new(alloc, text)?))))
+        }
+    }
+}
+
+/// The vector of so many operations of replica 1, beside the table 1, 2.
+fn deps(alloc: Global, before: u64) -> Result<VersionVector, Refusal> {
     let mut deps = VersionVector::zero(alloc, 2)?;
     if deps.width() > 0 {
         deps.raise(0, before);
     }
+    Ok(deps)
+}
+
+/// The operation of a row.
+fn op(alloc: Global, row: &Row) -> Result<Op, Refusal> {
+    let (before, at, does) = *row;
+    let id = id(before.saturating_add(1), 1)?;
+    let deps = deps(alloc, before)?;
+    let place = place(alloc, at)?;
     Ok(Op {
-        id: id(before.saturating_add(1), 1)?,
+        id,
         deps,
         place,
-        mutation,
+        mutation: mutation(alloc, does)?,
     })
 }
 
-fn insert(alloc: Global, text: &str) -> Result<Mutation, Fail> {
-    Ok(Mutation::Insert(Val::Scalar(Scalar::Text(Text::new(alloc, text)?))))
+/// The operations of the five lines.
+fn list_of_five(alloc: Global) -> Result<Vec<Op>, Refusal> {
+    let mut ops = Vec::new(alloc);
+    for row in FIVE {
+        ops.push(op(alloc, row)?)?;
+    }
+    Ok(ops)
 }
 
-/// The operations of the five lines.
-fn list_of_five(alloc: Global) -> Result<Vec<Op>, Fail> {
-    let root = Place::doc(alloc);
-    let list = root.get(alloc, Key::new(alloc, "shopping")?)?;
-    let head = list.head(alloc)?;
-    let eggs = list.item(alloc, id(3, 1)?)?;
-    let mut ops = Vec::new(alloc);
-    ops.push(next_op(alloc, 0, root, Mutation::Assign(Val::EmptyMap))?)?;
-    ops.push(next_op(alloc, 1, list, Mutation::Assign(Val::EmptyList))?)?;
-    ops.push(next_op(alloc, 2, head.clone()?, insert(alloc, "eggs")?)?)?;
-    ops.push(next_op(alloc, 3, head, insert(alloc, "cheese")?)?)?;
-    ops.push(next_op(alloc, 4, eggs, insert(alloc, "milk")?)?)?;
-    Ok(ops)
+/// The parts of a text, joined.
+fn joined(alloc: Global, parts: &[&str]) -> Result<String, AllocError> {
+    let mut text = String::new(alloc);
+    for part in parts {
+        text.push_str(part)?;
+    }
+    Ok(text)
+}
+
+/// What stands before a part of a line, and what after it.
+type Around<'a> = (&'a str, &'a str);
+
+/// The line with this part.
+fn with_part(alloc: Global, around: Around, part: &str) -> Result<String, AllocError> {
+    joined(alloc, &[around.0, part, around.1])
 }

@@ -1,17 +1,16 @@
 //! Whether what was written is read as the same. It is proved that it is: a run tests what a compiler made of it.
 
-ghost use Rattle.std.specs.Prelude.{◌≡◌, List, map, Ok, IfErr, IfOk, IsTrue};
+ghost use Rattle.std.specs.Prelude.{◌≡◌, List, map, Ok, IfOk, IsTrue};
 ghost use Rattle.std.specs.List.{All};
-ghost use Rattle.ids.specs.declared.refusal.Refusal.TheVariants.{NoMemory};
 ghost use Rattle.semantics.specs.Stamped.{Stamped};
 ghost use Rattle.operation.specs.Meanings.{stamped_of};
 ghost use Rattle.wire.specs.Bundles.{bundle_form, bundle_text};
-ghost use Rattle.wire.specs.Sent.{IsSent};
+ghost use Rattle.wire.specs.Sent.{CanBeSent};
 
 use crate::samples::Sample;
 use ids::{Refusal, ReplicaTable};
 use operation::Op;
-use std::alloc::Global;
+use std::alloc::{AllocError, Global};
 use std::io;
 use wire::{read_bundle, write_bundle};
 
@@ -23,7 +22,7 @@ pub fn report(rt: &impl Print, alloc: Global, samples: &[Sample]) -> io::Result<
         match is_read_back(alloc, sample.ops.as_slice(), &sample.table) {
             Ok(true) => println!(rt; "{name}: all of {count} are read back")?,
             Ok(false) => println!(rt; "{name}: others are read back")?,
-            Err(why) => println!(rt; "{name}: {why}")?,
+            Err(AllocError) => println!(rt; "{name}: no memory")?,
         }
     }
     Ok(())
@@ -32,11 +31,10 @@ pub fn report(rt: &impl Print, alloc: Global, samples: &[Sample]) -> io::Result<
 /// Whether a bundle of the operations is read, and those that are read are written as the same bundle.
 ///
 /// # Errors
-/// `NoMemory` where a growth was refused.
-fn is_read_back(alloc: Global, ops: &[Op], table: &ReplicaTable) -> Result<bool, Refusal>
-    ensures sent { All (λ o. IsSent table.now (stamped_of table.now o)) ops.now → IfOk result IsTrue }
+/// `AllocError` if allocation fails.
+fn is_read_back(alloc: Global, ops: &[Op], table: &ReplicaTable) -> Result<bool, AllocError>
+    ensures sent { All (λ o. CanBeSent table.now (stamped_of table.now o)) ops.now → IfOk result IsTrue }
     ensures same { IfOk result (λ same. IsTrue same → (again : List Stamped) × (bundle_form table.now (bundle_text (map (stamped_of table.now) ops.now)) ≡ Ok again) × (bundle_text again ≡ bundle_text (map (stamped_of table.now) ops.now))) }
-    ensures err { IfErr result (λ why. why ≡ NoMemory) }
 {
     let text = write_bundle(alloc, ops, table)?;
     match read_bundle(alloc, text.as_slice(), table) {
@@ -44,7 +42,7 @@ fn is_read_back(alloc: Global, ops: &[Op], table: &ReplicaTable) -> Result<bool,
             let rewritten = write_bundle(alloc, again.as_slice(), table)?;
             Ok(rewritten.as_slice() == text.as_slice())
         }
-        Err((_, Refusal::NoMemory)) => Err(Refusal::NoMemory),
+        Err((_, Refusal::NoMemory)) => Err(AllocError),
         Err(_) => Ok(false),
     }
 }

@@ -1,11 +1,10 @@
 //! The operations that are written and read.
 
-ghost use Rattle.std.specs.Prelude.{◌≡◌, length, IfErr, IfOk};
-ghost use Rattle.ids.specs.declared.refusal.Refusal.TheVariants.{NoMemory};
+ghost use Rattle.std.specs.Prelude.{◌≡◌, length, IfOk};
 
 use ids::{Refusal, ReplicaTable};
 use operation::Op;
-use std::alloc::Global;
+use std::alloc::{AllocError, Global};
 use version::VersionVector;
 use wire::read_op;
 
@@ -82,9 +81,8 @@ fn insert_after_all(alloc: Global) -> Result<Sample, Refusal>
 }
 
 /// After a thousand operations of each replica.
-fn after_all(alloc: Global, width: usize) -> Result<VersionVector, Refusal>
-    ensures width { IfOk result (λ v. length v ≡ width) }
-    ensures err { IfErr result (λ why. why ≡ NoMemory) }
+fn after_all(alloc: Global, width: usize) -> Result<VersionVector, AllocError>
+    ensures { IfOk result (λ v. length v ≡ width) }
 {
     let mut deps = VersionVector::zero(alloc, width)?;
     for index in 0..width {

@@ -1,5 +1,5 @@
 -- No step changes who the members are.
-use Rattle.std.proofs.Common.{◌≡◌, ℕ, zero, suc, Bool, true, false, ◌||◌, not, nat_le, nat_lt, List, [], ◌∷◌, length, Option, Some, None, Result, Ok, Err, refl, ◌∙◌, slice_get}
+use Rattle.std.proofs.Common.{◌≡◌, ℕ, zero, suc, Bool, true, false, ◌||◌, not, nat_le, nat_lt, List, [], ◌∷◌, length, Option, Some, None, Result, Ok, Err, refl, ap, ◌∙◌, slice_get}
 use Rattle.ids.specs.declared.refusal.Refusal.{Refusal}
 use Rattle.semantics.specs.Operations.{Operation}
 use Rattle.semantics.specs.Stamped.{Stamped}
@@ -124,7 +124,7 @@ answer_keeps E t k (Some (Hello v)) = at_test (names_members E v) refl
 
 all_keep : (c : ℕ) (bad : Option Refusal) (n : ℕ) (E : Engine) (ss : List Stamped) → HasMembers E (submit_all c bad n E ss).engine
 all_keep c bad n E [] = refl
-all_keep c bad n E (x ∷ ss) = at_refusal (all_keep c bad (suc n) (push E c (OfPeer x)).engine ss ∙ (push_keeps E c (OfPeer x)).members) (refusal_in (push E c (OfPeer x)).reply)
+all_keep c bad n E (x ∷ ss) = at_refusal (all_keep c bad (suc n) (push E c (OfPeer x)).engine ss ∙ ap (λ (r : Replica). r.members) (push_keeps E c (OfPeer x)).replica) (refusal_in (push E c (OfPeer x)).reply)
   where
     at_refusal : HasMembers E (submit_all c bad (suc n) (push E c (OfPeer x)).engine ss).engine → (o : Option Refusal) → HasMembers E (unless_refused E n o (submit_all c bad (suc n) (push E c (OfPeer x)).engine ss)).engine
     at_refusal rest None = rest
@@ -143,7 +143,7 @@ message_keeps E c (Some (Hello v)) = refl
 message_keeps E c (Some (Bundle ss)) = receive_keeps E c (before_stranger E.replica.members ss) (stranger_fault E.replica.members ss)
 
 pub members_stay : (ms : List Message) (s : WorldStep) (E : Engine) → IsSound E → HasMembers E (engine_step ms s E).engine
-members_stay ms (Push e c command) E s = (push_keeps E c (OfCommand command)).members
+members_stay ms (Push e c command) E s = ap (λ (r : Replica). r.members) (push_keeps E c (OfCommand command)).replica
 members_stay ms (Take e) E s = take_keeps E s
 members_stay ms (Publish e) E s = publish_keeps E
 members_stay ms (Give e) E s = give_keeps E

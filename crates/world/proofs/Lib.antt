@@ -1,9 +1,7 @@
 -- Lemmas on worlds.
 pub mod SingleSteps
 pub mod LearnedAnswers
-pub mod GrownReplicas
-pub mod HandledRequests
-pub mod ShownDocuments
+pub mod Publishing
 pub mod WholeSteps
 pub mod SubmittedRequests
 pub mod AnsweredHellos
@@ -12,4 +10,8 @@ pub mod TurnedWorlds
 pub mod BesideVectors
 pub mod StrangeOps
 pub mod BeforeStrangers
-pub mod PublishedEntries
+pub mod ReachedWorlds
+pub mod DrawnWaiting
+pub mod BetweenEngines
+pub mod StoppedWorlds
+pub mod StoppedReceipts

@@ -1,5 +1,5 @@
 -- What single steps of an engine leave where there is something to do.
-use Rattle.std.proofs.Common.{◌≡◌, ℕ, suc, max, ◌-◌, ◌<◌, true, false, nat_le, List, [], ◌∷◌, ◌++◌, map, length, get_or, Some, None, option_map, refl, ap, ◌∙◌, slice_get, slice_set}
+use Rattle.std.proofs.Common.{◌≡◌, ℕ, zero, suc, max, ◌-◌, ◌<◌, true, false, nat_le, List, [], ◌∷◌, ◌++◌, map, length, get_or, Some, None, option_map, refl, ap, ◌∙◌, slice_get, slice_set}
 use Rattle.std.proofs.lemmas.Option.{slice_get-map, slice_get_read}
 use Rattle.ids.specs.declared.refusal.Refusal.TheVariants.{SerialEnd, QueueFull}
 use Rattle.semantics.specs.LegalAnswer.{Request}
@@ -10,6 +10,12 @@ use Rattle.semantics.specs.ReadSteps.{poll, cell_at, see}
 -- what stands at a place of a list, as its image
 pub read_mapped : {A B : Type 0} (f : A → B) (xs : List A) (i : ℕ) (x : A) → i < length xs → x ≡ get_or xs i x → slice_get (map f xs) i ≡ Some (f x)
 read_mapped f xs i x h e = slice_get-map f xs i ∙ ap (option_map f) (slice_get_read xs (length xs) i x refl h e)
+
+-- a list in which what stands at a place is put there again
+pub set_itself : {X : Type 0} (xs : List X) (i : ℕ) (x : X) → slice_get xs i ≡ Some x → slice_set xs i x ≡ xs
+set_itself [] i x e = refl
+set_itself (y ∷ ys) zero x e = (let same : x ≡ y = cc in ap (λ z. z ∷ ys) same)
+set_itself (y ∷ ys) (suc i) x e = ap (λ zs. y ∷ zs) (set_itself ys i x e)
 
 pub with_answer-there : (k : Client) (serial : ℕ) (g : Given) (cell : Cell) → slice_get k.cells (serial - 1) ≡ Some cell
     → with_answer k serial g ≡ record k { cells = slice_set k.cells (serial - 1) (record cell { answer = Some g }) }

@@ -1,5 +1,5 @@
 -- What a request leaves, whether it is taken or refused.
-use Rattle.std.proofs.Common.{◌≡◌, ℕ, zero, suc, ◌<◌, Bool, true, false, nat_le, List, [], ◌∷◌, length, Option, Some, None, refl, arith, slice_get}
+use Rattle.std.proofs.Common.{◌≡◌, ℕ, zero, suc, ◌<◌, Bool, true, false, cond, nat_le, List, [], ◌∷◌, length, Option, Some, None, refl, ap, eq-eqb, arith, slice_get}
 use Rattle.std.proofs.lemmas.List.{length-set}
 use Rattle.ids.specs.declared.refusal.Refusal.{Refusal}
 use Rattle.semantics.specs.Stamped.{Stamped}
@@ -7,6 +7,13 @@ use Rattle.semantics.specs.LegalAnswer.{Request, OfPeer}
 use Rattle.semantics.specs.Engine.{Engine, Client, Ticket, Denied}
 use Rattle.semantics.specs.WriteSteps.{next_item, with_cell, submit, push}
 use Rattle.semantics.specs.PeerSteps.{as_received, receive_lines, submit_all}
+use Rattle.operation.specs.declared.op.Op.{Op}
+use Rattle.operation.specs.Meanings.{stamped_of}
+use Rattle.items.specs.Meanings.{received_of, stranger}
+
+-- an operation whose vector has the table's width is received as it is
+pub received_wide : (table : List ℕ) (o : Op) → length o.deps ≡ length table → received_of table o ≡ stamped_of table o
+received_wide table o width = ap (λ b. cond b (stamped_of table o) (stranger table (stamped_of table o))) (eq-eqb (length o.deps) (length table) width)
 
 -- what stands at a place within the list
 pub found : {X : Type 0} (xs : List X) (i : ℕ) → i < length xs → (x : X) × (slice_get xs i ≡ Some x)
@@ -16,11 +23,11 @@ found (x ∷ xs) (suc i) l = found xs i (omega arith)
 
 -- the replica, and how many clients there are, stay
 pub record Keeps (E F : Engine) : Type 0 where
-  pub members : F.replica.members ≡ E.replica.members
+  pub replica : F.replica ≡ E.replica
   pub clients : length F.clients ≡ length E.clients
 
 same : (E : Engine) → Keeps E E
-same E = record { members = refl; clients = refl }
+same E = record { replica = refl; clients = refl }
 
 pub push_keeps : (E : Engine) (c : ℕ) (q : Request) → Keeps E (push E c q).engine
 push_keeps E c q = at_client (slice_get E.clients c) refl
@@ -28,7 +35,7 @@ push_keeps E c q = at_client (slice_get E.clients c) refl
     at_tests : (k : Client) (a b : Bool) → nat_le E.serials (length k.cells) ≡ a → nat_le E.places (length E.queue) ≡ b → Keeps E (submit E c k (next_item c k q)).engine
     at_tests k true b e f = rw e (same E)
     at_tests k false true e f = rw (e, f) (same E)
-    at_tests k false false e f = rw (e, f) (record { members = refl; clients = length-set E.clients c (with_cell k (next_item c k q)) })
+    at_tests k false false e f = rw (e, f) (record { replica = refl; clients = length-set E.clients c (with_cell k (next_item c k q)) })
 
     at_client : (o : Option Client) → slice_get E.clients c ≡ o → Keeps E (push E c q).engine
     at_client None e = rw e (same E)

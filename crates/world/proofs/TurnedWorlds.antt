@@ -1,27 +1,9 @@
 -- One step of a world, where its engine is there.
-use Rattle.std.proofs.Common.{◌≡◌, ℕ, zero, suc, ◌<◌, ◌≤◌, List, [], ◌∷◌, ◌++◌, length, get_or, Some, None, refl, sym, ap, ◌∙◌, arith, slice_get, slice_set}
+use Rattle.std.proofs.Common.{◌≡◌, ◌≢◌, ℕ, zero, suc, ◌<◌, ◌≤◌, List, [], ◌∷◌, ◌++◌, length, take, get_or, Some, None, refl, sym, ap, ◌∙◌, subst, arith, slice_get, slice_set}
 use Rattle.std.proofs.lemmas.Option.{slice_get_past}
 use Rattle.semantics.specs.Engine.{Engine, Message, Idle}
-use Rattle.semantics.specs.World.{WorldStep, mover, engine_step, sent_by, world_step}
-use Rattle.semantics.proofs.SoundEngines.{IsSound}
-use Rattle.world.specs.Worlds.{world, tables_of, table_at, AllSound}
-
-pub sound_at : (Es : List Engine) (i : ℕ) (E : Engine) → AllSound Es → i < length Es → E ≡ get_or Es i E → IsSound E
-sound_at [] i E h l e = absurd (omega arith)
-sound_at (F ∷ Es) zero E h l e = subst_sound F E (e) h.0
-  where
-    subst_sound : (F E : Engine) → E ≡ F → IsSound F → IsSound E
-    subst_sound F E e h = rw e h
-sound_at (F ∷ Es) (suc i) E h l e = sound_at Es i E h.1 (omega arith) e
-
-pub sound_set : (Es : List Engine) (i : ℕ) (E : Engine) → AllSound Es → IsSound E → AllSound (slice_set Es i E)
-sound_set [] i E h r = tt
-sound_set (F ∷ Es) zero E h r = (r, h.1)
-sound_set (F ∷ Es) (suc i) E h r = (h.0, sound_set Es i E h.1 r)
-
-pub sound_push : (Es : List Engine) (E : Engine) → AllSound Es → IsSound E → AllSound (Es ++ E ∷ [])
-sound_push [] E h r = (r, tt)
-sound_push (F ∷ Es) E h r = (h.0, sound_push Es E h.1 r)
+use Rattle.semantics.specs.World.{World, WorldStep, mover, engine_step, sent_by, world_after, world_step}
+use Rattle.world.specs.Worlds.{world, tables_of, table_at}
 
 pub world_step-there : (Es : List Engine) (ms : List Message) (s : WorldStep) (E : Engine) → slice_get Es (mover s) ≡ Some E
     → world_step (world Es ms) s ≡ record { world = world (slice_set Es (mover s) (engine_step ms s E).engine) (ms ++ sent_by ms s E); reply = (engine_step ms s E).reply }
@@ -41,3 +23,11 @@ pub tables_set : (Es : List Engine) (i : ℕ) (E F : Engine) → slice_get Es i 
 tables_set [] i E F e m = refl
 tables_set (G ∷ Es) zero E F e m = let same : G ≡ E = cc in ap (λ table. table ∷ tables_of Es) (m ∙ sym (ap (λ (G : Engine). G.replica.members) same))
 tables_set (G ∷ Es) (suc i) E F e m = ap (λ tables. G.replica.members ∷ tables) (tables_set Es i E F e m)
+
+-- ---- steps that were done
+
+-- the world after one step more
+pub after_next : (W : World) (steps : List WorldStep) (n : ℕ) (s : WorldStep) → slice_get steps n ≡ Some s → world_after W (take (suc n) steps) ≡ (world_step (world_after W (take n steps)) s).world
+after_next W [] n s e = cc
+after_next W (t ∷ steps) zero s e = let same : t ≡ s = cc in ap (λ (u : WorldStep). (world_step W u).world) same
+after_next W (t ∷ steps) (suc n) s e = after_next (world_step W t).world steps n s e

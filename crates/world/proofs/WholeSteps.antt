@@ -1,7 +1,24 @@
 -- The takes and gives of a whole step, one by one.
-use Rattle.std.proofs.Common.{◌≡◌, ℕ, zero, suc, ◌-◌, ◌+◌, ◌<◌, [], refl, ap, ◌∙◌, arith}
+use Rattle.std.proofs.Common.{◌≡◌, ℕ, zero, suc, ◌-◌, ◌+◌, ◌<◌, ◌==◌, Bool, true, false, not, List, [], ◌∷◌, length, map, refl, ap, ◌∙◌, arith}
+use Rattle.semantics.specs.DocumentAnswer.{is_any}
 use Rattle.semantics.specs.Engine.{Engine}
 use Rattle.semantics.specs.WriteSteps.{take_oldest, take_item, take_for, give, give_for}
+
+-- ---- tests
+
+pub not_zero : (n : ℕ) → (n == 0) ≡ false → n ≡ 0 → ⊥
+not_zero zero e z = absurd (let h = e in cc)
+not_zero (suc n) e z = omega arith
+
+pub none_mapped : {A B : Type 0} (f : A → B) (xs : List A) → length xs ≡ 0 → is_any (map f xs) ≡ false
+none_mapped f [] e = refl
+none_mapped f (x ∷ xs) e = absurd (omega arith)
+
+pub some_mapped : {A B : Type 0} (f : A → B) (xs : List A) → (length xs ≡ 0 → ⊥) → is_any (map f xs) ≡ true
+some_mapped f [] some = absurd (some refl)
+some_mapped f (x ∷ xs) some = refl
+
+-- ---- takes and gives
 
 -- nothing is taken from an empty queue
 pub take_none : (n : ℕ) (E : Engine) → E.queue ≡ [] → take_for n E ≡ E

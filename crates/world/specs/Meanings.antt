@@ -2,16 +2,15 @@
 use Rattle.std.specs.Prelude.{ℕ, ⊤, List}
 use Rattle.semantics.specs.Questions.{Refused as NotAnswered}
 use Rattle.semantics.specs.Tables.{by_table}
-use Rattle.semantics.specs.LegalAnswer.{Reply as TheReply, Made as MadeAs, NotMade, KeptAt, KnownAt, Answered}
+use Rattle.semantics.specs.LegalAnswer.{Answered}
 use Rattle.semantics.specs.Engine as engine
 use Rattle.semantics.specs.World as world
 use Rattle.operation.specs.Meanings.{command_of}
 use Rattle.document.specs.Documents.{IsBeside, asked_of, said_by}
+use Rattle.items.specs.Meanings.{answer_of}
 use Rattle.wire.specs.Bundles.{readable}
 use Rattle.world.specs.declared.step.WorldStep.{WorldStep}
 use Rattle.world.specs.declared.step.WorldStep.TheVariants as step
-use Rattle.world.specs.declared.step.Reply.{Reply}
-use Rattle.world.specs.declared.step.Reply.TheVariants as reply
 use Rattle.world.specs.declared.step.WorldReply.{WorldReply}
 use Rattle.world.specs.declared.step.WorldReply.TheVariants as said
 
@@ -63,13 +62,6 @@ AsksBeside table (step.Deliver e c k) = ⊤
 AsksBeside table (step.Line e c text) = ⊤
 AsksBeside table (step.Dropped e) = ⊤
 
--- the answer to what was submitted
-abbrev pub answer_to : Reply → TheReply
-answer_to (reply.Made a n) = MadeAs a n
-answer_to (reply.Kept m) = KeptAt m
-answer_to (reply.Known m) = KnownAt m
-answer_to (reply.Refused why m) = NotMade why m
-
 -- what a step replies
 abbrev pub reply_of : WorldReply → engine.StepReply
 reply_of (said.Ticket serial) = engine.Ticket serial
@@ -79,7 +71,7 @@ reply_of (said.Published n) = engine.Published n
 reply_of (said.Gave c serial) = engine.Gave c serial
 reply_of said.Idle = engine.Idle
 reply_of said.Unanswered = engine.Unanswered
-reply_of (said.Replied r) = engine.Replied (answer_to r)
+reply_of (said.Replied r) = engine.Replied (answer_of r)
 reply_of (said.Read n table reading) = engine.Read n (said_by table reading)
 reply_of (said.NotRead n why) = engine.Read n (Answered (NotAnswered why))
 reply_of (said.Seen n) = engine.Seen n

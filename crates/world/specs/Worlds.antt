@@ -1,10 +1,12 @@
 -- What contracts see of a world of the program.
-use Rattle.std.specs.Prelude.{ℕ, Bool, ⊤, List, [], ◌∷◌, map, slice_index_or}
+use Rattle.std.specs.Prelude.{◌≡◌, ◌≢◌, ℕ, ◌+◌, ◌≤◌, Bool, true, ⊤, List, [], ◌∷◌, map, take, length, Option, Some, None, slice_get, slice_index_or, slice_set}
+use Rattle.std.specs.List.{list_all}
+use Rattle.ids.specs.Configurations.{Configuration, is_within_limits}
 use Rattle.semantics.specs.Engine.{Engine, Message}
-use Rattle.semantics.specs.World.{World, WorldStep as TheStep}
+use Rattle.semantics.specs.World.{World, WorldStep as TheStep, mover, opened, world_after}
 use Rattle.world.specs.declared.step.WorldStep.{WorldStep}
 use Rattle.world.specs.Meanings.{AsksBeside, engine_in, step_of}
-use Rattle.semantics.proofs.SoundEngines.{IsSound}
+use Rattle.world.specs.Parts.{IsBetween, IsInPart}
 
 -- the engines, the messages, how many steps were done, and whether a growth was refused
 pub record Running : Type 0 where
@@ -37,7 +39,38 @@ step_in tables s = step_of (table_at tables (engine_in s)) s
 abbrev pub IsAskedBeside : List (List ℕ) → WorldStep → Type 0
 IsAskedBeside tables s = AsksBeside (table_at tables (engine_in s)) s
 
--- what holds of an engine at each moment holds of each
-abbrev pub AllSound : List Engine → Type 0
-AllSound [] = ⊤
-AllSound (E ∷ Es) = IsSound E × AllSound Es
+-- steps lead to the world from a new one, whose configurations are within the limits
+pub record IsReached (W : World) : Type 0 where
+  pub configurations : List Configuration
+  pub within : list_all is_within_limits configurations ≡ true
+  pub steps : List TheStep
+  pub after : W ≡ world_after (opened configurations) steps
+
+-- the engine isn't the one that moves in this step, if there is one
+abbrev pub IsAnother : ℕ → Option TheStep → Type 0
+IsAnother e None = ⊤
+IsAnother e (Some s) = e ≢ mover s
+
+-- Fs are the engines Es, of which the one that moves did a part of the step, after these messages
+pub record MovesInPart (ms : List Message) (s : TheStep) (Es Fs : List Engine) : Type 0 where
+  pub engine : Engine
+  pub part : Engine
+  pub there : slice_get Es (mover s) ≡ Some engine
+  pub moved : Fs ≡ slice_set Es (mover s) part
+  pub begun : IsInPart ms s engine part
+
+-- F is between what engine e is after n steps and after one more
+abbrev pub IsBetweenSteps : World → List TheStep → ℕ → ℕ → Engine → Type 0
+IsBetweenSteps W steps n e F = (E G : Engine)
+    → slice_get (world_after W (take n steps)).engines e ≡ Some E
+    → slice_get (world_after W (take (n + 1) steps)).engines e ≡ Some G
+    → IsBetween E F G
+
+-- V is the world W that has done n of the steps whole, and the next one in part: the messages and all engines but the one
+-- that moves next are as after the n steps, and each engine is between what it is then and after the next step
+pub record StopsAfter (W : World) (steps : List TheStep) (n : ℕ) (V : World) : Type 0 where
+  pub within : n ≤ length steps
+  pub messages : V.messages ≡ (world_after W (take n steps)).messages
+  pub others : (e : ℕ) → IsAnother e (slice_get steps n) → slice_get V.engines e ≡ slice_get (world_after W (take n steps)).engines e
+  pub count : length V.engines ≡ length W.engines
+  pub between : (e : ℕ) (F : Engine) → slice_get V.engines e ≡ Some F → IsBetweenSteps W steps n e F

@@ -1,13 +1,11 @@
 //! What an engine keeps for a client: a cell for each serial, and how much the client's token has seen.
 
-ghost use Rattle.std.specs.Prelude.{◌≡◌, ◌+◌, ◌<◌, ◌^◌, ℕ, List, option_map, vec_len, IfErr, OnOk};
-ghost use Rattle.ids.specs.declared.refusal.Refusal.TheVariants.{NoMemory};
+ghost use Rattle.std.specs.Prelude.{◌≡◌, ◌+◌, ◌<◌, ◌^◌, ℕ, List, option_map, vec_len, OnErr, OnOk};
 ghost use Rattle.semantics.specs.WriteSteps.{next_item, with_cell, with_answer};
 ghost use Rattle.semantics.specs.ReadSteps.{cell_at};
 
-use crate::item::{Item, Request};
-use crate::step::Reply;
-use ids::Refusal;
+use items::{Item, Reply, Request};
+use std::alloc::AllocError;
 
 /// An answer that was set, with how many entries were published then.
 #[derive(Clone, Copy, Debug)]
@@ -31,7 +29,8 @@ pub struct Client {
 }
 
 impl Client {
-    ghost use Rattle.world.specs.Engines.{client_of, cell_of, given_of, request_of, submitted_of};
+    ghost use Rattle.items.specs.Meanings.{request_of, submitted_of};
+    ghost use Rattle.world.specs.Engines.{client_of, cell_of, given_of};
 
     /// The cell of a serial; none has the serial 0.
     pub fn cell(&self, serial: u64) -> Option<&Cell>
@@ -60,10 +59,10 @@ impl Client {
     /// Keeps what was submitted in a cell of its own.
     ///
     /// # Errors
-    /// `NoMemory` where a growth was refused.
-    pub fn keep(&mut self, item: Item) -> Result<(), Refusal>
+    /// `AllocError` if allocation fails: nothing is kept then.
+    pub fn keep(&mut self, item: Item) -> Result<(), AllocError>
         ensures client { OnOk result ((table : List ℕ) → client_of table self.new ≡ with_cell (client_of table self.old) (submitted_of table item)) }
-        ensures err { IfErr result (λ why. why ≡ NoMemory) }
+        ensures unchanged { OnErr result ((table : List ℕ) → client_of table self.new ≡ client_of table self.old) }
     {
         self.cells.push(Cell { item, answer: None })?;
         Ok(())

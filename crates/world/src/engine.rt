@@ -1,28 +1,37 @@
 //! One engine on one thread: its clients submit to a queue, its writer takes from it in batches, and tokens read what is published.
 
-ghost use Rattle.std.specs.Prelude.{◌≡◌, ◌↔◌, ◌⊎◌, OnOk, IfOk, IfErr, Err, IsTrue, IsFalse, true, map, [], length, replicate, List, ℕ, ◌++◌};
-ghost use Rattle.ids.specs.declared.refusal.Refusal.TheVariants.{NoMemory, BadConfig};
+ghost use Rattle.std.specs.Prelude.{◌≡◌, OnOk, OnErr, IfOk, true, map, [], length, replicate, List, ℕ, ◌++◌};
 ghost use Rattle.ids.specs.Configurations.{is_within_limits};
 ghost use Rattle.semantics.specs.World.{engine_step, opened_engine, sent_by};
-ghost use Rattle.semantics.proofs.SoundEngines.{IsSound};
+ghost use Rattle.semantics.specs.Publication.{Holds};
 ghost use Rattle.replica.specs.Replicas.{replica_of};
-ghost use Rattle.world.specs.Engines.{client_of, message_of};
+ghost use Rattle.world.specs.Engines.{IsReachedEngine, client_of, message_of};
 ghost use Rattle.world.specs.Meanings.{AsksBeside, reply_of, step_of};
+ghost use Rattle.world.specs.Parts.{IsInPart};
 
 mod peers;
 mod reading;
 mod writer;
 
 use crate::client::Client;
-use crate::item::{Handled, Item};
 use crate::message::Message;
+use crate::publisher::Publisher;
 use crate::step::{WorldReply, WorldStep};
 use document::Document;
-use ids::{Config, Refusal, ReplicaTable};
+use handling::Handler;
+use ids::{Config, ReplicaTable};
+use items::{Item, Reply};
 use replica::Replica;
-use std::alloc::Global;
+use std::alloc::{AllocError, Global};
 use std::collections::VecDeque;
 use std::marker::Model;
+
+/// An item that was handled, and what is to be answered.
+#[derive(Debug, Drop)]
+pub struct Handled {
+    item: Item,
+    reply: Reply,
+}
 
 /// An engine. Contracts see the engine of the definitions.
 #[derive(Debug, Drop)]
@@ -30,60 +39,57 @@ pub struct Engine {
     places: usize,
     batch: usize,
     serials: u64,
-    replica: Replica,
+    handler: Handler,
+    publisher: Publisher,
     queue: VecDeque<Item>,
     /// Handled and not published.
     handled: VecDeque<Handled>,
     /// Published and not answered.
     due: VecDeque<Handled>,
-    /// The document of what is published; the replica's goes ahead of it.
-    published: Document,
     clients: Vec<Client>,
     readers: Vec<usize>,
 }
 
 impl Model for Engine {
     ghost use Rattle.std.specs.Prelude.{map, length};
-    ghost use Rattle.std.specs.List.{All};
     ghost use Rattle.std.specs.Coded.{codes};
     ghost use Rattle.semantics.specs.Codes.{coded_element};
     ghost use Rattle.semantics.specs.Engine.{Engine as TheEngine};
+    ghost use Rattle.semantics.specs.Publication.{Holds};
     ghost use Rattle.replica.specs.Replicas.{replica_of};
-    ghost use Rattle.world.specs.Engines.{IsEngine, client_of, handled_of, submitted_of};
+    ghost use Rattle.items.specs.Meanings.{submitted_of};
+    ghost use Rattle.world.specs.Engines.{client_of, handled_of};
 
     ghost Value = { TheEngine };
 
     ghost coded = { Prim.hlevel (codes, coded_element) };
 
-    ghost view = { λ e. record { places = e.places; batch = e.batch; serials = e.serials; replica = replica_of e.replica; queue = map (submitted_of e.replica.document.table) e.queue.items; handled = map (handled_of e.replica.document.table) e.handled.items; due = map (handled_of e.replica.document.table) e.due.items; published = length e.published.entries; clients = map (client_of e.replica.document.table) e.clients.items; readers = e.readers.items } };
+    ghost view = { λ e. record { places = e.places; batch = e.batch; serials = e.serials; replica = replica_of e.handler.replica; queue = map (submitted_of e.handler.replica.document.table) e.queue.items; handled = map (handled_of e.handler.replica.document.table) e.handled.items; due = map (handled_of e.handler.replica.document.table) e.due.items; published = length e.publisher.published; clients = map (client_of e.handler.replica.document.table) e.clients.items; readers = e.readers.items } };
 
-    ghost invariant = { λ e. IsEngine e.replica e.published e.queue.items };
+    ghost invariant = { λ e. Holds e.publisher (replica_of e.handler.replica) };
 }
 
 impl Engine {
-    /// A new engine.
+    /// A new engine, whose configuration is within the limits.
     ///
     /// # Errors
-    /// `BadConfig` where the configuration is outside the limits, else `NoMemory` where a growth was refused.
-    pub fn open(alloc: Global, config: &Config) -> Result<Engine, Refusal>
-        ensures new { OnOk result (IsTrue (is_within_limits config.now)) }
+    /// `AllocError` if allocation fails.
+    pub fn open(alloc: Global, config: &Config) -> Result<Engine, AllocError>
+        requires { is_within_limits config.now ≡ true }
         ensures engine { IfOk result (λ e. e ≡ opened_engine config.now) }
-        ensures bad_config { (result ≡ Err BadConfig) ↔ IsFalse (is_within_limits config.now) }
-        ensures err { IfErr result (λ why. (why ≡ BadConfig) ⊎ (why ≡ NoMemory)) }
     {
-        config.check()?;
         let clients = new_clients(alloc, config.clients as usize)?;
         let readers = new_readers(alloc, config.readers as usize)?;
-        let (replica, published) = new_histories(alloc, config)?;
+        let (handler, publisher) = new_histories(alloc, config)?;
         Ok(Engine {
             places: config.queue as usize,
             batch: config.batch as usize,
             serials: u64::from(config.serials),
-            replica,
+            handler,
+            publisher,
             queue: VecDeque::new(alloc),
             handled: VecDeque::new(alloc),
             due: VecDeque::new(alloc),
-            published,
             clients,
             readers,
         })
@@ -92,25 +98,26 @@ impl Engine {
     pub fn table(&self) -> &ReplicaTable
         ensures { result.now ≡ self.now.replica.members }
     {
-        self.replica.document().table()
+        self.handler.replica.document().table()
     }
 
     /// One step, after these messages. What it sends is put behind them.
     ///
     /// # Errors
-    /// `NoMemory` where a growth was refused: the step may be done in part then.
+    /// `AllocError` if allocation fails: the step may be done in part then.
     pub fn turn(
         &mut self,
         alloc: Global,
         messages: &mut Vec<Message>,
         step: &WorldStep,
-    ) -> Result<WorldReply, Refusal>
-        requires sound { IsSound self.old }
+    ) -> Result<WorldReply, AllocError>
+        requires reached { IsReachedEngine self.old }
         requires beside { AsksBeside self.old.replica.members step.now }
         ensures engine { OnOk result (self.new ≡ (engine_step (map message_of messages.old.items) (step_of self.old.replica.members step.now) self.old).engine) }
         ensures reply { IfOk result (λ r. reply_of r ≡ (engine_step (map message_of messages.old.items) (step_of self.old.replica.members step.now) self.old).reply) }
         ensures sent { OnOk result (map message_of messages.new.items ≡ map message_of messages.old.items ++ sent_by (map message_of messages.old.items) (step_of self.old.replica.members step.now) self.old) }
-        ensures err { IfErr result (λ why. why ≡ NoMemory) }
+        ensures unsent { OnErr result (map message_of messages.new.items ≡ map message_of messages.old.items) }
+        ensures stopped { OnErr result (IsInPart (map message_of messages.old.items) (step_of self.old.replica.members step.now) self.old self.new) }
     {
         match step {
             WorldStep::Push {
@@ -144,26 +151,31 @@ impl Engine {
                 ..
             } => self.deliver(alloc, messages, *client, *message),
             WorldStep::Line { client, text, .. } => self.line(alloc, *client, text),
-            WorldStep::Dropped { .. } => Ok(WorldReply::Dropped(self.replica.dropped())),
+            WorldStep::Dropped { .. } => Ok(WorldReply::Dropped(self.handler.replica.dropped())),
         }
     }
 }
 
-/// A replica, and the document of what is published of it.
-fn new_histories(alloc: Global, config: &Config) -> Result<(Replica, Document), Refusal>
+/// A handler of a new replica, and a publisher of its history. The configuration is within the limits, so that nothing but memory can be refused.
+fn new_histories(alloc: Global, config: &Config) -> Result<(Handler, Publisher), AllocError>
     requires { is_within_limits config.now ≡ true }
-    ensures new { IfOk result (λ p. (replica_of p.0 ≡ (opened_engine config.now).replica) × (p.1.entries ≡ []) × (p.1.table ≡ p.0.document.table)) }
-    ensures err { IfErr result (λ why. why ≡ NoMemory) }
+    ensures new { IfOk result (λ p. (replica_of p.0.replica ≡ (opened_engine config.now).replica) × Holds p.1 (replica_of p.0.replica) × (p.1.published ≡ [])) }
 {
-    let replica = Replica::new(alloc, config.own, &config.members)?;
-    let published = Document::new(alloc, &config.members)?;
-    Ok((replica, published))
+    let Ok(replica) = Replica::new(alloc, config.own, &config.members) else {
+        return Err(AllocError);
+    };
+    let Ok(empty) = Document::new(alloc, &config.members) else {
+        return Err(AllocError);
+    };
+    Ok((
+        Handler::new(replica),
+        Publisher::new(alloc, config.own, empty),
+    ))
 }
 
 /// So many readers that have seen nothing.
-fn new_readers(alloc: Global, count: usize) -> Result<Vec<usize>, Refusal>
+fn new_readers(alloc: Global, count: usize) -> Result<Vec<usize>, AllocError>
     ensures readers { IfOk result (λ v. v.items ≡ replicate count 0) }
-    ensures err { IfErr result (λ why. why ≡ NoMemory) }
 {
     let mut readers = Vec::new(alloc);
     readers.resize(count, 0)?;
@@ -171,9 +183,8 @@ fn new_readers(alloc: Global, count: usize) -> Result<Vec<usize>, Refusal>
 }
 
 /// So many clients that have seen and submitted nothing.
-fn new_clients(alloc: Global, count: usize) -> Result<Vec<Client>, Refusal>
+fn new_clients(alloc: Global, count: usize) -> Result<Vec<Client>, AllocError>
     ensures clients { IfOk result (λ v. (table : List ℕ) → map (client_of table) v.items ≡ replicate count (record { seen = 0; cells = [] })) }
-    ensures err { IfErr result (λ why. why ≡ NoMemory) }
 {
     let mut clients = Vec::with_capacity(alloc, count)?;
     for _ in 0..count {

@@ -3,15 +3,14 @@
 
 mod client;
 mod engine;
-mod handling;
-mod item;
 mod message;
 mod naming;
-mod published;
+mod publisher;
 mod step;
 mod world;
 
-pub use step::{Reply, WorldReply, WorldStep};
+pub use items::Reply;
+pub use step::{WorldReply, WorldStep};
 pub use world::World;
 
 #[cfg(test)]

@@ -1,7 +1,8 @@
 //! The steps of a world and what they reply.
 
 use document::{Question, Reading};
-use ids::{OpId, Refusal, ReplicaTable};
+use ids::{Refusal, ReplicaTable};
+use items::Reply;
 use operation::Command;
 use version::VersionVector;
 
@@ -104,19 +105,6 @@ impl WorldStep {
             | WorldStep::Dropped { engine } => *engine,
         }
     }
-}
-
-/// The answer to what a client submitted.
-#[derive(Clone, Copy, Debug, PartialEq, Eq)]
-pub enum Reply {
-    /// The operation of this id, which stands at this place of the history, counted from 0.
-    Made(OpId, u64),
-    /// The operation of a peer was kept, and applied if it was ready. The history had this length then.
-    Kept(u64),
-    /// The operation of a peer was there already. The history had this length then.
-    Known(u64),
-    /// Why it was refused, with the length of the history then.
-    Refused(Refusal, u64),
 }
 
 /// What a step replies.

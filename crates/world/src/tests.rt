@@ -10,28 +10,29 @@ mod lives;
 mod peers;
 mod phases;
 mod sessions;
+mod shown;
 
 use super::*;
 use cursor::{Expr, Step as PathStep};
 use document::{Question, Reading};
 use ids::{Config, Refusal};
 use operation::Command;
+use shown::is_shown;
 use std::alloc::Global;
-use std::fmt::Write;
 use std::process::Abort;
 use std::test::Fail;
 use value::{Key, Scalar, Text, Val};
 use version::VersionVector;
 
 /// One step of an expression.
-#[derive(Clone, Copy, Debug)]
+#[derive(Clone, Copy)]
 enum To<'a> {
     Key(&'a str),
     Place(u64),
 }
 
 /// A value.
-#[derive(Clone, Copy, Debug)]
+#[derive(Clone, Copy)]
 enum Wrote<'a> {
     Null,
     Truth(bool),
@@ -42,7 +43,7 @@ enum Wrote<'a> {
 }
 
 /// A step of an engine.
-#[derive(Clone, Copy, Debug)]
+#[derive(Clone, Copy)]
 enum Act<'a> {
     /// This client assigns this value at this key.
     Push(usize, &'a str, i64),
@@ -85,6 +86,9 @@ use Wrote::{List, Map, Null, Truth, Whole, Words};
 /// The numbers of a configuration beside its members: clients, readers, places of the queue, items of a batch, serials.
 type Sizes = (u32, u32, u32, u32, u32);
 
+/// An engine's number, its members and its sizes.
+type Opening<'a> = (u32, &'a [u32], Sizes);
+
 fn config(alloc: Global, own: u32, members: &[u32], sizes: Sizes) -> Result<Config, Refusal> {
     let (clients, readers, queue, batch, serials) = sizes;
     Ok(Config {
@@ -102,6 +106,13 @@ fn config(alloc: Global, own: u32, members: &[u32], sizes: Sizes) -> Result<Conf
 fn world_of_one(alloc: Global, members: &[u32], sizes: Sizes) -> Result<World, Refusal> {
     let config = config(alloc, 1, members, sizes)?;
     World::new(alloc, &[config])
+}
+
+/// A world of two engines of these numbers, members and sizes.
+fn engines(alloc: Global, first: Opening, second: Opening) -> Result<World, Refusal> {
+    let first = config(alloc, first.0, first.1, first.2)?;
+    let second = config(alloc, second.0, second.1, second.2)?;
+    World::new(alloc, &[first, second])
 }
 
 fn at(alloc: Global, path: &[To]) -> Result<Expr, Refusal> {
@@ -126,28 +137,28 @@ fn value(alloc: Global, wrote: Wrote) -> Result<Val, Refusal> {
     })
 }
 
+/// The command that assigns a value at a path.
+fn assigning(alloc: Global, path: &[To], wrote: Wrote) -> Result<Command, Refusal> {
+    let at = at(alloc, path)?;
+    Ok(Command::Assign(at, value(alloc, wrote)?))
+}
+
+/// The command that inserts one there.
+fn inserting(alloc: Global, path: &[To], wrote: Wrote) -> Result<Command, Refusal> {
+    let at = at(alloc, path)?;
+    Ok(Command::InsertAfter(at, value(alloc, wrote)?))
+}
+
 /// The command of a client, if the act is one.
 fn command(alloc: Global, act: Act) -> Result<Option<(usize, Command)>, Refusal> {
-    Ok(match act {
-        Push(client, key, whole) => {
-            let place = at(alloc, &[AtKey(key)])?;
-            Some((client, Command::Assign(place, value(alloc, Whole(whole))?)))
-        }
-        Assign(client, path, wrote) => {
-            Some((
-                client,
-                Command::Assign(at(alloc, path)?, value(alloc, wrote)?),
-            ))
-        }
-        Insert(client, path, wrote) => {
-            Some((
-                client,
-                Command::InsertAfter(at(alloc, path)?, value(alloc, wrote)?),
-            ))
-        }
-        Delete(client, path) => Some((client, Command::Delete(at(alloc, path)?))),
-        _ => None,
-    })
+    let (client, command) = match act {
+        Push(client, key, whole) => (client, assigning(alloc, &[AtKey(key)], Whole(whole))),
+        Assign(client, path, wrote) => (client, assigning(alloc, path, wrote)),
+        Insert(client, path, wrote) => (client, inserting(alloc, path, wrote)),
+        Delete(client, path) => (client, at(alloc, path).map(Command::Delete)),
+        _ => return Ok(None),
+    };
+    Ok(Some((client, command?)))
 }
 
 /// The question of a token, if the act is one.
@@ -259,11 +270,11 @@ fn missing_step(
     world: &World,
     token: usize,
     counters: &[u64],
-) -> Result<WorldStep, Fail>
+) -> Result<WorldStep, Refusal>
     ensures { IfOk result (IsAskedBeside (tables_of world.now.engines)) }
 {
     let Some(table) = world.table(0) else {
-        return Err("no engine".into());
+        return Err(Refusal::NoReading);
     };
     let vector = vector(alloc, table.len(), counters)?;
     Ok(WorldStep::Ask {
@@ -273,112 +284,47 @@ fn missing_step(
     })
 }
 
-/// A scalar as tests write it.
-fn scalar_shown(alloc: Global, scalar: &Scalar) -> Result<String, Fail> {
-    Ok(match scalar {
-        Scalar::Null => format!(in alloc; "null")?,
-        Scalar::Bool(truth) => format!(in alloc; "{truth}")?,
-        Scalar::Whole(whole) => format!(in alloc; "{whole}")?,
-        Scalar::Text(text) => format!(in alloc; "'{}'", text.as_str())?,
-    })
-}
+/// An act of an engine, and its reply.
+type Row<'a> = (Act<'a>, &'a str);
 
-/// What was read as tests write it: ids as `1@1`, values as `2@1 wrote 7`.
-fn reading_shown(alloc: Global, reading: &Reading) -> Result<String, Fail> {
-    let mut text = String::new(alloc);
-    match reading {
-        Reading::Values(values) => {
-            for (id, scalar) in values {
-                let scalar = scalar_shown(alloc, scalar)?;
-                write!(text, " {id} wrote {scalar}")?;
-            }
-        }
-        Reading::Keys(keys) => {
-            for key in keys {
-                let key = key.as_str();
-                write!(text, " '{key}'")?;
-            }
-        }
-        Reading::Items(items) => {
-            for id in items {
-                write!(text, " {id}")?;
-            }
-        }
-        Reading::Conflicts(pairs) => {
-            for (id, tag) in pairs {
-                write!(text, " {id} {tag:?}")?;
-            }
-        }
-        Reading::Missing(ops) => {
-            for op in ops {
-                let id = op.id;
-                write!(text, " {id}")?;
-            }
-        }
-        Reading::Vector(vector) => {
-            let counters = vector_shown(alloc, vector)?;
-            write!(text, "{counters}")?;
-        }
+/// The steps of the acts of these rows.
+fn row_steps(alloc: Global, engine: usize, rows: &[Row]) -> Result<Vec<WorldStep>, Refusal>
+    ensures { (tables : List (List ℕ)) → IfOk result (λ v. All (IsAskedBeside tables) v.items) }
+{
+    let mut acts = Vec::new(alloc);
+    for (act, _) in rows {
+        acts.push(*act)?;
     }
-    Ok(text)
+    steps(alloc, engine, &acts)
 }
 
-/// What was received as tests write it: `Received 2 from 1`, and where that stopped, `E22 at 3`.
-fn receipt_shown(
+/// The replies are those of the rows, the first of which has this number where a failure names it.
+fn are_shown(
+    rt: &impl Abort,
     alloc: Global,
-    first: u64,
-    submitted: u64,
-    stopped: Option<(u64, Refusal)>,
-) -> Result<String, Fail> {
-    match stopped {
-        Some((line, why)) => {
-            Ok(format!(in alloc; "Received {submitted} from {first}, {why} at {line}")?)
-        }
-        None => Ok(format!(in alloc; "Received {submitted} from {first}")?),
+    first: usize,
+    replies: &[WorldReply],
+    rows: &[Row],
+) -> Result<(), Fail> {
+    assert_eq!(rt; replies.len(), rows.len());
+    for (index, (reply, row)) in replies.iter().zip(rows).enumerate() {
+        is_shown(rt, alloc, first.saturating_add(index), reply, row.1)?;
     }
+    Ok(())
 }
 
-/// The vector as tests write it, a counter for each member.
-fn vector_shown(alloc: Global, vector: &VersionVector) -> Result<String, Fail> {
-    let mut text = String::new(alloc);
-    for index in 0..vector.width() {
-        let counter = vector.get(index);
-        write!(text, " {counter}")?;
-    }
-    Ok(text)
-}
-
-/// The reply as tests write it, a reading as `Read 2: 2@1 wrote 7`.
-fn shown(alloc: Global, reply: &WorldReply) -> Result<String, Fail> {
-    Ok(match reply {
-        WorldReply::Replied(Reply::Made(id, place)) => format!(in alloc; "Made {id} at {place}")?,
-        WorldReply::Replied(Reply::Refused(why, length)) => {
-            format!(in alloc; "Refused {why} at {length}")?
-        }
-        WorldReply::Read { seen, reading, .. } => {
-            let text = reading_shown(alloc, reading)?;
-            format!(in alloc; "Read {seen}:{text}")?
-        }
-        WorldReply::NotRead { seen, why } => format!(in alloc; "Not read {seen}: {why}")?,
-        WorldReply::Hello {
-            message,
-            vector,
-            ..
-        } => {
-            let text = vector_shown(alloc, vector)?;
-            format!(in alloc; "Hello {message}:{text}")?
-        }
-        WorldReply::Bundle {
-            message,
-            operations,
-        } => format!(in alloc; "Bundle {message} of {operations}")?,
-        WorldReply::Received {
-            first,
-            submitted,
-            stopped,
-        } => receipt_shown(alloc, *first, *submitted, *stopped)?,
-        other => format!(in alloc; "{other:?}")?,
-    })
+/// In one run, each act of the engine gets its reply. The first row has this number where a failure names it.
+fn replies_from(
+    rt: &impl Abort,
+    alloc: Global,
+    world: &mut World,
+    engine: usize,
+    first: usize,
+    rows: &[Row],
+) -> Result<(), Fail> {
+    let steps = row_steps(alloc, engine, rows)?;
+    let replies = world.run(alloc, &steps)?;
+    are_shown(rt, alloc, first, &replies, rows)
 }
 
 /// In one run, each act of the engine gets its reply.
@@ -387,17 +333,19 @@ fn replies(
     alloc: Global,
     world: &mut World,
     engine: usize,
-    rows: &[(Act, &str)],
+    rows: &[Row],
 ) -> Result<(), Fail> {
-    let mut acts = Vec::new(alloc);
-    for (act, _) in rows {
-        acts.push(*act)?;
-    }
-    let steps = steps(alloc, engine, &acts)?;
-    let replies = world.run(alloc, &steps)?;
-    assert_eq!(rt; replies.len(), rows.len());
-    for (reply, (act, want)) in replies.iter().zip(rows) {
-        assert_eq!(rt; shown(alloc, reply)?.as_str(), *want, "at {act:?}");
-    }
-    Ok(())
+    replies_from(rt, alloc, world, engine, 0, rows)
+}
+
+/// In one run, each act of an engine, which is alone in its world and number 1 of these members, gets its reply.
+fn one_replies(
+    rt: &impl Abort,
+    alloc: Global,
+    members: &[u32],
+    sizes: Sizes,
+    rows: &[Row],
+) -> Result<(), Fail> {
+    let mut world = world_of_one(alloc, members, sizes)?;
+    replies(rt, alloc, &mut world, 0, rows)
 }

@@ -1,19 +1,19 @@
 //! Engines on one thread and the messages between them, as a list of steps moves them.
 
-ghost use Rattle.std.specs.Prelude.{◌≡◌, ◌≤◌, ◌+◌, ◌↔◌, ◌⊎◌, OnOk, OnErr, IfOk, IfErr, Err, IsFalse, true, false, min, map, option_map, slice_get, length, List};
+ghost use Rattle.std.specs.Prelude.{◌≡◌, ◌≢◌, ◌+◌, ℕ, ◌↔◌, ◌⊎◌, OnOk, OnErr, IfOk, IfErr, Err, IsFalse, true, false, min, map, option_map, slice_get, length, List, alloc_error};
 ghost use Rattle.std.specs.List.{All, list_all};
 ghost use Rattle.ids.specs.declared.refusal.Refusal.TheVariants.{NoMemory, BadConfig};
 ghost use Rattle.ids.specs.Configurations.{is_within_limits};
-ghost use Rattle.semantics.specs.World.{opened, opened_engine, world_step, world_after, replies_of};
+ghost use Rattle.semantics.specs.World.{mover, opened, opened_engine, world_step, world_after, replies_of};
 ghost use Rattle.world.specs.Engines.{message_of};
 ghost use Rattle.world.specs.Meanings.{reply_of};
-ghost use Rattle.world.specs.Worlds.{AllSound, IsAskedBeside, step_in, tables_of, world, world_of};
+ghost use Rattle.world.specs.Worlds.{IsAskedBeside, IsReached, MovesInPart, StopsAfter, step_in, tables_of, world, world_of};
 
 use crate::engine::Engine;
 use crate::message::Message;
 use crate::step::{WorldReply, WorldStep};
 use ids::{Config, Refusal, ReplicaTable};
-use std::alloc::Global;
+use std::alloc::{AllocError, Global};
 use std::marker::Model;
 
 /// Engines on one thread. Once a growth was refused the world has failed, and answers nothing else from then on.
@@ -33,7 +33,7 @@ impl Model for World {
     ghost use Rattle.std.specs.Coded.{codes};
     ghost use Rattle.semantics.specs.Codes.{coded_element};
     ghost use Rattle.world.specs.Engines.{message_of};
-    ghost use Rattle.world.specs.Worlds.{Running, AllSound};
+    ghost use Rattle.world.specs.Worlds.{Running, IsReached, world};
 
     ghost Value = { Running };
 
@@ -41,14 +41,14 @@ impl Model for World {
 
     ghost view = { λ w. record { engines = w.engines.items; messages = map message_of w.messages.items; done = w.done; failed = w.failed } };
 
-    ghost invariant = { λ w. w.failed ≡ false → AllSound w.engines.items };
+    ghost invariant = { λ w. w.failed ≡ false → IsReached (world w.engines.items (map message_of w.messages.items)) };
 }
 
 impl World {
     /// New engines, numbered from 0.
     ///
     /// # Errors
-    /// `BadConfig` where a configuration is outside the limits, else `NoMemory` where a growth was refused.
+    /// `BadConfig` where a configuration is outside the limits, else `NoMemory` if allocation fails.
     pub fn new(alloc: Global, configs: &[Config]) -> Result<World, Refusal>
         ensures engines { IfOk result (λ w. world_of w ≡ opened configs.now) }
         ensures started { IfOk result (λ w. (w.done ≡ 0) × (w.failed ≡ false)) }
@@ -78,19 +78,19 @@ impl World {
     /// Runs the steps in order, and gives the reply to each. A step of an engine that isn't there replies Idle.
     ///
     /// # Errors
-    /// `NoMemory` where a growth was refused, and at each call after that: `steps_done` steps were done whole, the next may be done in part.
-    pub fn run(&mut self, alloc: Global, steps: &[WorldStep]) -> Result<Vec<WorldReply>, Refusal>
+    /// `AllocError` if allocation fails, and at each call after that: `steps_done` steps were done whole, and the next may be done in part, by its engine alone, which is between what it was and what the whole step makes of it.
+    pub fn run(&mut self, alloc: Global, steps: &[WorldStep]) -> Result<Vec<WorldReply>, AllocError>
         requires { All (IsAskedBeside (tables_of self.old.engines)) steps.now }
         ensures replies { IfOk result (λ rs. map reply_of rs.items ≡ replies_of (world_of self.old) (map (step_in (tables_of self.old.engines)) steps.now)) }
         ensures world { OnOk result (world_of self.new ≡ world_after (world_of self.old) (map (step_in (tables_of self.old.engines)) steps.now)) }
         ensures done { OnOk result (self.new.done ≡ min (self.old.done + length steps.now) 18446744073709551615) }
         ensures running { OnOk result ((self.old.failed ≡ false) × (self.new.failed ≡ false)) }
-        ensures err { IfErr result (λ why. (why ≡ NoMemory) × (self.new.failed ≡ true)) }
-        ensures fewer { OnErr result ((self.old.done ≤ self.new.done) × (self.new.done ≤ self.old.done + length steps.now)) }
-        ensures failed { self.old.failed ≡ true → (result ≡ Err NoMemory) × (self.new ≡ self.old) }
+        ensures err { OnErr result (self.new.failed ≡ true) }
+        ensures stopped { OnErr result (self.old.failed ≡ false → (n : ℕ) × (self.new.done ≡ min (self.old.done + n) 18446744073709551615) × StopsAfter (world_of self.old) (map (step_in (tables_of self.old.engines)) steps.now) n (world_of self.new)) }
+        ensures failed { self.old.failed ≡ true → (result ≡ Err alloc_error) × (self.new ≡ self.old) }
     {
         if self.failed {
-            return Err(Refusal::NoMemory);
+            return Err(AllocError);
         }
         self.failed = true;
         let mut whole = 0;
@@ -127,11 +127,9 @@ fn check_all(configs: &[Config]) -> Result<(), Refusal>
 }
 
 /// A new engine for each configuration.
-fn open_all(alloc: Global, configs: &[Config]) -> Result<Vec<Engine>, Refusal>
+fn open_all(alloc: Global, configs: &[Config]) -> Result<Vec<Engine>, AllocError>
     requires { list_all is_within_limits configs.now ≡ true }
     ensures engines { IfOk result (λ v. v.items ≡ map opened_engine configs.now) }
-    ensures sound { IfOk result (λ v. AllSound v.items) }
-    ensures err { IfErr result (λ why. why ≡ NoMemory) }
 {
     let mut engines = Vec::with_capacity(alloc, configs.len())?;
     for config in configs {
@@ -147,22 +145,20 @@ fn run_all(
     messages: &mut Vec<Message>,
     whole: &mut usize,
     steps: &[WorldStep],
-) -> Result<Vec<WorldReply>, Refusal>
-    requires sound { AllSound engines.old.items }
+) -> Result<Vec<WorldReply>, AllocError>
+    requires reached { IsReached (world engines.old.items (map message_of messages.old.items)) }
     requires none { whole.old ≡ 0 }
     requires beside { All (IsAskedBeside (tables_of engines.old.items)) steps.now }
     ensures replies { IfOk result (λ rs. map reply_of rs.items ≡ replies_of (world engines.old.items (map message_of messages.old.items)) (map (step_in (tables_of engines.old.items)) steps.now)) }
     ensures world { OnOk result (world engines.new.items (map message_of messages.new.items) ≡ world_after (world engines.old.items (map message_of messages.old.items)) (map (step_in (tables_of engines.old.items)) steps.now)) }
-    ensures sound { OnOk result (AllSound engines.new.items) }
     ensures whole { OnOk result (whole.new ≡ length steps.now) }
-    ensures err { IfErr result (λ why. why ≡ NoMemory) }
-    ensures fewer { whole.new ≤ length steps.now }
+    ensures stopped { OnErr result (StopsAfter (world engines.old.items (map message_of messages.old.items)) (map (step_in (tables_of engines.old.items)) steps.now) whole.new (world engines.new.items (map message_of messages.new.items))) }
 {
     let mut replies = Vec::with_capacity(alloc, steps.len())?;
     for step in steps {
         let reply = turn(alloc, engines, messages, step)?;
-        replies.push(reply)?;
         *whole += 1;
+        replies.push(reply)?;
     }
     Ok(replies)
 }
@@ -173,14 +169,14 @@ fn turn(
     engines: &mut Vec<Engine>,
     messages: &mut Vec<Message>,
     step: &WorldStep,
-) -> Result<WorldReply, Refusal>
-    requires sound { AllSound engines.old.items }
+) -> Result<WorldReply, AllocError>
+    requires reached { IsReached (world engines.old.items (map message_of messages.old.items)) }
     requires beside { IsAskedBeside (tables_of engines.old.items) step.now }
     ensures world { OnOk result (world engines.new.items (map message_of messages.new.items) ≡ (world_step (world engines.old.items (map message_of messages.old.items)) (step_in (tables_of engines.old.items) step.now)).world) }
     ensures reply { IfOk result (λ r. reply_of r ≡ (world_step (world engines.old.items (map message_of messages.old.items)) (step_in (tables_of engines.old.items) step.now)).reply) }
-    ensures sound { OnOk result (AllSound engines.new.items) }
     ensures tables { OnOk result (tables_of engines.new.items ≡ tables_of engines.old.items) }
-    ensures err { IfErr result (λ why. why ≡ NoMemory) }
+    ensures messages { OnErr result (map message_of messages.new.items ≡ map message_of messages.old.items) }
+    ensures stopped { OnErr result (MovesInPart (map message_of messages.old.items) (step_in (tables_of engines.old.items) step.now) engines.old.items engines.new.items) }
 {
     let mover = step.engine();
     if mover >= engines.len() {

@@ -1,54 +1,70 @@
 //! Concurrent operations in each order of arrival.
 
-use super::asking::{assert_conflicts, assert_items, assert_keys, assert_values};
-use super::receiving::{assign, assign_text, delete, insert_text, received};
+use super::playing::Does::{Assign, Delete, Insert};
+use super::playing::Hop::{Field, Head, Item};
+use super::playing::Step::Get;
+use super::playing::Turn::{Conflicts, Items, Keys, Values};
+use super::playing::Value::{List, Map, Text};
+use super::playing::{Sent, Turn, on_new};
 use super::*;
 use cursor::Tag;
-use operation::Op;
-use std::alloc::Global;
-use std::process::Abort;
 use std::test::Fail;
-use value::Val;
 
-fn assert_abxy(rt: &impl Abort, alloc: Global, ops: &[&Op]) -> Result<(), Fail> {
-    let document = received(rt, alloc, ops)?;
-    assert_items(
-        rt,
-        alloc,
-        &document,
-        &["l"],
-        &[(2, 2), (3, 2), (2, 1), (3, 1)],
-    )
-}
+/// Replica 1 makes a list and inserts x, and y after it. Apart from that replica 2 inserts a, and b after it.
+const LIST: Sent = ((1, 1), [0, 0, 0], &[Field("l")], Assign(List));
+
+const X: Sent = ((2, 1), [1, 0, 0], &[Field("l"), Head], Insert(Text("x")));
+
+const Y: Sent = (
+    (3, 1),
+    [2, 0, 0],
+    &[Field("l"), Item((2, 1))],
+    Insert(Text("y")),
+);
+
+const A: Sent = ((2, 2), [1, 0, 0], &[Field("l"), Head], Insert(Text("a")));
+
+const B: Sent = (
+    (3, 2),
+    [1, 2, 0],
+    &[Field("l"), Item((2, 2))],
+    Insert(Text("b")),
+);
 
 #[test]
 fn runs_of_concurrent_inserts_stay_together(rt: HostRuntime) -> Result<(), Fail> {
-    let alloc = rt.alloc();
-    let list = assign(alloc, (1, 1), [0, 0, 0], &["l"], Val::EmptyList)?;
-    let x = insert_text(alloc, (2, 1), [1, 0, 0], "l", None, "x")?;
-    let y = insert_text(alloc, (3, 1), [2, 0, 0], "l", Some((2, 1)), "y")?;
-    let a = insert_text(alloc, (2, 2), [1, 0, 0], "l", None, "a")?;
-    let b = insert_text(alloc, (3, 2), [1, 2, 0], "l", Some((2, 2)), "b")?;
-    assert_abxy(&rt, alloc, &[&list, &x, &y, &a, &b])?;
-    assert_abxy(&rt, alloc, &[&list, &a, &b, &x, &y])
+    const WANTED: &[Turn] = &[Items(&[Get("l")], &[(2, 2), (3, 2), (2, 1), (3, 1)])];
+    on_new(&rt, rt.alloc(), &[LIST, X, Y, A, B], WANTED)?;
+    on_new(&rt, rt.alloc(), &[LIST, A, B, X, Y], WANTED)
 }
 
-fn assert_green(rt: &impl Abort, alloc: Global, ops: &[&Op]) -> Result<(), Fail> {
-    let document = received(rt, alloc, ops)?;
-    assert_keys(rt, alloc, &document, &[], &["colors"])?;
-    assert_keys(rt, alloc, &document, &["colors"], &["green"])?;
-    assert_conflicts(rt, alloc, &document, &["colors"], &[((3, 2), Tag::Map)])?;
-    let wanted = [((3, 2), "#0f0")];
-    assert_values(rt, alloc, &document, &["colors", "green"], &wanted)
-}
+/// Replica 1 makes a map and writes one field. Apart from one another it then deletes the map, and replica 2 writes another field.
+const COLORS: Sent = ((1, 1), [0, 0, 0], &[Field("colors")], Assign(Map));
+
+const BLUE: Sent = (
+    (2, 1),
+    [1, 0, 0],
+    &[Field("colors"), Field("blue")],
+    Assign(Text("#00f")),
+);
+
+const GONE: Sent = ((3, 1), [2, 0, 0], &[Field("colors")], Delete);
+
+const GREEN: Sent = (
+    (3, 2),
+    [2, 0, 0],
+    &[Field("colors"), Field("green")],
+    Assign(Text("#0f0")),
+);
 
 #[test]
 fn what_a_delete_did_not_see_stays(rt: HostRuntime) -> Result<(), Fail> {
-    let alloc = rt.alloc();
-    let map = assign(alloc, (1, 1), [0, 0, 0], &["colors"], Val::EmptyMap)?;
-    let blue = assign_text(alloc, (2, 1), [1, 0, 0], &["colors", "blue"], "#00f")?;
-    let gone = delete(alloc, (3, 1), [2, 0, 0], &["colors"])?;
-    let green = assign_text(alloc, (3, 2), [2, 0, 0], &["colors", "green"], "#0f0")?;
-    assert_green(&rt, alloc, &[&map, &blue, &gone, &green])?;
-    assert_green(&rt, alloc, &[&map, &blue, &green, &gone])
+    const WANTED: &[Turn] = &[
+        Keys(&[], &["colors"]),
+        Keys(&[Get("colors")], &["green"]),
+        Conflicts(&[Get("colors")], &[((3, 2), Tag::Map)]),
+        Values(&[Get("colors"), Get("green")], &[((3, 2), Text("#0f0"))]),
+    ];
+    on_new(&rt, rt.alloc(), &[COLORS, BLUE, GONE, GREEN], WANTED)?;
+    on_new(&rt, rt.alloc(), &[COLORS, BLUE, GREEN, GONE], WANTED)
 }

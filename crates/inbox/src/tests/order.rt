@@ -103,3 +103,17 @@ fn what_is_stuck_is_passed_over(rt: HostRuntime) -> Result<(), Fail> {
         ],
     )
 }
+
+#[test]
+fn a_counter_that_nothing_explains_is_no_bar(rt: HostRuntime) -> Result<(), Fail> {
+    on_new(
+        &rt,
+        rt.alloc(),
+        0,
+        &[
+            Turn::Put((3, 3), [0, 2, 0], Writes::Map, KEPT),
+            Turn::Put((9, 2), [0, 0, 0], Writes::Map, KEPT),
+            Turn::Smallest(Some((9, 2))),
+        ],
+    )
+}

@@ -1,13 +1,13 @@
 //! What is done with an inbox in a test, as rows, and what plays them.
 
 ghost use Rattle.std.specs.Prelude.{◌<◌, ℕ, List};
-ghost use Rattle.inbox.specs.Inboxes.{StandAlone};
+ghost use Rattle.inbox.specs.Inboxes.{AreAsWide};
 
 use super::*;
 use cursor::Place;
 use document::Document;
 use ids::{OpId, ReplicaId};
-use operation::{Mutation, Op, check_alone};
+use operation::{Mutation, Op};
 use std::alloc::Global;
 use std::process::Abort;
 use value::Val;
@@ -70,12 +70,14 @@ fn op(alloc: Global, pair: Pair, counters: [u64; 3], writes: Writes) -> Result<O
     })
 }
 
-/// Puts an operation that stands alone where only such ones wait.
+/// Puts an operation, whose vector has the table's width.
 fn put(inbox: &mut Inbox, op: Op, document: &Document) -> Result<Result<Delivered, Refusal>, Fail>
-    requires { StandAlone document.now.table inbox.old }
-    ensures { StandAlone document.now.table inbox.new }
+    requires { AreAsWide document.now.table inbox.old }
+    ensures { AreAsWide document.now.table inbox.new }
 {
-    check_alone(&op, document.table())?;
+    if op.deps.width() != document.table().len() {
+        return Err("another width".into());
+    }
     Ok(inbox.put(op, document))
 }
 
@@ -87,8 +89,8 @@ fn answers(
     document: &Document,
     want: Result<Delivered, Refusal>,
 ) -> Result<(), Fail>
-    requires { StandAlone document.now.table inbox.old }
-    ensures { StandAlone document.now.table inbox.new }
+    requires { AreAsWide document.now.table inbox.old }
+    ensures { AreAsWide document.now.table inbox.new }
 {
     let id = op.id;
     let answer = put(inbox, op, document)?;
@@ -98,7 +100,7 @@ fn answers(
 
 /// The id of the smallest ready one.
 fn smallest(inbox: &Inbox, document: &Document) -> Option<Pair>
-    requires { StandAlone document.now.table inbox.now }
+    requires { AreAsWide document.now.table inbox.now }
 {
     let id = inbox.smallest_ready(document)?.id;
     Some((id.counter, id.replica.number()))
@@ -114,7 +116,7 @@ fn written(op: &Op) -> (Pair, Writes) {
 
 /// The id of the operation that is taken, which has this one, and what it writes.
 fn take(inbox: &mut Inbox, id: OpId) -> Option<(Pair, Writes)>
-    ensures { (table : List ℕ) → StandAlone table inbox.old → StandAlone table inbox.new }
+    ensures { (table : List ℕ) → AreAsWide table inbox.old → AreAsWide table inbox.new }
 {
     let taken = inbox.take(id)?;
     Some(written(&taken))
@@ -132,8 +134,8 @@ fn take_turn(
     document: &Document,
     turn: Turn,
 ) -> Result<(), Fail>
-    requires { StandAlone document.now.table inbox.old }
-    ensures { StandAlone document.now.table inbox.new }
+    requires { AreAsWide document.now.table inbox.old }
+    ensures { AreAsWide document.now.table inbox.new }
 {
     match turn {
         Turn::Put(pair, counters, writes, want) => {
@@ -163,8 +165,8 @@ fn play(
     document: &Document,
     turns: &[Turn],
 ) -> Result<(), Fail>
-    requires { StandAlone document.now.table inbox.old }
-    ensures { StandAlone document.now.table inbox.new }
+    requires { AreAsWide document.now.table inbox.old }
+    ensures { AreAsWide document.now.table inbox.new }
 {
     for next in turns {
         take_turn(rt, alloc, inbox, document, *next)?;
@@ -181,8 +183,8 @@ fn fill(
     stuck: u64,
 ) -> Result<(), Fail>
     requires few { stuck < 10000 }
-    requires alone { StandAlone document.now.table inbox.old }
-    ensures { StandAlone document.now.table inbox.new }
+    requires alone { AreAsWide document.now.table inbox.old }
+    ensures { AreAsWide document.now.table inbox.new }
 {
     for place in 0..stuck {
         let op = op(alloc, (place + 2, 2), [0, 0, place + 1], Writes::Map)?;
@@ -200,7 +202,7 @@ fn fill_and_play(
     turns: &[Turn],
 ) -> Result<(), Fail>
     requires few { stuck < 10000 }
-    requires alone { StandAlone document.now.table inbox.old }
+    requires alone { AreAsWide document.now.table inbox.old }
 {
     fill(rt, alloc, inbox, document, stuck)?;
     play(rt, alloc, inbox, document, turns)

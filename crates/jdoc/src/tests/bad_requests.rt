@@ -1,76 +1,56 @@
 //! Commands, questions and vectors without a form.
 
-use super::{is_refused, run_bytes};
-use std::alloc::Global;
+use super::playing::{Around, are_bad, are_bad_with, is_bad_with};
+use std::alloc::{AllocError, Global};
 use std::process::Abort;
 use std::test::Fail;
 
-/// A script of one engine, of the members 1, 3 and 4294967295, in which this is the second line.
-fn script(alloc: Global, line: &str) -> Result<String, Fail> {
-    Ok(format!(in alloc; "[\"world\",[[1,[1,3,4294967295],1,1,4,4,10]]]\n{line}\n")?)
-}
-
-/// Each of these lines is bad in this way.
-fn are_bad(rt: &impl Abort, alloc: Global, lines: &[&str], name: &str) -> Result<(), Fail> {
-    let told = format!(in alloc; "jdoc: line 2: {name}\n")?;
-    for line in lines {
-        let ended = run_bytes(alloc, script(alloc, line)?.as_bytes());
-        assert!(rt; is_refused(&ended, told.as_str()), "{line} gave {ended:?}");
-    }
-    Ok(())
-}
+/// A first line of one engine, of the members 1, 3 and 4294967295.
+const FIRST: &str = r#"["world",[[1,[1,3,4294967295],1,1,4,4,10]]]"#;
 
 #[test]
 fn commands_without_form(rt: HostRuntime) -> Result<(), Fail> {
-    are_bad(
-        &rt,
-        rt.alloc(),
-        &[
-            "[\"push\",0,0,\"delete\"]",
-            "[\"push\",0,0,{\"delete\":[]}]",
-            "[\"push\",0,0,[\"Delete\",[]]]",
-            "[\"push\",0,0,[[],\"delete\"]]",
-            "[\"push\",0,0,[\"delete\"]]",
-            "[\"push\",0,0,[\"delete\",[],1]]",
-            "[\"push\",0,0,[\"insert\",[0]]]",
-            "[\"push\",0,0,[\"insert\",[0],1,1]]",
-            "[\"push\",0,0,[\"vector\"]]",
-            "[\"push\",0,0,[\"assign\",[],[1]]]",
-            "[\"push\",0,0,[\"assign\",[],[[]]]]",
-            "[\"push\",0,0,[\"insert\",[0],{\"a\":1}]]",
-        ],
-        "E22",
-    )
+    const LINES: &[&str] = &[
+        r#"["push",0,0,"delete"]"#,
+        r#"["push",0,0,{"delete":[]}]"#,
+        r#"["push",0,0,["Delete",[]]]"#,
+        r#"["push",0,0,[[],"delete"]]"#,
+        r#"["push",0,0,["delete"]]"#,
+        r#"["push",0,0,["delete",[],1]]"#,
+        r#"["push",0,0,["insert",[0]]]"#,
+        r#"["push",0,0,["insert",[0],1,1]]"#,
+        r#"["push",0,0,["vector"]]"#,
+        r#"["push",0,0,["assign",[],[1]]]"#,
+        r#"["push",0,0,["assign",[],[[]]]]"#,
+        r#"["push",0,0,["insert",[0],{"a":1}]]"#,
+    ];
+    are_bad(&rt, rt.alloc(), FIRST, LINES, "E22")
 }
 
 #[test]
 fn questions_without_form(rt: HostRuntime) -> Result<(), Fail> {
-    are_bad(
-        &rt,
-        rt.alloc(),
-        &[
-            "[\"ask\",0,0,[]]",
-            "[\"ask\",0,0,\"vector\"]",
-            "[\"ask\",0,0,[\"Vector\"]]",
-            "[\"ask\",0,0,[\"vector\",[]]]",
-            "[\"ask\",0,0,[\"missing\"]]",
-            "[\"ask\",0,0,[\"missing\",[],[]]]",
-            "[\"ask\",0,0,[\"keys\"]]",
-            "[\"ask\",0,0,[\"keys\",[],[]]]",
-            "[\"ask\",0,0,[\"items\",0]]",
-            "[\"ask\",0,0,[\"conflicts\",null]]",
-            "[\"ask\",0,0,[\"delete\",[]]]",
-        ],
-        "E22",
-    )
+    const LINES: &[&str] = &[
+        r#"["ask",0,0,[]]"#,
+        r#"["ask",0,0,"vector"]"#,
+        r#"["ask",0,0,["Vector"]]"#,
+        r#"["ask",0,0,["vector",[]]]"#,
+        r#"["ask",0,0,["missing"]]"#,
+        r#"["ask",0,0,["missing",[],[]]]"#,
+        r#"["ask",0,0,["keys"]]"#,
+        r#"["ask",0,0,["keys",[],[]]]"#,
+        r#"["ask",0,0,["items",0]]"#,
+        r#"["ask",0,0,["conflicts",null]]"#,
+        r#"["ask",0,0,["delete",[]]]"#,
+    ];
+    are_bad(&rt, rt.alloc(), FIRST, LINES, "E22")
 }
 
 #[test]
 fn expressions_without_form(rt: HostRuntime) -> Result<(), Fail> {
-    for path in [
+    const PATHS: &[&str] = &[
         "null",
         "0",
-        "\"a\"",
+        r#""a""#,
         "{}",
         "[null]",
         "[true]",
@@ -82,29 +62,27 @@ fn expressions_without_form(rt: HostRuntime) -> Result<(), Fail> {
         "[1e2]",
         "[18446744073709551616]",
         "[1e999]",
-        "[\"a\",[\"b\"]]",
-        "[0,1,\"a\",-1]",
-    ] {
-        let alloc = rt.alloc();
-        let delete = format!(in alloc; "[\"push\",0,0,[\"delete\",{path}]]")?;
-        let keys = format!(in alloc; "[\"ask\",0,0,[\"keys\",{path}]]")?;
-        are_bad(&rt, alloc, &[delete.as_str(), keys.as_str()], "E22")?;
-    }
-    Ok(())
+        r#"["a",["b"]]"#,
+        r#"[0,1,"a",-1]"#,
+    ];
+    let delete = (r#"["push",0,0,["delete","#, "]]");
+    are_bad_with(&rt, rt.alloc(), FIRST, delete, PATHS, "E22")?;
+    let keys = (r#"["ask",0,0,["keys","#, "]]");
+    are_bad_with(&rt, rt.alloc(), FIRST, keys, PATHS, "E22")
 }
 
 #[test]
 fn vectors_without_form(rt: HostRuntime) -> Result<(), Fail> {
-    for vector in [
+    const VECTORS: &[&str] = &[
         "null",
         "0",
         "{}",
-        "\"\"",
+        r#""""#,
         "[1,1]",
         "[[]]",
         "[[1]]",
         "[[1,1,1]]",
-        "[[\"1\",1]]",
+        r#"[["1",1]]"#,
         "[[1,null]]",
         "[[0,1]]",
         "[[1,0]]",
@@ -122,69 +100,77 @@ fn vectors_without_form(rt: HostRuntime) -> Result<(), Fail> {
         "[[2,1]]",
         "[[4294967294,1]]",
         "[[1,1],[2,1],[3,1]]",
-    ] {
-        let alloc = rt.alloc();
-        let line = format!(in alloc; "[\"ask\",0,0,[\"missing\",{vector}]]")?;
-        are_bad(&rt, alloc, &[line.as_str()], "E22")?;
-    }
-    Ok(())
+    ];
+    let missing = (r#"["ask",0,0,["missing","#, "]]");
+    are_bad_with(&rt, rt.alloc(), FIRST, missing, VECTORS, "E22")
 }
 
 /// A vector is a part as any other, and only then it is looked whether the engine is there.
 #[test]
 fn questions_to_nobody(rt: HostRuntime) -> Result<(), Fail> {
-    are_bad(
-        &rt,
-        rt.alloc(),
-        &[
-            "[\"ask\",1,0,[\"missing\",[]]]",
-            "[\"ask\",1,0,[\"missing\",[[1,1]]]]",
-            "[\"ask\",0,2,[\"missing\",[]]]",
-            "[\"ask\",1,0,[\"vector\"]]",
-            "[\"ask\",0,2,[\"vector\"]]",
-            "[\"ask\",0,2,[\"keys\",[]]]",
-            "[\"push\",0,1,[\"delete\",[]]]",
-        ],
-        "E22",
-    )
+    const LINES: &[&str] = &[
+        r#"["ask",1,0,["missing",[]]]"#,
+        r#"["ask",1,0,["missing",[[1,1]]]]"#,
+        r#"["ask",0,2,["missing",[]]]"#,
+        r#"["ask",1,0,["vector"]]"#,
+        r#"["ask",0,2,["vector"]]"#,
+        r#"["ask",0,2,["keys",[]]]"#,
+        r#"["push",0,1,["delete",[]]]"#,
+    ];
+    are_bad(&rt, rt.alloc(), FIRST, LINES, "E22")
 }
 
+/// What stands around a long text, the text's letter and how many there are, and how the line is bad.
+type Long<'a> = (Around<'a>, &'a str, usize, &'a str);
+
 /// A key of 257 bytes is refused before what stands on its right, and so is a text of 4,097.
+const LONG: &[Long] = &[
+    ((r#"["push",0,0,["delete",[0,""#, r#""]]]"#), "k", 257, "E6"),
+    (
+        (r#"["push",0,0,["insert",[""#, r#""],1.5]]"#),
+        "k",
+        257,
+        "E6",
+    ),
+    (
+        (r#"["ask",9,9,["conflicts",["a",""#, r#""]]]"#),
+        "k",
+        257,
+        "E6",
+    ),
+    ((r#"["ask",0,0,["items",[""#, r#"",-1]]]"#), "k", 257, "E6"),
+    ((r#"["ask",0,0,["items",[-1,""#, r#""]]]"#), "k", 257, "E22"),
+    ((r#"["push",0,0,["assign",[],""#, r#""]]"#), "t", 4097, "E7"),
+    (
+        (r#"["push",9,9,["insert",[0],""#, r#""]]"#),
+        "t",
+        4097,
+        "E7",
+    ),
+    (
+        (r#"["push",0,0,["insert",[null],""#, r#""]]"#),
+        "t",
+        4097,
+        "E22",
+    ),
+    (
+        (r#"["push",0,0,["insert",[0],""#, r#"",0]]"#),
+        "t",
+        4097,
+        "E22",
+    ),
+];
+
+fn is_too_long(rt: &impl Abort, alloc: Global, row: &Long) -> Result<(), AllocError> {
+    let (around, letter, count, why) = *row;
+    let long = letter.repeat(alloc, count)?;
+    is_bad_with(rt, alloc, FIRST, around, long.as_str(), why)
+}
+
 #[test]
 fn long_keys_and_texts(rt: HostRuntime) -> Result<(), Fail> {
-    let alloc = rt.alloc();
-    for (before, letter, count, after, name) in [
-        ("[\"push\",0,0,[\"delete\",[0,\"", "k", 257, "\"]]]", "E6"),
-        ("[\"push\",0,0,[\"insert\",[\"", "k", 257, "\"],1.5]]", "E6"),
-        (
-            "[\"ask\",9,9,[\"conflicts\",[\"a\",\"",
-            "k",
-            257,
-            "\"]]]",
-            "E6",
-        ),
-        ("[\"ask\",0,0,[\"items\",[\"", "k", 257, "\",-1]]]", "E6"),
-        ("[\"ask\",0,0,[\"items\",[-1,\"", "k", 257, "\"]]]", "E22"),
-        ("[\"push\",0,0,[\"assign\",[],\"", "t", 4097, "\"]]", "E7"),
-        ("[\"push\",9,9,[\"insert\",[0],\"", "t", 4097, "\"]]", "E7"),
-        (
-            "[\"push\",0,0,[\"insert\",[null],\"",
-            "t",
-            4097,
-            "\"]]",
-            "E22",
-        ),
-        (
-            "[\"push\",0,0,[\"insert\",[0],\"",
-            "t",
-            4097,
-            "\",0]]",
-            "E22",
-        ),
-    ] {
-        let long = letter.repeat(alloc, count)?;
-        let line = format!(in alloc; "{before}{long}{after}")?;
-        are_bad(&rt, alloc, &[line.as_str()], name)?;
+    for row in LONG {
+        is_too_long(&rt, rt.alloc(), row)?;
     }
     Ok(())
 }

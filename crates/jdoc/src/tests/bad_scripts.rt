@@ -1,316 +1,330 @@
 //! Scripts that are bad: what is told of the first bad line.
 
-use super::{is_refused, run_bytes};
+use super::playing::{
+    Around, ONE, are_bad, are_bad_first, are_bad_with, is_bad, is_bad_with, is_refused,
+};
 use std::alloc::{AllocError, Global};
+use std::process::Abort;
 use std::test::Fail;
 
-/// A first line with one client and one reader.
-const WORLD: &[u8] = b"[\"world\",[[1,[1],1,1,4,4,10]]]\n";
+/// Scripts, the number of their first bad line, and how that is bad.
+type Script<'a> = (&'a str, u32, &'a str);
 
-fn after_world(alloc: Global, lines: &[u8]) -> Result<Vec<u8>, AllocError> {
-    let mut script = WORLD.to_vec(alloc)?;
-    script.extend_from_slice(lines)?;
-    Ok(script)
+/// The first bad line decides.
+const SCRIPTS: &[Script] = &[
+    ("", 1, "E22"),
+    (ONE, 1, "E22"),
+    (
+        r#"["world",[[1,[1],1,1,4,4,4294967296]]]
+["push"
+"#,
+        1,
+        "E24",
+    ),
+    (
+        r#"["world",[[1,[1],1,1,4,4,10]]]
+["step",0]
+["step",1]
+["push"
+"#,
+        3,
+        "E22",
+    ),
+    (
+        r#"["world",[[1,[1],1,1,4,4,10]]]
+["push",0,0,["assign",["a"],1.5]]
+["step",1]
+"#,
+        2,
+        "E21",
+    ),
+    (
+        r#"["world",[[1,[1],1,1,4,4,10]]]
+["step",1]
+["push",0,0,["assign",["a"],1.5]]
+"#,
+        2,
+        "E22",
+    ),
+    (
+        r#"["world",[[1,[1],1,1,4,4,10]]]
+["push",0,0,["assign",["a"],1.5]]
+["step",0]"#,
+        2,
+        "E21",
+    ),
+    (
+        r#"["world",[[1,[1],1,1,4,4,10]]]
+["world",[[1,[1],1,1,4,4,10]]]
+"#,
+        2,
+        "E22",
+    ),
+];
+
+#[test]
+fn whole_scripts(rt: HostRuntime) -> Result<(), Fail> {
+    for (script, line, why) in SCRIPTS {
+        is_refused(&rt, rt.alloc(), script.as_bytes(), script, (*line, why))?;
+    }
+    Ok(())
 }
 
 #[test]
-fn whole_scripts(rt: HostRuntime) {
-    let rows: [(&[u8], &str); 19] = [
-        (b"", "jdoc: line 1: E22\n"),
-        (b"\n", "jdoc: line 1: E22\n"),
-        (b"\n\n", "jdoc: line 1: E22\n"),
-        (b"[\"step\",0]\n", "jdoc: line 1: E22\n"),
-        (b"[\"world\",[[1,[1],1,1,4,4,10]]]", "jdoc: line 1: E22\n"),
-        (
-            b"\xef\xbb\xbf[\"world\",[[1,[1],1,1,4,4,10]]]\n",
-            "jdoc: line 1: E22\n",
-        ),
-        (b"[\"world\",[[1,[1],1,1,4,4,10]]\n", "jdoc: line 1: E22\n"),
-        (
-            b"[\"world\",[[1,[1],1,1,4,4,10]],0]\n",
-            "jdoc: line 1: E22\n",
-        ),
-        (b"[\"world\"]\n", "jdoc: line 1: E22\n"),
-        (b"[\"world\",[]]\n", "jdoc: line 1: E22\n"),
-        (b"[\"world\",7]\n", "jdoc: line 1: E22\n"),
-        (b"[\"World\",[[1,[1],1,1,4,4,10]]]\n", "jdoc: line 1: E22\n"),
-        (b"[7,[[1,[1],1,1,4,4,10]]]\n", "jdoc: line 1: E22\n"),
-        // The first bad line decides.
-        (
-            b"[\"world\",[[1,[1],1,1,4,4,4294967296]]]\n[\"push\"\n",
-            "jdoc: line 1: E24\n",
-        ),
-        (
-            b"[\"world\",[[1,[1],1,1,4,4,10]]]\n[\"step\",0]\n[\"step\",1]\n[\"push\"\n",
-            "jdoc: line 3: E22\n",
-        ),
-        (
-            b"[\"world\",[[1,[1],1,1,4,4,10]]]\n[\"push\",0,0,[\"assign\",[\"a\"],1.5]]\n[\"step\",1]\n",
-            "jdoc: line 2: E21\n",
-        ),
-        (
-            b"[\"world\",[[1,[1],1,1,4,4,10]]]\n[\"step\",1]\n[\"push\",0,0,[\"assign\",[\"a\"],1.5]]\n",
-            "jdoc: line 2: E22\n",
-        ),
-        (
-            b"[\"world\",[[1,[1],1,1,4,4,10]]]\n[\"push\",0,0,[\"assign\",[\"a\"],1.5]]\n[\"step\",0]",
-            "jdoc: line 2: E21\n",
-        ),
-        (
-            b"[\"world\",[[1,[1],1,1,4,4,10]]]\n[\"world\",[[1,[1],1,1,4,4,10]]]\n",
-            "jdoc: line 2: E22\n",
-        ),
+fn first_lines_without_form(rt: HostRuntime) -> Result<(), Fail> {
+    const LINES: &[&str] = &[
+        "",
+        "\n",
+        r#"["step",0]"#,
+        r#"["world",[[1,[1],1,1,4,4,10]]"#,
+        r#"["world",[[1,[1],1,1,4,4,10]],0]"#,
+        r#"["world"]"#,
+        r#"["world",[]]"#,
+        r#"["world",7]"#,
+        r#"["World",[[1,[1],1,1,4,4,10]]]"#,
+        r#"[7,[[1,[1],1,1,4,4,10]]]"#,
     ];
-    for (script, told) in rows {
-        let ended = run_bytes(rt.alloc(), script);
-        assert!(rt;
-            is_refused(&ended, told),
-            "{told:?} is wanted, not {ended:?}"
-        );
-    }
+    are_bad_first(&rt, rt.alloc(), LINES, "E22")
+}
+
+/// The mark of a byte order before the first line.
+#[test]
+fn a_mark_before_the_first_line(rt: HostRuntime) -> Result<(), Fail> {
+    let alloc = rt.alloc();
+    let script = format!(in alloc; "\u{feff}{ONE}\n")?;
+    Ok(is_refused(&rt, alloc, script.as_bytes(), "a mark", (1, "E22"))?)
 }
 
 #[test]
 fn lines_without_form(rt: HostRuntime) -> Result<(), Fail> {
-    let rows: [&[u8]; 38] = [
-        b"\n",
-        b"[\"push\"\n",
-        b"[\"step\",0]",
-        b"[\"step\"",
-        b" ",
-        b"[\"step\",0] [\"step\",0]\n",
-        b"[\"step\",0]\xff\n",
-        b"[\"push\",0,0,[\"assign\",[\"\xff\"],1]]\n",
-        b"[\"push\",0,0,[\"assign\",[\"\\ud800\"],1]]\n",
-        b"7\n",
-        b"null\n",
-        b"\"step\"\n",
-        b"{\"step\":0}\n",
-        b"[]\n",
-        b"[0]\n",
-        b"[\"leap\",0]\n",
-        b"[\"Step\",0]\n",
-        // Wrong lengths.
-        b"[\"step\"]\n",
-        b"[\"step\",0,0]\n",
-        b"[\"poll\",0,0]\n",
-        b"[\"poll\",0,0,1,1]\n",
-        b"[\"push\",0,0]\n",
-        b"[\"push\",0,0,[\"assign\",[\"a\"],1],0]\n",
-        b"[\"ask\",0,0]\n",
-        b"[\"ask\",0,0,[\"values\",[\"a\"]],0]\n",
-        // No command.
-        b"[\"push\",0,0,7]\n",
-        b"[\"push\",0,0,[]]\n",
-        b"[\"push\",0,0,[\"assign\"]]\n",
-        b"[\"push\",0,0,[\"assign\",[\"a\"]]]\n",
-        b"[\"push\",0,0,[\"assign\",[\"a\"],1,1]]\n",
-        b"[\"push\",0,0,[\"values\",[\"a\"],1]]\n",
-        // No question.
-        b"[\"ask\",0,0,\"values\"]\n",
-        b"[\"ask\",0,0,[\"values\"]]\n",
-        b"[\"ask\",0,0,[\"values\",[\"a\"],1]]\n",
-        b"[\"ask\",0,0,[\"assign\",[\"a\"]]]\n",
-        // No expression.
-        b"[\"push\",0,0,[\"assign\",\"a\",1]]\n",
-        // No value.
-        b"[\"push\",0,0,[\"assign\",[\"a\"],[1]]]\n",
-        b"[\"push\",0,0,[\"assign\",[\"a\"],1e999]]\n",
+    const LINES: &[&str] = &[
+        "",
+        r#"["push""#,
+        r#"["step",0] ["step",0]"#,
+        r#"["push",0,0,["assign",["\ud800"],1]]"#,
+        "7",
+        "null",
+        r#""step""#,
+        r#"{"step":0}"#,
+        "[]",
+        "[0]",
+        r#"["leap",0]"#,
+        r#"["Step",0]"#,
     ];
-    for line in rows {
-        let script = after_world(rt.alloc(), line)?;
-        let ended = run_bytes(rt.alloc(), script.as_slice());
-        assert!(rt;
-            is_refused(&ended, "jdoc: line 2: E22\n"),
-            "{line:?} gave {ended:?}"
-        );
+    are_bad(&rt, rt.alloc(), ONE, LINES, "E22")
+}
+
+#[test]
+fn parts_without_form(rt: HostRuntime) -> Result<(), Fail> {
+    const LINES: &[&str] = &[
+        // Wrong lengths.
+        r#"["step"]"#,
+        r#"["step",0,0]"#,
+        r#"["poll",0,0]"#,
+        r#"["poll",0,0,1,1]"#,
+        r#"["push",0,0]"#,
+        r#"["push",0,0,["assign",["a"],1],0]"#,
+        r#"["ask",0,0]"#,
+        r#"["ask",0,0,["values",["a"]],0]"#,
+        // No command.
+        r#"["push",0,0,7]"#,
+        r#"["push",0,0,[]]"#,
+        r#"["push",0,0,["assign"]]"#,
+        r#"["push",0,0,["assign",["a"]]]"#,
+        r#"["push",0,0,["assign",["a"],1,1]]"#,
+        r#"["push",0,0,["values",["a"],1]]"#,
+        // No question.
+        r#"["ask",0,0,"values"]"#,
+        r#"["ask",0,0,["values"]]"#,
+        r#"["ask",0,0,["values",["a"],1]]"#,
+        r#"["ask",0,0,["assign",["a"]]]"#,
+        // No expression.
+        r#"["push",0,0,["assign","a",1]]"#,
+        // No value.
+        r#"["push",0,0,["assign",["a"],[1]]]"#,
+        r#"["push",0,0,["assign",["a"],1e999]]"#,
+    ];
+    are_bad(&rt, rt.alloc(), ONE, LINES, "E22")
+}
+
+/// The last line has no line feed.
+#[test]
+fn lines_that_are_cut(rt: HostRuntime) -> Result<(), Fail> {
+    const SCRIPTS: &[&str] = &[
+        r#"["world",[[1,[1],1,1,4,4,10]]]
+["step",0]"#,
+        r#"["world",[[1,[1],1,1,4,4,10]]]
+["step""#,
+        r#"["world",[[1,[1],1,1,4,4,10]]]
+ "#,
+    ];
+    for script in SCRIPTS {
+        is_refused(&rt, rt.alloc(), script.as_bytes(), script, (2, "E22"))?;
     }
     Ok(())
 }
+
+/// A line with a byte that stands in no text, between what is before and after it.
+fn with_byte(alloc: Global, around: Around) -> Result<Vec<u8>, AllocError> {
+    let mut script = Vec::new(alloc);
+    script.extend_from_slice(around.0.as_bytes())?;
+    script.push(0xff)?;
+    script.extend_from_slice(around.1.as_bytes())?;
+    Ok(script)
+}
+
+/// The byte makes the second line bad.
+fn is_no_text(rt: &impl Abort, alloc: Global, around: Around) -> Result<(), AllocError> {
+    let script = with_byte(alloc, around)?;
+    is_refused(rt, alloc, script.as_slice(), around.0, (2, "E22"))
+}
+
+/// Such a byte behind a line and in a key.
+#[test]
+fn lines_that_are_no_text(rt: HostRuntime) -> Result<(), Fail> {
+    const BEHIND: Around = (
+        r#"["world",[[1,[1],1,1,4,4,10]]]
+["step",0]"#,
+        "\n",
+    );
+    const WITHIN: Around = (
+        r#"["world",[[1,[1],1,1,4,4,10]]]
+["push",0,0,["assign",[""#,
+        r#""],1]]
+"#,
+    );
+    is_no_text(&rt, rt.alloc(), BEHIND)?;
+    is_no_text(&rt, rt.alloc(), WITHIN)?;
+    Ok(())
+}
+
+/// Each place of a number, with what is before and after it.
+const PLACES: &[Around] = &[
+    (r#"["push","#, r#",0,["assign",["a"],1]]"#),
+    (r#"["push",0,"#, r#",["assign",["a"],1]]"#),
+    (r#"["step","#, "]"),
+    (r#"["poll","#, ",0,1]"),
+    (r#"["poll",0,"#, ",1]"),
+    (r#"["poll",0,0,"#, "]"),
+    (r#"["ask","#, r#",0,["values",["a"]]]"#),
+    (r#"["ask",0,"#, r#",["values",["a"]]]"#),
+];
 
 #[test]
 fn places_that_are_no_numbers(rt: HostRuntime) -> Result<(), Fail> {
-    let alloc = rt.alloc();
-    let places: [(&[u8], &[u8]); 8] = [
-        (b"[\"push\",", b",0,[\"assign\",[\"a\"],1]]\n"),
-        (b"[\"push\",0,", b",[\"assign\",[\"a\"],1]]\n"),
-        (b"[\"step\",", b"]\n"),
-        (b"[\"poll\",", b",0,1]\n"),
-        (b"[\"poll\",0,", b",1]\n"),
-        (b"[\"poll\",0,0,", b"]\n"),
-        (b"[\"ask\",", b",0,[\"values\",[\"a\"]]]\n"),
-        (b"[\"ask\",0,", b",[\"values\",[\"a\"]]]\n"),
+    const PARTS: &[&str] = &[
+        "-1",
+        "-0",
+        "0.0",
+        "1.5",
+        "1e2",
+        "18446744073709551616",
+        "1e999",
+        r#""0""#,
+        "null",
     ];
-    let numbers: [&[u8]; 9] = [
-        b"-1",
-        b"-0",
-        b"0.0",
-        b"1.5",
-        b"1e2",
-        b"18446744073709551616",
-        b"1e999",
-        b"\"0\"",
-        b"null",
-    ];
-    for (before, after) in places {
-        for number in numbers {
-            let mut script = after_world(alloc, before)?;
-            script.extend_from_slice(number)?;
-            script.extend_from_slice(after)?;
-            let ended = run_bytes(alloc, script.as_slice());
-            assert!(rt;
-                is_refused(&ended, "jdoc: line 2: E22\n"),
-                "{script:?} gave {ended:?}"
-            );
-        }
+    for place in PLACES {
+        are_bad_with(&rt, rt.alloc(), ONE, *place, PARTS, "E22")?;
     }
     Ok(())
 }
 
+/// What stands around a value that is assigned.
+const ASSIGNED: Around = (r#"["push",0,0,["assign",["a"],"#, "]]");
+
 #[test]
 fn values_that_are_not_whole(rt: HostRuntime) -> Result<(), Fail> {
-    let alloc = rt.alloc();
-    let rows: [(&[u8], &str); 9] = [
-        (b"1.5", "jdoc: line 2: E21\n"),
-        (b"-0", "jdoc: line 2: E21\n"),
-        (b"1.0", "jdoc: line 2: E21\n"),
-        (b"1e2", "jdoc: line 2: E21\n"),
-        (b"9223372036854775808", "jdoc: line 2: E21\n"),
-        (b"-9223372036854775809", "jdoc: line 2: E21\n"),
-        (b"1e999", "jdoc: line 2: E22\n"),
-        (b"[1.5]", "jdoc: line 2: E22\n"),
-        (b"{\"a\":1.5}", "jdoc: line 2: E22\n"),
+    const NOT_WHOLE: &[&str] = &[
+        "1.5",
+        "-0",
+        "1.0",
+        "1e2",
+        "9223372036854775808",
+        "-9223372036854775809",
     ];
-    for (value, told) in rows {
-        let mut script = after_world(alloc, b"[\"push\",0,0,[\"assign\",[\"a\"],")?;
-        script.extend_from_slice(value)?;
-        script.extend_from_slice(b"]]\n")?;
-        let ended = run_bytes(alloc, script.as_slice());
-        assert!(rt; is_refused(&ended, told), "{value:?} gave {ended:?}");
-    }
-    Ok(())
+    are_bad_with(&rt, rt.alloc(), ONE, ASSIGNED, NOT_WHOLE, "E21")
+}
+
+#[test]
+fn values_without_form(rt: HostRuntime) -> Result<(), Fail> {
+    const VALUES: &[&str] = &["1e999", "[1.5]", r#"{"a":1.5}"#];
+    are_bad_with(&rt, rt.alloc(), ONE, ASSIGNED, VALUES, "E22")
 }
 
 #[test]
 fn what_is_not_there(rt: HostRuntime) -> Result<(), Fail> {
-    let rows: [&[u8]; 9] = [
-        b"[\"push\",1,0,[\"assign\",[\"a\"],1]]\n",
-        b"[\"push\",0,1,[\"assign\",[\"a\"],1]]\n",
-        b"[\"push\",0,18446744073709551615,[\"assign\",[\"a\"],1]]\n",
-        b"[\"step\",1]\n",
-        b"[\"step\",18446744073709551615]\n",
-        b"[\"poll\",1,0,1]\n",
-        b"[\"poll\",0,1,1]\n",
-        b"[\"ask\",1,0,[\"values\",[\"a\"]]]\n",
-        b"[\"ask\",0,2,[\"values\",[\"a\"]]]\n",
+    const LINES: &[&str] = &[
+        r#"["push",1,0,["assign",["a"],1]]"#,
+        r#"["push",0,1,["assign",["a"],1]]"#,
+        r#"["push",0,18446744073709551615,["assign",["a"],1]]"#,
+        r#"["step",1]"#,
+        r#"["step",18446744073709551615]"#,
+        r#"["poll",1,0,1]"#,
+        r#"["poll",0,1,1]"#,
+        r#"["ask",1,0,["values",["a"]]]"#,
+        r#"["ask",0,2,["values",["a"]]]"#,
     ];
-    for line in rows {
-        let script = after_world(rt.alloc(), line)?;
-        let ended = run_bytes(rt.alloc(), script.as_slice());
-        assert!(rt;
-            is_refused(&ended, "jdoc: line 2: E22\n"),
-            "{line:?} gave {ended:?}"
-        );
+    are_bad(&rt, rt.alloc(), ONE, LINES, "E22")
+}
+
+/// What stands around a key that is too long, and how the line is bad.
+const LONG_KEYS: &[(Around, &str)] = &[
+    ((r#"["push",0,0,["assign",[""#, r#""],1]]"#), "E6"),
+    ((r#"["ask",0,0,["values",[""#, r#""]]]"#), "E6"),
+    ((r#"["push",0,0,["assign",[""#, r#""],1.5]]"#), "E6"),
+    ((r#"["push",0,0,["assign",[""#, r#""],null]]"#), "E6"),
+    ((r#"["push",7,7,["assign",[""#, r#""],1]]"#), "E6"),
+    ((r#"["ask",7,7,["values",[""#, r#""]]]"#), "E6"),
+    ((r#"["push",0,0,["assign",[""#, r#"","b"],1]]"#), "E6"),
+    ((r#"["push",0,-1,["assign",[""#, r#""],1]]"#), "E22"),
+    ((r#"["push",0,0,["assign",[""#, r#""],1],0]"#), "E22"),
+];
+
+/// The first fault of a line decides: its length and first word, then its parts from the left, then what is there.
+#[test]
+fn long_keys_beside_other_faults(rt: HostRuntime) -> Result<(), Fail> {
+    let key = "k".repeat(rt.alloc(), 257)?;
+    for (around, why) in LONG_KEYS {
+        is_bad_with(&rt, rt.alloc(), ONE, *around, key.as_str(), why)?;
     }
     Ok(())
 }
 
-/// The first fault of a line decides: its length and first word, then its parts from the left, then what is there.
+/// A character of two bytes, 129 times.
+#[test]
+fn wide_keys_are_counted_in_bytes(rt: HostRuntime) -> Result<(), Fail> {
+    let around = (r#"["push",0,0,["assign",[""#, r#""],1]]"#);
+    let key = r#"\u00e9"#.repeat(rt.alloc(), 129)?;
+    Ok(is_bad_with(&rt, rt.alloc(), ONE, around, key.as_str(), "E6")?)
+}
+
+/// Lines with more than one fault, and how they are bad.
+const FAULTS: &[(&str, &str)] = &[
+    (r#"["push",7,7,["assign",["a"],1.5]]"#, "E21"),
+    (r#"["push",0,0,["assign",[-7],1.5]]"#, "E22"),
+    (r#"["push",0,0,["assign",[],1.5]]"#, "E21"),
+    (r#"["push",0,0,["assign",["a"],1.5,0]]"#, "E22"),
+    (r#"["push",0,-1,["assign",["a"],1.5]]"#, "E22"),
+    (r#"["push",0,0,["assign",["a"],1.5]"#, "E22"),
+];
+
 #[test]
 fn the_first_fault_decides(rt: HostRuntime) -> Result<(), Fail> {
-    let alloc = rt.alloc();
-    let long = "k".repeat(alloc, 257)?;
-    let wide = "\\u00e9".repeat(alloc, 129)?;
-    let key = long.as_str();
-    let rows = [
-        (
-            format!(in alloc; "[\"push\",0,0,[\"assign\",[\"{key}\"],1]]\n")?,
-            "jdoc: line 2: E6\n",
-        ),
-        (
-            format!(in alloc; "[\"push\",0,0,[\"assign\",[\"{wide}\"],1]]\n")?,
-            "jdoc: line 2: E6\n",
-        ),
-        (
-            format!(in alloc; "[\"ask\",0,0,[\"values\",[\"{key}\"]]]\n")?,
-            "jdoc: line 2: E6\n",
-        ),
-        (
-            format!(in alloc; "[\"push\",0,0,[\"assign\",[\"{key}\"],1.5]]\n")?,
-            "jdoc: line 2: E6\n",
-        ),
-        (
-            format!(in alloc; "[\"push\",0,0,[\"assign\",[\"{key}\"],null]]\n")?,
-            "jdoc: line 2: E6\n",
-        ),
-        (
-            format!(in alloc; "[\"push\",7,7,[\"assign\",[\"{key}\"],1]]\n")?,
-            "jdoc: line 2: E6\n",
-        ),
-        (
-            format!(in alloc; "[\"ask\",7,7,[\"values\",[\"{key}\"]]]\n")?,
-            "jdoc: line 2: E6\n",
-        ),
-        (
-            format!(in alloc; "[\"push\",0,0,[\"assign\",[\"{key}\",\"b\"],1]]\n")?,
-            "jdoc: line 2: E6\n",
-        ),
-        (
-            format!(in alloc; "[\"push\",0,-1,[\"assign\",[\"{key}\"],1]]\n")?,
-            "jdoc: line 2: E22\n",
-        ),
-        (
-            format!(in alloc; "[\"push\",0,0,[\"assign\",[\"{key}\"],1],0]\n")?,
-            "jdoc: line 2: E22\n",
-        ),
-    ];
-    for (line, told) in rows {
-        let script = after_world(alloc, line.as_bytes())?;
-        let ended = run_bytes(alloc, script.as_slice());
-        assert!(rt; is_refused(&ended, told), "{line} gave {ended:?}");
-    }
-    let rows: [(&[u8], &str); 6] = [
-        (
-            b"[\"push\",7,7,[\"assign\",[\"a\"],1.5]]\n",
-            "jdoc: line 2: E21\n",
-        ),
-        (
-            b"[\"push\",0,0,[\"assign\",[-7],1.5]]\n",
-            "jdoc: line 2: E22\n",
-        ),
-        (
-            b"[\"push\",0,0,[\"assign\",[],1.5]]\n",
-            "jdoc: line 2: E21\n",
-        ),
-        (
-            b"[\"push\",0,0,[\"assign\",[\"a\"],1.5,0]]\n",
-            "jdoc: line 2: E22\n",
-        ),
-        (
-            b"[\"push\",0,-1,[\"assign\",[\"a\"],1.5]]\n",
-            "jdoc: line 2: E22\n",
-        ),
-        (
-            b"[\"push\",0,0,[\"assign\",[\"a\"],1.5]\n",
-            "jdoc: line 2: E22\n",
-        ),
-    ];
-    for (line, told) in rows {
-        let script = after_world(alloc, line)?;
-        let ended = run_bytes(alloc, script.as_slice());
-        assert!(rt; is_refused(&ended, told), "{line:?} gave {ended:?}");
+    for (line, why) in FAULTS {
+        is_bad(&rt, rt.alloc(), ONE, line, why)?;
     }
     Ok(())
+}
+
+/// A line of so many lists within one another.
+fn nested(alloc: Global, count: usize) -> Result<String, AllocError> {
+    let open = "[".repeat(alloc, count)?;
+    let close = "]".repeat(alloc, count)?;
+    format!(in alloc; "{open}{close}")
 }
 
 #[test]
 fn deep_nesting_has_no_form(rt: HostRuntime) -> Result<(), Fail> {
-    let alloc = rt.alloc();
-    let open = "[".repeat(alloc, 128)?;
-    let close = "]".repeat(alloc, 128)?;
-    let line = format!(in alloc; "{open}{close}\n")?;
-    let script = after_world(alloc, line.as_bytes())?;
-    let ended = run_bytes(alloc, script.as_slice());
-    assert!(rt; is_refused(&ended, "jdoc: line 2: E22\n"), "{ended:?}");
-    Ok(())
+    let line = nested(rt.alloc(), 128)?;
+    Ok(is_bad(&rt, rt.alloc(), ONE, line.as_str(), "E22")?)
 }

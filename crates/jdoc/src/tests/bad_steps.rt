@@ -1,100 +1,79 @@
 //! Single steps and steps with messages that are bad.
 
-use super::{is_refused, run_bytes};
-use std::alloc::Global;
-use std::process::Abort;
+use super::playing::{Around, are_bad, are_bad_with, is_refused};
 use std::test::Fail;
 
-/// These lines are each bad in a world of two engines: the first has two clients and three readers, the second one of each.
-fn are_bad(rt: &impl Abort, alloc: Global, lines: &[&str]) -> Result<(), Fail> {
-    for line in lines {
-        let script = format!(in alloc;
-            "[\"world\",[[1,[1,2],2,3,4,4,10],[2,[1,2],1,1,4,4,10]]]\n{line}\n"
-        )?;
-        let ended = run_bytes(alloc, script.as_bytes());
-        assert!(rt;
-            is_refused(&ended, "jdoc: line 2: E22\n"),
-            "{line} gave {ended:?}"
-        );
-    }
-    Ok(())
-}
+/// A first line of two engines: the first has two clients and three readers, the second one of each.
+const FIRST: &str = r#"["world",[[1,[1,2],2,3,4,4,10],[2,[1,2],1,1,4,4,10]]]"#;
 
 #[test]
 fn wrong_lengths(rt: HostRuntime) -> Result<(), Fail> {
-    are_bad(
-        &rt,
-        rt.alloc(),
-        &[
-            "[\"take\"]",
-            "[\"take\",0,0]",
-            "[\"publish\"]",
-            "[\"publish\",0,0]",
-            "[\"give\"]",
-            "[\"give\",0,0]",
-            "[\"dropped\"]",
-            "[\"dropped\",0,0]",
-            "[\"learn\",0,0,0]",
-            "[\"learn\",0,0,0,1,1]",
-            "[\"hello\",0]",
-            "[\"hello\",0,0,0]",
-            "[\"bundle\",0,0]",
-            "[\"bundle\",0,0,0,0]",
-            "[\"deliver\",0,0]",
-            "[\"deliver\",0,0,0,0]",
-            "[\"line\",0,0]",
-            "[\"line\",0,0,\"\",\"\"]",
-        ],
-    )
+    const LINES: &[&str] = &[
+        r#"["take"]"#,
+        r#"["take",0,0]"#,
+        r#"["publish"]"#,
+        r#"["publish",0,0]"#,
+        r#"["give"]"#,
+        r#"["give",0,0]"#,
+        r#"["dropped"]"#,
+        r#"["dropped",0,0]"#,
+        r#"["learn",0,0,0]"#,
+        r#"["learn",0,0,0,1,1]"#,
+        r#"["hello",0]"#,
+        r#"["hello",0,0,0]"#,
+        r#"["bundle",0,0]"#,
+        r#"["bundle",0,0,0,0]"#,
+        r#"["deliver",0,0]"#,
+        r#"["deliver",0,0,0,0]"#,
+        r#"["line",0,0]"#,
+        r#"["line",0,0,"",""]"#,
+    ];
+    are_bad(&rt, rt.alloc(), FIRST, LINES, "E22")
 }
 
 #[test]
 fn other_words(rt: HostRuntime) -> Result<(), Fail> {
-    are_bad(
-        &rt,
-        rt.alloc(),
-        &[
-            "[\"Take\",0]",
-            "[\"took\",0]",
-            "[\"publishes\",0]",
-            "[\"\",0]",
-            "[\"drop\",0]",
-            "[\"lines\",0,0,\"\"]",
-            "[\"message\",0,0]",
-            "[[\"take\"],0]",
-            "{\"take\":0}",
-        ],
-    )
+    const LINES: &[&str] = &[
+        r#"["Take",0]"#,
+        r#"["took",0]"#,
+        r#"["publishes",0]"#,
+        r#"["",0]"#,
+        r#"["drop",0]"#,
+        r#"["lines",0,0,""]"#,
+        r#"["message",0,0]"#,
+        r#"[["take"],0]"#,
+        r#"{"take":0}"#,
+    ];
+    are_bad(&rt, rt.alloc(), FIRST, LINES, "E22")
 }
 
 /// Each place of a number, with what is before and after it.
-const PLACES: [(&str, &str); 20] = [
-    ("\"take\",", ""),
-    ("\"publish\",", ""),
-    ("\"give\",", ""),
-    ("\"dropped\",", ""),
-    ("\"learn\",", ",0,0,1"),
-    ("\"learn\",0,", ",0,1"),
-    ("\"learn\",0,0,", ",1"),
-    ("\"learn\",0,0,0,", ""),
-    ("\"hello\",", ",0"),
-    ("\"hello\",0,", ""),
-    ("\"bundle\",", ",0,0"),
-    ("\"bundle\",0,", ",0"),
-    ("\"bundle\",0,0,", ""),
-    ("\"deliver\",", ",0,0"),
-    ("\"deliver\",0,", ",0"),
-    ("\"deliver\",0,0,", ""),
-    ("\"line\",", ",0,\"\""),
-    ("\"line\",0,", ",\"\""),
-    ("\"step\",", ""),
-    ("\"poll\",0,0,", ""),
+const PLACES: &[Around] = &[
+    (r#"["take","#, "]"),
+    (r#"["publish","#, "]"),
+    (r#"["give","#, "]"),
+    (r#"["dropped","#, "]"),
+    (r#"["learn","#, ",0,0,1]"),
+    (r#"["learn",0,"#, ",0,1]"),
+    (r#"["learn",0,0,"#, ",1]"),
+    (r#"["learn",0,0,0,"#, "]"),
+    (r#"["hello","#, ",0]"),
+    (r#"["hello",0,"#, "]"),
+    (r#"["bundle","#, ",0,0]"),
+    (r#"["bundle",0,"#, ",0]"),
+    (r#"["bundle",0,0,"#, "]"),
+    (r#"["deliver","#, ",0,0]"),
+    (r#"["deliver",0,"#, ",0]"),
+    (r#"["deliver",0,0,"#, "]"),
+    (r#"["line","#, r#",0,""]"#),
+    (r#"["line",0,"#, r#",""]"#),
+    (r#"["step","#, "]"),
+    (r#"["poll",0,0,"#, "]"),
 ];
 
 #[test]
 fn parts_that_are_no_numbers(rt: HostRuntime) -> Result<(), Fail> {
-    let alloc = rt.alloc();
-    let numbers = [
+    const PARTS: &[&str] = &[
         "-1",
         "-0",
         "0.0",
@@ -102,92 +81,96 @@ fn parts_that_are_no_numbers(rt: HostRuntime) -> Result<(), Fail> {
         "1e2",
         "18446744073709551616",
         "1e999",
-        "\"0\"",
+        r#""0""#,
         "null",
         "[0]",
     ];
-    for (before, after) in PLACES {
-        for number in numbers {
-            let line = format!(in alloc; "[{before}{number}{after}]")?;
-            are_bad(&rt, alloc, &[line.as_str()])?;
-        }
+    for place in PLACES {
+        are_bad_with(&rt, rt.alloc(), FIRST, *place, PARTS, "E22")?;
     }
     Ok(())
 }
 
 #[test]
 fn texts_that_are_none(rt: HostRuntime) -> Result<(), Fail> {
-    are_bad(
-        &rt,
-        rt.alloc(),
-        &[
-            "[\"line\",0,0,7]",
-            "[\"line\",0,0,null]",
-            "[\"line\",0,0,[\"op\"]]",
-            "[\"line\",0,0,{}]",
-            "[\"line\",0,0,\"\\ud800\"]",
-            "[\"line\",0,0,\"\t\"]",
-            "[\"line\",0,0,op]",
-        ],
-    )
+    const LINES: &[&str] = &[
+        r#"["line",0,0,7]"#,
+        r#"["line",0,0,null]"#,
+        r#"["line",0,0,["op"]]"#,
+        r#"["line",0,0,{}]"#,
+        r#"["line",0,0,"\ud800"]"#,
+        r#"["line",0,0,op]"#,
+    ];
+    are_bad(&rt, rt.alloc(), FIRST, LINES, "E22")?;
+    let tab = (r#"["line",0,0,""#, r#""]"#);
+    are_bad_with(&rt, rt.alloc(), FIRST, tab, &["\t"], "E22")
 }
 
 #[test]
 fn what_is_not_there(rt: HostRuntime) -> Result<(), Fail> {
-    are_bad(
-        &rt,
-        rt.alloc(),
-        &[
-            "[\"push\",1,1,[\"assign\",[\"a\"],1]]",
-            "[\"ask\",1,2,[\"values\",[\"a\"]]]",
-            "[\"ask\",2,0,[\"missing\",[]]]",
-            "[\"take\",2]",
-            "[\"publish\",2]",
-            "[\"give\",2]",
-            "[\"dropped\",2]",
-            "[\"dropped\",18446744073709551615]",
-            "[\"learn\",2,0,0,1]",
-            "[\"learn\",0,5,0,1]",
-            "[\"learn\",0,0,2,1]",
-            "[\"learn\",1,2,0,1]",
-            "[\"learn\",1,0,1,1]",
-            "[\"hello\",2,0]",
-            "[\"hello\",0,5]",
-            "[\"hello\",1,2]",
-            "[\"bundle\",2,0,0]",
-            "[\"bundle\",0,5,0]",
-            "[\"bundle\",1,2,0]",
-            "[\"deliver\",2,0,0]",
-            "[\"deliver\",0,2,0]",
-            "[\"deliver\",1,1,0]",
-            "[\"line\",2,0,\"\"]",
-            "[\"line\",0,2,\"\"]",
-            "[\"line\",1,1,\"\"]",
-        ],
-    )
+    const LINES: &[&str] = &[
+        r#"["push",1,1,["assign",["a"],1]]"#,
+        r#"["ask",1,2,["values",["a"]]]"#,
+        r#"["ask",2,0,["missing",[]]]"#,
+        r#"["take",2]"#,
+        r#"["publish",2]"#,
+        r#"["give",2]"#,
+        r#"["dropped",2]"#,
+        r#"["dropped",18446744073709551615]"#,
+        r#"["learn",2,0,0,1]"#,
+        r#"["learn",0,5,0,1]"#,
+        r#"["learn",0,0,2,1]"#,
+        r#"["learn",1,2,0,1]"#,
+        r#"["learn",1,0,1,1]"#,
+        r#"["hello",2,0]"#,
+        r#"["hello",0,5]"#,
+        r#"["hello",1,2]"#,
+        r#"["bundle",2,0,0]"#,
+        r#"["bundle",0,5,0]"#,
+        r#"["bundle",1,2,0]"#,
+        r#"["deliver",2,0,0]"#,
+        r#"["deliver",0,2,0]"#,
+        r#"["deliver",1,1,0]"#,
+        r#"["line",2,0,""]"#,
+        r#"["line",0,2,""]"#,
+        r#"["line",1,1,""]"#,
+    ];
+    are_bad(&rt, rt.alloc(), FIRST, LINES, "E22")
 }
+
+/// Scripts, the number of the line that decides, and how that is bad.
+const FAULTS: &[(&str, u32, &str)] = &[
+    (
+        r#"["world",[[1,[1,2],1,1,4,4,10],[2,[1,2],1,1,4,4,10]]]
+["push",2,7,["assign",["a"],1.5]]
+"#,
+        2,
+        "E21",
+    ),
+    (
+        r#"["world",[[1,[1,2],1,1,4,4,10],[2,[1,2],1,1,4,4,10]]]
+["push",1,0,["assign",["a"],1.5]]
+"#,
+        2,
+        "E21",
+    ),
+    (
+        r#"["world",[[1,[1,2],1,1,4,4,10],[2,[1,2],1,1,4,4,10]]]
+["hello",1,0]
+["take",1]
+["give"]
+["push",0,0,["assign",["a"],1.5]]
+"#,
+        4,
+        "E22",
+    ),
+];
 
 /// The first part without form decides, and every form goes before what is there.
 #[test]
 fn the_first_fault_decides(rt: HostRuntime) -> Result<(), Fail> {
-    let alloc = rt.alloc();
-    let rows: [(&[u8], &str); 3] = [
-        (
-            b"[\"world\",[[1,[1,2],1,1,4,4,10],[2,[1,2],1,1,4,4,10]]]\n[\"push\",2,7,[\"assign\",[\"a\"],1.5]]\n",
-            "jdoc: line 2: E21\n",
-        ),
-        (
-            b"[\"world\",[[1,[1,2],1,1,4,4,10],[2,[1,2],1,1,4,4,10]]]\n[\"push\",1,0,[\"assign\",[\"a\"],1.5]]\n",
-            "jdoc: line 2: E21\n",
-        ),
-        (
-            b"[\"world\",[[1,[1,2],1,1,4,4,10],[2,[1,2],1,1,4,4,10]]]\n[\"hello\",1,0]\n[\"take\",1]\n[\"give\"]\n[\"push\",0,0,[\"assign\",[\"a\"],1.5]]\n",
-            "jdoc: line 4: E22\n",
-        ),
-    ];
-    for (script, told) in rows {
-        let ended = run_bytes(alloc, script);
-        assert!(rt; is_refused(&ended, told), "{script:?} gave {ended:?}");
+    for (script, line, why) in FAULTS {
+        is_refused(&rt, rt.alloc(), script.as_bytes(), script, (*line, why))?;
     }
     Ok(())
 }

@@ -1,57 +1,73 @@
 //! First lines whose configuration is out of range, or has no form.
 
-use super::{is_refused, run_bytes};
+use super::playing::{Around, are_bad_first, is_bad_first, replies_so, with_part};
+use std::alloc::{AllocError, Global};
+use std::process::Abort;
 use std::test::Fail;
 
 #[test]
-fn engines_without_form(rt: HostRuntime) {
-    let rows: [&[u8]; 13] = [
-        b"[\"world\",[7]]\n",
-        b"[\"world\",[[]]]\n",
-        b"[\"world\",[[1,[1],1,1,4,4]]]\n",
-        b"[\"world\",[[1,[1],1,1,4,4,10,0]]]\n",
-        b"[\"world\",[[\"1\",[1],1,1,4,4,10]]]\n",
-        b"[\"world\",[[1,1,1,1,4,4,10]]]\n",
-        b"[\"world\",[[1,[\"1\"],1,1,4,4,10]]]\n",
-        b"[\"world\",[[1,[1,null],1,1,4,4,10]]]\n",
-        b"[\"world\",[[1,[[1]],1,1,4,4,10]]]\n",
+fn engines_without_form(rt: HostRuntime) -> Result<(), Fail> {
+    const LINES: &[&str] = &[
+        r#"["world",[7]]"#,
+        r#"["world",[[]]]"#,
+        r#"["world",[[1,[1],1,1,4,4]]]"#,
+        r#"["world",[[1,[1],1,1,4,4,10,0]]]"#,
+        r#"["world",[["1",[1],1,1,4,4,10]]]"#,
+        r#"["world",[[1,1,1,1,4,4,10]]]"#,
+        r#"["world",[[1,["1"],1,1,4,4,10]]]"#,
+        r#"["world",[[1,[1,null],1,1,4,4,10]]]"#,
+        r#"["world",[[1,[[1]],1,1,4,4,10]]]"#,
         // A part without form goes before every number that is out of range.
-        b"[\"world\",[[4294967296,[1],1,1,4,4,\"10\"]]]\n",
-        b"[\"world\",[[1,[4294967296,-1],1,1,4,4,10]]]\n",
-        b"[\"world\",[[0,[],0,0,0,0,-1]]]\n",
-        b"[\"world\",[[0,[],0,0,0,0,0.5]]]\n",
+        r#"["world",[[4294967296,[1],1,1,4,4,"10"]]]"#,
+        r#"["world",[[1,[4294967296,-1],1,1,4,4,10]]]"#,
+        r#"["world",[[0,[],0,0,0,0,-1]]]"#,
+        r#"["world",[[0,[],0,0,0,0,0.5]]]"#,
     ];
-    for script in rows {
-        let ended = run_bytes(rt.alloc(), script);
-        assert!(rt;
-            is_refused(&ended, "jdoc: line 1: E22\n"),
-            "{script:?} gave {ended:?}"
-        );
-    }
+    are_bad_first(&rt, rt.alloc(), LINES, "E22")
 }
+
+/// The first line is bad in this way with this number.
+fn is_bad_with(
+    rt: &impl Abort,
+    alloc: Global,
+    around: Around,
+    number: &str,
+    why: &str,
+) -> Result<(), AllocError> {
+    let line = with_part(alloc, around, number)?;
+    is_bad_first(rt, alloc, line.as_str(), why)
+}
+
+/// So it is with each of these numbers.
+fn are_bad_with(
+    rt: &impl Abort,
+    alloc: Global,
+    around: Around,
+    numbers: &[&str],
+    why: &str,
+) -> Result<(), Fail> {
+    for number in numbers {
+        is_bad_with(rt, alloc, around, number, why)?;
+    }
+    Ok(())
+}
+
+/// Each place of a number, with what is before and after it.
+const PLACES: &[Around] = &[
+    (r#"["world",[["#, ",[1],1,1,4,4,10]]]"),
+    (r#"["world",[[1,["#, "],1,1,4,4,10]]]"),
+    (r#"["world",[[1,[1],"#, ",1,4,4,10]]]"),
+    (r#"["world",[[1,[1],1,"#, ",4,4,10]]]"),
+    (r#"["world",[[1,[1],1,1,"#, ",4,10]]]"),
+    (r#"["world",[[1,[1],1,1,4,"#, ",10]]]"),
+    (r#"["world",[[1,[1],1,1,4,4,"#, "]]]"),
+];
 
 #[test]
 fn parts_that_are_no_numbers(rt: HostRuntime) -> Result<(), Fail> {
-    let alloc = rt.alloc();
-    let places = [
-        ("", ",[1],1,1,4,4,10"),
-        ("1,[", "],1,1,4,4,10"),
-        ("1,[1],", ",1,4,4,10"),
-        ("1,[1],1,", ",4,4,10"),
-        ("1,[1],1,1,", ",4,10"),
-        ("1,[1],1,1,4,", ",10"),
-        ("1,[1],1,1,4,4,", ""),
-    ];
-    let numbers = ["-1", "-0", "1.0", "1.5", "18446744073709551616", "1e999"];
-    for (before, after) in places {
-        for number in numbers {
-            let script = format!(in alloc; "[\"world\",[[{before}{number}{after}]]]\n")?;
-            let ended = run_bytes(alloc, script.as_bytes());
-            assert!(rt;
-                is_refused(&ended, "jdoc: line 1: E22\n"),
-                "{script} gave {ended:?}"
-            );
-        }
+    const NUMBERS: &[&str] = &["-1", "-0", "1.0", "1.5", "18446744073709551616", "1e999"];
+    for place in PLACES {
+        are_bad_with(&rt, rt.alloc(), *place, NUMBERS, "E22")?;
     }
     Ok(())
 }
@@ -59,106 +75,75 @@ fn parts_that_are_no_numbers(rt: HostRuntime) -> Result<(), Fail> {
 /// A configuration has no room for these.
 #[test]
 fn numbers_that_are_too_large(rt: HostRuntime) -> Result<(), Fail> {
-    let alloc = rt.alloc();
-    let places = [
-        ("", ",[1],1,1,4,4,10"),
-        ("1,[", "],1,1,4,4,10"),
-        ("1,[1,", "],1,1,4,4,10"),
-        ("1,[1],", ",1,4,4,10"),
-        ("1,[1],1,", ",4,4,10"),
-        ("1,[1],1,1,", ",4,10"),
-        ("1,[1],1,1,4,", ",10"),
-        ("1,[1],1,1,4,4,", ""),
-    ];
-    for (before, after) in places {
-        for number in ["4294967296", "18446744073709551615"] {
-            let script = format!(in alloc; "[\"world\",[[{before}{number}{after}]]]\n")?;
-            let ended = run_bytes(alloc, script.as_bytes());
-            assert!(rt;
-                is_refused(&ended, "jdoc: line 1: E24\n"),
-                "{script} gave {ended:?}"
-            );
-        }
+    const NUMBERS: &[&str] = &["4294967296", "18446744073709551615"];
+    for place in PLACES {
+        are_bad_with(&rt, rt.alloc(), *place, NUMBERS, "E24")?;
     }
-    Ok(())
+    let second_member = (r#"["world",[[1,[1,"#, "],1,1,4,4,10]]]");
+    are_bad_with(&rt, rt.alloc(), second_member, NUMBERS, "E24")
 }
 
 #[test]
-fn no_clients(rt: HostRuntime) {
-    let ended = run_bytes(rt.alloc(), b"[\"world\",[[1,[1],0,1,4,4,10]]]\n");
-    assert!(rt; is_refused(&ended, "jdoc: line 1: E24\n"), "{ended:?}");
+fn no_clients(rt: HostRuntime) -> Result<(), Fail> {
+    const NONE: &str = r#"["world",[[1,[1],0,1,4,4,10]]]"#;
+    are_bad_first(&rt, rt.alloc(), &[NONE], "E24")
 }
 
 /// What the world refuses.
 #[test]
 fn limits_of_a_world(rt: HostRuntime) -> Result<(), Fail> {
-    let alloc = rt.alloc();
-    let rows = [
+    const LINES: &[&str] = &[
         // The own number and the members.
-        "0,[1],1,1,4,4,10",
-        "0,[0],1,1,4,4,10",
-        "1,[0],1,1,4,4,10",
-        "1,[0,1],1,1,4,4,10",
-        "1,[],1,1,4,4,10",
-        "1,[2],1,1,4,4,10",
-        "1,[1,1],1,1,4,4,10",
-        "1,[2,1,2],1,1,4,4,10",
+        r#"["world",[[0,[1],1,1,4,4,10]]]"#,
+        r#"["world",[[0,[0],1,1,4,4,10]]]"#,
+        r#"["world",[[1,[0],1,1,4,4,10]]]"#,
+        r#"["world",[[1,[0,1],1,1,4,4,10]]]"#,
+        r#"["world",[[1,[],1,1,4,4,10]]]"#,
+        r#"["world",[[1,[2],1,1,4,4,10]]]"#,
+        r#"["world",[[1,[1,1],1,1,4,4,10]]]"#,
+        r#"["world",[[1,[2,1,2],1,1,4,4,10]]]"#,
         // Clients, readers, queue, batch and serials.
-        "1,[1],65,1,4,4,10",
-        "1,[1],4294967295,1,4,4,10",
-        "1,[1],1,0,4,4,10",
-        "1,[1],1,65,4,4,10",
-        "1,[1],1,1,0,4,10",
-        "1,[1],1,1,65537,4,10",
-        "1,[1],1,1,4,0,10",
-        "1,[1],1,1,4,257,10",
-        "1,[1],1,1,4,4,0",
+        r#"["world",[[1,[1],65,1,4,4,10]]]"#,
+        r#"["world",[[1,[1],4294967295,1,4,4,10]]]"#,
+        r#"["world",[[1,[1],1,0,4,4,10]]]"#,
+        r#"["world",[[1,[1],1,65,4,4,10]]]"#,
+        r#"["world",[[1,[1],1,1,0,4,10]]]"#,
+        r#"["world",[[1,[1],1,1,65537,4,10]]]"#,
+        r#"["world",[[1,[1],1,1,4,0,10]]]"#,
+        r#"["world",[[1,[1],1,1,4,257,10]]]"#,
+        r#"["world",[[1,[1],1,1,4,4,0]]]"#,
     ];
-    for parts in rows {
-        let script = format!(in alloc; "[\"world\",[[{parts}]]]\n")?;
-        let ended = run_bytes(alloc, script.as_bytes());
-        assert!(rt;
-            is_refused(&ended, "jdoc: line 1: E24\n"),
-            "{script} gave {ended:?}"
-        );
-    }
-    let script = format!(in alloc; "[\"world\",[[1,{},1,1,4,4,10]]]\n", members(alloc, 65)?)?;
-    let ended = run_bytes(alloc, script.as_bytes());
-    assert!(rt;
-        is_refused(&ended, "jdoc: line 1: E24\n"),
-        "{script} gave {ended:?}"
-    );
+    are_bad_first(&rt, rt.alloc(), LINES, "E24")
+}
+
+/// The numbers from 1 to 64 between commas.
+const TO_64: &str =
+    "1,2,3,4,5,6,7,8,9,10,11,12,13,14,15,16,17,18,19,20,21,22,23,24,25,26,27,28,29,30,31,32,\
+    33,34,35,36,37,38,39,40,41,42,43,44,45,46,47,48,49,50,51,52,53,54,55,56,57,58,59,60,61,62,63,64";
+
+/// These parts are those of an engine.
+fn is_opened(rt: &impl Abort, alloc: Global, parts: Around) -> Result<(), AllocError> {
+    let line = with_part(alloc, parts, TO_64)?;
+    let script = format!(in alloc; "{line}\n")?;
+    replies_so(rt, alloc, script.as_str(), "");
     Ok(())
 }
 
 #[test]
 fn the_greatest_engine(rt: HostRuntime) -> Result<(), Fail> {
-    let alloc = rt.alloc();
-    let script = format!(in alloc;
-        "[\"world\",[[64,{},64,64,65536,256,4294967295]]]\n",
-        members(alloc, 64)?
-    )?;
-    let ended = run_bytes(alloc, script.as_bytes());
-    assert!(rt;
-        ended.status == 0 && ended.faults.is_empty() && ended.out.is_empty(),
-        "{ended:?}"
-    );
-    let script = "[\"world\",[[4294967295,[1,4294967295],1,1,1,1,1]]]\n";
-    let ended = run_bytes(alloc, script.as_bytes());
-    assert!(rt;
-        ended.status == 0 && ended.faults.is_empty() && ended.out.is_empty(),
-        "{ended:?}"
-    );
-    Ok(())
+    let most = (r#"["world",[[64,["#, "],64,64,65536,256,4294967295]]]");
+    Ok(is_opened(&rt, rt.alloc(), most)?)
 }
 
-/// The list of the numbers from 1 on, so many.
-fn members(alloc: std::alloc::Global, count: u32) -> Result<String, std::alloc::AllocError> {
-    let mut list = String::from_str(alloc, "[1")?;
-    for number in 1..count {
-        let number = number.saturating_add(1);
-        write!(list, ",{number}")?;
-    }
-    list.push(']')?;
-    Ok(list)
+#[test]
+fn one_member_more(rt: HostRuntime) -> Result<(), Fail> {
+    let more = (r#"["world",[[1,["#, ",65],1,1,4,4,10]]]");
+    are_bad_with(&rt, rt.alloc(), more, &[TO_64], "E24")
+}
+
+#[test]
+fn the_greatest_number(rt: HostRuntime) {
+    const SCRIPT: &str = r#"["world",[[4294967295,[1,4294967295],1,1,1,1,1]]]
+"#;
+    replies_so(&rt, rt.alloc(), SCRIPT, "");
 }

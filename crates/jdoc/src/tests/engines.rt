@@ -1,98 +1,89 @@
 //! First lines of more than one engine, or of none.
 
-use super::{is_refused, run_bytes};
-use std::alloc::Global;
+use super::playing::{are_bad_first, is_bad_first, replies_so};
+use std::alloc::{AllocError, Global};
+use std::process::Abort;
 use std::test::Fail;
 
-/// A first line of so many engines, each with these parts.
-fn worlds(alloc: Global, count: usize, parts: &str) -> Result<String, Fail> {
+/// A first line of so many engines, each with these parts, without its line feed.
+fn engines(alloc: Global, count: usize, parts: &str) -> Result<String, AllocError> {
     let engine = format!(in alloc; "[{parts}],")?;
     let engines = engine.repeat(alloc, count)?;
     let engines = engines.as_str().trim_end_matches(',');
-    Ok(format!(in alloc; "[\"world\",[{engines}]]\n")?)
+    format!(in alloc; r#"["world",[{engines}]]"#)
 }
+
+/// So many engines of these parts are bad in this way.
+fn are_refused(
+    rt: &impl Abort,
+    alloc: Global,
+    count: usize,
+    parts: &str,
+    why: &str,
+) -> Result<(), AllocError> {
+    let line = engines(alloc, count, parts)?;
+    is_bad_first(rt, alloc, line.as_str(), why)
+}
+
+/// So many engines of these parts are opened.
+fn are_opened(rt: &impl Abort, alloc: Global, count: usize, parts: &str) -> Result<(), AllocError> {
+    let line = engines(alloc, count, parts)?;
+    let script = format!(in alloc; "{line}\n")?;
+    replies_so(rt, alloc, script.as_str(), "");
+    Ok(())
+}
+
+/// The parts of an engine.
+const PARTS: &str = "1,[1,2],1,1,4,4,10";
 
 #[test]
 fn from_one_to_sixteen(rt: HostRuntime) -> Result<(), Fail> {
-    let alloc = rt.alloc();
     for count in [1, 2, 15, 16] {
-        let ended = run_bytes(
-            alloc,
-            worlds(alloc, count, "1,[1,2],1,1,4,4,10")?.as_bytes(),
-        );
-        assert!(rt;
-            ended.status == 0 && ended.faults.is_empty() && ended.out.is_empty(),
-            "{count} engines gave {ended:?}"
-        );
+        are_opened(&rt, rt.alloc(), count, PARTS)?;
     }
+    Ok(())
+}
+
+#[test]
+fn none_and_more_than_sixteen(rt: HostRuntime) -> Result<(), Fail> {
     for count in [0, 17, 100] {
-        let ended = run_bytes(
-            alloc,
-            worlds(alloc, count, "1,[1,2],1,1,4,4,10")?.as_bytes(),
-        );
-        assert!(rt;
-            is_refused(&ended, "jdoc: line 1: E22\n"),
-            "{count} engines gave {ended:?}"
-        );
+        are_refused(&rt, rt.alloc(), count, PARTS, "E22")?;
     }
-    // Another number of engines is a fault of form, and goes before every limit.
+    Ok(())
+}
+
+/// Another number of engines is a fault of form, and goes before every limit.
+#[test]
+fn their_number_goes_before_limits(rt: HostRuntime) -> Result<(), Fail> {
     for parts in ["0,[],0,0,0,0,0", "4294967296,[1],1,1,4,4,10"] {
-        let ended = run_bytes(alloc, worlds(alloc, 17, parts)?.as_bytes());
-        assert!(rt; is_refused(&ended, "jdoc: line 1: E22\n"), "{ended:?}");
-        let ended = run_bytes(alloc, worlds(alloc, 16, parts)?.as_bytes());
-        assert!(rt; is_refused(&ended, "jdoc: line 1: E24\n"), "{ended:?}");
+        are_refused(&rt, rt.alloc(), 17, parts, "E22")?;
+        are_refused(&rt, rt.alloc(), 16, parts, "E24")?;
     }
     Ok(())
 }
 
 /// All forms of the line are read before any limit.
 #[test]
-fn each_engine_has_its_form(rt: HostRuntime) {
-    let rows: [(&[u8], &str); 11] = [
-        (
-            b"[\"world\",[[1,[1],1,1,4,4,10],7]]\n",
-            "jdoc: line 1: E22\n",
-        ),
-        (
-            b"[\"world\",[[1,[1],1,1,4,4,10],[]]]\n",
-            "jdoc: line 1: E22\n",
-        ),
-        (
-            b"[\"world\",[[1,[1],1,1,4,4,10],[2,[2],1,1,4,4]]]\n",
-            "jdoc: line 1: E22\n",
-        ),
-        (
-            b"[\"world\",[[0,[],0,0,0,0,0],[2,[2],1,1,4,4,-1]]]\n",
-            "jdoc: line 1: E22\n",
-        ),
-        (
-            b"[\"world\",[[4294967296,[1],1,1,4,4,10],[2,2,1,1,4,4,10]]]\n",
-            "jdoc: line 1: E22\n",
-        ),
-        (
-            b"[\"world\",[[1,[1],1,1,4,4,10]],[[2,[2],1,1,4,4,10]]]\n",
-            "jdoc: line 1: E22\n",
-        ),
-        (b"[\"world\",[1,[1],1,1,4,4,10]]\n", "jdoc: line 1: E22\n"),
-        (
-            b"[\"world\",[[1,[1],1,1,4,4,10],[2,[1],1,1,4,4,10]]]\n",
-            "jdoc: line 1: E24\n",
-        ),
-        (
-            b"[\"world\",[[1,[],1,1,4,4,10],[1,[1],1,1,4,4,10]]]\n",
-            "jdoc: line 1: E24\n",
-        ),
-        (
-            b"[\"world\",[[1,[1],1,1,4,4,10],[1,[1],1,1,4,4,4294967296]]]\n",
-            "jdoc: line 1: E24\n",
-        ),
-        (
-            b"[\"world\",[[1,[1],1,1,4,4,10],[1,[1,18446744073709551615],1,1,4,4,10]]]\n",
-            "jdoc: line 1: E24\n",
-        ),
+fn each_engine_has_its_form(rt: HostRuntime) -> Result<(), Fail> {
+    const FORMS: &[&str] = &[
+        r#"["world",[[1,[1],1,1,4,4,10],7]]"#,
+        r#"["world",[[1,[1],1,1,4,4,10],[]]]"#,
+        r#"["world",[[1,[1],1,1,4,4,10],[2,[2],1,1,4,4]]]"#,
+        r#"["world",[[0,[],0,0,0,0,0],[2,[2],1,1,4,4,-1]]]"#,
+        r#"["world",[[4294967296,[1],1,1,4,4,10],[2,2,1,1,4,4,10]]]"#,
+        r#"["world",[[1,[1],1,1,4,4,10]],[[2,[2],1,1,4,4,10]]]"#,
+        r#"["world",[1,[1],1,1,4,4,10]]"#,
     ];
-    for (script, told) in rows {
-        let ended = run_bytes(rt.alloc(), script);
-        assert!(rt; is_refused(&ended, told), "{script:?} gave {ended:?}");
-    }
+    are_bad_first(&rt, rt.alloc(), FORMS, "E22")
+}
+
+#[test]
+fn each_engine_has_its_limits(rt: HostRuntime) -> Result<(), Fail> {
+    const LIMITS: &[&str] = &[
+        r#"["world",[[1,[1],1,1,4,4,10],[2,[1],1,1,4,4,10]]]"#,
+        r#"["world",[[1,[],1,1,4,4,10],[1,[1],1,1,4,4,10]]]"#,
+        r#"["world",[[1,[1],1,1,4,4,10],[1,[1],1,1,4,4,4294967296]]]"#,
+        r#"["world",[[1,[1],1,1,4,4,10],[1,[1,18446744073709551615],1,1,4,4,10]]]"#,
+    ];
+    are_bad_first(&rt, rt.alloc(), LIMITS, "E24")
 }

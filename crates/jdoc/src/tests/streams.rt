@@ -1,11 +1,15 @@
 //! Readers and writers that fail.
 
 use crate::run::run_script;
+use std::alloc::Global;
 use std::io;
 use std::io::{ErrorKind, Read, Write};
-use std::test::Fail;
+use std::process::Abort;
 
-const SCRIPT: &[u8] = b"[\"world\",[[1,[1],1,1,4,4,10]]]\n[\"step\",0]\n[\"step\",0]\n";
+const SCRIPT: &[u8] = br#"["world",[[1,[1],1,1,4,4,10]]]
+["step",0]
+["step",0]
+"#;
 
 /// Gives the bytes a few at a time, and then fails in this way.
 #[derive(Drop)]
@@ -27,7 +31,7 @@ impl Read for Breaking<'_> {
 }
 
 /// Takes so many bytes, a few at a time, and then fails.
-#[derive(Debug, Drop)]
+#[derive(Drop)]
 struct Full {
     taken: Vec<u8>,
     room: usize,
@@ -53,98 +57,117 @@ impl Write for Full {
     }
 }
 
+/// How many bytes are read before a read fails in this way, what is told then, and the status.
+type Broken<'a> = (usize, ErrorKind, &'a str, u8);
+
+const BROKEN: &[Broken] = &[
+    (
+        0,
+        ErrorKind::PermissionDenied,
+        "jdoc: cannot read a b/c\n",
+        2,
+    ),
+    (13, ErrorKind::IsADirectory, "jdoc: cannot read a b/c\n", 2),
+    (31, ErrorKind::Other, "jdoc: cannot read a b/c\n", 2),
+    (53, ErrorKind::UnexpectedEof, "jdoc: cannot read a b/c\n", 2),
+    (31, ErrorKind::OutOfMemory, "jdoc: no memory\n", 4),
+];
+
+/// A run whose reader breaks so prints nothing, tells this and ends so.
+fn is_broken(rt: &impl Abort, alloc: Global, row: &Broken) {
+    let (given, kind, told, wanted) = *row;
+    let mut reader = Breaking {
+        rest: &SCRIPT[..given.min(SCRIPT.len())],
+        kind,
+    };
+    let (mut out, mut faults) = (Vec::new(alloc), Vec::new(alloc));
+    let status = run_script(alloc, "a b/c", &mut reader, &mut out, &mut faults);
+    assert_eq!(rt; (status, out.len()), (wanted, 0), "{told}");
+    assert_eq!(rt; faults.as_slice(), told.as_bytes(), "{given} bytes");
+}
+
 #[test]
 fn a_read_that_fails(rt: HostRuntime) {
-    let rows = [
-        (
-            0,
-            ErrorKind::PermissionDenied,
-            "jdoc: cannot read a b/c\n",
-            2,
-        ),
-        (13, ErrorKind::IsADirectory, "jdoc: cannot read a b/c\n", 2),
-        (31, ErrorKind::Other, "jdoc: cannot read a b/c\n", 2),
-        (
-            SCRIPT.len(),
-            ErrorKind::UnexpectedEof,
-            "jdoc: cannot read a b/c\n",
-            2,
-        ),
-        (31, ErrorKind::OutOfMemory, "jdoc: no memory\n", 4),
-    ];
-    for (given, kind, told, wanted) in rows {
-        let mut reader = Breaking {
-            rest: &SCRIPT[..given.min(SCRIPT.len())],
-            kind,
-        };
-        let (mut out, mut faults) = (Vec::new(rt.alloc()), Vec::new(rt.alloc()));
-        let status = run_script(rt.alloc(), "a b/c", &mut reader, &mut out, &mut faults);
-        assert_eq!(rt; (status, out.len()), (wanted, 0));
-        assert_eq!(rt; faults.as_slice(), told.as_bytes());
+    for row in BROKEN {
+        is_broken(&rt, rt.alloc(), row);
     }
+    assert_eq!(rt; SCRIPT.len(), 53);
 }
 
 /// What a run of the script prints, as whole runs have it.
-fn printed(rt: &HostRuntime) -> Vec<u8> {
-    let (mut out, mut faults) = (Vec::new(rt.alloc()), Vec::new(rt.alloc()));
+fn printed(alloc: Global) -> Vec<u8> {
+    let (mut out, mut faults) = (Vec::new(alloc), Vec::new(alloc));
     let mut reader = SCRIPT;
-    run_script(rt.alloc(), "s", &mut reader, &mut out, &mut faults);
+    run_script(alloc, "s", &mut reader, &mut out, &mut faults);
     out
 }
 
+/// A run of the script whose writer has this room ends as not written, and tells nothing. What it took of the replies.
+fn not_written(rt: &impl Abort, alloc: Global, room: usize, flushes: bool) -> Vec<u8> {
+    let mut out = Full {
+        taken: Vec::new(alloc),
+        room,
+        flushes,
+    };
+    let mut faults = Vec::new(alloc);
+    let mut reader = SCRIPT;
+    let status = run_script(alloc, "s", &mut reader, &mut out, &mut faults);
+    assert_eq!(rt; (status, faults.len()), (5, 0), "room {room}");
+    out.taken
+}
+
+/// What is taken is the beginning of the replies, as much as there is room for.
+fn takes_a_part(rt: &impl Abort, alloc: Global, whole: &[u8], room: usize) {
+    let taken = not_written(rt, alloc, room, true);
+    assert_eq!(rt; taken.len(), room);
+    assert!(rt; whole.starts_with(taken.as_slice()), "room {room}");
+}
+
 #[test]
-fn replies_that_are_not_written(rt: HostRuntime) -> Result<(), Fail> {
-    let whole = printed(&rt);
+fn replies_that_are_not_written(rt: HostRuntime) {
+    let whole = printed(rt.alloc());
     assert!(rt; whole.len() > 9, "two lines, not {whole:?}");
     for room in [0, 1, 9, whole.len() - 1] {
-        let mut out = Full {
-            taken: Vec::new(rt.alloc()),
-            room,
-            flushes: true,
-        };
-        let mut faults = Vec::new(rt.alloc());
-        let mut reader = SCRIPT;
-        let status = run_script(rt.alloc(), "s", &mut reader, &mut out, &mut faults);
-        assert_eq!(rt; (status, faults.len()), (5, 0), "room {room}");
-        assert!(rt;
-            whole.starts_with(out.taken.as_slice()) && out.taken.len() == room,
-            "{out:?}"
-        );
+        takes_a_part(&rt, rt.alloc(), whole.as_slice(), room);
     }
-    let mut out = Full {
-        taken: Vec::new(rt.alloc()),
-        room: 1000,
-        flushes: false,
-    };
-    let mut faults = Vec::new(rt.alloc());
-    let mut reader = SCRIPT;
-    let status = run_script(rt.alloc(), "s", &mut reader, &mut out, &mut faults);
-    assert_eq!(rt; (status, faults.len()), (5, 0));
-    Ok(())
 }
+
+#[test]
+fn replies_that_are_not_flushed(rt: HostRuntime) {
+    not_written(&rt, rt.alloc(), 1000, false);
+}
+
+/// A run whose faults have this room prints nothing, tells as much as there is room for and ends as not written.
+fn is_not_told<R: Read>(rt: &impl Abort, alloc: Global, reader: &mut R, room: usize) {
+    let mut faults = Full {
+        taken: Vec::new(alloc),
+        room,
+        flushes: true,
+    };
+    let mut out = Vec::new(alloc);
+    let status = run_script(alloc, "s", reader, &mut out, &mut faults);
+    assert_eq!(rt; (status, out.len(), faults.taken.len()), (5, 0, room));
+}
+
+/// A first line that is cut.
+const CUT: &[u8] = br#"["push"
+"#;
 
 #[test]
 fn faults_that_are_not_told(rt: HostRuntime) {
     for room in [0, 1, 17] {
-        let mut faults = Full {
-            taken: Vec::new(rt.alloc()),
-            room,
-            flushes: true,
-        };
-        let mut out = Vec::new(rt.alloc());
-        let mut reader: &[u8] = b"[\"push\"\n";
-        let status = run_script(rt.alloc(), "s", &mut reader, &mut out, &mut faults);
-        assert_eq!(rt; (status, out.len(), faults.taken.len()), (5, 0, room));
+        let mut cut: &[u8] = CUT;
+        is_not_told(&rt, rt.alloc(), &mut cut, room);
+    }
+}
+
+#[test]
+fn failed_reads_that_are_not_told(rt: HostRuntime) {
+    for room in [0, 1, 17] {
         let mut reader = Breaking {
             rest: SCRIPT,
             kind: ErrorKind::Other,
         };
-        let mut faults = Full {
-            taken: Vec::new(rt.alloc()),
-            room,
-            flushes: true,
-        };
-        let status = run_script(rt.alloc(), "s", &mut reader, &mut out, &mut faults);
-        assert_eq!(rt; (status, out.len(), faults.taken.len()), (5, 0, room));
+        is_not_told(&rt, rt.alloc(), &mut reader, room);
     }
 }

@@ -1,71 +1,125 @@
 //! The program's words.
 
 use crate::fault::Status;
-use crate::words::{Job, read_words, report};
+use crate::words::{BadWords, Job, read_words};
+use bench::Plan;
 use clap::error::ErrorKind;
 use std::alloc::Global;
 use std::test::Fail;
 
+/// Words, and the script that they name.
+const RUNS: &[(&[&str], Option<&str>)] = &[
+    (&["run"], None),
+    (&["run", "a.script"], Some("a.script")),
+    (&["run", "--", "-x"], Some("-x")),
+    (&["run", "run"], Some("run")),
+    (&["run", "a b"], Some("a b")),
+];
+
 #[test]
-fn a_script_or_standard_input(rt: HostRuntime) -> Result<(), Fail> {
-    let rows: [(&[&str], Option<&str>); 5] = [
-        (&["run"], None),
-        (&["run", "a.script"], Some("a.script")),
-        (&["run", "--", "-x"], Some("-x")),
-        (&["run", "run"], Some("run")),
-        (&["run", "a b"], Some("a b")),
-    ];
-    for (words, wanted) in rows {
-        let Job::Run { script } = read_words(rt.alloc(), words)?;
-        assert!(rt; script == wanted, "{words:?} gave {script:?}");
+fn a_script_or_standard_input(rt: HostRuntime) {
+    for (words, wanted) in RUNS {
+        let job = read_words(rt.alloc(), words).ok();
+        assert_eq!(rt; job, Some(Job::Run { script: *wanted }), "{words:?}");
+    }
+}
+
+/// The options of a bench, and the numbers of writers and of operations that they give.
+const PLANS: &[(&[&str], u32, u32)] = &[
+    (
+        &["bench", "--replicas", "1", "--writers", "2", "--ops", "3"],
+        2,
+        3,
+    ),
+    (
+        &["bench", "--ops=4096", "--writers=16", "--replicas=1"],
+        16,
+        4_096,
+    ),
+    (
+        &["bench", "--replicas", "01", "--writers", "1", "--ops", "+1"],
+        1,
+        1,
+    ),
+];
+
+#[test]
+fn a_plan(rt: HostRuntime) -> Result<(), Fail> {
+    for (words, writers, ops) in PLANS {
+        let plan = Plan::new(*writers, *ops)?;
+        let job = read_words(rt.alloc(), words).ok();
+        assert_eq!(rt; job, Some(Job::Bench(plan)), "{words:?}");
     }
     Ok(())
 }
 
 /// Why there is no job, the status of that, and whether whole lines are told.
 fn refusal(alloc: Global, words: &[&str]) -> Option<(ErrorKind, Status, bool)> {
-    let error = read_words(alloc, words).err()?;
+    let why = read_words(alloc, words).err()?;
     let mut faults = Vec::new(alloc);
-    let status = report(&error, &mut faults);
+    let status = why.report(&mut faults);
+    let BadWords::Refused(error) = why else {
+        return None;
+    };
     Some((error.kind(), status, faults.last().copied() == Some(b'\n')))
 }
 
-fn told(kind: ErrorKind) -> Option<(ErrorKind, Status, bool)> {
-    Some((kind, Status::BadInput, true))
-}
+/// Words that are no job, and why.
+const OTHERS: &[(&[&str], ErrorKind)] = &[
+    (&[], ErrorKind::MissingSubcommand),
+    (&["walk", "a"], ErrorKind::InvalidSubcommand),
+    (&["jdoc", "run"], ErrorKind::InvalidSubcommand),
+    (&["--fast", "run"], ErrorKind::UnknownArgument),
+    (&["run", "--fast"], ErrorKind::UnknownArgument),
+    (&["run", "-x"], ErrorKind::UnknownArgument),
+    (&["run", "a", "b"], ErrorKind::UnknownArgument),
+    (&["--help", "run"], ErrorKind::DisplayHelp),
+    (&["-h", "run"], ErrorKind::DisplayHelp),
+    (&["help", "run"], ErrorKind::DisplayHelp),
+    (&["run", "--help"], ErrorKind::DisplayHelp),
+    (&["bench", "a"], ErrorKind::UnknownArgument),
+    (
+        &["bench", "--replicas=1", "--ops=1"],
+        ErrorKind::MissingRequiredArgument,
+    ),
+    (
+        &["bench", "--replicas=2", "--writers=1", "--ops=1"],
+        ErrorKind::ValueValidation,
+    ),
+    (
+        &["bench", "--replicas=0", "--writers=1", "--ops=1"],
+        ErrorKind::ValueValidation,
+    ),
+    (
+        &["bench", "--replicas=1", "--writers=0", "--ops=1"],
+        ErrorKind::ValueValidation,
+    ),
+    (
+        &["bench", "--replicas=1", "--writers=17", "--ops=1"],
+        ErrorKind::ValueValidation,
+    ),
+    (
+        &["bench", "--replicas=1", "--writers=1", "--ops=0"],
+        ErrorKind::ValueValidation,
+    ),
+    (
+        &["bench", "--replicas=1", "--writers=1", "--ops=4097"],
+        ErrorKind::ValueValidation,
+    ),
+    (
+        &["bench", "--replicas=1", "--writers=1", "--ops=x"],
+        ErrorKind::ValueValidation,
+    ),
+    (
+        &["bench", "--replicas=1", "--writers=-1", "--ops=1"],
+        ErrorKind::ValueValidation,
+    ),
+];
 
 #[test]
 fn other_words(rt: HostRuntime) {
-    let alloc = rt.alloc();
-    assert_eq!(rt; refusal(alloc, &[]), told(ErrorKind::MissingSubcommand));
-    for words in [["walk", "a"], ["bench", "a"], ["jdoc", "run"]] {
-        assert_eq!(rt;
-            refusal(alloc, &words),
-            told(ErrorKind::InvalidSubcommand),
-            "{words:?}"
-        );
-    }
-    for words in [["--fast", "run"], ["run", "--fast"], ["run", "-x"]] {
-        assert_eq!(rt;
-            refusal(alloc, &words),
-            told(ErrorKind::UnknownArgument),
-            "{words:?}"
-        );
-    }
-    assert_eq!(rt;
-        refusal(alloc, &["run", "a", "b"]),
-        told(ErrorKind::UnknownArgument)
-    );
-    for words in [
-        ["--help", "run"],
-        ["-h", "run"],
-        ["help", "run"],
-        ["run", "--help"],
-    ] {
-        assert_eq!(rt;
-            refusal(alloc, &words),
-            told(ErrorKind::DisplayHelp),
-            "{words:?}"
-        );
+    for (words, kind) in OTHERS {
+        let told = Some((*kind, Status::BadInput, true));
+        assert_eq!(rt; refusal(rt.alloc(), words), told, "{words:?}");
     }
 }

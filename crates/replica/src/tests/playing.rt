@@ -1,50 +1,99 @@
-//! Operations and commands for tests, and what plays them.
+//! What is done with a replica in a test, as rows, and what plays them.
+//!
+//! A turn that is refused memory is taken once more, so that a test passes whichever allocation is refused. With none refused, nothing is done twice.
 
-ghost use Rattle.std.specs.Prelude.{◌≡◌, ◌+◌, ℕ, length, IfOk, OnOk};
+ghost use Rattle.std.specs.Prelude.{◌≡◌, ℕ, length, IfOk, OnErr};
 ghost use Rattle.semantics.specs.Entries.{IsAbove};
 
 use super::*;
 use cursor::{Expr, Place, Step};
 use document::{Question, Reading};
 use ids::{OpId, Refusal, ReplicaId};
-use operation::{Command, Delivered, Mutation, Op};
+use operation::{Command, Mutation, Op};
 use std::alloc::Global;
+use std::process::Abort;
+use std::test::Fail;
 use value::{Key, Scalar, Text, Val};
 use version::VersionVector;
 
 /// An id's counter and replica.
 pub type Pair = (u64, u32);
 
-pub fn id(counter: u64, replica: u32) -> Result<OpId, Fail> {
-    let replica = ReplicaId::new(replica).ok_or("numbered 0")?;
-    Ok(OpId { counter, replica })
+/// What is answered to a delivery.
+pub type Answer = Result<Delivered, Refusal>;
+
+/// What an operation writes, and where.
+#[derive(Clone, Copy)]
+pub enum Writes<'a> {
+    /// An assign of a text at this field of the root.
+    Text(&'a str, &'a str),
+    /// A delete of the field `key` of the root.
+    Delete,
+    /// A delete of this item of the list at `key`.
+    DeleteItem(Pair),
+    /// An insert of a map at the field `key` of the root, which is no place for one.
+    Insert,
 }
 
-/// A replica with this number among 1, 2 and 3.
-pub fn new_replica(alloc: Global, own: u32) -> Result<Replica, Refusal>
-    ensures { IfOk result (λ r. (serial : ℕ) → IsAbove 0 serial r.document.entries) }
-{
-    Replica::new(alloc, own, &[1, 2, 3])
+/// Something that is done with a replica, and what it answers.
+#[derive(Clone, Copy)]
+pub enum Turn<'a> {
+    /// Makes the operation of an assign, which has this id and is not committed.
+    Make(Pair),
+    /// Client 0 assigns a text at this field of the root, by an operation with this id.
+    Assign(&'a str, &'a str, Pair),
+    /// Delivers an operation with this id and with these counters in its vector, which is answered so. Nothing is drained.
+    Deliver(Pair, &'a [u64], Writes<'a>, Answer),
+    /// Drains. So many operations are applied then, and so many were dropped.
+    Drain(usize, u64),
+    /// Appends the next one that is ready, where there is one. It has this id.
+    Next(Option<Pair>),
+    /// Asks for a copy of the next one that is ready, and appends nothing. It has this id.
+    Copy(Option<Pair>),
+    /// How many operations are applied, and how many were dropped.
+    Lengths(usize, u64),
+    /// The ids of the values at the field `key` of the root.
+    Values(&'a [Pair]),
 }
 
+/// The id of this counter and replica.
+fn id_of(pair: Pair) -> Result<OpId, Refusal> {
+    let replica = ReplicaId::new(pair.1).ok_or(Refusal::UnknownReplica)?;
+    Ok(OpId {
+        counter: pair.0,
+        replica,
+    })
+}
+
+/// The counter and the replica of an id.
+fn pair_of(id: &OpId) -> Pair {
+    (id.counter, id.replica.number())
+}
+
+/// How many operations are applied, and how many were dropped.
+fn lengths(replica: &Replica) -> (usize, u64) {
+    (replica.history_len(), replica.dropped())
+}
+
+/// A text as a value.
 fn text(alloc: Global, text: &str) -> Result<Val, Refusal> {
     Ok(Val::Scalar(Scalar::Text(Text::new(alloc, text)?)))
 }
 
 /// The expression of one field of the root.
-fn field(alloc: Global, key: &str) -> Result<Expr, Refusal> {
+fn expression(alloc: Global, key: &str) -> Result<Expr, Refusal> {
     let mut steps = Vec::new(alloc);
     steps.push(Step::Get(Key::new(alloc, key)?))?;
     Ok(Expr::new(steps))
 }
 
-/// A text is assigned at a field of the root.
-pub fn assigning(alloc: Global, key: &str, value: &str) -> Result<Command, Refusal> {
-    Ok(Command::Assign(field(alloc, key)?, text(alloc, value)?))
+/// The command that assigns a text at a field of the root.
+fn assigning(alloc: Global, key: &str, value: &str) -> Result<Command, Refusal> {
+    Ok(Command::Assign(expression(alloc, key)?, text(alloc, value)?))
 }
 
 /// The vector of these counters.
-pub fn vector(alloc: Global, counters: &[u64]) -> Result<VersionVector, Refusal>
+fn vector(alloc: Global, counters: &[u64]) -> Result<VersionVector, Refusal>
     ensures { IfOk result (λ v. length v ≡ length counters.now) }
 {
     let mut vector = VersionVector::zero(alloc, counters.len())?;
@@ -54,106 +103,279 @@ pub fn vector(alloc: Global, counters: &[u64]) -> Result<VersionVector, Refusal>
     Ok(vector)
 }
 
-/// An operation at a field of the root.
-pub fn at_field(
-    alloc: Global,
-    id: OpId,
-    counters: &[u64],
-    key: &str,
-    mutation: Mutation,
-) -> Result<Op, Refusal> {
+/// A field of the root.
+fn field(alloc: Global, key: &str) -> Result<Place, Refusal> {
+    let key = Key::new(alloc, key)?;
+    Ok(Place::doc(alloc).get(alloc, key)?)
+}
+
+/// An item of the list at `key`.
+fn item(alloc: Global, pair: Pair) -> Result<Place, Refusal> {
+    let id = id_of(pair)?;
+    Ok(field(alloc, "key")?.item(alloc, id)?)
+}
+
+/// Where an operation writes.
+fn place(alloc: Global, writes: Writes<'_>) -> Result<Place, Refusal> {
+    match writes {
+        Writes::Text(key, _) => field(alloc, key),
+        Writes::DeleteItem(pair) => item(alloc, pair),
+        Writes::Delete | Writes::Insert => field(alloc, "key"),
+    }
+}
+
+/// What an operation writes there.
+fn mutation(alloc: Global, writes: Writes<'_>) -> Result<Mutation, Refusal> {
+    match writes {
+        Writes::Text(_, value) => Ok(Mutation::Assign(text(alloc, value)?)),
+        Writes::Insert => Ok(Mutation::Insert(Val::EmptyMap)),
+        Writes::Delete | Writes::DeleteItem(_) => Ok(Mutation::Delete),
+    }
+}
+
+/// An operation with this id, and with these counters in its vector.
+fn op(alloc: Global, pair: Pair, counters: &[u64], writes: Writes<'_>) -> Result<Op, Refusal> {
+    let id = id_of(pair)?;
+    let deps = vector(alloc, counters)?;
+    let place = place(alloc, writes)?;
     Ok(Op {
         id,
-        deps: vector(alloc, counters)?,
-        place: Place::doc(alloc).get(alloc, Key::new(alloc, key)?)?,
-        mutation,
+        deps,
+        place,
+        mutation: mutation(alloc, writes)?,
     })
 }
 
-/// A delete of a field of the root.
-pub fn deleting(alloc: Global, pair: Pair, counters: &[u64], key: &str) -> Result<Op, Fail> {
-    let id = id(pair.0, pair.1)?;
-    Ok(at_field(alloc, id, counters, key, Mutation::Delete)?)
-}
-
-/// A delete of an item of the list at `key`.
-pub fn deleting_item(alloc: Global, pair: Pair, counters: &[u64], item: Pair) -> Result<Op, Fail> {
-    let mut op = deleting(alloc, pair, counters, "key")?;
-    op.place = op.place.item(alloc, id(item.0, item.1)?)?;
-    Ok(op)
-}
-
-/// An assign of a text at a field of the root.
-pub fn writing(
-    alloc: Global,
-    pair: Pair,
-    counters: &[u64],
-    key: &str,
-    value: &str,
-) -> Result<Op, Fail> {
-    let id = id(pair.0, pair.1)?;
-    let mutation = Mutation::Assign(text(alloc, value)?);
-    Ok(at_field(alloc, id, counters, key, mutation)?)
-}
-
-/// Client 0 assigns a text at a field of the root, under a serial above those it had.
-pub fn assign(
-    replica: &mut Replica,
-    alloc: Global,
-    serial: u64,
-    key: &str,
-    value: &str,
-) -> Result<OpId, Refusal>
-    requires { IsAbove 0 serial replica.old.document.entries }
-    ensures { OnOk result (IsAbove 0 (serial + 1) replica.new.document.entries) }
+/// Makes the operation of an assign, which has this id and is not committed.
+fn make(rt: &impl Abort, alloc: Global, replica: &mut Replica, want: Pair) -> Result<(), Refusal>
+    ensures { replica.new.document.entries ≡ replica.old.document.entries }
 {
-    let command = assigning(alloc, key, value)?;
+    let command = assigning(alloc, "a", "1")?;
     let op = replica.make(alloc, &command)?;
-    let id = op.id;
-    replica.commit_own(0, serial, command, op);
-    Ok(id)
+    assert_eq!(rt; pair_of(&op.id), want);
+    Ok(())
 }
 
-/// Delivers an operation, and drains. No own operation is made by it.
-pub fn receive(
-    replica: &mut Replica,
+/// Client 0 assigns a text at a field of the root, under a serial above those it had and by an operation with this id. Answers the next serial.
+fn assign(
+    rt: &impl Abort,
     alloc: Global,
-    op: Op,
-) -> Result<Result<Delivered, Refusal>, Refusal>
-    ensures { (serial : ℕ) → IsAbove 0 serial replica.old.document.entries → OnOk result (IsAbove 0 serial replica.new.document.entries) }
+    replica: &mut Replica,
+    serial: u64,
+    at: (&str, &str),
+    want: Pair,
+) -> Result<u64, Refusal>
+    requires { IsAbove 0 serial replica.old.document.entries }
+    ensures ok { IfOk result (λ next. IsAbove 0 next replica.new.document.entries) }
+    ensures err { OnErr result (replica.new.document.entries ≡ replica.old.document.entries) }
 {
+    if serial == u64::MAX {
+        return Err(Refusal::SerialEnd);
+    }
+    let command = assigning(alloc, at.0, at.1)?;
+    let op = replica.make(alloc, &command)?;
+    assert_eq!(rt; pair_of(&op.id), want);
+    replica.commit_own(0, serial, command, op);
+    Ok(serial + 1)
+}
+
+/// Delivers an operation, which is answered so.
+fn deliver(rt: &impl Abort, replica: &mut Replica, op: Op, want: Answer) -> Result<(), Refusal>
+    ensures { replica.new.document.entries ≡ replica.old.document.entries }
+{
+    let id = op.id;
     let answer = replica.deliver(op);
+    if answer == Err(Refusal::NoMemory) {
+        return Err(Refusal::NoMemory);
+    }
+    assert_eq!(rt; answer, want, "to {id}");
+    Ok(())
+}
+
+/// Drains.
+fn drain(alloc: Global, replica: &mut Replica) -> Result<(), Refusal>
+    ensures { (serial : ℕ) → IsAbove 0 serial replica.old.document.entries → IsAbove 0 serial replica.new.document.entries }
+{
     let _running = replica.document();
-    replica.drain(alloc)?;
-    Ok(answer)
+    Ok(replica.drain(alloc)?)
 }
 
-/// The ids of the entries, the oldest first.
-pub fn history(replica: Replica, alloc: Global) -> Result<Vec<OpId>, Fail> {
-    let mut ids = Vec::new(alloc);
-    for entry in replica.into_entries() {
-        ids.push(entry.op().id)?;
-    }
-    Ok(ids)
-}
-
-/// The ids of the values at a field of the root.
-pub fn values(replica: &Replica, alloc: Global, key: &str) -> Result<Vec<OpId>, Fail> {
-    let question = Question::Values(field(alloc, key)?);
-    let mut ids = Vec::new(alloc);
-    let Reading::Values(values) = replica.document().ask(alloc, &question)? else {
-        return Err("no values".into());
+/// The id of a copy of the next one, where there is one.
+fn copy(alloc: Global, replica: &mut Replica) -> Result<Option<Pair>, Refusal>
+    ensures { replica.new.document.entries ≡ replica.old.document.entries }
+{
+    let Some(op) = replica.next_ready(alloc)? else {
+        return Ok(None);
     };
-    for (id, _) in &values {
-        ids.push(*id)?;
-    }
-    Ok(ids)
+    Ok(Some(pair_of(&op.id)))
 }
 
-pub fn ids(alloc: Global, pairs: &[Pair]) -> Result<Vec<OpId>, Fail> {
-    let mut ids = Vec::new(alloc);
-    for (counter, replica) in pairs {
-        ids.push(id(*counter, *replica)?)?;
+/// Appends the next one, where there is one. Answers its id.
+fn append_next(alloc: Global, replica: &mut Replica) -> Result<Option<Pair>, Refusal>
+    ensures { (serial : ℕ) → IsAbove 0 serial replica.old.document.entries → IsAbove 0 serial replica.new.document.entries }
+{
+    let Some(op) = replica.next_ready(alloc)? else {
+        return Ok(None);
+    };
+    replica.commit_peer();
+    Ok(Some(pair_of(&op.id)))
+}
+
+/// Asks for the values at the field `key` of the root, which have these ids.
+fn expect_values(
+    rt: &impl Abort,
+    alloc: Global,
+    replica: &Replica,
+    pairs: &[Pair],
+) -> Result<(), Refusal> {
+    let question = Question::Values(expression(alloc, "key")?);
+    let Reading::Values(values) = replica.document().ask(alloc, &question)? else {
+        return Err(Refusal::NoReading);
+    };
+    assert_eq!(rt; values.len(), pairs.len());
+    for ((id, _), pair) in values.iter().zip(pairs) {
+        assert_eq!(rt; pair_of(id), *pair);
     }
-    Ok(ids)
+    Ok(())
+}
+
+/// Takes a turn. Where the client assigns, it does so under this serial. Answers the serial that it goes on with.
+fn try_turn(
+    rt: &impl Abort,
+    alloc: Global,
+    replica: &mut Replica,
+    serial: u64,
+    turn: Turn<'_>,
+) -> Result<u64, Refusal>
+    requires { IsAbove 0 serial replica.old.document.entries }
+    ensures ok { IfOk result (λ next. IsAbove 0 next replica.new.document.entries) }
+    ensures err { OnErr result (IsAbove 0 serial replica.new.document.entries) }
+{
+    match turn {
+        Turn::Assign(key, value, want) => {
+            return assign(rt, alloc, replica, serial, (key, value), want);
+        }
+        Turn::Make(want) => make(rt, alloc, replica, want)?,
+        Turn::Deliver(pair, counters, writes, want) => {
+            let op = op(alloc, pair, counters, writes)?;
+            deliver(rt, replica, op, want)?;
+        }
+        Turn::Drain(len, dropped) => {
+            drain(alloc, replica)?;
+            assert_eq!(rt; lengths(replica), (len, dropped));
+        }
+        Turn::Next(want) => assert_eq!(rt; append_next(alloc, replica)?, want),
+        Turn::Copy(want) => assert_eq!(rt; copy(alloc, replica)?, want),
+        Turn::Values(pairs) => expect_values(rt, alloc, replica, pairs)?,
+        Turn::Lengths(len, dropped) => assert_eq!(rt; lengths(replica), (len, dropped)),
+    }
+    Ok(serial)
+}
+
+/// Compares the lengths after a turn that was refused memory with those before it. A drain may have appended and dropped some, a search for the next one may have dropped some, and no other turn has changed anything.
+fn expect_kept(rt: &impl Abort, turn: Turn<'_>, before: (usize, u64), after: (usize, u64)) {
+    match turn {
+        Turn::Drain(..) => assert!(rt; after.0 >= before.0 && after.1 >= before.1),
+        Turn::Next(_) => assert!(rt; after.0 == before.0 && after.1 >= before.1),
+        Turn::Copy(_) => assert!(rt; after.0 == before.0 && after.1 >= before.1),
+        _ => assert_eq!(rt; after, before),
+    }
+}
+
+/// Takes a turn, and takes it once more where it is refused memory.
+fn take_turn(
+    rt: &impl Abort,
+    alloc: Global,
+    replica: &mut Replica,
+    serial: u64,
+    turn: Turn<'_>,
+) -> Result<u64, Refusal>
+    requires { IsAbove 0 serial replica.old.document.entries }
+    ensures { IfOk result (λ next. IsAbove 0 next replica.new.document.entries) }
+{
+    let before = lengths(replica);
+    let taken = try_turn(rt, alloc, replica, serial, turn);
+    if taken != Err(Refusal::NoMemory) {
+        return taken;
+    }
+    expect_kept(rt, turn, before, lengths(replica));
+    try_turn(rt, alloc, replica, serial, turn)
+}
+
+/// Takes these turns, one after another. The client assigns from this serial on. Answers the serial after them.
+pub fn play(
+    rt: &impl Abort,
+    alloc: Global,
+    replica: &mut Replica,
+    serial: u64,
+    turns: &[Turn<'_>],
+) -> Result<u64, Refusal>
+    requires { IsAbove 0 serial replica.old.document.entries }
+    ensures { IfOk result (λ next. IsAbove 0 next replica.new.document.entries) }
+{
+    let mut serial = serial;
+    for turn in turns {
+        serial = take_turn(rt, alloc, replica, serial, *turn)?;
+    }
+    Ok(serial)
+}
+
+/// A replica with this number among 1, 2 and 3.
+pub fn new_replica(alloc: Global, own: u32) -> Result<Replica, Refusal>
+    ensures { IfOk result (λ r. (serial : ℕ) → IsAbove 0 serial r.document.entries) }
+{
+    match Replica::new(alloc, own, &[1, 2, 3]) {
+        Err(Refusal::NoMemory) => Replica::new(alloc, own, &[1, 2, 3]),
+        made => made,
+    }
+}
+
+/// The history has these ids, the oldest first.
+pub fn expect_history(rt: &impl Abort, replica: Replica, history: &[Pair]) {
+    let entries = replica.into_entries();
+    assert_eq!(rt; entries.len(), history.len());
+    for (entry, pair) in entries.iter().zip(history) {
+        assert_eq!(rt; pair_of(&entry.op().id), *pair);
+    }
+}
+
+/// Takes these turns and then those. The client's first serial is 1.
+fn play_both(
+    rt: &impl Abort,
+    alloc: Global,
+    replica: &mut Replica,
+    first: &[Turn<'_>],
+    second: &[Turn<'_>],
+) -> Result<(), Refusal>
+    requires { IsAbove 0 1 replica.old.document.entries }
+{
+    let serial = play(rt, alloc, replica, 1, first)?;
+    play(rt, alloc, replica, serial, second)?;
+    Ok(())
+}
+
+/// Takes these turns and then those with a new replica of this number among 1, 2 and 3. Its history has these ids then.
+pub fn on_new_after(
+    rt: &impl Abort,
+    alloc: Global,
+    own: u32,
+    first: &[Turn<'_>],
+    second: &[Turn<'_>],
+    history: &[Pair],
+) -> Result<(), Fail> {
+    let mut replica = new_replica(alloc, own)?;
+    play_both(rt, alloc, &mut replica, first, second)?;
+    expect_history(rt, replica, history);
+    Ok(())
+}
+
+/// Takes these turns with a new replica of this number among 1, 2 and 3. Its history has these ids then.
+pub fn on_new(
+    rt: &impl Abort,
+    alloc: Global,
+    own: u32,
+    turns: &[Turn<'_>],
+    history: &[Pair],
+) -> Result<(), Fail> {
+    on_new_after(rt, alloc, own, &[], turns, history)
 }

@@ -1,207 +1,142 @@
 //! Documents that operations leave, whose values the rules give.
 
-use super::playing::{
-    Pair, assign, assign_text, field, id, ids, insert_text, item, op, play, play_all, text,
-};
 use super::*;
-use crate::tree::Tree;
-use cursor::{Place, Tag};
-use operation::{Mutation, Op};
-use std::alloc::Global;
-use std::process::Abort;
-use std::test::Fail;
-use value::Val;
 
-pub fn assert_items(
-    rt: &impl Abort,
-    alloc: Global,
-    tree: &Tree,
-    list: &str,
-    wanted: &[Pair],
-) -> Result<(), Fail> {
-    let wanted = ids(alloc, wanted)?;
-    let items = tree.items(alloc, &field(alloc, &[list])?)?;
-    assert!(rt; items == wanted);
-    Ok(())
-}
+const SHOPPING: Where = Where::Field(&["shopping"]);
 
-pub fn assert_values(
-    rt: &impl Abort,
-    alloc: Global,
-    tree: &Tree,
-    place: &Place,
-    wanted: &[(Pair, &str)],
-) -> Result<(), Fail> {
-    let values = tree.values(alloc, place)?;
-    assert!(rt; values.len() == wanted.len());
-    for ((found, scalar), (pair, value)) in values.iter().zip(wanted) {
-        assert!(rt; *found == id(*pair)?);
-        assert!(rt; *scalar == text(alloc, value)?);
-    }
-    Ok(())
-}
+const CHEESE: Where = Where::Item("shopping", (4, 1));
 
-pub fn assert_conflicts(
-    rt: &impl Abort,
-    alloc: Global,
-    tree: &Tree,
-    place: &Place,
-    wanted: &[(Pair, Tag)],
-) -> Result<(), Fail> {
-    let conflicts = tree.conflicts(alloc, place)?;
-    assert!(rt; conflicts.len() == wanted.len());
-    for ((found, tag), (pair, wanted)) in conflicts.iter().zip(wanted) {
-        assert!(rt; *found == id(*pair)?);
-        assert!(rt; *tag == *wanted);
-    }
-    Ok(())
-}
+const EGGS: Where = Where::Item("shopping", (3, 1));
 
-pub fn assert_keys(
-    rt: &impl Abort,
-    alloc: Global,
-    tree: &Tree,
-    place: &Place,
-    wanted: &[&str],
-) -> Result<(), Fail> {
-    let keys = tree.keys(alloc, place)?;
-    assert!(rt; keys.len() == wanted.len());
-    for (key, wanted) in keys.iter().zip(wanted) {
-        assert!(rt; key.as_str() == *wanted);
-    }
-    Ok(())
-}
+const MILK: Where = Where::Item("shopping", (5, 1));
 
 /// A list with eggs, cheese at the head, and milk after the eggs.
-fn shopping(rt: &impl Abort, alloc: Global) -> Result<Tree, Fail> {
-    let map = assign(alloc, (1, 1), [0, 0], &[], Val::EmptyMap)?;
-    let list = assign(alloc, (2, 1), [1, 0], &["shopping"], Val::EmptyList)?;
-    let eggs = insert_text(alloc, (3, 1), [2, 0], "shopping", None, "eggs")?;
-    let cheese = insert_text(alloc, (4, 1), [3, 0], "shopping", None, "cheese")?;
-    let milk = insert_text(alloc, (5, 1), [4, 0], "shopping", Some((3, 1)), "milk")?;
-    play_all(rt, alloc, &[&map, &list, &eggs, &cheese, &milk])
-}
+const SHOP: [Turn; 5] = [
+    Play((1, 1), [0, 0], ROOT, Does::Map),
+    Play((2, 1), [1, 0], SHOPPING, Does::List),
+    Play(
+        (3, 1),
+        [2, 0],
+        Where::Head("shopping"),
+        Does::Insert("eggs"),
+    ),
+    Play(
+        (4, 1),
+        [3, 0],
+        Where::Head("shopping"),
+        Does::Insert("cheese"),
+    ),
+    Play((5, 1), [4, 0], EGGS, Does::Insert("milk")),
+];
 
 #[test]
 fn items_stand_where_they_are_inserted(rt: HostRuntime) -> Result<(), Fail> {
-    let alloc = rt.alloc();
-    let tree = shopping(&rt, alloc)?;
-    assert_items(&rt, alloc, &tree, "shopping", &[(4, 1), (3, 1), (5, 1)])?;
-    let cheese = item(alloc, "shopping", (4, 1))?;
-    assert_values(&rt, alloc, &tree, &cheese, &[((4, 1), "cheese")])?;
-    let eggs = item(alloc, "shopping", (3, 1))?;
-    assert_values(&rt, alloc, &tree, &eggs, &[((3, 1), "eggs")])?;
-    let milk = item(alloc, "shopping", (5, 1))?;
-    assert_values(&rt, alloc, &tree, &milk, &[((5, 1), "milk")])
+    on_new(
+        &rt,
+        rt.alloc(),
+        &[
+            &SHOP,
+            &[
+                Items(SHOPPING, &[(4, 1), (3, 1), (5, 1)]),
+                Values(CHEESE, &[((4, 1), "cheese")]),
+                Values(EGGS, &[((3, 1), "eggs")]),
+                Values(MILK, &[((5, 1), "milk")]),
+            ],
+        ],
+    )
 }
 
-fn assert_ham(rt: &impl Abort, alloc: Global, tree: &Tree) -> Result<(), Fail> {
-    assert_items(rt, alloc, tree, "shopping", &[(4, 1), (3, 1), (5, 1)])?;
-    let eggs = item(alloc, "shopping", (3, 1))?;
-    assert_values(rt, alloc, tree, &eggs, &[((6, 2), "ham")])
-}
+const DELETE: Turn = Play((6, 1), [5, 0], EGGS, Does::Delete);
 
-fn delete_eggs(alloc: Global) -> Result<Op, Fail> {
-    let eggs = item(alloc, "shopping", (3, 1))?;
-    op(alloc, (6, 1), [5, 0], eggs, Mutation::Delete)
-}
+const REWRITE: Turn = Play((6, 2), [5, 0], EGGS, Does::Text("ham"));
 
-fn rewrite_eggs(alloc: Global) -> Result<Op, Fail> {
-    let eggs = item(alloc, "shopping", (3, 1))?;
-    let ham = Mutation::Assign(Val::Scalar(text(alloc, "ham")?));
-    op(alloc, (6, 2), [5, 0], eggs, ham)
-}
+const HAM: [Turn; 2] = [
+    Items(SHOPPING, &[(4, 1), (3, 1), (5, 1)]),
+    Values(EGGS, &[((6, 2), "ham")]),
+];
 
 #[test]
 fn deleted_items_go_and_rewritten_ones_come_back(rt: HostRuntime) -> Result<(), Fail> {
-    let alloc = rt.alloc();
-    let mut tree = shopping(&rt, alloc)?;
-    play(&rt, alloc, &mut tree, &delete_eggs(alloc)?)?;
-    assert_items(&rt, alloc, &tree, "shopping", &[(4, 1), (5, 1)])?;
-    play(&rt, alloc, &mut tree, &rewrite_eggs(alloc)?)?;
-    assert_ham(&rt, alloc, &tree)
+    let gone = Items(SHOPPING, &[(4, 1), (5, 1)]);
+    on_new(&rt, rt.alloc(), &[&SHOP, &[DELETE, gone, REWRITE], &HAM])
 }
 
 #[test]
 fn rewritten_items_outlive_a_delete_that_saw_less(rt: HostRuntime) -> Result<(), Fail> {
-    let alloc = rt.alloc();
-    let mut tree = shopping(&rt, alloc)?;
-    play(&rt, alloc, &mut tree, &rewrite_eggs(alloc)?)?;
-    play(&rt, alloc, &mut tree, &delete_eggs(alloc)?)?;
-    assert_ham(&rt, alloc, &tree)
-}
-
-fn assert_abxy(rt: &impl Abort, alloc: Global, ops: &[&Op]) -> Result<(), Fail> {
-    let tree = play_all(rt, alloc, ops)?;
-    assert_items(rt, alloc, &tree, "l", &[(2, 2), (3, 2), (2, 1), (3, 1)])?;
-    let a = item(alloc, "l", (2, 2))?;
-    assert_values(rt, alloc, &tree, &a, &[((2, 2), "a")])?;
-    assert_conflicts(rt, alloc, &tree, &a, &[((2, 2), Tag::Reg)])
+    on_new(&rt, rt.alloc(), &[&SHOP, &[REWRITE, DELETE], &HAM])
 }
 
 #[test]
 fn runs_of_concurrent_inserts_stay_together(rt: HostRuntime) -> Result<(), Fail> {
-    let alloc = rt.alloc();
-    let list = assign(alloc, (1, 1), [0, 0], &["l"], Val::EmptyList)?;
-    let x = insert_text(alloc, (2, 1), [1, 0], "l", None, "x")?;
-    let y = insert_text(alloc, (3, 1), [2, 0], "l", Some((2, 1)), "y")?;
-    let a = insert_text(alloc, (2, 2), [1, 0], "l", None, "a")?;
-    let b = insert_text(alloc, (3, 2), [1, 2], "l", Some((2, 2)), "b")?;
-    assert_abxy(&rt, alloc, &[&list, &x, &y, &a, &b])?;
-    assert_abxy(&rt, alloc, &[&list, &a, &b, &x, &y])?;
-    assert_abxy(&rt, alloc, &[&list, &x, &a, &b, &y])
-}
-
-fn assert_green(rt: &impl Abort, alloc: Global, ops: &[&Op]) -> Result<(), Fail> {
-    let tree = play_all(rt, alloc, ops)?;
-    let colors = field(alloc, &["colors"])?;
-    assert_keys(rt, alloc, &tree, &Place::doc(alloc), &["colors"])?;
-    assert_keys(rt, alloc, &tree, &colors, &["green"])?;
-    assert_conflicts(rt, alloc, &tree, &colors, &[((3, 2), Tag::Map)])?;
-    let green = field(alloc, &["colors", "green"])?;
-    assert_values(rt, alloc, &tree, &green, &[((3, 2), "#0f0")])
+    let head = Where::Head("l");
+    let at_a = Where::Item("l", (2, 2));
+    let list = Play((1, 1), [0, 0], Where::Field(&["l"]), Does::List);
+    let x = Play((2, 1), [1, 0], head, Does::Insert("x"));
+    let y = Play((3, 1), [2, 0], Where::Item("l", (2, 1)), Does::Insert("y"));
+    let a = Play((2, 2), [1, 0], head, Does::Insert("a"));
+    let b = Play((3, 2), [1, 2], at_a, Does::Insert("b"));
+    for given in [[list, x, y, a, b], [list, a, b, x, y], [list, x, a, b, y]] {
+        on_new(
+            &rt,
+            rt.alloc(),
+            &[
+                &given,
+                &[
+                    Items(Where::Field(&["l"]), &[(2, 2), (3, 2), (2, 1), (3, 1)]),
+                    Values(at_a, &[((2, 2), "a")]),
+                    Conflicts(at_a, &[((2, 2), Tag::Reg)]),
+                ],
+            ],
+        )?;
+    }
+    Ok(())
 }
 
 #[test]
 fn what_a_delete_did_not_see_stays(rt: HostRuntime) -> Result<(), Fail> {
-    let alloc = rt.alloc();
-    let map = assign(alloc, (1, 1), [0, 0], &["colors"], Val::EmptyMap)?;
-    let blue = assign_text(alloc, (2, 1), [1, 0], &["colors", "blue"], "#00f")?;
-    let place = field(alloc, &["colors"])?;
-    let delete = op(alloc, (3, 1), [2, 0], place, Mutation::Delete)?;
-    let green = assign_text(alloc, (3, 2), [2, 0], &["colors", "green"], "#0f0")?;
-    assert_green(&rt, alloc, &[&map, &blue, &delete, &green])?;
-    assert_green(&rt, alloc, &[&map, &blue, &green, &delete])
-}
-
-fn assert_side_by_side(rt: &impl Abort, alloc: Global, ops: &[&Op]) -> Result<(), Fail> {
-    let tree = play_all(rt, alloc, ops)?;
-    let both = [((2, 1), "B"), ((2, 2), "C")];
-    assert_values(rt, alloc, &tree, &field(alloc, &["key"])?, &both)
+    let colors = Where::Field(&["colors"]);
+    let in_blue = Where::Field(&["colors", "blue"]);
+    let in_green = Where::Field(&["colors", "green"]);
+    let map = Play((1, 1), [0, 0], colors, Does::Map);
+    let blue = Play((2, 1), [1, 0], in_blue, Does::Text("#00f"));
+    let delete = Play((3, 1), [2, 0], colors, Does::Delete);
+    let green = Play((3, 2), [2, 0], in_green, Does::Text("#0f0"));
+    for given in [[map, blue, delete, green], [map, blue, green, delete]] {
+        on_new(
+            &rt,
+            rt.alloc(),
+            &[
+                &given,
+                &[
+                    Keys(ROOT, &["colors"]),
+                    Keys(colors, &["green"]),
+                    Conflicts(colors, &[((3, 2), Tag::Map)]),
+                    Values(in_green, &[((3, 2), "#0f0")]),
+                ],
+            ],
+        )?;
+    }
+    Ok(())
 }
 
 #[test]
 fn concurrent_values_stand_side_by_side(rt: HostRuntime) -> Result<(), Fail> {
-    let alloc = rt.alloc();
-    let a = assign_text(alloc, (1, 1), [0, 0], &["key"], "A")?;
-    let b = assign_text(alloc, (2, 1), [1, 0], &["key"], "B")?;
-    let c = assign_text(alloc, (2, 2), [1, 0], &["key"], "C")?;
-    assert_side_by_side(&rt, alloc, &[&a, &b, &c])?;
-    assert_side_by_side(&rt, alloc, &[&a, &c, &b])
-}
-
-fn assert_both(rt: &impl Abort, alloc: Global, ops: &[&Op]) -> Result<(), Fail> {
-    let tree = play_all(rt, alloc, ops)?;
-    let both = [((2, 1), Tag::Map), ((2, 2), Tag::List)];
-    assert_conflicts(rt, alloc, &tree, &field(alloc, &["k"])?, &both)
+    let key = Where::Field(&["key"]);
+    let a = Play((1, 1), [0, 0], key, Does::Text("A"));
+    let b = Play((2, 1), [1, 0], key, Does::Text("B"));
+    let c = Play((2, 2), [1, 0], key, Does::Text("C"));
+    let both = Values(key, &[((2, 1), "B"), ((2, 2), "C")]);
+    on_new(&rt, rt.alloc(), &[&[a, b, c, both]])?;
+    on_new(&rt, rt.alloc(), &[&[a, c, b, both]])
 }
 
 #[test]
 fn a_map_and_a_list_stand_at_one_key(rt: HostRuntime) -> Result<(), Fail> {
-    let alloc = rt.alloc();
-    let doc = assign(alloc, (1, 1), [0, 0], &[], Val::EmptyMap)?;
-    let map = assign(alloc, (2, 1), [1, 0], &["k"], Val::EmptyMap)?;
-    let list = assign(alloc, (2, 2), [1, 0], &["k"], Val::EmptyList)?;
-    assert_both(&rt, alloc, &[&doc, &map, &list])?;
-    assert_both(&rt, alloc, &[&doc, &list, &map])
+    let key = Where::Field(&["k"]);
+    let doc = Play((1, 1), [0, 0], ROOT, Does::Map);
+    let map = Play((2, 1), [1, 0], key, Does::Map);
+    let list = Play((2, 2), [1, 0], key, Does::List);
+    let both = Conflicts(key, &[((2, 1), Tag::Map), ((2, 2), Tag::List)]);
+    on_new(&rt, rt.alloc(), &[&[doc, map, list, both]])?;
+    on_new(&rt, rt.alloc(), &[&[doc, list, map, both]])
 }

@@ -1,188 +1,162 @@
-//! Operations for tests, and what plays them.
+//! What is done with a tree in a test, as rows, and what plays them.
 
-ghost use Rattle.std.specs.Prelude.{◌≡◌, IsTrue, length};
-ghost use Rattle.ids.specs.Members.{is_member};
-ghost use Rattle.semantics.specs.LegalHistory.{IsFormed};
-ghost use Rattle.semantics.specs.Operations.{slot_of};
-ghost use Rattle.operation.specs.Meanings.{mutation_of, stamped_of};
-ghost use Rattle.tree.specs.Nodes.{IsTree, context};
-ghost use Rattle.tree.specs.Trees.{FitsIn, IsPlaced, document};
-
-use crate::insert::slot_of;
-use crate::node::{Node, node_at};
+use super::applying::play;
+use super::rows::{Does, Pair, Where, element_of, op, pair_of};
 use crate::tree::Tree;
-use crate::walk::walk;
-use cursor::Place;
-use ids::{OpId, ReplicaId, ReplicaTable};
-use operation::{Mutation, Op};
+use cursor::{ElementPlace, Tag};
+use ids::{Refusal, ReplicaTable};
 use std::alloc::Global;
 use std::process::Abort;
 use std::test::Fail;
-use value::{Key, Scalar, Text, Val};
-use version::VersionVector;
+use value::Scalar;
 
-/// An id's counter and replica.
-pub type Pair = (u64, u32);
-
-pub fn id(pair: Pair) -> Result<OpId, Fail> {
-    let (counter, replica) = pair;
-    let replica = ReplicaId::new(replica).ok_or("numbered 0")?;
-    Ok(OpId { counter, replica })
+/// Something that is done with a tree, or asked of it with what it answers.
+#[derive(Clone, Copy, Debug)]
+pub enum Turn<'a> {
+    /// Makes what an operation needs, and applies it. It has this id, and depends on these counters of the replicas 1 and 2.
+    Play(Pair, [u64; 2], Where<'a>, Does<'a>),
+    /// Makes what such an operation needs, and no more.
+    Reserve(Pair, [u64; 2], Where<'a>, Does<'a>),
+    /// The visible items of the list there.
+    Items(Where<'a>, &'a [Pair]),
+    /// The visible keys of the map there.
+    Keys(Where<'a>, &'a [&'a str]),
+    /// The values in the register there, which are texts.
+    Values(Where<'a>, &'a [(Pair, &'a str)]),
+    /// The presence there.
+    Conflicts(Where<'a>, &'a [(Pair, Tag)]),
 }
 
-pub fn ids(alloc: Global, pairs: &[Pair]) -> Result<Vec<OpId>, Fail> {
-    let mut ids = Vec::new(alloc);
-    for pair in pairs {
-        ids.push(id(*pair)?)?;
+/// Compares the items at an element.
+fn assert_items(
+    rt: &impl Abort,
+    alloc: Global,
+    tree: &Tree,
+    element: &ElementPlace,
+    want: &[Pair],
+) -> Result<(), Fail> {
+    let items = tree.items(alloc, element)?;
+    assert_eq!(rt; items.len(), want.len(), "of {want:?}");
+    for (id, pair) in items.iter().zip(want) {
+        assert_eq!(rt; pair_of(*id), *pair, "of {want:?}");
     }
-    Ok(ids)
+    Ok(())
 }
 
-/// The field that these names lead to from the root.
-pub fn field(alloc: Global, names: &[&str]) -> Result<Place, Fail> {
-    let mut place = Place::doc(alloc);
-    for name in names {
-        place = place.get(alloc, Key::new(alloc, name)?)?;
+/// Compares the keys there.
+fn assert_keys(
+    rt: &impl Abort,
+    alloc: Global,
+    tree: &Tree,
+    element: &ElementPlace,
+    want: &[&str],
+) -> Result<(), Fail> {
+    let keys = tree.keys(alloc, element)?;
+    assert_eq!(rt; keys.len(), want.len(), "of {want:?}");
+    for (key, name) in keys.iter().zip(want) {
+        assert_eq!(rt; key.as_str(), *name, "of {want:?}");
     }
-    Ok(place)
+    Ok(())
 }
 
-/// The item with this id of the list at a field of the root.
-pub fn item(alloc: Global, list: &str, pair: Pair) -> Result<Place, Fail> {
-    Ok(field(alloc, &[list])?.item(alloc, id(pair)?)?)
+/// The text that a scalar is.
+fn text_in(scalar: &Scalar) -> Option<&str> {
+    match scalar {
+        Scalar::Text(text) => Some(text.as_str()),
+        _ => None,
+    }
 }
 
-/// A text as a scalar.
-pub fn text(alloc: Global, text: &str) -> Result<Scalar, Fail> {
-    Ok(Scalar::Text(Text::new(alloc, text)?))
+/// Compares the values there, which are texts.
+pub fn assert_values(
+    rt: &impl Abort,
+    alloc: Global,
+    tree: &Tree,
+    element: &ElementPlace,
+    want: &[(Pair, &str)],
+) -> Result<(), Fail> {
+    let values = tree.values(alloc, element)?;
+    assert_eq!(rt; values.len(), want.len(), "of {want:?}");
+    for ((id, scalar), (pair, value)) in values.iter().zip(want) {
+        assert_eq!(rt;
+            (pair_of(*id), text_in(scalar)),
+            (*pair, Some(*value)),
+            "of {want:?}"
+        );
+    }
+    Ok(())
 }
 
-/// An empty document of two replicas.
-fn empty(alloc: Global) -> Result<Tree, Fail> {
+/// Compares the presence there.
+fn assert_conflicts(
+    rt: &impl Abort,
+    alloc: Global,
+    tree: &Tree,
+    element: &ElementPlace,
+    want: &[(Pair, Tag)],
+) -> Result<(), Fail> {
+    let conflicts = tree.conflicts(alloc, element)?;
+    assert_eq!(rt; conflicts.len(), want.len(), "of {want:?}");
+    for ((id, tag), row) in conflicts.iter().zip(want) {
+        assert_eq!(rt; (pair_of(*id), *tag), *row, "of {want:?}");
+    }
+    Ok(())
+}
+
+/// Does a turn.
+fn take_turn(rt: &impl Abort, alloc: Global, tree: &mut Tree, turn: Turn) -> Result<(), Fail> {
+    match turn {
+        Turn::Play(pair, counters, at, does) => {
+            let op = op(alloc, pair, counters, at, does)?;
+            play(rt, alloc, tree, &op)
+        }
+        Turn::Reserve(pair, counters, at, does) => {
+            let op = op(alloc, pair, counters, at, does)?;
+            Ok(tree.reserve(alloc, &op)?)
+        }
+        Turn::Items(at, want) => {
+            let element = element_of(alloc, at)?;
+            assert_items(rt, alloc, tree, &element, want)
+        }
+        Turn::Keys(at, want) => {
+            let element = element_of(alloc, at)?;
+            assert_keys(rt, alloc, tree, &element, want)
+        }
+        Turn::Values(at, want) => {
+            let element = element_of(alloc, at)?;
+            assert_values(rt, alloc, tree, &element, want)
+        }
+        Turn::Conflicts(at, want) => {
+            let element = element_of(alloc, at)?;
+            assert_conflicts(rt, alloc, tree, &element, want)
+        }
+    }
+}
+
+/// Does these turns, one after another.
+pub fn take_turns(
+    rt: &impl Abort,
+    alloc: Global,
+    tree: &mut Tree,
+    turns: &[Turn],
+) -> Result<(), Fail> {
+    for next in turns {
+        take_turn(rt, alloc, tree, *next)?;
+    }
+    Ok(())
+}
+
+/// An empty document of the replicas 1 and 2.
+pub fn empty(alloc: Global) -> Result<Tree, Refusal> {
     let table = ReplicaTable::new(alloc, &[1, 2])?;
     Ok(Tree::new(alloc, &table)?)
 }
 
-/// An operation of these two replicas, with the counters of what it depends on.
-pub fn op(
-    alloc: Global,
-    pair: Pair,
-    deps: [u64; 2],
-    place: Place,
-    mutation: Mutation,
-) -> Result<Op, Fail> {
-    let mut vector = VersionVector::zero(alloc, 2)?;
-    vector.raise(0, deps[0]);
-    vector.raise(1, deps[1]);
-    Ok(Op {
-        id: id(pair)?,
-        deps: vector,
-        place,
-        mutation,
-    })
-}
-
-/// An assign at the field that these names lead to.
-pub fn assign(
-    alloc: Global,
-    pair: Pair,
-    deps: [u64; 2],
-    names: &[&str],
-    value: Val,
-) -> Result<Op, Fail> {
-    let place = field(alloc, names)?;
-    op(alloc, pair, deps, place, Mutation::Assign(value))
-}
-
-/// The same of a text.
-pub fn assign_text(
-    alloc: Global,
-    pair: Pair,
-    deps: [u64; 2],
-    names: &[&str],
-    value: &str,
-) -> Result<Op, Fail> {
-    let value = Val::Scalar(text(alloc, value)?);
-    assign(alloc, pair, deps, names, value)
-}
-
-/// An insert of a text into the list at a field of the root, after this item or at the head.
-pub fn insert_text(
-    alloc: Global,
-    pair: Pair,
-    deps: [u64; 2],
-    list: &str,
-    after: Option<Pair>,
-    value: &str,
-) -> Result<Op, Fail> {
-    let place = match after {
-        Some(after) => item(alloc, list, after)?,
-        None => field(alloc, &[list])?.head(alloc)?,
-    };
-    let value = Val::Scalar(text(alloc, value)?);
-    op(alloc, pair, deps, place, Mutation::Insert(value))
-}
-
-/// Makes what the operation needs, and applies it.
-pub fn play(rt: &impl Abort, alloc: Global, tree: &mut Tree, op: &Op) -> Result<(), Fail> {
-    tree.reserve(alloc, op)?;
-    assert!(rt; may_apply(tree, op));
-    tree.apply(op);
-    Ok(())
-}
-
-pub fn play_all(rt: &impl Abort, alloc: Global, ops: &[&Op]) -> Result<Tree, Fail> {
+/// Does the turns of each part with one new tree.
+pub fn on_new(rt: &impl Abort, alloc: Global, parts: &[&[Turn]]) -> Result<(), Fail> {
     let mut tree = empty(alloc)?;
-    for op in ops {
-        play(rt, alloc, &mut tree, op)?;
+    for turns in parts {
+        take_turns(rt, alloc, &mut tree, turns)?;
     }
-    Ok(tree)
-}
-
-/// Whether the operation has the right form, is of these replicas, and has its place in the document.
-fn may_apply(tree: &Tree, op: &Op) -> bool
-    ensures placed { IsTrue result → IsPlaced (document tree.now) (stamped_of tree.now.table op.now) }
-    ensures formed { IsTrue result → IsFormed (mutation_of op.now.mutation) op.now.place }
-    ensures member { IsTrue result → IsTrue (is_member tree.now.table op.now.id.replica) }
-    ensures width { IsTrue result → length op.now.deps ≡ length tree.now.table }
-{
-    is_formed(op)
-        && fits(&tree.nodes, op)
-        && tree.table.index_of(op.id.replica).is_some()
-        && op.deps.width() == tree.table.len()
-}
-
-/// Whether an insert stands at a head or an item, and nothing else at a head.
-fn is_formed(op: &Op) -> bool
-    ensures { IsTrue result → IsFormed (mutation_of op.now.mutation) op.now.place }
-{
-    if op.mutation.is_insert() {
-        slot_of(&op.place).is_some()
-    } else {
-        !op.place.is_head()
-    }
-}
-
-/// Whether what an insert goes after is in its list, and its own id isn't.
-fn fits(nodes: &[Node], op: &Op) -> bool
-    requires { IsTree nodes.now }
-    ensures { IsTrue result → FitsIn (context nodes.now) op.now.id (slot_of (mutation_of op.now.mutation) op.now.place) }
-{
-    if !op.mutation.is_insert() {
-        return true;
-    }
-    let Some(slot) = slot_of(&op.place) else {
-        return true;
-    };
-    let Some(at) = walk(nodes, slot.list) else {
-        return false;
-    };
-    let order = &node_at(nodes, at).order;
-    if order.contains(&op.id) {
-        return false;
-    }
-    match slot.prev {
-        None => true,
-        Some(prev) => order.contains(&prev),
-    }
+    Ok(())
 }

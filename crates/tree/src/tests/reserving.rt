@@ -1,125 +1,141 @@
 //! What a reserve leaves as it was, and what may follow it.
 
-use super::operations::{assert_conflicts, assert_items, assert_keys, assert_values};
-use super::playing::{assign, assign_text, field, insert_text, item, op, play, play_all};
+use super::playing::{assert_values, empty, take_turns};
 use super::*;
 use crate::tree::Tree;
-use cursor::{Expr, Place, Step, Tag};
-use operation::{Mutation, Op};
+use cursor::{ElementPlace, Expr, Step};
 use std::alloc::Global;
 use std::process::Abort;
-use std::test::Fail;
-use value::{Key, Val};
+use value::Key;
+
+const LIST: Where = Where::Field(&["list"]);
+
+const HEAD: Where = Where::Head("list");
+
+const EGGS: Where = Where::Item("list", (2, 1));
+
+const NOTE: Where = Where::Field(&["note"]);
+
+const MORE: Where = Where::Field(&["more"]);
 
 /// A list with eggs, and a note.
-fn groceries(rt: &impl Abort, alloc: Global) -> Result<Tree, Fail> {
-    let new = Mutation::Assign(Val::EmptyList);
-    let list = op(alloc, (1, 1), [0, 0], field(alloc, &["list"])?, new)?;
-    let eggs = insert_text(alloc, (2, 1), [1, 0], "list", None, "eggs")?;
-    let note = assign_text(alloc, (3, 1), [2, 0], &["note"], "today")?;
-    play_all(rt, alloc, &[&list, &eggs, &note])
-}
+const GROCERIES: [Turn; 3] = [
+    Play((1, 1), [0, 0], LIST, Does::List),
+    Play((2, 1), [1, 0], HEAD, Does::Insert("eggs")),
+    Play((3, 1), [2, 0], NOTE, Does::Text("today")),
+];
 
-/// Asks for all that the groceries hold beneath the root.
-fn assert_groceries(rt: &impl Abort, alloc: Global, tree: &Tree) -> Result<(), Fail> {
-    let list = field(alloc, &["list"])?;
-    let note = field(alloc, &["note"])?;
-    let eggs = item(alloc, "list", (2, 1))?;
-    assert_items(rt, alloc, tree, "list", &[(2, 1)])?;
-    assert_values(rt, alloc, tree, &eggs, &[((2, 1), "eggs")])?;
-    assert_values(rt, alloc, tree, &note, &[((3, 1), "today")])?;
-    assert_conflicts(rt, alloc, tree, &note, &[((3, 1), Tag::Reg)])?;
-    assert_conflicts(
-        rt,
-        alloc,
-        tree,
-        &list,
-        &[((1, 1), Tag::List), ((2, 1), Tag::List)],
-    )
+/// All that the groceries hold beneath the root.
+const HELD: [Turn; 5] = [
+    Items(LIST, &[(2, 1)]),
+    Values(EGGS, &[((2, 1), "eggs")]),
+    Values(NOTE, &[((3, 1), "today")]),
+    Conflicts(NOTE, &[((3, 1), Tag::Reg)]),
+    Conflicts(LIST, &[((1, 1), Tag::List), ((2, 1), Tag::List)]),
+];
+
+/// An operation of each form is reserved, beside the groceries.
+const FORMS: [Turn; 6] = [
+    Reserve(
+        (4, 2),
+        [3, 0],
+        Where::Field(&["more", "deep"]),
+        Does::Text("soon"),
+    ),
+    Reserve((4, 2), [3, 0], NOTE, Does::Map),
+    Reserve((4, 2), [3, 0], MORE, Does::List),
+    Reserve((4, 2), [3, 0], HEAD, Does::Insert("milk")),
+    Reserve((4, 2), [3, 0], EGGS, Does::Insert("ham")),
+    Reserve((4, 2), [3, 0], NOTE, Does::Delete),
+];
+
+/// The expression of the list's first item.
+fn at_first(alloc: Global) -> Result<Expr, Fail> {
+    let list = Key::new(alloc, "list")?;
+    let mut steps = Vec::new(alloc);
+    steps.push(Step::Get(list))?;
+    steps.push(Step::Idx(1))?;
+    Ok(Expr::new(steps))
 }
 
 /// Where the first item of the list is.
-fn assert_first_item(rt: &impl Abort, alloc: Global, tree: &Tree) -> Result<(), Fail> {
-    let mut steps = Vec::new(alloc);
-    steps.push(Step::Get(Key::new(alloc, "list")?))?;
-    steps.push(Step::Idx(1))?;
-    let first = tree.resolve(alloc, &Expr::new(steps))?;
-    assert_values(rt, alloc, tree, &first, &[((2, 1), "eggs")])
+fn first_item(alloc: Global, tree: &Tree) -> Result<ElementPlace, Fail> {
+    let expression = at_first(alloc)?;
+    let place = tree.resolve(alloc, &expression)?;
+    Ok(place.into_element().ok_or("a head")?)
 }
 
-/// An operation of each form, beside the groceries.
-fn form(alloc: Global, number: u64) -> Result<Op, Fail> {
-    match number {
-        0 => assign_text(alloc, (4, 2), [3, 0], &["more", "deep"], "soon"),
-        1 => assign(alloc, (4, 2), [3, 0], &["note"], Val::EmptyMap),
-        2 => assign(alloc, (4, 2), [3, 0], &["more"], Val::EmptyList),
-        3 => insert_text(alloc, (4, 2), [3, 0], "list", None, "milk"),
-        4 => insert_text(alloc, (4, 2), [3, 0], "list", Some((2, 1)), "ham"),
-        _ => op(
-            alloc,
-            (4, 2),
-            [3, 0],
-            field(alloc, &["note"])?,
-            Mutation::Delete,
-        ),
-    }
+/// Reserves an operation twice, and asks for all that the groceries hold each time.
+fn assert_keeps(rt: &impl Abort, alloc: Global, tree: &mut Tree, form: Turn) -> Result<(), Fail> {
+    take_turns(rt, alloc, tree, &[form])?;
+    take_turns(rt, alloc, tree, &HELD)?;
+    take_turns(rt, alloc, tree, &[form])?;
+    take_turns(rt, alloc, tree, &HELD)?;
+    take_turns(rt, alloc, tree, &[Keys(ROOT, &["list", "note"])])?;
+    let first = first_item(alloc, tree)?;
+    assert_values(rt, alloc, tree, &first, &[((2, 1), "eggs")])
 }
 
 #[test]
 fn reserves_keep_the_content(rt: HostRuntime) -> Result<(), Fail> {
-    let alloc = rt.alloc();
-    let mut tree = groceries(&rt, alloc)?;
-    for number in 0..6 {
-        let op = form(alloc, number)?;
-        tree.reserve(alloc, &op)?;
-        assert_groceries(&rt, alloc, &tree)?;
-        tree.reserve(alloc, &op)?;
-        assert_groceries(&rt, alloc, &tree)?;
-        assert_first_item(&rt, alloc, &tree)?;
-        assert_keys(&rt, alloc, &tree, &Place::doc(alloc), &["list", "note"])?;
+    let mut tree = empty(rt.alloc())?;
+    take_turns(&rt, rt.alloc(), &mut tree, &GROCERIES)?;
+    for form in FORMS {
+        assert_keeps(&rt, rt.alloc(), &mut tree, form)?;
     }
     Ok(())
 }
 
 #[test]
 fn another_operation_follows_each_reserve(rt: HostRuntime) -> Result<(), Fail> {
-    let alloc = rt.alloc();
-    let keys = ["list", "note", "other"];
-    let last = assign_text(alloc, (4, 1), [3, 0], &["other"], "late")?;
-    for number in 0..6 {
-        let mut tree = groceries(&rt, alloc)?;
-        tree.reserve(alloc, &form(alloc, number)?)?;
-        play(&rt, alloc, &mut tree, &last)?;
-        assert_groceries(&rt, alloc, &tree)?;
-        assert_values(&rt, alloc, &tree, &last.place, &[((4, 1), "late")])?;
-        assert_keys(&rt, alloc, &tree, &Place::doc(alloc), &keys)?;
+    let other = Where::Field(&["other"]);
+    for form in FORMS {
+        on_new(
+            &rt,
+            rt.alloc(),
+            &[
+                &GROCERIES,
+                &[form, Play((4, 1), [3, 0], other, Does::Text("late"))],
+                &HELD,
+                &[
+                    Values(other, &[((4, 1), "late")]),
+                    Keys(ROOT, &["list", "note", "other"]),
+                ],
+            ],
+        )?;
     }
     Ok(())
 }
 
+/// A map is assigned, and is all that stands there.
+const MAP: [Turn; 3] = [
+    Play((4, 1), [3, 0], MORE, Does::Map),
+    Values(MORE, &[]),
+    Conflicts(MORE, &[((4, 1), Tag::Map)]),
+];
+
 #[test]
 fn a_scalar_of_an_earlier_reserve_is_not_written(rt: HostRuntime) -> Result<(), Fail> {
-    let alloc = rt.alloc();
-    let last = assign(alloc, (4, 1), [3, 0], &["more"], Val::EmptyMap)?;
-    for number in 0..6 {
-        let mut tree = groceries(&rt, alloc)?;
-        tree.reserve(alloc, &form(alloc, number)?)?;
-        play(&rt, alloc, &mut tree, &last)?;
-        assert_values(&rt, alloc, &tree, &last.place, &[])?;
-        assert_conflicts(&rt, alloc, &tree, &last.place, &[((4, 1), Tag::Map)])?;
+    for form in FORMS {
+        on_new(&rt, rt.alloc(), &[&GROCERIES, &[form], &MAP])?;
     }
     Ok(())
 }
 
 #[test]
 fn the_first_reserved_is_applied_later(rt: HostRuntime) -> Result<(), Fail> {
-    let alloc = rt.alloc();
-    let mut tree = groceries(&rt, alloc)?;
-    let first = insert_text(alloc, (4, 2), [3, 0], "list", None, "milk")?;
-    let second = insert_text(alloc, (4, 1), [3, 0], "list", Some((2, 1)), "ham")?;
-    tree.reserve(alloc, &first)?;
-    play(&rt, alloc, &mut tree, &second)?;
-    assert_items(&rt, alloc, &tree, "list", &[(2, 1), (4, 1)])?;
-    play(&rt, alloc, &mut tree, &first)?;
-    assert_items(&rt, alloc, &tree, "list", &[(4, 2), (2, 1), (4, 1)])
+    on_new(
+        &rt,
+        rt.alloc(),
+        &[
+            &GROCERIES,
+            &[
+                Reserve((4, 2), [3, 0], HEAD, Does::Insert("milk")),
+                Play((4, 1), [3, 0], EGGS, Does::Insert("ham")),
+                Items(LIST, &[(2, 1), (4, 1)]),
+                Play((4, 2), [3, 0], HEAD, Does::Insert("milk")),
+                Items(LIST, &[(4, 2), (2, 1), (4, 1)]),
+            ],
+        ],
+    )
 }

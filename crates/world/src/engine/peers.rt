@@ -1,6 +1,6 @@
 //! How clients of an engine submit, and what its tokens say to other engines and its clients receive from them.
 
-ghost use Rattle.std.specs.Prelude.{◌≡◌, ◌≢◌, ◌⊎◌, ◌++◌, ◌∷◌, [], ◌+◌, ◌<◌, ◌≤◌, ◌^◌, ◌==◌, cond, true, false, OnOk, IfOk, IfErr, IfNone, IfSome, MatchResult, Option, Some, map, length, slice_get};
+ghost use Rattle.std.specs.Prelude.{◌≡◌, ◌≢◌, ◌⊎◌, ◌++◌, ◌∷◌, [], ◌+◌, ◌<◌, ◌≤◌, ◌^◌, ◌==◌, cond, true, false, OnOk, OnErr, IfOk, IfNone, IfSome, MatchResult, Option, Some, map, length, slice_get};
 ghost use Rattle.std.specs.List.{All};
 ghost use Rattle.ids.specs.declared.refusal.Refusal.TheVariants.{NoMemory, UnknownReplica};
 ghost use Rattle.ids.specs.declared.refusal.Refusal.{Refusal as TheRefusal};
@@ -11,28 +11,30 @@ ghost use Rattle.semantics.specs.WriteSteps.{push};
 ghost use Rattle.semantics.specs.PeerSteps.{answer_hello, answer_sent, lacked, names_members, published_vector, receive_lines, receive_message, say_hello, submit_all};
 ghost use Rattle.operation.specs.Meanings.{command_of, stamped_of};
 ghost use Rattle.wire.specs.Bundles.{readable};
-ghost use Rattle.world.specs.Engines.{HasWidth, IsNoHello, first_of, message_of, request_of, stop_after, taken_or_denied};
+ghost use Rattle.items.specs.Meanings.{request_of};
+ghost use Rattle.world.specs.Engines.{IsNoHello, IsReachedEngine, first_of, message_of, stop_after, taken_or_denied};
+ghost use Rattle.world.specs.Parts.{IsBetween};
 ghost use Rattle.world.specs.Meanings.{reply_of};
 
 use crate::engine::Engine;
-use crate::item::Request;
 use crate::message::{Message, NamedOps, NamedVector};
 use crate::naming::{ops_beside, vector_beside};
 use crate::step::WorldReply;
 use ids::Refusal;
+use items::Request;
 use operation::{Command, Op};
-use std::alloc::Global;
+use std::alloc::{AllocError, Global};
 use wire::{LinesRead, read_lines};
 
 impl Engine {
     /// A client submits a command. Copies it for the client and for the queue.
     ///
     /// # Errors
-    /// `NoMemory` where a growth was refused.
-    pub fn push(&mut self, client: usize, command: &Command) -> Result<WorldReply, Refusal>
+    /// `AllocError` if allocation fails.
+    pub fn push(&mut self, client: usize, command: &Command) -> Result<WorldReply, AllocError>
         ensures engine { OnOk result (self.new ≡ (push self.old client (OfCommand (command_of command.now))).engine) }
         ensures reply { IfOk result (λ r. reply_of r ≡ (push self.old client (OfCommand (command_of command.now))).reply) }
-        ensures err { IfErr result (λ why. why ≡ NoMemory) }
+        ensures unchanged { OnErr result (self.new ≡ self.old) }
     {
         if client >= self.clients.len() {
             return Ok(WorldReply::Idle);
@@ -55,13 +57,12 @@ impl Engine {
     /// A client that is there submits a request; what is given is why that was refused, if it was.
     ///
     /// # Errors
-    /// `NoMemory` where a growth was refused.
-    fn submit(&mut self, client: usize, request: Request) -> Result<Option<Refusal>, Refusal>
+    /// `AllocError` if allocation fails.
+    fn submit(&mut self, client: usize, request: Request) -> Result<Option<Refusal>, AllocError>
         requires there { client < length self.old.clients }
-        requires wide { HasWidth self.old.replica.members request }
         ensures engine { OnOk result (self.new ≡ (push self.old client (request_of self.old.replica.members request)).engine) }
         ensures reply { IfOk result (λ w. (k : TheClient) → slice_get self.old.clients client ≡ Some k → (push self.old client (request_of self.old.replica.members request)).reply ≡ taken_or_denied (length k.cells + 1) w) }
-        ensures err { IfErr result (λ why. why ≡ NoMemory) }
+        ensures unchanged { OnErr result (self.new ≡ self.old) }
     {
         let k = &self.clients[client];
         if k.cells.len() as u64 >= self.serials {
@@ -72,29 +73,31 @@ impl Engine {
         }
         let item = k.next_item(client, request);
         let kept = item.clone()?;
-        self.queue.push_back(item)?;
+        self.queue.reserve(1)?;
         let k = &mut self.clients[client];
         k.keep(kept)?;
+        self.queue.push_back_reserved(item);
         Ok(None)
     }
 
     /// A token says hello in a message.
     ///
     /// # Errors
-    /// `NoMemory` where a growth was refused.
+    /// `AllocError` if allocation fails.
     pub fn hello(
         &mut self,
         messages: &mut Vec<Message>,
         token: usize,
-    ) -> Result<WorldReply, Refusal>
+    ) -> Result<WorldReply, AllocError>
         ensures engine { OnOk result (self.new ≡ (say_hello self.old token (length messages.old.items)).engine) }
         ensures reply { IfOk result (λ r. reply_of r ≡ (say_hello self.old token (length messages.old.items)).reply) }
         ensures sent { OnOk result (map message_of messages.new.items ≡ map message_of messages.old.items ++ HelloOf (published_vector self.old) ∷ []) }
-        ensures err { IfErr result (λ why. why ≡ NoMemory) }
+        ensures unsent { OnErr result (map message_of messages.new.items ≡ map message_of messages.old.items) }
+        ensures unchanged { OnErr result (self.new ≡ self.old) }
     {
         let message = messages.len() as u64;
-        let table = self.published.table().clone()?;
-        let vector = self.published.applied().clone()?;
+        let table = self.shown().table().clone()?;
+        let vector = self.shown().applied().clone()?;
         messages.push(Message::Hello(NamedVector {
             table: table.clone()?,
             vector: vector.clone()?,
@@ -110,18 +113,19 @@ impl Engine {
     /// A token answers a hello by a bundle of what that lacks. Copies those operations.
     ///
     /// # Errors
-    /// `NoMemory` where a growth was refused.
+    /// `AllocError` if allocation fails.
     pub fn bundle(
         &mut self,
         alloc: Global,
         messages: &mut Vec<Message>,
         token: usize,
         message: usize,
-    ) -> Result<WorldReply, Refusal>
+    ) -> Result<WorldReply, AllocError>
         ensures engine { OnOk result (self.new ≡ (answer_hello self.old token (length messages.old.items) (slice_get (map message_of messages.old.items) message)).engine) }
         ensures reply { IfOk result (λ r. reply_of r ≡ (answer_hello self.old token (length messages.old.items) (slice_get (map message_of messages.old.items) message)).reply) }
         ensures sent { OnOk result (map message_of messages.new.items ≡ map message_of messages.old.items ++ answer_sent self.old (slice_get (map message_of messages.old.items) message)) }
-        ensures err { IfErr result (λ why. why ≡ NoMemory) }
+        ensures unsent { OnErr result (map message_of messages.new.items ≡ map message_of messages.old.items) }
+        ensures unchanged { OnErr result (self.new ≡ self.old) }
     {
         let Some(hello) = hello_at(messages, message) else {
             return Ok(WorldReply::NoMessage);
@@ -131,7 +135,7 @@ impl Engine {
             Err(Refusal::UnknownReplica) => {
                 return Ok(WorldReply::Denied(Refusal::UnknownReplica));
             }
-            Err(why) => return Err(why),
+            Err(_) => return Err(AllocError),
         };
         let message = messages.len() as u64;
         let operations = bundle.ops.len() as u64;
@@ -152,61 +156,70 @@ impl Engine {
             (λ b. (map (stamped_of b.table) b.ops.items ≡ lacked self.now (by_table hello.now.table hello.now.vector)) × (names_members self.now (by_table hello.now.table hello.now.vector) ≡ true))
             (λ why. (why ≡ NoMemory) ⊎ ((why ≡ UnknownReplica) × (names_members self.now (by_table hello.now.table hello.now.vector) ≡ false))) }
     {
-        let table = self.published.table().clone()?;
+        let table = self.shown().table().clone()?;
         let vector = vector_beside(alloc, &hello.table, &hello.vector, &table)?;
-        let ops = self.published.missing(alloc, &vector)?;
+        let ops = self.shown().missing(alloc, &vector)?;
         Ok(NamedOps { table, ops })
     }
 
     /// A client receives a copy of a bundle, and submits its operations.
     ///
     /// # Errors
-    /// `NoMemory` where a growth was refused.
+    /// `AllocError` if allocation fails.
     pub fn deliver(
         &mut self,
         alloc: Global,
         messages: &[Message],
         client: usize,
         message: usize,
-    ) -> Result<WorldReply, Refusal>
+    ) -> Result<WorldReply, AllocError>
+        requires reached { IsReachedEngine self.old }
         ensures engine { OnOk result (self.new ≡ (receive_message self.old client (slice_get (map message_of messages.now) message)).engine) }
         ensures reply { IfOk result (λ r. reply_of r ≡ (receive_message self.old client (slice_get (map message_of messages.now) message)).reply) }
-        ensures err { IfErr result (λ why. why ≡ NoMemory) }
+        ensures stopped { OnErr result (IsBetween self.old self.new (receive_message self.old client (slice_get (map message_of messages.now) message)).engine) }
     {
         let Some(Message::Bundle(bundle)) = messages.get(message) else {
             return Ok(WorldReply::NoMessage);
         };
-        let read = ops_beside(alloc, bundle, self.published.table());
+        let read = ops_beside(alloc, bundle, self.shown().table());
         self.receive(client, read)
     }
 
     /// A client receives bytes of any origin, and submits the operations on their lines.
     ///
     /// # Errors
-    /// `NoMemory` where a growth was refused.
-    pub fn line(&mut self, alloc: Global, client: usize, text: &[u8]) -> Result<WorldReply, Refusal>
+    /// `AllocError` if allocation fails.
+    pub fn line(
+        &mut self,
+        alloc: Global,
+        client: usize,
+        text: &[u8],
+    ) -> Result<WorldReply, AllocError>
+        requires reached { IsReachedEngine self.old }
         ensures engine { OnOk result (self.new ≡ (receive_lines self.old client (readable self.old.replica.members text.now).operations (readable self.old.replica.members text.now).stopped).engine) }
         ensures reply { IfOk result (λ r. reply_of r ≡ (receive_lines self.old client (readable self.old.replica.members text.now).operations (readable self.old.replica.members text.now).stopped).reply) }
-        ensures err { IfErr result (λ why. why ≡ NoMemory) }
+        ensures stopped { OnErr result (IsBetween self.old self.new (receive_lines self.old client (readable self.old.replica.members text.now).operations (readable self.old.replica.members text.now).stopped).engine) }
     {
-        let read = read_lines(alloc, text, self.published.table());
+        let read = read_lines(alloc, text, self.shown().table());
         self.receive(client, read)
     }
 
     /// A client submits the operations that were read, up to the first that is refused; the line after them may be bad.
     ///
     /// # Errors
-    /// `NoMemory` where a growth was refused, then or in reading.
-    fn receive(&mut self, client: usize, read: LinesRead) -> Result<WorldReply, Refusal>
-        requires { All (λ o. length o.deps ≡ length self.old.replica.members) read.ops.items }
+    /// `AllocError` if allocation fails, then or in reading.
+    fn receive(&mut self, client: usize, read: LinesRead) -> Result<WorldReply, AllocError>
+        requires reached { IsReachedEngine self.old }
+        requires wide { All (λ o. length o.deps ≡ length self.old.replica.members) read.ops.items }
         ensures engine { OnOk result (self.new ≡ (receive_lines self.old client (map (stamped_of self.old.replica.members) read.ops.items) read.stopped).engine) }
         ensures reply { IfOk result (λ r. reply_of r ≡ (receive_lines self.old client (map (stamped_of self.old.replica.members) read.ops.items) read.stopped).reply) }
         ensures read { OnOk result (read.stopped ≢ Some NoMemory) }
-        ensures err { IfErr result (λ why. why ≡ NoMemory) }
+        ensures stopped { OnErr result ((self.new ≡ self.old)
+            ⊎ ((read.stopped ≢ Some NoMemory) × IsBetween self.old self.new (receive_lines self.old client (map (stamped_of self.old.replica.members) read.ops.items) read.stopped).engine)) }
     {
         let LinesRead { ops, stopped } = read;
         if stopped == Some(Refusal::NoMemory) {
-            return Err(Refusal::NoMemory);
+            return Err(AllocError);
         }
         if client >= self.clients.len() {
             return Ok(WorldReply::Idle);
@@ -224,14 +237,19 @@ impl Engine {
     /// A client that is there submits the operations, up to the first that is refused. Gives how many it submitted, and why the next one was refused, if it was.
     ///
     /// # Errors
-    /// `NoMemory` where a growth was refused.
-    fn submit_all(&mut self, client: usize, ops: Vec<Op>) -> Result<(u64, Option<Refusal>), Refusal>
+    /// `AllocError` if allocation fails.
+    fn submit_all(
+        &mut self,
+        client: usize,
+        ops: Vec<Op>,
+    ) -> Result<(u64, Option<Refusal>), AllocError>
+        requires reached { IsReachedEngine self.old }
         requires there { client < length self.old.clients }
         requires wide { All (λ o. length o.deps ≡ length self.old.replica.members) ops.items }
         ensures few { IfOk result (λ p. p.0 ≤ length ops.items) }
         ensures submitted { IfOk result (λ p. (bad : Option TheRefusal) → submit_all client bad 0 self.old (map (stamped_of self.old.replica.members) ops.items)
             ≡ record { engine = self.new; submitted = p.0; stopped = stop_after p.0 (first_of p.1 bad) }) }
-        ensures err { IfErr result (λ why. why ≡ NoMemory) }
+        ensures stopped { OnErr result ((bad : Option TheRefusal) → IsBetween self.old self.new (submit_all client bad 0 self.old (map (stamped_of self.old.replica.members) ops.items)).engine) }
     {
         let mut submitted = 0;
         for op in ops {

@@ -1,7 +1,6 @@
 //! What tokens of an engine read: answers to what was submitted, and to questions. What a token reads, it has seen.
 
-ghost use Rattle.std.specs.Prelude.{◌≡◌, OnOk, IfOk, IfErr, map, option_map, option_and_then, List, ℕ};
-ghost use Rattle.ids.specs.declared.refusal.Refusal.TheVariants.{NoMemory};
+ghost use Rattle.std.specs.Prelude.{◌≡◌, OnErr, OnOk, IfOk, map, length, option_map, option_and_then, List, ℕ};
 ghost use Rattle.semantics.specs.Engine.{Engine as TheEngine, Read, published_entries};
 ghost use Rattle.semantics.specs.LegalAnswer.{reading_of};
 ghost use Rattle.semantics.specs.ReadSteps.{ask, cell_under, learn, poll, see, seen_by};
@@ -12,9 +11,9 @@ ghost use Rattle.world.specs.Meanings.{reply_of};
 use crate::client::{Client, Given};
 use crate::engine::Engine;
 use crate::step::WorldReply;
-use document::Question;
+use document::{Document, Question};
 use ids::Refusal;
-use std::alloc::Global;
+use std::alloc::{AllocError, Global};
 
 impl Engine {
     /// A client polls one of its serials. It has then seen all that was published with the answer.
@@ -52,17 +51,17 @@ impl Engine {
     /// A token asks, and sees all that is published. Copies what is answered.
     ///
     /// # Errors
-    /// `NoMemory` where a growth was refused.
+    /// `AllocError` if allocation fails.
     pub fn ask(
         &mut self,
         alloc: Global,
         token: usize,
         question: &Question,
-    ) -> Result<WorldReply, Refusal>
+    ) -> Result<WorldReply, AllocError>
         requires { IsBeside self.old.replica.members question.now }
         ensures engine { OnOk result (self.new ≡ (ask self.old token (asked_of self.old.replica.members question.now)).engine) }
         ensures reply { IfOk result (λ r. reply_of r ≡ (ask self.old token (asked_of self.old.replica.members question.now)).reply) }
-        ensures err { IfErr result (λ why. why ≡ NoMemory) }
+        ensures unchanged { OnErr result (self.new ≡ self.old) }
     {
         let reply = self.read(alloc, question)?;
         self.see_published(token);
@@ -70,28 +69,39 @@ impl Engine {
     }
 
     /// What the published history answers.
-    fn read(&self, alloc: Global, question: &Question) -> Result<WorldReply, Refusal>
+    ///
+    /// # Errors
+    /// `AllocError` if allocation fails.
+    fn read(&self, alloc: Global, question: &Question) -> Result<WorldReply, AllocError>
         requires { IsBeside self.now.replica.members question.now }
         ensures reply { IfOk result (λ r. reply_of r ≡ Read self.now.published (reading_of (published_entries self.now) (asked_of self.now.replica.members question.now))) }
-        ensures err { IfErr result (λ why. why ≡ NoMemory) }
     {
-        let seen = self.published.len() as u64;
-        match self.published.ask(alloc, question) {
+        let seen = self.shown().len() as u64;
+        match self.shown().ask(alloc, question) {
             Ok(reading) => Ok(WorldReply::Read {
                 seen,
-                table: self.published.table().clone()?,
+                table: self.shown().table().clone()?,
                 reading,
             }),
-            Err(Refusal::NoMemory) => Err(Refusal::NoMemory),
+            Err(Refusal::NoMemory) => Err(AllocError),
             Err(why) => Ok(WorldReply::NotRead { seen, why }),
         }
+    }
+
+    /// The document of what is published.
+    pub(super) fn shown(&self) -> &Document
+        ensures table { result.now.table ≡ self.now.replica.members }
+        ensures entries { result.now.entries ≡ published_entries self.now }
+        ensures length { length result.now.entries ≡ self.now.published }
+    {
+        self.publisher.published()
     }
 
     /// A token sees all that is published.
     pub(super) fn see_published(&mut self, token: usize)
         ensures { self.new ≡ see self.old token self.old.published }
     {
-        let published = self.published.len();
+        let published = self.shown().len();
         see(&mut self.clients, &mut self.readers, token, published);
     }
 }

@@ -1,58 +1,66 @@
 //! The writer of an engine: it takes what clients submitted and handles it, publishes, and sets the answers.
 
-ghost use Rattle.std.specs.Prelude.{◌≡◌, OnOk, IfOk, IfErr, map, length, List, ℕ};
-ghost use Rattle.ids.specs.declared.refusal.Refusal.TheVariants.{NoMemory};
-ghost use Rattle.semantics.specs.WriteSteps.{give, give_for, give_to, publish, take_for, take_item, whole_step};
-ghost use Rattle.semantics.proofs.SoundEngines.{IsSound};
-ghost use Rattle.world.specs.Engines.{client_of, given_of};
+ghost use Rattle.std.specs.Prelude.{◌≡◌, ◌<◌, OnErr, OnOk, IfOk, map, length, List, ℕ};
+ghost use Rattle.semantics.specs.Entries.{IsAbove};
+ghost use Rattle.semantics.specs.Replica.{IsRunning};
+ghost use Rattle.semantics.specs.Publication.{Holds};
+ghost use Rattle.semantics.specs.WriteSteps.{after_item, give, give_for, give_to, publish, reply_to, take_for, take_item, whole_step};
+ghost use Rattle.replica.specs.Replicas.{replica_of};
+ghost use Rattle.items.specs.Meanings.{answer_of, submitted_of};
+ghost use Rattle.world.specs.Engines.{IsReachedEngine, client_of, given_of, is_no_memory};
 ghost use Rattle.world.specs.Meanings.{reply_of};
+ghost use Rattle.world.specs.Parts.{IsHandledInPart, PublishesInPart, StepsInPart, TakesInPart};
 
 use crate::client::{Client, Given};
-use crate::engine::Engine;
-use crate::handling::handle;
-use crate::item::Handled;
-use crate::published::publish_new;
+use crate::engine::{Engine, Handled};
+use crate::publisher::Publisher;
 use crate::step::WorldReply;
+use handling::Handler;
 use ids::Refusal;
-use std::alloc::Global;
+use items::{Item, Reply};
+use std::alloc::{AllocError, Global};
 use std::mem;
 
 impl Engine {
     /// The writer takes the oldest item and handles it, while fewer than a batch are handled and none of them is published.
     ///
     /// # Errors
-    /// `NoMemory` where a growth was refused: the item may be handled in part then.
-    pub fn take(&mut self, alloc: Global) -> Result<WorldReply, Refusal>
-        requires { IsSound self.old }
+    /// `AllocError` if allocation fails: the item may be handled in part then, and is still in the queue.
+    pub fn take(&mut self, alloc: Global) -> Result<WorldReply, AllocError>
+        requires { IsReachedEngine self.old }
         ensures engine { OnOk result (self.new ≡ (take_item self.old).engine) }
         ensures reply { IfOk result (λ r. reply_of r ≡ (take_item self.old).reply) }
-        ensures err { IfErr result (λ why. why ≡ NoMemory) }
+        ensures stopped { OnErr result (TakesInPart self.old self.new) }
     {
         if !self.due.is_empty() || self.handled.len() >= self.batch {
             return Ok(WorldReply::Idle);
         }
+        self.handled.reserve(1)?;
         let Some(item) = self.queue.pop_front() else {
             return Ok(WorldReply::Idle);
         };
-        let reply = handle(alloc, &mut self.replica, &item)?;
-        self.handled.push_back(Handled { item, reply })?;
+        let Ok(reply) = handle(alloc, &mut self.handler, &mut self.publisher, &item) else {
+            self.queue.push_front_reserved(item);
+            return Err(AllocError);
+        };
+        self.handled.push_back_reserved(Handled { item, reply });
         Ok(WorldReply::Took)
     }
 
-    /// The writer publishes all that it handled. Copies the entries that weren't published yet.
+    /// The writer publishes all that it handled. Clones nothing.
     ///
     /// # Errors
-    /// `NoMemory` where a growth was refused: some entries may be published then.
-    pub fn publish(&mut self, alloc: Global) -> Result<WorldReply, Refusal>
+    /// `AllocError` if allocation fails: some entries may be published then.
+    pub fn publish(&mut self, alloc: Global) -> Result<WorldReply, AllocError>
         ensures engine { OnOk result (self.new ≡ (publish self.old).engine) }
         ensures reply { IfOk result (λ r. reply_of r ≡ (publish self.old).reply) }
-        ensures err { IfErr result (λ why. why ≡ NoMemory) }
+        ensures stopped { OnErr result (PublishesInPart self.old self.new) }
     {
         if !self.due.is_empty() || self.handled.is_empty() {
             return Ok(WorldReply::Idle);
         }
         let count = self.handled.len();
-        publish_new(alloc, &self.replica, &mut self.published)?;
+        self.publisher.publish(alloc)?;
         mem::swap(&mut self.handled, &mut self.due);
         Ok(WorldReply::Published(count as u64))
     }
@@ -69,7 +77,7 @@ impl Engine {
         let serial = handled.item.serial;
         let given = Given {
             reply: handled.reply,
-            published: self.published.len(),
+            published: self.publisher.published().len(),
         };
         give_to(&mut self.clients, client, serial, given);
         WorldReply::Gave { client, serial }
@@ -78,12 +86,12 @@ impl Engine {
     /// The writer takes while it may, publishes if it may, and then sets all answers.
     ///
     /// # Errors
-    /// `NoMemory` where a growth was refused: some items may be handled then, and are not answered.
-    pub fn step(&mut self, alloc: Global) -> Result<WorldReply, Refusal>
-        requires { IsSound self.old }
+    /// `AllocError` if allocation fails: some items may be handled then, and are not answered.
+    pub fn step(&mut self, alloc: Global) -> Result<WorldReply, AllocError>
+        requires { IsReachedEngine self.old }
         ensures engine { OnOk result (self.new ≡ (whole_step self.old).engine) }
         ensures reply { IfOk result (λ r. reply_of r ≡ (whole_step self.old).reply) }
-        ensures err { IfErr result (λ why. why ≡ NoMemory) }
+        ensures stopped { OnErr result (StepsInPart self.old self.new) }
     {
         self.take_all(alloc)?;
         self.publish(alloc)?;
@@ -96,10 +104,13 @@ impl Engine {
     }
 
     /// Takes up to a batch of items.
-    fn take_all(&mut self, alloc: Global) -> Result<(), Refusal>
-        requires { IsSound self.old }
+    ///
+    /// # Errors
+    /// `AllocError` if allocation fails: an item may be handled in part then.
+    fn take_all(&mut self, alloc: Global) -> Result<(), AllocError>
+        requires { IsReachedEngine self.old }
         ensures engine { OnOk result (self.new ≡ take_for self.old.batch self.old) }
-        ensures err { IfErr result (λ why. why ≡ NoMemory) }
+        ensures stopped { OnErr result ((n : ℕ) × (n < self.old.batch) × TakesInPart (take_for n self.old) self.new) }
     {
         for _ in 0..self.batch {
             if self.queue.is_empty() {
@@ -118,6 +129,40 @@ impl Engine {
             self.give();
         }
     }
+}
+
+/// Handles an item as the rules have it. Clones what the history keeps.
+///
+/// # Errors
+/// `AllocError` if allocation fails. The item may be handled in part then.
+fn handle(
+    alloc: Global,
+    handler: &mut Handler,
+    publisher: &mut Publisher,
+    item: &Item,
+) -> Result<Reply, AllocError>
+    requires holds { Holds publisher.old (replica_of handler.old.replica) }
+    requires running { IsRunning (replica_of handler.old.replica) }
+    requires above { IsAbove item.now.client item.now.serial handler.old.replica.document.entries }
+    ensures replica { OnOk result (replica_of handler.new.replica ≡ after_item (replica_of handler.old.replica) (submitted_of handler.old.replica.document.table item.now)) }
+    ensures reply { IfOk result (λ r. answer_of r ≡ reply_to (replica_of handler.old.replica) (submitted_of handler.old.replica.document.table item.now)) }
+    ensures table { handler.new.replica.document.table ≡ handler.old.replica.document.table }
+    ensures holds { Holds publisher.new (replica_of handler.new.replica) }
+    ensures published { publisher.new.published ≡ publisher.old.published }
+    ensures stopped { OnErr result (IsHandledInPart (replica_of handler.old.replica) (submitted_of handler.old.replica.document.table item.now) (replica_of handler.new.replica)) }
+{
+    let reply = handler.handle(alloc, publisher, item);
+    if handler.behind || is_no_memory(&reply) {
+        return Err(AllocError);
+    }
+    Ok(reply)
+}
+
+/// Whether an item was refused because allocation failed.
+fn is_no_memory(reply: &Reply) -> bool
+    ensures { result ≡ is_no_memory (answer_of reply.now) }
+{
+    matches!(reply, Reply::Refused(Refusal::NoMemory, _))
 }
 
 /// The clients after the answer to one's serial is set.

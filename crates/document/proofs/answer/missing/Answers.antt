@@ -34,6 +34,6 @@ returns-clause-ok c =
     let ops : List Stamped = map (stamped_of c.args.log.now.table) c.loop-place.ops.items in
     let places = c.deref-place-items.result.now in
     let all : found G places ≡ reverse (missing v (stamped_entries G)) =
-    ap (found G) (c.deref-place-items.ensures.value ∙ c.in_ok-places.ensures.ok) ∙ found_all G _ _ (places-read v G) in
+    ap (found G) (c.deref-place-items.ensures.value ∙ c.in_ok-places.ensures) ∙ found_all G _ _ (places-read v G) in
     ap reverse (sym (append-nil ops) ∙ ap (λ ns. ops ++ found G ns) (sym (drop_all c.loop-place.place-index places c.loop-place-test.false)) ∙ c.loop-place.invariant.found ∙ all)
     ∙ reverse-reverse (missing v (stamped_entries G))

@@ -1,7 +1,7 @@
 use Rattle.std.proofs.Common.{◌≡◌, Bool, true, false, not, is_some, sym, ap, ◌∙◌}
 use Rattle.semantics.specs.Entries.{applied}
 use Rattle.document.specs.Checks.{is_unknown}
-use Rattle.document.proofs.PlacesOfIds.{placed}
+use Rattle.oplog.proofs.PlacedIds.{placed}
 use Rattle.document.proofs.check.is_missing.Goals as goal
 
 turned : (b c : Bool) → c ≡ not b → b ≡ not c

@@ -7,7 +7,7 @@ use Rattle.semantics.specs.Publication.{Publication, with_entry}
 use Rattle.operation.specs.declared.op.Op.{Op}
 use Rattle.operation.specs.Alone.{fault_alone}
 use Rattle.operation.specs.Meanings.{stamped_of}
-use Rattle.inbox.proofs.Ready.{width_alone}
+use Rattle.operation.proofs.PassedAlone.{width_alone}
 use Rattle.replica.specs.Replicas.{IsNextReady, next_of, replica_of}
 use Rattle.handling.proofs.Received.{member_alone}
 use Rattle.handling.proofs.Draining.{dropping_on, may_follow, has_room, appending_on, renamed, whole_where_none, whole_by_count}

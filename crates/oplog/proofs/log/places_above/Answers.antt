@@ -20,15 +20,15 @@ loop-index-preserved c =
     let rest = numbers_above (drop (suc i) cs) (numbers_of (drop (suc i) ns)) in
     let next : i + 1 ≡ suc i = omega arith in
     let new : c.push_numbers.new.numbers.items ≡ before ++ above (get_or cs i 0) (get_or ns i m).entries =
-    c.in_ok-push_numbers.ensures.ok
+    c.in_ok-push_numbers.ensures
     ∙ ap (λ es. before ++ map (λ (e : OpId × ℕ). e.1) es) (c.above.ensures ∙ (λ t. filter (λ (e : OpId × ℕ). nat_lt (c.get.ensures t) e.0.counter) (c.index-places-index.is t).entries)) in
     (λ t. new t ++ numbers_above (drop (next t) cs) (numbers_of (drop (next t) ns)))
     ∙ append_assoc before (above (get_or cs i 0) (get_or ns i m).entries) rest
     ∙ ap (λ l. before ++ l) (sym (next-above cs ns i m c.requires (omega arith)))
     ∙ c.loop-index.invariant
 
-pub returns-clause-ok : goal.returns-clause-ok
-returns-clause-ok c =
+pub returns : goal.returns
+returns c =
     let ns = c.args.places.now in
     let last : c.loop-index.index ≡ length ns = omega arith in
     sym (append-nil c.loop-index.above.items)

@@ -7,7 +7,7 @@ use Rattle.operation.specs.declared.op.Op.{Op}
 use Rattle.operation.specs.Meanings.{stamped_of}
 use Rattle.wire.specs.Bundles.{bundle_form, bundle_text}
 use Rattle.wire.specs.Messages.{op_line}
-use Rattle.wire.specs.Sent.{IsSent}
+use Rattle.wire.specs.Sent.{CanBeSent}
 use Rattle.wire.proofs.BundleBack.{IsBackIfSent, sent_bundle_back}
 use Rattle.wire.proofs.bundles.write_bundle.Goals as goal
 
@@ -43,4 +43,4 @@ returns-clause-reads_back c sent =
     let text : c.loop-op.text.items ≡ bundle_text (map f ops) =
     sym (append-nil c.loop-op.text.items) ∙ ap (λ (xs : List Op). c.loop-op.text.items ++ bundle_text (map f xs)) (sym ended) ∙ c.loop-op.invariant.left in
     let back = subst (All (λ (x : Op). IsBackIfSent table (f x))) (take_all c.loop-op.op-index ops c.loop-op-test.false) c.loop-op.invariant.back in
-    ap (bundle_form table) text ∙ sent_bundle_back table (map f ops) (All-map (IsSent table) f ops sent) (All-map (IsBackIfSent table) f ops back)
+    ap (bundle_form table) text ∙ sent_bundle_back table (map f ops) (All-map (CanBeSent table) f ops sent) (All-map (IsBackIfSent table) f ops back)

@@ -32,7 +32,7 @@ after_pair done a table last x xs e n = rw (e, n) (joined (pairs_above table a.r
 pub loop-pair-init : goal.loop-pair-init
 loop-pair-init c =
     let ps = c.args.table.now in
-    let zeros = c.in_ok-vector.ensures {u = tt} in
+    let zeros = c.in_ok-vector.ensures in
     let none : by_table ps c.in_ok-vector.vector ≡ [] = ap (by_table ps) zeros ∙ by_table-zeros ps c.len.result in
     record {
       width = ap length zeros ∙ length-replicate c.len.result 0 ∙ c.len.ensures.length;

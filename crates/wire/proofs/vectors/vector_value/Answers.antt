@@ -1,12 +1,13 @@
-use Rattle.std.proofs.Common.{◌≡◌, ◌<◌, ◌≤◌, ◌++◌, ◌∷◌, [], ℕ, zero, suc, min, Vec, List, length, map, drop, refl, sym, ap, ◌∙◌, append_assoc, append-nil, add-one, arith}
+use Rattle.std.proofs.Common.{◌≡◌, ◌<◌, ◌≤◌, ◌++◌, ◌∷◌, [], ℕ, zero, suc, min, Vec, List, length, map, drop, refl, sym, ap, ◌∙◌, append_assoc, append-nil, add-one, subst, arith}
 use Rattle.std.proofs.lemmas.List.{map-append}
 use Rattle.std.specs.declared.alloc.Global.{Global}
-use Rattle.semantics.specs.Ids.{OpId}
+use Rattle.semantics.specs.Ids.{OpId, id_at}
 use Rattle.semantics.specs.Tables.{by_table}
 use Rattle.serde_json.specs.declared.value.Value.{Value}
 use Rattle.serde_json.specs.Data.{Data, array}
 use Rattle.serde_json.specs.View.{view, items_of}
 use Rattle.serde_json.proofs.Views.{view-Array}
+use Rattle.wire.specs.Sent.{AreReplicas}
 use Rattle.wire.specs.Vectors.{pair_json}
 use Rattle.wire.proofs.ListedVectors.{by_table-nil, listed_none, listed_some, listed_zero}
 use Rattle.wire.proofs.vectors.vector_value.Goals as goal
@@ -18,26 +19,42 @@ loop-index-preserved c =
     let cs = c.args.vector.now in
     let i : ℕ = c.loop-index.index in
     let within : i < length cs = omega (arith, c.loop-index-test.true, c.min-count.ensures, c.width.ensures) in
+    let here : List OpId = by_table (drop i ps) (drop i cs) in
     let left : List OpId = by_table (drop (suc i) ps) (drop (suc i) cs) in
     let before : List Data = map view c.loop-index.pairs.items in
     rw (add-one i)
     (elim c.if-counter-gt0.branch [
       | then-counter-gt0+in-Some+in_ok-pair_value+in_ok-push w ↦
-          ap (λ (v : Vec Value Global). map view v.items ++ map pair_json left) w.pairs-is
-          ∙ ap (λ (vs : List Value). map view vs ++ map pair_json left) w.in_ok-push.ensures.items
-          ∙ ap (λ (ds : List Data). ds ++ map pair_json left) (map-append view c.loop-index.pairs.items (w.in_ok-pair_value.field-0 ∷ []))
-          ∙ append_assoc before (view w.in_ok-pair_value.field-0 ∷ []) (map pair_json left)
-          ∙ ap (λ (d : Data). before ++ d ∷ map pair_json left) w.in_ok-pair_value.ensures
-          ∙ ap (λ (ids : List OpId). before ++ map pair_json ids) (sym (listed_some ps cs i c.get-counter.result w.in-Some.replica c.len.ensures.rising (sym w.in-Some.ensures) within (sym c.get-counter.ensures) w.if-counter-gt0.true))
-          ∙ c.loop-index.invariant
+          let next : here ≡ id_at c.get-counter.result w.in-Some.replica ∷ left = listed_some ps cs i c.get-counter.result w.in-Some.replica c.len.ensures.rising (sym w.in-Some.ensures) within (sym c.get-counter.ensures) w.if-counter-gt0.true in
+          record {
+            json =
+                ap (λ (v : Vec Value Global). map view v.items ++ map pair_json left) w.pairs-is
+                ∙ ap (λ (vs : List Value). map view vs ++ map pair_json left) w.in_ok-push.ensures.items
+                ∙ ap (λ (ds : List Data). ds ++ map pair_json left) (map-append view c.loop-index.pairs.items (w.in_ok-pair_value.field-0 ∷ []))
+                ∙ append_assoc before (view w.in_ok-pair_value.field-0 ∷ []) (map pair_json left)
+                ∙ ap (λ (d : Data). before ++ d ∷ map pair_json left) w.in_ok-pair_value.ensures.json
+                ∙ ap (λ (ids : List OpId). before ++ map pair_json ids) (sym next)
+                ∙ c.loop-index.invariant.json;
+            typed = λ rest. c.loop-index.invariant.typed (subst AreReplicas (sym next) (w.in_ok-pair_value.ensures.typed, rest));
+          }
       | then-counter-gt0+in_default w ↦
-          ap (λ (v : Vec Value Global). map view v.items ++ map pair_json left) w.pairs-is
-          ∙ ap (λ (ids : List OpId). before ++ map pair_json ids) (sym (listed_none ps (drop i cs) (drop (suc i) cs) i (sym w.at.ensures ∙ w.in_default.is)))
-          ∙ c.loop-index.invariant
+          let next : here ≡ left = listed_none ps (drop i cs) (drop (suc i) cs) i (sym w.at.ensures ∙ w.in_default.is) in
+          record {
+            json =
+                ap (λ (v : Vec Value Global). map view v.items ++ map pair_json left) w.pairs-is
+                ∙ ap (λ (ids : List OpId). before ++ map pair_json ids) (sym next)
+                ∙ c.loop-index.invariant.json;
+            typed = λ rest. c.loop-index.invariant.typed (subst AreReplicas (sym next) rest);
+          }
       | else-counter-gt0 w ↦
-          ap (λ (v : Vec Value Global). map view v.items ++ map pair_json left) w.pairs-is
-          ∙ ap (λ (ids : List OpId). before ++ map pair_json ids) (sym (listed_zero ps cs i within (sym c.get-counter.ensures ∙ omega (arith, w.if-counter-gt0.false))))
-          ∙ c.loop-index.invariant
+          let next : here ≡ left = listed_zero ps cs i within (sym c.get-counter.ensures ∙ omega (arith, w.if-counter-gt0.false)) in
+          record {
+            json =
+                ap (λ (v : Vec Value Global). map view v.items ++ map pair_json left) w.pairs-is
+                ∙ ap (λ (ids : List OpId). before ++ map pair_json ids) (sym next)
+                ∙ c.loop-index.invariant.json;
+            typed = λ rest. c.loop-index.invariant.typed (subst AreReplicas (sym next) rest);
+          }
     ])
 
 -- past one of both there is no pair
@@ -49,8 +66,8 @@ past (p ∷ ps) [] (suc i) l = by_table-nil (drop i ps)
 past (p ∷ ps) (c ∷ cs) zero l = absurd (omega arith)
 past (p ∷ ps) (c ∷ cs) (suc i) l = past ps cs i (omega arith)
 
-pub returns : goal.returns
-returns c =
+pub returns-clause-json : goal.returns-clause-json
+returns-clause-json c =
     let ps = c.args.table.now in
     let cs = c.args.vector.now in
     let i : ℕ = c.loop-index.index in
@@ -58,5 +75,13 @@ returns c =
     let all : map view c.loop-index.pairs.items ≡ map pair_json (by_table ps cs) =
     sym (append-nil (map view c.loop-index.pairs.items))
     ∙ ap (λ (ids : List OpId). map view c.loop-index.pairs.items ++ map pair_json ids) (sym ended)
-    ∙ c.loop-index.invariant in
+    ∙ c.loop-index.invariant.json in
     view-Array c.loop-index.pairs ∙ ap (λ (ds : List Data). array (items_of ds)) all
+
+pub returns-clause-typed : goal.returns-clause-typed
+returns-clause-typed c =
+    let ps = c.args.table.now in
+    let cs = c.args.vector.now in
+    let i : ℕ = c.loop-index.index in
+    let ended : by_table (drop i ps) (drop i cs) ≡ [] = past ps cs i (omega (arith, c.loop-index-test.false, c.min-count.ensures, c.width.ensures, c.len.ensures.length)) in
+    c.loop-index.invariant.typed (subst AreReplicas (sym ended) tt)

@@ -1,16 +1,16 @@
 use Rattle.std.proofs.Common.{◌≡◌, ℕ, List, Result, Ok, Err, Some, length, map, set, ◌++◌, refl, sym, ap, ◌∙◌, arith, slice_get, subst}
-use Rattle.std.specs.Prelude.{OnOk, IfOk}
+use Rattle.std.specs.Prelude.{OnErr, OnOk, IfOk}
 use Rattle.std.proofs.lemmas.Option.{slice_get_read}
 use Rattle.semantics.specs.Engine.{Engine, Message}
 use Rattle.semantics.specs.World.{WorldTurn, mover, engine_step, sent_by, world_step}
 use Rattle.world.specs.declared.step.WorldStep.{WorldStep}
 use Rattle.world.specs.Meanings.{AsksBeside, engine_in, step_of}
-use Rattle.world.specs.Worlds.{step_in, table_at, tables_of, world}
-use Rattle.semantics.proofs.SoundEngines.{IsSound}
-use Rattle.semantics.proofs.SoundSteps.{stepped}
+use Rattle.world.specs.Parts.{IsInPart}
+use Rattle.world.specs.Worlds.{MovesInPart, step_in, table_at, tables_of, world}
 use Rattle.world.specs.Engines.{message_of}
 use Rattle.world.proofs.KeptMembers.{members_stay}
-use Rattle.world.proofs.TurnedWorlds.{own_table, sound_at, sound_set, tables_set, world_step-there}
+use Rattle.world.proofs.ReachedWorlds.{reached_at, reached_sound}
+use Rattle.world.proofs.TurnedWorlds.{own_table, tables_set, world_step-there}
 use Rattle.world.proofs.world.turn.Goals as goal
 
 then_ok : {X Y P Q : Type 0} (r : Result X Y) → (P → Q) → OnOk r P → OnOk r Q
@@ -33,8 +33,12 @@ module _ (Es : List Engine) (ms : List Message) (s : WorldStep) (i : ℕ) (E : E
       ∙ world_step-there Es ms (step_of E.replica.members s) E (ap (slice_get Es) (sym at) ∙ there)
       ∙ (λ t. record { world = world (set Es (sym at t) (engine_step ms (step_of E.replica.members s) E).engine) (ms ++ sent_by ms (step_of E.replica.members s) E); reply = (engine_step ms (step_of E.replica.members s) E).reply })
 
-pub turn-requires-clause-sound : goal.turn-requires-clause-sound
-turn-requires-clause-sound c = sound_at c.args.engines.now.items c.engine-mover.result c.index_mut-engine.result.now c.requires.sound (omega arith) c.index_mut-engine.ensures.value
+pub turn-requires-clause-reached : goal.turn-requires-clause-reached
+turn-requires-clause-reached c =
+    let Es = c.args.engines.now.items in
+    let E : Engine = c.index_mut-engine.result.now in
+    let there : slice_get Es c.engine-mover.result ≡ Some E = slice_get_read Es (length Es) c.engine-mover.result E refl (omega arith) c.index_mut-engine.ensures.value in
+    reached_at (world Es (map message_of c.args.messages.now.items)) c.requires.reached c.engine-mover.result E there
 
 pub turn-requires-clause-beside : goal.turn-requires-clause-beside
 turn-requires-clause-beside c =
@@ -75,16 +79,6 @@ returns-clause-reply c =
     (λ r e. e ∙ sym (ap (λ (t : WorldTurn). t.reply) (turned Es ms s i E c.engine-mover.ensures.number there (c.engine-mover.ensures.mover E.replica.members))))
     c.turn.ensures.reply
 
-pub returns-clause-sound : goal.returns-clause-sound
-returns-clause-sound c =
-    let ms : List Message = map message_of c.args.messages.now.items in
-    let E : Engine = c.index_mut-engine.result.now in
-    let sound : IsSound E = sound_at c.args.engines.now.items c.engine-mover.result E c.requires.sound (omega arith) c.index_mut-engine.ensures.value in
-    then_ok c.turn.result
-    (λ (e : c.turn.new.self ≡ (engine_step ms (step_of E.replica.members c.args.step.now) E).engine).
-    sound_set c.args.engines.now.items c.engine-mover.result c.turn.new.self c.requires.sound (subst IsSound (sym e) (stepped ms (step_of E.replica.members c.args.step.now) E sound).sound))
-    c.turn.ensures.engine
-
 pub returns-clause-tables : goal.returns-clause-tables
 returns-clause-tables c =
     let Es = c.args.engines.now.items in
@@ -93,8 +87,33 @@ returns-clause-tables c =
     let i : ℕ = c.engine-mover.result in
     let E : Engine = c.index_mut-engine.result.now in
     let there : slice_get Es i ≡ Some E = slice_get_read Es (length Es) i E refl (omega arith) c.index_mut-engine.ensures.value in
-    let sound : IsSound E = sound_at Es i E c.requires.sound (omega arith) c.index_mut-engine.ensures.value in
+    let sound = reached_sound E (reached_at (world Es ms) c.requires.reached i E there) in
     then_ok c.turn.result
     (λ (e : c.turn.new.self ≡ (engine_step ms (step_of E.replica.members s) E).engine).
     tables_set Es i E c.turn.new.self there (ap (λ (F : Engine). F.replica.members) e ∙ members_stay ms (step_of E.replica.members s) E sound))
     c.turn.ensures.engine
+
+then_err : {X Y P Q : Type 0} (r : Result X Y) → (P → Q) → OnErr r P → OnErr r Q
+then_err (Ok x) f p = tt
+then_err (Err e) f p = f p
+
+pub returns-clause-stopped : goal.returns-clause-stopped
+returns-clause-stopped c =
+    let Es : List Engine = c.args.engines.now.items in
+    let ms : List Message = map message_of c.args.messages.now.items in
+    let s = c.args.step.now in
+    let i : ℕ = c.engine-mover.result in
+    let E : Engine = c.index_mut-engine.result.now in
+    let F : Engine = c.turn.new.self in
+    let there : slice_get Es i ≡ Some E = slice_get_read Es (length Es) i E refl (omega arith) c.index_mut-engine.ensures.value in
+    let same : step_in (tables_of Es) s ≡ step_of E.replica.members s = ap (λ table. step_of table s) (its_table Es ms s i E c.engine-mover.ensures.number there) in
+    let at : i ≡ mover (step_in (tables_of Es) s) = c.engine-mover.ensures.mover E.replica.members ∙ ap mover (sym same) in
+    then_err c.turn.result
+    (λ (part : IsInPart ms (step_of E.replica.members s) E F). record {
+      engine = E;
+      part = F;
+      there = ap (slice_get Es) (sym at) ∙ there;
+      moved = ap (λ k. set Es k F) at;
+      begun = subst (λ t. IsInPart ms t E F) (sym same) part;
+    })
+    c.turn.ensures.stopped

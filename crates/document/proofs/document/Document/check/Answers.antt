@@ -1,8 +1,9 @@
 use Rattle.operation.specs.Meanings.{stamped_of}
+use Rattle.operation.proofs.PassedAlone.{passed_alone}
 use Rattle.document.proofs.ReceivedFaults.{lawful}
 use Rattle.document.proofs.document.Document.check.Goals as goal
 
 pub returns-clause-lawful : goal.returns-clause-lawful
 returns-clause-lawful c =
     let d = c.self.inside in
-    rw (← c.self.view_is) (lawful d.log.entries (stamped_of d.log.table c.args.op.now) c.self.invariant.legal c.check.result c.check.ensures)
+    rw (← c.self.view_is) (λ passed. lawful d.log.entries (stamped_of d.log.table c.args.op.now) c.self.invariant.legal c.check.result c.check.ensures (passed_alone d.log.table c.args.op.now passed))

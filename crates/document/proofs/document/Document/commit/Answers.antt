@@ -9,7 +9,7 @@ use Rattle.operation.specs.Meanings.{entry_of, stamped_of}
 use Rattle.tree.specs.Trees.{IsPlaced, document}
 use Rattle.document.specs.Documents.{Kept, MayFollowEntries}
 use Rattle.version.proofs.TableColumns.{component-raised}
-use Rattle.document.proofs.PlacesOfIds.{new_place}
+use Rattle.semantics.proofs.AbsentIds.{fresh}
 use Rattle.document.proofs.KeptFacts.{fits, kept_next}
 use Rattle.document.proofs.document.Document.commit.Goals as goal
 
@@ -27,7 +27,7 @@ apply-requires-clause-placed c =
 pub push-requires-clause-new : goal.push-requires-clause-new
 push-requires-clause-new c =
     let d = c.self.inside in
-    new_place d.log.entries (entry_of d.log.table c.args.entry) (lawful _ _ c.args.entry c.self.view_is c.requires.lawful)
+    fresh (lawful _ _ c.args.entry c.self.view_is c.requires.lawful).1
 
 pub raise-requires : goal.raise-requires
 raise-requires c =

@@ -1,5 +1,5 @@
 use Rattle.std.proofs.Common.{is_some, ap, ◌∙◌}
-use Rattle.document.proofs.PlacesOfIds.{placed}
+use Rattle.oplog.proofs.PlacedIds.{placed}
 use Rattle.document.proofs.document.Document.contains.Goals as goal
 
 pub returns : goal.returns

@@ -1,6 +1,6 @@
-use Rattle.std.proofs.Common.{◌≡◌, ◌≤◌, length, rules, arith, sym, ◌∙◌}
-use Rattle.ids.specs.Members.{in_order}
-use Rattle.ids.proofs.InOrder.{put_all-done}
+use Rattle.std.proofs.Common.{◌≡◌, ◌≤◌, ap, length, rules, arith, sym, ◌∙◌}
+use Rattle.ids.specs.Members.{in_order, is_member}
+use Rattle.ids.proofs.InOrder.{is_member-in_order, put_all-done}
 use Rattle.ids.proofs.Tables.{members_make_a_table}
 use Rattle.ids.proofs.table.ReplicaTable.new.Goals as goal
 
@@ -9,3 +9,9 @@ invariant_of-result c =
     let done : length c.args.members.now ≤ c.loop-member.member-index = omega arith in
     let same : c.loop-member.numbers.items ≡ in_order c.args.members.now = sym (put_all-done _ _ _ done) ∙ c.loop-member.invariant in
     rw same (members_make_a_table c.args.members.now (search rules))
+
+pub returns-clause-same : goal.returns-clause-same
+returns-clause-same c p =
+    let done : length c.args.members.now ≤ c.loop-member.member-index = omega arith in
+    let same : c.loop-member.numbers.items ≡ in_order c.args.members.now = sym (put_all-done _ _ _ done) ∙ c.loop-member.invariant in
+    ap (λ table. is_member table p) same ∙ is_member-in_order c.args.members.now p

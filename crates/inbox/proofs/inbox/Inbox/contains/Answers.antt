@@ -9,5 +9,5 @@ returns c table =
     let d = c.self.inside in
     c.is_some.ensures
     ∙ ap is_some c.get.ensures
-    ∙ sym (waiting-found table d.ops d.keys.entries c.args.id c.self.invariant)
+    ∙ sym (waiting-found table d.ops d.keys.entries c.args.id c.self.invariant.at_keys)
     ∙ ap (λ ops. is_waiting (waiting_in table ops) c.args.id) c.self.view_is

@@ -1,22 +1,36 @@
-use Rattle.std.proofs.Common.{◌≡◌, ◌<◌, ◌+◌, ◌∙◌, suc, drop, ap, sym, subst, arith, true}
+use Rattle.std.proofs.Common.{◌≡◌, ◌<◌, ◌+◌, ◌∙◌, ℕ, List, [], drop, ap, sym, subst, arith, true, Some, None}
+use Rattle.std.proofs.lemmas.List.{drop_all}
+use Rattle.semantics.specs.Ids.{OpId}
 use Rattle.semantics.specs.Entries.{applied}
 use Rattle.semantics.specs.LegalHistory.{IsAmong, greatest_of}
 use Rattle.semantics.specs.Drain.{first_ready}
-use Rattle.inbox.specs.Inboxes.{waiting_in}
-use Rattle.inbox.proofs.Ready.{IsLeft, drop_at, next_among, found_ready, one_less, none_left, width_alone}
+use Rattle.operation.specs.declared.op.Op.{Op}
+use Rattle.operation.specs.Meanings.{stamped_of}
+use Rattle.inbox.specs.Inboxes.{AreAsWide, AreRising, ops_at, waiting_in}
+use Rattle.inbox.proofs.Ready.{IsLeft, drop_at, next_among, first_is_least, found_ready, none_is_ready, one_less, none_left}
 use Rattle.inbox.proofs.inbox.Inbox.smallest_ready.Goals as goal
 
-pub returns-then-saturating_sub-greatest-clause-ready : goal.returns-then-saturating_sub-greatest-clause-ready
-returns-then-saturating_sub-greatest-clause-ready c =
+-- ---- the next one is too far ahead
+
+none_first : (c : goal.Then-saturating_sub-greatest) → None ≡ first_ready (applied c.args.document.now.entries) (waiting_in c.args.document.now.table c.args.self.now)
+none_first c =
     let d = c.self.inside in
     let H = applied c.args.document.now.entries in
     let table = c.args.document.now.table in
     let es = d.keys.entries in
     let left = subst (IsLeft H table d.ops es) (drop_at es c.loop-place.place c.at-id.result c.at-id.ensures) c.loop-place.invariant in
     let greatest : c.greatest-greatest.result ≡ greatest_of (λ a. true) H = c.greatest-greatest.ensures ∙ c.applied.ensures.greatest in
-    let far : suc (greatest_of (λ a. true) H) < c.at-id.result.0.counter = omega arith in
-    sym (none_left H table d.ops es (drop (c.loop-place.place + 1) es) c.at-id.result left (λ o m. c.requires.alone o (subst (IsAmong o) c.self.view_is m)) far)
+    let far : greatest_of (λ a. true) H + d.lead < c.at-id.result.0.counter = omega arith in
+    sym (none_left H table d.ops es (drop (c.loop-place.place + 1) es) c.at-id.result d.lead left (subst (AreAsWide table) (sym c.self.view_is) c.requires.width) c.self.invariant.within far)
     ∙ ap (λ ops. first_ready H (waiting_in table ops)) c.self.view_is
+
+pub returns-then-saturating_sub-greatest-clause-none : goal.returns-then-saturating_sub-greatest-clause-none
+returns-then-saturating_sub-greatest-clause-none c = none_is_ready (applied c.args.document.now.entries) c.args.document.now.table c.args.self.now (sym (none_first c))
+
+pub returns-then-saturating_sub-greatest-clause-first : goal.returns-then-saturating_sub-greatest-clause-first
+returns-then-saturating_sub-greatest-clause-first c = none_first c
+
+-- ---- the next one is looked at
 
 pub unreachable-requires : goal.unreachable-requires
 unreachable-requires c =
@@ -29,14 +43,13 @@ unreachable-requires c =
 pub ready-requires : goal.ready-requires
 ready-requires c =
     let d = c.self.inside in
-    let table = c.args.document.now.table in
     let es = d.keys.entries in
-    let left = subst (IsLeft (applied c.args.document.now.entries) table d.ops es) (drop_at es c.loop-place.place c.at-id.result c.at-id.ensures) c.loop-place.invariant in
-    let among = next_among _ table d.ops es _ c.at-id.result c.in-Some.op.now left (sym c.in-Some.ensures) in
-    record { width = width_alone table c.in-Some.op.now (c.requires.alone c.in-Some.op.now (subst (IsAmong c.in-Some.op.now) c.self.view_is among)) }
+    let left = subst (IsLeft (applied c.args.document.now.entries) c.args.document.now.table d.ops es) (drop_at es c.loop-place.place c.at-id.result c.at-id.ensures) c.loop-place.invariant in
+    let among = next_among _ c.args.document.now.table d.ops es _ c.at-id.result c.in-Some.op.now left (sym c.in-Some.ensures) in
+    record { width = c.requires.width c.in-Some.op.now (subst (IsAmong c.in-Some.op.now) c.self.view_is among) }
 
-pub returns-then-ready-clause-ready : goal.returns-then-ready-clause-ready
-returns-then-ready-clause-ready c =
+found : (c : goal.Then-ready) → Some (stamped_of c.args.document.now.table c.in-Some.op.now) ≡ first_ready (applied c.args.document.now.entries) (waiting_in c.args.document.now.table c.args.self.now)
+found c =
     let d = c.self.inside in
     let H = applied c.args.document.now.entries in
     let table = c.args.document.now.table in
@@ -45,12 +58,17 @@ returns-then-ready-clause-ready c =
     sym (found_ready H table d.ops es _ c.at-id.result c.in-Some.op.now left (sym c.in-Some.ensures) (sym c.ready.ensures ∙ c.if-ready.true))
     ∙ ap (λ ops. first_ready H (waiting_in table ops)) c.self.view_is
 
-pub returns-then-ready-clause-among : goal.returns-then-ready-clause-among
-returns-then-ready-clause-among c =
+pub returns-then-ready-clause-some : goal.returns-then-ready-clause-some
+returns-then-ready-clause-some c =
     let d = c.self.inside in
     let es = d.keys.entries in
     let left = subst (IsLeft (applied c.args.document.now.entries) c.args.document.now.table d.ops es) (drop_at es c.loop-place.place c.at-id.result c.at-id.ensures) c.loop-place.invariant in
-    subst (IsAmong c.in-Some.op.now) c.self.view_is (next_among _ c.args.document.now.table d.ops es _ c.at-id.result c.in-Some.op.now left (sym c.in-Some.ensures))
+    let among = next_among _ c.args.document.now.table d.ops es _ c.at-id.result c.in-Some.op.now left (sym c.in-Some.ensures) in
+    first_is_least (applied c.args.document.now.entries) c.args.document.now.table c.args.self.now c.in-Some.op.now
+    (subst AreRising c.self.view_is c.self.invariant.rising) (subst (IsAmong c.in-Some.op.now) c.self.view_is among) (sym (found c))
+
+pub returns-then-ready-clause-first : goal.returns-then-ready-clause-first
+returns-then-ready-clause-first c = found c
 
 pub loop-place-preserved : goal.loop-place-preserved
 loop-place-preserved c =
@@ -60,3 +78,15 @@ loop-place-preserved c =
     let es = d.keys.entries in
     let left = subst (IsLeft H table d.ops es) (drop_at es c.loop-place.place c.at-id.result c.at-id.ensures) c.loop-place.invariant in
     one_less H table d.ops es _ c.at-id.result c.in-Some.op.now left (sym c.in-Some.ensures) (sym c.ready.ensures ∙ c.if-ready.false)
+
+-- ---- none is left
+
+pub returns-clause-none : goal.returns-clause-none
+returns-clause-none c =
+    let d = c.self.inside in
+    let H = applied c.args.document.now.entries in
+    let table = c.args.document.now.table in
+    let es = d.keys.entries in
+    let ended : drop c.loop-place.place es ≡ [] = drop_all c.loop-place.place es (omega (arith, c.len-place-end.ensures.length, c.loop-place-test.false)) in
+    let none : first_ready H (waiting_in table (ops_at d.ops es)) ≡ None = c.loop-place.invariant.first ∙ ap (λ (rest : List (OpId × ℕ)). first_ready H (waiting_in table (ops_at d.ops rest))) ended in
+    none_is_ready H table c.args.self.now (subst (λ (ops : List Op). first_ready H (waiting_in table ops) ≡ None) c.self.view_is none)

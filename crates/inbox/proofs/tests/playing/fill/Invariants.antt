@@ -1,5 +1,5 @@
-use Rattle.inbox.specs.Inboxes.{StandAlone}
+use Rattle.inbox.specs.Inboxes.{AreAsWide}
 use Rattle.inbox.proofs.tests.playing.fill.Given as goal
 
 abbrev pub invariant-loop-place : goal.invariant-loop-place
-invariant-loop-place g l = StandAlone l.document.table l.inbox
+invariant-loop-place g l = AreAsWide l.document.table l.inbox

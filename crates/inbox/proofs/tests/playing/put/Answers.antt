@@ -1,10 +1,11 @@
-use Rattle.std.proofs.Common.{inl, inr, List, ℕ, sym, ap, ◌∙◌}
-use Rattle.operation.specs.Alone.{fault_alone}
+use Rattle.std.proofs.Common.{◌≡◌, inl, inr, length, ap, ◌∙◌, arith}
+use Rattle.operation.specs.declared.op.Op.{Op}
 use Rattle.inbox.proofs.tests.playing.put.Goals as goal
 
 pub returns : goal.returns
 returns c o m =
+    let wide : length c.args.op.deps ≡ length c.args.document.now.table = omega (arith, ap length c.table.ensures) in
     elim (c.put.ensures.among o m) [
-      | inl new ↦ ap (fault_alone c.args.document.now.table) new ∙ ap (λ (table : List ℕ). fault_alone table c.args.op) (sym c.table.ensures) ∙ c.in_ok-check_alone.ensures
+      | inl new ↦ ap (λ (p : Op). length p.deps) new ∙ wide
       | inr old ↦ c.requires o old
     ]

@@ -5,13 +5,13 @@ use Rattle.oplog.specs.Logs.{Logged, history, missing_places, numbers_above, num
 use Rattle.oplog.proofs.Missing.{sorted-missing}
 use Rattle.oplog.proofs.log.Log.missing.Goals as goal
 
-pub returns-clause-ok : goal.returns-clause-ok
-returns-clause-ok c =
+pub returns : goal.returns
+returns c =
     let d = c.self.inside in
     let cs = c.args.vector.now in
     let places = c.sort_unstable.new.self.items in
     let wide : length cs ≡ length d.table = c.requires ∙ ap (λ (l : Logged). length l.table) (sym c.self.view_is) in
-    let above = c.in_ok-places.ensures.ok ∙ ap (numbers_above cs) (ap numbers_of c.deref.ensures.value ∙ c.self.invariant.places_are) in
+    let above = c.in_ok-places.ensures ∙ ap (numbers_above cs) (ap numbers_of c.deref.ensures.value ∙ c.self.invariant.places_are) in
     sorted-missing d.table cs (history d.table d.entries.items) places c.self.invariant.distinct wide c.self.invariant.members c.self.invariant.own_ids
     (subst (λ l. IsPermutation l places) above c.sort_unstable.ensures.permutation) c.sort_unstable.ensures.sorted
     ∙ ap (λ (l : Logged). missing_places (by_table l.table cs) l.entries) c.self.view_is

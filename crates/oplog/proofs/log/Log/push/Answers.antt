@@ -1,14 +1,16 @@
-use Rattle.std.proofs.Common.{◌≡◌, ◌-◌, sym, ap, ◌∙◌, ◌∷◌, [], IsTrue, map, length, get_or, set, Some, None, subst, arith, vec_len, vec_capacity}
+use Rattle.std.proofs.Common.{◌≡◌, ◌-◌, sym, ap, ◌∙◌, ◌∷◌, [], IsTrue, map, length, get_or, set, Some, false, subst, arith, vec_len, vec_capacity}
 use Rattle.std.specs.List.{All}
 use Rattle.std.specs.FinMap.{put}
 use Rattle.std.proofs.lemmas.List.Elements.{All-push}
 use Rattle.ids.specs.Members.{is_member}
 use Rattle.semantics.specs.Ids.{OpId, id_cmp}
 use Rattle.semantics.specs.Stamped.{Stamped}
-use Rattle.semantics.specs.Entries.{stamped_in}
+use Rattle.semantics.specs.LegalHistory.{has_id}
+use Rattle.semantics.specs.Entries.{applied, stamped_in}
 use Rattle.operation.specs.Meanings.{entry_of, op_in}
-use Rattle.oplog.specs.Logs.{AreOfMembers, HaveOwnIds, Logged, history, numbers_of, place_of, places_by}
+use Rattle.oplog.specs.Logs.{AreOfMembers, HaveOwnIds, Logged, history, numbers_of, places_by}
 use Rattle.oplog.proofs.Oldest.{history-length, history-more}
+use Rattle.oplog.proofs.PlacedIds.{unplaced}
 use Rattle.oplog.proofs.Places.{all_more, places_inside}
 use Rattle.oplog.proofs.Room.{least_room-any, least_room-beside}
 use Rattle.oplog.proofs.log.Log.push.Goals as goal
@@ -54,7 +56,7 @@ invariant_of-self c =
           (c.self.invariant.members, subst (λ (l : Logged). IsTrue (is_member l.table (stamped_in (entry_of l.table e)).id.replica)) (sym c.self.view_is) c.requires.member);
       own_ids =
           subst HaveOwnIds (sym more)
-          (c.self.invariant.own_ids, subst (λ (l : Logged). place_of (stamped_in (entry_of l.table e)).id l.entries ≡ None) (sym c.self.view_is) c.requires.new);
+          (c.self.invariant.own_ids, unplaced G (stamped_in x).id (subst (λ (l : Logged). has_id (applied l.entries) (stamped_in (entry_of l.table e)).id ≡ false) (sym c.self.view_is) c.requires.new));
       wide =
           subst (All (λ f. length (op_in f).deps ≡ length d.table)) (sym c.push_reserved.ensures.items)
           (All-push (λ f. length (op_in f).deps ≡ length d.table) d.entries.items e c.self.invariant.wide (c.requires.width ∙ ap (λ (l : Logged). length l.table) (sym c.self.view_is)));

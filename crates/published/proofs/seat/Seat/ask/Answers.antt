@@ -1,4 +1,5 @@
-use Rattle.std.proofs.Common.{◌≤◌, length, ap, arith}
+use Rattle.std.proofs.Common.{rules, ◌≤◌, length, ap, arith, inl, inr}
+use Rattle.std.proofs.lemmas.Result.{IfErr-weaker}
 use Rattle.published.specs.Beginnings.{Beginning}
 use Rattle.published.specs.Seats.{Seated}
 use Rattle.published.proofs.Prefixes.{grown}
@@ -12,3 +13,9 @@ pub returns-clause-grows : goal.returns-clause-grows
 returns-clause-grows g c =
     let less : length c.self.inside.seen.log ≤ length c.copy.inside.point.log = omega (arith, c.if-len-before.false, c.len.ensures, c.len-before.ensures) in
     grown _ c.self.inside.seen.log c.copy.inside.point.log c.again.result.log c.args.self.now.seen (c.compare.ensures.shorter less) (ap (λ (p : Beginning). p.log) c.again.ensures) (ap (λ (s : Seated). s.seen) c.self.view_is)
+
+pub returns-clause-view_refuses : goal.returns-clause-view_refuses
+returns-clause-view_refuses g c = IfErr-weaker c.ask-answer.result _ _ (λ why said. elim said [
+  | inl memory ↦ inl memory
+  | inr refused ↦ inr (inr (λ q is. search rules))
+]) c.ask-answer.ensures.view_refuses

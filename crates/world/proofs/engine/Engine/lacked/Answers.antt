@@ -1,4 +1,4 @@
-use Rattle.std.proofs.Common.{◌≡◌, false, List, ℕ, inl, inr, Result, Ok, Err, sym, ap, ◌∙◌, subst}
+use Rattle.std.proofs.Common.{◌≡◌, false, List, ℕ, inl, inr, Result, Ok, Err, sym, ◌∙◌, subst}
 use Rattle.std.specs.Prelude.{MatchResult}
 use Rattle.std.specs.Result.{IsErrAnd}
 use Rattle.std.specs.List.{list_all}
@@ -18,7 +18,7 @@ pub returns-in_err-vector : goal.returns-in_err-vector
 returns-in_err-vector c =
     let A : TheEngine = c.args.self.now in
     let v = by_table c.args.hello.now.table c.args.hello.now.vector in
-    let table : c.in_ok-table.table ≡ A.replica.members = c.in_ok-table.ensures.cases ∙ c.table.ensures ∙ c.self.invariant.shown.table ∙ ap (λ (F : TheEngine). F.replica.members) c.self.view_is in
+    let table : c.in_ok-table.table ≡ A.replica.members = c.in_ok-table.ensures.cases ∙ c.table.ensures ∙ c.shown.ensures.table in
     passed_on c.from_residual-in_err-vector.result c.in_err-vector.field-0.0 _ _ c.from_residual-in_err-vector.ensures.1
     (elim c.in_err-vector.ensures [
       | inl e ↦ inl e

@@ -9,7 +9,7 @@ use Rattle.world.proofs.engine.Engine.learn.Goals as goal
 pub returns-in_default-clause-engine : goal.returns-in_default-clause-engine
 returns-in_default-clause-engine c =
     let E : TheEngine = the_view c.self.inside in
-    let table = c.self.inside.replica.document.table in
+    let table = c.self.inside.handler.replica.document.table in
     let clients : E.clients ≡ map (client_of table) c.deref.result.now = ap (map (client_of table)) (sym c.deref.ensures.value) in
     rw (← c.self.view_is)
     (ap (λ (t : Turn). t.engine) (learn-unset E c.args.token c.args.client c.args.serial (c.in_default.ensures table E clients)))
@@ -17,7 +17,7 @@ returns-in_default-clause-engine c =
 pub returns-in_default-clause-reply : goal.returns-in_default-clause-reply
 returns-in_default-clause-reply c =
     let E : TheEngine = the_view c.self.inside in
-    let table = c.self.inside.replica.document.table in
+    let table = c.self.inside.handler.replica.document.table in
     let clients : E.clients ≡ map (client_of table) c.deref.result.now = ap (map (client_of table)) (sym c.deref.ensures.value) in
     rw (← c.self.view_is)
     (ap (λ (t : Turn). t.reply) (learn-unset E c.args.token c.args.client c.args.serial (c.in_default.ensures table E clients)))
@@ -25,7 +25,7 @@ returns-in_default-clause-reply c =
 pub returns-clause-engine : goal.returns-clause-engine
 returns-clause-engine c =
     let E : TheEngine = the_view c.self.inside in
-    let table = c.self.inside.replica.document.table in
+    let table = c.self.inside.handler.replica.document.table in
     let token = c.args.token in
     let g = given_of c.in-Some.given in
     let found : Some g ≡ option_and_then (λ (cell : TheCell). cell.answer) (cell_under E c.args.client c.args.serial) =
@@ -40,7 +40,7 @@ returns-clause-engine c =
 pub returns-clause-reply : goal.returns-clause-reply
 returns-clause-reply c =
     let E : TheEngine = the_view c.self.inside in
-    let table = c.self.inside.replica.document.table in
+    let table = c.self.inside.handler.replica.document.table in
     let token = c.args.token in
     let g = given_of c.in-Some.given in
     let found : Some g ≡ option_and_then (λ (cell : TheCell). cell.answer) (cell_under E c.args.client c.args.serial) =

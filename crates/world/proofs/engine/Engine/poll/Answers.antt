@@ -11,7 +11,7 @@ use Rattle.world.proofs.engine.Engine.poll.Goals as goal
 pub returns-clause-engine : goal.returns-clause-engine
 returns-clause-engine c =
     let E : TheEngine = the_view c.self.inside in
-    let table = c.self.inside.replica.document.table in
+    let table = c.self.inside.handler.replica.document.table in
     let ks = c.self.inside.clients.items in
     let at = c.args.client in
     let k = c.index.result.now in
@@ -32,7 +32,7 @@ returns-clause-engine c =
 pub returns-clause-reply : goal.returns-clause-reply
 returns-clause-reply c =
     let E : TheEngine = the_view c.self.inside in
-    let table = c.self.inside.replica.document.table in
+    let table = c.self.inside.handler.replica.document.table in
     let ks = c.self.inside.clients.items in
     let at = c.args.client in
     let k = c.index.result.now in

@@ -1,17 +1,17 @@
-use Rattle.std.proofs.Common.{◌≡◌, ℕ, ◌<◌, true, false, nat_le, Some, [], ◌∷◌, ◌++◌, List, length, map, set, sym, ap, ◌∙◌, slice_get, subst, arith}
-use Rattle.std.specs.List.{All}
+use Rattle.std.proofs.Common.{◌≡◌, ℕ, ◌<◌, true, false, nat_le, List, Result, Ok, Err, Some, [], ◌∷◌, ◌++◌, length, map, set, sym, ap, ◌∙◌, slice_get, subst, arith}
+use Rattle.std.specs.Prelude.{OnErr}
 use Rattle.std.proofs.lemmas.List.{map-set, map-append, length-map}
-use Rattle.std.proofs.lemmas.List.Elements.{All-push}
 use Rattle.std.proofs.lemmas.Option.{same_Some}
 use Rattle.std.proofs.lemmas.Bool.{lt-leb, le-leb}
 use Rattle.semantics.specs.LegalAnswer.{Request, Submitted}
 use Rattle.semantics.specs.Engine.{Engine as TheEngine, Client as TheClient, Turn, Ticket}
 use Rattle.semantics.specs.WriteSteps.{next_item, with_cell, push}
-use Rattle.world.specs.declared.item.Item.{Item}
-use Rattle.world.specs.declared.item.Request.{Request as AnyRequest}
-use Rattle.world.specs.Engines.{HasWidth, IsWide, cell_of, client_of, request_of, submitted_of}
+use Rattle.items.specs.declared.item.Item.{Item}
+use Rattle.items.specs.declared.item.Request.{Request as AnyRequest}
+use Rattle.items.specs.Meanings.{request_of, submitted_of}
+use Rattle.world.specs.Engines.{cell_of, client_of}
 use Rattle.world.specs.contracts.engine.Engine.{the_view}
-use Rattle.world.proofs.SingleSteps.{read_mapped, push-there, push-last, push-full}
+use Rattle.world.proofs.SingleSteps.{read_mapped, set_itself, push-there, push-last, push-full}
 use Rattle.world.proofs.engine.Engine.submit.Goals as goal
 
 -- a turn of an engine that is seen as another
@@ -21,7 +21,7 @@ moved E A f c q e = sym (ap (λ (F : TheEngine). f (push F c (request_of F.repli
 pub returns-then-len-self-clause-reply : goal.returns-then-len-self-clause-reply
 returns-then-len-self-clause-reply c = λ k there_now.
     (let E : TheEngine = the_view c.self.inside in
-    let table = c.self.inside.replica.document.table in
+    let table = c.self.inside.handler.replica.document.table in
     let ks = c.self.inside.clients.items in
     let at = c.args.client in
     let k0 = c.index-k.result.now in
@@ -33,7 +33,7 @@ returns-then-len-self-clause-reply c = λ k there_now.
 pub returns-then-len-self-2-clause-reply : goal.returns-then-len-self-2-clause-reply
 returns-then-len-self-2-clause-reply c = λ k there_now.
     (let E : TheEngine = the_view c.self.inside in
-    let table = c.self.inside.replica.document.table in
+    let table = c.self.inside.handler.replica.document.table in
     let ks = c.self.inside.clients.items in
     let at = c.args.client in
     let k0 = c.index-k.result.now in
@@ -43,29 +43,29 @@ returns-then-len-self-2-clause-reply c = λ k there_now.
     moved E c.args.self.now (λ t. t.reply) at c.args.request c.self.view_is
     ∙ ap (λ (t : Turn). t.reply) (push-full E at (request_of table c.args.request) (client_of table k0) there serials places))
 
--- one more item whose vector has its width
-more_wide : (table : List ℕ) (A : TheEngine) (q : AnyRequest) (x : Item) (items all : List Item) → table ≡ A.replica.members → HasWidth A.replica.members q → x.request ≡ q → All (IsWide table) items → all ≡ items ++ x ∷ [] → All (IsWide table) all
-more_wide table A q x items all same wide is h e =
-    subst (All (IsWide table)) (sym e) (All-push (IsWide table) items x h (subst (HasWidth table) (sym is) (subst (λ t. HasWidth t q) (sym same) wide)))
+on_err : {X Y Q : Type 0} (r : Result X Y) → Q → OnErr r Q
+on_err (Ok x) q = tt
+on_err (Err e) q = q
 
-pub invariant_of-self-in_err-keep : goal.invariant_of-self-in_err-keep
-invariant_of-self-in_err-keep c = record {
-  shown = c.self.invariant.shown;
-  wide = more_wide c.self.inside.replica.document.table c.args.self.now c.args.request c.next_item-item.result c.self.inside.queue.items c.push_back.new.self.items
-      (ap (λ (F : TheEngine). F.replica.members) c.self.view_is) c.requires.wide c.next_item-item.ensures.request c.self.invariant.wide c.in_ok-push_back.ensures.items;
-}
-
-pub invariant_of-self-2 : goal.invariant_of-self-2
-invariant_of-self-2 c = record {
-  shown = c.self.invariant.shown;
-  wide = more_wide c.self.inside.replica.document.table c.args.self.now c.args.request c.next_item-item.result c.self.inside.queue.items c.push_back.new.self.items
-      (ap (λ (F : TheEngine). F.replica.members) c.self.view_is) c.requires.wide c.next_item-item.ensures.request c.self.invariant.wide c.in_ok-push_back.ensures.items;
-}
+pub returns-in_err-keep-clause-unchanged : goal.returns-in_err-keep-clause-unchanged
+returns-in_err-keep-clause-unchanged c =
+    let E : TheEngine = the_view c.self.inside in
+    let table = c.self.inside.handler.replica.document.table in
+    let ks = c.self.inside.clients.items in
+    let at = c.args.client in
+    let m = c.index_mut-k.result.now in
+    let within : at < length ks = omega (arith, c.requires.there, ap (λ (F : TheEngine). length F.clients) c.self.view_is, length-map ks (client_of table)) in
+    let there : slice_get (map (client_of table) ks) at ≡ Some (client_of table m) = read_mapped (client_of table) ks at m within c.index_mut-k.ensures.value in
+    let clients : map (client_of table) (set ks at c.keep.new.self) ≡ map (client_of table) ks =
+    map-set (client_of table) ks at c.keep.new.self
+    ∙ ap (set (map (client_of table) ks) at) (c.in_err-keep.ensures.unchanged table)
+    ∙ set_itself (map (client_of table) ks) at (client_of table m) there in
+    on_err c.from_residual-in_err-keep.result ((λ i. record E { queue = map (submitted_of table) (c.reserve.ensures.items i); clients = clients i }) ∙ c.self.view_is)
 
 pub returns-clause-engine : goal.returns-clause-engine
 returns-clause-engine c =
     let E : TheEngine = the_view c.self.inside in
-    let table = c.self.inside.replica.document.table in
+    let table = c.self.inside.handler.replica.document.table in
     let ks = c.self.inside.clients.items in
     let at = c.args.client in
     let k = c.index-k.result.now in
@@ -79,8 +79,8 @@ returns-clause-engine c =
     let kept : submitted_of table c.in_ok-kept.kept ≡ next_item at (client_of table k) q = ap (submitted_of table) c.in_ok-kept.ensures.cases ∙ item in
     let serials : nat_le E.serials (length (client_of table k).cells) ≡ false = lt-leb E.serials (length (client_of table k).cells) (omega (arith, length-map k.cells.items (cell_of table))) in
     let places : nat_le E.places (length E.queue) ≡ false = lt-leb E.places (length E.queue) (omega (arith, length-map c.self.inside.queue.items (submitted_of table))) in
-    let queue : map (submitted_of table) c.push_back.new.self.items ≡ E.queue ++ next_item at (client_of table k) q ∷ [] =
-    ap (map (submitted_of table)) c.in_ok-push_back.ensures.items ∙ map-append (submitted_of table) c.self.inside.queue.items (c.next_item-item.result ∷ []) ∙ ap (λ (x : Submitted). E.queue ++ x ∷ []) item in
+    let queue : map (submitted_of table) c.push_back_reserved.new.self.items ≡ E.queue ++ next_item at (client_of table k) q ∷ [] =
+    ap (map (submitted_of table)) (c.push_back_reserved.ensures.items ∙ ap (λ (xs : List Item). xs ++ c.next_item-item.result ∷ []) c.reserve.ensures.items) ∙ map-append (submitted_of table) c.self.inside.queue.items (c.next_item-item.result ∷ []) ∙ ap (λ (x : Submitted). E.queue ++ x ∷ []) item in
     let clients : map (client_of table) (set ks at c.keep.new.self) ≡ set (map (client_of table) ks) at (with_cell (client_of table k) (next_item at (client_of table k) q)) =
     map-set (client_of table) ks at c.keep.new.self ∙ ap (set (map (client_of table) ks) at) (c.in_ok-keep.ensures.client table ∙ (λ i. with_cell (same i) (kept i))) in
     (λ i. record E { queue = queue i; clients = clients i })
@@ -90,7 +90,7 @@ returns-clause-engine c =
 pub returns-clause-reply : goal.returns-clause-reply
 returns-clause-reply c = λ k there_now.
     (let E : TheEngine = the_view c.self.inside in
-    let table = c.self.inside.replica.document.table in
+    let table = c.self.inside.handler.replica.document.table in
     let ks = c.self.inside.clients.items in
     let at = c.args.client in
     let k0 = c.index-k.result.now in

@@ -4,6 +4,8 @@ use Rattle.std.specs.List.{All}
 use Rattle.std.specs.Vec.Iter.{into_iter_items, into_iter_len}
 use Rattle.ids.specs.declared.refusal.Refusal.{Refusal}
 use Rattle.semantics.specs.PeerSteps.{submit_all}
+use Rattle.semantics.specs.WorldHistory.{HasGrown}
+use Rattle.semantics.proofs.SoundEngines.{IsSound}
 use Rattle.operation.specs.Meanings.{stamped_of}
 use Rattle.operation.specs.declared.op.Op.{Op}
 use Rattle.world.proofs.engine.Engine.submit_all.Given as goal
@@ -15,6 +17,9 @@ invariant-loop-op l = record {
   there : l.fn.client < length l.self.clients;
   members : l.self.replica.members ≡ l.fn.self.replica.members;
   wide : All (λ (o : Op). length o.deps ≡ length l.fn.self.replica.members) (into_iter_items l.op-iterator);
+  sound : IsSound l.self;
+  still : l.self.replica ≡ l.fn.self.replica;
+  grown : HasGrown l.fn.self l.self;
   left : (bad : Option Refusal) → submit_all l.fn.client bad l.submitted l.self (map (stamped_of l.fn.self.replica.members) (into_iter_items l.op-iterator))
       ≡ submit_all l.fn.client bad 0 l.fn.self (map (stamped_of l.fn.self.replica.members) l.fn.ops.items);
 }

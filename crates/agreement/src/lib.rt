@@ -1,0 +1,9 @@
+//! The engine of a world and the engine of threads do the same: a law, and tests that play the same to both and compare all
+//! that they say.
+#![tactic(auto)]
+
+mod law;
+#[cfg(test)]
+mod tests;
+
+pub use law::a_step_is_a_step_of_a_world;

@@ -1,0 +1,190 @@
+//! What is done with both engines.
+
+ghost use Rattle.std.specs.Prelude.{List, ℕ, IfOk};
+ghost use Rattle.document.specs.Documents.{IsBeside};
+
+use super::dice::Dice;
+use cursor::{Expr, Place, Step as Hop};
+use document::Question;
+use ids::{OpId, Refusal, ReplicaId};
+use operation::{Command, Mutation, Op};
+use std::alloc::Global;
+use std::test::Fail;
+use value::{Key, Scalar, Text, Val};
+use version::VersionVector;
+
+/// How many clients and replicas there are. The engine is of replica 1.
+pub const CLIENTS: u64 = 2;
+
+pub const REPLICAS: u64 = 3;
+
+/// Something that is done with an engine. Tokens are the clients', then the reader's.
+#[derive(Debug, Drop)]
+pub enum Act {
+    Submit {
+        client: usize,
+        command: Command,
+    },
+    Deliver {
+        client: usize,
+        op: Op,
+    },
+    Step,
+    Poll {
+        client: usize,
+        serial: u64,
+    },
+    Ask {
+        token: usize,
+        probe: Probe,
+    },
+    Learn {
+        token: usize,
+        client: usize,
+        serial: u64,
+    },
+}
+
+/// What is asked of a document.
+#[derive(Clone, Copy, Debug)]
+pub enum Kind {
+    Values,
+    Keys,
+    Items,
+    Conflicts,
+    Vector,
+}
+
+/// A question without a vector, which any engine may be asked.
+#[derive(Debug, Drop)]
+pub struct Probe {
+    pub kind: Kind,
+    pub place: Expr,
+}
+
+impl Probe {
+    pub fn question(&self) -> Result<Question, Refusal>
+        ensures { IfOk result (λ q. (table : List ℕ) → IsBeside table q) }
+    {
+        let place = self.place.clone()?;
+        Ok(match self.kind {
+            Kind::Values => Question::Values(place),
+            Kind::Keys => Question::Keys(place),
+            Kind::Items => Question::Items(place),
+            Kind::Conflicts => Question::Conflicts(place),
+            Kind::Vector => Question::Vector,
+        })
+    }
+}
+
+/// The next act of a play. Commands, operations and questions speak of few places, so that they meet.
+pub fn next_act(alloc: Global, dice: &mut Dice) -> Result<Act, Fail> {
+    let client = dice.roll(CLIENTS) as usize;
+    let token = dice.roll(CLIENTS + 1) as usize;
+    let serial = dice.roll(16);
+    Ok(match dice.roll(12) {
+        0..=3 => Act::Submit {
+            client,
+            command: command(alloc, dice)?,
+        },
+        4..=5 => Act::Deliver {
+            client,
+            op: op(alloc, dice)?,
+        },
+        6..=7 => Act::Step,
+        8 => Act::Poll { client, serial },
+        9 => Act::Learn {
+            token,
+            client,
+            serial,
+        },
+        _ => Act::Ask {
+            token,
+            probe: next_probe(alloc, dice)?,
+        },
+    })
+}
+
+fn key(alloc: Global, dice: &mut Dice) -> Result<Key, Refusal> {
+    Key::new(alloc, if dice.roll(2) == 0 { "a" } else { "b" })
+}
+
+/// A place at most two steps below the document.
+fn expression(alloc: Global, dice: &mut Dice) -> Result<Expr, Refusal> {
+    let mut steps = Vec::new(alloc);
+    for _ in 0..dice.roll(3) {
+        let step = if dice.roll(3) == 0 {
+            Hop::Idx(dice.roll(3))
+        } else {
+            Hop::Get(key(alloc, dice)?)
+        };
+        steps.push(step)?;
+    }
+    Ok(Expr::new(steps))
+}
+
+fn value(alloc: Global, dice: &mut Dice) -> Result<Val, Refusal> {
+    Ok(match dice.roll(4) {
+        0 => Val::EmptyMap,
+        1 | 2 => Val::EmptyList,
+        _ => Val::Scalar(scalar(alloc, dice)?),
+    })
+}
+
+fn scalar(alloc: Global, dice: &mut Dice) -> Result<Scalar, Refusal> {
+    Ok(match dice.roll(4) {
+        0 => Scalar::Null,
+        1 => Scalar::Bool(true),
+        2 => Scalar::Whole(7),
+        _ => Scalar::Text(Text::new(alloc, "text")?),
+    })
+}
+
+fn command(alloc: Global, dice: &mut Dice) -> Result<Command, Refusal> {
+    let place = expression(alloc, dice)?;
+    Ok(match dice.roll(5) {
+        0 => Command::Delete(place),
+        1 | 2 => Command::InsertAfter(place, value(alloc, dice)?),
+        _ => Command::Assign(place, value(alloc, dice)?),
+    })
+}
+
+fn next_probe(alloc: Global, dice: &mut Dice) -> Result<Probe, Refusal> {
+    let place = expression(alloc, dice)?;
+    let kind = match dice.roll(5) {
+        0 => Kind::Values,
+        1 => Kind::Keys,
+        2 => Kind::Items,
+        3 => Kind::Conflicts,
+        _ => Kind::Vector,
+    };
+    Ok(Probe { kind, place })
+}
+
+/// An operation of any replica, most of them ready one after another, some too early, some known, some forged.
+fn op(alloc: Global, dice: &mut Dice) -> Result<Op, Fail> {
+    let replica = dice.roll(REPLICAS);
+    let mut deps = VersionVector::zero(alloc, REPLICAS as usize)?;
+    deps.raise(0, dice.roll(3));
+    deps.raise(1, dice.roll(3));
+    deps.raise(2, dice.roll(3));
+    let next = deps.greatest().saturating_add(1);
+    let counter = if dice.roll(8) == 0 {
+        next.saturating_add(1)
+    } else {
+        next
+    };
+    Ok(Op {
+        id: OpId {
+            counter,
+            replica: ReplicaId::new(replica as u32 + 1).ok_or("numbered 0")?,
+        },
+        deps,
+        place: Place::doc(alloc).get(alloc, key(alloc, dice)?)?,
+        mutation: if dice.roll(4) == 0 {
+            Mutation::Delete
+        } else {
+            Mutation::Assign(value(alloc, dice)?)
+        },
+    })
+}

@@ -1,0 +1,2 @@
+-- Lemmas on workers.
+pub mod Submitting

@@ -1,0 +1,28 @@
+-- What a worker submits, and what it has read back.
+use Rattle.std.specs.Prelude.{ℕ, suc, zero, ◌≡◌, ◌++◌, ◌∷◌, [], List, map, pos}
+use Rattle.semantics.specs.Ids.{OpId}
+use Rattle.semantics.specs.Elements.{Whole, Plain}
+use Rattle.semantics.specs.Entries.{Entry}
+use Rattle.semantics.specs.Operations.{Assign}
+use Rattle.semantics.specs.Making.{Command}
+use Rattle.semantics.specs.Questions.{Get, Values, ValuesAre}
+use Rattle.semantics.specs.LegalAnswer.{Request, OfCommand, OfDocument, Answered, reading_of}
+use Rattle.items.specs.Meanings.{request_of}
+use Rattle.engine.specs.Clients.{Client, items_by}
+
+-- what the client asked of the writer so far, in order
+abbrev pub requests_by : List ℕ → Client → List Request
+requests_by table c = map (λ x. request_of table x.request) (items_by c)
+
+-- the command that assigns the number at a key of the document
+abbrev pub assignment : List ℕ → ℕ → Command
+assignment key n = record { expression = Get key ∷ []; mutation = Assign (Plain (Whole (pos n))) }
+
+-- those for the numbers below n, in order
+abbrev pub assignments : List ℕ → ℕ → List Request
+assignments key zero = []
+assignments key (suc n) = assignments key n ++ OfCommand (assignment key n) ∷ []
+
+-- a reader of this history finds the number alone at the key
+abbrev pub Shows : List Entry → List ℕ → ℕ → Type 0
+Shows G key n = (a : OpId) × (reading_of G (OfDocument (Values (Get key ∷ []))) ≡ Answered (ValuesAre ((a, Whole (pos n)) ∷ [])))

@@ -1,0 +1,141 @@
+//! Keys in byte order, and how many a search looks at.
+
+use super::*;
+use std::alloc::Global;
+use std::process::Abort;
+use value::Key;
+
+/// The probes that were counted before a search, the most that may be.
+const BEFORE: u64 = 18_446_744_073_709_551_551;
+
+/// Puts a key that isn't there.
+fn put(alloc: Global, keys: &mut SortedKeys, text: &str) -> Result<(), Fail> {
+    keys.reserve_one()?;
+    let key = Key::new(alloc, text)?;
+    let mut probes = 0;
+    match keys.find(&key, &mut probes) {
+        Ok(_) => Err("a key that is there".into()),
+        Err(place) => {
+            keys.put(place, key);
+            Ok(())
+        }
+    }
+}
+
+/// These keys, put in this order.
+fn keys_of(alloc: Global, texts: &[&str]) -> Result<SortedKeys, Fail> {
+    let mut keys = SortedKeys::new(alloc);
+    for text in texts {
+        put(alloc, &mut keys, text)?;
+    }
+    Ok(keys)
+}
+
+/// Puts a number of four digits as a key.
+fn put_number(alloc: Global, keys: &mut SortedKeys, number: usize) -> Result<(), Fail> {
+    let text = format!(in alloc; "{number:04}")?;
+    put(alloc, keys, text.as_str())
+}
+
+/// So many keys, each a number of four digits.
+fn numbered(alloc: Global, count: usize) -> Result<SortedKeys, Fail> {
+    let mut keys = SortedKeys::new(alloc);
+    for number in 0..count {
+        put_number(alloc, &mut keys, number)?;
+    }
+    Ok(keys)
+}
+
+/// How many keys a search looks at.
+fn probes_for(alloc: Global, keys: &SortedKeys, text: &str) -> Result<u64, Fail> {
+    let key = Key::new(alloc, text)?;
+    let mut probes = BEFORE;
+    let _ = keys.find(&key, &mut probes);
+    Ok(probes - BEFORE)
+}
+
+/// Compares the keys in their order, each with how many were put before it.
+fn assert_keys(rt: &impl Abort, keys: &SortedKeys, want: &[(&str, usize)]) {
+    assert_eq!(rt; keys.len(), want.len());
+    for (place, (text, number)) in want.iter().enumerate() {
+        assert_eq!(rt; keys.at(place).as_str(), *text, "at {place}");
+        assert_eq!(rt; keys.number(place), *number, "at {place}");
+    }
+}
+
+/// Compares the place of each key, or the one to which it goes.
+fn assert_found(
+    rt: &impl Abort,
+    alloc: Global,
+    keys: &SortedKeys,
+    rows: &[(&str, Result<usize, usize>)],
+) -> Result<(), Fail> {
+    for (text, want) in rows {
+        let key = Key::new(alloc, text)?;
+        let mut probes = 0;
+        assert_eq!(rt; keys.find(&key, &mut probes), *want, "of {text}");
+    }
+    Ok(())
+}
+
+/// Searches for each text look at so many keys at most.
+fn assert_few_probes(
+    rt: &impl Abort,
+    alloc: Global,
+    keys: &SortedKeys,
+    most: u64,
+    texts: &[&str],
+) -> Result<(), Fail> {
+    for text in texts {
+        let probes = probes_for(alloc, keys, text)?;
+        assert!(rt; probes <= most, "{probes} for {text}, not {most}");
+    }
+    Ok(())
+}
+
+/// Searches among so many keys look at so many at most.
+fn assert_most_probes(rt: &impl Abort, alloc: Global, count: usize, most: u64) -> Result<(), Fail> {
+    let keys = numbered(alloc, count)?;
+    assert_eq!(rt; keys.len(), count);
+    assert_few_probes(
+        rt,
+        alloc,
+        &keys,
+        most,
+        &["", "0000", "0127", "0127x", "0128", "0254", "0255", "9"],
+    )
+}
+
+#[test]
+fn keys_stand_in_byte_order(rt: HostRuntime) -> Result<(), Fail> {
+    let keys = keys_of(rt.alloc(), &["b", "", "ä", "B", "ba"])?;
+    assert_keys(
+        &rt,
+        &keys,
+        &[("", 1), ("B", 3), ("b", 0), ("ba", 4), ("ä", 2)],
+    );
+    assert_found(
+        &rt,
+        rt.alloc(),
+        &keys,
+        &[
+            ("", Ok(0)),
+            ("A", Err(1)),
+            ("B", Ok(1)),
+            ("a", Err(2)),
+            ("b", Ok(2)),
+            ("ba", Ok(3)),
+            ("bb", Err(4)),
+            ("ä", Ok(4)),
+            ("ö", Err(5)),
+        ],
+    )
+}
+
+#[test]
+fn searches_look_at_few_keys(rt: HostRuntime) -> Result<(), Fail> {
+    for (count, most) in [(0, 0), (1, 1), (2, 2), (3, 2), (255, 8), (256, 9)] {
+        assert_most_probes(&rt, rt.alloc(), count, most)?;
+    }
+    Ok(())
+}

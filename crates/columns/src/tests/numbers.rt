@@ -1,0 +1,180 @@
+//! Numbers by id.
+
+use super::*;
+use std::alloc::Global;
+use std::process::Abort;
+
+/// An id, and its number.
+type Row = (Pair, usize);
+
+const FOUR: [Row; 4] = [((1, 1), 7), ((1, 2), 5), ((2, 1), 9), ((10, 1), 0)];
+
+/// Puts the number of an id.
+fn put(numbers: &mut Numbers, row: Row) -> Result<(), Fail> {
+    let id = id_of(row.0)?;
+    numbers.reserve_one()?;
+    numbers.put(id, row.1);
+    Ok(())
+}
+
+/// These numbers, put in this order.
+fn numbers_of(alloc: Global, rows: &[Row]) -> Result<Numbers, Fail> {
+    let mut numbers = Numbers::new(alloc);
+    for row in rows {
+        put(&mut numbers, *row)?;
+    }
+    Ok(numbers)
+}
+
+/// The number of an id.
+fn get(numbers: &Numbers, pair: Pair) -> Result<Option<usize>, Fail> {
+    let id = id_of(pair)?;
+    Ok(numbers.get(&id))
+}
+
+/// The number of an id that is looked for near a place, and the place that is near then.
+fn get_near(numbers: &Numbers, pair: Pair, from: usize) -> Result<(Option<usize>, usize), Fail> {
+    let id = id_of(pair)?;
+    let mut near = from;
+    let number = numbers.get_near(&id, &mut near);
+    Ok((number, near))
+}
+
+/// Takes an id out, and answers its number.
+fn remove(numbers: &mut Numbers, pair: Pair) -> Result<Option<usize>, Fail> {
+    let id = id_of(pair)?;
+    Ok(numbers.remove(&id))
+}
+
+/// An entry as a row.
+fn row_of(entry: &(OpId, usize)) -> Row {
+    (pair_of(entry.0), entry.1)
+}
+
+/// Compares the entries in their order, and the number of each id.
+fn assert_rows(rt: &impl Abort, numbers: &Numbers, want: &[Row]) -> Result<(), Fail> {
+    assert_eq!(rt; numbers.len(), want.len(), "of {want:?}");
+    for (place, row) in want.iter().enumerate() {
+        assert_eq!(rt; row_of(&numbers.at(place)), *row, "at {place} of {want:?}");
+    }
+    for row in want {
+        assert_eq!(rt; get(numbers, row.0)?, Some(row.1), "of {row:?}");
+    }
+    Ok(())
+}
+
+/// None of these ids has a number.
+fn assert_absent(rt: &impl Abort, numbers: &Numbers, pairs: &[Pair]) -> Result<(), Fail> {
+    for pair in pairs {
+        assert_eq!(rt; get(numbers, *pair)?, None, "of {pair:?}");
+    }
+    Ok(())
+}
+
+/// Compares the entries whose ids have a greater counter than this.
+fn assert_above(rt: &impl Abort, numbers: &Numbers, counter: u64, want: &[Row]) {
+    let above = numbers.above(counter);
+    assert_eq!(rt; above.len(), want.len(), "above {counter}");
+    for (place, row) in want.iter().enumerate() {
+        assert_eq!(rt; row_of(&above[place]), *row, "above {counter}");
+    }
+}
+
+/// Compares the number of each id, looked for near a place, and the place that is near then.
+fn assert_near(
+    rt: &impl Abort,
+    numbers: &Numbers,
+    from: usize,
+    rows: &[(Pair, (Option<usize>, usize))],
+) -> Result<(), Fail> {
+    for (pair, want) in rows {
+        assert_eq!(rt;
+            get_near(numbers, *pair, from)?,
+            *want,
+            "{pair:?} from {from}"
+        );
+    }
+    Ok(())
+}
+
+/// Puts numbers in this order, and compares them.
+fn assert_put(rt: &impl Abort, alloc: Global, given: &[Row], want: &[Row]) -> Result<(), Fail> {
+    let numbers = numbers_of(alloc, given)?;
+    assert_rows(rt, &numbers, want)?;
+    assert_absent(rt, &numbers, &[(0, 9), (1, 3), (2, 2), (9, 9), (11, 1)])
+}
+
+/// Takes an id out of the first three, which had this number, and compares what is left.
+fn assert_left(
+    rt: &impl Abort,
+    alloc: Global,
+    gone: Pair,
+    number: Option<usize>,
+    left: &[Row],
+) -> Result<(), Fail> {
+    let mut numbers = numbers_of(alloc, &FOUR[..3])?;
+    assert_eq!(rt; remove(&mut numbers, gone)?, number, "of {gone:?}");
+    assert_absent(rt, &numbers, &[gone])?;
+    assert_rows(rt, &numbers, left)
+}
+
+#[test]
+fn numbers_rise_by_id(rt: HostRuntime) -> Result<(), Fail> {
+    for given in [
+        FOUR,
+        [((10, 1), 0), ((2, 1), 9), ((1, 2), 5), ((1, 1), 7)],
+        [((1, 2), 5), ((10, 1), 0), ((1, 1), 7), ((2, 1), 9)],
+    ] {
+        assert_put(&rt, rt.alloc(), &given, &FOUR)?;
+    }
+    Ok(())
+}
+
+#[test]
+fn numbers_above_a_counter(rt: HostRuntime) -> Result<(), Fail> {
+    assert_above(&rt, &Numbers::new(rt.alloc()), 0, &[]);
+    let numbers = numbers_of(rt.alloc(), &FOUR)?;
+    assert_above(&rt, &numbers, 0, &FOUR);
+    assert_above(&rt, &numbers, 1, &[((2, 1), 9), ((10, 1), 0)]);
+    assert_above(&rt, &numbers, 2, &[((10, 1), 0)]);
+    assert_above(&rt, &numbers, 9, &[((10, 1), 0)]);
+    assert_above(&rt, &numbers, 10, &[]);
+    assert_above(&rt, &numbers, u64::MAX, &[]);
+    Ok(())
+}
+
+#[test]
+fn numbers_near_a_place(rt: HostRuntime) -> Result<(), Fail> {
+    let numbers = numbers_of(rt.alloc(), &FOUR)?;
+    for from in [0, 1, 2, 3, 4, 9, usize::MAX] {
+        assert_near(
+            &rt,
+            &numbers,
+            from,
+            &[
+                ((1, 1), (Some(7), 0)),
+                ((1, 2), (Some(5), 1)),
+                ((2, 1), (Some(9), 2)),
+                ((10, 1), (Some(0), 3)),
+                ((2, 2), (None, from)),
+            ],
+        )?;
+    }
+    Ok(())
+}
+
+#[test]
+fn a_put_number_replaces(rt: HostRuntime) -> Result<(), Fail> {
+    let numbers = numbers_of(rt.alloc(), &[((1, 1), 7), ((2, 1), 8), ((1, 1), 9)])?;
+    assert_rows(&rt, &numbers, &[((1, 1), 9), ((2, 1), 8)])
+}
+
+#[test]
+fn removed_numbers_are_gone(rt: HostRuntime) -> Result<(), Fail> {
+    let alloc = rt.alloc();
+    let [first, second, third, _] = FOUR;
+    assert_left(&rt, alloc, (1, 1), Some(7), &[second, third])?;
+    assert_left(&rt, alloc, (1, 2), Some(5), &[first, third])?;
+    assert_left(&rt, alloc, (2, 1), Some(9), &[first, second])?;
+    assert_left(&rt, alloc, (2, 2), None, &[first, second, third])
+}

@@ -1,0 +1,159 @@
+//! Registers and presences: what stands at each id.
+
+ghost use Rattle.std.specs.Prelude.{◌≡◌, ◌<◌, length, IfOk};
+ghost use Rattle.std.specs.List.{All};
+
+use super::*;
+use cursor::Tag;
+use std::alloc::Global;
+use std::process::Abort;
+use value::Scalar;
+use version::VersionVector;
+
+/// An id, and the whole number that stands there.
+type Row = (Pair, i64);
+
+const FOUR: [Row; 4] = [((1, 1), 10), ((2, 2), 20), ((3, 1), 30), ((3, 2), 40)];
+
+/// The vector of two counters.
+fn vector(alloc: Global, counters: [u64; 2]) -> Result<VersionVector, Fail>
+    ensures { IfOk result (λ v. length v ≡ 2) }
+{
+    let mut vector = VersionVector::zero(alloc, 2)?;
+    vector.raise(0, counters[0]);
+    vector.raise(1, counters[1]);
+    Ok(vector)
+}
+
+/// Puts an entry, where the table has two replicas, numbered from 1.
+fn put<T: Drop>(entries: &mut ById<T>, pair: Pair, value: T) -> Result<(), Fail>
+    requires { All (λ place. place < 2) entries.old.indices }
+    ensures { All (λ place. place < 2) entries.new.indices }
+{
+    let id = id_of(pair)?;
+    entries.reserve_one()?;
+    let index = if pair.1 == 1 { 0 } else { 1 };
+    entries.put(id, index, value);
+    Ok(())
+}
+
+/// A register of whole numbers, put in this order.
+fn register(alloc: Global, rows: &[Row]) -> Result<Register, Fail>
+    ensures { IfOk result (λ register. All (λ place. place < 2) register.indices) }
+{
+    let mut register = Register::new(alloc);
+    for (pair, whole) in rows {
+        put(&mut register, *pair, Scalar::Whole(*whole))?;
+    }
+    Ok(register)
+}
+
+/// A presence of tags, put in this order.
+fn presence(alloc: Global, rows: &[(Pair, Tag)]) -> Result<Presence, Fail>
+    ensures { IfOk result (λ presence. All (λ place. place < 2) presence.indices) }
+{
+    let mut presence = Presence::new(alloc);
+    for (pair, tag) in rows {
+        put(&mut presence, *pair, *tag)?;
+    }
+    Ok(presence)
+}
+
+/// Compares the entries of a register, in their order.
+fn assert_rows(rt: &impl Abort, register: &Register, want: &[Row]) {
+    assert_eq!(rt; register.len(), want.len(), "of {want:?}");
+    for (place, (pair, whole)) in want.iter().enumerate() {
+        let (id, scalar) = register.at(place);
+        assert_eq!(rt; pair_of(id), *pair, "at {place} of {want:?}");
+        assert_eq!(rt; *scalar, Scalar::Whole(*whole), "at {place} of {want:?}");
+    }
+}
+
+/// Puts whole numbers in this order, and compares what the register then holds.
+fn assert_put(rt: &impl Abort, alloc: Global, given: &[Row], want: &[Row]) -> Result<(), Fail> {
+    let register = register(alloc, given)?;
+    assert_rows(rt, &register, want);
+    Ok(())
+}
+
+/// Clears the four by the vector of these counters, and compares what is left.
+fn assert_left(
+    rt: &impl Abort,
+    alloc: Global,
+    counters: [u64; 2],
+    want: &[Row],
+) -> Result<(), Fail> {
+    let vector = vector(alloc, counters)?;
+    let mut register = register(alloc, &FOUR)?;
+    register.clear(&vector);
+    assert_rows(rt, &register, want);
+    Ok(())
+}
+
+/// Compares the tags of a presence, in their order.
+fn assert_tags(rt: &impl Abort, presence: &Presence, want: &[Tag]) {
+    assert_eq!(rt; presence.len(), want.len());
+    for (place, tag) in want.iter().enumerate() {
+        assert_eq!(rt; *presence.at(place).1, *tag, "at {place}");
+    }
+}
+
+/// Puts tags in this order, clears them by the vector of these counters, and compares what is left.
+fn assert_tags_left(
+    rt: &impl Abort,
+    alloc: Global,
+    given: &[(Pair, Tag)],
+    counters: [u64; 2],
+    want: &[Tag],
+) -> Result<(), Fail> {
+    let vector = vector(alloc, counters)?;
+    let mut presence = presence(alloc, given)?;
+    presence.clear(&vector);
+    assert_tags(rt, &presence, want);
+    Ok(())
+}
+
+#[test]
+fn entries_rise_by_id(rt: HostRuntime) -> Result<(), Fail> {
+    let want = [((1, 1), 10), ((2, 1), 20), ((2, 2), 30), ((5, 1), 40)];
+    for given in [
+        want,
+        [((5, 1), 40), ((2, 2), 30), ((2, 1), 20), ((1, 1), 10)],
+        [((2, 2), 30), ((1, 1), 10), ((5, 1), 40), ((2, 1), 20)],
+    ] {
+        assert_put(&rt, rt.alloc(), &given, &want)?;
+    }
+    Ok(())
+}
+
+#[test]
+fn a_put_of_an_id_that_is_there_replaces(rt: HostRuntime) -> Result<(), Fail> {
+    assert_put(
+        &rt,
+        rt.alloc(),
+        &[((1, 1), 10), ((2, 2), 20), ((1, 1), 30), ((2, 2), 40)],
+        &[((1, 1), 30), ((2, 2), 40)],
+    )
+}
+
+#[test]
+fn covered_entries_go(rt: HostRuntime) -> Result<(), Fail> {
+    let alloc = rt.alloc();
+    assert_left(&rt, alloc, [0, 0], &FOUR)?;
+    assert_left(&rt, alloc, [1, 2], &[((3, 1), 30), ((3, 2), 40)])?;
+    assert_left(&rt, alloc, [3, 0], &[((2, 2), 20), ((3, 2), 40)])?;
+    assert_left(&rt, alloc, [2, 3], &[((3, 1), 30)])?;
+    assert_left(&rt, alloc, [9, 9], &[])
+}
+
+#[test]
+fn presences_hold_tags(rt: HostRuntime) -> Result<(), Fail> {
+    assert_eq!(rt; Presence::new(rt.alloc()).len(), 0);
+    assert_tags_left(
+        &rt,
+        rt.alloc(),
+        &[((2, 1), Tag::List), ((1, 1), Tag::Map), ((3, 1), Tag::Reg)],
+        [1, 0],
+        &[Tag::List, Tag::Reg],
+    )
+}

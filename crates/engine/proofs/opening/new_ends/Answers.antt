@@ -1,0 +1,34 @@
+use Rattle.std.proofs.Common.{rules, ◌≡◌, ℕ, ◌+◌, ◌<◌, ◌++◌, [], ◌∷◌, List, Some, length, sym, ap, ◌∙◌, subst, arith, length-append}
+use Rattle.std.specs.List.{slice_index_or}
+use Rattle.std.proofs.lemmas.List.Elements.{All-pop, All-push}
+use Rattle.atomic_table.specs.Seated.{TableId}
+use Rattle.engine.specs.Clients.{AreClients, Client, IsNewClient}
+use Rattle.engine.proofs.Gathering.{clients_snoc}
+use Rattle.engine.proofs.opening.new_ends.Goals as goal
+
+pub loop-number-preserved : goal.loop-number-preserved
+loop-number-preserved g c =
+    let before = c.loop-number.invariant in
+    let client = c.new.result in
+    let pushed : c.push_reserved.new.self.items ≡ c.loop-number.clients.items ++ client ∷ [] = search rules in
+    let unseen = All-pop (λ seat. seat.seen ≡ []) c.loop-number.seats.items c.pop.new.self.items (Some c.in-Some.seat) c.in-Some.ensures.items before.unseen in
+    let fresh : IsNewClient c.args.config.now client = record {
+      replica = search rules;
+      serials = search rules;
+      capacity = search rules;
+      seen = c.new.ensures.6 ∙ unseen.1;
+      kept = search rules;
+    } in
+    let queue : c.sender.new.self.pass.table_id ≡ c.loop-number.taker.pass.table_id = c.sender.ensures.same.0 in record {
+      got = c.sender.ensures.same.1 ∙ before.got;
+      known = c.sender.ensures.same.2 ∙ before.known;
+      made = search rules;
+      capacity = c.sender.ensures.capacity ∙ before.capacity;
+      are = clients_snoc c.sender.new.self.pass.table_id 0 c.loop-number.number c.loop-number.clients.items c.push_reserved.new.self.items client pushed
+          (subst (λ (q : TableId). AreClients q 0 c.loop-number.clients.items) (sym queue) before.are) before.count (search rules) (search rules);
+      count = search rules;
+      new = subst (λ (cs : List Client). (k : ℕ) → (d : Client) → k < length cs → IsNewClient c.args.config.now (slice_index_or cs k d)) (sym pushed) (All-push (IsNewClient c.args.config.now) c.loop-number.clients.items client before.new fresh);
+      seats = search rules;
+      unseen = unseen.0;
+      room = search rules;
+    }

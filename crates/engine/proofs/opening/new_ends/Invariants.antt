@@ -1,0 +1,21 @@
+-- so many clients were made of the last seats
+use Rattle.std.proofs.Common.{◌≡◌, ◌+◌, ◌≤◌, [], length, vec_capacity}
+use Rattle.std.specs.List.{All}
+use Rattle.std.specs.Arc.{arc_value}
+use Rattle.crossbeam_queue.specs.Passes.{ruled_capacity, view}
+use Rattle.engine.specs.Clients.{AreClients, IsNewClient}
+use Rattle.engine.proofs.opening.new_ends.Given as goal
+
+abbrev pub invariant-loop-number : goal.invariant-loop-number
+invariant-loop-number g l = record {
+  got : (view l.taker.pass).got ≡ [];
+  known : (view l.taker.pass).known ≡ [];
+  made : (view l.taker.pass).made ≡ l.number;
+  capacity : ruled_capacity (arc_value l.taker.queue) ≡ l.fn.config.queue;
+  are : AreClients l.taker.pass.table_id 0 l.clients.items;
+  count : length l.clients.items ≡ l.number;
+  new : All (IsNewClient l.fn.config) l.clients.items;
+  seats : length l.seats.items + l.number ≡ l.fn.config.clients + l.fn.config.readers;
+  unseen : All (λ s. s.seen ≡ []) l.seats.items;
+  room : l.fn.config.clients ≤ vec_capacity l.clients;
+}

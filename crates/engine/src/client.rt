@@ -1,0 +1,288 @@
+//! Clients: they submit commands and operations of peers, poll for the answers, and ask.
+
+ghost use Rattle.std.specs.Prelude.{◌≡◌, ◌+◌, ◌-◌, ◌<◌, ◌≤◌, ◌⊎◌, ◌++◌, ◌∷◌, ◌↔◌, [], List, length, Option, Some, None, Ok, Err, IfOk, IfErr, IfSome, MatchBool, MatchResult, slice_get, slice_set};
+ghost use Rattle.std.specs.Arc.{arc_value};
+ghost use Rattle.crossbeam_queue.specs.Passes.{ruled_capacity, view as pass_view};
+ghost use Rattle.ids.specs.declared.refusal.Refusal.TheVariants.{Foreign, NoMemory, NoReading, QueueFull, SerialEnd};
+ghost use Rattle.semantics.specs.Entries.{IsEntryHistory, applied};
+ghost use Rattle.semantics.specs.WorldHistory.{BeginsWith};
+ghost use Rattle.semantics.specs.Questions.{Question as TheQuestion, Refused};
+ghost use Rattle.semantics.specs.LegalAnswer.{Answered, OfDocument, reading_of};
+ghost use Rattle.semantics.specs.Receipts.{IsAnswer};
+ghost use Rattle.semantics.specs.View.{view};
+ghost use Rattle.document.specs.Documents.{IsBeside, asked_of, said_by};
+ghost use Rattle.items.specs.declared.item.Item.{Item as AnItem};
+ghost use Rattle.items.specs.declared.item.Request.{Request as ARequest};
+ghost use Rattle.items.specs.declared.item.Request.TheVariants.{Command as OfCommand, Peer as OfPeer};
+ghost use Rattle.items.specs.Meanings.{answer_of as reply_of, submitted_of};
+ghost use Rattle.command.specs.Fifo.{Moment, sender_hand};
+ghost use Rattle.command.specs.Answers.{Given};
+ghost use Rattle.engine.specs.Clients.{IsMine, Polls, items_by};
+
+use crate::kept::Kept;
+use command::{Answer, Envelope, Sender, Taker, Ticket};
+use document::{Question, Reading};
+use ids::{Refusal, ReplicaId, ReplicaTable};
+use items::{Item, Reply, Request};
+use once_cell::race::OnceBox;
+use operation::{Command, Op};
+use published::{EngineName, Notice, Seat};
+use std::alloc::Global;
+use std::marker::Model;
+use std::sync::{Arc, Wait};
+
+/// A client of an engine, for one thread at a time. It numbers what it submits from 1 on, and keeps each serial's item and the
+/// cell of its answer for its whole life. Its token reads as a `ReaderToken` does.
+#[derive(Drop)]
+pub struct Client<N: EngineName> {
+    replica: ReplicaId,
+    number: usize,
+    serials: u64,
+    seat: Seat<N>,
+    sender: Sender<N>,
+    kept: Vec<Kept<N>>,
+}
+
+impl<N: EngineName> Model for Client<N> {
+    ghost use Rattle.std.specs.Prelude.{◌≡◌, map};
+    ghost use Rattle.std.specs.Arc.{arc_value};
+    ghost use Rattle.std.specs.Coded.{codes};
+    ghost use Rattle.semantics.specs.Codes.{coded_element};
+    ghost use Rattle.crossbeam_queue.specs.Passes.{view as pass_view, ruled_capacity};
+    ghost use Rattle.engine.specs.Clients.{Client};
+
+    ghost Value = { Client };
+
+    ghost coded = { Prim.hlevel (codes, coded_element) };
+
+    ghost view = { λ c. record { replica = c.replica; number = c.number; serials = c.serials; queue = c.sender.pass.table_id; capacity = ruled_capacity (arc_value c.sender.queue); seen = c.seat.seen; read = c.seat.read; kept = c.kept.items } };
+
+    ghost invariant = { λ c. ((pass_view c.sender.pass).from ≡ c.number) × ((pass_view c.sender.pass).put ≡ map (λ k. k.item) c.kept.items) };
+}
+
+impl<N: EngineName> Client<N> {
+    pub(crate) fn new(
+        alloc: Global,
+        replica: ReplicaId,
+        number: usize,
+        serials: u64,
+        seat: Seat<N>,
+        sender: Sender<N>,
+    ) -> Client<N>
+        requires { ((pass_view sender.pass).from ≡ number) × ((pass_view sender.pass).put ≡ []) }
+        ensures { (result.replica ≡ replica) × (result.number ≡ number) × (result.serials ≡ serials) × (result.queue ≡ sender.pass.table_id) × (result.capacity ≡ ruled_capacity (arc_value sender.queue)) × (result.kept ≡ []) × (result.seen ≡ seat.seen) }
+    {
+        Client {
+            replica,
+            number,
+            serials,
+            seat,
+            sender,
+            kept: Vec::new(alloc),
+        }
+    }
+
+    /// Submits a command to the writer. The floor is what the client has seen: no answer names a length below it. Clones the
+    /// command once, which stays with the client, as the item stays with the answer. Waits for the queue.
+    ///
+    /// # Errors
+    /// `SerialEnd` if all serials are used, else `NoMemory` if allocation fails, else `QueueFull` if the queue was full at one
+    /// moment of the call. A refused call takes no serial.
+    pub fn submit(
+        &mut self,
+        rt: &impl Wait,
+        alloc: Global,
+        command: Command,
+    ) -> Result<Ticket, Refusal>
+        ensures ticket { IfOk result (λ t. t ≡ record { replica = self.old.replica; client = self.old.number; serial = length self.old.kept + 1 }) }
+        ensures kept { MatchResult result
+            (λ _. self.new ≡ record self.old { kept = self.old.kept ++ (record { item = record { client = self.old.number; serial = length self.old.kept + 1; floor = length self.old.seen; request = OfCommand command }; known = None }) ∷ [] })
+            (λ _. self.new ≡ self.old) }
+        ensures full { result ≡ Err QueueFull → (items : List AnItem) × (length items ≡ self.old.capacity) × Moment (sender_hand self.old.number (items_by self.old)) items }
+        ensures end { (result ≡ Err SerialEnd) ↔ (self.old.serials ≤ length self.old.kept) }
+        ensures err { IfErr result (λ why. (why ≡ SerialEnd) ⊎ (why ≡ NoMemory) ⊎ (why ≡ QueueFull)) }
+    {
+        self.send(rt, alloc, Request::Command(command))
+    }
+
+    /// Submits an operation that a peer sent, as `submit` does a command.
+    ///
+    /// # Errors
+    /// As `submit`.
+    pub fn deliver(&mut self, rt: &impl Wait, alloc: Global, op: Op) -> Result<Ticket, Refusal>
+        ensures ticket { IfOk result (λ t. t ≡ record { replica = self.old.replica; client = self.old.number; serial = length self.old.kept + 1 }) }
+        ensures kept { MatchResult result
+            (λ _. self.new ≡ record self.old { kept = self.old.kept ++ (record { item = record { client = self.old.number; serial = length self.old.kept + 1; floor = length self.old.seen; request = OfPeer op }; known = None }) ∷ [] })
+            (λ _. self.new ≡ self.old) }
+        ensures full { result ≡ Err QueueFull → (items : List AnItem) × (length items ≡ self.old.capacity) × Moment (sender_hand self.old.number (items_by self.old)) items }
+        ensures end { (result ≡ Err SerialEnd) ↔ (self.old.serials ≤ length self.old.kept) }
+        ensures err { IfErr result (λ why. (why ≡ SerialEnd) ⊎ (why ≡ NoMemory) ⊎ (why ≡ QueueFull)) }
+    {
+        self.send(rt, alloc, Request::Peer(op))
+    }
+
+    /// Submits a request under the next serial.
+    fn send(&mut self, rt: &impl Wait, alloc: Global, request: Request) -> Result<Ticket, Refusal>
+        ensures ticket { IfOk result (λ t. t ≡ record { replica = self.old.replica; client = self.old.number; serial = length self.old.kept + 1 }) }
+        ensures kept { MatchResult result
+            (λ _. self.new ≡ record self.old { kept = self.old.kept ++ (record { item = record { client = self.old.number; serial = length self.old.kept + 1; floor = length self.old.seen; request = request }; known = None }) ∷ [] })
+            (λ _. self.new ≡ self.old) }
+        ensures full { result ≡ Err QueueFull → (items : List AnItem) × (length items ≡ self.old.capacity) × Moment (sender_hand self.old.number (items_by self.old)) items }
+        ensures end { (result ≡ Err SerialEnd) ↔ (self.old.serials ≤ length self.old.kept) }
+        ensures err { IfErr result (λ why. (why ≡ SerialEnd) ⊎ (why ≡ NoMemory) ⊎ (why ≡ QueueFull)) }
+    {
+        if self.kept.len() as u64 >= self.serials {
+            return Err(Refusal::SerialEnd);
+        }
+        let serial = self.kept.len() as u64 + 1;
+        let item = Item {
+            client: self.number,
+            serial,
+            floor: self.seat.seen_len(),
+            request,
+        };
+        let Ok((envelope, kept)) = envelope_for::<N>(alloc, item) else {
+            return Err(Refusal::NoMemory);
+        };
+        if self.kept.reserve(1).is_err() {
+            return Err(Refusal::NoMemory);
+        }
+        match self.sender.send(rt, envelope) {
+            Ok(()) => {
+                self.kept.push_reserved(kept);
+                Ok(Ticket {
+                    replica: self.replica,
+                    client: self.number,
+                    serial,
+                })
+            }
+            Err((refusal, _envelope)) => Err(refusal),
+        }
+    }
+
+    /// Takes the client apart for `close`: its sender goes back to the taker, and the notice begins with all that it had seen.
+    pub(crate) fn end(self, rt: &impl Wait, taker: &mut Taker<N>, notice: &Notice<N>)
+        requires queue { self.queue ≡ taker.old.pass.table_id }
+        requires number { self.number ≡ length (pass_view taker.old.pass).known }
+        ensures taker { (taker.new.pass.table_id ≡ taker.old.pass.table_id) × ((pass_view taker.new.pass).got ≡ (pass_view taker.old.pass).got) × ((pass_view taker.new.pass).known ≡ (pass_view taker.old.pass).known ++ items_by self ∷ []) }
+        ensures seen { BeginsWith notice.now self.seen }
+    {
+        let Client { seat, sender, .. } = self;
+        taker.end(sender);
+        if !seat.begins(notice) {
+            // Never: what a seat has seen was published before, and the notice is of all that was. No contract says so.
+            for _ in rt.forever() {}
+            unreachable!()
+        }
+    }
+
+    /// The reply to the ticket's submission, once the writer has answered it, or none. From then on the client has seen all
+    /// that was published with the answer. Never waits; takes no memory. Linear in the size of what was submitted.
+    ///
+    /// # Errors
+    /// `Foreign` if the ticket is of another engine's number or another client, or of a serial that wasn't taken.
+    pub fn poll(&mut self, ticket: &Ticket) -> Result<Option<Reply>, Refusal>
+        ensures mine { MatchResult result (λ _. IsMine self.old ticket.now) (λ e. (e ≡ Foreign) × (IsMine self.old ticket.now → ⊥) × (self.new ≡ self.old)) }
+        ensures grows { BeginsWith self.new.seen self.old.seen }
+        ensures same { self.new ≡ record self.old { seen = self.new.seen; kept = self.new.kept } }
+        ensures items { items_by self.new ≡ items_by self.old }
+        ensures polls { IfOk result (λ o. Polls self.old self.new (ticket.now.serial - 1) o) }
+        ensures legal { IfOk result (λ o. IfSome o (λ r. (x : AnItem) × (slice_get (items_by self.old) (ticket.now.serial - 1) ≡ Some x) × IsAnswer N.own N.table self.new.seen (submitted_of N.table x) (reply_of r))) }
+    {
+        if !self.is_mine(ticket) {
+            return Err(Refusal::Foreign);
+        }
+        let kept = &mut self.kept[ticket.serial as usize - 1];
+        let Some((reply, notice)) = kept.look() else {
+            return Ok(None);
+        };
+        self.seat.learn(&notice);
+        Ok(Some(reply))
+    }
+
+    /// The notice of the ticket's answer, once the writer has answered it, or none. Never waits; takes no memory.
+    ///
+    /// # Errors
+    /// `Foreign`, as `poll`.
+    pub fn notice_of(&self, ticket: &Ticket) -> Result<Option<&Notice<N>>, Refusal>
+        ensures mine { MatchResult result (λ _. IsMine self.now ticket.now) (λ e. (e ≡ Foreign) × (IsMine self.now ticket.now → ⊥)) }
+        ensures legal { IfOk result (λ o. IfSome o (λ n. (x : AnItem) × (g : Given) × (slice_get (items_by self.now) (ticket.now.serial - 1) ≡ Some x) × (n.now ≡ g.history) × IsAnswer N.own N.table g.history (submitted_of N.table x) (reply_of g.reply))) }
+    {
+        if !self.is_mine(ticket) {
+            return Err(Refusal::Foreign);
+        }
+        Ok(self.kept[ticket.serial as usize - 1].notice())
+    }
+
+    /// Whether the client was given this ticket.
+    fn is_mine(&self, ticket: &Ticket) -> bool
+        ensures { MatchBool result (IsMine self.now ticket.now) (IsMine self.now ticket.now → ⊥) }
+    {
+        ticket.replica == self.replica
+            && ticket.client == self.number
+            && ticket.serial > 0
+            && ticket.serial <= self.kept.len() as u64
+    }
+
+    /// How many entries the client has seen.
+    pub fn seen_len(&self) -> usize
+        ensures length { result ≡ length self.now.seen }
+        ensures legal { IsEntryHistory N.own self.now.seen }
+    {
+        self.seat.seen_len()
+    }
+
+    /// The table of the engine's members, which indexes the vectors of its questions and readings.
+    pub fn table(&self) -> &ReplicaTable
+        ensures { result.now ≡ N.table }
+    {
+        self.seat.table()
+    }
+
+    /// Learns of a notice of the same engine: has seen the longer of the two histories from then on. Never waits.
+    pub fn learn(&mut self, notice: &Notice<N>)
+        ensures grows { BeginsWith self.new.seen self.old.seen }
+        ensures learns { BeginsWith self.new.seen notice.now }
+        ensures one { (self.new.seen ≡ self.old.seen) ⊎ (self.new.seen ≡ notice.now) }
+        ensures same { self.new ≡ record self.old { seen = self.new.seen } }
+    {
+        self.seat.learn(notice);
+    }
+
+    /// Answers a question from what is published at the one step of this read, which the client has then seen. Never waits.
+    ///
+    /// # Errors
+    /// As a `ReaderToken`'s.
+    pub fn ask(&mut self, alloc: Global, question: &Question) -> Result<Reading, Refusal>
+        requires { IsBeside N.table question.now }
+        ensures grows { BeginsWith self.new.seen self.old.seen }
+        ensures legal { IsEntryHistory N.own self.new.seen }
+        ensures answer { IfOk result (λ r. said_by N.table r ≡ reading_of self.new.seen (asked_of N.table question.now)) }
+        ensures view { IfOk result (λ r. (q : TheQuestion) → asked_of N.table question.now ≡ OfDocument q → said_by N.table r ≡ Answered (view (applied self.new.seen) q)) }
+        ensures err { IfErr result (λ why. (why ≡ NoMemory) ⊎ (why ≡ NoReading) ⊎ (reading_of self.new.seen (asked_of N.table question.now) ≡ Answered (Refused why))) }
+        ensures view_refuses { IfErr result (λ why. (why ≡ NoMemory) ⊎ (why ≡ NoReading) ⊎ ((q : TheQuestion) → asked_of N.table question.now ≡ OfDocument q → view (applied self.new.seen) q ≡ Refused why)) }
+        ensures published { MatchResult result (λ _. self.new.read ≡ self.new.seen) (λ why. (why ≡ NoMemory) ⊎ (why ≡ NoReading) ⊎ (self.new.read ≡ self.new.seen)) }
+        ensures same { self.new ≡ record self.old { seen = self.new.seen; read = self.new.read } }
+    {
+        self.seat.ask(alloc, question)
+    }
+}
+
+/// The envelope of an item, with a blank answer and an empty cell, and what the client keeps of it. Clones the item once.
+///
+/// # Errors
+/// `NoMemory` if allocation fails.
+fn envelope_for<N: EngineName>(alloc: Global, item: Item) -> Result<(Envelope<N>, Kept<N>), Refusal>
+    ensures item { IfOk result (λ r. (r.0.answer.value.item ≡ item) × (r.1.item ≡ item) × (r.1.known ≡ None)) }
+    ensures err { IfErr result (λ why. why ≡ NoMemory) }
+{
+    let copy = item.clone()?;
+    let answer = Box::new(alloc, Answer::blank(item))?;
+    let cell = Arc::new(alloc, OnceBox::new(alloc))?;
+    let again = Arc::try_clone(&cell)?;
+    let envelope = Envelope {
+        answer,
+        cell: again,
+    };
+    Ok((envelope, Kept::new(copy, cell)))
+}

@@ -1,0 +1,58 @@
+//! How an engine is closed.
+
+ghost use Rattle.std.specs.Prelude.{◌≡◌, ◌+◌, ◌++◌, ℕ, List, length, Some, slice_get};
+ghost use Rattle.semantics.specs.Batches.{AsksFor};
+ghost use Rattle.semantics.specs.Entries.{IsEntryHistory, Own, entry_at};
+ghost use Rattle.semantics.specs.Making.{Command};
+ghost use Rattle.semantics.specs.Stamped.{Stamped};
+ghost use Rattle.semantics.specs.WorldHistory.{BeginsWith};
+ghost use Rattle.oplog.specs.Logs.{history};
+ghost use Rattle.items.specs.declared.item.Item.{Item as AnItem};
+ghost use Rattle.command.specs.Fifo.{of};
+ghost use Rattle.engine.specs.Clients.{Client as TheClient, AreClients, items_by};
+ghost use Rattle.engine.specs.Turns.{submitted_in};
+
+use crate::client::Client;
+use crate::writer::Writer;
+use operation::Entry;
+use published::EngineName;
+use std::sync::Wait;
+
+/// What is left of an engine: the published history, the oldest entry first, and how many items weren't answered.
+#[derive(Drop)]
+pub struct Final {
+    pub history: Vec<Entry>,
+    pub left: u64,
+}
+
+/// Closes the engine of this writer and these clients, which are all that it has, in the order of their numbers. Waits for
+/// readers that still read. Takes no memory, and copies nothing. If a client had seen more than is published it would wait for
+/// good; nothing lets that happen, but no rule says so.
+pub fn close<N: EngineName>(rt: &impl Wait, writer: Writer<N>, clients: Vec<Client<N>>) -> Final
+    requires { AreClients writer.queue 0 clients.items }
+    ensures history { (history N.table result.history.items ≡ writer.published) × IsEntryHistory N.own writer.published }
+    ensures seen { (k : ℕ) (c : TheClient) → slice_get clients.items k ≡ Some c → BeginsWith writer.published c.seen }
+    ensures own { (k : ℕ) (c : TheClient) → slice_get clients.items k ≡ Some c → (n serial : ℕ) (command : Command) (s : Stamped) →
+        entry_at n writer.published ≡ Some (Own k serial command s) → AsksFor (submitted_in N.table (items_by c)) serial command }
+    ensures taken { (queued : List AnItem) × (result.left ≡ length writer.held + length queued)
+        × ((k : ℕ) (c : TheClient) → slice_get clients.items k ≡ Some c → of k (writer.took ++ queued) ≡ items_by c) }
+{
+    let Writer {
+        publisher,
+        handler: _handler,
+        mut taker,
+        held,
+        batch: _,
+    } = writer;
+    let notice = publisher.notice();
+    let _ = notice.len();
+    for client in clients {
+        client.end(rt, &mut taker, &notice);
+    }
+    let left = held.len() as u64 + taker.rest(rt) as u64;
+    let (document, _notice) = publisher.end(rt);
+    Final {
+        history: document.into_entries(),
+        left,
+    }
+}

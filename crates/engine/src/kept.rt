@@ -1,0 +1,80 @@
+//! What a client keeps of a serial.
+
+ghost use Rattle.std.specs.Prelude.{◌≡◌, Some, None, MatchOption, IfSome};
+ghost use Rattle.items.specs.Meanings.{answer_of as reply_of, submitted_of};
+ghost use Rattle.semantics.specs.Receipts.{IsAnswer};
+ghost use Rattle.command.specs.Answers.{Given as TheGiven};
+ghost use Rattle.engine.specs.Clients.{answer_in, answer_of};
+
+use command::{Answer, Given};
+use items::{Item, Reply};
+use once_cell::race::{Note, OnceBox};
+use published::{EngineName, Notice};
+use std::marker::Model;
+use std::sync::Arc;
+
+/// What was submitted under a serial, and the cell of its answer. Contracts see the item, and what the cell is known to hold.
+#[derive(Drop)]
+pub struct Kept<N: EngineName> {
+    item: Item,
+    cell: Arc<OnceBox<Answer<N>>>,
+    note: Note<Answer<N>>,
+}
+
+impl<N: EngineName> Model for Kept<N> {
+    ghost use Rattle.std.specs.Prelude.{◌≡◌};
+    ghost use Rattle.std.specs.Arc.{arc_value};
+    ghost use Rattle.std.specs.Coded.{codes};
+    ghost use Rattle.semantics.specs.Codes.{coded_element};
+    ghost use Rattle.once_cell.specs.Once.{cell_name};
+    ghost use Rattle.engine.specs.Clients.{Keeps};
+
+    ghost Value = { Keeps };
+
+    ghost coded = { Prim.hlevel (codes, coded_element) };
+
+    ghost view = { λ k. record { item = k.item; known = k.note.known } };
+
+    ghost invariant = { λ k. k.note.cell ≡ cell_name (arc_value k.cell) };
+}
+
+impl<N: EngineName> Kept<N> {
+    /// Keeps an item whose answer the cell will hold.
+    pub fn new(item: Item, cell: Arc<OnceBox<Answer<N>>>) -> Kept<N>
+        ensures { (result.item ≡ item) × (result.known ≡ None) }
+    {
+        let note = cell.note();
+        Kept { item, cell, note }
+    }
+
+    /// The reply and its notice, once they are there; from then on always the same. Never waits.
+    pub fn look(&mut self) -> Option<(Reply, Notice<N>)>
+        ensures item { self.new.item ≡ self.old.item }
+        ensures known { IfSome self.old.known (λ a. self.new.known ≡ Some a) }
+        ensures answer { MatchOption result (answer_of self.new ≡ None)
+            (λ r. (answer_of self.new ≡ Some (record { reply = r.0; history = r.1 })) × IsAnswer N.own N.table r.1 (submitted_of N.table self.old.item) (reply_of r.0)) }
+    {
+        let answer = self.cell.get_as(&mut self.note)?;
+        let given = given_to(answer, &self.item)?;
+        Some((given.reply, given.notice.again()))
+    }
+
+    /// The notice of the answer, once it is there. Never waits.
+    pub fn notice(&self) -> Option<&Notice<N>>
+        ensures { IfSome result (λ n. (g : TheGiven) × (n.now ≡ g.history) × IsAnswer N.own N.table g.history (submitted_of N.table self.now.item) (reply_of g.reply)) }
+    {
+        let given = given_to(self.cell.get()?, &self.item)?;
+        Some(&given.notice)
+    }
+}
+
+/// What an answer gives to the item, which is none where another item is answered.
+fn given_to<'a, N: EngineName>(answer: &'a Answer<N>, item: &Item) -> Option<&'a Given<N>>
+    ensures { MatchOption result (answer_in item.now (Some answer.now) ≡ None)
+        (λ g. (answer_in item.now (Some answer.now) ≡ Some (record { reply = g.now.reply; history = g.now.notice })) × IsAnswer N.own N.table g.now.notice (submitted_of N.table item.now) (reply_of g.now.reply)) }
+{
+    if !answer.item().is_same(item) {
+        return None;
+    }
+    answer.given()
+}

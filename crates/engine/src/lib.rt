@@ -1,0 +1,22 @@
+//! An engine: one writer thread that owns a replica, clients that submit from their own threads, and readers that ask without
+//! locks.
+//!
+//! `prepare` and `open` give a writer, clients and reader tokens. A client submits a command and gets a ticket; the writer's
+//! `step` handles what waits in the queue, publishes, and answers; the client polls its ticket. Any token asks at any time.
+//! Only `open`, `submit`, `deliver`, `step` and `close` may wait for another thread.
+#![tactic(auto)]
+
+mod client;
+mod closing;
+mod kept;
+mod opening;
+#[cfg(test)]
+mod tests;
+mod writer;
+
+pub use client::Client;
+pub use closing::{Final, close};
+pub use command::Ticket;
+pub use opening::{Parts, open, prepare};
+pub use published::{EngineName, Notice, Seat as ReaderToken};
+pub use writer::{Step, Writer};

@@ -1,0 +1,172 @@
+//! How an engine is opened.
+
+ghost use Rattle.std.specs.Prelude.{◌≡◌, ◌+◌, ◌<◌, ◌≤◌, ◌⊎◌, ◌↔◌, [], length, true, Err, IfOk, IfErr, IsTrue, IsFalse, vec_capacity};
+ghost use Rattle.std.specs.List.{All};
+ghost use Rattle.std.specs.Coded.{codes};
+ghost use Rattle.semantics.specs.Codes.{coded_element};
+ghost use Rattle.std.specs.Arc.{arc_value};
+ghost use Rattle.crossbeam_queue.specs.Passes.{ruled_capacity, view};
+ghost use Rattle.command.specs.Fifo.{taker_hand};
+ghost use Rattle.ids.specs.declared.refusal.Refusal.TheVariants.{BadConfig, NoMemory, NoReaderPlace};
+ghost use Rattle.ids.specs.Configurations.{are_members, is_within_limits};
+ghost use Rattle.ids.specs.Members.{in_order};
+ghost use Rattle.engine.specs.Clients.{AreClients, IsNewClient};
+
+use crate::client::Client;
+use crate::writer::{Handled, Writer};
+use command::{Queue, Taker};
+use document::Document;
+use ids::{Config, Refusal, ReplicaId};
+use published::{EngineName, Opened, Seat};
+use replica::Replica;
+use std::alloc::Global;
+use std::sync::Wait;
+
+/// The parts of a new engine, which has no name yet: `open` is called with a type that names it.
+#[derive(Drop)]
+pub struct Parts {
+    config: Config,
+    opened: Opened,
+    own: ReplicaId,
+    replica: Replica,
+    first: Document,
+    second: Document,
+    pub ghost good: { is_within_limits config ≡ true },
+    pub ghost numbered: { (own ≡ config.own) × (replica.own ≡ config.own) },
+    pub ghost members: { (replica.document.table ≡ in_order config.members) × (first.table ≡ in_order config.members) × (second.table ≡ in_order config.members) },
+    pub ghost empty: { (replica.document.entries ≡ []) × (first.entries ≡ []) × (second.entries ≡ []) } by { Prim.hlevel (codes, coded_element) },
+}
+
+/// Makes the parts of an engine with this configuration: an empty replica, and two empty documents for its readers.
+///
+/// # Errors
+/// `BadConfig` if a number is outside its limits, a member stands twice or the own number isn't a member; else `NoMemory` if
+/// allocation fails.
+pub fn prepare(alloc: Global, config: Config) -> Result<Parts, Refusal>
+    ensures config { IfOk result (λ p. p.config ≡ config) }
+    ensures bad_config { (result ≡ Err BadConfig) ↔ IsFalse (is_within_limits config) }
+    ensures err { IfErr result (λ why. (why ≡ BadConfig) ⊎ (why ≡ NoMemory)) }
+{
+    config.check()?;
+    let own = own_number(&config);
+    let replica = Replica::new(alloc, config.own, &config.members)?;
+    let (first, second) = two_documents(alloc, &config.members)?;
+    Ok(Parts {
+        config,
+        opened: Opened::new(),
+        own,
+        replica,
+        first,
+        second,
+    })
+}
+
+/// The own number of a configuration within its limits.
+fn own_number(config: &Config) -> ReplicaId
+    requires { is_within_limits config.now ≡ true }
+    ensures { result ≡ config.now.own }
+{
+    let Some(own) = ReplicaId::new(config.own) else {
+        unreachable!()
+    };
+    own
+}
+
+/// Two empty documents of these members.
+///
+/// # Errors
+/// As `Document::new`.
+fn two_documents(alloc: Global, members: &[u32]) -> Result<(Document, Document), Refusal>
+    ensures tables { IfOk result (λ r. (r.0.table ≡ in_order members.now) × (r.1.table ≡ in_order members.now)) }
+    ensures empty { IfOk result (λ r. (r.0.entries ≡ []) × (r.1.entries ≡ [])) }
+    ensures bad_config { (result ≡ Err BadConfig) ↔ IsFalse (are_members members.now) }
+    ensures err { IfErr result (λ why. (why ≡ BadConfig) ⊎ (why ≡ NoMemory)) }
+{
+    let first = Document::new(alloc, members)?;
+    let second = Document::new(alloc, members)?;
+    Ok((first, second))
+}
+
+/// Opens an engine: returns its writer, its clients numbered from 0, and its readers. `N` names the engine: it is picked for
+/// these parts by whoever calls, and what carries it is of this engine. Takes the permission to wait for the case that it is refused
+/// halfway and ends the copies again; no reader is there yet to wait for.
+///
+/// # Errors
+/// `NoReaderPlace` if the copies have no place for a reader, which can come without cause; `NoMemory` if allocation fails.
+pub fn open<N: EngineName>(
+    rt: &impl Wait,
+    alloc: Global,
+    parts: Parts,
+) -> Result<(Writer<N>, Vec<Client<N>>, Vec<Seat<N>>), Refusal>
+    requires book { parts.opened.seen.book ≡ N.book }
+    requires own { parts.config.own ≡ N.own }
+    requires table { in_order parts.config.members ≡ N.table }
+    ensures writer { IfOk result (λ r. (r.0.handler.replica.entries ≡ []) × (r.0.published ≡ []) × (r.0.took ≡ []) × (r.0.held ≡ []) × (r.0.batch ≡ parts.config.batch)) }
+    ensures clients { IfOk result (λ r. AreClients r.0.queue 0 r.1.items × (length r.1.items ≡ parts.config.clients) × All (IsNewClient parts.config) r.1.items) }
+    ensures readers { IfOk result (λ r. (length r.2.items ≡ parts.config.readers) × All (λ s. s.seen ≡ []) r.2.items) }
+    ensures err { IfErr result (λ why. (why ≡ NoMemory) ⊎ (why ≡ NoReaderPlace)) }
+{
+    let Parts {
+        config,
+        opened,
+        own,
+        replica,
+        first,
+        second,
+    } = parts;
+    let tokens = config.clients as usize + config.readers as usize;
+    let (publisher, mut seats) = published::open::<N>(rt, alloc, opened, first, second, tokens)?;
+    match new_ends::<N>(alloc, &config, own, &mut seats) {
+        Ok((taker, held, clients)) => {
+            let batch = config.batch as usize;
+            let writer = Writer::new(publisher, replica, taker, held, batch);
+            Ok((writer, clients, seats))
+        }
+        Err(refusal) => {
+            let _ended = publisher.end(rt);
+            Err(refusal)
+        }
+    }
+}
+
+/// The writer's end of a new queue, an empty batch with its room, and a client for each of the last seats.
+fn new_ends<N: EngineName>(
+    alloc: Global,
+    config: &Config,
+    own: ReplicaId,
+    seats: &mut Vec<Seat<N>>,
+) -> Result<(Taker<N>, Vec<Handled<N>>, Vec<Client<N>>), Refusal>
+    requires good { is_within_limits config.now ≡ true }
+    requires own { own ≡ config.now.own }
+    requires seats { length seats.old.items ≡ config.now.clients + config.now.readers }
+    requires unseen { All (λ s. s.seen ≡ []) seats.old.items }
+    ensures taker { IfOk result (λ r. ((view r.0.pass).got ≡ []) × ((view r.0.pass).known ≡ [])) }
+    ensures held { IfOk result (λ r. (r.1.items ≡ []) × (config.now.batch ≤ vec_capacity r.1)) }
+    ensures clients { IfOk result (λ r. AreClients r.0.pass.table_id 0 r.2.items × (length r.2.items ≡ config.now.clients) × All (IsNewClient config.now) r.2.items) }
+    ensures readers { IfOk result (λ r. (length seats.new.items ≡ config.now.readers) × All (λ s. s.seen ≡ []) seats.new.items) }
+    ensures err { IfErr result (λ why. why ≡ NoMemory) }
+{
+    let mut held = Vec::new(alloc);
+    held.reserve(config.batch as usize)?;
+    let mut taker = new_queue::<N>(alloc, config)?;
+    let mut clients = Vec::new(alloc);
+    clients.reserve(config.clients as usize)?;
+    for number in 0..config.clients as usize {
+        let Some(seat) = seats.pop() else {
+            unreachable!()
+        };
+        let sender = taker.sender()?;
+        let serials = u64::from(config.serials);
+        clients.push_reserved(Client::new(alloc, own, number, serials, seat, sender));
+    }
+    Ok((taker, held, clients))
+}
+
+/// The writer's end of an empty queue.
+fn new_queue<N: EngineName>(alloc: Global, config: &Config) -> Result<Taker<N>, Refusal>
+    requires { is_within_limits config.now ≡ true }
+    ensures empty { IfOk result (λ t. (view t.pass ≡ taker_hand [] 0 []) × (ruled_capacity (arc_value t.queue) ≡ config.now.queue)) }
+    ensures err { IfErr result (λ why. why ≡ NoMemory) }
+{
+    Queue::new(alloc, config.queue as usize)
+}

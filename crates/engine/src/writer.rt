@@ -1,0 +1,268 @@
+//! The writer: it takes what clients submitted, handles it, publishes, and only then answers.
+
+ghost use Rattle.std.specs.Prelude.{◌≡◌, ◌<◌, ◌≤◌, ◌++◌, [], List, MatchBool, length, map, vec_capacity};
+ghost use Rattle.crossbeam_queue.specs.Passes.{view};
+ghost use Rattle.semantics.specs.Engine.{Handled as TheHandled};
+ghost use Rattle.semantics.specs.Entries.{IsAbove};
+ghost use Rattle.semantics.specs.Replica.{IsRunning};
+ghost use Rattle.semantics.specs.Handling.{Handles};
+ghost use Rattle.semantics.specs.Batches.{AreAnswers, IsBatch, ComeFrom, items_of};
+ghost use Rattle.semantics.specs.Publication.{Holds};
+ghost use Rattle.items.specs.declared.item.Item.{Item as AnItem};
+ghost use Rattle.items.specs.Meanings.{submitted_of};
+ghost use Rattle.replica.specs.Replicas.{replica_of};
+ghost use Rattle.handling.specs.Meanings.{handler_of};
+ghost use Rattle.engine.specs.Turns.{Ends, IsTurn, Shows, WasEmpty, publication_of, submitted_in};
+
+use command::{Envelope, Taker};
+use handling::Handler;
+use items::Reply;
+use published::{EngineName, Notice, Publisher};
+use replica::Replica;
+use std::alloc::Global;
+use std::marker::Model;
+use std::sync::Wait;
+
+/// What a step did.
+#[derive(Clone, Copy, Debug, PartialEq, Eq)]
+pub enum Step {
+    /// Nothing was taken, and there was nothing to publish.
+    Idle,
+    /// All entries are published, and so many items were answered.
+    Published(usize),
+    /// Allocation failed in the publish. The batch stays whole, and none of it is answered.
+    Held,
+}
+
+/// An item that was handled, and waits for the publish. Contracts see the submission and its reply.
+#[derive(Drop)]
+pub struct Handled<N: EngineName> {
+    pub envelope: Envelope<N>,
+    pub reply: Reply,
+}
+
+impl<N: EngineName> Model for Handled<N> {
+    ghost use Rattle.std.specs.Coded.{codes};
+    ghost use Rattle.semantics.specs.Codes.{coded_element};
+    ghost use Rattle.semantics.specs.Engine.{Handled};
+    ghost use Rattle.items.specs.Meanings.{answer_of, submitted_of};
+
+    ghost Value = { Handled };
+
+    ghost coded = { Prim.hlevel (codes, coded_element) };
+
+    ghost view = { λ h. record { submitted = submitted_of N.table h.envelope.answer.value.item; reply = answer_of h.reply } };
+}
+
+/// The one writer of an engine, which owns the replica. It isn't `Drop`: call `close`.
+pub struct Writer<N: EngineName> {
+    pub(crate) publisher: Publisher<N>,
+    pub(crate) handler: Handler,
+    pub(crate) taker: Taker<N>,
+    /// Handled and not answered, the oldest first, with room for a batch.
+    pub(crate) held: Vec<Handled<N>>,
+    pub(crate) batch: usize,
+}
+
+impl<N: EngineName> Model for Writer<N> {
+    ghost use Rattle.std.specs.Prelude.{vec_capacity};
+    ghost use Rattle.std.specs.Coded.{codes};
+    ghost use Rattle.semantics.specs.Codes.{coded_element};
+    ghost use Rattle.crossbeam_queue.specs.Passes.{view as view_of};
+    ghost use Rattle.handling.specs.Meanings.{handler_of};
+    ghost use Rattle.engine.specs.Turns.{Writer, IsWriter};
+
+    ghost Value = { Writer };
+
+    ghost coded = { Prim.hlevel (codes, coded_element) };
+
+    ghost view = { λ w. record { queue = w.taker.pass.table_id; batch = w.batch; handler = handler_of w.handler; published = w.publisher.published; took = (view_of w.taker.pass).got; held = w.held.items } };
+
+    ghost invariant = { λ w. IsWriter N.own N.table w.publisher (handler_of w.handler) (view_of w.taker.pass) w.held.items w.batch (vec_capacity w.held) };
+}
+
+impl<N: EngineName> Writer<N> {
+    /// The writer of a new engine, with room for a batch.
+    pub(crate) fn new(
+        publisher: Publisher<N>,
+        replica: Replica,
+        taker: Taker<N>,
+        held: Vec<Handled<N>>,
+        batch: usize,
+    ) -> Writer<N>
+        requires name { (replica.own ≡ N.own) × (replica.document.table ≡ N.table) }
+        requires none { (publisher.appended ≡ []) × (replica.document.entries ≡ []) × ((view taker.pass).got ≡ []) × ((view taker.pass).known ≡ []) × (held.items ≡ []) }
+        requires batch { (0 < batch) × (batch ≤ vec_capacity held) }
+        ensures { (result.queue ≡ taker.pass.table_id) × (result.batch ≡ batch) × (result.handler.replica ≡ replica_of replica) × (result.published ≡ publisher.published) × (result.took ≡ []) × (result.held ≡ []) }
+    {
+        let _ = replica.document();
+        Writer {
+            publisher,
+            handler: Handler::new(replica),
+            taker,
+            held,
+            batch,
+        }
+    }
+
+    /// A notice of what is published, which any token of the engine may learn.
+    pub fn notice(&self) -> Notice<N>
+        ensures { result ≡ self.now.published }
+    {
+        self.publisher.notice()
+    }
+
+    /// How many operations of peers were dropped because they turned out unlawful; stays at 18446744073709551615.
+    pub fn dropped(&self) -> u64
+        ensures { result ≡ self.now.handler.replica.dropped }
+    {
+        self.handler.replica.dropped()
+    }
+
+    /// Goes on with a drain that ended early; takes up to a batch of items and handles them one after another; publishes all
+    /// entries at once; and then answers the items, the oldest first. If a batch is held, publishes and answers that, and does
+    /// nothing else. Waits for the queue and for readers of the copy that is brought up to date.
+    pub fn step(&mut self, rt: &impl Wait, alloc: Global) -> Step
+        ensures same { (self.new.queue ≡ self.old.queue) × (self.new.batch ≡ self.old.batch) × (0 < self.new.batch) }
+        ensures fresh { length self.old.held ≡ 0 → (hs : List TheHandled) × IsTurn N.table self.old hs self.new × Ends self.old hs result self.new }
+        ensures again { 0 < length self.old.held → Shows self.old result self.new }
+    {
+        if self.held.is_empty() {
+            self.turn(rt, alloc)
+        } else {
+            self.show(rt)
+        }
+    }
+
+    /// A step that begins with nothing held.
+    fn turn(&mut self, rt: &impl Wait, alloc: Global) -> Step
+        requires { length self.old.held ≡ 0 }
+        ensures same { (self.new.queue ≡ self.old.queue) × (self.new.batch ≡ self.old.batch) × (0 < self.new.batch) }
+        ensures turn { (hs : List TheHandled) × IsTurn N.table self.old hs self.new × Ends self.old hs result self.new }
+    {
+        self.take_all(rt, alloc);
+        if self.is_done() {
+            return Step::Idle;
+        }
+        self.show(rt)
+    }
+
+    /// Goes on with a drain that ended early, and then handles up to a batch of items.
+    fn take_all(&mut self, rt: &impl Wait, alloc: Global)
+        requires { length self.old.held ≡ 0 }
+        ensures same { (self.new.queue ≡ self.old.queue) × (self.new.batch ≡ self.old.batch) × (self.new.published ≡ self.old.published) × (0 < self.new.batch) }
+        ensures turn { IsTurn N.table self.old self.new.held self.new }
+        ensures early { length self.new.held < self.new.batch → WasEmpty self.new.took }
+    {
+        self.handler.resume(alloc, &mut self.publisher);
+        fill(
+            rt,
+            alloc,
+            &mut self.publisher,
+            &mut self.handler,
+            &mut self.taker,
+            &mut self.held,
+            self.batch,
+        );
+    }
+
+    /// Whether nothing is held and all entries are published.
+    fn is_done(&self) -> bool
+        ensures { MatchBool result
+            ((self.now.held ≡ []) × (self.now.published ≡ self.now.handler.replica.entries))
+            (length self.now.held ≡ 0 → length self.now.published < length self.now.handler.replica.entries) }
+    {
+        if !self.held.is_empty() {
+            return false;
+        }
+        is_all_published(&self.publisher, &self.handler)
+    }
+
+    /// Publishes all entries, and then answers what is held.
+    fn show(&mut self, rt: &impl Wait) -> Step
+        ensures shows { Shows self.old result self.new }
+        ensures positive { 0 < self.new.batch }
+    {
+        let count = self.held.len();
+        if self.publisher.publish(rt).is_err() {
+            return Step::Held;
+        }
+        let notice = self.publisher.notice();
+        give(&mut self.held, &notice);
+        Step::Published(count)
+    }
+}
+
+/// Whether all entries are published.
+fn is_all_published<N: EngineName>(publisher: &Publisher<N>, handler: &Handler) -> bool
+    requires { publisher.now.appended ≡ handler.now.replica.document.entries }
+    ensures { MatchBool result (publisher.now.published ≡ handler.now.replica.document.entries) (length publisher.now.published < length handler.now.replica.document.entries) }
+{
+    publisher.notice().len() >= handler.replica.history_len()
+}
+
+/// Fills an empty batch. Ends early if the queue is found empty.
+fn fill<N: EngineName>(
+    rt: &impl Wait,
+    alloc: Global,
+    publisher: &mut Publisher<N>,
+    handler: &mut Handler,
+    taker: &mut Taker<N>,
+    held: &mut Vec<Handled<N>>,
+    batch: usize,
+)
+    requires empty { length held.old.items ≡ 0 }
+    requires room { batch ≤ vec_capacity held.old }
+    requires holds { Holds (publication_of N.own N.table publisher.old) (replica_of handler.old.replica) }
+    requires running { IsRunning (replica_of handler.old.replica) }
+    requires come_from { ComeFrom (submitted_in N.table (view taker.old.pass).got) handler.old.replica.document.entries }
+    ensures batch { IsBatch (handler_of handler.old) (submitted_in N.table (view taker.old.pass).got) held.new.items (handler_of handler.new) }
+    ensures took { (items : List AnItem) × ((view taker.new.pass).got ≡ (view taker.old.pass).got ++ items) × (items_of held.new.items ≡ submitted_in N.table items) }
+    ensures taker { (taker.new.pass.table_id ≡ taker.old.pass.table_id) × ((view taker.new.pass).known ≡ (view taker.old.pass).known) }
+    ensures holds { Holds (publication_of N.own N.table publisher.new) (replica_of handler.new.replica) }
+    ensures published { publisher.new.published ≡ publisher.old.published }
+    ensures room { batch ≤ vec_capacity held.new }
+    ensures early { length held.new.items < batch → WasEmpty (view taker.new.pass).got }
+{
+    for _ in 0..batch {
+        let Some(envelope) = taker.take(rt) else {
+            return;
+        };
+        let handled = handle_one(alloc, publisher, handler, envelope);
+        held.push_reserved(handled);
+    }
+}
+
+/// Handles one item.
+fn handle_one<N: EngineName>(
+    alloc: Global,
+    publisher: &mut Publisher<N>,
+    handler: &mut Handler,
+    envelope: Envelope<N>,
+) -> Handled<N>
+    requires holds { Holds (publication_of N.own N.table publisher.old) (replica_of handler.old.replica) }
+    requires running { IsRunning (replica_of handler.old.replica) }
+    requires above { IsAbove envelope.answer.value.item.client envelope.answer.value.item.serial handler.old.replica.document.entries }
+    ensures item { result.submitted ≡ submitted_of N.table envelope.answer.value.item }
+    ensures handled { Handles (handler_of handler.old) (submitted_of N.table envelope.answer.value.item) result.reply (handler_of handler.new) }
+    ensures holds { Holds (publication_of N.own N.table publisher.new) (replica_of handler.new.replica) }
+    ensures published { publisher.new.published ≡ publisher.old.published }
+{
+    let reply = handler.handle(alloc, publisher, envelope.answer.item());
+    Handled { envelope, reply }
+}
+
+/// Answers the batch, the oldest item first, with a notice of the published history.
+fn give<N: EngineName>(held: &mut Vec<Handled<N>>, notice: &Notice<N>)
+    requires { AreAnswers N.own N.table notice.now held.old.items }
+    ensures held { held.new.items ≡ [] }
+    ensures room { vec_capacity held.new ≡ vec_capacity held.old }
+{
+    held.reverse();
+    while let Some(handled) = held.pop() {
+        let Handled { envelope, reply } = handled;
+        let Envelope { mut answer, cell } = envelope;
+        answer.fill(reply, notice.again());
+        let _taken = cell.set(answer);
+    }
+}

@@ -1,0 +1,14 @@
+-- What a bench prints, and the statuses that it ends with.
+use Rattle.std.specs.Prelude.{◌≡◌, ◌⊎◌, ◌++◌, ℕ, List, codes, decimal}
+
+-- done, differ, turn limit, no memory, or not written
+abbrev pub IsBenchStatus : ℕ → Type 0
+IsBenchStatus status = (status ≡ 0) ⊎ (status ≡ 1) ⊎ (status ≡ 3) ⊎ (status ≡ 4) ⊎ (status ≡ 5)
+
+-- the line that says how many operations each replica shows
+abbrev pub agreement : ℕ → List ℕ
+agreement operations = codes "agree 1 replicas " ++ decimal operations ++ codes " operations\n"
+
+-- the line that says that what was read differs from what was written
+abbrev pub difference : List ℕ
+difference = codes "differ\n"

@@ -1,0 +1,76 @@
+//! Lets threads write into an engine, and prints what came of it.
+
+ghost use Rattle.std.specs.Prelude.{◌≡◌, ◌⊎◌, ◌*◌};
+ghost use Rattle.std.specs.Io.KnownBytes.{Appends};
+ghost use Rattle.jdoc.specs.Plays.{IsBenchStatus, agreement, difference};
+ghost use Rattle.jdoc.specs.declared.fault.Status.TheVariants.{Done, Differ, NoMemory, NotWritten, TurnLimit};
+
+use crate::fault::{Fault, Status};
+use crate::run::print;
+use bench::{Plan, Stop, Verdict, play};
+use ids::Refusal;
+use std::alloc::Global;
+use std::io::Write;
+use std::sync::Wait;
+use std::thread::Threads;
+
+/// Plays the plan. Prints `agree 1 replicas M operations`, where M is the number of all operations and each thread read back what
+/// it wrote, else `differ`. Gives the status that the process exits with.
+pub fn bench<R: Threads + Wait + Sync, O: Write, F: Write>(
+    rt: &R,
+    alloc: Global,
+    plan: Plan,
+    out: &mut O,
+    faults: &mut F,
+) -> u8
+    ensures status { IsBenchStatus result }
+
+    // Only what holds of known bytes can be said.
+    ensures agree { result ≡ 0 → Appends (O.contents out.old) (O.contents out.new) (agreement (plan.writers * plan.ops)) }
+    ensures differ { result ≡ 1 → Appends (O.contents out.old) (O.contents out.new) difference }
+    ensures silent { (result ≡ 3) ⊎ (result ≡ 4) → O.contents out.new ≡ O.contents out.old }
+    ensures no_fault { (result ≡ 0) ⊎ (result ≡ 1) → F.contents faults.new ≡ F.contents faults.old }
+{
+    match play(rt, alloc, plan) {
+        Ok(Verdict::Agree(operations)) => agree(alloc, operations, out, faults) as u8,
+        Ok(Verdict::Differ) => differ(out) as u8,
+        Err(Stop::TurnLimit) => tell_limit(faults) as u8,
+        Err(Stop::Refused(Refusal::NoMemory | Refusal::NoReaderPlace | Refusal::NoReading)) => {
+            Fault::NoMemory.report(faults) as u8
+        }
+        Err(Stop::Refused(_)) => differ(out) as u8,
+    }
+}
+
+/// Says that all read back what they wrote.
+fn agree<O: Write, F: Write>(alloc: Global, operations: u32, out: &mut O, faults: &mut F) -> Status
+    ensures status { (result ≡ Done) ⊎ (result ≡ NoMemory) ⊎ (result ≡ NotWritten) }
+    ensures done { result ≡ Done → Appends (O.contents out.old) (O.contents out.new) (agreement operations) × (F.contents faults.new ≡ F.contents faults.old) }
+    ensures silent { result ≡ NoMemory → O.contents out.new ≡ O.contents out.old }
+{
+    match format!(in alloc; "agree 1 replicas {operations} operations\n") {
+        Ok(line) => print(out, line.as_bytes()),
+        Err(_) => Fault::NoMemory.report(faults),
+    }
+}
+
+/// Says that one read back something else.
+fn differ<O: Write>(out: &mut O) -> Status
+    ensures status { (result ≡ Differ) ⊎ (result ≡ NotWritten) }
+    ensures done { result ≡ Differ → Appends (O.contents out.old) (O.contents out.new) difference }
+{
+    match print(out, b"differ\n") {
+        Status::Done => Status::Differ,
+        _ => Status::NotWritten,
+    }
+}
+
+/// Says that a thread waited for too long.
+fn tell_limit<W: Write>(faults: &mut W) -> Status
+    ensures { (result ≡ TurnLimit) ⊎ (result ≡ NotWritten) }
+{
+    match writeln!(faults, "turn limit") {
+        Ok(()) => Status::TurnLimit,
+        Err(_) => Status::NotWritten,
+    }
+}

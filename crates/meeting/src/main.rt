@@ -1,0 +1,181 @@
+//! Two engines that edit offline, conflict, and meet: each sends the other what it lacks, and both show the same.
+#![tactic(auto)]
+
+ghost use Rattle.std.specs.Prelude.{◌≡◌};
+ghost use Rattle.ids.specs.Members.{in_order};
+
+use cursor::{Expr, Step as Hop};
+use document::{Question, Reading};
+use engine::{Client, EngineName, Parts, ReaderToken, Step, Writer, close, open, prepare};
+use ids::{Config, Refusal};
+use operation::Command;
+use peer_sync::{answer, hello, receive};
+use std::alloc::Global;
+use std::io;
+use std::marker::Brand;
+use std::sync::Wait;
+use value::{Key, Scalar, Text, Val};
+
+fn main(rt: HostRuntime) -> io::Result<()> {
+    match meet(&rt, rt.alloc()) {
+        Ok((alice, bob)) => {
+            println!(rt; "Alice reads {alice}")?;
+            println!(rt; "Bob reads {bob}")
+        }
+        Err(refusal) => println!(rt; "no meeting: {refusal}"),
+    }
+}
+
+/// What each of the two reads at the key `title` once they have met.
+fn meet<R: Wait>(rt: &R, alloc: Global) -> Result<(String, String), Refusal> {
+    let alice = prepare(alloc, configuration(alloc, 1)?)?;
+    let bob = prepare(alloc, configuration(alloc, 2)?)?;
+    open_alice::<Brand, R>(rt, alloc, alice, bob)
+}
+
+/// An engine of this number, among the two.
+fn configuration(alloc: Global, own: u32) -> Result<Config, Refusal> {
+    Ok(Config {
+        own,
+        members: vec![in alloc; 1, 2]?,
+        clients: 1,
+        readers: 1,
+        queue: 16,
+        batch: 8,
+        serials: 1_000,
+    })
+}
+
+fn open_alice<A: EngineName, R: Wait>(
+    rt: &R,
+    alloc: Global,
+    alice: Parts,
+    bob: Parts,
+) -> Result<(String, String), Refusal>
+    requires book { alice.opened.seen.book ≡ A.book }
+    requires own { alice.config.own ≡ A.own }
+    requires table { in_order alice.config.members ≡ A.table }
+{
+    let (mut writer, mut clients, mut readers) = open::<A>(rt, alloc, alice)?;
+    let read = match (clients.pop(), readers.pop()) {
+        (Some(client), Some(reader)) => {
+            let mut alice = Engine {
+                writer: &mut writer,
+                client,
+                reader,
+            };
+            open_bob::<Brand, A, R>(rt, alloc, &mut alice, bob)
+        }
+        _ => Err(Refusal::NoReaderPlace),
+    };
+    let _history = close(rt, writer, Vec::new(alloc)).history;
+    read
+}
+
+fn open_bob<B: EngineName, A: EngineName, R: Wait>(
+    rt: &R,
+    alloc: Global,
+    alice: &mut Engine<A>,
+    bob: Parts,
+) -> Result<(String, String), Refusal>
+    requires book { bob.opened.seen.book ≡ B.book }
+    requires own { bob.config.own ≡ B.own }
+    requires table { in_order bob.config.members ≡ B.table }
+{
+    let (mut writer, mut clients, mut readers) = open::<B>(rt, alloc, bob)?;
+    let read = match (clients.pop(), readers.pop()) {
+        (Some(client), Some(reader)) => {
+            let mut bob = Engine {
+                writer: &mut writer,
+                client,
+                reader,
+            };
+            edit_and_meet(rt, alloc, alice, &mut bob)
+        }
+        _ => Err(Refusal::NoReaderPlace),
+    };
+    let _history = close(rt, writer, Vec::new(alloc)).history;
+    read
+}
+
+/// An engine with one client and one reader, on one thread.
+#[derive(Drop)]
+struct Engine<'a, N: EngineName> {
+    writer: &'a mut Writer<N>,
+    client: Client<N>,
+    reader: ReaderToken<N>,
+}
+
+/// Both write at one key, neither having seen the other's value. Then each takes what it lacks.
+fn edit_and_meet<A: EngineName, B: EngineName, R: Wait>(
+    rt: &R,
+    alloc: Global,
+    alice: &mut Engine<A>,
+    bob: &mut Engine<B>,
+) -> Result<(String, String), Refusal> {
+    write(rt, alloc, alice, "groceries")?;
+    write(rt, alloc, bob, "food")?;
+    pull(rt, alloc, alice, bob)?;
+    pull(rt, alloc, bob, alice)?;
+    Ok((read(alloc, alice)?, read(alloc, bob)?))
+}
+
+fn title(alloc: Global) -> Result<Expr, Refusal> {
+    let step = Hop::Get(Key::new(alloc, "title")?);
+    Ok(Expr::new(vec![in alloc; step]?))
+}
+
+/// Writes a title.
+fn write<N: EngineName, R: Wait>(
+    rt: &R,
+    alloc: Global,
+    engine: &mut Engine<N>,
+    text: &str,
+) -> Result<(), Refusal> {
+    let text = Val::Scalar(Scalar::Text(Text::new(alloc, text)?));
+    let command = Command::Assign(title(alloc)?, text);
+    let _ticket = engine.client.submit(rt, alloc, command)?;
+    step(rt, alloc, engine)
+}
+
+/// Lets the writer handle all that was submitted.
+fn step<N: EngineName, R: Wait>(
+    rt: &R,
+    alloc: Global,
+    engine: &mut Engine<N>,
+) -> Result<(), Refusal> {
+    match engine.writer.step(rt, alloc) {
+        Step::Published(_) | Step::Idle => Ok(()),
+        Step::Held => Err(Refusal::NoMemory),
+    }
+}
+
+/// The first engine takes what it lacks of the second one's operations. What goes between them is bytes.
+fn pull<A: EngineName, B: EngineName, R: Wait>(
+    rt: &R,
+    alloc: Global,
+    to: &mut Engine<A>,
+    from: &mut Engine<B>,
+) -> Result<(), Refusal> {
+    let line = hello(alloc, &mut to.reader)?;
+    let bundle = answer(alloc, &mut from.reader, line.as_slice())?;
+    let received = receive(rt, alloc, &mut to.client, bundle.as_slice());
+    match received.stopped {
+        Some((_, refusal)) => Err(refusal),
+        None => step(rt, alloc, to),
+    }
+}
+
+/// The titles, one after another: more than one where writers conflict.
+fn read<N: EngineName>(alloc: Global, engine: &mut Engine<N>) -> Result<String, Refusal> {
+    let mut titles = String::new(alloc);
+    if let Reading::Values(values) = engine.reader.ask(alloc, &Question::Values(title(alloc)?))? {
+        for (id, value) in &values {
+            if let Scalar::Text(text) = value {
+                let text = text.as_str();
+                titles.push_str(format!(in alloc; "{text} ({id}) ")?.as_str())?;
+            }
+        }
+    }
+    Ok(titles)
+}

@@ -1,0 +1,16 @@
+-- Lines with their line feeds, and without.
+use Rattle.std.proofs.Common.{◌≡◌, ◌≢◌, ◌==◌, ℕ, List, [], ◌∷◌, ◌++◌, false, refl, ap, arith}
+use Rattle.peer_sync.specs.Sending.{without_end}
+
+other_byte : (b : ℕ) → b ≢ 10 → (b == 10) ≡ false
+other_byte b h = grind (arith)
+
+pub without_end-ended : (bs : List ℕ) → without_end (bs ++ 10 ∷ []) ≡ bs
+without_end-ended [] = refl
+without_end-ended (b ∷ []) = refl
+without_end-ended (b ∷ c ∷ bs) = ap (λ (l : List ℕ). b ∷ l) (without_end-ended (c ∷ bs))
+
+pub without_end-whole : (bs : List ℕ) → ((front : List ℕ) → bs ≢ front ++ 10 ∷ []) → bs ≡ without_end bs
+without_end-whole [] h = refl
+without_end-whole (b ∷ []) h = rw (other_byte b (λ e. h [] (ap (λ (x : ℕ). x ∷ []) e))) refl
+without_end-whole (b ∷ c ∷ bs) h = ap (λ (l : List ℕ). b ∷ l) (without_end-whole (c ∷ bs) (λ front e. h (b ∷ front) (ap (λ (l : List ℕ). b ∷ l) e)))

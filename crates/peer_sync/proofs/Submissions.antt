@@ -1,0 +1,132 @@
+-- What a client has submitted of a text, and why it stops.
+use Rattle.std.proofs.Common.{◌≡◌, ◌≢◌, ◌⊎◌, inl, inr, ℕ, zero, suc, ◌+◌, ◌==◌, cond, Option, Some, None, MatchOption, Ok, Err, List, [], ◌∷◌, ◌++◌, length, map, take, false, refl, sym, ap, ◌∙◌, subst, arith, add-one}
+use Rattle.std.specs.List.{All}
+use Rattle.std.proofs.lemmas.List.{length-append, length-map, map-append, take_at}
+use Rattle.std.proofs.lemmas.List.Elements.{All-push}
+use Rattle.ids.specs.declared.refusal.Refusal.{Refusal}
+use Rattle.ids.specs.declared.refusal.Refusal.TheVariants.{BadLine, NoMemory}
+use Rattle.semantics.specs.Stamped.{Stamped}
+use Rattle.operation.specs.declared.op.Op.{Op}
+use Rattle.operation.specs.Meanings.{stamped_of}
+use Rattle.items.specs.declared.item.Request.TheVariants.{Peer}
+use Rattle.engine.specs.Clients.{Client}
+use Rattle.wire.specs.Bundles.{Readable, readable}
+use Rattle.wire.specs.Lines.{HasNoEnd, IsFirstLine}
+use Rattle.wire.specs.Reading.{op_form}
+use Rattle.wire.proofs.BundleLines.{after, after-bad, after-cut, after-none, after-op}
+use Rattle.peer_sync.specs.Receiving.{EndsAfter, IsDenied, StopsAfter, all_submitted, submitted}
+
+all_submitted-last : (c : Client) (ops : List Op) (op : Op) → all_submitted c (ops ++ op ∷ []) ≡ submitted (all_submitted c ops) op
+all_submitted-last c [] op = refl
+all_submitted-last c (o ∷ ops) op = all_submitted-last (submitted c o) ops op
+
+-- each operation that was submitted is kept
+kept_count : (c : Client) (ops : List Op) → length (all_submitted c ops).kept ≡ length c.kept + length ops
+kept_count c [] = omega arith
+kept_count c (o ∷ ops) =
+    let more = kept_count (submitted c o) ops in
+    let one = length-append c.kept (record { item = record { client = c.number; serial = length c.kept + 1; floor = length c.seen; request = Peer o }; known = None } ∷ []) in
+    omega (arith, more, one)
+
+-- client d is c after it submitted the first n operations of the text, of which the rest isn't read yet
+pub record HasSubmitted (table : List ℕ) (c : Client) (text : List ℕ) (d : Client) (rest : List ℕ) (n : ℕ) : Type 0 where
+  pub ops : List Op
+  pub count : length ops ≡ n
+  pub client : d ≡ all_submitted c ops
+  pub read : after (map (stamped_of table) ops) (readable table rest) ≡ readable table text
+  pub wide : All (λ (o : Op). length o.deps ≡ length table) ops
+
+module _ (table : List ℕ) (c : Client) (text : List ℕ) where
+  pub submitted-none : HasSubmitted table c text c text 0
+  submitted-none = record { ops = []; count = refl; client = refl; read = refl; wide = λ k d lt. absurd (omega (arith, lt)) }
+
+  -- the next line is an operation, which is submitted
+  pub submitted-more : (d e : Client) (rest line left : List ℕ) (n : ℕ) (op : Op) → HasSubmitted table c text d rest n → IsFirstLine rest line left
+      → op_form table line ≡ Ok (stamped_of table op) → length op.deps ≡ length table → e ≡ submitted d op → HasSubmitted table c text e left (n + 1)
+  submitted-more d e rest line left n op h first form wide is = record {
+    ops = h.ops ++ op ∷ [];
+    count = (let l = length-append h.ops (op ∷ []) in omega (arith, l, h.count));
+    client = is ∙ ap (λ (k : Client). submitted k op) h.client ∙ sym (all_submitted-last c h.ops op);
+    read =
+        ap (λ (ss : List Stamped). after ss (readable table left)) (map-append (stamped_of table) h.ops (op ∷ []))
+        ∙ sym (after-op table rest line left (map (stamped_of table) h.ops) (stamped_of table op) first form)
+        ∙ h.read;
+    wide = All-push (λ (o : Op). length o.deps ≡ length table) h.ops op h.wide wide;
+  }
+
+  -- what was submitted are the first operations of the text
+  pub first_operations : (d : Client) (rest : List ℕ) (n : ℕ) (h : HasSubmitted table c text d rest n) → map (stamped_of table) h.ops ≡ take n (readable table text).operations
+  first_operations d rest n h =
+      sym (take_at (map (stamped_of table) h.ops) (readable table rest).operations n (length-map h.ops (stamped_of table) ∙ h.count))
+      ∙ ap (λ (r : Readable). take n r.operations) h.read
+
+  pub kept_after : (d : Client) (rest : List ℕ) (n : ℕ) → HasSubmitted table c text d rest n → length d.kept ≡ length c.kept + n
+  kept_after d rest n h = ap (λ (k : Client). length k.kept) h.client ∙ kept_count c h.ops ∙ ap (λ m. length c.kept + m) h.count
+
+  -- a line that is bad
+  stops-bad : (d : Client) (rest line left : List ℕ) (n : ℕ) (why : Refusal) → HasSubmitted table c text d rest n → IsFirstLine rest line left
+      → op_form table line ≡ Err why → StopsAfter (readable table text) n d why
+  stops-bad d rest line left n why h first form =
+      let all = sym (after-bad table rest line left (map (stamped_of table) h.ops) why first form) ∙ h.read in
+      let count = ap (λ (r : Readable). length r.operations) all in
+      let mapped = length-map h.ops (stamped_of table) in
+      inr (inl (omega (arith, count, mapped, h.count), sym (ap (λ (r : Readable). r.stopped) all)))
+
+  -- a line whose operation the client doesn't submit
+  stops-denied : (d : Client) (rest line left : List ℕ) (n : ℕ) (why : Refusal) (op : Op) → HasSubmitted table c text d rest n → IsFirstLine rest line left
+      → op_form table line ≡ Ok (stamped_of table op) → IsDenied d why → StopsAfter (readable table text) n d why
+  stops-denied d rest line left n why op h first form denied =
+      let all = sym (after-op table rest line left (map (stamped_of table) h.ops) (stamped_of table op) first form) ∙ h.read in
+      let count = ap (λ (r : Readable). length r.operations) all in
+      let more = length-append (map (stamped_of table) h.ops ++ stamped_of table op ∷ []) (readable table left).operations in
+      let one = length-append (map (stamped_of table) h.ops) (stamped_of table op ∷ []) in
+      let mapped = length-map h.ops (stamped_of table) in
+      inr (inr (omega (arith, count, more, one, mapped, h.count), denied))
+
+  -- a line that isn't submitted
+  pub stops : (d : Client) (rest line left : List ℕ) (n : ℕ) (why : Refusal) → HasSubmitted table c text d rest n → IsFirstLine rest line left
+      → (why ≡ NoMemory) ⊎ (op_form table line ≡ Err why) ⊎ ((op : Op) × (op_form table line ≡ Ok (stamped_of table op)) × IsDenied d why) → StopsAfter (readable table text) n d why
+  stops d rest line left n why h first (inl memory) = inl memory
+  stops d rest line left n why h first (inr (inl bad)) = stops-bad d rest line left n why h first bad
+  stops d rest line left n why h first (inr (inr denied)) = stops-denied d rest line left n why denied.0 h first denied.1 denied.2
+
+  -- bytes that no line feed ends
+  stops-cut : (d : Client) (rest : List ℕ) (n : ℕ) → HasSubmitted table c text d rest n → HasNoEnd rest → rest ≢ [] → StopsAfter (readable table text) n d BadLine
+  stops-cut d rest n h whole some =
+      let all = sym (after-cut table rest (map (stamped_of table) h.ops) whole some) ∙ h.read in
+      let count = ap (λ (r : Readable). length r.operations) all in
+      let mapped = length-map h.ops (stamped_of table) in
+      inr (inl (omega (arith, count, mapped, h.count), sym (ap (λ (r : Readable). r.stopped) all)))
+
+  -- no byte is left
+  ends : (d : Client) (rest : List ℕ) (n : ℕ) → HasSubmitted table c text d rest n → rest ≡ [] → EndsAfter (readable table text) n
+  ends d rest n h none =
+      let all = sym (after-none table rest (map (stamped_of table) h.ops) none) ∙ h.read in
+      let count = ap (λ (r : Readable). length r.operations) all in
+      let mapped = length-map h.ops (stamped_of table) in
+      (omega (arith, count, mapped, h.count), sym (ap (λ (r : Readable). r.stopped) all))
+
+  -- the end of the lines: all was read, or bytes are left that no line feed ends
+  pub stops-end : (d : Client) (rest left : List ℕ) (n taken later : ℕ) (stop : Option (ℕ × Refusal)) → HasSubmitted table c text d rest n
+      → taken ≡ n → HasNoEnd rest → left ≡ rest → later ≡ taken → MatchOption stop (left ≡ []) (λ s. (s.0 ≡ later + 1) × (s.1 ≡ BadLine) × (left ≢ []))
+      → MatchOption stop (EndsAfter (readable table text) n) (λ s. (s.0 ≡ n + 1) × StopsAfter (readable table text) n d s.1)
+  stops-end d rest left n taken later None h same whole still count none = ends d rest n h (sym still ∙ none)
+  stops-end d rest left n taken later (Some s) h same whole still count cut =
+      (omega (arith, cut.0, same, count), subst (λ (why : Refusal). StopsAfter (readable table text) n d why) (sym cut.1) (stops-cut d rest n h whole (λ e. cut.2 (still ∙ e))))
+
+other_than_zero : (n : ℕ) → n ≢ 0 → (n == 0) ≡ false
+other_than_zero n h = grind (arith)
+
+above_zero : (n m : ℕ) → m ≡ n + 1 → (m == 0) ≡ false
+above_zero n m e = other_than_zero m (λ z. absurd (omega (arith, z, e)))
+
+-- the first serial, once one more was submitted
+pub first_serial-next : (n m serial first kept : ℕ) → first ≡ cond (n == 0) 0 (kept + 1) → serial ≡ kept + n + 1 → m ≡ n + 1
+    → cond (n == 0) serial first ≡ cond (m == 0) 0 (kept + 1)
+first_serial-next n m serial first kept is at e = start n is at ∙ sym (ap (λ b. cond b 0 (kept + 1)) (above_zero n m e))
+  where
+    start : (n : ℕ) → first ≡ cond (n == 0) 0 (kept + 1) → serial ≡ kept + n + 1 → cond (n == 0) serial first ≡ kept + 1
+    start zero is at = omega (arith, at)
+    start (suc k) is at =
+        let not = above_zero k (suc k) (sym (add-one k)) in
+        ap (λ b. cond b serial first) not ∙ is ∙ ap (λ b. cond b 0 (kept + 1)) not

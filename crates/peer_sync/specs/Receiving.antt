@@ -1,0 +1,36 @@
+-- What a client does with the lines that it receives.
+use Rattle.std.specs.Prelude.{ℕ, ◌≡◌, ◌+◌, ◌<◌, ◌≤◌, ◌⊎◌, List, [], ◌∷◌, ◌++◌, length, Some, None}
+use Rattle.ids.specs.declared.refusal.Refusal.{Refusal}
+use Rattle.ids.specs.declared.refusal.Refusal.TheVariants.{NoMemory, QueueFull, SerialEnd}
+use Rattle.operation.specs.declared.op.Op.{Op}
+use Rattle.items.specs.declared.item.Item.{Item}
+use Rattle.items.specs.declared.item.Request.TheVariants.{Peer}
+use Rattle.command.specs.Fifo.{Moment, sender_hand}
+use Rattle.engine.specs.Clients.{Client, items_by}
+use Rattle.wire.specs.Bundles.{Readable}
+
+-- the client after it submitted a peer's operation: under its next serial, with what it has seen as the floor
+abbrev pub submitted : Client → Op → Client
+submitted c op = record c { kept = c.kept ++ (record { item = record { client = c.number; serial = length c.kept + 1; floor = length c.seen; request = Peer op }; known = None }) ∷ [] }
+
+-- the client after it submitted these, one after another
+abbrev pub all_submitted : Client → List Op → Client
+all_submitted c [] = c
+all_submitted c (op ∷ ops) = all_submitted (submitted c op) ops
+
+-- why a client submits no more: its serials are used up; or it had serials, and its queue was full at one moment
+abbrev pub IsDenied : Client → Refusal → Type 0
+IsDenied c why =
+    ((why ≡ SerialEnd) × (c.serials ≤ length c.kept))
+    ⊎ ((why ≡ QueueFull) × (length c.kept < c.serials) × ((items : List Item) × (length items ≡ c.capacity) × Moment (sender_hand c.number (items_by c)) items))
+
+-- why the line after n operations isn't submitted by client c: allocation failed; or it is the bad line; or it is an operation that the client doesn't submit
+abbrev pub StopsAfter : Readable → ℕ → Client → Refusal → Type 0
+StopsAfter r n c why =
+    (why ≡ NoMemory)
+    ⊎ ((n ≡ length r.operations) × (r.stopped ≡ Some why))
+    ⊎ ((n < length r.operations) × IsDenied c why)
+
+-- nothing follows n operations: all of the text was read
+abbrev pub EndsAfter : Readable → ℕ → Type 0
+EndsAfter r n = (n ≡ length r.operations) × (r.stopped ≡ None)

@@ -1,0 +1,18 @@
+//! What tokens of different engines are answered.
+
+ghost use Rattle.std.specs.Prelude.{◌≡◌, ℕ, List};
+ghost use Rattle.semantics.specs.Entries.{Entry, IsEntryHistory, missing, stamped_of};
+ghost use Rattle.semantics.specs.LegalAnswer.{OfDocument, reading_of};
+ghost use Rattle.semantics.specs.Questions.{Question};
+ghost use Rattle.semantics.specs.Stamped.{HaveSameStamped};
+ghost use Rattle.semantics.specs.Vectors.{Vector};
+
+/// Tokens of two engines whose histories hold the same operations answer alike, whatever the order of these. By the contracts of
+/// `ReaderToken::ask` and `Client::ask` a token that has read the history G answers `reading_of G`, refusals included: that is
+/// one answer for both engines to each question to the document; and both have the same operations to send to a peer.
+pub fn tokens_answer_alike()
+    ensures document { (p q : ℕ) (G F : List Entry) → IsEntryHistory p G → IsEntryHistory q F → HaveSameStamped (stamped_of G) (stamped_of F) →
+        (x : Question) → reading_of G (OfDocument x) ≡ reading_of F (OfDocument x) }
+    ensures missing { (G F : List Entry) → HaveSameStamped (stamped_of G) (stamped_of F) →
+        (v : Vector) → HaveSameStamped (missing v (stamped_of G)) (missing v (stamped_of F)) }
+{}

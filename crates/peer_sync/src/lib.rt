@@ -1,0 +1,16 @@
+//! The exchange of operations between engines, as lines of JSON.
+//!
+//! An engine says `hello` with the vector of all that it has applied. A peer's `answer` is the operations that this vector
+//! doesn't cover, a bundle of lines. A client of the first engine `receive`s the bundle and submits them. The bytes may come by
+//! any way, late, twice, in any order or never: what a peer sends is taken as what it is worth.
+#![tactic(auto)]
+
+mod agreement;
+mod receiving;
+mod sending;
+#[cfg(test)]
+mod tests;
+
+pub use agreement::tokens_answer_alike;
+pub use receiving::{Received, receive};
+pub use sending::{answer, hello};

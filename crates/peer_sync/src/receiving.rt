@@ -1,0 +1,104 @@
+//! What a client receives of a peer.
+
+ghost use Rattle.std.specs.Prelude.{◌≡◌, ◌≢◌, ◌⊎◌, ◌+◌, ◌<◌, ◌≤◌, ◌^◌, ◌==◌, cond, [], List, Ok, Err, IfOk, IfErr, MatchOption, length, map, take};
+ghost use Rattle.std.specs.List.{All};
+ghost use Rattle.ids.specs.declared.refusal.Refusal.TheVariants.{BadLine, NoMemory};
+ghost use Rattle.operation.specs.declared.op.Op.{Op};
+ghost use Rattle.operation.specs.Meanings.{stamped_of};
+ghost use Rattle.wire.specs.Bundles.{readable};
+ghost use Rattle.wire.specs.Reading.{op_form};
+ghost use Rattle.peer_sync.specs.Receiving.{EndsAfter, IsDenied, StopsAfter, all_submitted, submitted};
+
+use engine::{Client, EngineName, Ticket};
+use ids::Refusal;
+use std::alloc::Global;
+use std::sync::Wait;
+use wire::{Lines, read_op};
+
+/// What became of a bundle.
+#[derive(Clone, Copy, Debug, PartialEq, Eq)]
+pub struct Received {
+    /// The serial of the first operation that was submitted, 0 where there is none. The others have the next ones.
+    pub first_serial: u64,
+    /// How many operations were submitted: those of the lines before the stop.
+    pub submitted: u64,
+    /// The line, counted from 1, at which it stopped, and why; none where all lines were submitted.
+    pub stopped: Option<(u64, Refusal)>,
+}
+
+/// Submits the operations of a bundle, line by line, and stops at the first line that is bad or that the client refuses. What
+/// came before that line stays submitted. The bytes may be of any origin. Waits for the queue, as `Client::deliver`.
+///
+/// The result's stop is a line's own fault, as `read_op` has it, with `BadLine` for bytes after the last line feed; or a refusal
+/// of `Client::deliver`: `SerialEnd`, `QueueFull`; or `NoMemory` if allocation fails.
+pub fn receive<N: EngineName>(
+    rt: &impl Wait,
+    alloc: Global,
+    client: &mut Client<N>,
+    bundle: &[u8],
+) -> Received
+    ensures submitted { (ops : List Op) × (length ops ≡ result.submitted) × (client.new ≡ all_submitted client.old ops)
+        × (map (stamped_of N.table) ops ≡ take result.submitted (readable N.table bundle.now).operations)
+        × All (λ o. length o.deps ≡ length N.table) ops }
+    ensures first { result.first_serial ≡ cond (result.submitted == 0) 0 (length client.old.kept + 1) }
+    ensures serials { (result.submitted ≡ 0) ⊎ (length client.new.kept ≤ client.new.serials) }
+    ensures stopped { MatchOption result.stopped (EndsAfter (readable N.table bundle.now) result.submitted)
+        (λ stop. (stop.0 ≡ result.submitted + 1) × StopsAfter (readable N.table bundle.now) result.submitted client.new stop.1) }
+{
+    let mut lines = Lines::new(bundle);
+    let mut received = Received {
+        first_serial: 0,
+        submitted: 0,
+        stopped: None,
+    };
+    while let Some(line) = lines.take_line() {
+        match submit_line(rt, alloc, client, line.text) {
+            Ok(ticket) => received.count(ticket.serial),
+            Err(why) => {
+                received.stopped = Some((line.number, why));
+                return received;
+            }
+        }
+    }
+    received.stopped = cut_stop(&lines);
+    received
+}
+
+/// The stop at bytes that no line feed ends, if there are any.
+fn cut_stop(lines: &Lines) -> Option<(u64, Refusal)>
+    ensures { MatchOption result (lines.now.rest.now ≡ []) (λ stop. (stop.0 ≡ lines.now.taken + 1) × (stop.1 ≡ BadLine) × (lines.now.rest.now ≢ [])) }
+{
+    let number = lines.cut_line()?;
+    Some((number, Refusal::BadLine))
+}
+
+/// Submits the operation on a line.
+///
+/// # Errors
+/// Those of the line, else those of `Client::deliver`. The client is as before then.
+fn submit_line<N: EngineName>(
+    rt: &impl Wait,
+    alloc: Global,
+    client: &mut Client<N>,
+    line: &[u8],
+) -> Result<Ticket, Refusal>
+    ensures ok { IfOk result (λ ticket. (op : Op) × (op_form N.table line.now ≡ Ok (stamped_of N.table op)) × (length op.deps ≡ length N.table)
+        × (client.new ≡ submitted client.old op) × (ticket.serial ≡ length client.old.kept + 1) × (length client.new.kept ≤ client.new.serials)) }
+    ensures err { IfErr result (λ why. (client.new ≡ client.old) × ((why ≡ NoMemory) ⊎ (op_form N.table line.now ≡ Err why) ⊎ ((op : Op) × (op_form N.table line.now ≡ Ok (stamped_of N.table op)) × IsDenied client.old why))) }
+{
+    let op = read_op(alloc, line, client.table())?;
+    client.deliver(rt, alloc, op)
+}
+
+impl Received {
+    /// Counts an operation that was submitted under this serial.
+    fn count(&mut self, serial: u64)
+        requires { self.old.submitted + 1 < 2 ^ 64 }
+        ensures { self.new ≡ record self.old { first_serial = cond (self.old.submitted == 0) serial self.old.first_serial; submitted = self.old.submitted + 1 } }
+    {
+        if self.submitted == 0 {
+            self.first_serial = serial;
+        }
+        self.submitted += 1;
+    }
+}

@@ -1,0 +1,125 @@
+//! What an engine sends to a peer: its hello, and answers to the hellos of others.
+
+ghost use Rattle.std.specs.Prelude.{◌≡◌, ◌⊎◌, IfOk, IfErr, IsTrue, Ok, Err, length, map};
+ghost use Rattle.std.specs.List.{All};
+ghost use Rattle.ids.specs.declared.refusal.Refusal.TheVariants.{NoMemory, NoReading};
+ghost use Rattle.semantics.specs.Entries.{IsEntryHistory, applied};
+ghost use Rattle.semantics.specs.NamedIds.{vector_of};
+ghost use Rattle.semantics.specs.Tables.{by_table};
+ghost use Rattle.semantics.specs.Vectors.{Vector};
+ghost use Rattle.semantics.specs.WorldHistory.{BeginsWith};
+ghost use Rattle.operation.specs.Meanings.{stamped_of};
+ghost use Rattle.wire.specs.Bundles.{bundle_form, bundle_text};
+ghost use Rattle.wire.specs.Messages.{hello_form};
+ghost use Rattle.wire.specs.Sent.{CanBeSent, are_counters};
+ghost use Rattle.peer_sync.specs.Sending.{hello_text, lacked, without_end};
+
+use document::{Question, Reading};
+use engine::{EngineName, ReaderToken};
+use ids::Refusal;
+use operation::Op;
+use std::alloc::Global;
+use version::VersionVector;
+use wire::{read_vector, write_bundle, write_vector};
+
+/// The line, with its line feed, of the vector of all that the token sees in this read, which it has then seen. Where its
+/// counters are those of the wire, a peer with the same members reads it as that vector.
+///
+/// # Errors
+/// `NoReading` if the copies gave none, `NoMemory` if allocation fails. The token may then have seen more than before, never
+/// less.
+pub fn hello<N: EngineName>(alloc: Global, token: &mut ReaderToken<N>) -> Result<Vec<u8>, Refusal>
+    ensures grows { BeginsWith token.new.seen token.old.seen }
+    ensures legal { IsEntryHistory N.own token.new.seen }
+    ensures line { IfOk result (λ text. text.items ≡ hello_text token.new.seen) }
+    ensures reads_back { IfOk result (λ text. IsTrue (are_counters (vector_of (applied token.new.seen))) → hello_form N.table (without_end text.items) ≡ Ok (vector_of (applied token.new.seen))) }
+    ensures published { IfOk result (λ _. token.new.read ≡ token.new.seen) }
+    ensures err { IfErr result (λ why. (why ≡ NoMemory) ⊎ (why ≡ NoReading)) }
+{
+    let vector = applied(alloc, token)?;
+    let mut line = write_vector(alloc, &vector, token.table())?;
+    line.push(b'\n')?;
+    Ok(line)
+}
+
+/// The vector of all that the token sees in this read.
+///
+/// # Errors
+/// As `hello`.
+fn applied<N: EngineName>(
+    alloc: Global,
+    token: &mut ReaderToken<N>,
+) -> Result<VersionVector, Refusal>
+    ensures grows { BeginsWith token.new.seen token.old.seen }
+    ensures legal { IsEntryHistory N.own token.new.seen }
+    ensures vector { IfOk result (λ v. by_table N.table v ≡ vector_of (applied token.new.seen)) }
+    ensures published { IfOk result (λ _. token.new.read ≡ token.new.seen) }
+    ensures err { IfErr result (λ why. (why ≡ NoMemory) ⊎ (why ≡ NoReading)) }
+{
+    match token.ask(alloc, &Question::Vector)? {
+        Reading::Vector(vector) => Ok(vector),
+        _ => unreachable!(),
+    }
+}
+
+/// The answer to a hello, which stands with its line feed or without it: the lines, each with its line feed, of the operations
+/// that its vector doesn't cover, the oldest first, of all that the token sees in this one read. The token has then seen that.
+/// Where all names are of members, and all counters those of the wire, a peer with the same members reads the same operations.
+///
+/// # Errors
+/// First those of the hello: `BadLine` if it is no such line, `UnknownReplica` if it names a replica that isn't a member, as
+/// `read_vector` has them; the token is as before then. Then `NoReading` if the copies gave none: the token may have seen more,
+/// never less. `NoMemory`, at any moment, if allocation fails.
+pub fn answer<N: EngineName>(
+    alloc: Global,
+    token: &mut ReaderToken<N>,
+    hello: &[u8],
+) -> Result<Vec<u8>, Refusal>
+    ensures grows { BeginsWith token.new.seen token.old.seen }
+    ensures legal { IsEntryHistory N.own token.new.seen }
+    ensures lines { IfOk result (λ text. (v : Vector) × (hello_form N.table (without_end hello.now) ≡ Ok v) × (text.items ≡ bundle_text (lacked token.new.seen v))) }
+    ensures reads_back { IfOk result (λ text. (v : Vector) → hello_form N.table (without_end hello.now) ≡ Ok v → All (CanBeSent N.table) (lacked token.new.seen v)
+        → bundle_form N.table text.items ≡ Ok (lacked token.new.seen v)) }
+    ensures published { IfOk result (λ _. token.new.read ≡ token.new.seen) }
+    ensures err { IfErr result (λ why. (why ≡ NoMemory) ⊎ (why ≡ NoReading) ⊎ (hello_form N.table (without_end hello.now) ≡ Err why)) }
+    ensures bad { IfErr (hello_form N.table (without_end hello.now)) (λ why. ((result ≡ Err why) ⊎ (result ≡ Err NoMemory)) × (token.new ≡ token.old)) }
+{
+    // What a token has seen is an entry history, also where the hello is refused.
+    prove!(token.seen_len() <= usize::MAX);
+    let vector = read_vector(alloc, without_end(hello), token.table())?;
+    let ops = missing(alloc, token, vector)?;
+    let lines = write_bundle(alloc, ops.as_slice(), token.table())?;
+    Ok(lines)
+}
+
+/// The operations that the vector doesn't cover, of all that the token sees in this read, the oldest first.
+///
+/// # Errors
+/// `NoReading` if the copies gave none, `NoMemory` if allocation fails.
+fn missing<N: EngineName>(
+    alloc: Global,
+    token: &mut ReaderToken<N>,
+    vector: VersionVector,
+) -> Result<Vec<Op>, Refusal>
+    requires { length vector ≡ length N.table }
+    ensures grows { BeginsWith token.new.seen token.old.seen }
+    ensures legal { IsEntryHistory N.own token.new.seen }
+    ensures ops { IfOk result (λ ops. map (stamped_of N.table) ops.items ≡ lacked token.new.seen (by_table N.table vector)) }
+    ensures published { IfOk result (λ _. token.new.read ≡ token.new.seen) }
+    ensures err { IfErr result (λ why. (why ≡ NoMemory) ⊎ (why ≡ NoReading)) }
+{
+    match token.ask(alloc, &Question::Missing(vector))? {
+        Reading::Missing(ops) => Ok(ops),
+        _ => unreachable!(),
+    }
+}
+
+/// A line without the line feed that may end it.
+fn without_end(line: &[u8]) -> &[u8]
+    ensures { result.now ≡ without_end line.now }
+{
+    match line.strip_suffix(b"\n") {
+        Some(text) => text,
+        None => line,
+    }
+}

@@ -1,0 +1,155 @@
+//! An application with an engine inside: two threads write down what to buy, and a third reads the list as it grows.
+#![tactic(auto)]
+
+ghost use Rattle.std.specs.Prelude.{◌≡◌};
+ghost use Rattle.ids.specs.Members.{in_order};
+
+use cursor::{Expr, Step as Hop};
+use document::{Question, Reading};
+use engine::{Client, EngineName, Parts, ReaderToken, Step, Writer, close, open, prepare};
+use ids::{Config, Refusal};
+use items::Reply;
+use operation::Command;
+use std::alloc::Global;
+use std::io;
+use std::marker::Brand;
+use std::sync::Wait;
+use std::thread::{Threads, join, yield_now};
+use value::{Key, Scalar, Text, Val};
+
+fn main(rt: HostRuntime) -> io::Result<()> {
+    match shop(&rt, rt.alloc()) {
+        Ok((read, kept)) => println!(rt; "the reader saw {read} of {kept} entries"),
+        Err(refusal) => println!(rt; "no shopping: {refusal}"),
+    }
+}
+
+/// Opens an engine for two clients and a reader, and tells how many entries the reader saw, and how many there are.
+fn shop<R: Threads + Wait + Sync>(rt: &R, alloc: Global) -> Result<(usize, usize), Refusal> {
+    let parts = prepare(
+        alloc,
+        Config {
+            own: 1,
+            members: vec![in alloc; 1]?,
+            clients: 2,
+            readers: 1,
+            queue: 16,
+            batch: 8,
+            serials: 1_000,
+        },
+    )?;
+    shop_in::<Brand, R>(rt, alloc, parts)
+}
+
+fn shop_in<N: EngineName + Send + Sync, R: Threads + Wait + Sync>(
+    rt: &R,
+    alloc: Global,
+    parts: Parts,
+) -> Result<(usize, usize), Refusal>
+    requires book { parts.opened.seen.book ≡ N.book }
+    requires own { parts.config.own ≡ N.own }
+    requires table { in_order parts.config.members ≡ N.table }
+{
+    let (mut writer, mut clients, mut readers) = open::<N>(rt, alloc, parts)?;
+    let read = match (clients.pop(), clients.pop(), readers.pop()) {
+        (Some(bob), Some(alice), Some(reader)) => {
+            together(rt, alloc, &mut writer, alice, bob, reader)
+        }
+        _ => Ok(0),
+    };
+    let history = close(rt, writer, Vec::new(alloc)).history;
+    Ok((read?, history.len()))
+}
+
+/// Alice and Bob write, the writer steps, and the reader reads, each in a thread.
+fn together<N: EngineName + Send + Sync, R: Threads + Wait + Sync>(
+    rt: &R,
+    alloc: Global,
+    writer: &mut Writer<N>,
+    alice: Client<N>,
+    bob: Client<N>,
+    reader: ReaderToken<N>,
+) -> Result<usize, Refusal> {
+    let (_, (read, (first, second))) = join(
+        rt,
+        move || step_until(rt, alloc, writer, 4),
+        move || {
+            join(
+                rt,
+                move || read_until(rt, alloc, reader, 4),
+                move || {
+                    join(
+                        rt,
+                        move || write(rt, alloc, alice, &[("milk", "2 l"), ("eggs", "six")]),
+                        move || write(rt, alloc, bob, &[("cheese", "any"), ("milk", "1 l")]),
+                    )
+                },
+            )
+        },
+    );
+    first?;
+    second?;
+    read
+}
+
+/// Steps until so many writes are answered.
+fn step_until<N: EngineName, R: Wait>(
+    rt: &R,
+    alloc: Global,
+    writer: &mut Writer<N>,
+    wanted: usize,
+) {
+    let mut answered = 0usize;
+    for _ in rt.forever() {
+        if answered >= wanted {
+            break;
+        }
+        match writer.step(rt, alloc) {
+            Step::Published(count) => answered = answered.saturating_add(count),
+            Step::Idle | Step::Held => yield_now(),
+        }
+    }
+}
+
+/// Writes down what to buy, one after the other, each once the one before is answered.
+fn write<N: EngineName, R: Wait>(
+    rt: &R,
+    alloc: Global,
+    client: Client<N>,
+    wishes: &[(&str, &str)],
+) -> Result<(), Refusal> {
+    let mut client = client;
+    for (what, how_much) in wishes {
+        let place = Expr::new(vec![in alloc; Hop::Get(Key::new(alloc, what)?)]?);
+        let text = Val::Scalar(Scalar::Text(Text::new(alloc, how_much)?));
+        let ticket = client.submit(rt, alloc, Command::Assign(place, text))?;
+        for _ in rt.forever() {
+            match client.poll(&ticket)? {
+                Some(Reply::Refused(refusal, _)) => return Err(refusal),
+                Some(_) => break,
+                None => yield_now(),
+            }
+        }
+    }
+    Ok(())
+}
+
+/// Reads the keys of the document until so many entries are seen. Never waits for the writer or for a client.
+fn read_until<N: EngineName, R: Wait>(
+    rt: &R,
+    alloc: Global,
+    reader: ReaderToken<N>,
+    wanted: usize,
+) -> Result<usize, Refusal> {
+    let mut reader = reader;
+    for _ in rt.forever() {
+        let question = Question::Keys(Expr::new(Vec::new(alloc)));
+        if let Reading::Keys(_keys) = reader.ask(alloc, &question)? {
+            if reader.seen_len() >= wanted {
+                break;
+            }
+        }
+        yield_now();
+    }
+    Ok(reader.seen_len())
+}

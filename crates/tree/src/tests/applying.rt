@@ -1,0 +1,74 @@
+//! What applies an operation once all that it needs of its caller is so.
+
+ghost use Rattle.std.specs.Prelude.{◌≡◌, IsTrue, length};
+ghost use Rattle.ids.specs.Members.{is_member};
+ghost use Rattle.semantics.specs.LegalHistory.{IsFormed};
+ghost use Rattle.semantics.specs.Operations.{slot_of};
+ghost use Rattle.operation.specs.Meanings.{mutation_of, stamped_of};
+ghost use Rattle.tree.specs.Nodes.{IsTree, context};
+ghost use Rattle.tree.specs.Trees.{FitsIn, IsPlaced, document};
+
+use crate::insert::slot_of;
+use crate::node::{Node, node_at};
+use crate::tree::Tree;
+use crate::walk::walk;
+use operation::Op;
+use std::alloc::Global;
+use std::process::Abort;
+use std::test::Fail;
+
+/// Makes what the operation needs, and applies it.
+pub fn play(rt: &impl Abort, alloc: Global, tree: &mut Tree, op: &Op) -> Result<(), Fail> {
+    tree.reserve(alloc, op)?;
+    assert!(rt; may_apply(tree, op));
+    tree.apply(op);
+    Ok(())
+}
+
+/// Whether the operation has the right form, is of these replicas, and has its place in the document.
+fn may_apply(tree: &Tree, op: &Op) -> bool
+    ensures placed { IsTrue result → IsPlaced (document tree.now) (stamped_of tree.now.table op.now) }
+    ensures formed { IsTrue result → IsFormed (mutation_of op.now.mutation) op.now.place }
+    ensures member { IsTrue result → IsTrue (is_member tree.now.table op.now.id.replica) }
+    ensures width { IsTrue result → length op.now.deps ≡ length tree.now.table }
+{
+    is_formed(op)
+        && fits(&tree.nodes, op)
+        && tree.table.index_of(op.id.replica).is_some()
+        && op.deps.width() == tree.table.len()
+}
+
+/// Whether an insert stands at a head or an item, and nothing else at a head.
+fn is_formed(op: &Op) -> bool
+    ensures { IsTrue result → IsFormed (mutation_of op.now.mutation) op.now.place }
+{
+    if op.mutation.is_insert() {
+        slot_of(&op.place).is_some()
+    } else {
+        !op.place.is_head()
+    }
+}
+
+/// Whether what an insert goes after is in its list, and its own id isn't.
+fn fits(nodes: &[Node], op: &Op) -> bool
+    requires { IsTree nodes.now }
+    ensures { IsTrue result → FitsIn (context nodes.now) op.now.id (slot_of (mutation_of op.now.mutation) op.now.place) }
+{
+    if !op.mutation.is_insert() {
+        return true;
+    }
+    let Some(slot) = slot_of(&op.place) else {
+        return true;
+    };
+    let Some(at) = walk(nodes, slot.list) else {
+        return false;
+    };
+    let order = &node_at(nodes, at).order;
+    if order.contains(&op.id) {
+        return false;
+    }
+    match slot.prev {
+        None => true,
+        Some(prev) => order.contains(&prev),
+    }
+}

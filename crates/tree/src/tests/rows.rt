@@ -1,0 +1,134 @@
+//! Operations and places as rows of a test.
+
+use cursor::{ElementPlace, Place};
+use ids::{OpId, Refusal, ReplicaId};
+use operation::{Mutation, Op};
+use std::alloc::Global;
+use std::test::Fail;
+use value::{Key, Scalar, Text, Val};
+use version::VersionVector;
+
+/// An id's counter and replica.
+pub type Pair = (u64, u32);
+
+/// A place in a document.
+#[derive(Clone, Copy, Debug)]
+pub enum Where<'a> {
+    /// The field that these names lead to from the root.
+    Field(&'a [&'a str]),
+    /// The head of the list at a field of the root.
+    Head(&'a str),
+    /// The item with this id of the list at a field of the root.
+    Item(&'a str, Pair),
+}
+
+pub const ROOT: Where = Where::Field(&[]);
+
+/// What an operation does at its place.
+#[derive(Clone, Copy, Debug)]
+pub enum Does<'a> {
+    /// Assigns an empty map.
+    Map,
+    /// Assigns an empty list.
+    List,
+    /// Assigns a text.
+    Text(&'a str),
+    /// Inserts a text.
+    Insert(&'a str),
+    Delete,
+}
+
+/// The id with this counter and replica.
+fn id_of(pair: Pair) -> Result<OpId, Fail> {
+    let replica = ReplicaId::new(pair.1).ok_or("numbered 0")?;
+    Ok(OpId {
+        counter: pair.0,
+        replica,
+    })
+}
+
+/// The counter and the replica of an id.
+pub fn pair_of(id: OpId) -> Pair {
+    (id.counter, id.replica.number())
+}
+
+/// The field that these names lead to from the root.
+fn field(alloc: Global, names: &[&str]) -> Result<Place, Refusal> {
+    let mut place = Place::doc(alloc);
+    for name in names {
+        place = place.get(alloc, Key::new(alloc, name)?)?;
+    }
+    Ok(place)
+}
+
+/// The head of the list at a field of the root.
+fn head(alloc: Global, list: &str) -> Result<Place, Refusal> {
+    let list = field(alloc, &[list])?;
+    list.head(alloc)
+}
+
+/// The item with this id of the list at a field of the root.
+fn item(alloc: Global, list: &str, pair: Pair) -> Result<Place, Fail> {
+    let id = id_of(pair)?;
+    let list = field(alloc, &[list])?;
+    Ok(list.item(alloc, id)?)
+}
+
+/// The place of a row.
+fn place_of(alloc: Global, at: Where) -> Result<Place, Fail> {
+    match at {
+        Where::Field(names) => Ok(field(alloc, names)?),
+        Where::Head(list) => Ok(head(alloc, list)?),
+        Where::Item(list, pair) => item(alloc, list, pair),
+    }
+}
+
+/// The place of a row, which is no head, as that of an element.
+pub fn element_of(alloc: Global, at: Where) -> Result<ElementPlace, Fail> {
+    let place = place_of(alloc, at)?;
+    Ok(place.into_element().ok_or("a head")?)
+}
+
+/// A text as a value.
+fn text(alloc: Global, text: &str) -> Result<Val, Refusal> {
+    Ok(Val::Scalar(Scalar::Text(Text::new(alloc, text)?)))
+}
+
+/// What an operation does, as a mutation.
+fn mutation(alloc: Global, does: Does) -> Result<Mutation, Refusal> {
+    match does {
+        Does::Map => Ok(Mutation::Assign(Val::EmptyMap)),
+        Does::List => Ok(Mutation::Assign(Val::EmptyList)),
+        Does::Text(value) => Ok(Mutation::Assign(text(alloc, value)?)),
+        Does::Insert(value) => Ok(Mutation::Insert(text(alloc, value)?)),
+        Does::Delete => Ok(Mutation::Delete),
+    }
+}
+
+/// The vector of two counters.
+fn vector(alloc: Global, counters: [u64; 2]) -> Result<VersionVector, Refusal> {
+    let mut vector = VersionVector::zero(alloc, 2)?;
+    vector.raise(0, counters[0]);
+    vector.raise(1, counters[1]);
+    Ok(vector)
+}
+
+/// An operation of the replicas 1 and 2.
+pub fn op(
+    alloc: Global,
+    pair: Pair,
+    counters: [u64; 2],
+    at: Where,
+    does: Does,
+) -> Result<Op, Fail> {
+    let id = id_of(pair)?;
+    let deps = vector(alloc, counters)?;
+    let place = place_of(alloc, at)?;
+    let mutation = mutation(alloc, does)?;
+    Ok(Op {
+        id,
+        deps,
+        place,
+        mutation,
+    })
+}

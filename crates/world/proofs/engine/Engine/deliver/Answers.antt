@@ -1,0 +1,39 @@
+use Rattle.std.proofs.Common.{◌≡◌, ◌⊎◌, ℕ, List, Option, Some, Result, Ok, Err, length, map, sym, ap, ◌∙◌, subst, slice_get}
+use Rattle.std.proofs.lemmas.Bool.{ltb-true}
+use Rattle.std.specs.Prelude.{OnErr}
+use Rattle.ids.specs.declared.refusal.Refusal.TheVariants.{NoMemory}
+use Rattle.semantics.specs.Stamped.{Stamped}
+use Rattle.semantics.specs.Engine.{Engine as TheEngine, Bundle}
+use Rattle.semantics.specs.PeerSteps.{before_stranger, stranger_fault}
+use Rattle.operation.specs.Meanings.{stamped_of}
+use Rattle.world.specs.Engines.{message_of}
+use Rattle.world.proofs.ReachedWorlds.{reached_sound}
+use Rattle.world.proofs.SingleSteps.{read_mapped}
+use Rattle.world.proofs.StoppedReceipts.{message_stopped}
+use Rattle.world.proofs.engine.Engine.deliver.Goals as goal
+
+then_err : {X Y P Q : Type 0} (r : Result X Y) → (P → Q) → OnErr r P → OnErr r Q
+then_err (Ok x) f p = tt
+then_err (Err e) f p = f p
+
+pub returns-clause-stopped : goal.returns-clause-stopped
+returns-clause-stopped c =
+    let A : TheEngine = c.args.self.now in
+    let M : List ℕ = A.replica.members in
+    let b = c.in-Some-Bundle.bundle in
+    let ss : List Stamped = map (stamped_of b.table) b.ops.items in
+    let ops = c.ops_beside-read.result.ops.items in
+    let got = c.ops_beside-read.result.stopped in
+    let messages = c.args.messages.now in
+    let at = c.args.message in
+    let r = c.in-Some-Bundle.field-0.now in
+    let is : slice_get (map message_of c.args.messages.now) c.args.message ≡ Some (Bundle ss) =
+    read_mapped message_of messages at r (ltb-true at (length messages) (sym c.in-Some-Bundle.ensures.lookup.0)) c.in-Some-Bundle.ensures.lookup.1
+    ∙ ap (λ m. Some (message_of m)) c.in-Some-Bundle.field-0-is in
+    let table : c.table.result.now ≡ M = c.table.ensures ∙ c.shown.ensures.table in
+    let read : (got ≡ Some NoMemory) ⊎ ((map (stamped_of M) ops ≡ before_stranger M ss) × (got ≡ stranger_fault M ss)) =
+    subst (λ N. (got ≡ Some NoMemory) ⊎ ((map (stamped_of N) ops ≡ before_stranger N ss) × (got ≡ stranger_fault N ss))) table c.ops_beside-read.ensures.read in
+    then_err c.receive.result
+    (λ part. message_stopped A c.receive.new.self c.args.client (slice_get (map message_of c.args.messages.now) c.args.message) ss (map (stamped_of M) ops) got
+    (reached_sound A c.requires.reached) is read part)
+    c.receive.ensures.stopped

@@ -1,0 +1,27 @@
+use Rattle.std.proofs.Common.{◌≡◌, ◌⊎◌, ℕ, List, Some, Result, Ok, Err, map, ◌∙◌, subst}
+use Rattle.std.specs.Prelude.{OnErr}
+use Rattle.ids.specs.declared.refusal.Refusal.TheVariants.{NoMemory}
+use Rattle.semantics.specs.Engine.{Engine as TheEngine}
+use Rattle.operation.specs.Meanings.{stamped_of}
+use Rattle.wire.specs.Bundles.{readable}
+use Rattle.world.proofs.ReachedWorlds.{reached_sound}
+use Rattle.world.proofs.StoppedReceipts.{lines_stopped}
+use Rattle.world.proofs.engine.Engine.line.Goals as goal
+
+then_err : {X Y P Q : Type 0} (r : Result X Y) → (P → Q) → OnErr r P → OnErr r Q
+then_err (Ok x) f p = tt
+then_err (Err e) f p = f p
+
+pub returns-clause-stopped : goal.returns-clause-stopped
+returns-clause-stopped c =
+    let A : TheEngine = c.args.self.now in
+    let M : List ℕ = A.replica.members in
+    let text : List ℕ = c.args.text.now in
+    let ops = c.read_lines-read.result.ops.items in
+    let got = c.read_lines-read.result.stopped in
+    let table : c.table.result.now ≡ M = c.table.ensures ∙ c.shown.ensures.table in
+    let read : (got ≡ Some NoMemory) ⊎ ((map (stamped_of M) ops ≡ (readable M text).operations) × (got ≡ (readable M text).stopped)) =
+    subst (λ N. (got ≡ Some NoMemory) ⊎ ((map (stamped_of N) ops ≡ (readable N text).operations) × (got ≡ (readable N text).stopped))) table c.read_lines-read.ensures.read in
+    then_err c.receive.result
+    (λ part. lines_stopped A c.receive.new.self c.args.client (readable M text).operations (map (stamped_of M) ops) (readable M text).stopped got (reached_sound A c.requires.reached) read part)
+    c.receive.ensures.stopped

@@ -1,0 +1,10 @@
+use Rattle.std.proofs.Common.{refl, subst}
+use Rattle.semantics.specs.Publication.{Publication}
+use Rattle.semantics.specs.WorldHistory.{BeginsWith}
+use Rattle.oplog.specs.Logs.{history}
+use Rattle.world.proofs.publisher.Publisher.publish.Goals as goal
+
+pub returns-clause-begins : goal.returns-clause-begins
+returns-clause-begins c =
+    let table = c.publish_all.new.published.table in
+    (history table c.publish_all.new.pending.items, refl)
