@@ -10,8 +10,6 @@ mod client;
 mod closing;
 mod kept;
 mod opening;
-#[cfg(test)]
-mod tests;
 mod writer;
 
 pub use client::Client;

@@ -16,8 +16,6 @@ mod publisher;
 mod publishes;
 mod seat;
 mod seen;
-#[cfg(test)]
-mod tests;
 
 pub use book::Opened;
 pub use notice::{EngineName, Notice};

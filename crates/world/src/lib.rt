@@ -12,6 +12,3 @@ mod world;
 pub use items::Reply;
 pub use step::{WorldReply, WorldStep};
 pub use world::World;
-
-#[cfg(test)]
-mod tests;

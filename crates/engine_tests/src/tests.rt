@@ -1,0 +1,26 @@
+//! Engines played on one thread, as rows that `play` does one after another, and in threads.
+
+mod batches;
+mod closing;
+mod playing;
+mod polls;
+mod refused_memory;
+mod threads;
+
+use engine::*;
+use ids::{Config, Refusal};
+use std::alloc::Global;
+use std::test::Fail;
+
+/// An engine of replica 1 among 1, 2 and 3, with two clients and one reader.
+fn config(alloc: Global, queue: u32, batch: u32) -> Result<Config, Fail> {
+    Ok(Config {
+        own: 1,
+        members: vec![in alloc; 1, 2, 3]?,
+        clients: 2,
+        readers: 1,
+        queue,
+        batch,
+        serials: 400,
+    })
+}

@@ -1,0 +1,7 @@
+use Rattle.std.proofs.Common.{◌∷◌, []}
+use Rattle.ids.specs.Members.{in_order}
+use Rattle.published_tests.proofs.tests.two_threads.Given as goal
+
+-- the engine numbered 9 whose history was just opened
+abbrev pub ghosts-shared : goal.ghosts-shared
+ghosts-shared g a = record { book = a.opened.seen.book; own = 9; table = in_order (1 ∷ 2 ∷ 9 ∷ []) }

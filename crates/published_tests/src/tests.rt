@@ -1,0 +1,371 @@
+//! A publisher and its seats: what is asked before and after a publish, and what is learnt.
+
+ghost use Rattle.std.specs.Prelude.{◌≡◌, ◌≢◌, ◌∷◌, ℕ, List, [], None, IsTrue, IfOk, OnOk, length};
+ghost use Rattle.document.specs.Documents.{IsBeside};
+ghost use Rattle.ids.specs.Members.{in_order, is_member};
+ghost use Rattle.semantics.specs.Entries.{IsEntryHistory, applied};
+ghost use Rattle.semantics.specs.Stamped.{MayFollow};
+ghost use Rattle.operation.specs.Alone.{fault_alone};
+ghost use Rattle.operation.specs.Meanings.{stamped_of};
+
+use cursor::{Expr, Place, Step};
+use document::{Document, Question, Reading};
+use ids::{OpId, Refusal, ReplicaId};
+use operation::{Entry, Mutation, Op, check_alone};
+use published::*;
+use std::alloc::Global;
+use std::marker::Brand;
+use std::process::Abort;
+use std::sync::Wait;
+use std::test::Fail;
+use std::thread::{Threads, join, yield_now};
+use value::{Key, Scalar, Val};
+
+/// The members; the publisher's own number is 9.
+const MEMBERS: [u32; 3] = [1, 2, 9];
+
+#[test]
+fn one_thread(rt: HostRuntime) -> Result<(), Fail> {
+    Ok(alone::<Brand, _>(&rt, rt.alloc(), Opened::new())?)
+}
+
+fn alone<N: EngineName, R: Wait + Abort>(
+    rt: &R,
+    alloc: Global,
+    opened: Opened,
+) -> Result<(), Refusal>
+    requires book { opened.seen.book ≡ N.book }
+    requires own { N.own ≡ 9 }
+    requires table { N.table ≡ in_order (1 ∷ 2 ∷ 9 ∷ []) }
+{
+    let (mut publisher, mut seats) = new_publisher::<N, R>(rt, alloc, opened)?;
+    let result = mirrored(rt, alloc, &mut publisher, &mut seats);
+    let (_document, _notice) = publisher.end(rt);
+    result
+}
+
+/// A publisher of new documents, with two seats.
+fn new_publisher<N: EngineName, R: Wait>(
+    rt: &R,
+    alloc: Global,
+    opened: Opened,
+) -> Result<(Publisher<N>, Vec<Seat<N>>), Refusal>
+    requires book { opened.seen.book ≡ N.book }
+    requires table { N.table ≡ in_order (1 ∷ 2 ∷ 9 ∷ []) }
+    ensures { IfOk result (λ r. r.0.appended ≡ []) }
+{
+    let first = Document::new(alloc, &MEMBERS)?;
+    let second = Document::new(alloc, &MEMBERS)?;
+    open::<N>(rt, alloc, opened, first, second, 2)
+}
+
+/// Makes a document that holds what is appended, for a session.
+fn mirrored<N: EngineName, R: Wait + Abort>(
+    rt: &R,
+    alloc: Global,
+    publisher: &mut Publisher<N>,
+    seats: &mut Vec<Seat<N>>,
+) -> Result<(), Refusal>
+    requires own { N.own ≡ 9 }
+    requires table { N.table ≡ in_order (1 ∷ 2 ∷ 9 ∷ []) }
+    requires new { publisher.old.appended ≡ [] }
+{
+    let mut mirror = Document::new(alloc, &MEMBERS)?;
+    seated(rt, alloc, &mut mirror, publisher, seats)
+}
+
+#[test]
+fn two_threads(rt: HostRuntime) -> Result<(), Fail> {
+    Ok(shared::<Brand, _>(&rt, rt.alloc(), Opened::new())?)
+}
+
+fn shared<N: EngineName + Send + Sync, R: Threads + Wait + Abort + Sync>(
+    rt: &R,
+    alloc: Global,
+    opened: Opened,
+) -> Result<(), Refusal>
+    requires book { opened.seen.book ≡ N.book }
+    requires own { N.own ≡ 9 }
+    requires table { N.table ≡ in_order (1 ∷ 2 ∷ 9 ∷ []) }
+{
+    let (mut publisher, mut seats) = new_publisher::<N, R>(rt, alloc, opened)?;
+    let result = meanwhile(rt, alloc, &mut publisher, &mut seats);
+    let (_document, _notice) = publisher.end(rt);
+    result
+}
+
+/// One thread publishes two entries, and another asks until it reads both.
+fn meanwhile<N: EngineName + Send + Sync, R: Threads + Wait + Abort + Sync>(
+    rt: &R,
+    alloc: Global,
+    publisher: &mut Publisher<N>,
+    seats: &mut Vec<Seat<N>>,
+) -> Result<(), Refusal>
+    requires own { N.own ≡ 9 }
+    requires table { N.table ≡ in_order (1 ∷ 2 ∷ 9 ∷ []) }
+    requires new { publisher.old.appended ≡ [] }
+{
+    fill(rt, alloc, publisher)?;
+    let mut seat = seats.pop().ok_or(Refusal::NoReading)?;
+    let read = both(rt, alloc, publisher, &mut seat);
+    assert!(rt; read);
+    assert!(rt; seat.seen_len() == 2);
+    Ok(())
+}
+
+/// Appends two entries to a publisher that has none.
+fn fill<N: EngineName, R: Abort>(
+    rt: &R,
+    alloc: Global,
+    publisher: &mut Publisher<N>,
+) -> Result<(), Refusal>
+    requires own { N.own ≡ 9 }
+    requires table { N.table ≡ in_order (1 ∷ 2 ∷ 9 ∷ []) }
+    requires new { publisher.old.appended ≡ [] }
+{
+    let mut mirror = Document::new(alloc, &MEMBERS)?;
+    write_two(rt, alloc, &mut mirror, publisher)
+}
+
+/// Whether the one thread published, and the other read the number.
+fn both<N: EngineName + Send + Sync, R: Threads + Wait + Sync>(
+    rt: &R,
+    alloc: Global,
+    publisher: &mut Publisher<N>,
+    seat: &mut Seat<N>,
+) -> bool {
+    let (published, read) = join(
+        rt,
+        move || publisher.publish(rt),
+        move || wait_for(rt, alloc, seat, 8),
+    );
+    published.is_ok() && read
+}
+
+/// Asks until the number is read. False where a read is refused.
+fn wait_for<N: EngineName, R: Wait>(
+    rt: &R,
+    alloc: Global,
+    seat: &mut Seat<N>,
+    number: i64,
+) -> bool {
+    for _ in rt.forever() {
+        match value(alloc, seat) {
+            Ok(Some(found)) if found == number => return true,
+            Ok(_) => yield_now(),
+            Err(_) => return false,
+        }
+    }
+    unreachable!()
+}
+
+/// Takes two seats for a session.
+fn seated<N: EngineName, R: Wait + Abort>(
+    rt: &R,
+    alloc: Global,
+    mirror: &mut Document,
+    publisher: &mut Publisher<N>,
+    seats: &mut Vec<Seat<N>>,
+) -> Result<(), Refusal>
+    requires own { N.own ≡ 9 }
+    requires table { N.table ≡ mirror.old.table }
+    requires mirror { publisher.old.appended ≡ mirror.old.entries }
+    requires legal { IsEntryHistory N.own mirror.old.entries }
+{
+    let mut late = seats.pop().ok_or(Refusal::NoReading)?;
+    let mut seat = seats.pop().ok_or(Refusal::NoReading)?;
+    session(rt, alloc, mirror, publisher, &mut seat, &mut late)
+}
+
+fn session<N: EngineName, R: Wait + Abort>(
+    rt: &R,
+    alloc: Global,
+    mirror: &mut Document,
+    publisher: &mut Publisher<N>,
+    seat: &mut Seat<N>,
+    late: &mut Seat<N>,
+) -> Result<(), Refusal>
+    requires own { N.own ≡ 9 }
+    requires table { N.table ≡ mirror.old.table }
+    requires mirror { publisher.old.appended ≡ mirror.old.entries }
+    requires legal { IsEntryHistory N.own mirror.old.entries }
+{
+    let opening = publisher.notice();
+    write_two(rt, alloc, mirror, publisher)?;
+    // Nothing is published yet.
+    check_value(rt, alloc, seat, None, 0)?;
+    publish(rt, publisher, 2)?;
+    check_value(rt, alloc, seat, Some(8), 2)?;
+    // A seat that has read nothing sees what it is told.
+    check_lessons(rt, late, &opening, &publisher.notice());
+    write(rt, alloc, mirror, publisher, 3, 9)?;
+    publish(rt, publisher, 3)?;
+    check_value(rt, alloc, late, Some(9), 3)?;
+    assert!(rt; seat.seen_len() == 2);
+    Ok(())
+}
+
+/// Publish, so that this many entries are published.
+fn publish<N: EngineName, R: Wait + Abort>(
+    rt: &R,
+    publisher: &mut Publisher<N>,
+    count: usize,
+) -> Result<(), Refusal>
+    ensures { publisher.new.appended ≡ publisher.old.appended }
+{
+    publisher.publish(rt)?;
+    assert!(rt; publisher.notice().len() == count);
+    Ok(())
+}
+
+/// Reads the number at the key `a`, in a history of this length.
+fn check_value<N: EngineName, R: Abort>(
+    rt: &R,
+    alloc: Global,
+    seat: &mut Seat<N>,
+    wanted: Option<i64>,
+    length: usize,
+) -> Result<(), Refusal> {
+    let found = value(alloc, seat)?;
+    assert!(rt; found == wanted);
+    assert!(rt; seat.seen_len() == length);
+    Ok(())
+}
+
+/// A seat that has seen nothing learns the longer of two notices, the opening and that of two entries.
+fn check_lessons<N: EngineName, R: Abort>(
+    rt: &R,
+    seat: &mut Seat<N>,
+    opening: &Notice<N>,
+    two: &Notice<N>,
+) {
+    assert!(rt; seat.seen_len() == 0);
+    seat.learn(opening);
+    assert!(rt; seat.seen_len() == 0);
+    assert!(rt; seat.begins(two));
+    seat.learn(two);
+    assert!(rt; seat.seen_len() == 2);
+    assert!(rt; !seat.begins(opening));
+    seat.learn(opening);
+    assert!(rt; seat.seen_len() == 2);
+}
+
+fn write_two<N: EngineName, R: Abort>(
+    rt: &R,
+    alloc: Global,
+    mirror: &mut Document,
+    publisher: &mut Publisher<N>,
+) -> Result<(), Refusal>
+    requires own { N.own ≡ 9 }
+    requires table { N.table ≡ mirror.old.table }
+    requires mirror { publisher.old.appended ≡ mirror.old.entries }
+    requires legal { IsEntryHistory N.own mirror.old.entries }
+    ensures table { OnOk result (N.table ≡ mirror.new.table) }
+    ensures mirror { OnOk result (publisher.new.appended ≡ mirror.new.entries) }
+    ensures legal { OnOk result (IsEntryHistory N.own mirror.new.entries) }
+{
+    write(rt, alloc, mirror, publisher, 1, 7)?;
+    write(rt, alloc, mirror, publisher, 2, 8)?;
+    Ok(())
+}
+
+/// Asks for the values at the key `a`.
+fn question(alloc: Global) -> Result<Question, Refusal>
+    ensures { IfOk result (λ q. (table : List ℕ) → IsBeside table q) }
+{
+    let key = Key::new(alloc, "a")?;
+    let mut steps = Vec::new(alloc);
+    steps.push(Step::Get(key))?;
+    Ok(Question::Values(Expr::new(steps)))
+}
+
+/// The first whole number among what was read, if anything was.
+fn first_number(reading: &Reading) -> Result<Option<i64>, Refusal> {
+    let Reading::Values(values) = reading else {
+        return Err(Refusal::BadLine);
+    };
+    match values.first() {
+        None => Ok(None),
+        Some((_, Scalar::Whole(number))) => Ok(Some(*number)),
+        Some(_) => Err(Refusal::BadLine),
+    }
+}
+
+/// The whole number at the key `a`, if there is one.
+fn value<N: EngineName>(alloc: Global, seat: &mut Seat<N>) -> Result<Option<i64>, Refusal> {
+    let question = question(alloc)?;
+    let reading = seat.ask(alloc, &question)?;
+    first_number(&reading)
+}
+
+/// Appends that replica 1 assigned the number at the key `a`, to the publisher and to a document that holds the same.
+fn write<N: EngineName, R: Abort>(
+    rt: &R,
+    alloc: Global,
+    mirror: &mut Document,
+    publisher: &mut Publisher<N>,
+    counter: u64,
+    number: i64,
+) -> Result<(), Refusal>
+    requires own { N.own ≡ 9 }
+    requires table { N.table ≡ mirror.old.table }
+    requires mirror { publisher.old.appended ≡ mirror.old.entries }
+    requires legal { IsEntryHistory N.own mirror.old.entries }
+    ensures table { N.table ≡ mirror.new.table }
+    ensures mirror { OnOk result (publisher.new.appended ≡ mirror.new.entries) }
+    ensures legal { OnOk result (IsEntryHistory N.own mirror.new.entries) }
+{
+    let op = assign(alloc, mirror, counter, number)?;
+    check(rt, mirror, &op)?;
+    assert!(rt; mirror.len() < 1_048_576);
+    mirror.reserve(alloc, &op)?;
+    publisher.append(Entry::Peer(op.clone()?))?;
+    mirror.commit(Entry::Peer(op));
+    Ok(())
+}
+
+/// The id of this counter and replica 1.
+fn id(counter: u64) -> Result<OpId, Refusal> {
+    let replica = ReplicaId::new(1).ok_or(Refusal::UnknownReplica)?;
+    Ok(OpId { counter, replica })
+}
+
+/// The key `a` of the root.
+fn place(alloc: Global) -> Result<Place, Refusal> {
+    let key = Key::new(alloc, "a")?;
+    Place::doc(alloc).get(alloc, key)
+}
+
+/// Replica 1 assigns the number at the key `a`, after all that was applied.
+fn assign(alloc: Global, document: &Document, counter: u64, number: i64) -> Result<Op, Refusal> {
+    let id = id(counter)?;
+    let place = place(alloc)?;
+    Ok(Op {
+        id,
+        deps: document.applied().clone()?,
+        place,
+        mutation: Mutation::Assign(Val::Scalar(Scalar::Whole(number))),
+    })
+}
+
+/// Whether nothing is wrong with the operation alone.
+fn stands_alone(document: &Document, op: &Op) -> bool
+    ensures alone { IsTrue result → fault_alone document.now.table op.now ≡ None }
+    ensures member { IsTrue result → IsTrue (is_member document.now.table op.now.id.replica) }
+    ensures width { IsTrue result → length op.now.deps ≡ length document.now.table }
+{
+    check_alone(op, document.table()).is_ok()
+}
+
+/// What is wrong with an operation of a peer that is ready, and isn't wrong alone.
+fn check(rt: &impl Abort, document: &Document, op: &Op) -> Result<(), Refusal>
+    ensures lawful { OnOk result (MayFollow (applied document.now.entries) (stamped_of document.now.table op.now)) }
+    ensures member { IsTrue (is_member document.now.table op.now.id.replica) }
+    ensures width { length op.now.deps ≡ length document.now.table }
+    ensures peer { op.now.id.replica ≢ 9 }
+{
+    assert!(rt; op.id.replica.number() != 9);
+    assert!(rt; stands_alone(document, op));
+    assert!(rt; document.ready(op));
+    document.check(op)
+}

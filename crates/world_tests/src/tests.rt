@@ -1,0 +1,351 @@
+//! What worlds reply, by examples.
+
+ghost use Rattle.std.specs.Prelude.{◌≡◌, ℕ, List, length, IfOk, IfSome};
+ghost use Rattle.std.specs.List.{All};
+ghost use Rattle.document.specs.Documents.{IsBeside};
+ghost use Rattle.world.specs.Worlds.{IsAskedBeside, tables_of};
+
+mod documents;
+mod lives;
+mod peers;
+mod phases;
+mod sessions;
+mod shown;
+
+use cursor::{Expr, Step as PathStep};
+use document::{Question, Reading};
+use ids::{Config, Refusal};
+use operation::Command;
+use shown::is_shown;
+use std::alloc::Global;
+use std::process::Abort;
+use std::test::Fail;
+use value::{Key, Scalar, Text, Val};
+use version::VersionVector;
+use world::*;
+
+/// One step of an expression.
+#[derive(Clone, Copy)]
+enum To<'a> {
+    Key(&'a str),
+    Place(u64),
+}
+
+/// A value.
+#[derive(Clone, Copy)]
+enum Wrote<'a> {
+    Null,
+    Truth(bool),
+    Whole(i64),
+    Words(&'a str),
+    Map,
+    List,
+}
+
+/// A step of an engine.
+#[derive(Clone, Copy)]
+enum Act<'a> {
+    /// This client assigns this value at this key.
+    Push(usize, &'a str, i64),
+    /// This client assigns, inserts or deletes at this expression.
+    Assign(usize, &'a [To<'a>], Wrote<'a>),
+    Insert(usize, &'a [To<'a>], Wrote<'a>),
+    Delete(usize, &'a [To<'a>]),
+    Step,
+    Take,
+    Publish,
+    Give,
+    /// This client polls this serial.
+    Poll(usize, u64),
+    /// This token asks for the values at this key.
+    Ask(usize, &'a str),
+    /// This token asks of this expression.
+    Values(usize, &'a [To<'a>]),
+    Keys(usize, &'a [To<'a>]),
+    Items(usize, &'a [To<'a>]),
+    Conflicts(usize, &'a [To<'a>]),
+    Vector(usize),
+    /// This token learns of the answer to this client's serial.
+    Learn(usize, usize, u64),
+    /// This token says hello, or answers the hello of this number.
+    Hello(usize),
+    Bundle(usize, usize),
+    /// This client receives the bundle of this number, or these lines.
+    Deliver(usize, usize),
+    Lines(usize, &'a str),
+    Dropped,
+}
+
+use Act::{
+    Ask, Assign, Bundle, Conflicts, Delete, Deliver, Dropped, Give, Hello, Insert, Items, Keys,
+    Learn, Lines, Poll, Publish, Push, Step, Take, Values, Vector,
+};
+use To::{Key as AtKey, Place};
+use Wrote::{List, Map, Null, Truth, Whole, Words};
+
+/// The numbers of a configuration beside its members: clients, readers, places of the queue, items of a batch, serials.
+type Sizes = (u32, u32, u32, u32, u32);
+
+/// An engine's number, its members and its sizes.
+type Opening<'a> = (u32, &'a [u32], Sizes);
+
+fn config(alloc: Global, own: u32, members: &[u32], sizes: Sizes) -> Result<Config, Refusal> {
+    let (clients, readers, queue, batch, serials) = sizes;
+    Ok(Config {
+        own,
+        members: members.to_vec(alloc)?,
+        clients,
+        readers,
+        queue,
+        batch,
+        serials,
+    })
+}
+
+/// A world of one engine, number 1 of these members.
+fn world_of_one(alloc: Global, members: &[u32], sizes: Sizes) -> Result<World, Refusal> {
+    let config = config(alloc, 1, members, sizes)?;
+    World::new(alloc, &[config])
+}
+
+/// A world of two engines of these numbers, members and sizes.
+fn engines(alloc: Global, first: Opening, second: Opening) -> Result<World, Refusal> {
+    let first = config(alloc, first.0, first.1, first.2)?;
+    let second = config(alloc, second.0, second.1, second.2)?;
+    World::new(alloc, &[first, second])
+}
+
+fn at(alloc: Global, path: &[To]) -> Result<Expr, Refusal> {
+    let mut steps = Vec::new(alloc);
+    for to in path {
+        steps.push(match to {
+            AtKey(key) => PathStep::Get(Key::new(alloc, key)?),
+            Place(index) => PathStep::Idx(*index),
+        })?;
+    }
+    Ok(Expr::new(steps))
+}
+
+fn value(alloc: Global, wrote: Wrote) -> Result<Val, Refusal> {
+    Ok(match wrote {
+        Null => Val::Scalar(Scalar::Null),
+        Truth(truth) => Val::Scalar(Scalar::Bool(truth)),
+        Whole(whole) => Val::Scalar(Scalar::Whole(whole)),
+        Words(text) => Val::Scalar(Scalar::Text(Text::new(alloc, text)?)),
+        Map => Val::EmptyMap,
+        List => Val::EmptyList,
+    })
+}
+
+/// The command that assigns a value at a path.
+fn assigning(alloc: Global, path: &[To], wrote: Wrote) -> Result<Command, Refusal> {
+    let at = at(alloc, path)?;
+    Ok(Command::Assign(at, value(alloc, wrote)?))
+}
+
+/// The command that inserts one there.
+fn inserting(alloc: Global, path: &[To], wrote: Wrote) -> Result<Command, Refusal> {
+    let at = at(alloc, path)?;
+    Ok(Command::InsertAfter(at, value(alloc, wrote)?))
+}
+
+/// The command of a client, if the act is one.
+fn command(alloc: Global, act: Act) -> Result<Option<(usize, Command)>, Refusal> {
+    let (client, command) = match act {
+        Push(client, key, whole) => (client, assigning(alloc, &[AtKey(key)], Whole(whole))),
+        Assign(client, path, wrote) => (client, assigning(alloc, path, wrote)),
+        Insert(client, path, wrote) => (client, inserting(alloc, path, wrote)),
+        Delete(client, path) => (client, at(alloc, path).map(Command::Delete)),
+        _ => return Ok(None),
+    };
+    Ok(Some((client, command?)))
+}
+
+/// The question of a token, if the act is one.
+fn question(alloc: Global, act: Act) -> Result<Option<(usize, Question)>, Refusal>
+    ensures { IfOk result (λ o. IfSome o (λ p. (table : List ℕ) → IsBeside table p.1)) }
+{
+    Ok(match act {
+        Ask(token, key) => Some((token, Question::Values(at(alloc, &[AtKey(key)])?))),
+        Values(token, path) => Some((token, Question::Values(at(alloc, path)?))),
+        Keys(token, path) => Some((token, Question::Keys(at(alloc, path)?))),
+        Items(token, path) => Some((token, Question::Items(at(alloc, path)?))),
+        Conflicts(token, path) => Some((token, Question::Conflicts(at(alloc, path)?))),
+        Vector(token) => Some((token, Question::Vector)),
+        _ => None,
+    })
+}
+
+/// The step of an act that is a phase of the writer, a poll, or of peers.
+fn other_step(alloc: Global, engine: usize, act: Act) -> Result<Option<WorldStep>, Refusal>
+    ensures { IfOk result (λ o. IfSome o (λ s. (tables : List (List ℕ)) → IsAskedBeside tables s)) }
+{
+    Ok(Some(match act {
+        Take => WorldStep::Take { engine },
+        Publish => WorldStep::Publish { engine },
+        Give => WorldStep::Give { engine },
+        Poll(client, serial) => WorldStep::Poll {
+            engine,
+            client,
+            serial,
+        },
+        Learn(token, client, serial) => WorldStep::Learn {
+            engine,
+            token,
+            client,
+            serial,
+        },
+        Hello(token) => WorldStep::Hello { engine, token },
+        Bundle(token, message) => WorldStep::Bundle {
+            engine,
+            token,
+            message,
+        },
+        Deliver(client, message) => WorldStep::Deliver {
+            engine,
+            client,
+            message,
+        },
+        Lines(client, text) => {
+            let text = text.as_bytes().to_vec(alloc)?;
+            WorldStep::Line {
+                engine,
+                client,
+                text,
+            }
+        }
+        Dropped => WorldStep::Dropped { engine },
+        _ => return Ok(None),
+    }))
+}
+
+fn step(alloc: Global, engine: usize, act: Act) -> Result<WorldStep, Refusal>
+    ensures { (tables : List (List ℕ)) → IfOk result (IsAskedBeside tables) }
+{
+    if let Some(step) = other_step(alloc, engine, act)? {
+        return Ok(step);
+    }
+    if let Some((client, command)) = command(alloc, act)? {
+        return Ok(WorldStep::Push {
+            engine,
+            client,
+            command,
+        });
+    }
+    if let Some((token, question)) = question(alloc, act)? {
+        return Ok(WorldStep::Ask {
+            engine,
+            token,
+            question,
+        });
+    }
+    Ok(WorldStep::Step { engine })
+}
+
+/// The steps of these acts of an engine.
+fn steps(alloc: Global, engine: usize, acts: &[Act]) -> Result<Vec<WorldStep>, Refusal>
+    ensures { (tables : List (List ℕ)) → IfOk result (λ v. All (IsAskedBeside tables) v.items) }
+{
+    let mut steps = Vec::new(alloc);
+    for act in acts {
+        steps.push(step(alloc, engine, *act)?)?;
+    }
+    Ok(steps)
+}
+
+/// The vector of these counters, beside a table of so many replicas.
+fn vector(alloc: Global, width: usize, counters: &[u64]) -> Result<VersionVector, Refusal>
+    ensures { IfOk result (λ v. length v ≡ width) }
+{
+    let mut vector = VersionVector::zero(alloc, width)?;
+    for index in 0..counters.len().min(width) {
+        vector.raise(index, counters[index]);
+    }
+    Ok(vector)
+}
+
+/// A token asks for what a vector of these counters lacks.
+fn missing_step(
+    alloc: Global,
+    world: &World,
+    token: usize,
+    counters: &[u64],
+) -> Result<WorldStep, Refusal>
+    ensures { IfOk result (IsAskedBeside (tables_of world.now.engines)) }
+{
+    let Some(table) = world.table(0) else {
+        return Err(Refusal::NoReading);
+    };
+    let vector = vector(alloc, table.len(), counters)?;
+    Ok(WorldStep::Ask {
+        engine: 0,
+        token,
+        question: Question::Missing(vector),
+    })
+}
+
+/// An act of an engine, and its reply.
+type Row<'a> = (Act<'a>, &'a str);
+
+/// The steps of the acts of these rows.
+fn row_steps(alloc: Global, engine: usize, rows: &[Row]) -> Result<Vec<WorldStep>, Refusal>
+    ensures { (tables : List (List ℕ)) → IfOk result (λ v. All (IsAskedBeside tables) v.items) }
+{
+    let mut acts = Vec::new(alloc);
+    for (act, _) in rows {
+        acts.push(*act)?;
+    }
+    steps(alloc, engine, &acts)
+}
+
+/// The replies are those of the rows, the first of which has this number where a failure names it.
+fn are_shown(
+    rt: &impl Abort,
+    alloc: Global,
+    first: usize,
+    replies: &[WorldReply],
+    rows: &[Row],
+) -> Result<(), Fail> {
+    assert_eq!(rt; replies.len(), rows.len());
+    for (index, (reply, row)) in replies.iter().zip(rows).enumerate() {
+        is_shown(rt, alloc, first.saturating_add(index), reply, row.1)?;
+    }
+    Ok(())
+}
+
+/// In one run, each act of the engine gets its reply. The first row has this number where a failure names it.
+fn replies_from(
+    rt: &impl Abort,
+    alloc: Global,
+    world: &mut World,
+    engine: usize,
+    first: usize,
+    rows: &[Row],
+) -> Result<(), Fail> {
+    let steps = row_steps(alloc, engine, rows)?;
+    let replies = world.run(alloc, &steps)?;
+    are_shown(rt, alloc, first, &replies, rows)
+}
+
+/// In one run, each act of the engine gets its reply.
+fn replies(
+    rt: &impl Abort,
+    alloc: Global,
+    world: &mut World,
+    engine: usize,
+    rows: &[Row],
+) -> Result<(), Fail> {
+    replies_from(rt, alloc, world, engine, 0, rows)
+}
+
+/// In one run, each act of an engine, which is alone in its world and number 1 of these members, gets its reply.
+fn one_replies(
+    rt: &impl Abort,
+    alloc: Global,
+    members: &[u32],
+    sizes: Sizes,
+    rows: &[Row],
+) -> Result<(), Fail> {
+    let mut world = world_of_one(alloc, members, sizes)?;
+    replies(rt, alloc, &mut world, 0, rows)
+}
