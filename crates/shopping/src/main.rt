@@ -6,7 +6,7 @@ ghost use Rattle.ids.specs.Members.{in_order};
 
 use cursor::{Expr, Step as Hop};
 use document::{Question, Reading};
-use engine::{Client, EngineName, Parts, ReaderToken, Step, Writer, close, open, prepare};
+use engine::{Client, EngineName, Parts, ReaderToken, Step, Ticket, Writer, close, open, prepare};
 use ids::{Config, Refusal};
 use items::Reply;
 use operation::Command;
@@ -120,15 +120,30 @@ fn write<N: EngineName, R: Wait>(
 ) -> Result<(), Refusal> {
     let mut client = client;
     for (what, how_much) in wishes {
-        let place = Expr::new(vec![in alloc; Hop::Get(Key::new(alloc, what)?)]?);
-        let text = Val::Scalar(Scalar::Text(Text::new(alloc, how_much)?));
-        let ticket = client.submit(rt, alloc, Command::Assign(place, text))?;
-        for _ in rt.forever() {
-            match client.poll(&ticket)? {
-                Some(Reply::Refused(refusal, _)) => return Err(refusal),
-                Some(_) => break,
-                None => yield_now(),
-            }
+        let ticket = client.submit(rt, alloc, wish(alloc, what, how_much)?)?;
+        wait_for(rt, &mut client, &ticket)?;
+    }
+    Ok(())
+}
+
+/// The command that writes how much to buy of it.
+fn wish(alloc: Global, what: &str, how_much: &str) -> Result<Command, Refusal> {
+    let step = Hop::Get(Key::new(alloc, what)?);
+    let text = Val::Scalar(Scalar::Text(Text::new(alloc, how_much)?));
+    Ok(Command::Assign(Expr::new(vec![in alloc; step]?), text))
+}
+
+/// Polls until the writer has answered.
+fn wait_for<N: EngineName, R: Wait>(
+    rt: &R,
+    client: &mut Client<N>,
+    ticket: &Ticket,
+) -> Result<(), Refusal> {
+    for _ in rt.forever() {
+        match client.poll(ticket)? {
+            Some(Reply::Refused(refusal, _)) => return Err(refusal),
+            Some(_) => break,
+            None => yield_now(),
         }
     }
     Ok(())
