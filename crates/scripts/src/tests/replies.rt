@@ -22,7 +22,7 @@ pub fn id_of(pair: Pair) -> Result<OpId, Refusal> {
 }
 
 /// The vector of these counters.
-pub fn vector(alloc: Global, counters: &[u64]) -> Result<VersionVector, Refusal> {
+fn vector(alloc: Global, counters: &[u64]) -> Result<VersionVector, Refusal> {
     let mut vector = VersionVector::zero(alloc, counters.len())?;
     for (index, counter) in counters.iter().enumerate() {
         if index < vector.width() {
@@ -33,7 +33,7 @@ pub fn vector(alloc: Global, counters: &[u64]) -> Result<VersionVector, Refusal>
 }
 
 /// The items with these ids.
-pub fn items_of(alloc: Global, pairs: &[Pair]) -> Result<Reading, Refusal> {
+fn items_of(alloc: Global, pairs: &[Pair]) -> Result<Reading, Refusal> {
     let mut items = Vec::new(alloc);
     for pair in pairs {
         items.push(id_of(*pair)?)?;
@@ -42,12 +42,7 @@ pub fn items_of(alloc: Global, pairs: &[Pair]) -> Result<Reading, Refusal> {
 }
 
 /// These replies are printed so.
-pub fn prints(
-    rt: &impl Abort,
-    alloc: Global,
-    replies: &[WorldReply],
-    text: &str,
-) -> Result<(), Fail> {
+fn prints(rt: &impl Abort, alloc: Global, replies: &[WorldReply], text: &str) -> Result<(), Fail> {
     let printed = reply_lines(alloc, replies)?;
     assert_eq!(rt; printed.as_str(), text);
     Ok(())
