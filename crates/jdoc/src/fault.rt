@@ -30,7 +30,7 @@ pub enum Status {
 pub enum Fault<'a> {
     /// A line of the script is bad, or there was no memory for it.
     #[error("jdoc: {0}")]
-    Script(ScriptError),
+    Script(#[from] ScriptError),
     #[error("jdoc: cannot read {0}")]
     CannotRead(&'a str),
     #[error("jdoc: a word is no text")]

@@ -56,5 +56,5 @@ fn replies_of<'a, R: Read>(
     if let Err(error) = reader.read_to_end(&mut bytes) {
         return Err(Fault::of_read(name, &error));
     }
-    replies_to(alloc, bytes.as_slice()).map_err(Fault::Script)
+    Ok(replies_to(alloc, bytes.as_slice())?)
 }
