@@ -1,13 +1,13 @@
 -- The number that the text of an option has.
-use Rattle.std.proofs.Common.{◌≡◌, ◌<◌, ◌≤◌, ◌&&◌, nat_le, ℕ, List, Option, Some, None, Result, Ok, Err, IfSome, codes, refl, sym, subst, ◌∙◌, true, arith}
+use Rattle.std.proofs.Common.{◌≡◌, ◌<◌, ◌≤◌, ◌&&◌, nat_le, ℕ, List, Option, Some, None, Result, Ok, Err, IfSome, refl, sym, subst, ◌∙◌, arith}
 use Rattle.std.proofs.lemmas.Bool.{and_parts, leb-true}
-use Rattle.std.specs.Str.Parse.{ParsesUnsigned, IsNumeral, digits_value, without_leading_plus}
+use Rattle.std.specs.Str.Parse.{ParsesUnsigned}
 use Rattle.clap.specs.Matches.{ReadsOne, one_text}
-use Rattle.clap.specs.Words.{Row, Text, one_of, rows_of}
+use Rattle.clap.specs.Words.{Text, rows_of}
 use Rattle.clap.specs.declared.parser.matches.Found.{Found}
 use Rattle.clap.proofs.WalkLemmas.{one_text-rows}
 use Rattle.bench.specs.declared.plan.Plan.{Plan}
-use Rattle.jdoc.specs.Words.{IsNumber, IsPlanOf}
+use Rattle.jdoc.specs.Words.{IsNumber}
 
 module _ {E : Type 0} (gives : List ℕ → Result ℕ E → Type 0) (parses : (t : List ℕ) (x : Result ℕ E) → gives t x → ParsesUnsigned 32 10 t x) where
   -- a number that was read is that of the text

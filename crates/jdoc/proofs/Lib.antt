@@ -1,7 +1,2 @@
-pub mod StepsLeft
-pub mod NoFloats
-pub mod WrongLengths
-pub mod AskedTables
 pub mod FoundNumbers
 pub mod MetSubcommands
-pub mod WrittenBack

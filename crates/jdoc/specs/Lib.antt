@@ -1,15 +1,4 @@
-pub mod Engines
-pub mod Expressions
-pub mod Faults
-pub mod NumberedSteps
-pub mod Numbers
 pub mod Plays
-pub mod Presence
-pub mod Replies
-pub mod Requests
 pub mod Runs
-pub mod Scripts
 pub mod Statuses
-pub mod Steps
 pub mod Words
-pub mod Written

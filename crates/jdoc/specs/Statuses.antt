@@ -1,11 +1,13 @@
 -- The statuses that a run ends with.
+use Rattle.scripts.specs.declared.error.ScriptError.TheVariants as script
 use Rattle.jdoc.specs.declared.fault.Fault.{Fault}
-use Rattle.jdoc.specs.declared.fault.Fault.TheVariants.{BadLine, CannotRead, BadWord, OutOfRange, NoMemory}
+use Rattle.jdoc.specs.declared.fault.Fault.TheVariants.{Script, CannotRead, BadWord, OutOfRange, NoMemory}
 use Rattle.jdoc.specs.declared.fault.Status.{Status}
 use Rattle.jdoc.specs.declared.fault.Status.TheVariants as status
 
 abbrev pub status_of : Fault → Status
-status_of (BadLine line refusal) = status.BadInput
+status_of (Script (script.BadLine line refusal)) = status.BadInput
+status_of (Script script.NoMemory) = status.NoMemory
 status_of (CannotRead name) = status.BadInput
 status_of BadWord = status.BadInput
 status_of OutOfRange = status.BadInput

@@ -5,8 +5,7 @@ ghost use Rattle.std.specs.IoError.{error_kind};
 ghost use Rattle.jdoc.specs.Statuses.{status_of};
 ghost use Rattle.jdoc.specs.declared.fault.Status.TheVariants.{NotWritten};
 
-use ids::Refusal;
-use std::alloc::{AllocError, AllocFailed};
+use scripts::ScriptError;
 use std::io;
 use std::io::{ErrorKind, Write};
 use thiserror::Error;
@@ -29,9 +28,9 @@ pub enum Status {
 /// Why a run has no replies, as it is told on standard error.
 #[derive(Debug, Drop, Error)]
 pub enum Fault<'a> {
-    /// The first line of the script that is bad, counted from 1, and why.
-    #[error("jdoc: line {line}: {refusal}")]
-    BadLine { line: u64, refusal: Refusal },
+    /// A line of the script is bad, or there was no memory for it.
+    #[error("jdoc: {0}")]
+    Script(#[from] ScriptError),
     #[error("jdoc: cannot read {0}")]
     CannotRead(&'a str),
     #[error("jdoc: a word is no text")]
@@ -44,17 +43,6 @@ pub enum Fault<'a> {
 
 impl<'a> Fault<'a> {
     ghost use Rattle.jdoc.specs.declared.fault.Fault.TheVariants.{NoMemory, CannotRead, BadWord};
-    ghost use Rattle.jdoc.specs.Faults.{fault_of};
-
-    /// Why the line of this number has no meaning.
-    pub fn of_line(line: u64, refusal: Refusal) -> Fault<'a>
-        ensures { result ≡ fault_of line refusal }
-    {
-        match refusal {
-            Refusal::NoMemory => Fault::NoMemory,
-            refusal => Fault::BadLine { line, refusal },
-        }
-    }
 
     /// Why what has this name wasn't read.
     pub fn of_read(name: &'a str, error: &io::Error) -> Fault<'a>
@@ -84,6 +72,7 @@ impl<'a> Fault<'a> {
     {
         match self {
             Fault::NoMemory => Status::NoMemory,
+            Fault::Script(ScriptError::NoMemory) => Status::NoMemory,
             _ => Status::BadInput,
         }
     }
@@ -96,25 +85,5 @@ impl<'a> Fault<'a> {
             Ok(()) => self.status(),
             Err(_) => Status::NotWritten,
         }
-    }
-}
-
-impl From<AllocError> for Fault<'_> {
-    ghost use Rattle.jdoc.specs.declared.fault.Fault.TheVariants.{NoMemory};
-
-    ghost from_gives = { λ _ f. f ≡ NoMemory };
-
-    fn from(_e: AllocError) -> Self {
-        Fault::NoMemory
-    }
-}
-
-impl<T: Drop> From<AllocFailed<T>> for Fault<'_> {
-    ghost use Rattle.jdoc.specs.declared.fault.Fault.TheVariants.{NoMemory};
-
-    ghost from_gives = { λ _ f. f ≡ NoMemory };
-
-    fn from(_e: AllocFailed<T>) -> Self {
-        Fault::NoMemory
     }
 }

@@ -1,19 +1,9 @@
 //! The program: it runs a script of engines and prints what each step replies, or lets threads write into an engine.
 #![tactic(auto)]
 
-mod configuration;
-mod expressions;
 mod fault;
-mod numbered_steps;
-mod numbers;
 mod playing;
-mod presence;
-mod readings;
-mod replies;
-mod requests;
 mod run;
-mod script;
-mod steps;
 #[cfg(test)]
 mod tests;
 mod words;

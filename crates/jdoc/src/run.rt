@@ -3,11 +3,11 @@
 ghost use Rattle.std.specs.Prelude.{◌≡◌, ◌⊎◌, IfOk, IfSome, string_bytes};
 ghost use Rattle.std.specs.Io.KnownBytes.{Appends};
 ghost use Rattle.jdoc.specs.declared.fault.Status.TheVariants.{Done, NotWritten};
-ghost use Rattle.jdoc.specs.Runs.{AppendsReplies, IsReplyText, IsStatus};
+ghost use Rattle.jdoc.specs.Runs.{AppendsReplies, IsStatus};
+ghost use Rattle.scripts.specs.Runs.{IsReplyText};
 
 use crate::fault::{Fault, Status};
-use crate::replies::reply_lines;
-use crate::script::{Script, read_script};
+use scripts::replies_to;
 use std::alloc::Global;
 use std::io::{Read, Write};
 
@@ -56,9 +56,5 @@ fn replies_of<'a, R: Read>(
     if let Err(error) = reader.read_to_end(&mut bytes) {
         return Err(Fault::of_read(name, &error));
     }
-    let Script { mut world, steps } = read_script(alloc, bytes.as_slice())?;
-    match world.run(alloc, steps.as_slice()) {
-        Ok(replies) => Ok(reply_lines(alloc, replies.as_slice())?),
-        Err(_) => Err(Fault::NoMemory),
-    }
+    Ok(replies_to(alloc, bytes.as_slice())?)
 }

@@ -1,18 +1,6 @@
-//! Runs of scripts, and what no clause says of them.
+//! The program's words, what it reads and writes, and what a bench prints.
 
-mod bad_requests;
-mod bad_scripts;
-mod bad_steps;
 mod benches;
-mod configurations;
-mod engines;
-mod good_scripts;
-mod meeting_examples;
-mod playing;
-mod readings;
-mod replies;
-mod sessions;
-mod single_engine_examples;
+mod runs;
 mod streams;
 mod words;
-mod worked_examples;

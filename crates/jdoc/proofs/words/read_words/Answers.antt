@@ -1,5 +1,5 @@
 use Rattle.std.proofs.Common.{rules, ◌≡◌, List, Some, None, map, codes, sym, ◌∙◌, subst}
-use Rattle.clap.specs.Words.{Row, Text, first_of, found_of, rows_of, subcommand_of}
+use Rattle.clap.specs.Words.{Row, Text, found_of, rows_of, subcommand_of}
 use Rattle.clap.specs.declared.parser.matches.ArgMatches.TheViews.{out-ArgMatches}
 use Rattle.clap.proofs.WalkLemmas.{first_value-rows}
 use Rattle.jdoc.specs.Words.{IsAskedBy, IsJobOf, IsPlanOf, jdoc_app}

@@ -1,6 +1,0 @@
-use Rattle.std.proofs.Common.{rules}
-use Rattle.jdoc.proofs.WrongLengths.{wrong_lengths}
-use Rattle.jdoc.proofs.steps.push_in.Goals as goal
-
-pub returns-in_default-clause-read : goal.returns-in_default-clause-read
-returns-in_default-clause-read c = λ tables. search (rules, wrong_lengths)

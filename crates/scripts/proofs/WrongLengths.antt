@@ -1,0 +1,121 @@
+-- A list of another length than a form has is no such form.
+use Rattle.std.proofs.Common.{◌≡◌, ◌≢◌, ℕ, Some, List, [], ◌∷◌, length, Err, refl}
+use Rattle.std.proofs.lemmas.Bool.{ltb-true, ltb-false}
+use Rattle.ids.specs.declared.refusal.Refusal.TheVariants.{BadLine}
+use Rattle.serde_json.specs.declared.value.Value.{Value}
+use Rattle.serde_json.specs.View.{items_view}
+use Rattle.scripts.specs.Engines.{engine_of, only_engines}
+use Rattle.semantics.specs.Elements.{Value as TheValue}
+use Rattle.semantics.specs.Operations.{Mutation}
+use Rattle.semantics.specs.Questions.{Step, Question}
+use Rattle.scripts.specs.Requests.{applied_of, asking_of, delete_of, missing_of, writing_of}
+use Rattle.scripts.specs.Numbers.{one_number, two_numbers, three_numbers, four_numbers}
+use Rattle.scripts.specs.Steps.{ask_of, line_of, push_of}
+
+pub engine_of-wrong_length : (xs : List Value) → length xs ≢ 7 → engine_of (items_view xs) ≡ Err BadLine
+engine_of-wrong_length [] h = refl
+engine_of-wrong_length (a ∷ []) h = refl
+engine_of-wrong_length (a ∷ b ∷ []) h = refl
+engine_of-wrong_length (a ∷ b ∷ d ∷ []) h = refl
+engine_of-wrong_length (a ∷ b ∷ d ∷ e ∷ []) h = refl
+engine_of-wrong_length (a ∷ b ∷ d ∷ e ∷ f ∷ []) h = refl
+engine_of-wrong_length (a ∷ b ∷ d ∷ e ∷ f ∷ g ∷ []) h = refl
+engine_of-wrong_length (a ∷ b ∷ d ∷ e ∷ f ∷ g ∷ i ∷ []) h = absurd (h refl)
+engine_of-wrong_length (a ∷ b ∷ d ∷ e ∷ f ∷ g ∷ i ∷ j ∷ xs) h = refl
+
+pub only_engines-wrong_length : (xs : List Value) → length xs ≢ 1 → only_engines (items_view xs) ≡ Err BadLine
+only_engines-wrong_length [] h = refl
+only_engines-wrong_length (a ∷ []) h = absurd (h refl)
+only_engines-wrong_length (a ∷ b ∷ xs) h = refl
+
+pub writing_of-wrong_length : (how : TheValue → Mutation) → (xs : List Value) → length xs ≢ 2 → writing_of how (items_view xs) ≡ Err BadLine
+writing_of-wrong_length how [] h = refl
+writing_of-wrong_length how (a ∷ []) h = refl
+writing_of-wrong_length how (a ∷ b ∷ []) h = absurd (h refl)
+writing_of-wrong_length how (a ∷ b ∷ d ∷ xs) h = refl
+
+pub delete_of-wrong_length : (xs : List Value) → length xs ≢ 1 → delete_of (items_view xs) ≡ Err BadLine
+delete_of-wrong_length [] h = refl
+delete_of-wrong_length (a ∷ []) h = absurd (h refl)
+delete_of-wrong_length (a ∷ b ∷ xs) h = refl
+
+pub asking_of-wrong_length : (what : List Step → Question) → (xs : List Value) → length xs ≢ 1 → asking_of what (items_view xs) ≡ Err BadLine
+asking_of-wrong_length what [] h = refl
+asking_of-wrong_length what (a ∷ []) h = absurd (h refl)
+asking_of-wrong_length what (a ∷ b ∷ xs) h = refl
+
+pub missing_of-wrong_length : (table : List ℕ) → (xs : List Value) → length xs ≢ 1 → missing_of (Some table) (items_view xs) ≡ Err BadLine
+missing_of-wrong_length table [] h = refl
+missing_of-wrong_length table (a ∷ []) h = absurd (h refl)
+missing_of-wrong_length table (a ∷ b ∷ xs) h = refl
+
+pub applied_of-wrong_length : (xs : List Value) → length xs ≢ 0 → applied_of (items_view xs) ≡ Err BadLine
+applied_of-wrong_length [] h = absurd (h refl)
+applied_of-wrong_length (a ∷ xs) h = refl
+
+pub push_of-wrong_length : (xs : List Value) → length xs ≢ 3 → push_of (items_view xs) ≡ Err BadLine
+push_of-wrong_length [] h = refl
+push_of-wrong_length (a ∷ []) h = refl
+push_of-wrong_length (a ∷ b ∷ []) h = refl
+push_of-wrong_length (a ∷ b ∷ d ∷ []) h = absurd (h refl)
+push_of-wrong_length (a ∷ b ∷ d ∷ e ∷ xs) h = refl
+
+pub ask_of-wrong_length : (tables : List (List ℕ)) → (xs : List Value) → length xs ≢ 3 → ask_of tables (items_view xs) ≡ Err BadLine
+ask_of-wrong_length tables [] h = refl
+ask_of-wrong_length tables (a ∷ []) h = refl
+ask_of-wrong_length tables (a ∷ b ∷ []) h = refl
+ask_of-wrong_length tables (a ∷ b ∷ d ∷ []) h = absurd (h refl)
+ask_of-wrong_length tables (a ∷ b ∷ d ∷ e ∷ xs) h = refl
+
+pub line_of-wrong_length : (tables : List (List ℕ)) → (xs : List Value) → length xs ≢ 3 → line_of tables (items_view xs) ≡ Err BadLine
+line_of-wrong_length tables [] h = refl
+line_of-wrong_length tables (a ∷ []) h = refl
+line_of-wrong_length tables (a ∷ b ∷ []) h = refl
+line_of-wrong_length tables (a ∷ b ∷ d ∷ []) h = absurd (h refl)
+line_of-wrong_length tables (a ∷ b ∷ d ∷ e ∷ xs) h = refl
+
+pub one_number-wrong_length : (xs : List Value) → length xs ≢ 1 → one_number (items_view xs) ≡ Err BadLine
+one_number-wrong_length [] h = refl
+one_number-wrong_length (a ∷ []) h = absurd (h refl)
+one_number-wrong_length (a ∷ b ∷ xs) h = refl
+
+pub two_numbers-wrong_length : (xs : List Value) → length xs ≢ 2 → two_numbers (items_view xs) ≡ Err BadLine
+two_numbers-wrong_length [] h = refl
+two_numbers-wrong_length (a ∷ []) h = refl
+two_numbers-wrong_length (a ∷ b ∷ []) h = absurd (h refl)
+two_numbers-wrong_length (a ∷ b ∷ d ∷ xs) h = refl
+
+pub three_numbers-wrong_length : (xs : List Value) → length xs ≢ 3 → three_numbers (items_view xs) ≡ Err BadLine
+three_numbers-wrong_length [] h = refl
+three_numbers-wrong_length (a ∷ []) h = refl
+three_numbers-wrong_length (a ∷ b ∷ []) h = refl
+three_numbers-wrong_length (a ∷ b ∷ d ∷ []) h = absurd (h refl)
+three_numbers-wrong_length (a ∷ b ∷ d ∷ e ∷ xs) h = refl
+
+pub four_numbers-wrong_length : (xs : List Value) → length xs ≢ 4 → four_numbers (items_view xs) ≡ Err BadLine
+four_numbers-wrong_length [] h = refl
+four_numbers-wrong_length (a ∷ []) h = refl
+four_numbers-wrong_length (a ∷ b ∷ []) h = refl
+four_numbers-wrong_length (a ∷ b ∷ d ∷ []) h = refl
+four_numbers-wrong_length (a ∷ b ∷ d ∷ e ∷ []) h = absurd (h refl)
+four_numbers-wrong_length (a ∷ b ∷ d ∷ e ∷ f ∷ xs) h = refl
+
+-- with what a pattern of a slice tests of its length
+pub ruleset wrong_lengths = (
+  ltb-true,
+  ltb-false,
+  engine_of-wrong_length,
+  only_engines-wrong_length,
+  writing_of-wrong_length,
+  delete_of-wrong_length,
+  asking_of-wrong_length,
+  missing_of-wrong_length,
+  applied_of-wrong_length,
+  push_of-wrong_length,
+  ask_of-wrong_length,
+  line_of-wrong_length,
+  one_number-wrong_length,
+  two_numbers-wrong_length,
+  three_numbers-wrong_length,
+  four_numbers-wrong_length,
+)

@@ -1,0 +1,12 @@
+pub mod Engines
+pub mod Errors
+pub mod Expressions
+pub mod NumberedSteps
+pub mod Numbers
+pub mod Presence
+pub mod Replies
+pub mod Requests
+pub mod Runs
+pub mod Scripts
+pub mod Steps
+pub mod Written

@@ -1,0 +1,28 @@
+-- What a whole script is: engines and steps. The first bad line, by its number, decides.
+use Rattle.std.specs.Prelude.{ℕ, ◌+◌, List, [], ◌∷◌, Result, Ok, Err}
+use Rattle.ids.specs.Configurations.{Configuration}
+use Rattle.ids.specs.declared.refusal.Refusal.TheVariants.{BadLine}
+use Rattle.semantics.specs.World.{WorldStep}
+use Rattle.wire.specs.Lines.{Bad, cut, on_line, unless_bad}
+use Rattle.scripts.specs.Engines.{engines_line}
+use Rattle.scripts.specs.Steps.{step_line}
+
+-- the steps on lines from this number on; bytes after the last line are a bad line
+abbrev pub steps_from : List Configuration → ℕ → List (List ℕ) → List ℕ → Result (List WorldStep) Bad
+steps_from engines number [] [] = Ok []
+steps_from engines number [] (b ∷ tail) = Err (number, BadLine)
+steps_from engines number (l ∷ ls) tail =
+    unless_bad (λ s. unless_bad (λ ss. Ok (s ∷ ss)) (steps_from engines (number + 1) ls tail)) (on_line number (step_line engines l))
+
+-- the steps in what is left of a script, after so many lines
+abbrev pub steps_left : List Configuration → ℕ → List ℕ → Result (List WorldStep) Bad
+steps_left engines taken rest = steps_from engines (taken + 1) (cut rest).lines (cut rest).tail
+
+abbrev pub script_of : List (List ℕ) → List ℕ → Result (List Configuration × List WorldStep) Bad
+script_of [] tail = Err (1, BadLine)
+script_of (l ∷ ls) tail =
+    unless_bad (λ gs. unless_bad (λ ss. Ok (gs, ss)) (steps_from gs 2 ls tail)) (on_line 1 (engines_line l))
+
+-- the engines and the steps of a script
+abbrev pub script_form : List ℕ → Result (List Configuration × List WorldStep) Bad
+script_form bytes = script_of (cut bytes).lines (cut bytes).tail

@@ -1,0 +1,50 @@
+//! Why a script has no replies.
+
+ghost use Rattle.std.specs.Prelude.{◌≡◌};
+ghost use Rattle.scripts.specs.Errors.{error_of};
+
+use ids::Refusal;
+use std::alloc::{AllocError, AllocFailed};
+use thiserror::Error;
+
+/// Why a script has no replies.
+#[derive(Debug, Drop, Error)]
+pub enum ScriptError {
+    /// The first line that is bad, counted from 1, and why.
+    #[error("line {line}: {refusal}")]
+    BadLine { line: u64, refusal: Refusal },
+    #[error("no memory")]
+    NoMemory,
+}
+
+impl ScriptError {
+    /// Why the line of this number has no meaning, or that memory was wanted for it.
+    pub(crate) fn of_line(line: u64, refusal: Refusal) -> ScriptError
+        ensures { result ≡ error_of line refusal }
+    {
+        match refusal {
+            Refusal::NoMemory => ScriptError::NoMemory,
+            refusal => ScriptError::BadLine { line, refusal },
+        }
+    }
+}
+
+impl From<AllocError> for ScriptError {
+    ghost use Rattle.scripts.specs.declared.error.ScriptError.TheVariants.{NoMemory};
+
+    ghost from_gives = { λ _ e. e ≡ NoMemory };
+
+    fn from(_e: AllocError) -> ScriptError {
+        ScriptError::NoMemory
+    }
+}
+
+impl<T: Drop> From<AllocFailed<T>> for ScriptError {
+    ghost use Rattle.scripts.specs.declared.error.ScriptError.TheVariants.{NoMemory};
+
+    ghost from_gives = { λ _ e. e ≡ NoMemory };
+
+    fn from(_e: AllocFailed<T>) -> ScriptError {
+        ScriptError::NoMemory
+    }
+}

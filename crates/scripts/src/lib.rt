@@ -1,0 +1,22 @@
+//! Scripts: lines of JSON that open a world of engines and move it step by step, and the replies to them.
+#![tactic(auto)]
+
+mod configuration;
+mod error;
+mod expressions;
+mod numbered_steps;
+mod numbers;
+mod presence;
+mod readings;
+mod replies;
+mod requests;
+mod run;
+mod script;
+mod steps;
+#[cfg(test)]
+mod tests;
+
+pub use error::ScriptError;
+pub use requests::what_is_read_is_written_alike;
+pub use run::replies_to;
+pub use script::{Script, read_script};

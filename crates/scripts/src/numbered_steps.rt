@@ -1,0 +1,94 @@
+//! A script's steps whose parts are numbers alone.
+
+ghost use Rattle.std.specs.Prelude.{List, ℕ, IfOk};
+ghost use Rattle.serde_json.specs.View.{items_view};
+ghost use Rattle.world.specs.Worlds.{IsAskedBeside, step_in as step_meant};
+ghost use Rattle.wire.specs.Forms.{IsRead};
+ghost use Rattle.scripts.specs.NumberedSteps.{engine_step_of, message_step_of, numbered_step_of};
+
+use crate::numbers::{four_in, one_in, three_in, two_in};
+use ids::Refusal;
+use serde_json::Value;
+use world::WorldStep;
+
+/// The step of this word with these parts.
+pub fn numbered_step_in(word: &str, parts: &[Value]) -> Result<WorldStep, Refusal>
+    ensures read { (tables : List (List ℕ)) → IsRead (step_meant tables) result (numbered_step_of (word.now, items_view parts.now)) }
+    ensures beside { (tables : List (List ℕ)) → IfOk result (IsAskedBeside tables) }
+{
+    match word {
+        "poll" => {
+            let (engine, client, serial) = three_in(parts)?;
+            Ok(WorldStep::Poll {
+                engine,
+                client,
+                serial,
+            })
+        }
+        "learn" => {
+            let (engine, token, client, serial) = four_in(parts)?;
+            Ok(WorldStep::Learn {
+                engine,
+                token,
+                client,
+                serial,
+            })
+        }
+        _ => message_step_in(word, parts),
+    }
+}
+
+/// A step with a message.
+fn message_step_in(word: &str, parts: &[Value]) -> Result<WorldStep, Refusal>
+    ensures read { (tables : List (List ℕ)) → IsRead (step_meant tables) result (message_step_of (word.now, items_view parts.now)) }
+    ensures beside { (tables : List (List ℕ)) → IfOk result (IsAskedBeside tables) }
+{
+    match word {
+        "hello" => {
+            let (engine, token) = two_in(parts)?;
+            Ok(WorldStep::Hello { engine, token })
+        }
+        "bundle" => {
+            let (engine, token, message) = three_in(parts)?;
+            Ok(WorldStep::Bundle {
+                engine,
+                token,
+                message: message as usize,
+            })
+        }
+        "deliver" => {
+            let (engine, client, message) = three_in(parts)?;
+            Ok(WorldStep::Deliver {
+                engine,
+                client,
+                message: message as usize,
+            })
+        }
+        _ => engine_step_in(word, parts),
+    }
+}
+
+/// A step that has an engine alone.
+fn engine_step_in(word: &str, parts: &[Value]) -> Result<WorldStep, Refusal>
+    ensures read { (tables : List (List ℕ)) → IsRead (step_meant tables) result (engine_step_of (word.now, items_view parts.now)) }
+    ensures beside { (tables : List (List ℕ)) → IfOk result (IsAskedBeside tables) }
+{
+    match word {
+        "take" => Ok(WorldStep::Take {
+            engine: one_in(parts)?,
+        }),
+        "publish" => Ok(WorldStep::Publish {
+            engine: one_in(parts)?,
+        }),
+        "give" => Ok(WorldStep::Give {
+            engine: one_in(parts)?,
+        }),
+        "step" => Ok(WorldStep::Step {
+            engine: one_in(parts)?,
+        }),
+        "dropped" => Ok(WorldStep::Dropped {
+            engine: one_in(parts)?,
+        }),
+        _ => Err(Refusal::BadLine),
+    }
+}

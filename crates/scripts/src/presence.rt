@@ -1,0 +1,53 @@
+//! Whether what a step names is there.
+
+ghost use Rattle.std.specs.Prelude.{◌≡◌, ℕ, List};
+ghost use Rattle.world.specs.Meanings.{step_of};
+ghost use Rattle.scripts.specs.Presence.{has_client as client_there, has_token as token_there, is_there as step_there};
+
+use ids::Config;
+use world::WorldStep;
+
+/// Whether a step's engine is one of these, and its client and token are that engine's. A message need not be there.
+pub fn is_there(step: &WorldStep, engines: &[Config]) -> bool
+    ensures { (table : List ℕ) → result ≡ step_there engines.now (step_of table step.now) }
+{
+    match step {
+        WorldStep::Push { engine, client, .. }
+        | WorldStep::Poll { engine, client, .. }
+        | WorldStep::Deliver { engine, client, .. }
+        | WorldStep::Line { engine, client, .. } => has_client(engines, *engine, *client),
+        WorldStep::Take { engine }
+        | WorldStep::Publish { engine }
+        | WorldStep::Give { engine }
+        | WorldStep::Step { engine }
+        | WorldStep::Dropped { engine } => *engine < engines.len(),
+        WorldStep::Ask { engine, token, .. }
+        | WorldStep::Hello { engine, token }
+        | WorldStep::Bundle { engine, token, .. } => has_token(engines, *engine, *token),
+        WorldStep::Learn {
+            engine,
+            token,
+            client,
+            ..
+        } => { has_token(engines, *engine, *token) && has_client(engines, *engine, *client) }
+    }
+}
+
+fn has_client(engines: &[Config], engine: usize, client: usize) -> bool
+    ensures { result ≡ client_there engines.now engine client }
+{
+    match engines.get(engine) {
+        Some(config) => client < config.clients as usize,
+        None => false,
+    }
+}
+
+/// An engine's tokens are its clients', then its readers'.
+fn has_token(engines: &[Config], engine: usize, token: usize) -> bool
+    ensures { result ≡ token_there engines.now engine token }
+{
+    match engines.get(engine) {
+        Some(config) => token < config.clients as usize + config.readers as usize,
+        None => false,
+    }
+}

@@ -1,0 +1,108 @@
+//! What questions are answered, as JSON.
+
+ghost use Rattle.std.specs.Prelude.{◌≡◌, ◌∷◌, ℕ, [], map, codes, IfOk};
+ghost use Rattle.serde_json.specs.Data.{array, string};
+ghost use Rattle.serde_json.specs.View.{view, items_of};
+ghost use Rattle.cursor.specs.Meanings.{tag_of};
+ghost use Rattle.value.specs.Meanings.{scalar_of};
+ghost use Rattle.operation.specs.Meanings.{stamped_of};
+ghost use Rattle.document.specs.Documents.{said_by};
+ghost use Rattle.wire.specs.Operations.{id_json, operation_json, phrase};
+ghost use Rattle.scripts.specs.Replies.{conflict_json, reading_json, row_json, tag_name};
+ghost use Rattle.wire.specs.Vectors.{count};
+
+use cursor::Tag;
+use document::Reading;
+use ids::{OpId, ReplicaTable};
+use operation::Op;
+use serde_json::{Value, json};
+use std::alloc::{AllocError, Global};
+use value::{Key, Scalar};
+use wire::{id_value, operation_value, vector_value};
+
+/// The reply to a question of a token that has seen so many entries.
+pub fn reading_value(
+    alloc: Global,
+    seen: u64,
+    table: &ReplicaTable,
+    reading: &Reading,
+) -> Result<Value, AllocError>
+    ensures { IfOk result (λ v. view v ≡ reading_json seen (said_by table.now reading.now)) }
+{
+    let answer = answer_value(alloc, table, reading)?;
+    json!(in alloc; ["reading", seen, answer])
+}
+
+fn answer_value(alloc: Global, table: &ReplicaTable, reading: &Reading) -> Result<Value, AllocError>
+    ensures { IfOk result (λ v. (seen : ℕ) → reading_json seen (said_by table.now reading.now) ≡ phrase (codes "reading") (count seen ∷ view v ∷ [])) }
+{
+    match reading {
+        Reading::Values(values) => values_value(alloc, values),
+        Reading::Keys(keys) => keys_value(alloc, keys),
+        Reading::Items(items) => items_value(alloc, items),
+        Reading::Conflicts(pairs) => conflicts_value(alloc, pairs),
+        Reading::Missing(ops) => operations_value(alloc, table, ops),
+        Reading::Vector(vector) => vector_value(alloc, table, vector),
+    }
+}
+
+fn values_value(alloc: Global, values: &[(OpId, Scalar)]) -> Result<Value, AllocError>
+    ensures { IfOk result (λ v. view v ≡ array (items_of (map (λ p. row_json (p.0, scalar_of p.1)) values.now))) }
+{
+    let mut list = Vec::new(alloc);
+    for (id, scalar) in values {
+        list.push(json!(in alloc; [id_value(alloc, *id)?, scalar.to_json(alloc)?])?)?;
+    }
+    Ok(Value::Array(list))
+}
+
+fn keys_value(alloc: Global, keys: &[Key]) -> Result<Value, AllocError>
+    ensures { IfOk result (λ v. view v ≡ array (items_of (map string keys.now))) }
+{
+    let mut list = Vec::new(alloc);
+    for key in keys {
+        list.push(Value::String(String::from_str(alloc, key.as_str())?))?;
+    }
+    Ok(Value::Array(list))
+}
+
+fn items_value(alloc: Global, items: &[OpId]) -> Result<Value, AllocError>
+    ensures { IfOk result (λ v. view v ≡ array (items_of (map id_json items.now))) }
+{
+    let mut list = Vec::new(alloc);
+    for id in items {
+        list.push(id_value(alloc, *id)?)?;
+    }
+    Ok(Value::Array(list))
+}
+
+fn conflicts_value(alloc: Global, pairs: &[(OpId, Tag)]) -> Result<Value, AllocError>
+    ensures { IfOk result (λ v. view v ≡ array (items_of (map (λ p. conflict_json (p.0, tag_of p.1)) pairs.now))) }
+{
+    let mut list = Vec::new(alloc);
+    for (id, tag) in pairs {
+        list.push(json!(in alloc; [id_value(alloc, *id)?, name_of(*tag)])?)?;
+    }
+    Ok(Value::Array(list))
+}
+
+fn name_of(tag: Tag) -> &'static str
+    ensures { result.now ≡ tag_name (tag_of tag) }
+{
+    match tag {
+        Tag::Map => "map",
+        Tag::List => "list",
+        Tag::Reg => "reg",
+    }
+}
+
+/// The operations in their order.
+fn operations_value(alloc: Global, table: &ReplicaTable, ops: &[Op]) -> Result<Value, AllocError>
+    ensures { IfOk result (λ v. view v ≡ array (items_of (map (λ o. operation_json (stamped_of table.now o)) ops.now))) }
+{
+    let mut list = Vec::new(alloc);
+    for op in ops {
+        list.push(operation_value(alloc, table, op)?)?;
+    }
+    Ok(Value::Array(list))
+}

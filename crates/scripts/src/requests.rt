@@ -1,0 +1,153 @@
+//! Commands and questions in a script.
+#![tactic(auto, using(crate::proofs::WrongLengths::wrong_lengths))]
+
+ghost use Rattle.std.specs.Prelude.{◌≡◌, ℕ, List, Option, Ok, IfOk, length, option_map};
+ghost use Rattle.serde_json.specs.View.{view, items_view};
+ghost use Rattle.semantics.specs.Elements.{Value as TheValue};
+ghost use Rattle.semantics.specs.Operations.{Mutation as TheMutation};
+ghost use Rattle.semantics.specs.Questions.{AppliedVector, Step, Question as TheQuestion};
+ghost use Rattle.semantics.specs.LegalAnswer.{Asked, OfDocument};
+ghost use Rattle.semantics.specs.Making.{Command as TheCommand};
+ghost use Rattle.semantics.specs.World.{Push, Ask};
+ghost use Rattle.semantics.specs.Tables.{by_table};
+ghost use Rattle.value.specs.Meanings.{value_of};
+ghost use Rattle.operation.specs.Meanings.{command_of};
+ghost use Rattle.document.specs.Documents.{IsBeside, asked_of};
+ghost use Rattle.wire.specs.Forms.{IsRead, and_then, json_form};
+ghost use Rattle.scripts.specs.Requests.{applied_of, asking_of, command_form, delete_of, missing_of, question_form, script_vector, table_in, writing_of};
+ghost use Rattle.scripts.specs.Steps.{step_form};
+ghost use Rattle.scripts.specs.Written.{ask_json, command_json, push_json, question_json};
+
+use crate::expressions::expression_in;
+use cursor::Expr;
+use document::Question;
+use ids::{Refusal, ReplicaTable};
+use operation::Command;
+use serde_json::Value;
+use std::alloc::Global;
+use value::Val;
+use version::VersionVector;
+use wire::{phrase_in, vector_in};
+
+pub fn command_in(alloc: Global, value: &Value) -> Result<Command, Refusal>
+    ensures { IsRead command_of result (command_form (view value.now)) }
+{
+    let (word, parts) = phrase_in(value)?;
+    match word {
+        "assign" => {
+            let (expression, value) = writing_in(alloc, parts)?;
+            Ok(Command::Assign(expression, value))
+        }
+        "insert" => {
+            let (expression, value) = writing_in(alloc, parts)?;
+            Ok(Command::InsertAfter(expression, value))
+        }
+        "delete" => delete_in(alloc, parts),
+        _ => Err(Refusal::BadLine),
+    }
+}
+
+/// An expression, and a value that is written there.
+fn writing_in(alloc: Global, parts: &[Value]) -> Result<(Expr, Val), Refusal>
+    ensures { (how : TheValue → TheMutation) → IsRead (λ p. record { expression = p.0; mutation = how (value_of p.1) }) result (writing_of how (items_view parts.now)) }
+{
+    let [expression, written] = parts else {
+        return Err(Refusal::BadLine);
+    };
+    let expression = expression_in(alloc, expression)?;
+    Ok((expression, Val::from_json(alloc, written)?))
+}
+
+fn delete_in(alloc: Global, parts: &[Value]) -> Result<Command, Refusal>
+    ensures { IsRead command_of result (delete_of (items_view parts.now)) }
+{
+    let [expression] = parts else {
+        return Err(Refusal::BadLine);
+    };
+    Ok(Command::Delete(expression_in(alloc, expression)?))
+}
+
+/// A question to an engine with this table. A vector is refused where there is no table.
+pub fn question_in(
+    alloc: Global,
+    table: Option<&ReplicaTable>,
+    value: &Value,
+) -> Result<Question, Refusal>
+    ensures read { IsRead (asked_of (table_in (option_map (λ t. t.now) table.entry))) result (question_form (option_map (λ t. t.now) table.entry) (view value.now)) }
+    ensures beside { IfOk result (IsBeside (table_in (option_map (λ t. t.now) table.entry))) }
+{
+    let (word, parts) = phrase_in(value)?;
+    match word {
+        "values" => Ok(Question::Values(asked_in(alloc, parts)?)),
+        "keys" => Ok(Question::Keys(asked_in(alloc, parts)?)),
+        "items" => Ok(Question::Items(asked_in(alloc, parts)?)),
+        "conflicts" => Ok(Question::Conflicts(asked_in(alloc, parts)?)),
+        "missing" => missing_in(alloc, table, parts),
+        "vector" => {
+            check_none(parts)?;
+            Ok(Question::Vector)
+        }
+        _ => Err(Refusal::BadLine),
+    }
+}
+
+/// An expression for what is asked about.
+fn asked_in(alloc: Global, parts: &[Value]) -> Result<Expr, Refusal>
+    ensures { (what : List Step → TheQuestion) → IsRead (λ e. OfDocument (what e)) result (asking_of what (items_view parts.now)) }
+{
+    let [expression] = parts else {
+        return Err(Refusal::BadLine);
+    };
+    expression_in(alloc, expression)
+}
+
+fn missing_in(
+    alloc: Global,
+    table: Option<&ReplicaTable>,
+    parts: &[Value],
+) -> Result<Question, Refusal>
+    ensures read { IsRead (asked_of (table_in (option_map (λ t. t.now) table.entry))) result (missing_of (option_map (λ t. t.now) table.entry) (items_view parts.now)) }
+    ensures beside { IfOk result (IsBeside (table_in (option_map (λ t. t.now) table.entry))) }
+{
+    let Some(table) = table else {
+        return Err(Refusal::BadLine);
+    };
+    let [vector] = parts else {
+        return Err(Refusal::BadLine);
+    };
+    Ok(Question::Missing(script_vector_in(alloc, table, vector)?))
+}
+
+/// A vector of replicas of the table. Whatever else is wrong with one in a script is `BadLine`.
+fn script_vector_in(
+    alloc: Global,
+    table: &ReplicaTable,
+    value: &Value,
+) -> Result<VersionVector, Refusal>
+    ensures read { IsRead (by_table table.now) result (script_vector table.now (view value.now)) }
+    ensures width { IfOk result (λ v. length v ≡ length table.now) }
+{
+    match vector_in(alloc, table, value) {
+        Ok(vector) => Ok(vector),
+        Err(Refusal::NoMemory) => Err(Refusal::NoMemory),
+        Err(_) => Err(Refusal::BadLine),
+    }
+}
+
+/// Nothing follows the word.
+fn check_none(parts: &[Value]) -> Result<(), Refusal>
+    ensures { IsRead (λ _. OfDocument AppliedVector) result (applied_of (items_view parts.now)) }
+{
+    let [] = parts else {
+        return Err(Refusal::BadLine);
+    };
+    Ok(())
+}
+
+/// A line that is read as a command or a question, or as a step that holds one, has the JSON that writing that gives, whatever its spaces and escapes.
+pub fn what_is_read_is_written_alike()
+    ensures command { (text : List ℕ) (c : TheCommand) → and_then command_form (json_form text) ≡ Ok c → json_form text ≡ Ok (command_json c) }
+    ensures question { (table : Option (List ℕ)) (text : List ℕ) (q : Asked) → and_then (question_form table) (json_form text) ≡ Ok q → json_form text ≡ Ok (question_json q) }
+    ensures push { (tables : List (List ℕ)) (text : List ℕ) (e c : ℕ) (k : TheCommand) → and_then (step_form tables) (json_form text) ≡ Ok (Push e c k) → json_form text ≡ Ok (push_json e c k) }
+    ensures ask { (tables : List (List ℕ)) (text : List ℕ) (e t : ℕ) (q : Asked) → and_then (step_form tables) (json_form text) ≡ Ok (Ask e t q) → json_form text ≡ Ok (ask_json e t q) }
+{}

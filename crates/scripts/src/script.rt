@@ -1,0 +1,98 @@
+//! A whole script: a world and the steps to run in it.
+
+ghost use Rattle.std.specs.Prelude.{◌≡◌, List, map, Ok, IfErr, IfOk, MatchResult, true};
+ghost use Rattle.std.specs.List.{All, list_all};
+ghost use Rattle.ids.specs.Configurations.{Configuration, is_within_limits};
+ghost use Rattle.semantics.specs.World.{opened};
+ghost use Rattle.world.specs.Worlds.{IsAskedBeside, step_in, tables_of, world_of};
+ghost use Rattle.scripts.specs.Engines.{if_within_limits};
+ghost use Rattle.scripts.specs.Errors.{IsErrorOf};
+ghost use Rattle.scripts.specs.Steps.{tables_for};
+ghost use Rattle.wire.specs.Lines.{on_line, unless_bad};
+ghost use Rattle.scripts.specs.Scripts.{script_form, steps_left};
+
+use crate::configuration::read_engines;
+use crate::error::ScriptError;
+use crate::steps::read_step;
+use ids::{Config, Refusal};
+use std::alloc::Global;
+use wire::Lines;
+use world::{World, WorldStep};
+
+/// A script that was read.
+#[derive(Debug, Drop)]
+pub struct Script {
+    /// The world of its first line.
+    pub world: World,
+    /// The steps of its further lines.
+    pub steps: Vec<WorldStep>,
+}
+
+/// Reads a script and checks each line. The first bad line decides.
+pub fn read_script(alloc: Global, bytes: &[u8]) -> Result<Script, ScriptError>
+    ensures ok { IfOk result (λ s. (gs : List Configuration) × (script_form bytes.now ≡ Ok (gs, map (step_in (tables_of s.world.engines)) s.steps.items)) × (world_of s.world ≡ opened gs)) }
+    ensures beside { IfOk result (λ s. All (IsAskedBeside (tables_of s.world.engines)) s.steps.items) }
+    ensures err { IfErr result (IsErrorOf (script_form bytes.now)) }
+{
+    let mut lines = Lines::new(bytes);
+    let Some(first) = lines.take_line() else {
+        return Err(ScriptError::of_line(1, Refusal::BadLine));
+    };
+    match read_engines(alloc, first.text) {
+        Ok(engines) => open(alloc, engines.as_slice(), &mut lines),
+        Err(why) => Err(ScriptError::of_line(1, why)),
+    }
+}
+
+/// The world of these engines, with the steps on the lines that are left.
+fn open(alloc: Global, engines: &[Config], lines: &mut Lines<'_>) -> Result<Script, ScriptError>
+    ensures allowed { IfOk result (λ s. list_all is_within_limits engines.now ≡ true) }
+    ensures world { IfOk result (λ s. world_of s.world ≡ opened engines.now) }
+    ensures steps { IfOk result (λ s. steps_left engines.now lines.old.taken lines.old.rest.now ≡ Ok (map (step_in (tables_of s.world.engines)) s.steps.items)) }
+    ensures beside { IfOk result (λ s. All (IsAskedBeside (tables_of s.world.engines)) s.steps.items) }
+    ensures err { IfErr result (IsErrorOf (unless_bad (λ gs. steps_left gs lines.old.taken lines.old.rest.now) (on_line 1 (if_within_limits engines.now)))) }
+{
+    match World::new(alloc, engines) {
+        Ok(world) => with_steps(alloc, world, engines, lines),
+        Err(why) => Err(ScriptError::of_line(1, why)),
+    }
+}
+
+fn with_steps(
+    alloc: Global,
+    world: World,
+    engines: &[Config],
+    lines: &mut Lines<'_>,
+) -> Result<Script, ScriptError>
+    requires { tables_of world.engines ≡ tables_for engines.now }
+    ensures world { IfOk result (λ s. s.world ≡ world) }
+    ensures steps { MatchResult result (λ s. steps_left engines.now lines.old.taken lines.old.rest.now ≡ Ok (map (step_in (tables_of world.engines)) s.steps.items)) (IsErrorOf (steps_left engines.now lines.old.taken lines.old.rest.now)) }
+    ensures beside { IfOk result (λ s. All (IsAskedBeside (tables_of world.engines)) s.steps.items) }
+{
+    let steps = read_steps(alloc, lines, engines, &world)?;
+    Ok(Script { world, steps })
+}
+
+/// The steps on the lines that are left.
+fn read_steps(
+    alloc: Global,
+    lines: &mut Lines<'_>,
+    engines: &[Config],
+    world: &World,
+) -> Result<Vec<WorldStep>, ScriptError>
+    requires { tables_of world.now.engines ≡ tables_for engines.now }
+    ensures steps { MatchResult result (λ v. steps_left engines.now lines.old.taken lines.old.rest.now ≡ Ok (map (step_in (tables_of world.now.engines)) v.items)) (IsErrorOf (steps_left engines.now lines.old.taken lines.old.rest.now)) }
+    ensures beside { IfOk result (λ v. All (IsAskedBeside (tables_of world.now.engines)) v.items) }
+{
+    let mut steps = Vec::new(alloc);
+    while let Some(line) = lines.take_line() {
+        match read_step(alloc, line.text, engines, world) {
+            Ok(step) => steps.push(step)?,
+            Err(why) => return Err(ScriptError::of_line(line.number, why)),
+        }
+    }
+    match lines.cut_line() {
+        Some(number) => Err(ScriptError::of_line(number, Refusal::BadLine)),
+        None => Ok(steps),
+    }
+}

@@ -1,0 +1,104 @@
+//! A script's steps, one a line.
+#![tactic(auto, using(crate::proofs::WrongLengths::wrong_lengths))]
+
+ghost use Rattle.std.specs.Prelude.{◌≡◌, ℕ, List, IfOk};
+ghost use Rattle.serde_json.specs.View.{view, items_view};
+ghost use Rattle.world.specs.Worlds.{IsAskedBeside, step_in as step_meant, tables_of};
+ghost use Rattle.wire.specs.Forms.{IsRead};
+ghost use Rattle.scripts.specs.Steps.{ask_of, line_of, push_of, step_form, step_line, tables_for};
+
+use crate::numbered_steps::numbered_step_in;
+use crate::numbers::place_in;
+use crate::presence::is_there;
+use crate::requests::{command_in, question_in};
+use ids::{Config, Refusal};
+use serde_json::Value;
+use std::alloc::Global;
+use wire::{json_of, phrase_in, text_in};
+use world::{World, WorldStep};
+
+/// The step on a line, of an engine, client and token that are there. The world is that of the engines.
+pub fn read_step(
+    alloc: Global,
+    text: &[u8],
+    engines: &[Config],
+    world: &World,
+) -> Result<WorldStep, Refusal>
+    requires { tables_of world.now.engines ≡ tables_for engines.now }
+    ensures read { IsRead (step_meant (tables_of world.now.engines)) result (step_line engines.now text.now) }
+    ensures beside { IfOk result (IsAskedBeside (tables_of world.now.engines)) }
+{
+    let value = json_of(alloc, text)?;
+    let step = step_in(alloc, &value, world)?;
+    if !is_there(&step, engines) {
+        return Err(Refusal::BadLine);
+    }
+    Ok(step)
+}
+
+fn step_in(alloc: Global, value: &Value, world: &World) -> Result<WorldStep, Refusal>
+    ensures read { IsRead (step_meant (tables_of world.now.engines)) result (step_form (tables_of world.now.engines) (view value.now)) }
+    ensures beside { IfOk result (IsAskedBeside (tables_of world.now.engines)) }
+{
+    let (word, parts) = phrase_in(value)?;
+    match word {
+        "push" => push_in(alloc, parts),
+        "ask" => ask_in(alloc, parts, world),
+        "line" => line_in(alloc, parts),
+        _ => numbered_step_in(word, parts),
+    }
+}
+
+/// An engine, a client of it, and a command.
+fn push_in(alloc: Global, parts: &[Value]) -> Result<WorldStep, Refusal>
+    ensures read { (tables : List (List ℕ)) → IsRead (step_meant tables) result (push_of (items_view parts.now)) }
+    ensures beside { (tables : List (List ℕ)) → IfOk result (IsAskedBeside tables) }
+{
+    let [engine, client, command] = parts else {
+        return Err(Refusal::BadLine);
+    };
+    let engine = place_in(engine)?;
+    let client = place_in(client)?;
+    let command = command_in(alloc, command)?;
+    Ok(WorldStep::Push {
+        engine,
+        client,
+        command,
+    })
+}
+
+/// The token of an engine asks.
+fn ask_in(alloc: Global, parts: &[Value], world: &World) -> Result<WorldStep, Refusal>
+    ensures read { IsRead (step_meant (tables_of world.now.engines)) result (ask_of (tables_of world.now.engines) (items_view parts.now)) }
+    ensures beside { IfOk result (IsAskedBeside (tables_of world.now.engines)) }
+{
+    let [engine, token, question] = parts else {
+        return Err(Refusal::BadLine);
+    };
+    let engine = place_in(engine)?;
+    let token = place_in(token)?;
+    let question = question_in(alloc, world.table(engine), question)?;
+    Ok(WorldStep::Ask {
+        engine,
+        token,
+        question,
+    })
+}
+
+/// An engine, a client of it, and a text of any lines.
+fn line_in(alloc: Global, parts: &[Value]) -> Result<WorldStep, Refusal>
+    ensures read { (tables : List (List ℕ)) → IsRead (step_meant tables) result (line_of tables (items_view parts.now)) }
+    ensures beside { (tables : List (List ℕ)) → IfOk result (IsAskedBeside tables) }
+{
+    let [engine, client, text] = parts else {
+        return Err(Refusal::BadLine);
+    };
+    let engine = place_in(engine)?;
+    let client = place_in(client)?;
+    let text = Vec::from_slice(alloc, text_in(text)?.as_bytes())?;
+    Ok(WorldStep::Line {
+        engine,
+        client,
+        text,
+    })
+}

@@ -1,0 +1,15 @@
+//! Scripts with their replies or their first bad lines, and what no clause says of them.
+
+mod bad_requests;
+mod bad_scripts;
+mod bad_steps;
+mod configurations;
+mod engines;
+mod good_scripts;
+mod meeting_examples;
+mod playing;
+mod readings;
+mod replies;
+mod sessions;
+mod single_engine_examples;
+mod worked_examples;
