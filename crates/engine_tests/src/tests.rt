@@ -7,10 +7,12 @@ mod polls;
 mod refused_memory;
 mod threads;
 
+use cursor::{Expr, Step as Hop};
 use engine::*;
 use ids::{Config, Refusal};
 use std::alloc::Global;
 use std::test::Fail;
+use value::Key;
 
 /// An engine of replica 1 among 1, 2 and 3, with two clients and one reader.
 fn config(alloc: Global, queue: u32, batch: u32) -> Result<Config, Fail> {
@@ -23,4 +25,10 @@ fn config(alloc: Global, queue: u32, batch: u32) -> Result<Config, Fail> {
         batch,
         serials: 400,
     })
+}
+
+/// The expression for a key of the document.
+fn at(alloc: Global, key: &str) -> Result<Expr, Refusal> {
+    let step = Hop::Get(Key::new(alloc, key)?);
+    Ok(Expr::new(vec![in alloc; step]?))
 }

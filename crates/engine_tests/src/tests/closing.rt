@@ -4,12 +4,11 @@ ghost use Rattle.std.specs.Prelude.{◌≡◌};
 ghost use Rattle.ids.specs.Members.{in_order};
 
 use super::*;
-use cursor::{Expr, Step as Hop};
 use operation::{Command, Entry};
 use std::marker::Brand;
 use std::process::Abort;
 use std::sync::Wait;
-use value::{Key, Scalar, Val};
+use value::{Scalar, Val};
 
 #[test]
 fn what_is_not_taken_is_counted(rt: HostRuntime) -> Result<(), Fail> {
@@ -18,10 +17,8 @@ fn what_is_not_taken_is_counted(rt: HostRuntime) -> Result<(), Fail> {
     one_left::<Brand, _>(&rt, alloc, parts)
 }
 
-fn assign(alloc: Global, number: i64) -> Result<Command, Fail> {
-    let key = Key::new(alloc, "a")?;
-    let place = Expr::new(vec![in alloc; Hop::Get(key)]?);
-    Ok(Command::Assign(place, Val::Scalar(Scalar::Whole(number))))
+fn assign(alloc: Global, number: i64) -> Result<Command, Refusal> {
+    Ok(Command::Assign(at(alloc, "a")?, Val::Scalar(Scalar::Whole(number))))
 }
 
 fn one_left<N: EngineName, R: Wait + Abort>(rt: &R, alloc: Global, parts: Parts) -> Result<(), Fail>
@@ -29,20 +26,36 @@ fn one_left<N: EngineName, R: Wait + Abort>(rt: &R, alloc: Global, parts: Parts)
     requires own { parts.config.own ≡ N.own }
     requires table { in_order parts.config.members ≡ N.table }
 {
-    let (first, second) = (assign(alloc, 1)?, assign(alloc, 2)?);
     let (mut writer, mut clients, _readers) = open::<N>(rt, alloc, parts)?;
+    let written = write_around_a_step(rt, alloc, &mut writer, &mut clients);
+    let last = close(rt, writer, clients);
+    written?;
+    assert_one_left(rt, &last);
+    Ok(())
+}
+
+/// The first of two clients writes before a step, and once more after it.
+fn write_around_a_step<N: EngineName, R: Wait + Abort>(
+    rt: &R,
+    alloc: Global,
+    writer: &mut Writer<N>,
+    clients: &mut Vec<Client<N>>,
+) -> Result<(), Fail> {
     assert_eq!(rt; clients.len(), 2);
-    let one = clients[0].submit(rt, alloc, first);
-    let step = writer.step(rt, alloc);
-    let two = clients[0].submit(rt, alloc, second);
-    let Final { history, left } = close(rt, writer, clients);
-    assert!(rt; one.is_ok() && two.is_ok());
-    assert_eq!(rt; step, Step::Published(1));
-    assert_eq!(rt; left, 1);
-    assert_eq!(rt; history.len(), 1);
+    let client = clients.get_mut(0).ok_or("no client")?;
+    client.submit(rt, alloc, assign(alloc, 1)?)?;
+    assert_eq!(rt; writer.step(rt, alloc), Step::Published(1));
+    client.submit(rt, alloc, assign(alloc, 2)?)?;
+    Ok(())
+}
+
+/// One item is left, and the entry of the other stands in the history.
+fn assert_one_left<A: Abort>(rt: &A, last: &Final) {
+    assert_eq!(rt; last.left, 1);
+    assert_eq!(rt; last.history.len(), 1);
     assert!(rt;
         matches!(
-            history.first(),
+            last.history.first(),
             Some(Entry::Own {
                 client: 0,
                 serial: 1,
@@ -50,5 +63,4 @@ fn one_left<N: EngineName, R: Wait + Abort>(rt: &R, alloc: Global, parts: Parts)
             })
         )
     );
-    Ok(())
 }

@@ -160,11 +160,6 @@ fn take_turn<N: EngineName, R: Wait + Abort>(
     Ok(())
 }
 
-/// The expression for a key of the document.
-fn at(alloc: Global, key: &str) -> Result<Expr, Fail> {
-    Ok(Expr::new(vec![in alloc; Hop::Get(Key::new(alloc, key)?)]?))
-}
-
 fn assign(alloc: Global, number: i64) -> Result<Command, Fail> {
     Ok(Command::Assign(at(alloc, "a")?, Val::Scalar(Scalar::Whole(number))))
 }

@@ -42,14 +42,8 @@ fn small(alloc: Global) -> Result<Config, Refusal> {
     })
 }
 
-fn at_a(alloc: Global) -> Result<Expr, Refusal> {
-    let mut steps = Vec::new(alloc);
-    steps.push(Hop::Get(Key::new(alloc, "a")?))?;
-    Ok(Expr::new(steps))
-}
-
 fn assign(alloc: Global, number: i64) -> Result<Command, Refusal> {
-    Ok(Command::Assign(at_a(alloc)?, Val::Scalar(Scalar::Whole(number))))
+    Ok(Command::Assign(at(alloc, "a")?, Val::Scalar(Scalar::Whole(number))))
 }
 
 #[test]
@@ -267,7 +261,7 @@ fn op_of_two(alloc: Global, counter: u64) -> Result<Op, Refusal> {
 
 /// Whether the number 4 stands at the key `a`.
 fn has_four<N: EngineName>(alloc: Global, reader: &mut ReaderToken<N>) -> Result<bool, Refusal> {
-    let question = Question::Values(again(|| at_a(alloc))?);
+    let question = Question::Values(again(|| at(alloc, "a"))?);
     let reading = match reader.ask(alloc, &question) {
         Err(Refusal::NoMemory) => reader.ask(alloc, &question),
         reading => reading,

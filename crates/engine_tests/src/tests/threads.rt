@@ -138,19 +138,13 @@ fn submit_until_taken<N: EngineName, R: Wait>(
     number: i64,
 ) -> Result<Ticket, Refusal> {
     for _ in rt.forever() {
-        let command = Command::Assign(key_a(alloc)?, Val::Scalar(Scalar::Whole(number)));
+        let command = Command::Assign(at(alloc, "a")?, Val::Scalar(Scalar::Whole(number)));
         match client.submit(rt, alloc, command) {
             Err(Refusal::QueueFull) => yield_now(),
             answer => return answer,
         }
     }
     unreachable!()
-}
-
-fn key_a(alloc: Global) -> Result<Expr, Refusal> {
-    let mut steps = Vec::new(alloc);
-    steps.push(Hop::Get(Key::new(alloc, "a")?))?;
-    Ok(Expr::new(steps))
 }
 
 /// Polls until there is an answer, and says whether an operation was made.
@@ -167,7 +161,7 @@ fn is_made<N: EngineName, R: Wait>(rt: &R, client: &mut Client<N>, ticket: &Tick
 
 /// Whether there is a value at the key `a`.
 fn is_read<N: EngineName>(alloc: Global, client: &mut Client<N>) -> bool {
-    let Ok(place) = key_a(alloc) else {
+    let Ok(place) = at(alloc, "a") else {
         return false;
     };
     match client.ask(alloc, &Question::Values(place)) {
