@@ -12,7 +12,7 @@ use version::VersionVector;
 pub type Pair = (u64, u32);
 
 /// A place in a document.
-#[derive(Clone, Copy, Debug)]
+#[derive(Clone, Copy)]
 pub enum Where<'a> {
     /// The field that these names lead to from the root.
     Field(&'a [&'a str]),
@@ -25,7 +25,7 @@ pub enum Where<'a> {
 pub const ROOT: Where = Where::Field(&[]);
 
 /// What an operation does at its place.
-#[derive(Clone, Copy, Debug)]
+#[derive(Clone, Copy)]
 pub enum Does<'a> {
     /// Assigns an empty map.
     Map,
