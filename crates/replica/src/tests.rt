@@ -19,23 +19,23 @@ const NAMES_NOTHING: Answer = Err(Refusal::NamesNothing);
 
 #[test]
 fn the_same_is_made_until_it_is_committed(rt: HostRuntime) -> Result<(), Fail> {
-    let turns = [
+    const TURNS: &[Turn<'static>] = &[
         Turn::Make((1, 1)),
         Turn::Lengths(0, 0),
         Turn::Make((1, 1)),
         Turn::Lengths(0, 0),
     ];
-    on_new(&rt, rt.alloc(), 1, &turns, &[])
+    on_new(&rt, rt.alloc(), 1, TURNS, &[])
 }
 
 #[test]
 fn counters_go_on_after_a_commit(rt: HostRuntime) -> Result<(), Fail> {
-    let turns = [
+    const TURNS: &[Turn<'static>] = &[
         Turn::Assign("a", "1", (1, 1)),
         Turn::Make((2, 1)),
         Turn::Lengths(1, 0),
     ];
-    on_new(&rt, rt.alloc(), 1, &turns, &[(1, 1)])
+    on_new(&rt, rt.alloc(), 1, TURNS, &[(1, 1)])
 }
 
 /// Opens no replica of this number among these members.
