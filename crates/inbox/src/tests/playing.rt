@@ -24,7 +24,7 @@ pub enum Writes {
 }
 
 /// Something that is done with an inbox, and what it answers.
-#[derive(Clone, Copy, Debug)]
+#[derive(Clone, Copy)]
 pub enum Turn {
     /// Puts an operation at the root, with these counters of the replicas 1, 2 and 3 in its vector.
     Put(Pair, [u64; 3], Writes, Result<Delivered, Refusal>),
@@ -193,26 +193,35 @@ fn fill(
     Ok(())
 }
 
+/// Does these turns and then those, once so many operations wait of which none is ready.
 fn fill_and_play(
     rt: &impl Abort,
     alloc: Global,
     inbox: &mut Inbox,
     document: &Document,
     stuck: u64,
-    turns: &[Turn],
+    first: &[Turn],
+    second: &[Turn],
 ) -> Result<(), Fail>
     requires few { stuck < 10000 }
     requires alone { AreAsWide document.now.table inbox.old }
 {
     fill(rt, alloc, inbox, document, stuck)?;
-    play(rt, alloc, inbox, document, turns)
+    play(rt, alloc, inbox, document, first)?;
+    play(rt, alloc, inbox, document, second)
 }
 
-/// Does these turns with a new inbox of replica 1 among 1, 2 and 3, once so many operations wait there of which none is ready.
-pub fn on_new(rt: &impl Abort, alloc: Global, stuck: u64, turns: &[Turn]) -> Result<(), Fail>
+/// Does these turns and then those with a new inbox of replica 1 among 1, 2 and 3, once so many operations wait there of which none is ready.
+pub fn on_new(
+    rt: &impl Abort,
+    alloc: Global,
+    stuck: u64,
+    first: &[Turn],
+    second: &[Turn],
+) -> Result<(), Fail>
     requires { stuck < 10000 }
 {
     let document = Document::new(alloc, &[1, 2, 3])?;
     let mut inbox = Inbox::new(alloc);
-    fill_and_play(rt, alloc, &mut inbox, &document, stuck, turns)
+    fill_and_play(rt, alloc, &mut inbox, &document, stuck, first, second)
 }
