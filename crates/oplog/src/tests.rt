@@ -6,13 +6,13 @@ ghost use Rattle.semantics.specs.LegalHistory.{has_id};
 ghost use Rattle.semantics.specs.Entries.{applied};
 
 use super::*;
-use cursor::{Expr, Place, Step};
+use cursor::{Expr, Place};
 use ids::{OpId, ReplicaId, ReplicaTable};
 use operation::{Command, Entry, Mutation, Op};
 use std::alloc::Global;
 use std::process::Abort;
 use std::test::Fail;
-use value::{Key, Scalar, Val};
+use value::{Scalar, Val};
 use version::VersionVector;
 
 /// An id's counter and replica.
@@ -27,48 +27,34 @@ fn id(pair: Pair) -> Result<OpId, Fail> {
 }
 
 /// The vector of these counters.
-fn vector(alloc: Global, counters: &[u64]) -> Result<VersionVector, Fail> {
-    let mut vector = VersionVector::zero(alloc, counters.len())?;
-    for (index, counter) in counters.iter().enumerate() {
-        vector.raise(index, *counter);
-    }
+fn vector(alloc: Global, counters: &[u64; 3]) -> Result<VersionVector, Fail> {
+    let mut vector = VersionVector::zero(alloc, 3)?;
+    vector.raise(0, counters[0]);
+    vector.raise(1, counters[1]);
+    vector.raise(2, counters[2]);
     Ok(vector)
 }
 
-/// The place at the key `key`.
-fn place(alloc: Global) -> Result<Place, Fail> {
-    let key = Key::new(alloc, "key")?;
-    Ok(Place::doc(alloc).get(alloc, key)?)
-}
-
-/// An assign at the key `key`, beside a table of three.
+/// An assign at the root, beside a table of three.
 fn op(alloc: Global, pair: Pair, counters: &[u64; 3]) -> Result<Op, Fail> {
     let id = id(pair)?;
     let deps = vector(alloc, counters)?;
-    let place = place(alloc)?;
     Ok(Op {
         id,
         deps,
-        place,
+        place: Place::doc(alloc),
         mutation: Mutation::Assign(Val::Scalar(Scalar::Whole(7))),
     })
 }
 
-/// The expression of the key `key`.
-fn expression(alloc: Global) -> Result<Expr, Fail> {
-    let key = Key::new(alloc, "key")?;
-    let steps = vec![in alloc; Step::Get(key)]?;
-    Ok(Expr::new(steps))
-}
-
 /// An own entry of client 0.
 fn own(alloc: Global, serial: u64, pair: Pair, counters: &[u64; 3]) -> Result<Entry, Fail> {
-    let expression = expression(alloc)?;
     let op = op(alloc, pair, counters)?;
+    let root = Expr::new(Vec::new(alloc));
     Ok(Entry::Own {
         client: 0,
         serial,
-        command: Command::Assign(expression, Val::Scalar(Scalar::Whole(7))),
+        command: Command::Assign(root, Val::Scalar(Scalar::Whole(7))),
         op,
     })
 }
