@@ -26,7 +26,7 @@ use version::VersionVector;
 pub type Pair = (u64, u32);
 
 /// One step of the way from the root to a place.
-#[derive(Clone, Copy, Debug)]
+#[derive(Clone, Copy)]
 pub enum Hop<'a> {
     /// Into the map here, to the field with this key.
     Field(&'a str),
@@ -37,7 +37,7 @@ pub enum Hop<'a> {
 }
 
 /// One step of an expression.
-#[derive(Clone, Copy, Debug)]
+#[derive(Clone, Copy)]
 pub enum Step<'a> {
     /// To the field with this key of the map here.
     Get(&'a str),
@@ -46,7 +46,7 @@ pub enum Step<'a> {
 }
 
 /// A value that an operation writes.
-#[derive(Clone, Copy, Debug)]
+#[derive(Clone, Copy)]
 pub enum Value<'a> {
     Map,
     List,
@@ -55,7 +55,7 @@ pub enum Value<'a> {
 }
 
 /// What an operation does at its place.
-#[derive(Clone, Copy, Debug)]
+#[derive(Clone, Copy)]
 pub enum Does<'a> {
     Assign(Value<'a>),
     Insert(Value<'a>),
@@ -66,7 +66,7 @@ pub enum Does<'a> {
 pub type Sent<'a> = (Pair, [u64; 3], &'a [Hop<'a>], Does<'a>);
 
 /// Something that is done with a document, and what it answers.
-#[derive(Clone, Copy, Debug)]
+#[derive(Clone, Copy)]
 pub enum Turn<'a> {
     /// Takes an operation that passes each test.
     Take(Sent<'a>),
@@ -227,7 +227,8 @@ fn assert_check(
     wanted: Result<(), Refusal>,
 ) -> Result<(), Refusal> {
     let op = op(alloc, sent)?;
-    assert_eq!(rt; check(rt, document, &op), wanted, "of {sent:?}");
+    let id = op.id;
+    assert_eq!(rt; check(rt, document, &op), wanted, "of {id:?}");
     Ok(())
 }
 
@@ -372,7 +373,7 @@ fn assert_answer(
     turn: Turn,
 ) -> Result<(), Refusal> {
     let reading = ask(alloc, document, turn)?;
-    assert!(rt; is_wanted(&reading, turn), "{turn:?}, but {reading:?}");
+    assert!(rt; is_wanted(&reading, turn), "{reading:?}");
     Ok(())
 }
 
