@@ -39,12 +39,15 @@ pub enum Turn {
     Len(usize),
 }
 
-fn id_of(pair: Pair) -> Result<OpId, Fail> {
-    let replica = ReplicaId::new(pair.1).ok_or("numbered 0")?;
-    Ok(OpId {
-        counter: pair.0,
-        replica,
-    })
+fn id_of(pair: Pair) -> Result<OpId, Refusal> {
+    let (counter, replica) = pair;
+    let replica = ReplicaId::new(replica).ok_or(Refusal::UnknownReplica)?;
+    Ok(OpId { counter, replica })
+}
+
+/// The counter and the replica of an id.
+fn pair_of(id: &OpId) -> Pair {
+    (id.counter, id.replica.number())
 }
 
 fn vector(alloc: Global, counters: [u64; 3]) -> Result<VersionVector, Fail> {
@@ -102,8 +105,8 @@ fn answers(
 fn smallest(inbox: &Inbox, document: &Document) -> Option<Pair>
     requires { AreAsWide document.now.table inbox.now }
 {
-    let id = inbox.smallest_ready(document)?.id;
-    Some((id.counter, id.replica.number()))
+    let op = inbox.smallest_ready(document)?;
+    Some(pair_of(&op.id))
 }
 
 fn written(op: &Op) -> (Pair, Writes) {
@@ -111,7 +114,7 @@ fn written(op: &Op) -> (Pair, Writes) {
         Mutation::Delete => Writes::Delete,
         _ => Writes::Map,
     };
-    ((op.id.counter, op.id.replica.number()), writes)
+    (pair_of(&op.id), writes)
 }
 
 /// The id of the operation that is taken, which has this one, and what it writes.
