@@ -9,8 +9,8 @@ use std::test::Fail;
 
 const WIDTHS: [usize; 9] = [0, 1, 7, 8, 9, 63, 64, 65, 256];
 
-/// What the kernels say of two columns: whether the first is at most the second, whether they are equal, the greatest counter of the first, and
-/// how many of its counters are above those of the second.
+/// What is said of two columns: whether the first is at most the second, whether they are equal, the greatest counter of the first,
+/// and how many of its counters are above those of the second.
 type Said = (bool, bool, u64, usize);
 
 /// The next state of a generator of numbers.
