@@ -227,8 +227,8 @@ fn assert_check(
     wanted: Result<(), Refusal>,
 ) -> Result<(), Refusal> {
     let op = op(alloc, sent)?;
-    let id = op.id;
-    assert_eq!(rt; check(rt, document, &op), wanted, "of {id:?}");
+    let found = check(rt, document, &op);
+    assert_eq!(rt; found, wanted, "of {:?}", sent.0);
     Ok(())
 }
 
@@ -237,14 +237,20 @@ fn waits(document: &Document, op: &Op) -> bool {
     op.deps.width() == document.table().len() && !document.ready(op)
 }
 
+/// The step of a row.
+fn step_of(alloc: Global, step: Step) -> Result<cursor::Step, Refusal> {
+    match step {
+        Step::Get(key) => Ok(cursor::Step::Get(Key::new(alloc, key)?)),
+        Step::Idx(index) => Ok(cursor::Step::Idx(index)),
+    }
+}
+
 /// The expression of these steps.
 fn expr(alloc: Global, path: &[Step]) -> Result<Expr, Refusal> {
     let mut steps = Vec::new(alloc);
-    for step in path {
-        steps.push(match step {
-            Step::Get(key) => cursor::Step::Get(Key::new(alloc, key)?),
-            Step::Idx(index) => cursor::Step::Idx(*index),
-        })?;
+    for next in path {
+        let step = step_of(alloc, *next)?;
+        steps.push(step)?;
     }
     Ok(Expr::new(steps))
 }
