@@ -3,6 +3,7 @@
 use super::*;
 use ids::{OpId, Refusal, ReplicaId};
 use std::alloc::Global;
+use std::process::Abort;
 use std::test::Fail;
 use value::{Key, Scalar, Val};
 
@@ -20,15 +21,33 @@ fn fields(alloc: Global, count: usize) -> Result<Place, Fail> {
     Ok(place)
 }
 
+/// How deep a place stands.
+fn depth_of(place: Result<Place, Refusal>) -> Result<usize, Refusal> {
+    let place = place?;
+    Ok(place.depth())
+}
+
 /// How deep the field, the head and the item of a place stand.
 fn depths_below(alloc: Global, place: &Place) -> Result<[Result<usize, Refusal>; 3], Fail> {
     let key = Key::new(alloc, "")?;
     let item = id(7, 2)?;
-    Ok([
-        place.get(alloc, key).map(|place| place.depth()),
-        place.head(alloc).map(|place| place.depth()),
-        place.item(alloc, item).map(|place| place.depth()),
-    ])
+    let field = depth_of(place.get(alloc, key));
+    let head = depth_of(place.head(alloc));
+    Ok([field, head, depth_of(place.item(alloc, item))])
+}
+
+/// The place stands this deep, and each one below it so.
+fn assert_depths(
+    rt: &impl Abort,
+    alloc: Global,
+    place: &Place,
+    depth: usize,
+    want: Result<usize, Refusal>,
+) -> Result<(), Fail> {
+    assert_eq!(rt; place.depth(), depth);
+    let deeper = depths_below(alloc, place)?;
+    assert_eq!(rt; deeper, [want, want, want], "below {depth}");
+    Ok(())
 }
 
 #[test]
@@ -40,27 +59,44 @@ fn paths_have_at_most_32_keys(rt: HostRuntime) -> Result<(), Fail> {
         (32, Err(Refusal::TooDeep)),
     ] {
         let place = fields(rt.alloc(), depth)?;
-        assert_eq!(rt; place.depth(), depth);
-        let deeper = depths_below(rt.alloc(), &place)?;
-        assert_eq!(rt; deeper, [want, want, want], "below {depth}");
+        assert_depths(&rt, rt.alloc(), &place, depth, want)?;
     }
     Ok(())
+}
+
+/// The head below so many fields.
+fn head_below(alloc: Global, count: usize) -> Result<Place, Fail> {
+    let place = fields(alloc, count)?;
+    Ok(place.head(alloc)?)
 }
 
 #[test]
 fn nothing_stands_below_a_head(rt: HostRuntime) -> Result<(), Fail> {
-    let want = Err(Refusal::AtHead);
-    for depth in [0, 1, 31] {
-        let head = fields(rt.alloc(), depth)?.head(rt.alloc())?;
-        assert_eq!(rt; head.depth(), depth + 1);
-        let deeper = depths_below(rt.alloc(), &head)?;
-        assert_eq!(rt; deeper, [want, want, want], "below {depth}");
+    for (count, depth) in [(0, 1), (1, 2), (31, 32)] {
+        let head = head_below(rt.alloc(), count)?;
+        assert_depths(&rt, rt.alloc(), &head, depth, Err(Refusal::AtHead))?;
     }
     Ok(())
 }
 
+/// So many hops to a field.
+fn hops(alloc: Global, count: usize) -> Result<Vec<Hop>, Refusal> {
+    let mut hops = Vec::new(alloc);
+    for _ in 0..count {
+        let key = Key::new(alloc, "k")?;
+        hops.push(Hop::Field(key))?;
+    }
+    Ok(hops)
+}
+
+/// How deep the place of so many hops stands.
+fn depth_made(alloc: Global, count: usize, is_head: bool) -> Result<usize, Refusal> {
+    let hops = hops(alloc, count)?;
+    depth_of(Place::new(hops, is_head))
+}
+
 #[test]
-fn places_are_made_of_hops(rt: HostRuntime) -> Result<(), Fail> {
+fn places_are_made_of_hops(rt: HostRuntime) {
     for (count, is_head, want) in [
         (0, false, Ok(0)),
         (0, true, Ok(1)),
@@ -69,89 +105,161 @@ fn places_are_made_of_hops(rt: HostRuntime) -> Result<(), Fail> {
         (32, true, Err(Refusal::TooDeep)),
         (33, false, Err(Refusal::TooDeep)),
     ] {
-        let mut hops = Vec::new(rt.alloc());
-        for _ in 0..count {
-            hops.push(Hop::Field(Key::new(rt.alloc(), "k")?))?;
-        }
-        let depth = Place::new(hops, is_head).map(|place| place.depth());
+        let depth = depth_made(rt.alloc(), count, is_head);
         assert_eq!(rt; depth, want, "{count} hops");
     }
-    Ok(())
 }
 
-#[test]
-fn places_have_last_keys(rt: HostRuntime) -> Result<(), Fail> {
-    let id = id(7, 2)?;
-    let key = Key::new(rt.alloc(), "k")?;
-    let doc = Place::doc(rt.alloc());
-    let field = doc.get(rt.alloc(), key.clone()?)?;
-    let item = field.item(rt.alloc(), id)?;
-    let head = item.head(rt.alloc())?;
-    assert_eq!(rt; doc.last(), Last::Doc);
-    assert_eq!(rt; field.last(), Last::Key(&key));
-    assert_eq!(rt; item.last(), Last::Elem(id));
-    assert_eq!(rt; head.last(), Last::Head);
-    for (place, is_head) in [
-        (&doc, false),
-        (&field, false),
-        (&item, false),
-        (&head, true),
-    ] {
-        assert_eq!(rt; place.is_head(), is_head);
+/// A place.
+#[derive(Clone, Copy)]
+enum At {
+    Doc,
+    Head,
+    /// The field of this key.
+    Field(&'static str),
+    /// The item of this counter and replica.
+    Item(u64, u32),
+    /// So many fields of one key below one another.
+    Fields(usize),
+}
+
+/// The field of this key.
+fn field(alloc: Global, key: &str) -> Result<Place, Refusal> {
+    let key = Key::new(alloc, key)?;
+    Place::doc(alloc).get(alloc, key)
+}
+
+/// The item of this counter and replica.
+fn item(alloc: Global, counter: u64, replica: u32) -> Result<Place, Fail> {
+    let id = id(counter, replica)?;
+    Ok(Place::doc(alloc).item(alloc, id)?)
+}
+
+/// The place of a row.
+fn place_at(alloc: Global, at: At) -> Result<Place, Fail> {
+    match at {
+        At::Doc => Ok(Place::doc(alloc)),
+        At::Head => head_below(alloc, 0),
+        At::Field(key) => Ok(field(alloc, key)?),
+        At::Item(counter, replica) => item(alloc, counter, replica),
+        At::Fields(count) => fields(alloc, count),
     }
-    let [Hop::Field(first), Hop::Item(second)] = head.hops() else {
-        return Err(Fail::from("other hops"));
-    };
-    assert_eq!(rt; *first, key);
-    assert_eq!(rt; *second, id);
-    Ok(())
+}
+
+/// Whether two places are equal, the first one as a copy.
+fn are_equal(alloc: Global, at: At, other: At) -> Result<bool, Fail> {
+    let place = place_at(alloc, at)?;
+    let other = place_at(alloc, other)?;
+    Ok(place.clone()? == other)
 }
 
 #[test]
 fn places_are_told_apart(rt: HostRuntime) -> Result<(), Fail> {
-    let doc = Place::doc(rt.alloc());
-    let places = vec![in rt.alloc();
-        doc.clone()?,
-        doc.head(rt.alloc())?,
-        doc.get(rt.alloc(), Key::new(rt.alloc(), "a")?)?,
-        doc.get(rt.alloc(), Key::new(rt.alloc(), "b")?)?,
-        doc.item(rt.alloc(), id(7, 2)?)?,
-        doc.item(rt.alloc(), id(7, 3)?)?,
-        doc.item(rt.alloc(), id(8, 2)?)?,
-        fields(rt.alloc(), 2)?,
-    ]?;
-    for (i, p) in places.iter().enumerate() {
-        for (j, q) in places.iter().enumerate() {
-            assert_eq!(rt; p == q, i == j, "{i} and {j}");
+    const PLACES: &[At] = &[
+        At::Doc,
+        At::Head,
+        At::Field("a"),
+        At::Field("b"),
+        At::Item(7, 2),
+        At::Item(7, 3),
+        At::Item(8, 2),
+        At::Fields(2),
+    ];
+    for (i, at) in PLACES.iter().enumerate() {
+        for (j, other) in PLACES.iter().enumerate() {
+            assert_eq!(rt; are_equal(rt.alloc(), *at, *other)?, i == j, "{i} and {j}");
         }
     }
     Ok(())
 }
 
 #[test]
-fn values_have_tags(rt: HostRuntime) {
-    for (value, want) in [
-        (Val::EmptyMap, Tag::Map),
-        (Val::EmptyList, Tag::List),
-        (Val::Scalar(Scalar::Null), Tag::Reg),
-        (Val::Scalar(Scalar::Whole(0)), Tag::Reg),
-    ] {
-        assert_eq!(rt; Tag::of(&value), want);
-    }
+fn the_document_ends_in_no_key(rt: HostRuntime) {
+    let doc = Place::doc(rt.alloc());
+    assert_eq!(rt; doc.last(), Last::Doc);
+    assert_eq!(rt; doc.is_head(), false);
 }
 
 #[test]
-fn expressions_keep_their_steps(rt: HostRuntime) -> Result<(), Fail> {
-    let mut steps = Vec::new(rt.alloc());
-    steps.push(Step::Get(Key::new(rt.alloc(), "tête")?))?;
+fn fields_end_in_keys(rt: HostRuntime) -> Result<(), Fail> {
+    let key = Key::new(rt.alloc(), "k")?;
+    let field = field(rt.alloc(), "k")?;
+    assert_eq!(rt; field.last(), Last::Key(&key));
+    assert_eq!(rt; field.is_head(), false);
+    Ok(())
+}
+
+/// The item 7@2 of the list at the key `k`.
+fn item_of_list(alloc: Global) -> Result<Place, Fail> {
+    let list = field(alloc, "k")?;
+    let id = id(7, 2)?;
+    Ok(list.item(alloc, id)?)
+}
+
+#[test]
+fn items_end_in_ids(rt: HostRuntime) -> Result<(), Fail> {
+    let id = id(7, 2)?;
+    let item = item_of_list(rt.alloc())?;
+    assert_eq!(rt; item.last(), Last::Elem(id));
+    assert_eq!(rt; item.is_head(), false);
+    Ok(())
+}
+
+/// The place leads over the key `k` to the item 7@2.
+fn assert_hops(rt: &impl Abort, place: &Place) -> Result<(), Fail> {
+    let [Hop::Field(first), Hop::Item(second)] = place.hops() else {
+        return Err(Fail::from("other hops"));
+    };
+    assert_eq!(rt; first.as_str(), "k");
+    assert_eq!(rt; *second, id(7, 2)?);
+    Ok(())
+}
+
+/// The head of the list at that item.
+fn head_of_item(alloc: Global) -> Result<Place, Fail> {
+    let item = item_of_list(alloc)?;
+    Ok(item.head(alloc)?)
+}
+
+#[test]
+fn heads_end_as_heads(rt: HostRuntime) -> Result<(), Fail> {
+    let head = head_of_item(rt.alloc())?;
+    assert_eq!(rt; head.last(), Last::Head);
+    assert_eq!(rt; head.is_head(), true);
+    assert_hops(&rt, &head)
+}
+
+#[test]
+fn values_have_tags(rt: HostRuntime) {
+    assert_eq!(rt; Tag::of(&Val::EmptyMap), Tag::Map);
+    assert_eq!(rt; Tag::of(&Val::EmptyList), Tag::List);
+    assert_eq!(rt; Tag::of(&Val::Scalar(Scalar::Null)), Tag::Reg);
+    assert_eq!(rt; Tag::of(&Val::Scalar(Scalar::Whole(0))), Tag::Reg);
+}
+
+/// The key `tête`, and the last number.
+fn steps(alloc: Global) -> Result<Vec<Step>, Fail> {
+    let key = Key::new(alloc, "tête")?;
+    let mut steps = Vec::new(alloc);
+    steps.push(Step::Get(key))?;
     steps.push(Step::Idx(u64::MAX))?;
-    let expression = Expr::new(steps);
-    assert_eq!(rt; expression.steps().len(), 2);
-    let copy = expression.clone()?;
-    let [Step::Get(key), Step::Idx(index)] = copy.steps() else {
+    Ok(steps)
+}
+
+/// The expression has just those steps.
+fn assert_steps(rt: &impl Abort, expression: &Expr) -> Result<(), Fail> {
+    let [Step::Get(key), Step::Idx(index)] = expression.steps() else {
         return Err(Fail::from("other steps"));
     };
     assert_eq!(rt; key.as_str(), "tête");
     assert_eq!(rt; *index, u64::MAX);
     Ok(())
+}
+
+#[test]
+fn expressions_keep_their_steps(rt: HostRuntime) -> Result<(), Fail> {
+    let expression = Expr::new(steps(rt.alloc())?);
+    assert_steps(&rt, &expression)?;
+    let copy = expression.clone()?;
+    assert_steps(&rt, &copy)
 }

@@ -1,7 +1,6 @@
 //! Documents before their first entry, and as the operations of peers leave them.
 
 mod checks;
-mod orders;
 mod playing;
 mod refused_memory;
 

@@ -62,6 +62,7 @@ impl Config {
 mod tests {
     use super::*;
     use std::alloc::Global;
+    use std::process::Abort;
     use std::test::Fail;
 
     /// Three members, and every other number at its limit.
@@ -77,39 +78,88 @@ mod tests {
         })
     }
 
+    /// What `check` answers.
+    type Answer = Result<(), Refusal>;
+
+    /// A number, and what is answered where it is the own number, the clients, the readers, the queue, the batch and the serials.
+    type Row = (u32, [Answer; 6]);
+
+    const OK: Answer = Ok(());
+
+    const BAD: Answer = Err(Refusal::BadConfig);
+
+    const ROWS: [Row; 10] = [
+        (0, [BAD, BAD, BAD, BAD, BAD, BAD]),
+        (1, [OK, OK, OK, OK, OK, OK]),
+        (3, [BAD, OK, OK, OK, OK, OK]),
+        (64, [BAD, OK, OK, OK, OK, OK]),
+        (65, [BAD, BAD, BAD, OK, OK, OK]),
+        (256, [BAD, BAD, BAD, OK, OK, OK]),
+        (257, [BAD, BAD, BAD, OK, BAD, OK]),
+        (65_536, [BAD, BAD, BAD, OK, BAD, OK]),
+        (65_537, [BAD, BAD, BAD, BAD, BAD, OK]),
+        (4_294_967_295, [OK, BAD, BAD, BAD, BAD, OK]),
+    ];
+
+    fn with_own(alloc: Global, number: u32) -> Result<Answer, Fail> {
+        let mut config = greatest(alloc)?;
+        config.own = number;
+        Ok(config.check())
+    }
+
+    fn with_clients(alloc: Global, number: u32) -> Result<Answer, Fail> {
+        let mut config = greatest(alloc)?;
+        config.clients = number;
+        Ok(config.check())
+    }
+
+    fn with_readers(alloc: Global, number: u32) -> Result<Answer, Fail> {
+        let mut config = greatest(alloc)?;
+        config.readers = number;
+        Ok(config.check())
+    }
+
+    fn with_queue(alloc: Global, number: u32) -> Result<Answer, Fail> {
+        let mut config = greatest(alloc)?;
+        config.queue = number;
+        Ok(config.check())
+    }
+
+    fn with_batch(alloc: Global, number: u32) -> Result<Answer, Fail> {
+        let mut config = greatest(alloc)?;
+        config.batch = number;
+        Ok(config.check())
+    }
+
+    fn with_serials(alloc: Global, number: u32) -> Result<Answer, Fail> {
+        let mut config = greatest(alloc)?;
+        config.serials = number;
+        Ok(config.check())
+    }
+
+    /// What is answered where the number stands in each place in turn.
+    fn answers(alloc: Global, number: u32) -> Result<[Answer; 6], Fail> {
+        Ok([
+            with_own(alloc, number)?,
+            with_clients(alloc, number)?,
+            with_readers(alloc, number)?,
+            with_queue(alloc, number)?,
+            with_batch(alloc, number)?,
+            with_serials(alloc, number)?,
+        ])
+    }
+
+    fn assert_answers(rt: &impl Abort, alloc: Global, row: Row) -> Result<(), Fail> {
+        let (number, want) = row;
+        let answers = answers(alloc, number)?;
+        assert_eq!(rt; answers, want, "at {number}");
+        Ok(())
+    }
+
     #[test]
     fn numbers_are_within_limits(rt: HostRuntime) -> Result<(), Fail> {
-        let refused = Err(Refusal::BadConfig);
-        for (number, own, size, queue, batch, serials) in [
-            (0, refused, refused, refused, refused, refused),
-            (1, Ok(()), Ok(()), Ok(()), Ok(()), Ok(())),
-            (3, refused, Ok(()), Ok(()), Ok(()), Ok(())),
-            (64, refused, Ok(()), Ok(()), Ok(()), Ok(())),
-            (65, refused, refused, Ok(()), Ok(()), Ok(())),
-            (256, refused, refused, Ok(()), Ok(()), Ok(())),
-            (257, refused, refused, Ok(()), refused, Ok(())),
-            (65_536, refused, refused, Ok(()), refused, Ok(())),
-            (65_537, refused, refused, refused, refused, Ok(())),
-            (4_294_967_295, Ok(()), refused, refused, refused, Ok(())),
-        ] {
-            let mut config = greatest(rt.alloc())?;
-            config.own = number;
-            assert_eq!(rt; config.check(), own, "own number {number}");
-            let mut config = greatest(rt.alloc())?;
-            config.clients = number;
-            assert_eq!(rt; config.check(), size, "{number} clients");
-            let mut config = greatest(rt.alloc())?;
-            config.readers = number;
-            assert_eq!(rt; config.check(), size, "{number} readers");
-            let mut config = greatest(rt.alloc())?;
-            config.queue = number;
-            assert_eq!(rt; config.check(), queue, "{number} places of the queue");
-            let mut config = greatest(rt.alloc())?;
-            config.batch = number;
-            assert_eq!(rt; config.check(), batch, "{number} items in a batch");
-            let mut config = greatest(rt.alloc())?;
-            config.serials = number;
-            assert_eq!(rt; config.check(), serials, "{number} serials");
+        for row in ROWS {
+            assert_answers(&rt, rt.alloc(), row)?;
         }
         Ok(())
     }

@@ -7,7 +7,7 @@ use std::error::Error;
 use std::fmt;
 
 /// Why a call is refused. Every refusal leaves its object as it was, but where a call says otherwise.
-#[derive(Clone, Copy, Debug, PartialEq, Eq)]
+#[derive(Clone, Copy, PartialEq, Eq)]
 pub enum Refusal {
     /// A growth was refused.
     NoMemory = 1,
@@ -70,6 +70,44 @@ impl Refusal {
     {
         self as u8
     }
+
+    /// The name of the variant.
+    fn name(self) -> &'static str {
+        match self {
+            Refusal::NoMemory => "NoMemory",
+            Refusal::AtHead => "AtHead",
+            Refusal::PastEnd => "PastEnd",
+            Refusal::NotInList => "NotInList",
+            Refusal::TooDeep => "TooDeep",
+            Refusal::KeyTooLong => "KeyTooLong",
+            Refusal::TextTooLong => "TextTooLong",
+            Refusal::HistoryFull => "HistoryFull",
+            Refusal::QueueFull => "QueueFull",
+            Refusal::SerialEnd => "SerialEnd",
+            Refusal::Foreign => "Foreign",
+            Refusal::BadFloor => "BadFloor",
+            Refusal::UnknownReplica => "UnknownReplica",
+            Refusal::BadCounter => "BadCounter",
+            Refusal::BrokenChain => "BrokenChain",
+            Refusal::NamesNothing => "NamesNothing",
+            Refusal::NotClosed => "NotClosed",
+            Refusal::BadPlace => "BadPlace",
+            Refusal::InboxFull => "InboxFull",
+            Refusal::OwnName => "OwnName",
+            Refusal::NotWhole => "NotWhole",
+            Refusal::BadLine => "BadLine",
+            Refusal::NoReaderPlace => "NoReaderPlace",
+            Refusal::BadConfig => "BadConfig",
+            Refusal::NoReading => "NoReading",
+        }
+    }
+}
+
+/// As it would be derived. That of so many variants takes the prover long.
+impl fmt::Debug for Refusal {
+    fn fmt<W: fmt::Write>(&self, f: &mut fmt::Formatter<W>) -> fmt::Result {
+        f.write_str(self.name())
+    }
 }
 
 impl fmt::Display for Refusal {
@@ -106,40 +144,52 @@ impl<T: Drop> From<AllocFailed<T>> for Refusal {
 #[cfg(test)]
 mod tests {
     use super::*;
+    use std::alloc::Global;
+    use std::process::Abort;
     use std::test::Fail;
+
+    /// A refusal, its number, and what is printed.
+    type Row = (Refusal, u8, &'static str);
+
+    const ROWS: &[Row] = &[
+        (Refusal::NoMemory, 1, "E1"),
+        (Refusal::AtHead, 2, "E2"),
+        (Refusal::PastEnd, 3, "E3"),
+        (Refusal::NotInList, 4, "E4"),
+        (Refusal::TooDeep, 5, "E5"),
+        (Refusal::KeyTooLong, 6, "E6"),
+        (Refusal::TextTooLong, 7, "E7"),
+        (Refusal::HistoryFull, 8, "E8"),
+        (Refusal::QueueFull, 9, "E9"),
+        (Refusal::SerialEnd, 10, "E10"),
+        (Refusal::Foreign, 11, "E11"),
+        (Refusal::BadFloor, 12, "E12"),
+        (Refusal::UnknownReplica, 13, "E13"),
+        (Refusal::BadCounter, 14, "E14"),
+        (Refusal::BrokenChain, 15, "E15"),
+        (Refusal::NamesNothing, 16, "E16"),
+        (Refusal::NotClosed, 17, "E17"),
+        (Refusal::BadPlace, 18, "E18"),
+        (Refusal::InboxFull, 19, "E19"),
+        (Refusal::OwnName, 20, "E20"),
+        (Refusal::NotWhole, 21, "E21"),
+        (Refusal::BadLine, 22, "E22"),
+        (Refusal::NoReaderPlace, 23, "E23"),
+        (Refusal::BadConfig, 24, "E24"),
+        (Refusal::NoReading, 25, "E25"),
+    ];
+
+    fn assert_printed(rt: &impl Abort, alloc: Global, row: &Row) -> Result<(), Fail> {
+        let (refusal, number, text) = *row;
+        assert_eq!(rt; refusal.number(), number);
+        assert_eq!(rt; format!(in alloc; "{refusal}")?.as_str(), text);
+        Ok(())
+    }
 
     #[test]
     fn refusals_are_printed_by_their_numbers(rt: HostRuntime) -> Result<(), Fail> {
-        let cases = [
-            (Refusal::NoMemory, 1, "E1"),
-            (Refusal::AtHead, 2, "E2"),
-            (Refusal::PastEnd, 3, "E3"),
-            (Refusal::NotInList, 4, "E4"),
-            (Refusal::TooDeep, 5, "E5"),
-            (Refusal::KeyTooLong, 6, "E6"),
-            (Refusal::TextTooLong, 7, "E7"),
-            (Refusal::HistoryFull, 8, "E8"),
-            (Refusal::QueueFull, 9, "E9"),
-            (Refusal::SerialEnd, 10, "E10"),
-            (Refusal::Foreign, 11, "E11"),
-            (Refusal::BadFloor, 12, "E12"),
-            (Refusal::UnknownReplica, 13, "E13"),
-            (Refusal::BadCounter, 14, "E14"),
-            (Refusal::BrokenChain, 15, "E15"),
-            (Refusal::NamesNothing, 16, "E16"),
-            (Refusal::NotClosed, 17, "E17"),
-            (Refusal::BadPlace, 18, "E18"),
-            (Refusal::InboxFull, 19, "E19"),
-            (Refusal::OwnName, 20, "E20"),
-            (Refusal::NotWhole, 21, "E21"),
-            (Refusal::BadLine, 22, "E22"),
-            (Refusal::NoReaderPlace, 23, "E23"),
-            (Refusal::BadConfig, 24, "E24"),
-            (Refusal::NoReading, 25, "E25"),
-        ];
-        for (refusal, number, text) in cases {
-            assert_eq!(rt; refusal.number(), number);
-            assert_eq!(rt; format!(in rt.alloc(); "{refusal}")?.as_str(), text);
+        for row in ROWS {
+            assert_printed(&rt, rt.alloc(), row)?;
         }
         Ok(())
     }

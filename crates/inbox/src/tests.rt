@@ -14,22 +14,22 @@ const MAP: Option<Writes> = Some(Writes::Map);
 
 const KEPT: Result<Delivered, Refusal> = Ok(Delivered::Kept);
 
-/// The first operation of a replica is put, and kept. It depends on nothing, so it is ready.
-fn first_of(replica: u32) -> Turn {
-    Turn::Put((1, replica), [0, 0, 0], Writes::Map, KEPT)
-}
+/// The first operation of replica 1 is put, and kept. It depends on nothing, so it is ready.
+const FIRST_OF_1: Turn = Turn::Put((1, 1), [0, 0, 0], Writes::Map, KEPT);
+
+/// That of replica 2.
+const FIRST_OF_2: Turn = Turn::Put((1, 2), [0, 0, 0], Writes::Map, KEPT);
+
+/// That of replica 3.
+const FIRST_OF_3: Turn = Turn::Put((1, 3), [0, 0, 0], Writes::Map, KEPT);
 
 #[test]
 fn new_inboxes_are_empty(rt: HostRuntime) -> Result<(), Fail> {
-    on_new(
-        &rt,
-        rt.alloc(),
-        0,
-        &[
-            Turn::Len(0),
-            Turn::Has((1, 2), false),
-            Turn::Room(false, true),
-            Turn::Take((1, 2), None),
-        ],
-    )
+    const TURNS: &[Turn] = &[
+        Turn::Len(0),
+        Turn::Has((1, 2), false),
+        Turn::Room(false, true),
+        Turn::Take((1, 2), None),
+    ];
+    on_new(&rt, rt.alloc(), 0, &[], TURNS)
 }

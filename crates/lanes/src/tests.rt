@@ -9,17 +9,31 @@ use std::test::Fail;
 
 const WIDTHS: [usize; 9] = [0, 1, 7, 8, 9, 63, 64, 65, 256];
 
+/// What is said of two columns: whether the first is at most the second, whether they are equal, the greatest counter of the first,
+/// and how many of its counters are above those of the second.
+type Said = (bool, bool, u64, usize);
+
+/// The next state of a generator of numbers.
+fn next(state: u64) -> u64 {
+    state
+        .wrapping_mul(6_364_136_223_846_793_005)
+        .wrapping_add(1_442_695_040_888_963_407)
+}
+
+/// A number near 0 or near the greatest one.
+fn number(state: u64) -> u64 {
+    let small = state >> 62;
+    let is_small = (state >> 40) & 1 == 0;
+    if is_small { small } else { u64::MAX - small }
+}
+
 /// As many numbers as asked, near 0 or near the greatest one. Equal seeds give equal numbers.
 fn numbers(alloc: Global, width: usize, seed: u64) -> Result<Vec<u64>, Fail> {
     let mut numbers = Vec::new(alloc);
     let mut state = seed;
     for _ in 0..width {
-        state = state
-            .wrapping_mul(6_364_136_223_846_793_005)
-            .wrapping_add(1_442_695_040_888_963_407);
-        let small = state >> 62;
-        let is_small = (state >> 40) & 1 == 0;
-        numbers.push(if is_small { small } else { u64::MAX - small })?;
+        state = next(state);
+        numbers.push(number(state))?;
     }
     Ok(numbers)
 }
@@ -33,26 +47,79 @@ fn one_at_end(alloc: Global, width: usize) -> Result<Vec<u64>, Fail> {
     Ok(numbers)
 }
 
+/// What the kernels say.
+fn said(a: &[u64], b: &[u64]) -> Said
+    requires { length a.now ≡ length b.now }
+{
+    (all_le(a, b), all_eq(a, b), greatest(a), count_over(a, b))
+}
+
+/// What a plain loop says.
+fn said_plainly(a: &[u64], b: &[u64]) -> Said {
+    let mut is_le = true;
+    let mut is_eq = true;
+    let mut most = 0;
+    let mut count = 0_usize;
+    for (x, y) in a.iter().zip(b) {
+        is_le = is_le && *x <= *y;
+        is_eq = is_eq && *x == *y;
+        most = most.max(*x);
+        count = count.wrapping_add(usize::from(*x > *y));
+    }
+    (is_le, is_eq, most, count)
+}
+
+fn assert_said(rt: &impl Abort, a: &[u64], b: &[u64], want: Said)
+    requires { length a.now ≡ length b.now }
+{
+    assert_eq!(rt; said(a, b), want, "{} wide", a.len());
+}
+
+/// Compares what is said of a column and of one that is greater in its last place, where it has any.
+fn assert_last(rt: &impl Abort, one: &[u64], zeros: &[u64])
+    requires { length one.now ≡ length zeros.now }
+{
+    let is_empty = one.len() == 0;
+    let (most, count) = if is_empty { (0, 0) } else { (1, 1) };
+    assert_said(rt, one, zeros, (is_empty, is_empty, most, count));
+    assert_said(rt, zeros, one, (true, is_empty, 0, 0));
+    assert_said(rt, one, one, (true, true, most, 0));
+}
+
 #[test]
 fn the_last_place_counts(rt: HostRuntime) -> Result<(), Fail> {
     for width in WIDTHS {
         let zeros = vec![in rt.alloc(); 0; width]?;
         let one = one_at_end(rt.alloc(), width)?;
-        assert!(rt; zeros.len() == one.len());
-        let is_empty = width == 0;
-        assert_eq!(rt; all_le(&one, &zeros), is_empty, "{width} wide");
-        assert_eq!(rt; all_le(&zeros, &one), true, "{width} wide");
-        assert_eq!(rt; all_eq(&one, &zeros), is_empty, "{width} wide");
-        assert_eq!(rt; all_eq(&one, &one), true, "{width} wide");
-        assert_eq!(rt; greatest(&one), u64::from(!is_empty), "{width} wide");
-        assert_eq!(rt;
-            count_over(&one, &zeros),
-            usize::from(!is_empty),
-            "{width} wide"
-        );
-        assert_eq!(rt; count_over(&zeros, &one), 0, "{width} wide");
+        assert!(rt; one.len() == zeros.len());
+        assert_last(&rt, &one, &zeros);
     }
     Ok(())
+}
+
+/// Compares what is said of a column whose last place has `a` and of one that has `b` there, where both have `b` in the first.
+fn assert_last_in_block(rt: &impl Abort, a: u64, b: u64, is_le: bool) {
+    let block = [b, 0, 0, 0, 0, 0, 0, a];
+    let other = [b, 0, 0, 0, 0, 0, 0, b];
+    let most = if is_le { b } else { a };
+    let want = (is_le, false, most, usize::from(!is_le));
+    assert_eq!(rt; said(&block, &other), want, "{a} and {b}");
+}
+
+/// Compares what the last place of such a column is raised to.
+fn assert_last_raised(rt: &impl Abort, a: u64, b: u64, is_le: bool) {
+    let mut block = [b, 0, 0, 0, 0, 0, 0, a];
+    let other = [b, 0, 0, 0, 0, 0, 0, b];
+    max_into(&mut block, &other);
+    let want = if is_le { b } else { a };
+    assert_eq!(rt; block[7], want, "{a} and {b}");
+}
+
+/// Compares two columns of one place.
+fn assert_alone(rt: &impl Abort, a: u64, b: u64, is_le: bool) {
+    let column = [a];
+    let other = [b];
+    assert_eq!(rt; all_le(&column, &other), is_le, "{a} and {b}");
 }
 
 #[test]
@@ -64,18 +131,9 @@ fn numbers_are_unsigned(rt: HostRuntime) {
         (1 << 63, (1 << 63) - 1, false),
         ((1 << 63) - 1, 1 << 63, true),
     ] {
-        let mut block = [b, 0, 0, 0, 0, 0, 0, a];
-        let other = [b, 0, 0, 0, 0, 0, 0, b];
-        assert_eq!(rt; all_le(&block, &other), is_le, "{a} and {b}");
-        assert_eq!(rt; all_le(&[a], &[b]), is_le, "{a} and {b}");
-        assert_eq!(rt;
-            count_over(&block, &other),
-            usize::from(!is_le),
-            "{a} and {b}"
-        );
-        assert_eq!(rt; greatest(&block), if is_le { b } else { a }, "{a} and {b}");
-        max_into(&mut block, &other);
-        assert_eq!(rt; block[7], if is_le { b } else { a }, "{a} and {b}");
+        assert_last_in_block(&rt, a, b, is_le);
+        assert_last_raised(&rt, a, b, is_le);
+        assert_alone(&rt, a, b, is_le);
     }
 }
 
@@ -104,58 +162,68 @@ fn masks_of_rows(rt: HostRuntime) {
     mask_over(&[], &[], &mut []);
 }
 
+/// Compares the bits of a mask of these columns.
+fn assert_bits(rt: &impl Abort, a: &[u64], b: &[u64], mask: &[u64]) {
+    for (i, (x, y)) in a.iter().zip(b).enumerate() {
+        assert_eq!(rt; is_set(mask, i), *x > *y, "at {i}");
+    }
+}
+
+/// The bits past the last counter are 0, up to the end of the word.
+fn assert_rest(rt: &impl Abort, counters: &[u64], mask: &[u64]) {
+    for i in counters.len()..counters.len().next_multiple_of(64) {
+        assert_eq!(rt; is_set(mask, i), false, "{i} of {}", counters.len());
+    }
+}
+
+/// Compares a mask over words whose bits were all 1.
+fn assert_mask(rt: &impl Abort, alloc: Global, a: &[u64], b: &[u64]) -> Result<(), Fail>
+    requires { length a.now ≡ length b.now }
+{
+    let mut mask = vec![in alloc; u64::MAX; a.len().div_ceil(64)]?;
+    assert!(rt; mask.len() == a.len().div_ceil(64));
+    mask_over(a, b, &mut mask);
+    assert_bits(rt, a, b, &mask);
+    assert_rest(rt, a, &mask);
+    Ok(())
+}
+
+/// The greater of each two.
+fn greater(alloc: Global, a: &[u64], b: &[u64]) -> Result<Vec<u64>, Fail> {
+    let mut greater = Vec::new(alloc);
+    for (x, y) in a.iter().zip(b) {
+        greater.push(if *x < *y { *y } else { *x })?;
+    }
+    Ok(greater)
+}
+
+/// Compares what a column is raised to.
+fn assert_greater(rt: &impl Abort, alloc: Global, a: &[u64], b: &[u64]) -> Result<(), Fail>
+    requires { length a.now ≡ length b.now }
+{
+    let want = greater(alloc, a, b)?;
+    let mut raised = a.to_vec(alloc)?;
+    max_into(&mut raised, b);
+    assert_eq!(rt; raised, want, "{} wide", a.len());
+    Ok(())
+}
+
+/// Compares what the kernels say and do with plain loops, at columns of numbers from equal or different seeds.
+fn assert_agree(rt: &impl Abort, alloc: Global, width: usize, seed: u64) -> Result<(), Fail> {
+    let a = numbers(alloc, width, seed)?;
+    let b = numbers(alloc, width, seed / 2)?;
+    assert!(rt; a.len() == b.len());
+    assert_eq!(rt; said(&a, &b), said_plainly(&a, &b), "{width} wide");
+    assert_mask(rt, alloc, &a, &b)?;
+    assert_greater(rt, alloc, &a, &b)
+}
+
 #[test]
 fn kernels_agree_with_plain_loops(rt: HostRuntime) -> Result<(), Fail> {
     for width in WIDTHS {
         for seed in 0..3 {
-            let mut a = numbers(rt.alloc(), width, seed)?;
-            let b = numbers(rt.alloc(), width, seed / 2)?;
-            let mut mask = vec![in rt.alloc(); u64::MAX; width.div_ceil(64)]?;
-            assert!(rt; a.len() == b.len() && mask.len() == a.len().div_ceil(64));
-            compare_columns(&rt, &a, &b);
-            mask_over(&a, &b, &mut mask);
-            compare_mask(&rt, &a, &b, &mask);
-            let before = a.clone()?;
-            max_into(&mut a, &b);
-            for ((old, new), other) in before.iter().zip(&a).zip(&b) {
-                let want = if *old < *other { *other } else { *old };
-                assert_eq!(rt; *new, want, "{width} wide");
-            }
+            assert_agree(&rt, rt.alloc(), width, seed)?;
         }
     }
     Ok(())
-}
-
-fn compare_columns<R: Abort + Print>(rt: &R, a: &[u64], b: &[u64])
-    requires { length a.now ≡ length b.now }
-{
-    let mut is_le = true;
-    let mut is_eq = true;
-    let mut most = 0;
-    for (x, y) in a.iter().zip(b) {
-        is_le = is_le && *x <= *y;
-        is_eq = is_eq && *x == *y;
-        if *x > most {
-            most = *x;
-        }
-    }
-    assert_eq!(rt; all_le(a, b), is_le, "{} wide", a.len());
-    assert_eq!(rt; all_eq(a, b), is_eq, "{} wide", a.len());
-    assert_eq!(rt; greatest(a), most, "{} wide", a.len());
-}
-
-fn compare_mask<R: Abort + Print>(rt: &R, a: &[u64], b: &[u64], mask: &[u64])
-    requires { length a.now ≡ length b.now }
-{
-    let mut count = 0_usize;
-    for (i, (x, y)) in a.iter().zip(b).enumerate() {
-        assert_eq!(rt; is_set(mask, i), *x > *y, "{i} of {}", a.len());
-        if *x > *y {
-            count = count.wrapping_add(1);
-        }
-    }
-    assert_eq!(rt; count_over(a, b), count, "{} wide", a.len());
-    for i in a.len()..a.len().next_multiple_of(64) {
-        assert_eq!(rt; is_set(mask, i), false, "{i} of {}", a.len());
-    }
 }

@@ -201,8 +201,13 @@ const PLACES: &[Row] = &[
     ((3, 2), &[1, 2, 0], ItemOfField(2, 2), Insert, Ok(())),
 ];
 
-/// The operation of a row and its copy are answered so, beside the table.
-fn is_answered(
+/// The operation is answered so alone, beside the table.
+fn is_answered(rt: &impl Abort, table: &ReplicaTable, op: &Op, want: Result<(), Refusal>) {
+    assert_eq!(rt; check_alone(op, table), want, "{op:?}");
+}
+
+/// The operation of a row and its copy are answered so.
+fn both_are_answered(
     rt: &impl Abort,
     alloc: Global,
     table: &ReplicaTable,
@@ -210,9 +215,9 @@ fn is_answered(
 ) -> Result<(), Refusal> {
     let (pair, counters, at, does, want) = *row;
     let op = op(alloc, pair, counters, at, does)?;
+    is_answered(rt, table, &op, want);
     let copy = op.clone()?;
-    assert_eq!(rt; check_alone(&op, table), want, "{op:?}");
-    assert_eq!(rt; check_alone(&copy, table), want, "{copy:?}");
+    is_answered(rt, table, &copy, want);
     Ok(())
 }
 
@@ -220,7 +225,7 @@ fn is_answered(
 fn are_answered(rt: &impl Abort, alloc: Global, rows: &[Row]) -> Result<(), Fail> {
     let table = ReplicaTable::new(alloc, &[1, 2, 3])?;
     for row in rows {
-        is_answered(rt, alloc, &table, row)?;
+        both_are_answered(rt, alloc, &table, row)?;
     }
     Ok(())
 }
@@ -242,9 +247,8 @@ fn places_are_for_what_is_done(rt: HostRuntime) -> Result<(), Fail> {
 
 /// The second item of the list at the key `shopping`.
 fn second_item(alloc: Global) -> Result<Expr, Refusal> {
-    let mut steps = Vec::new(alloc);
-    steps.push(Step::Get(Key::new(alloc, "shopping")?))?;
-    steps.push(Step::Idx(2))?;
+    let key = Key::new(alloc, "shopping")?;
+    let steps = vec![in alloc; Step::Get(key), Step::Idx(2)]?;
     Ok(Expr::new(steps))
 }
 
@@ -287,12 +291,22 @@ fn has_parts(rt: &impl Abort, alloc: Global, command: &Command, does: Does) -> R
     is_at_second(rt, alloc, command)
 }
 
+/// A copy of the command asks for this mutation, at the second item.
+fn copy_has_parts(
+    rt: &impl Abort,
+    alloc: Global,
+    command: &Command,
+    does: Does,
+) -> Result<(), Refusal> {
+    let copy = command.clone()?;
+    has_parts(rt, alloc, &copy, does)
+}
+
 /// A command that does this, and its copy, have their parts.
 fn keeps_parts(rt: &impl Abort, alloc: Global, does: Does) -> Result<(), Refusal> {
     let command = command(alloc, does)?;
-    let copy = command.clone()?;
     has_parts(rt, alloc, &command, does)?;
-    has_parts(rt, alloc, &copy, does)
+    copy_has_parts(rt, alloc, &command, does)
 }
 
 #[test]
@@ -303,21 +317,32 @@ fn commands_keep_their_parts(rt: HostRuntime) -> Result<(), Fail> {
     Ok(())
 }
 
-#[test]
-fn mutations_are_as_their_copies(rt: HostRuntime) -> Result<(), Fail> {
-    for does in [Assign, Insert, Delete] {
-        let mutation = asked(rt.alloc(), does)?;
-        assert_eq!(rt; mutation.clone()?, mutation);
-    }
+/// Such a mutation is as its copy.
+fn is_as_copy(rt: &impl Abort, alloc: Global, does: Does) -> Result<(), Refusal> {
+    let mutation = asked(alloc, does)?;
+    let copy = mutation.clone()?;
+    assert_eq!(rt; copy, mutation);
     Ok(())
 }
 
 #[test]
-fn only_inserts_are_inserts(rt: HostRuntime) {
-    for (does, want) in [(Assign, false), (Insert, true), (Delete, false)] {
-        let mutation = mutation(does);
-        assert_eq!(rt; mutation.is_insert(), want, "{mutation:?}");
+fn mutations_are_as_their_copies(rt: HostRuntime) -> Result<(), Fail> {
+    for does in [Assign, Insert, Delete] {
+        is_as_copy(&rt, rt.alloc(), does)?;
     }
+    Ok(())
+}
+
+/// Whether the mutation of a row is an insert.
+fn is_insert(does: Does) -> bool {
+    let mutation = mutation(does);
+    mutation.is_insert()
+}
+
+#[test]
+fn only_inserts_are_inserts(rt: HostRuntime) {
+    let found = [is_insert(Assign), is_insert(Insert), is_insert(Delete)];
+    assert_eq!(rt; found, [false, true, false]);
 }
 
 /// The operation 1@1, which assigns at the root.
@@ -325,33 +350,35 @@ fn first_op(alloc: Global) -> Result<Op, Refusal> {
     op(alloc, (1, 1), &[0], Root, Assign)
 }
 
+/// Whether two operations have the same id, place and mutation.
+fn are_same(op: &Op, other: &Op) -> bool {
+    op.id == other.id && op.place == other.place && op.mutation == other.mutation
+}
+
 /// The entry holds the first operation.
 fn has_first(rt: &impl Abort, alloc: Global, entry: &Entry) -> Result<(), Refusal> {
     let want = first_op(alloc)?;
-    let op = entry.op();
-    assert_eq!(rt; op.id, want.id, "{entry:?}");
-    assert_eq!(rt; op.place, want.place, "{entry:?}");
-    assert_eq!(rt; op.mutation, want.mutation, "{entry:?}");
+    assert!(rt; are_same(entry.op(), &want), "{entry:?}");
     Ok(())
 }
 
 /// The entry and its copy hold the first operation.
 fn keeps_first(rt: &impl Abort, alloc: Global, entry: &Entry) -> Result<(), Refusal> {
-    let copy = entry.clone()?;
     has_first(rt, alloc, entry)?;
+    let copy = entry.clone()?;
     has_first(rt, alloc, &copy)
 }
 
 #[test]
 fn own_entries_keep_their_operations(rt: HostRuntime) -> Result<(), Fail> {
-    let alloc = rt.alloc();
+    let op = first_op(rt.alloc())?;
     let own = Entry::Own {
         client: 0,
         serial: 1,
-        command: Command::Assign(Expr::new(Vec::new(alloc)), Val::EmptyMap),
-        op: first_op(alloc)?,
+        command: Command::Assign(Expr::new(Vec::new(rt.alloc())), Val::EmptyMap),
+        op,
     };
-    Ok(keeps_first(&rt, alloc, &own)?)
+    Ok(keeps_first(&rt, rt.alloc(), &own)?)
 }
 
 #[test]

@@ -1,49 +1,67 @@
 //! Examples with values from the rules, and each call once where it succeeds.
 
+ghost use Rattle.std.specs.Prelude.{◌≡◌, false, IsTrue, length};
+ghost use Rattle.ids.specs.Members.{is_member};
+ghost use Rattle.semantics.specs.LegalHistory.{has_id};
+ghost use Rattle.semantics.specs.Entries.{applied};
+
 use super::*;
-use cursor::{Expr, Place, Step};
+use cursor::{Expr, Place};
 use ids::{OpId, ReplicaId, ReplicaTable};
 use operation::{Command, Entry, Mutation, Op};
 use std::alloc::Global;
 use std::process::Abort;
 use std::test::Fail;
-use value::{Key, Scalar, Val};
+use value::{Scalar, Val};
 use version::VersionVector;
 
-fn id(counter: u64, replica: u32) -> Result<OpId, Fail> {
-    let replica = ReplicaId::new(replica).ok_or("numbered 0")?;
-    Ok(OpId { counter, replica })
+/// An id's counter and replica.
+type Pair = (u64, u32);
+
+fn id(pair: Pair) -> Result<OpId, Fail> {
+    let replica = ReplicaId::new(pair.1).ok_or("numbered 0")?;
+    Ok(OpId {
+        counter: pair.0,
+        replica,
+    })
 }
 
 /// The vector of these counters.
-fn vector(alloc: Global, counters: &[u64]) -> Result<VersionVector, Fail> {
-    let mut vector = VersionVector::zero(alloc, counters.len())?;
-    for (index, counter) in counters.iter().enumerate() {
-        vector.raise(index, *counter);
-    }
+fn vector(alloc: Global, counters: &[u64; 3]) -> Result<VersionVector, Fail> {
+    let mut vector = VersionVector::zero(alloc, 3)?;
+    vector.raise(0, counters[0]);
+    vector.raise(1, counters[1]);
+    vector.raise(2, counters[2]);
     Ok(vector)
 }
 
-/// An assign at the key `key`, beside a table of three.
-fn op(alloc: Global, counter: u64, replica: u32, counters: &[u64; 3]) -> Result<Op, Fail> {
+/// An assign at the root, beside a table of three.
+fn op(alloc: Global, pair: Pair, counters: &[u64; 3]) -> Result<Op, Fail> {
+    let id = id(pair)?;
+    let deps = vector(alloc, counters)?;
     Ok(Op {
-        id: id(counter, replica)?,
-        deps: vector(alloc, counters)?,
-        place: Place::doc(alloc).get(alloc, Key::new(alloc, "key")?)?,
+        id,
+        deps,
+        place: Place::doc(alloc),
         mutation: Mutation::Assign(Val::Scalar(Scalar::Whole(7))),
     })
 }
 
 /// An own entry of client 0.
-fn own(alloc: Global, serial: u64, op: Op) -> Result<Entry, Fail> {
-    let mut steps = Vec::new(alloc);
-    steps.push(Step::Get(Key::new(alloc, "key")?))?;
+fn own(alloc: Global, serial: u64, pair: Pair, counters: &[u64; 3]) -> Result<Entry, Fail> {
+    let op = op(alloc, pair, counters)?;
+    let root = Expr::new(Vec::new(alloc));
     Ok(Entry::Own {
         client: 0,
         serial,
-        command: Command::Assign(Expr::new(steps), Val::Scalar(Scalar::Whole(7))),
+        command: Command::Assign(root, Val::Scalar(Scalar::Whole(7))),
         op,
     })
+}
+
+/// A peer's entry.
+fn peer(alloc: Global, pair: Pair, counters: &[u64; 3]) -> Result<Entry, Fail> {
+    Ok(Entry::Peer(op(alloc, pair, counters)?))
 }
 
 /// A log of the replicas 1, 2 and 3.
@@ -55,19 +73,30 @@ fn new_log(alloc: Global) -> Result<Log, Fail> {
     Ok(Log::new(alloc, table)?)
 }
 
-/// Appends an entry of a member, whose vector has the table's width.
+/// Whether an operation with this id was applied.
+fn has(log: &Log, id: OpId) -> bool
+    ensures { result ≡ has_id (applied log.now.entries) id }
+{
+    log.find(id).is_some()
+}
+
+/// Whether the operation is a member's, has a vector of the table's width, and wasn't applied.
+fn fits(log: &Log, op: &Op) -> bool
+    ensures width { IsTrue result → length op.now.deps ≡ length log.now.table }
+    ensures member { IsTrue result → IsTrue (is_member log.now.table op.now.id.replica) }
+    ensures new { IsTrue result → has_id (applied log.now.entries) op.now.id ≡ false }
+{
+    op.deps.width() == log.table().len()
+        && log.table().index_of(op.id.replica).is_some()
+        && !has(log, op.id)
+}
+
+/// Appends an entry whose operation fits.
 fn append(log: &mut Log, entry: Entry) -> Result<(), Fail> {
-    let replica = entry.op().id.replica;
-    if log.table().index_of(replica).is_none() {
-        return Err("no member".into());
-    }
-    if entry.op().deps.width() != log.table().len() {
-        return Err("another width".into());
-    }
-    if log.find(entry.op().id).is_some() {
-        return Err("there already".into());
-    }
     log.reserve_one()?;
+    if !fits(log, entry.op()) {
+        return Err("an operation that doesn't fit".into());
+    }
     log.push(entry);
     Ok(())
 }
@@ -87,46 +116,74 @@ fn missing(
 /// Replica 1 assigned, both saw it, and then each assigned: 1@1, 2@1 and 2@2, in a table of 1, 2, 3.
 fn log(alloc: Global) -> Result<Log, Fail> {
     let mut log = new_log(alloc)?;
-    append(&mut log, own(alloc, 1, op(alloc, 1, 1, &[0, 0, 0])?)?)?;
-    append(&mut log, own(alloc, 2, op(alloc, 2, 1, &[1, 0, 0])?)?)?;
-    append(&mut log, Entry::Peer(op(alloc, 2, 2, &[1, 0, 0])?))?;
+    append(&mut log, own(alloc, 1, (1, 1), &[0, 0, 0])?)?;
+    append(&mut log, own(alloc, 2, (2, 1), &[1, 0, 0])?)?;
+    append(&mut log, peer(alloc, (2, 2), &[1, 0, 0])?)?;
     Ok(log)
+}
+
+/// The id at a place.
+fn id_at(log: &Log, place: usize) -> Option<Pair> {
+    let id = log.get(place)?.op().id;
+    Some((id.counter, id.replica.number()))
+}
+
+/// Compares the place of an id.
+fn assert_found(rt: &impl Abort, log: &Log, pair: Pair, want: Option<usize>) -> Result<(), Fail> {
+    let id = id(pair)?;
+    assert_eq!(rt; log.find(id), want, "of {id}");
+    Ok(())
+}
+
+/// Just these ids stand in the log, in this order.
+fn assert_ids(rt: &impl Abort, log: &Log, want: &[Pair]) -> Result<(), Fail> {
+    assert_eq!(rt; log.len(), want.len());
+    for (place, pair) in want.iter().enumerate() {
+        assert_eq!(rt; id_at(log, place), Some(*pair), "at {place}");
+        assert_found(rt, log, *pair, Some(place))?;
+    }
+    Ok(())
+}
+
+/// None of these ids stands in the log.
+fn assert_absent(rt: &impl Abort, log: &Log, pairs: &[Pair]) -> Result<(), Fail> {
+    for pair in pairs {
+        assert_found(rt, log, *pair, None)?;
+    }
+    Ok(())
 }
 
 #[test]
 fn entries_stand_in_order(rt: HostRuntime) -> Result<(), Fail> {
-    let alloc = rt.alloc();
-    let log = log(alloc)?;
-    assert_eq!(rt; log.len(), 3);
-    assert_eq!(rt; log.table().len(), 3);
-    for (place, counter, replica) in [(0, 1, 1), (1, 2, 1), (2, 2, 2)] {
-        let want = id(counter, replica)?;
-        assert_eq!(rt; log.get(place).map(|entry| entry.op().id), Some(want));
-        assert_eq!(rt; log.find(want), Some(place), "of {want}");
-    }
+    let log = log(rt.alloc())?;
+    assert_ids(&rt, &log, &[(1, 1), (2, 1), (2, 2)])?;
+    assert_absent(&rt, &log, &[(1, 2), (2, 3), (3, 1), (0, 1), (1, 4)])?;
     assert!(rt; log.get(3).is_none());
-    for (counter, replica) in [(1, 2), (2, 3), (3, 1), (0, 1), (1, 4)] {
-        let absent = id(counter, replica)?;
-        assert_eq!(rt; log.find(absent), None, "of {absent}");
+    assert_eq!(rt; log.table().len(), 3);
+    Ok(())
+}
+
+/// Whose entry this is: the client and the serial of an own one, and nothing of a peer's.
+fn client_of(entry: &Entry) -> Option<(usize, u64)> {
+    match entry {
+        Entry::Own { client, serial, .. } => Some((*client, *serial)),
+        Entry::Peer(_) => None,
     }
-    let entries = log.into_entries();
-    assert_eq!(rt; entries.len(), 3);
-    assert!(rt; matches!(entries[2], Entry::Peer(_)));
-    assert!(rt;
-        matches!(
-            entries[1],
-            Entry::Own {
-                client: 0,
-                serial: 2,
-                ..
-            }
-        )
-    );
+}
+
+#[test]
+fn entries_are_handed_out(rt: HostRuntime) -> Result<(), Fail> {
+    let entries = log(rt.alloc())?.into_entries();
+    let want = [Some((0, 1)), Some((0, 2)), None];
+    assert_eq!(rt; entries.len(), want.len());
+    for (entry, client) in entries.iter().zip(&want) {
+        assert_eq!(rt; client_of(entry), *client);
+    }
     Ok(())
 }
 
 /// Three replicas with rising counters, in an order that isn't that of the ids.
-const INTERLEAVED: [(u64, u32); 12] = [
+const INTERLEAVED: &[Pair] = &[
     (1, 3),
     (2, 3),
     (1, 1),
@@ -143,46 +200,58 @@ const INTERLEAVED: [(u64, u32); 12] = [
 
 fn interleaved(alloc: Global) -> Result<Log, Fail> {
     let mut log = new_log(alloc)?;
-    for (counter, replica) in INTERLEAVED {
-        append(
-            &mut log,
-            Entry::Peer(op(alloc, counter, replica, &[0, 0, 0])?),
-        )?;
+    for pair in INTERLEAVED {
+        append(&mut log, peer(alloc, *pair, &[0, 0, 0])?)?;
     }
     Ok(log)
 }
 
+/// Before, between and after those of a replica, and of replicas that are no members.
+const NOWHERE: &[Pair] = &[
+    (0, 2),
+    (2, 1),
+    (7, 2),
+    (5, 3),
+    (13, 1),
+    (14, 2),
+    (1, 4),
+    (5, 9),
+];
+
 #[test]
 fn each_replica_has_its_places(rt: HostRuntime) -> Result<(), Fail> {
-    let alloc = rt.alloc();
-    let log = interleaved(alloc)?;
-    for (place, &(counter, replica)) in INTERLEAVED.iter().enumerate() {
-        let want = id(counter, replica)?;
-        assert_eq!(rt; log.find(want), Some(place), "of {want}");
-    }
-    // Before, between and after those of a replica, and of replicas that are no members.
-    let nowhere = [
-        (0, 2),
-        (2, 1),
-        (7, 2),
-        (5, 3),
-        (13, 1),
-        (14, 2),
-        (1, 4),
-        (5, 9),
-    ];
-    for (counter, replica) in nowhere {
-        let absent = id(counter, replica)?;
-        assert_eq!(rt; log.find(absent), None, "of {absent}");
+    let log = interleaved(rt.alloc())?;
+    assert_ids(&rt, &log, INTERLEAVED)?;
+    assert_absent(&rt, &log, NOWHERE)
+}
+
+/// The counters of a vector, and the places of what it lacks.
+type Lacking<'a> = ([u64; 3], &'a [usize]);
+
+/// Compares what a vector lacks.
+fn assert_missing(rt: &impl Abort, alloc: Global, log: &Log, row: &Lacking) -> Result<(), Fail> {
+    let (counters, want) = *row;
+    let missing = missing(rt, alloc, log, &counters)?;
+    assert_eq!(rt; missing.as_slice(), want, "beyond {counters:?}");
+    Ok(())
+}
+
+/// Compares what each vector lacks.
+fn assert_all_missing(
+    rt: &impl Abort,
+    alloc: Global,
+    log: &Log,
+    rows: &[Lacking],
+) -> Result<(), Fail> {
+    for row in rows {
+        assert_missing(rt, alloc, log, row)?;
     }
     Ok(())
 }
 
 #[test]
 fn what_a_vector_lacks(rt: HostRuntime) -> Result<(), Fail> {
-    let alloc = rt.alloc();
-    let log = log(alloc)?;
-    let rows: [([u64; 3], &[usize]); 6] = [
+    const ROWS: &[Lacking] = &[
         ([0, 0, 0], &[0, 1, 2]),
         ([2, 2, 0], &[]),
         ([1, 0, 0], &[1, 2]),
@@ -190,52 +259,59 @@ fn what_a_vector_lacks(rt: HostRuntime) -> Result<(), Fail> {
         ([2, 1, 0], &[2]),
         ([u64::MAX, 1, 0], &[2]),
     ];
-    for (counters, want) in rows {
-        let missing = missing(&rt, alloc, &log, &counters)?;
-        assert_eq!(rt; missing.as_slice(), want, "beyond {counters:?}");
-    }
-    let none = new_log(alloc)?;
-    assert_eq!(rt; none.len(), 0);
-    assert!(rt; missing(&rt, alloc, &none, &[0, 0, 0])?.is_empty());
-    Ok(())
+    let log = log(rt.alloc())?;
+    assert_all_missing(&rt, rt.alloc(), &log, ROWS)
+}
+
+#[test]
+fn a_vector_lacks_nothing_of_nothing(rt: HostRuntime) -> Result<(), Fail> {
+    let log = new_log(rt.alloc())?;
+    assert_eq!(rt; log.len(), 0);
+    assert_missing(&rt, rt.alloc(), &log, &([0, 0, 0], &[]))
 }
 
 #[test]
 fn what_a_vector_lacks_of_each(rt: HostRuntime) -> Result<(), Fail> {
-    let alloc = rt.alloc();
-    let log = interleaved(alloc)?;
-    assert_eq!(rt; log.table().len(), 3);
-    let rows: [([u64; 3], &[usize]); 5] = [
+    const ROWS: &[Lacking] = &[
         ([0, 0, 0], &[0, 1, 2, 3, 4, 5, 6, 7, 8, 9, 10, 11]),
         ([3, 6, 4], &[7, 8, 9, 10, 11]),
         ([12, 0, 2], &[3, 5, 6, 8, 9, 11]),
         ([8, 5, 7], &[5, 7, 8, 10, 11]),
         ([12, 13, 7], &[]),
     ];
-    for (counters, want) in rows {
-        let missing = missing(&rt, alloc, &log, &counters)?;
-        assert_eq!(rt; missing.as_slice(), want, "beyond {counters:?}");
+    let log = interleaved(rt.alloc())?;
+    assert_all_missing(&rt, rt.alloc(), &log, ROWS)
+}
+
+/// A log of so many operations of replica 2.
+fn log_of(alloc: Global, count: u64) -> Result<Log, Fail> {
+    let mut log = new_log(alloc)?;
+    for known in 0..count {
+        append(&mut log, peer(alloc, (known + 1, 2), &[0, known, 0])?)?;
     }
-    Ok(())
+    Ok(log)
+}
+
+/// The places from this one to the last of so many.
+fn places_from(alloc: Global, first: usize, count: usize) -> Result<Vec<usize>, Fail> {
+    let mut places = Vec::new(alloc);
+    for place in first..count {
+        places.push(place)?;
+    }
+    Ok(places)
+}
+
+/// Compares what a vector lacks that knows so many of 130.
+fn assert_rest(rt: &impl Abort, alloc: Global, log: &Log, known: u64) -> Result<(), Fail> {
+    let want = places_from(alloc, known as usize, 130)?;
+    assert_missing(rt, alloc, log, &([0, known, 0], want.as_slice()))
 }
 
 #[test]
 fn what_a_vector_lacks_of_many(rt: HostRuntime) -> Result<(), Fail> {
-    let alloc = rt.alloc();
-    let mut log = new_log(alloc)?;
-    for counter in 1..=130 {
-        append(
-            &mut log,
-            Entry::Peer(op(alloc, counter, 2, &[0, counter - 1, 0])?),
-        )?;
-    }
+    let log = log_of(rt.alloc(), 130)?;
     for known in [0, 1, 63, 64, 65, 127, 128, 129, 130] {
-        let missing = missing(&rt, alloc, &log, &[0, known, 0])?;
-        let mut want = Vec::new(alloc);
-        for place in known as usize..130 {
-            want.push(place)?;
-        }
-        assert_eq!(rt; missing.as_slice(), want.as_slice(), "beyond {known}");
+        assert_rest(&rt, rt.alloc(), &log, known)?;
     }
     Ok(())
 }

@@ -19,38 +19,46 @@ const NAMES_NOTHING: Answer = Err(Refusal::NamesNothing);
 
 #[test]
 fn the_same_is_made_until_it_is_committed(rt: HostRuntime) -> Result<(), Fail> {
-    let turns = [
+    const TURNS: &[Turn<'static>] = &[
         Turn::Make((1, 1)),
         Turn::Lengths(0, 0),
         Turn::Make((1, 1)),
         Turn::Lengths(0, 0),
     ];
-    on_new(&rt, rt.alloc(), 1, &turns, &[])
+    on_new(&rt, rt.alloc(), 1, TURNS, &[])
 }
 
 #[test]
 fn counters_go_on_after_a_commit(rt: HostRuntime) -> Result<(), Fail> {
-    let turns = [
+    const TURNS: &[Turn<'static>] = &[
         Turn::Assign("a", "1", (1, 1)),
         Turn::Make((2, 1)),
         Turn::Lengths(1, 0),
     ];
-    on_new(&rt, rt.alloc(), 1, &turns, &[(1, 1)])
+    on_new(&rt, rt.alloc(), 1, TURNS, &[(1, 1)])
 }
 
-/// Opens no replica of this number among these members.
-fn expect_refused(rt: &impl Abort, alloc: Global, own: u32, members: &[u32]) {
-    let why = Replica::new(alloc, own, members).err();
-    assert_eq!(rt; why, Some(Refusal::BadConfig), "{own} of {members:?}");
+/// Whether a replica of this number is opened among these members.
+fn opened(alloc: Global, own: u32, members: &[u32]) -> Result<(), Refusal> {
+    let _replica = Replica::new(alloc, own, members)?;
+    Ok(())
 }
 
 #[test]
 fn configurations_are_tested(rt: HostRuntime) {
-    let alloc = rt.alloc();
-    assert!(rt; Replica::new(alloc, 2, &[3, 1, 2]).is_ok());
-    expect_refused(&rt, alloc, 4, &[1, 2, 3]);
-    expect_refused(&rt, alloc, 1, &[]);
-    expect_refused(&rt, alloc, 1, &[1, 1]);
-    expect_refused(&rt, alloc, 0, &[0, 1]);
-    expect_refused(&rt, alloc, 0, &[1]);
+    const ROWS: &[(u32, &[u32], Result<(), Refusal>)] = &[
+        (2, &[3, 1, 2], Ok(())),
+        (4, &[1, 2, 3], Err(Refusal::BadConfig)),
+        (1, &[], Err(Refusal::BadConfig)),
+        (1, &[1, 1], Err(Refusal::BadConfig)),
+        (0, &[0, 1], Err(Refusal::BadConfig)),
+        (0, &[1], Err(Refusal::BadConfig)),
+    ];
+    for (own, members, want) in ROWS {
+        assert_eq!(rt;
+            opened(rt.alloc(), *own, members),
+            *want,
+            "{own} of {members:?}"
+        );
+    }
 }

@@ -15,14 +15,11 @@ use std::test::Fail;
 
 #[test]
 fn new_trees_are_empty(rt: HostRuntime) -> Result<(), Fail> {
-    on_new(
-        &rt,
-        rt.alloc(),
-        &[&[
-            Keys(ROOT, &[]),
-            Items(ROOT, &[]),
-            Values(ROOT, &[]),
-            Conflicts(ROOT, &[]),
-        ]],
-    )
+    const PARTS: &[&[Turn]] = &[&[
+        Keys(ROOT, &[]),
+        Items(ROOT, &[]),
+        Values(ROOT, &[]),
+        Conflicts(ROOT, &[]),
+    ]];
+    on_new(&rt, rt.alloc(), PARTS)
 }

@@ -28,10 +28,9 @@ fn fields_of(alloc: Global, rows: &[(&str, usize)]) -> Result<Fields, Fail> {
 /// Compares the fields, in their order.
 fn assert_fields(rt: &impl Abort, fields: &Fields, want: &[(&str, usize)]) {
     assert_eq!(rt; fields.len(), want.len());
-    for (place, (text, number)) in want.iter().enumerate() {
-        let (key, at) = fields.at(place);
-        assert_eq!(rt; key.as_str(), *text, "at {place}");
-        assert_eq!(rt; at, *number, "at {place}");
+    for (place, row) in want.iter().enumerate() {
+        let (key, number) = fields.at(place);
+        assert_eq!(rt; (key.as_str(), number), *row, "at {place}");
     }
 }
 

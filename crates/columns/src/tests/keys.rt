@@ -57,9 +57,9 @@ fn probes_for(alloc: Global, keys: &SortedKeys, text: &str) -> Result<u64, Fail>
 /// Compares the keys in their order, each with how many were put before it.
 fn assert_keys(rt: &impl Abort, keys: &SortedKeys, want: &[(&str, usize)]) {
     assert_eq!(rt; keys.len(), want.len());
-    for (place, (text, number)) in want.iter().enumerate() {
-        assert_eq!(rt; keys.at(place).as_str(), *text, "at {place}");
-        assert_eq!(rt; keys.number(place), *number, "at {place}");
+    for (place, row) in want.iter().enumerate() {
+        let text = keys.at(place).as_str();
+        assert_eq!(rt; (text, keys.number(place)), *row, "at {place}");
     }
 }
 

@@ -26,7 +26,7 @@ use version::VersionVector;
 pub type Pair = (u64, u32);
 
 /// One step of the way from the root to a place.
-#[derive(Clone, Copy, Debug)]
+#[derive(Clone, Copy)]
 pub enum Hop<'a> {
     /// Into the map here, to the field with this key.
     Field(&'a str),
@@ -37,7 +37,7 @@ pub enum Hop<'a> {
 }
 
 /// One step of an expression.
-#[derive(Clone, Copy, Debug)]
+#[derive(Clone, Copy)]
 pub enum Step<'a> {
     /// To the field with this key of the map here.
     Get(&'a str),
@@ -46,7 +46,7 @@ pub enum Step<'a> {
 }
 
 /// A value that an operation writes.
-#[derive(Clone, Copy, Debug)]
+#[derive(Clone, Copy)]
 pub enum Value<'a> {
     Map,
     List,
@@ -55,7 +55,7 @@ pub enum Value<'a> {
 }
 
 /// What an operation does at its place.
-#[derive(Clone, Copy, Debug)]
+#[derive(Clone, Copy)]
 pub enum Does<'a> {
     Assign(Value<'a>),
     Insert(Value<'a>),
@@ -66,7 +66,7 @@ pub enum Does<'a> {
 pub type Sent<'a> = (Pair, [u64; 3], &'a [Hop<'a>], Does<'a>);
 
 /// Something that is done with a document, and what it answers.
-#[derive(Clone, Copy, Debug)]
+#[derive(Clone, Copy)]
 pub enum Turn<'a> {
     /// Takes an operation that passes each test.
     Take(Sent<'a>),
@@ -227,7 +227,8 @@ fn assert_check(
     wanted: Result<(), Refusal>,
 ) -> Result<(), Refusal> {
     let op = op(alloc, sent)?;
-    assert_eq!(rt; check(rt, document, &op), wanted, "of {sent:?}");
+    let found = check(rt, document, &op);
+    assert_eq!(rt; found, wanted, "of {:?}", sent.0);
     Ok(())
 }
 
@@ -236,14 +237,20 @@ fn waits(document: &Document, op: &Op) -> bool {
     op.deps.width() == document.table().len() && !document.ready(op)
 }
 
+/// The step of a row.
+fn step_of(alloc: Global, step: Step) -> Result<cursor::Step, Refusal> {
+    match step {
+        Step::Get(key) => Ok(cursor::Step::Get(Key::new(alloc, key)?)),
+        Step::Idx(index) => Ok(cursor::Step::Idx(index)),
+    }
+}
+
 /// The expression of these steps.
 fn expr(alloc: Global, path: &[Step]) -> Result<Expr, Refusal> {
     let mut steps = Vec::new(alloc);
-    for step in path {
-        steps.push(match step {
-            Step::Get(key) => cursor::Step::Get(Key::new(alloc, key)?),
-            Step::Idx(index) => cursor::Step::Idx(*index),
-        })?;
+    for next in path {
+        let step = step_of(alloc, *next)?;
+        steps.push(step)?;
     }
     Ok(Expr::new(steps))
 }
@@ -372,7 +379,7 @@ fn assert_answer(
     turn: Turn,
 ) -> Result<(), Refusal> {
     let reading = ask(alloc, document, turn)?;
-    assert!(rt; is_wanted(&reading, turn), "{turn:?}, but {reading:?}");
+    assert!(rt; is_wanted(&reading, turn), "{reading:?}");
     Ok(())
 }
 

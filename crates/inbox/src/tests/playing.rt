@@ -24,7 +24,7 @@ pub enum Writes {
 }
 
 /// Something that is done with an inbox, and what it answers.
-#[derive(Clone, Copy, Debug)]
+#[derive(Clone, Copy)]
 pub enum Turn {
     /// Puts an operation at the root, with these counters of the replicas 1, 2 and 3 in its vector.
     Put(Pair, [u64; 3], Writes, Result<Delivered, Refusal>),
@@ -39,12 +39,15 @@ pub enum Turn {
     Len(usize),
 }
 
-fn id_of(pair: Pair) -> Result<OpId, Fail> {
-    let replica = ReplicaId::new(pair.1).ok_or("numbered 0")?;
-    Ok(OpId {
-        counter: pair.0,
-        replica,
-    })
+fn id_of(pair: Pair) -> Result<OpId, Refusal> {
+    let (counter, replica) = pair;
+    let replica = ReplicaId::new(replica).ok_or(Refusal::UnknownReplica)?;
+    Ok(OpId { counter, replica })
+}
+
+/// The counter and the replica of an id.
+fn pair_of(id: &OpId) -> Pair {
+    (id.counter, id.replica.number())
 }
 
 fn vector(alloc: Global, counters: [u64; 3]) -> Result<VersionVector, Fail> {
@@ -102,8 +105,8 @@ fn answers(
 fn smallest(inbox: &Inbox, document: &Document) -> Option<Pair>
     requires { AreAsWide document.now.table inbox.now }
 {
-    let id = inbox.smallest_ready(document)?.id;
-    Some((id.counter, id.replica.number()))
+    let op = inbox.smallest_ready(document)?;
+    Some(pair_of(&op.id))
 }
 
 fn written(op: &Op) -> (Pair, Writes) {
@@ -111,7 +114,7 @@ fn written(op: &Op) -> (Pair, Writes) {
         Mutation::Delete => Writes::Delete,
         _ => Writes::Map,
     };
-    ((op.id.counter, op.id.replica.number()), writes)
+    (pair_of(&op.id), writes)
 }
 
 /// The id of the operation that is taken, which has this one, and what it writes.
@@ -193,26 +196,35 @@ fn fill(
     Ok(())
 }
 
+/// Does these turns and then those, once so many operations wait of which none is ready.
 fn fill_and_play(
     rt: &impl Abort,
     alloc: Global,
     inbox: &mut Inbox,
     document: &Document,
     stuck: u64,
-    turns: &[Turn],
+    first: &[Turn],
+    second: &[Turn],
 ) -> Result<(), Fail>
     requires few { stuck < 10000 }
     requires alone { AreAsWide document.now.table inbox.old }
 {
     fill(rt, alloc, inbox, document, stuck)?;
-    play(rt, alloc, inbox, document, turns)
+    play(rt, alloc, inbox, document, first)?;
+    play(rt, alloc, inbox, document, second)
 }
 
-/// Does these turns with a new inbox of replica 1 among 1, 2 and 3, once so many operations wait there of which none is ready.
-pub fn on_new(rt: &impl Abort, alloc: Global, stuck: u64, turns: &[Turn]) -> Result<(), Fail>
+/// Does these turns and then those with a new inbox of replica 1 among 1, 2 and 3, once so many operations wait there of which none is ready.
+pub fn on_new(
+    rt: &impl Abort,
+    alloc: Global,
+    stuck: u64,
+    first: &[Turn],
+    second: &[Turn],
+) -> Result<(), Fail>
     requires { stuck < 10000 }
 {
     let document = Document::new(alloc, &[1, 2, 3])?;
     let mut inbox = Inbox::new(alloc);
-    fill_and_play(rt, alloc, &mut inbox, &document, stuck, turns)
+    fill_and_play(rt, alloc, &mut inbox, &document, stuck, first, second)
 }

@@ -27,7 +27,7 @@ const LINK: Writes<'static> = Writes::Text("a", "x");
 
 #[test]
 fn what_comes_too_early_waits(rt: HostRuntime) -> Result<(), Fail> {
-    let turns = [
+    const TURNS: &[Turn<'static>] = &[
         Turn::Deliver((3, 1), &[2, 0, 0], LINK, KEPT),
         Turn::Drain(0, 0),
         Turn::Deliver((2, 1), &[1, 0, 0], LINK, KEPT),
@@ -35,12 +35,12 @@ fn what_comes_too_early_waits(rt: HostRuntime) -> Result<(), Fail> {
         Turn::Deliver((1, 1), &[0, 0, 0], LINK, KEPT),
         Turn::Drain(3, 0),
     ];
-    on_new(&rt, rt.alloc(), 2, &turns, &[(1, 1), (2, 1), (3, 1)])
+    on_new(&rt, rt.alloc(), 2, TURNS, &[(1, 1), (2, 1), (3, 1)])
 }
 
 #[test]
 fn what_waits_or_was_applied_is_known(rt: HostRuntime) -> Result<(), Fail> {
-    let turns = [
+    const TURNS: &[Turn<'static>] = &[
         Turn::Deliver((3, 1), &[2, 0, 0], LINK, KEPT),
         Turn::Drain(0, 0),
         Turn::Deliver((3, 1), &[2, 0, 0], LINK, KNOWN),
@@ -52,19 +52,19 @@ fn what_waits_or_was_applied_is_known(rt: HostRuntime) -> Result<(), Fail> {
         Turn::Deliver((3, 1), &[2, 0, 0], LINK, KNOWN),
         Turn::Drain(3, 0),
     ];
-    on_new(&rt, rt.alloc(), 2, &turns, &[(1, 1), (2, 1), (3, 1)])
+    on_new(&rt, rt.alloc(), 2, TURNS, &[(1, 1), (2, 1), (3, 1)])
 }
 
 #[test]
 fn what_was_applied_is_known_by_its_own_replica(rt: HostRuntime) -> Result<(), Fail> {
-    let turns = [
+    const TURNS: &[Turn<'static>] = &[
         Turn::Assign("a", "1", (1, 1)),
         Turn::Deliver((1, 1), &[0, 0, 0], Writes::Delete, KNOWN),
         Turn::Drain(1, 0),
         Turn::Deliver((2, 1), &[1, 0, 0], Writes::Delete, OWN_NAME),
         Turn::Drain(1, 0),
     ];
-    on_new(&rt, rt.alloc(), 1, &turns, &[(1, 1)])
+    on_new(&rt, rt.alloc(), 1, TURNS, &[(1, 1)])
 }
 
 /// Delivers an operation to replica 1, which has no history and refuses it.
@@ -91,18 +91,18 @@ fn counters_are_tested(rt: HostRuntime) -> Result<(), Fail> {
 
 #[test]
 fn counters_are_tested_before_names(rt: HostRuntime) -> Result<(), Fail> {
-    let turns = [
+    const TURNS: &[Turn<'static>] = &[
         Turn::Deliver((3, 1), &[1, 0, 0], Writes::Delete, BAD_COUNTER),
         Turn::Drain(0, 0),
         Turn::Deliver((1, 1), &[0, 0, 0], Writes::Delete, OWN_NAME),
         Turn::Drain(0, 0),
     ];
-    on_new(&rt, rt.alloc(), 1, &turns, &[])
+    on_new(&rt, rt.alloc(), 1, TURNS, &[])
 }
 
 #[test]
 fn replicas_are_members(rt: HostRuntime) -> Result<(), Fail> {
-    let turns = [
+    const TURNS: &[Turn<'static>] = &[
         Turn::Deliver((1, 2), &[0, 0], Writes::Delete, UNKNOWN),
         Turn::Drain(0, 0),
         Turn::Deliver((1, 2), &[0, 0, 0, 0], Writes::Delete, UNKNOWN),
@@ -112,14 +112,14 @@ fn replicas_are_members(rt: HostRuntime) -> Result<(), Fail> {
         Turn::Deliver((1, 4), &[0, 0, 0], Writes::Delete, UNKNOWN),
         Turn::Drain(0, 0),
     ];
-    on_new(&rt, rt.alloc(), 1, &turns, &[])?;
+    on_new(&rt, rt.alloc(), 1, TURNS, &[])?;
     let item = Writes::DeleteItem((1, 4));
     expect_refused_first(&rt, rt.alloc(), (2, 2), &[1, 0, 0], item, UNKNOWN)
 }
 
 #[test]
 fn what_turns_out_unlawful_is_dropped(rt: HostRuntime) -> Result<(), Fail> {
-    let turns = [
+    const TURNS: &[Turn<'static>] = &[
         Turn::Assign("a", "1", (1, 1)),
         Turn::Assign("a", "2", (2, 1)),
         Turn::Deliver((3, 2), &[2, 0, 0], Writes::Delete, KEPT),
@@ -133,8 +133,8 @@ fn what_turns_out_unlawful_is_dropped(rt: HostRuntime) -> Result<(), Fail> {
         Turn::Deliver((6, 3), &[5, 4, 0], Writes::Delete, NAMES_NOTHING),
         Turn::Drain(6, 1),
     ];
-    let history = [(1, 1), (2, 1), (3, 2), (4, 1), (5, 1), (6, 2)];
-    on_new(&rt, rt.alloc(), 1, &turns, &history)
+    const HISTORY: &[Pair] = &[(1, 1), (2, 1), (3, 2), (4, 1), (5, 1), (6, 2)];
+    on_new(&rt, rt.alloc(), 1, TURNS, HISTORY)
 }
 
 /// Replica 1, which saw 1@1 and then assigned at `key`, beside replica 2, which did the same.
@@ -155,19 +155,19 @@ const FORKED_2: &[Turn<'static>] = &[
 ];
 
 /// The ids of the values at `key`, in both.
-const BESIDE: Turn<'static> = Turn::Values(&[(2, 1), (2, 2)]);
+const BESIDE: &[Turn<'static>] = &[Turn::Values(&[(2, 1), (2, 2)])];
 
 #[test]
 fn concurrent_writes_stand_beside_each_other(rt: HostRuntime) -> Result<(), Fail> {
-    let history = [(1, 1), (2, 1), (2, 2)];
-    on_new_after(&rt, rt.alloc(), 1, FORKED_1, &[BESIDE], &history)?;
-    let history = [(1, 1), (2, 2), (2, 1)];
-    on_new_after(&rt, rt.alloc(), 2, FORKED_2, &[BESIDE], &history)
+    const HISTORY_1: &[Pair] = &[(1, 1), (2, 1), (2, 2)];
+    const HISTORY_2: &[Pair] = &[(1, 1), (2, 2), (2, 1)];
+    on_new_after(&rt, rt.alloc(), 1, FORKED_1, BESIDE, HISTORY_1)?;
+    on_new_after(&rt, rt.alloc(), 2, FORKED_2, BESIDE, HISTORY_2)
 }
 
 #[test]
 fn ready_ones_are_tested_against_the_history(rt: HostRuntime) -> Result<(), Fail> {
-    let turns = [
+    const TURNS: &[Turn<'static>] = &[
         Turn::Deliver((3, 1), &[1, 2, 0], Writes::Delete, BROKEN_CHAIN),
         Turn::Drain(3, 0),
         Turn::Deliver((3, 3), &[0, 2, 0], Writes::Delete, NOT_CLOSED),
@@ -175,18 +175,18 @@ fn ready_ones_are_tested_against_the_history(rt: HostRuntime) -> Result<(), Fail
         Turn::Deliver((3, 3), &[2, 2, 0], Writes::DeleteItem((2, 2)), BAD_PLACE),
         Turn::Drain(3, 0),
     ];
-    let history = [(1, 1), (2, 2), (2, 1)];
-    on_new_after(&rt, rt.alloc(), 2, FORKED_2, &turns, &history)
+    const HISTORY: &[Pair] = &[(1, 1), (2, 2), (2, 1)];
+    on_new_after(&rt, rt.alloc(), 2, FORKED_2, TURNS, HISTORY)
 }
 
 #[test]
 fn the_own_number_is_refused(rt: HostRuntime) -> Result<(), Fail> {
-    let turns = [
+    const TURNS: &[Turn<'static>] = &[
         Turn::Deliver((3, 1), &[2, 2, 0], Writes::Delete, OWN_NAME),
         Turn::Drain(3, 0),
     ];
-    let history = [(1, 1), (2, 1), (2, 2)];
-    on_new_after(&rt, rt.alloc(), 1, FORKED_1, &turns, &history)
+    const HISTORY: &[Pair] = &[(1, 1), (2, 1), (2, 2)];
+    on_new_after(&rt, rt.alloc(), 1, FORKED_1, TURNS, HISTORY)
 }
 
 #[test]
@@ -244,7 +244,7 @@ fn on_full(
 
 #[test]
 fn one_place_is_held_for_what_is_ready(rt: HostRuntime) -> Result<(), Fail> {
-    let turns = [
+    const TURNS: &[Turn<'static>] = &[
         Turn::Deliver((4098, 2), &[0, 0, 4097], Writes::Delete, FULL),
         Turn::Drain(0, 0),
         Turn::Deliver((2, 2), &[0, 0, 1], Writes::Delete, KNOWN),
@@ -256,5 +256,5 @@ fn one_place_is_held_for_what_is_ready(rt: HostRuntime) -> Result<(), Fail> {
         Turn::Deliver((4098, 2), &[0, 0, 4097], Writes::Delete, KEPT),
         Turn::Drain(2, 1),
     ];
-    on_full(&rt, rt.alloc(), &turns, &[(1, 2), (1, 3)])
+    on_full(&rt, rt.alloc(), TURNS, &[(1, 2), (1, 3)])
 }

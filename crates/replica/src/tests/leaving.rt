@@ -4,7 +4,7 @@ use super::*;
 
 #[test]
 fn the_next_one_is_a_copy_until_it_is_committed(rt: HostRuntime) -> Result<(), Fail> {
-    let turns = [
+    const TURNS: &[Turn<'static>] = &[
         Turn::Deliver((1, 2), &[0, 0, 0], Writes::Delete, KEPT),
         Turn::Lengths(0, 0),
         Turn::Copy(Some((1, 2))),
@@ -13,25 +13,25 @@ fn the_next_one_is_a_copy_until_it_is_committed(rt: HostRuntime) -> Result<(), F
         Turn::Next(None),
         Turn::Lengths(1, 0),
     ];
-    on_new(&rt, rt.alloc(), 1, &turns, &[(1, 2)])
+    on_new(&rt, rt.alloc(), 1, TURNS, &[(1, 2)])
 }
 
 #[test]
 fn where_nothing_is_ready_nothing_leaves(rt: HostRuntime) -> Result<(), Fail> {
-    let turns = [
+    const TURNS: &[Turn<'static>] = &[
         Turn::Deliver((2, 2), &[0, 0, 1], Writes::Delete, KEPT),
         Turn::Lengths(0, 0),
         Turn::Next(None),
         Turn::Lengths(0, 0),
         Turn::Drain(0, 0),
     ];
-    on_new(&rt, rt.alloc(), 1, &turns, &[])
+    on_new(&rt, rt.alloc(), 1, TURNS, &[])
 }
 
 #[test]
 fn where_nothing_waits_nothing_leaves(rt: HostRuntime) -> Result<(), Fail> {
-    let turns = [Turn::Next(None), Turn::Lengths(0, 0), Turn::Drain(0, 0)];
-    on_new(&rt, rt.alloc(), 1, &turns, &[])
+    const TURNS: &[Turn<'static>] = &[Turn::Next(None), Turn::Lengths(0, 0), Turn::Drain(0, 0)];
+    on_new(&rt, rt.alloc(), 1, TURNS, &[])
 }
 
 /// The smaller of two that don't depend on each other is delivered.
@@ -48,21 +48,21 @@ const FALLING: &[Turn<'static>] = &[GREATER, Turn::Lengths(0, 0), SMALLER, Turn:
 
 #[test]
 fn the_smallest_leaves_first(rt: HostRuntime) -> Result<(), Fail> {
-    let turns = [
+    const TURNS: &[Turn<'static>] = &[
         Turn::Next(Some((1, 2))),
         Turn::Next(Some((1, 3))),
         Turn::Next(None),
         Turn::Lengths(2, 0),
     ];
-    let history = [(1, 2), (1, 3)];
-    on_new_after(&rt, rt.alloc(), 1, RISING, &turns, &history)?;
-    on_new_after(&rt, rt.alloc(), 1, FALLING, &turns, &history)
+    const HISTORY: &[Pair] = &[(1, 2), (1, 3)];
+    on_new_after(&rt, rt.alloc(), 1, RISING, TURNS, HISTORY)?;
+    on_new_after(&rt, rt.alloc(), 1, FALLING, TURNS, HISTORY)
 }
 
 #[test]
 fn drains_append_by_rising_id(rt: HostRuntime) -> Result<(), Fail> {
-    let turns = [Turn::Drain(2, 0)];
-    let history = [(1, 2), (1, 3)];
-    on_new_after(&rt, rt.alloc(), 1, RISING, &turns, &history)?;
-    on_new_after(&rt, rt.alloc(), 1, FALLING, &turns, &history)
+    const TURNS: &[Turn<'static>] = &[Turn::Drain(2, 0)];
+    const HISTORY: &[Pair] = &[(1, 2), (1, 3)];
+    on_new_after(&rt, rt.alloc(), 1, RISING, TURNS, HISTORY)?;
+    on_new_after(&rt, rt.alloc(), 1, FALLING, TURNS, HISTORY)
 }

@@ -26,7 +26,7 @@ const SEVEN: &[Pair] = &[(1, 1), (2, 1), (3, 2), (4, 1), (5, 1), (6, 2), (7, 2)]
 
 #[test]
 fn turns_go_on(rt: HostRuntime) -> Result<(), Fail> {
-    let turns = [
+    const TURNS: &[Turn<'static>] = &[
         Turn::Next(Some((6, 2))),
         Turn::Lengths(6, 0),
         Turn::Next(Some((7, 2))),
@@ -35,11 +35,11 @@ fn turns_go_on(rt: HostRuntime) -> Result<(), Fail> {
         FORGED,
         Turn::Lengths(7, 1),
     ];
-    on_new_after(&rt, rt.alloc(), 1, EIGHT, &turns, SEVEN)
+    on_new_after(&rt, rt.alloc(), 1, EIGHT, TURNS, SEVEN)
 }
 
 #[test]
 fn drains_go_on(rt: HostRuntime) -> Result<(), Fail> {
-    let turns = [Turn::Drain(7, 1), FORGED, Turn::Lengths(7, 1)];
-    on_new_after(&rt, rt.alloc(), 1, EIGHT, &turns, SEVEN)
+    const TURNS: &[Turn<'static>] = &[Turn::Drain(7, 1), FORGED, Turn::Lengths(7, 1)];
+    on_new_after(&rt, rt.alloc(), 1, EIGHT, TURNS, SEVEN)
 }

@@ -11,7 +11,7 @@ use std::test::Fail;
 use value::Scalar;
 
 /// Something that is done with a tree, or asked of it with what it answers.
-#[derive(Clone, Copy, Debug)]
+#[derive(Clone, Copy)]
 pub enum Turn<'a> {
     /// Makes what an operation needs, and applies it. It has this id, and depends on these counters of the replicas 1 and 2.
     Play(Pair, [u64; 2], Where<'a>, Does<'a>),
@@ -159,4 +159,27 @@ pub fn on_new(rt: &impl Abort, alloc: Global, parts: &[&[Turn]]) -> Result<(), F
         take_turns(rt, alloc, &mut tree, turns)?;
     }
     Ok(())
+}
+
+/// Does these turns and then those with a tree.
+fn take_both(
+    rt: &impl Abort,
+    alloc: Global,
+    tree: &mut Tree,
+    first: &[Turn],
+    last: &[Turn],
+) -> Result<(), Fail> {
+    take_turns(rt, alloc, tree, first)?;
+    take_turns(rt, alloc, tree, last)
+}
+
+/// Does these turns and then those with one new tree.
+pub fn on_new_both(
+    rt: &impl Abort,
+    alloc: Global,
+    first: &[Turn],
+    last: &[Turn],
+) -> Result<(), Fail> {
+    let mut tree = empty(alloc)?;
+    take_both(rt, alloc, &mut tree, first, last)
 }

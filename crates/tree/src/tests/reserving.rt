@@ -19,14 +19,14 @@ const NOTE: Where = Where::Field(&["note"]);
 const MORE: Where = Where::Field(&["more"]);
 
 /// A list with eggs, and a note.
-const GROCERIES: [Turn; 3] = [
+const GROCERIES: &[Turn] = &[
     Play((1, 1), [0, 0], LIST, Does::List),
     Play((2, 1), [1, 0], HEAD, Does::Insert("eggs")),
     Play((3, 1), [2, 0], NOTE, Does::Text("today")),
 ];
 
 /// All that the groceries hold beneath the root.
-const HELD: [Turn; 5] = [
+const HELD: &[Turn] = &[
     Items(LIST, &[(2, 1)]),
     Values(EGGS, &[((2, 1), "eggs")]),
     Values(NOTE, &[((3, 1), "today")]),
@@ -35,26 +35,24 @@ const HELD: [Turn; 5] = [
 ];
 
 /// An operation of each form is reserved, beside the groceries.
-const FORMS: [Turn; 6] = [
-    Reserve(
+const FORMS: &[&[Turn]] = &[
+    &[Reserve(
         (4, 2),
         [3, 0],
         Where::Field(&["more", "deep"]),
         Does::Text("soon"),
-    ),
-    Reserve((4, 2), [3, 0], NOTE, Does::Map),
-    Reserve((4, 2), [3, 0], MORE, Does::List),
-    Reserve((4, 2), [3, 0], HEAD, Does::Insert("milk")),
-    Reserve((4, 2), [3, 0], EGGS, Does::Insert("ham")),
-    Reserve((4, 2), [3, 0], NOTE, Does::Delete),
+    )],
+    &[Reserve((4, 2), [3, 0], NOTE, Does::Map)],
+    &[Reserve((4, 2), [3, 0], MORE, Does::List)],
+    &[Reserve((4, 2), [3, 0], HEAD, Does::Insert("milk"))],
+    &[Reserve((4, 2), [3, 0], EGGS, Does::Insert("ham"))],
+    &[Reserve((4, 2), [3, 0], NOTE, Does::Delete)],
 ];
 
 /// The expression of the list's first item.
 fn at_first(alloc: Global) -> Result<Expr, Fail> {
     let list = Key::new(alloc, "list")?;
-    let mut steps = Vec::new(alloc);
-    steps.push(Step::Get(list))?;
-    steps.push(Step::Idx(1))?;
+    let steps = vec![in alloc; Step::Get(list), Step::Idx(1)]?;
     Ok(Expr::new(steps))
 }
 
@@ -65,50 +63,91 @@ fn first_item(alloc: Global, tree: &Tree) -> Result<ElementPlace, Fail> {
     Ok(place.into_element().ok_or("a head")?)
 }
 
+/// Reserves an operation, and asks for all that the groceries hold.
+fn assert_held(rt: &impl Abort, alloc: Global, tree: &mut Tree, form: &[Turn]) -> Result<(), Fail> {
+    take_turns(rt, alloc, tree, form)?;
+    take_turns(rt, alloc, tree, HELD)?;
+    take_turns(rt, alloc, tree, KEYS)
+}
+
+const KEYS: &[Turn] = &[Keys(ROOT, &["list", "note"])];
+
 /// Reserves an operation twice, and asks for all that the groceries hold each time.
-fn assert_keeps(rt: &impl Abort, alloc: Global, tree: &mut Tree, form: Turn) -> Result<(), Fail> {
-    take_turns(rt, alloc, tree, &[form])?;
-    take_turns(rt, alloc, tree, &HELD)?;
-    take_turns(rt, alloc, tree, &[form])?;
-    take_turns(rt, alloc, tree, &HELD)?;
-    take_turns(rt, alloc, tree, &[Keys(ROOT, &["list", "note"])])?;
+fn assert_keeps(
+    rt: &impl Abort,
+    alloc: Global,
+    tree: &mut Tree,
+    form: &[Turn],
+) -> Result<(), Fail> {
+    assert_held(rt, alloc, tree, form)?;
+    assert_held(rt, alloc, tree, form)?;
     let first = first_item(alloc, tree)?;
     assert_values(rt, alloc, tree, &first, &[((2, 1), "eggs")])
+}
+
+/// Reserves each form, with one tree.
+fn assert_keeps_all(rt: &impl Abort, alloc: Global, tree: &mut Tree) -> Result<(), Fail> {
+    for form in FORMS {
+        assert_keeps(rt, alloc, tree, form)?;
+    }
+    Ok(())
 }
 
 #[test]
 fn reserves_keep_the_content(rt: HostRuntime) -> Result<(), Fail> {
     let mut tree = empty(rt.alloc())?;
-    take_turns(&rt, rt.alloc(), &mut tree, &GROCERIES)?;
+    take_turns(&rt, rt.alloc(), &mut tree, GROCERIES)?;
+    assert_keeps_all(&rt, rt.alloc(), &mut tree)
+}
+
+/// Makes the groceries, reserves a form, and does these turns and then those.
+fn take_after(
+    rt: &impl Abort,
+    alloc: Global,
+    tree: &mut Tree,
+    form: &[Turn],
+    next: &[Turn],
+    last: &[Turn],
+) -> Result<(), Fail> {
+    take_turns(rt, alloc, tree, GROCERIES)?;
+    take_turns(rt, alloc, tree, form)?;
+    take_turns(rt, alloc, tree, next)?;
+    take_turns(rt, alloc, tree, last)
+}
+
+/// The same with a new tree.
+fn on_new_after(
+    rt: &impl Abort,
+    alloc: Global,
+    form: &[Turn],
+    next: &[Turn],
+    last: &[Turn],
+) -> Result<(), Fail> {
+    let mut tree = empty(alloc)?;
+    take_after(rt, alloc, &mut tree, form, next, last)
+}
+
+/// The same after each form.
+fn after_each(rt: &impl Abort, alloc: Global, next: &[Turn], last: &[Turn]) -> Result<(), Fail> {
     for form in FORMS {
-        assert_keeps(&rt, rt.alloc(), &mut tree, form)?;
+        on_new_after(rt, alloc, form, next, last)?;
     }
     Ok(())
 }
 
 #[test]
 fn another_operation_follows_each_reserve(rt: HostRuntime) -> Result<(), Fail> {
-    let other = Where::Field(&["other"]);
-    for form in FORMS {
-        on_new(
-            &rt,
-            rt.alloc(),
-            &[
-                &GROCERIES,
-                &[form, Play((4, 1), [3, 0], other, Does::Text("late"))],
-                &HELD,
-                &[
-                    Values(other, &[((4, 1), "late")]),
-                    Keys(ROOT, &["list", "note", "other"]),
-                ],
-            ],
-        )?;
-    }
-    Ok(())
+    const OTHER: Where = Where::Field(&["other"]);
+    const LATE: &[Turn] = &[
+        Play((4, 1), [3, 0], OTHER, Does::Text("late")),
+        Values(OTHER, &[((4, 1), "late")]),
+        Keys(ROOT, &["list", "note", "other"]),
+    ];
+    after_each(&rt, rt.alloc(), LATE, HELD)
 }
 
 /// A map is assigned, and is all that stands there.
-const MAP: [Turn; 3] = [
+const MAP: &[Turn] = &[
     Play((4, 1), [3, 0], MORE, Does::Map),
     Values(MORE, &[]),
     Conflicts(MORE, &[((4, 1), Tag::Map)]),
@@ -116,26 +155,18 @@ const MAP: [Turn; 3] = [
 
 #[test]
 fn a_scalar_of_an_earlier_reserve_is_not_written(rt: HostRuntime) -> Result<(), Fail> {
-    for form in FORMS {
-        on_new(&rt, rt.alloc(), &[&GROCERIES, &[form], &MAP])?;
-    }
-    Ok(())
+    after_each(&rt, rt.alloc(), MAP, &[])
 }
 
 #[test]
 fn the_first_reserved_is_applied_later(rt: HostRuntime) -> Result<(), Fail> {
-    on_new(
-        &rt,
-        rt.alloc(),
-        &[
-            &GROCERIES,
-            &[
-                Reserve((4, 2), [3, 0], HEAD, Does::Insert("milk")),
-                Play((4, 1), [3, 0], EGGS, Does::Insert("ham")),
-                Items(LIST, &[(2, 1), (4, 1)]),
-                Play((4, 2), [3, 0], HEAD, Does::Insert("milk")),
-                Items(LIST, &[(4, 2), (2, 1), (4, 1)]),
-            ],
-        ],
-    )
+    const TURNS: &[Turn] = &[
+        Reserve((4, 2), [3, 0], HEAD, Does::Insert("milk")),
+        Play((4, 1), [3, 0], EGGS, Does::Insert("ham")),
+        Items(LIST, &[(2, 1), (4, 1)]),
+        Play((4, 2), [3, 0], HEAD, Does::Insert("milk")),
+        Items(LIST, &[(4, 2), (2, 1), (4, 1)]),
+    ];
+    const PARTS: &[&[Turn]] = &[GROCERIES, TURNS];
+    on_new(&rt, rt.alloc(), PARTS)
 }

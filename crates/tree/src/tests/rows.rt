@@ -12,7 +12,7 @@ use version::VersionVector;
 pub type Pair = (u64, u32);
 
 /// A place in a document.
-#[derive(Clone, Copy, Debug)]
+#[derive(Clone, Copy)]
 pub enum Where<'a> {
     /// The field that these names lead to from the root.
     Field(&'a [&'a str]),
@@ -25,7 +25,7 @@ pub enum Where<'a> {
 pub const ROOT: Where = Where::Field(&[]);
 
 /// What an operation does at its place.
-#[derive(Clone, Copy, Debug)]
+#[derive(Clone, Copy)]
 pub enum Does<'a> {
     /// Assigns an empty map.
     Map,
@@ -39,12 +39,10 @@ pub enum Does<'a> {
 }
 
 /// The id with this counter and replica.
-fn id_of(pair: Pair) -> Result<OpId, Fail> {
-    let replica = ReplicaId::new(pair.1).ok_or("numbered 0")?;
-    Ok(OpId {
-        counter: pair.0,
-        replica,
-    })
+fn id_of(pair: Pair) -> Result<OpId, Refusal> {
+    let (counter, replica) = pair;
+    let replica = ReplicaId::new(replica).ok_or(Refusal::UnknownReplica)?;
+    Ok(OpId { counter, replica })
 }
 
 /// The counter and the replica of an id.
@@ -68,17 +66,17 @@ fn head(alloc: Global, list: &str) -> Result<Place, Refusal> {
 }
 
 /// The item with this id of the list at a field of the root.
-fn item(alloc: Global, list: &str, pair: Pair) -> Result<Place, Fail> {
+fn item(alloc: Global, list: &str, pair: Pair) -> Result<Place, Refusal> {
     let id = id_of(pair)?;
     let list = field(alloc, &[list])?;
-    Ok(list.item(alloc, id)?)
+    list.item(alloc, id)
 }
 
 /// The place of a row.
-fn place_of(alloc: Global, at: Where) -> Result<Place, Fail> {
+fn place_of(alloc: Global, at: Where) -> Result<Place, Refusal> {
     match at {
-        Where::Field(names) => Ok(field(alloc, names)?),
-        Where::Head(list) => Ok(head(alloc, list)?),
+        Where::Field(names) => field(alloc, names),
+        Where::Head(list) => head(alloc, list),
         Where::Item(list, pair) => item(alloc, list, pair),
     }
 }
@@ -120,7 +118,7 @@ pub fn op(
     counters: [u64; 2],
     at: Where,
     does: Does,
-) -> Result<Op, Fail> {
+) -> Result<Op, Refusal> {
     let id = id_of(pair)?;
     let deps = vector(alloc, counters)?;
     let place = place_of(alloc, at)?;
