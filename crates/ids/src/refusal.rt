@@ -7,7 +7,7 @@ use std::error::Error;
 use std::fmt;
 
 /// Why a call is refused. Every refusal leaves its object as it was, but where a call says otherwise.
-#[derive(Clone, Copy, PartialEq, Eq)]
+#[derive(Clone, Copy, Debug, PartialEq, Eq)]
 pub enum Refusal {
     /// A growth was refused.
     NoMemory = 1,
@@ -69,44 +69,6 @@ impl Refusal {
         ensures { result ≡ number_of self }
     {
         self as u8
-    }
-
-    /// The name of the variant.
-    fn name(self) -> &'static str {
-        match self {
-            Refusal::NoMemory => "NoMemory",
-            Refusal::AtHead => "AtHead",
-            Refusal::PastEnd => "PastEnd",
-            Refusal::NotInList => "NotInList",
-            Refusal::TooDeep => "TooDeep",
-            Refusal::KeyTooLong => "KeyTooLong",
-            Refusal::TextTooLong => "TextTooLong",
-            Refusal::HistoryFull => "HistoryFull",
-            Refusal::QueueFull => "QueueFull",
-            Refusal::SerialEnd => "SerialEnd",
-            Refusal::Foreign => "Foreign",
-            Refusal::BadFloor => "BadFloor",
-            Refusal::UnknownReplica => "UnknownReplica",
-            Refusal::BadCounter => "BadCounter",
-            Refusal::BrokenChain => "BrokenChain",
-            Refusal::NamesNothing => "NamesNothing",
-            Refusal::NotClosed => "NotClosed",
-            Refusal::BadPlace => "BadPlace",
-            Refusal::InboxFull => "InboxFull",
-            Refusal::OwnName => "OwnName",
-            Refusal::NotWhole => "NotWhole",
-            Refusal::BadLine => "BadLine",
-            Refusal::NoReaderPlace => "NoReaderPlace",
-            Refusal::BadConfig => "BadConfig",
-            Refusal::NoReading => "NoReading",
-        }
-    }
-}
-
-/// As it would be derived. That of so many variants takes the prover long.
-impl fmt::Debug for Refusal {
-    fn fmt<W: fmt::Write>(&self, f: &mut fmt::Formatter<W>) -> fmt::Result {
-        f.write_str(self.name())
     }
 }
 
