@@ -1,5 +1,5 @@
 -- What is read as a command or a question, alone or in its step, is the JSON that writing it gives.
-use Rattle.std.proofs.Common.{◌≡◌, ◌⊎◌, inl, inr, ℕ, nat_lt, length, Bool, true, false, cond, List, [], ◌∷◌, map, Option, Some, None, Result, Ok, Err, refl, sym, ap, ◌∙◌, subst, slice_get}
+use Rattle.std.proofs.Common.{◌≡◌, ℕ, nat_lt, length, Bool, true, false, cond, List, [], ◌∷◌, map, Option, Some, None, Result, Ok, Err, refl, sym, ap, ◌∙◌, subst, slice_get}
 use Rattle.std.specs.Prelude.{⊤, codes}
 use Rattle.std.specs.Str.{bytes_eq}
 use Rattle.ids.specs.declared.refusal.Refusal.{Refusal}
@@ -10,23 +10,23 @@ use Rattle.semantics.specs.Making.{Command}
 use Rattle.semantics.specs.Questions.{Step, Get, Idx, Question, Values, Keys, Items as ItemsAt, Conflicts, AppliedVector}
 use Rattle.semantics.specs.Vectors.{Vector}
 use Rattle.semantics.specs.LegalAnswer.{Asked, OfDocument, Missing}
-use Rattle.semantics.specs.World.{WorldStep, Push, Take, Publish, Give, Whole, Poll, Ask, Learn, SayHello, AnswerHello, Deliver, Lines, CountDropped}
+use Rattle.semantics.specs.World.{WorldStep, Push, Take, Publish, Give, Whole, Poll, Ask, Learn, SayHello, AnswerHello, Deliver, CountDropped}
 use Rattle.serde_json.specs.Data.{Data, null, boolean, number, string, array, object, Items, no_items, item}
 use Rattle.serde_json.specs.View.{items_of}
 use Rattle.value.specs.Forms.{json_of, value_form}
 use Rattle.wire.specs.Bundles.{readable}
 use Rattle.wire.specs.Forms.{and_then, json_form, list_form, number_form, phrase_form, text_form}
-use Rattle.wire.specs.Vectors.{count, vector_form, vector_json}
+use Rattle.wire.specs.Vectors.{vector_form, vector_json}
 use Rattle.wire.proofs.NormalNumbers.{AreNormal, IsNormal}
 use Rattle.wire.proofs.WrittenBack.{made_of, list_in, number_in, phrase_in, same_ok, value_in, vector_in, word_is}
 use Rattle.wire.proofs.WrittenLines.{json_normal}
 use Rattle.world.specs.Worlds.{table_at}
-use Rattle.scripts.specs.Expressions.{expression_form, get_form, path_step_form, path_steps_of}
+use Rattle.scripts.specs.Expressions.{expression_form, path_step_form, path_steps_of}
 use Rattle.scripts.specs.NumberedSteps.{engine_step_of, message_step_of, numbered_step_of}
 use Rattle.scripts.specs.Numbers.{one_number, two_numbers, three_numbers, four_numbers}
 use Rattle.scripts.specs.Requests.{applied_of, as_bad_line, asking_of, command_form, command_of, delete_of, missing_of, question_form, question_of, script_vector, writing_of}
 use Rattle.scripts.specs.Steps.{any_step_of, ask_of, line_of, lines_step, push_of, step_form}
-use Rattle.scripts.specs.Written.{ask_json, command_json, expression_json, mutation_at_json, path_step_json, push_json, question_json}
+use Rattle.scripts.specs.Written.{ask_json, command_json, expression_json, path_step_json, push_json, question_json}
 
 -- ---- expressions
 

@@ -2,7 +2,7 @@
 use Rattle.std.specs.Prelude.{ℕ, List, [], ◌∷◌, codes, map}
 use Rattle.semantics.specs.Operations.{Mutation, Assign, Insert, Delete}
 use Rattle.semantics.specs.Making.{Command}
-use Rattle.semantics.specs.Questions.{Step, Get, Idx, Question, Values, Keys, Items, Conflicts, AppliedVector}
+use Rattle.semantics.specs.Questions.{Step, Get, Idx, Values, Keys, Items, Conflicts, AppliedVector}
 use Rattle.semantics.specs.LegalAnswer.{Asked, OfDocument, Missing}
 use Rattle.serde_json.specs.Data.{Data, string, array}
 use Rattle.serde_json.specs.View.{items_of}

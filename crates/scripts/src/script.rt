@@ -28,7 +28,10 @@ pub struct Script {
     pub steps: Vec<WorldStep>,
 }
 
-/// Reads a script and checks each line. The first bad line decides.
+/// Reads a script and checks each line.
+///
+/// # Errors
+/// `BadLine` of the first bad line, else `NoMemory` if allocation fails.
 pub fn read_script(alloc: Global, bytes: &[u8]) -> Result<Script, ScriptError>
     ensures ok { IfOk result (λ s. (gs : List Configuration) × (script_form bytes.now ≡ Ok (gs, map (step_in (tables_of s.world.engines)) s.steps.items)) × (world_of s.world ≡ opened gs)) }
     ensures beside { IfOk result (λ s. All (IsAskedBeside (tables_of s.world.engines)) s.steps.items) }
