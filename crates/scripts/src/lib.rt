@@ -13,10 +13,9 @@ mod requests;
 mod run;
 mod script;
 mod steps;
-#[cfg(test)]
-mod tests;
 
 pub use error::ScriptError;
+pub use replies::reply_lines;
 pub use requests::what_is_read_is_written_alike;
 pub use run::replies_to;
 pub use script::{Script, read_script};

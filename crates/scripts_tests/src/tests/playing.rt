@@ -1,6 +1,6 @@
 //! Scripts, and what is wanted of them.
 
-use crate::run::replies_to;
+use scripts::replies_to;
 use std::alloc::{AllocError, Global};
 use std::process::Abort;
 use std::test::Fail;

@@ -1,8 +1,8 @@
 //! Every reply as it is printed.
 
-use crate::replies::reply_lines;
 use document::Reading;
 use ids::{OpId, Refusal, ReplicaId, ReplicaTable};
+use scripts::reply_lines;
 use std::alloc::Global;
 use std::process::Abort;
 use std::test::Fail;
