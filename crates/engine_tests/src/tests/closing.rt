@@ -26,26 +26,16 @@ fn one_left<N: EngineName, R: Wait + Abort>(rt: &R, alloc: Global, parts: Parts)
     requires own { parts.config.own ≡ N.own }
     requires table { in_order parts.config.members ≡ N.table }
 {
+    let (first, second) = (assign(alloc, 1)?, assign(alloc, 2)?);
     let (mut writer, mut clients, _readers) = open::<N>(rt, alloc, parts)?;
-    let written = write_around_a_step(rt, alloc, &mut writer, &mut clients);
-    let last = close(rt, writer, clients);
-    written?;
-    assert_one_left(rt, &last);
-    Ok(())
-}
-
-/// The first of two clients writes before a step, and once more after it.
-fn write_around_a_step<N: EngineName, R: Wait + Abort>(
-    rt: &R,
-    alloc: Global,
-    writer: &mut Writer<N>,
-    clients: &mut Vec<Client<N>>,
-) -> Result<(), Fail> {
     assert_eq!(rt; clients.len(), 2);
-    let client = clients.get_mut(0).ok_or("no client")?;
-    client.submit(rt, alloc, assign(alloc, 1)?)?;
-    assert_eq!(rt; writer.step(rt, alloc), Step::Published(1));
-    client.submit(rt, alloc, assign(alloc, 2)?)?;
+    let one = clients[0].submit(rt, alloc, first);
+    let step = writer.step(rt, alloc);
+    let two = clients[0].submit(rt, alloc, second);
+    let last = close(rt, writer, clients);
+    assert!(rt; one.is_ok() && two.is_ok());
+    assert_eq!(rt; step, Step::Published(1));
+    assert_one_left(rt, &last);
     Ok(())
 }
 
