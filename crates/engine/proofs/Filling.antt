@@ -1,16 +1,15 @@
 -- A batch that is being filled.
-use Rattle.std.proofs.Common.{◌≡◌, ◌==◌, ℕ, ◌+◌, ◌≤◌, Bool, true, false, cond, List, [], ◌∷◌, ◌++◌, length, map, reverse, refl, sym, ap, ◌∙◌, subst, arith, append_assoc}
+use Rattle.std.proofs.Common.{◌≡◌, ◌==◌, ℕ, ◌+◌, Bool, true, false, cond, List, [], ◌∷◌, ◌++◌, length, reverse, refl, sym, ap, ◌∙◌, subst, arith, append_assoc}
 use Rattle.std.proofs.lemmas.List.{append-nil, map-append, reverse-append}
 use Rattle.semantics.specs.Entries.{Entry, IsAbove}
-use Rattle.semantics.specs.LegalAnswer.{Submitted, Reply}
+use Rattle.semantics.specs.LegalAnswer.{Submitted}
 use Rattle.semantics.specs.Replica.{IsRunning}
 use Rattle.semantics.specs.Engine.{Handled}
 use Rattle.semantics.specs.Receipts.{IsAnswer}
 use Rattle.semantics.specs.Handling.{Handler, Handles}
 use Rattle.semantics.specs.Batches.{ComeFrom, AreAnswers, IsBatch, items_of}
 use Rattle.semantics.specs.WorldHistory.{of_client}
-use Rattle.semantics.specs.Publication.{Holds}
-use Rattle.semantics.proofs.HandledBatches.{next_above, no_batch, one_more, taken_items}
+use Rattle.semantics.proofs.HandledBatches.{next_above, no_batch, one_more}
 use Rattle.items.specs.declared.item.Item.{Item}
 use Rattle.items.specs.Meanings.{submitted_of}
 use Rattle.command.specs.Fifo.{of}

@@ -1,5 +1,5 @@
 -- What a step leaves, once all is published.
-use Rattle.std.proofs.Common.{◌≡◌, ◌<◌, ℕ, List, [], length, refl, sym, ap, ◌∙◌, subst, arith}
+use Rattle.std.proofs.Common.{◌≡◌, ◌<◌, ℕ, List, [], length, refl, sym, ap, subst, arith}
 use Rattle.semantics.specs.Entries.{Entry}
 use Rattle.semantics.specs.Engine.{Handled}
 use Rattle.engine.specs.Turns.{Writer, IsTurn, Ends, Shows, WasEmpty}

@@ -1,9 +1,8 @@
-use Rattle.std.proofs.Common.{◌≡◌, ◌++◌, ℕ, List, Some, length, slice_get, sym, ap, ◌∙◌, subst, arith, refl, rules}
+use Rattle.std.proofs.Common.{◌≡◌, ◌++◌, ℕ, List, Some, length, sym, ap, ◌∙◌, subst, arith, refl, rules}
 use Rattle.crossbeam_queue.specs.Passes.{view}
 use Rattle.semantics.specs.Entries.{Entry, Own, entry_at, IsEntryHistory}
 use Rattle.oplog.specs.Logs.{history}
 use Rattle.semantics.specs.WorldHistory.{BeginsWith}
-use Rattle.semantics.specs.Publication.{Publication}
 use Rattle.items.specs.declared.item.Item.{Item}
 use Rattle.command.specs.Fifo.{of}
 use Rattle.engine.specs.Clients.{items_by, AreClients}

@@ -1,4 +1,4 @@
-use Rattle.std.proofs.Common.{◌≡◌, sym, ap, ◌∙◌}
+use Rattle.std.proofs.Common.{sym, ap, ◌∙◌}
 use Rattle.ids.specs.Configurations.{Configuration}
 use Rattle.engine.proofs.Limits.{own_above_zero}
 use Rattle.engine.proofs.opening.own_number.Goals as goal
