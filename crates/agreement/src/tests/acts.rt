@@ -161,30 +161,49 @@ fn next_probe(alloc: Global, dice: &mut Dice) -> Result<Probe, Refusal> {
     Ok(Probe { kind, place })
 }
 
-/// An operation of any replica, most of them ready one after another, some too early, some known, some forged.
-fn op(alloc: Global, dice: &mut Dice) -> Result<Op, Fail> {
-    let replica = dice.roll(REPLICAS);
+/// A vector of at most two operations of each replica.
+fn vector(alloc: Global, dice: &mut Dice) -> Result<VersionVector, Refusal> {
     let mut deps = VersionVector::zero(alloc, REPLICAS as usize)?;
     deps.raise(0, dice.roll(3));
     deps.raise(1, dice.roll(3));
     deps.raise(2, dice.roll(3));
+    Ok(deps)
+}
+
+/// The counter after these operations, or now and then a greater one.
+fn counter(deps: &VersionVector, dice: &mut Dice) -> u64 {
     let next = deps.greatest().saturating_add(1);
-    let counter = if dice.roll(8) == 0 {
+    if dice.roll(8) == 0 {
         next.saturating_add(1)
     } else {
         next
-    };
+    }
+}
+
+/// A place at a key of the document.
+fn key_place(alloc: Global, dice: &mut Dice) -> Result<Place, Refusal> {
+    let key = key(alloc, dice)?;
+    Place::doc(alloc).get(alloc, key)
+}
+
+fn mutation(alloc: Global, dice: &mut Dice) -> Result<Mutation, Refusal> {
+    if dice.roll(4) == 0 {
+        return Ok(Mutation::Delete);
+    }
+    Ok(Mutation::Assign(value(alloc, dice)?))
+}
+
+/// An operation of any replica, most of them ready one after another, some too early, some known, some forged.
+fn op(alloc: Global, dice: &mut Dice) -> Result<Op, Refusal> {
+    let number = dice.roll(REPLICAS) as u32 + 1;
+    let replica = ReplicaId::new(number).ok_or(Refusal::UnknownReplica)?;
+    let deps = vector(alloc, dice)?;
+    let counter = counter(&deps, dice);
+    let place = key_place(alloc, dice)?;
     Ok(Op {
-        id: OpId {
-            counter,
-            replica: ReplicaId::new(replica as u32 + 1).ok_or("numbered 0")?,
-        },
+        id: OpId { counter, replica },
         deps,
-        place: Place::doc(alloc).get(alloc, key(alloc, dice)?)?,
-        mutation: if dice.roll(4) == 0 {
-            Mutation::Delete
-        } else {
-            Mutation::Assign(value(alloc, dice)?)
-        },
+        place,
+        mutation: mutation(alloc, dice)?,
     })
 }

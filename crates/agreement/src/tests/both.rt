@@ -7,11 +7,13 @@ ghost use Rattle.world.specs.Worlds.{IsAskedBeside, tables_of};
 use super::acts::{Act, CLIENTS, Probe, REPLICAS, next_act};
 use super::dice::Dice;
 use document::Reading;
-use engine::{Client, EngineName, Parts, ReaderToken, Step, Ticket, Writer, close, open, prepare};
-use ids::{Config, Refusal, ReplicaId};
+use engine::{
+    Client, EngineName, Notice, Parts, ReaderToken, Step, Ticket, Writer, close, open, prepare,
+};
+use ids::{Config, Refusal, ReplicaId, ReplicaTable};
 use items::Reply;
 use operation::{Command, Op};
-use std::alloc::Global;
+use std::alloc::{AllocError, Global};
 use std::marker::Brand;
 use std::process::Abort;
 use std::sync::Wait;
@@ -45,16 +47,15 @@ struct Engine<'a, N: EngineName> {
 
 /// Plays so many acts to a new world and a new engine. Fails where they say different things.
 pub fn play<R: Wait + Abort>(rt: &R, alloc: Global, dice: Dice, acts: u32) -> Result<(), Fail> {
-    let world = World::new(alloc, &[config(alloc)?])?;
-    let parts = prepare(alloc, config(alloc)?)?;
-    play_in::<Brand, R>(rt, alloc, parts, world, dice, acts)
+    let config = config(alloc)?;
+    let parts = prepare(alloc, config)?;
+    play_in::<Brand, R>(rt, alloc, parts, dice, acts)
 }
 
 fn play_in<N: EngineName, R: Wait + Abort>(
     rt: &R,
     alloc: Global,
     parts: Parts,
-    world: World,
     dice: Dice,
     acts: u32,
 ) -> Result<(), Fail>
@@ -63,14 +64,14 @@ fn play_in<N: EngineName, R: Wait + Abort>(
     requires table { in_order parts.config.members ≡ N.table }
 {
     let (mut writer, mut clients, mut readers) = open::<N>(rt, alloc, parts)?;
-    let same = match readers.pop() {
-        Some(mut reader) => {
+    let same = match readers.get_mut(0) {
+        Some(reader) => {
             let mut engine = Engine {
                 writer: &mut writer,
                 clients: &mut clients,
-                reader: &mut reader,
+                reader,
             };
-            act_on_both(rt, alloc, world, &mut engine, dice, acts)
+            act_on_both(rt, alloc, &mut engine, dice, acts)
         }
         None => Err("no reader".into()),
     };
@@ -78,21 +79,39 @@ fn play_in<N: EngineName, R: Wait + Abort>(
     same
 }
 
+/// A world of one engine.
+fn new_world(alloc: Global) -> Result<World, Fail> {
+    let config = config(alloc)?;
+    Ok(World::new(alloc, &[config])?)
+}
+
 fn act_on_both<N: EngineName, R: Wait + Abort>(
     rt: &R,
     alloc: Global,
-    world: World,
     engine: &mut Engine<N>,
     dice: Dice,
     acts: u32,
 ) -> Result<(), Fail> {
-    let mut world = world;
     let mut dice = dice;
+    let mut world = new_world(alloc)?;
     for number in 0..acts {
-        let act = next_act(alloc, &mut dice)?;
-        let same = is_same(rt, alloc, &mut world, engine, &act)?;
-        assert!(rt; same, "act {number}: {act:?}");
+        act_once(rt, alloc, &mut world, engine, &mut dice, number)?;
     }
+    Ok(())
+}
+
+/// Both say the same to the next act.
+fn act_once<N: EngineName, R: Wait + Abort>(
+    rt: &R,
+    alloc: Global,
+    world: &mut World,
+    engine: &mut Engine<N>,
+    dice: &mut Dice,
+    number: u32,
+) -> Result<(), Fail> {
+    let act = next_act(alloc, dice)?;
+    let same = is_same(rt, alloc, world, engine, &act)?;
+    assert!(rt; same, "act {number}: {act:?}");
     Ok(())
 }
 
@@ -141,18 +160,34 @@ fn submit<N: EngineName, R: Wait>(
     client: usize,
     command: &Command,
 ) -> Result<bool, Fail> {
+    let ticket = submitted(rt, alloc, engine, client, command)?;
     let step = WorldStep::Push {
         engine: 0,
         client,
         command: command.clone()?,
     };
     let told = reply(alloc, world, step)?;
-    let ticket = client_of(engine, client)?.submit(rt, alloc, command.clone()?);
-    Ok(match (told, ticket) {
-        (WorldReply::Ticket(serial), Ok(ticket)) => serial == ticket.serial,
+    Ok(is_same_ticket(&told, &ticket))
+}
+
+/// What a client of the engine of threads answers to a command.
+fn submitted<N: EngineName, R: Wait>(
+    rt: &R,
+    alloc: Global,
+    engine: &mut Engine<N>,
+    client: usize,
+    command: &Command,
+) -> Result<Result<Ticket, Refusal>, Fail> {
+    let client = client_of(engine, client)?;
+    Ok(client.submit(rt, alloc, command.clone()?))
+}
+
+fn is_same_ticket(told: &WorldReply, ticket: &Result<Ticket, Refusal>) -> bool {
+    match (told, ticket) {
+        (WorldReply::Ticket(serial), Ok(ticket)) => *serial == ticket.serial,
         (WorldReply::Denied(why), Err(refusal)) => why == refusal,
         _ => false,
-    })
+    }
 }
 
 /// The world's engine receives the operation as a line.
@@ -164,34 +199,50 @@ fn deliver<N: EngineName, R: Wait>(
     client: usize,
     op: &Op,
 ) -> Result<bool, Fail> {
-    let text = line_of(alloc, world, op)?;
-    let told = reply(
-        alloc,
-        world,
-        WorldStep::Line {
-            engine: 0,
-            client,
-            text,
-        },
-    )?;
-    let ticket = client_of(engine, client)?.deliver(rt, alloc, op.clone()?);
+    let ticket = delivered(rt, alloc, engine, client, op)?;
+    let step = WorldStep::Line {
+        engine: 0,
+        client,
+        text: line_of(alloc, world, op)?,
+    };
+    let told = reply(alloc, world, step)?;
+    Ok(is_same_receipt(&told, &ticket))
+}
+
+/// What a client of the engine of threads answers to an operation.
+fn delivered<N: EngineName, R: Wait>(
+    rt: &R,
+    alloc: Global,
+    engine: &mut Engine<N>,
+    client: usize,
+    op: &Op,
+) -> Result<Result<Ticket, Refusal>, Fail> {
+    let client = client_of(engine, client)?;
+    Ok(client.deliver(rt, alloc, op.clone()?))
+}
+
+fn is_same_receipt(told: &WorldReply, ticket: &Result<Ticket, Refusal>) -> bool {
     let WorldReply::Received {
         first,
         submitted,
         stopped,
     } = told
     else {
-        return Ok(false);
+        return false;
     };
-    Ok(match (stopped, ticket) {
-        (None, Ok(ticket)) => submitted == 1 && first == ticket.serial,
-        (Some((line, why)), Err(refusal)) => line == 1 && submitted == 0 && why == refusal,
+    match (stopped, ticket) {
+        (None, Ok(ticket)) => *submitted == 1 && *first == ticket.serial,
+        (Some((line, why)), Err(refusal)) => *line == 1 && *submitted == 0 && why == refusal,
         _ => false,
-    })
+    }
 }
 
 fn line_of(alloc: Global, world: &World, op: &Op) -> Result<Vec<u8>, Fail> {
     let table = world.table(0).ok_or("no engine")?;
+    Ok(line_beside(alloc, table, op)?)
+}
+
+fn line_beside(alloc: Global, table: &ReplicaTable, op: &Op) -> Result<Vec<u8>, AllocError> {
     let mut text = write_op(alloc, op, table)?;
     text.push(b'\n')?;
     Ok(text)
@@ -205,11 +256,15 @@ fn step<N: EngineName, R: Wait>(
 ) -> Result<bool, Fail> {
     let told = reply(alloc, world, WorldStep::Step { engine: 0 })?;
     let stepped = engine.writer.step(rt, alloc);
-    Ok(match (told, stepped) {
-        (WorldReply::Published(count), Step::Published(answered)) => count == answered as u64,
+    Ok(is_same_step(&told, &stepped))
+}
+
+fn is_same_step(told: &WorldReply, stepped: &Step) -> bool {
+    match (told, stepped) {
+        (WorldReply::Published(count), Step::Published(answered)) => *count == *answered as u64,
         (WorldReply::Idle, Step::Idle) => true,
         _ => false,
-    })
+    }
 }
 
 fn ticket(client: usize, serial: u64) -> Result<Ticket, Fail> {
@@ -227,17 +282,14 @@ fn poll<N: EngineName>(
     client: usize,
     serial: u64,
 ) -> Result<bool, Fail> {
-    let told = reply(
-        alloc,
-        world,
-        WorldStep::Poll {
-            engine: 0,
-            client,
-            serial,
-        },
-    )?;
     let ticket = ticket(client, serial)?;
     let answer = client_of(engine, client)?.poll(&ticket);
+    let step = WorldStep::Poll {
+        engine: 0,
+        client,
+        serial,
+    };
+    let told = reply(alloc, world, step)?;
     Ok(polled(&told) == Some(answer))
 }
 
@@ -258,24 +310,30 @@ fn ask<N: EngineName>(
     token: usize,
     probe: &Probe,
 ) -> Result<bool, Fail> {
-    let question = probe.question()?;
-    let told = reply(
-        alloc,
-        world,
-        WorldStep::Ask {
-            engine: 0,
-            token,
-            question,
-        },
-    )?;
+    let told = told(alloc, world, token, probe)?;
     let read = read(alloc, engine, token, probe)?;
-    let length = seen_len(engine, token)? as u64;
-    Ok(match (told, read) {
-        (WorldReply::Read { seen, reading, .. }, Ok(read)) => seen == length
-            && is_same_reading(&reading, &read),
-        (WorldReply::NotRead { seen, why }, Err(refusal)) => seen == length && why == refusal,
+    Ok(is_same_answer(&told, &read, seen_len(engine, token) as u64))
+}
+
+/// What the world's engine replies to a question.
+fn told(alloc: Global, world: &mut World, token: usize, probe: &Probe) -> Result<WorldReply, Fail> {
+    let step = WorldStep::Ask {
+        engine: 0,
+        token,
+        question: probe.question()?,
+    };
+    reply(alloc, world, step)
+}
+
+/// Whether the world's reply is this answer, by a token that has seen so many entries.
+fn is_same_answer(told: &WorldReply, read: &Result<Reading, Refusal>, length: u64) -> bool {
+    match (told, read) {
+        (WorldReply::Read { seen, reading, .. }, Ok(read)) => {
+            *seen == length && is_same_reading(reading, read)
+        }
+        (WorldReply::NotRead { seen, why }, Err(refusal)) => *seen == length && why == refusal,
         _ => false,
-    })
+    }
 }
 
 fn read<N: EngineName>(
@@ -283,18 +341,35 @@ fn read<N: EngineName>(
     engine: &mut Engine<N>,
     token: usize,
     probe: &Probe,
-) -> Result<Result<Reading, Refusal>, Fail> {
-    let question = probe.question()?;
+) -> Result<Result<Reading, Refusal>, Refusal> {
     match engine.clients.get_mut(token) {
-        Some(client) => Ok(client.ask(alloc, &question)),
-        None => Ok(engine.reader.ask(alloc, &question)),
+        Some(client) => client_reads(alloc, client, probe),
+        None => reader_reads(alloc, engine.reader, probe),
     }
 }
 
-fn seen_len<N: EngineName>(engine: &Engine<N>, token: usize) -> Result<usize, Fail> {
+fn client_reads<N: EngineName>(
+    alloc: Global,
+    client: &mut Client<N>,
+    probe: &Probe,
+) -> Result<Result<Reading, Refusal>, Refusal> {
+    let question = probe.question()?;
+    Ok(client.ask(alloc, &question))
+}
+
+fn reader_reads<N: EngineName>(
+    alloc: Global,
+    reader: &mut ReaderToken<N>,
+    probe: &Probe,
+) -> Result<Result<Reading, Refusal>, Refusal> {
+    let question = probe.question()?;
+    Ok(reader.ask(alloc, &question))
+}
+
+fn seen_len<N: EngineName>(engine: &Engine<N>, token: usize) -> usize {
     match engine.clients.get(token) {
-        Some(client) => Ok(client.seen_len()),
-        None => Ok(engine.reader.seen_len()),
+        Some(client) => client.seen_len(),
+        None => engine.reader.seen_len(),
     }
 }
 
@@ -319,6 +394,8 @@ fn learn<N: EngineName>(
     client: usize,
     serial: u64,
 ) -> Result<bool, Fail> {
+    let ticket = ticket(client, serial)?;
+    let length = learnt(engine, token, &ticket)?;
     let step = WorldStep::Learn {
         engine: 0,
         token,
@@ -326,14 +403,36 @@ fn learn<N: EngineName>(
         serial,
     };
     let told = reply(alloc, world, step)?;
-    let Ok(Some(notice)) = client_of(engine, client)?.notice_of(&ticket(client, serial)?) else {
-        return Ok(matches!(told, WorldReply::Unanswered));
+    Ok(is_same_lesson(&told, length))
+}
+
+/// How many entries a token has seen once it has learnt of a ticket's answer. `None` where there is no answer.
+fn learnt<N: EngineName>(
+    engine: &mut Engine<N>,
+    token: usize,
+    ticket: &Ticket,
+) -> Result<Option<u64>, Fail> {
+    let Some(notice) = notice(client_of(engine, ticket.client)?, ticket) else {
+        return Ok(None);
     };
-    let notice = notice.again();
     match engine.clients.get_mut(token) {
         Some(client) => client.learn(&notice),
         None => engine.reader.learn(&notice),
     }
-    let length = seen_len(engine, token)? as u64;
-    Ok(matches!(told, WorldReply::Seen(seen) if seen == length))
+    Ok(Some(seen_len(engine, token) as u64))
+}
+
+fn notice<N: EngineName>(client: &Client<N>, ticket: &Ticket) -> Option<Notice<N>> {
+    match client.notice_of(ticket) {
+        Ok(Some(notice)) => Some(notice.again()),
+        _ => None,
+    }
+}
+
+fn is_same_lesson(told: &WorldReply, length: Option<u64>) -> bool {
+    match (told, length) {
+        (WorldReply::Seen(seen), Some(length)) => *seen == length,
+        (WorldReply::Unanswered, None) => true,
+        _ => false,
+    }
 }
