@@ -9,7 +9,7 @@ use std::fmt;
 /// Why a call is refused. Every refusal leaves its object as it was, but where a call says otherwise.
 #[derive(Clone, Copy, Debug, PartialEq, Eq)]
 pub enum Refusal {
-    /// A growth was refused.
+    /// An allocation failed.
     NoMemory = 1,
     /// A step, a question, an assign or a delete at the head of a list.
     AtHead = 2,
@@ -33,7 +33,7 @@ pub enum Refusal {
     Foreign = 11,
     /// The history is shorter than what the client had seen.
     BadFloor = 12,
-    /// A replica that is no member.
+    /// The replica is not a member.
     UnknownReplica = 13,
     /// The counter isn't 1 plus the greatest of the vector.
     BadCounter = 14,

@@ -21,6 +21,6 @@ const FIVE: &str = r#"["op",[1,1],[],[],0,["a",{}]]
 const FIRST_LINE: &str = r#"["op",[1,1],[],[],0,["a",{}]]
 "#;
 
-/// The line of a replica that is no member.
+/// The line of a replica that is not a member.
 const STRANGER: &str = r#"["op",[1,4],[],[],0,["d"]]
 "#;

@@ -108,7 +108,7 @@ impl Tree {
     /// The place that an expression leads to. Walks a list up to the item that it wants.
     ///
     /// # Errors
-    /// `AtHead`, `PastEnd` or `TooDeep` by the rules, or `NoMemory` where a growth was refused.
+    /// `AtHead`, `PastEnd` or `TooDeep` by the rules, or `NoMemory` if allocation fails.
     pub fn resolve(&self, alloc: Global, expression: &Expr) -> Result<Place, Refusal>
         ensures place { IfOk result (λ p. resolve (visible_items (document self.now)) expression.now ≡ Ok p) }
         ensures err { IfErr result (λ why. (why ≡ NoMemory) ⊎ (resolve (visible_items (document self.now)) expression.now ≡ Err why)) }

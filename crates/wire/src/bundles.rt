@@ -83,7 +83,7 @@ pub fn read_lines(alloc: Global, text: &[u8], table: &ReplicaTable) -> LinesRead
 /// The operations of a bundle in its order, their vectors as wide as the table.
 ///
 /// # Errors
-/// The first bad line, counted from 1, with the refusal of `read_op`; bytes after the last line feed are a bad line, `BadLine`. `NoMemory` with the line at which a growth was refused.
+/// The first bad line, counted from 1, with the refusal of `read_op`; bytes after the last line feed are a bad line, `BadLine`. `NoMemory` with the line at which an allocation failed.
 pub fn read_bundle(
     alloc: Global,
     text: &[u8],

@@ -13,7 +13,7 @@ use Rattle.scripts.specs.Scripts.{steps_left}
 use Rattle.scripts.proofs.AskedTables.{opened_tables}
 use Rattle.scripts.proofs.script.open.Goals as goal
 
--- a refused world is a bad first line, or want of memory
+-- a refused world is a bad first line, or a failed allocation
 refused : (gs : List Configuration) (why : Refusal) (f : ScriptError) (next : List Configuration → Result (List WorldStep) Bad)
     → (why ≡ BadConfig) ⊎ (why ≡ NoMemory) → (why ≡ BadConfig → list_all is_within_limits gs ≡ false) → f ≡ error_of 1 why
     → IsErrorOf (unless_bad next (on_line 1 (if_within_limits gs))) f
