@@ -3,7 +3,11 @@
 mod acts;
 mod both;
 mod dice;
+mod interleavings;
+mod orders;
+mod peers;
 
+use acts::random_acts;
 use both::play;
 use dice::Dice;
 use std::test::Fail;
@@ -15,8 +19,10 @@ const ACTS: u32 = 120;
 
 #[test]
 fn both_say_the_same(rt: HostRuntime) -> Result<(), Fail> {
+    let alloc = rt.alloc();
     for seed in 0..PLAYS {
-        play(&rt, rt.alloc(), Dice::new(seed), ACTS)?;
+        let acts = random_acts(alloc, Dice::new(seed), ACTS)?;
+        play(&rt, alloc, 4, 3, acts.as_slice())?;
     }
     Ok(())
 }

@@ -1,2 +1,3 @@
--- Lemmas on workers.
+-- Lemmas on workers, and on what engines show.
 pub mod Submitting
+pub mod Views

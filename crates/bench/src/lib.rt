@@ -1,17 +1,24 @@
-//! A bench: threads that write into an engine at once, poll each answer, and read each value back.
+//! A bench: threads that write into engines at once, poll each answer, and read each value back; then the engines exchange
+//! operations, and what they show is compared.
 //!
-//! `play` opens an engine, gives its writer and each client a thread, and says whether all that was written was read back. It
-//! tells nothing of time: what a schedule changes is no part of its verdict.
+//! `play` gives each engine a thread, and in it a thread to its writer and to each client. It tells nothing of time: what a
+//! schedule changes is no part of its verdict.
 #![tactic(auto)]
 
+mod engines;
+mod exchange;
 mod gate;
+mod links;
 mod plan;
 mod playing;
+mod serving;
+mod showing;
 #[cfg(test)]
 mod tests;
 mod working;
 
+pub use engines::play;
 pub use gate::{Gate, Meeting};
 pub use plan::{MOST_TURNS, Plan, Stop, Verdict};
-pub use playing::play;
+pub use showing::{Shown, judge};
 pub use working::worker;

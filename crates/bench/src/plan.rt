@@ -1,6 +1,6 @@
 //! What is played, and how it ends.
 
-ghost use Rattle.std.specs.Prelude.{◌≡◌, ◌*◌, ◌↔◌, IfOk, IfErr, Err, true, false};
+ghost use Rattle.std.specs.Prelude.{◌≡◌, ◌<◌, ◌≤◌, ◌*◌, ◌↔◌, IfOk, IfErr, Err, true, false};
 ghost use Rattle.ids.specs.declared.refusal.Refusal.TheVariants.{BadConfig, NoMemory};
 ghost use Rattle.bench.specs.declared.plan.Stop.TheVariants.{Refused as StopRefused};
 ghost use Rattle.bench.specs.Plans.{is_plan};
@@ -11,32 +11,50 @@ use std::alloc::AllocError;
 /// How many turns a loop that waits may find nothing new, before it gives up.
 pub const MOST_TURNS: u32 = 10_000_000;
 
-/// How many clients write, from 1 to 16, and how many commands each of them submits, from 1 to 4,096.
+/// How many engines there are and how many clients of each write, both from 1 to 16; how many commands each client submits, from 1
+/// to 4,096; and how many places the queue of each engine has, from 1 to 65,536.
 #[derive(Clone, Copy, Debug, PartialEq, Eq)]
 pub struct Plan {
+    replicas: u32,
     writers: u32,
     ops: u32,
-    pub ghost good: { is_plan writers ops ≡ true },
+    queue: u32,
+    pub ghost good: { is_plan replicas writers ops queue ≡ true },
 }
 
 impl Plan {
-    /// So many writers with so many operations each.
+    /// So many engines with so many writers each, so many operations of each writer, and so many places of each queue.
     ///
     /// # Errors
     /// `BadConfig` if a number is outside its limits.
-    pub fn new(writers: u32, ops: u32) -> Result<Plan, Refusal>
-        ensures plan { IfOk result (λ p. (p.writers ≡ writers) × (p.ops ≡ ops)) }
-        ensures bad { (result ≡ Err BadConfig) ↔ (is_plan writers ops ≡ false) }
+    pub fn new(replicas: u32, writers: u32, ops: u32, queue: u32) -> Result<Plan, Refusal>
+        ensures plan { IfOk result (λ p. (p.replicas ≡ replicas) × (p.writers ≡ writers) × (p.ops ≡ ops) × (p.queue ≡ queue)) }
+        ensures bad { (result ≡ Err BadConfig) ↔ (is_plan replicas writers ops queue ≡ false) }
         ensures err { IfErr result (λ why. why ≡ BadConfig) }
     {
-        if !(1..=16).contains(&writers) || !(1..=4_096).contains(&ops) {
+        if !(1..=16).contains(&replicas)
+            || !(1..=16).contains(&writers)
+            || !(1..=4_096).contains(&ops)
+            || !(1..=65_536).contains(&queue)
+        {
             return Err(Refusal::BadConfig);
         }
-        Ok(Plan { writers, ops })
+        Ok(Plan {
+            replicas,
+            writers,
+            ops,
+            queue,
+        })
+    }
+
+    pub fn replicas(&self) -> u32
+        ensures { result ≡ self.now.replicas }
+    {
+        self.replicas
     }
 
     pub fn writers(&self) -> u32
-        ensures { result ≡ self.now.writers }
+        ensures { (result ≡ self.now.writers) × (0 < result) }
     {
         self.writers
     }
@@ -47,20 +65,33 @@ impl Plan {
         self.ops
     }
 
-    /// How many operations there are in all.
-    pub fn operations(&self) -> u32
-        ensures { result ≡ self.now.writers * self.now.ops }
+    pub fn queue(&self) -> u32
+        ensures { result ≡ self.now.queue }
+    {
+        self.queue
+    }
+
+    /// How many operations the clients of one engine submit.
+    pub fn operations_each(&self) -> u32
+        ensures { (result ≡ self.now.writers * self.now.ops) × (result ≤ 65536) }
     {
         self.writers * self.ops
+    }
+
+    /// How many operations there are in all.
+    pub fn operations(&self) -> u32
+        ensures { result ≡ self.now.replicas * (self.now.writers * self.now.ops) }
+    {
+        self.replicas * self.operations_each()
     }
 }
 
 /// What a bench found.
 #[derive(Clone, Copy, Debug, PartialEq, Eq)]
 pub enum Verdict {
-    /// Each value was read back, and the history has so many operations, which is what was submitted.
+    /// Each value was read back, and each engine shows the same, in a history of so many operations, which is what was submitted.
     Agree(u32),
-    /// A value wasn't read back, or the history has another length.
+    /// A value wasn't read back, or an engine shows something else or has a history of another length.
     Differ,
 }
 

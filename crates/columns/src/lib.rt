@@ -7,8 +7,6 @@ mod items;
 mod list_order;
 mod numbers;
 mod sorted_keys;
-#[cfg(test)]
-mod tests;
 
 pub use by_id::{ById, Presence, Register};
 pub use fields::Fields;

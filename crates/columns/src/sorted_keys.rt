@@ -62,7 +62,7 @@ impl SortedKeys {
     }
 
     /// How many keys were put before the one at a place.
-    pub(crate) fn number(&self, place: usize) -> usize
+    pub fn number(&self, place: usize) -> usize
         requires { place < length self.now.keys }
         ensures number { slice_get self.now.numbers place ≡ Some result }
         ensures numbers { AreNumbers (length self.now.keys) self.now.numbers }

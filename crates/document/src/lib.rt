@@ -5,8 +5,6 @@ mod answer;
 mod check;
 mod document;
 mod question;
-#[cfg(test)]
-mod tests;
 
 pub use document::Document;
 pub use question::{Question, Reading};

@@ -5,6 +5,7 @@ mod closing;
 mod playing;
 mod polls;
 mod refused_memory;
+mod schedules;
 mod threads;
 
 use cursor::{Expr, Step as Hop};

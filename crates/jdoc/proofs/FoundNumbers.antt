@@ -1,11 +1,12 @@
 -- The number that the text of an option has.
-use Rattle.std.proofs.Common.{◌≡◌, ◌<◌, ◌≤◌, ◌&&◌, nat_le, ℕ, List, Option, Some, None, Result, Ok, Err, IfSome, refl, sym, subst, ◌∙◌, arith}
+use Rattle.std.proofs.Common.{◌≡◌, ◌<◌, ◌≤◌, ◌&&◌, nat_le, true, ℕ, List, Option, Some, None, Result, Ok, Err, IfSome, refl, sym, subst, ◌∙◌, arith}
 use Rattle.std.proofs.lemmas.Bool.{and_parts, leb-true}
 use Rattle.std.specs.Str.Parse.{ParsesUnsigned}
 use Rattle.clap.specs.Matches.{ReadsOne, one_text}
 use Rattle.clap.specs.Words.{Text, rows_of}
 use Rattle.clap.specs.declared.parser.matches.Found.{Found}
 use Rattle.clap.proofs.WalkLemmas.{one_text-rows}
+use Rattle.bench.specs.Plans.{is_within}
 use Rattle.bench.specs.declared.plan.Plan.{Plan}
 use Rattle.jdoc.specs.Words.{IsNumber}
 
@@ -28,12 +29,20 @@ module _ {E : Type 0} (gives : List ℕ → Result ℕ E → Type 0) (parses : (
       let read = subst (λ o. ReadsOne gives is.0 o) gone (value is.0 (one_text-rows f id ∙ is.1)) in
       parses is.0 (Err read.0) read.1 (is.2, subst (λ m. m < 4294967296) is.3 below)
 
+short : (most n : ℕ) → is_within most n ≡ true → most < 4294967296 → n < 4294967296
+short most n w below =
+    let parts = and_parts (nat_le 1 n) (nat_le n most) w in
+    let at_most : n ≤ most = leb-true n most parts.1 in
+    omega (arith, at_most, below)
+
 -- a plan's numbers have 32 bits
-pub short_numbers : (plan : Plan) → (plan.writers < 4294967296) × (plan.ops < 4294967296)
+pub short_numbers : (plan : Plan) → (plan.replicas < 4294967296) × (plan.writers < 4294967296) × (plan.ops < 4294967296) × (plan.queue < 4294967296)
 short_numbers plan =
-    let whole = and_parts (nat_le 1 plan.writers && nat_le plan.writers 16 && nat_le 1 plan.ops) (nat_le plan.ops 4096) plan.good in
-    let three = and_parts (nat_le 1 plan.writers && nat_le plan.writers 16) (nat_le 1 plan.ops) whole.0 in
-    let two = and_parts (nat_le 1 plan.writers) (nat_le plan.writers 16) three.0 in
-    let writers : plan.writers ≤ 16 = leb-true plan.writers 16 two.1 in
-    let ops : plan.ops ≤ 4096 = leb-true plan.ops 4096 whole.1 in
-    (omega (arith, writers), omega (arith, ops))
+    let whole = and_parts (is_within 16 plan.replicas && is_within 16 plan.writers && is_within 4096 plan.ops) (is_within 65536 plan.queue) plan.good in
+    let three = and_parts (is_within 16 plan.replicas && is_within 16 plan.writers) (is_within 4096 plan.ops) whole.0 in
+    let two = and_parts (is_within 16 plan.replicas) (is_within 16 plan.writers) three.0 in (
+      short 16 plan.replicas two.0 (omega arith),
+      short 16 plan.writers two.1 (omega arith),
+      short 4096 plan.ops three.1 (omega arith),
+      short 65536 plan.queue whole.1 (omega arith),
+    )

@@ -1,5 +1,5 @@
 -- The program's words, as the crate that parses them defines what a command takes and finds.
-use Rattle.std.specs.Prelude.{◌≡◌, ◌≢◌, ℕ, List, true, codes, Some, option_map}
+use Rattle.std.specs.Prelude.{◌≡◌, ◌≢◌, ℕ, List, [], ◌∷◌, true, codes, Some, option_map}
 use Rattle.std.specs.Str.Parse.{IsNumeral, digits_value, without_leading_plus}
 use Rattle.clap.specs.Words.{App, Row, Rule, Shape, Text, first_of, kind_of, one_of, new_app, new_rule, subcommand_of, with_rule, with_subcommand}
 use Rattle.clap.specs.Faults.{fault_of}
@@ -24,8 +24,15 @@ run_app = with_rule (new_app (codes "run")) script_rule
 abbrev pub number_rule : Text → ℕ → Rule
 number_rule name most = record (new_rule name) { long = Some name; required = true; parser = Some (Unsigned 1 most) }
 
+-- an option with the places of a queue, all of them where it isn't given
+abbrev pub queue_rule : Rule
+queue_rule = record (new_rule (codes "queue")) { long = Some (codes "queue"); parser = Some (Unsigned 1 65536); defaults = codes "65536" ∷ [] }
+
+abbrev pub required_app : App
+required_app = with_rule (with_rule (with_rule (new_app (codes "bench")) (number_rule (codes "replicas") 16)) (number_rule (codes "writers") 16)) (number_rule (codes "ops") 4096)
+
 abbrev pub bench_app : App
-bench_app = with_rule (with_rule (with_rule (new_app (codes "bench")) (number_rule (codes "replicas") 1)) (number_rule (codes "writers") 16)) (number_rule (codes "ops") 4096)
+bench_app = with_rule required_app queue_rule
 
 -- the program's own name is no word, and a subcommand is needed
 abbrev pub with_settings : Shape → Shape
@@ -40,7 +47,11 @@ IsNumber option rows n = (t : Text) × (one_of option rows ≡ Some t) × IsNume
 
 -- the plan is that of the options
 abbrev pub IsPlanOf : List Row → Plan → Type 0
-IsPlanOf rows plan = IsNumber (codes "replicas") rows 1 × IsNumber (codes "writers") rows plan.writers × IsNumber (codes "ops") rows plan.ops
+IsPlanOf rows plan =
+    IsNumber (codes "replicas") rows plan.replicas
+    × IsNumber (codes "writers") rows plan.writers
+    × IsNumber (codes "ops") rows plan.ops
+    × IsNumber (codes "queue") rows plan.queue
 
 -- what a subcommand with what was found there asks for
 abbrev pub IsAskedBy : Text × List Row → Job → Type 0

@@ -14,7 +14,7 @@ use thiserror::Error;
 #[derive(Clone, Copy, Debug, PartialEq, Eq)]
 pub enum Status {
     Done = 0,
-    /// A value of a bench wasn't read back.
+    /// A value of a bench wasn't read back, or its engines show different things.
     Differ = 1,
     /// Bad words, or a script that is bad or can't be read.
     BadInput = 2,

@@ -1,4 +1,4 @@
-//! The program: it runs a script of engines and prints what each step replies, or lets threads write into an engine.
+//! The program: it runs a script of engines and prints what each step replies, or lets threads write into engines.
 #![tactic(auto)]
 
 mod fault;

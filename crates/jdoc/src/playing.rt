@@ -1,4 +1,4 @@
-//! Lets threads write into an engine, and prints what came of it.
+//! Lets threads write into engines, and prints what came of it.
 
 ghost use Rattle.std.specs.Prelude.{◌≡◌, ◌⊎◌, ◌*◌};
 ghost use Rattle.std.specs.Io.KnownBytes.{Appends};
@@ -14,8 +14,8 @@ use std::io::Write;
 use std::sync::Wait;
 use std::thread::Threads;
 
-/// Plays the plan. Prints `agree 1 replicas M operations`, where M is the number of all operations and each thread read back what
-/// it wrote, else `differ`. Gives the status that the process exits with.
+/// Plays the plan. Prints `agree N replicas M operations`, where each thread read back what it wrote and all N engines show the
+/// same in histories of M operations, as many as were submitted, else `differ`. Gives the status that the process exits with.
 pub fn bench<R: Threads + Wait + Sync, O: Write, F: Write>(
     rt: &R,
     alloc: Global,
@@ -26,13 +26,19 @@ pub fn bench<R: Threads + Wait + Sync, O: Write, F: Write>(
     ensures status { IsBenchStatus result }
 
     // Only what holds of known bytes can be said.
-    ensures agree { result ≡ 0 → Appends (O.contents out.old) (O.contents out.new) (agreement (plan.writers * plan.ops)) }
+    ensures agree { result ≡ 0 → Appends (O.contents out.old) (O.contents out.new) (agreement plan.replicas (plan.replicas * (plan.writers * plan.ops))) }
     ensures differ { result ≡ 1 → Appends (O.contents out.old) (O.contents out.new) difference }
     ensures silent { (result ≡ 3) ⊎ (result ≡ 4) → O.contents out.new ≡ O.contents out.old }
     ensures no_fault { (result ≡ 0) ⊎ (result ≡ 1) → F.contents faults.new ≡ F.contents faults.old }
 {
     match play(rt, alloc, plan) {
-        Ok(Verdict::Agree(operations)) => agree(alloc, operations, out, faults) as u8,
+        Ok(Verdict::Agree(operations)) => agree(
+            alloc,
+            plan.replicas(),
+            operations,
+            out,
+            faults,
+        ) as u8,
         Ok(Verdict::Differ) => differ(out) as u8,
         Err(Stop::TurnLimit) => tell_limit(faults) as u8,
         Err(Stop::Refused(Refusal::NoMemory | Refusal::NoReaderPlace | Refusal::NoReading)) => {
@@ -42,19 +48,25 @@ pub fn bench<R: Threads + Wait + Sync, O: Write, F: Write>(
     }
 }
 
-/// Says that all read back what they wrote.
-fn agree<O: Write, F: Write>(alloc: Global, operations: u32, out: &mut O, faults: &mut F) -> Status
+/// Says that all read back what they wrote, and that the engines show the same.
+fn agree<O: Write, F: Write>(
+    alloc: Global,
+    replicas: u32,
+    operations: u32,
+    out: &mut O,
+    faults: &mut F,
+) -> Status
     ensures status { (result ≡ Done) ⊎ (result ≡ NoMemory) ⊎ (result ≡ NotWritten) }
-    ensures done { result ≡ Done → Appends (O.contents out.old) (O.contents out.new) (agreement operations) × (F.contents faults.new ≡ F.contents faults.old) }
+    ensures done { result ≡ Done → Appends (O.contents out.old) (O.contents out.new) (agreement replicas operations) × (F.contents faults.new ≡ F.contents faults.old) }
     ensures silent { result ≡ NoMemory → O.contents out.new ≡ O.contents out.old }
 {
-    match format!(in alloc; "agree 1 replicas {operations} operations\n") {
+    match format!(in alloc; "agree {replicas} replicas {operations} operations\n") {
         Ok(line) => print(out, line.as_bytes()),
         Err(_) => Fault::NoMemory.report(faults),
     }
 }
 
-/// Says that one read back something else.
+/// Says that one read back something else, or that the engines show different things.
 fn differ<O: Write>(out: &mut O) -> Status
     ensures status { (result ≡ Differ) ⊎ (result ≡ NotWritten) }
     ensures done { result ≡ Differ → Appends (O.contents out.old) (O.contents out.new) difference }

@@ -20,7 +20,7 @@ use std::io::Write;
 pub enum Job<'a> {
     /// Run the script in the file of this name, or on standard input where none is given.
     Run { script: Option<&'a str> },
-    /// Let threads write into an engine, as the plan says.
+    /// Let threads write into engines, as the plan says.
     Bench(Plan),
 }
 
@@ -33,7 +33,7 @@ pub enum BadWords {
     OutOfRange,
 }
 
-ghost use Rattle.jdoc.specs.Words.{IsJobOf, IsNumber, IsOutOfMemory, IsPlanOf, IsRefusedBy, bench_app, jdoc_app, number_rule, run_app};
+ghost use Rattle.jdoc.specs.Words.{IsJobOf, IsNumber, IsOutOfMemory, IsPlanOf, IsRefusedBy, bench_app, jdoc_app, number_rule, queue_rule, run_app};
 ghost use Rattle.jdoc.specs.declared.words.BadWords.TheVariants.{Refused as RefusedBy};
 
 impl From<Error> for BadWords {
@@ -77,10 +77,13 @@ fn plan_of(found: &ArgMatches<'_>) -> Option<Plan>
     ensures plan { IfSome result (IsPlanOf (rows_of (found_of found.now))) }
     ensures none { result ≡ None → (plan : Plan) → IsPlanOf (rows_of (found_of found.now)) plan → ⊥ }
 {
-    if number_of(found, "replicas")? != 1 {
-        return None;
-    }
-    Plan::new(number_of(found, "writers")?, number_of(found, "ops")?).ok()
+    Plan::new(
+        number_of(found, "replicas")?,
+        number_of(found, "writers")?,
+        number_of(found, "ops")?,
+        number_of(found, "queue")?,
+    )
+    .ok()
 }
 
 /// The number that an option has.
@@ -91,7 +94,7 @@ fn number_of(found: &ArgMatches<'_>, option: &str) -> Option<u32>
     found.get_one(option)
 }
 
-/// `jdoc run [SCRIPT]`, and `jdoc bench --replicas 1 --writers W --ops K`
+/// `jdoc run [SCRIPT]`, and `jdoc bench --replicas N --writers W --ops K [--queue Q]`
 fn command<'a>(alloc: Global) -> Result<Command<'a>, AllocError>
     ensures words { IfOk result (λ c. app_of c ≡ jdoc_app) }
     ensures local { IfOk result (λ c. (fields_of c).has_globals ≡ false) }
@@ -123,13 +126,14 @@ fn bench_command<'a>(alloc: Global) -> Result<Command<'a>, AllocError>
 {
     Command::new(alloc, "bench")
         .about(
-            "Lets threads write into an engine at once, and checks that each reads back what it wrote",
+            "Lets threads write into engines at once, and checks that each reads back what it wrote and that all engines then agree",
         )
-        .arg(number(alloc, "replicas", 1).help("How many engines: 1"))?
-        .arg(number(alloc, "writers", 16).help("How many threads write, from 1 to 16"))?
+        .arg(number(alloc, "replicas", 16).help("How many engines, from 1 to 16"))?
+        .arg(number(alloc, "writers", 16).help("How many threads write into each, from 1 to 16"))?
         .arg(number(alloc, "ops", 4_096).help(
             "How many commands each of them submits, from 1 to 4,096",
-        ))
+        ))?
+        .arg(queue_option(alloc))
 }
 
 /// A required option whose value is a number from 1 on.
@@ -141,6 +145,18 @@ fn number<'a>(alloc: Global, name: &'a str, most: u64) -> Arg<'a>
         .long(name)
         .required(true)
         .value_parser(ValueParser::unsigned(1, most))
+}
+
+/// The option for the places of each engine's queue.
+fn queue_option<'a>(alloc: Global) -> Arg<'a>
+    ensures rule { rule_of result ≡ queue_rule }
+    ensures local { result.global ≡ false }
+{
+    Arg::new(alloc, "queue")
+        .long("queue")
+        .value_parser(ValueParser::unsigned(1, 65_536))
+        .default_value("65536")
+        .help("How many items wait in the queue of each, from 1 to 65,536")
 }
 
 impl BadWords {

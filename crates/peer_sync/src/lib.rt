@@ -8,8 +8,6 @@
 mod agreement;
 mod receiving;
 mod sending;
-#[cfg(test)]
-mod tests;
 
 pub use agreement::tokens_answer_alike;
 pub use receiving::{Received, receive};

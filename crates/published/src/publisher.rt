@@ -144,14 +144,14 @@ fn flush<N: EngineName>(
         Some(pending) => match writer.append(pending) {
             Ok(()) => true,
             Err(back) => {
-                *next = Some(back);
+                put(next, back);
                 false
             }
         },
     }
 }
 
-/// Puts an entry into the one place. A function of its own keeps the drop of what stood there out of `append`'s proof.
+/// Puts an entry into the one place. A function of its own keeps the drop of what stood there out of its callers' proofs.
 fn put(next: &mut Option<Pending>, pending: Pending)
     ensures { next.new ≡ Some pending }
 {

@@ -6,4 +6,3 @@ pub mod KeptOperations
 pub mod Turns
 pub mod Leaving
 pub mod Dropping
-pub mod KeptSerials

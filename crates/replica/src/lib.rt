@@ -3,8 +3,6 @@
 
 mod make;
 mod replica;
-#[cfg(test)]
-mod tests;
 mod waiting;
 
 pub use replica::Replica;

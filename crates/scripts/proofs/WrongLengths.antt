@@ -100,20 +100,24 @@ four_numbers-wrong_length (a ∷ b ∷ d ∷ []) h = refl
 four_numbers-wrong_length (a ∷ b ∷ d ∷ e ∷ []) h = absurd (h refl)
 four_numbers-wrong_length (a ∷ b ∷ d ∷ e ∷ f ∷ xs) h = refl
 
--- with what a pattern of a slice tests of its length
-pub ruleset wrong_lengths = (
+-- each with what a pattern of a slice tests of its length
+pub ruleset engine_lengths = (ltb-true, ltb-false, engine_of-wrong_length, only_engines-wrong_length)
+
+pub ruleset request_lengths = (
   ltb-true,
   ltb-false,
-  engine_of-wrong_length,
-  only_engines-wrong_length,
   writing_of-wrong_length,
   delete_of-wrong_length,
   asking_of-wrong_length,
   missing_of-wrong_length,
   applied_of-wrong_length,
-  push_of-wrong_length,
-  ask_of-wrong_length,
-  line_of-wrong_length,
+)
+
+pub ruleset step_lengths = (ltb-true, ltb-false, push_of-wrong_length, ask_of-wrong_length, line_of-wrong_length)
+
+pub ruleset number_lengths = (
+  ltb-true,
+  ltb-false,
   one_number-wrong_length,
   two_numbers-wrong_length,
   three_numbers-wrong_length,

@@ -1,5 +1,5 @@
 //! The first line of a script: the world's engines.
-#![tactic(auto, using(crate::proofs::WrongLengths::wrong_lengths))]
+#![tactic(auto, using(crate::proofs::WrongLengths::engine_lengths))]
 
 ghost use Rattle.std.specs.Prelude.{◌≡◌, ◌⊎◌, Ok, Err, IfOk, IfErr, MatchResult, true, false};
 ghost use Rattle.std.specs.List.{list_all};

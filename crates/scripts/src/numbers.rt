@@ -1,5 +1,5 @@
 //! Numbers alone as the parts of a step: of engines, clients, tokens, messages and serials.
-#![tactic(auto, using(crate::proofs::WrongLengths::wrong_lengths))]
+#![tactic(auto, using(crate::proofs::WrongLengths::number_lengths))]
 
 ghost use Rattle.std.specs.Prelude.{◌≡◌};
 ghost use Rattle.serde_json.specs.View.{view, items_view};

@@ -51,9 +51,18 @@ fn values_value(alloc: Global, values: &[(OpId, Scalar)]) -> Result<Value, Alloc
 {
     let mut list = Vec::new(alloc);
     for (id, scalar) in values {
-        list.push(json!(in alloc; [id_value(alloc, *id)?, scalar.to_json(alloc)?])?)?;
+        list.push(row_value(alloc, *id, scalar)?)?;
     }
     Ok(Value::Array(list))
+}
+
+/// The id of a value, and the value.
+fn row_value(alloc: Global, id: OpId, scalar: &Scalar) -> Result<Value, AllocError>
+    ensures { IfOk result (λ v. view v ≡ row_json (id, scalar_of scalar.now)) }
+{
+    let id = id_value(alloc, id)?;
+    let scalar = scalar.to_json(alloc)?;
+    json!(in alloc; [id, scalar])
 }
 
 fn keys_value(alloc: Global, keys: &[Key]) -> Result<Value, AllocError>
@@ -81,9 +90,17 @@ fn conflicts_value(alloc: Global, pairs: &[(OpId, Tag)]) -> Result<Value, AllocE
 {
     let mut list = Vec::new(alloc);
     for (id, tag) in pairs {
-        list.push(json!(in alloc; [id_value(alloc, *id)?, name_of(*tag)])?)?;
+        list.push(conflict_value(alloc, *id, *tag)?)?;
     }
     Ok(Value::Array(list))
+}
+
+/// The id of a sibling, and what it is.
+fn conflict_value(alloc: Global, id: OpId, tag: Tag) -> Result<Value, AllocError>
+    ensures { IfOk result (λ v. view v ≡ conflict_json (id, tag_of tag)) }
+{
+    let id = id_value(alloc, id)?;
+    json!(in alloc; [id, name_of(tag)])
 }
 
 fn name_of(tag: Tag) -> &'static str

@@ -1,16 +1,22 @@
 //! What the steps reply, as lines of JSON.
 
-ghost use Rattle.std.specs.Prelude.{◌≡◌, ◌++◌, ◌∷◌, [], map, IfOk, codes, decimal, string_bytes};
+ghost use Rattle.std.specs.Prelude.{◌≡◌, ◌∷◌, [], Some, map, IfOk, codes, string_bytes};
+ghost use Rattle.semantics.specs.Engine.{SentHello, Denied};
+ghost use Rattle.semantics.specs.LegalAnswer.{Made, NotMade};
+ghost use Rattle.semantics.specs.Tables.{by_table};
 ghost use Rattle.serde_json.specs.Written.{compact_text};
 ghost use Rattle.serde_json.specs.View.{view};
 ghost use Rattle.items.specs.Meanings.{answer_of};
 ghost use Rattle.world.specs.Meanings.{reply_of};
+ghost use Rattle.wire.specs.Operations.{phrase};
+ghost use Rattle.wire.specs.Vectors.{count};
 ghost use Rattle.scripts.specs.Replies.{received_json, refusal_name, reply_json, reply_text, step_reply_json};
 
 use crate::readings::reading_value;
-use ids::Refusal;
+use ids::{OpId, Refusal, ReplicaTable};
 use serde_json::{Value, json};
 use std::alloc::{AllocError, Global};
+use version::VersionVector;
 use wire::{id_value, vector_value};
 use world::{Reply, WorldReply};
 
@@ -37,39 +43,37 @@ fn world_reply(alloc: Global, reply: &WorldReply) -> Result<Value, AllocError>
     ensures { IfOk result (λ v. view v ≡ step_reply_json (reply_of reply.now)) }
 {
     match reply {
-        WorldReply::Ticket(serial) => json!(in alloc; ["ticket", *serial]),
-        WorldReply::Denied(why) => json!(in alloc; ["refused", refusal(alloc, *why)?]),
-        WorldReply::Took => json!(in alloc; ["took"]),
-        WorldReply::Published(count) => json!(in alloc; ["published", *count]),
-        WorldReply::Gave { client, serial } => json!(in alloc; ["gave", *client, *serial]),
-        WorldReply::Idle => json!(in alloc; ["idle"]),
-        WorldReply::Unanswered => json!(in alloc; ["none"]),
+        WorldReply::Ticket(serial) => one(alloc, "ticket", *serial),
+        WorldReply::Denied(why) => denied(alloc, *why),
+        WorldReply::Took => word(alloc, "took"),
+        WorldReply::Published(count) => one(alloc, "published", *count),
+        WorldReply::Gave { client, serial } => two(alloc, "gave", *client as u64, *serial),
+        WorldReply::Idle => word(alloc, "idle"),
+        WorldReply::Unanswered => word(alloc, "none"),
         WorldReply::Replied(reply) => request_reply(alloc, *reply),
         WorldReply::Read {
             seen,
             table,
             reading,
         } => reading_value(alloc, *seen, table, reading),
-        WorldReply::NotRead { seen, why } => {
-            json!(in alloc; ["refused", refusal(alloc, *why)?, *seen])
-        }
-        WorldReply::Seen(entries) => json!(in alloc; ["seen", *entries]),
+        WorldReply::NotRead { seen, why } => refused(alloc, *why, *seen),
+        WorldReply::Seen(entries) => one(alloc, "seen", *entries),
         WorldReply::Hello {
             message,
             table,
             vector,
-        } => json!(in alloc; ["message", *message, vector_value(alloc, table, vector)?]),
+        } => hello(alloc, *message, table, vector),
         WorldReply::Bundle {
             message,
             operations,
-        } => json!(in alloc; ["message", *message, *operations]),
-        WorldReply::NoMessage => json!(in alloc; ["none"]),
+        } => two(alloc, "message", *message, *operations),
+        WorldReply::NoMessage => word(alloc, "none"),
         WorldReply::Received {
             first,
             submitted,
             stopped,
         } => received(alloc, *first, *submitted, *stopped),
-        WorldReply::Dropped(operations) => json!(in alloc; ["dropped", *operations]),
+        WorldReply::Dropped(operations) => one(alloc, "dropped", *operations),
     }
 }
 
@@ -78,13 +82,69 @@ fn request_reply(alloc: Global, reply: Reply) -> Result<Value, AllocError>
     ensures { IfOk result (λ v. view v ≡ reply_json (answer_of reply)) }
 {
     match reply {
-        Reply::Made(id, place) => json!(in alloc; ["made", id_value(alloc, id)?, place]),
-        Reply::Kept(length) => json!(in alloc; ["kept", length]),
-        Reply::Known(length) => json!(in alloc; ["known", length]),
-        Reply::Refused(why, length) => {
-            json!(in alloc; ["refused", refusal(alloc, why)?, length])
-        }
+        Reply::Made(id, place) => made(alloc, id, place),
+        Reply::Kept(length) => one(alloc, "kept", length),
+        Reply::Known(length) => one(alloc, "known", length),
+        Reply::Refused(why, length) => refused(alloc, why, length),
     }
+}
+
+/// The word of a reply that says no more.
+fn word(alloc: Global, word: &str) -> Result<Value, AllocError>
+    ensures { IfOk result (λ v. view v ≡ phrase word.now []) }
+{
+    json!(in alloc; [word])
+}
+
+/// A word and its number.
+fn one(alloc: Global, word: &str, number: u64) -> Result<Value, AllocError>
+    ensures { IfOk result (λ v. view v ≡ phrase word.now (count number ∷ [])) }
+{
+    json!(in alloc; [word, number])
+}
+
+/// A word and its two numbers.
+fn two(alloc: Global, word: &str, first: u64, second: u64) -> Result<Value, AllocError>
+    ensures { IfOk result (λ v. view v ≡ phrase word.now (count first ∷ count second ∷ [])) }
+{
+    json!(in alloc; [word, first, second])
+}
+
+/// An operation's id and its place in the history.
+fn made(alloc: Global, id: OpId, place: u64) -> Result<Value, AllocError>
+    ensures { IfOk result (λ v. view v ≡ reply_json (Made id place)) }
+{
+    let id = id_value(alloc, id)?;
+    json!(in alloc; ["made", id, place])
+}
+
+/// Why nothing was submitted.
+fn denied(alloc: Global, why: Refusal) -> Result<Value, AllocError>
+    ensures { IfOk result (λ v. view v ≡ step_reply_json (Denied why)) }
+{
+    let name = refusal(alloc, why)?;
+    json!(in alloc; ["refused", name])
+}
+
+/// Why nothing was made or read, and the length of the history that refused it.
+fn refused(alloc: Global, why: Refusal, length: u64) -> Result<Value, AllocError>
+    ensures { IfOk result (λ v. view v ≡ reply_json (NotMade why length)) }
+{
+    let name = refusal(alloc, why)?;
+    json!(in alloc; ["refused", name, length])
+}
+
+/// The number of a message that a vector is sent by.
+fn hello(
+    alloc: Global,
+    message: u64,
+    table: &ReplicaTable,
+    vector: &VersionVector,
+) -> Result<Value, AllocError>
+    ensures { IfOk result (λ v. view v ≡ step_reply_json (SentHello message (by_table table.now vector.now))) }
+{
+    let vector = vector_value(alloc, table, vector)?;
+    json!(in alloc; ["message", message, vector])
 }
 
 /// The first serial and how many operations were submitted, and the line where that stopped.
@@ -97,11 +157,23 @@ fn received(
     ensures { IfOk result (λ v. view v ≡ received_json first submitted stopped) }
 {
     match stopped {
-        Some((line, why)) => {
-            json!(in alloc; ["received", first, submitted, line, refusal(alloc, why)?])
-        }
-        None => json!(in alloc; ["received", first, submitted]),
+        Some((line, why)) => received_until(alloc, first, submitted, line, why),
+        None => two(alloc, "received", first, submitted),
     }
+}
+
+/// The same where the operations stopped at a line.
+fn received_until(
+    alloc: Global,
+    first: u64,
+    submitted: u64,
+    line: u64,
+    why: Refusal,
+) -> Result<Value, AllocError>
+    ensures { IfOk result (λ v. view v ≡ received_json first submitted (Some (line, why))) }
+{
+    let name = refusal(alloc, why)?;
+    json!(in alloc; ["received", first, submitted, line, name])
 }
 
 /// A refusal as it is printed, as `E22`.

@@ -1,5 +1,5 @@
 //! Commands and questions in a script.
-#![tactic(auto, using(crate::proofs::WrongLengths::wrong_lengths))]
+#![tactic(auto, using(crate::proofs::WrongLengths::request_lengths))]
 
 ghost use Rattle.std.specs.Prelude.{◌≡◌, ℕ, List, Option, Ok, IfOk, length, option_map};
 ghost use Rattle.serde_json.specs.View.{view, items_view};

@@ -1,5 +1,5 @@
 //! A script's steps, one a line.
-#![tactic(auto, using(crate::proofs::WrongLengths::wrong_lengths))]
+#![tactic(auto, using(crate::proofs::WrongLengths::step_lengths))]
 
 ghost use Rattle.std.specs.Prelude.{◌≡◌, ℕ, List, IfOk};
 ghost use Rattle.serde_json.specs.View.{view, items_view};

@@ -9,8 +9,6 @@ mod messages;
 mod operations;
 mod places;
 mod reading;
-#[cfg(test)]
-mod tests;
 mod vectors;
 
 pub use bundles::{

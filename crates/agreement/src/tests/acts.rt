@@ -9,7 +9,6 @@ use document::Question;
 use ids::{OpId, Refusal, ReplicaId};
 use operation::{Command, Mutation, Op};
 use std::alloc::Global;
-use std::test::Fail;
 use value::{Key, Scalar, Text, Val};
 use version::VersionVector;
 
@@ -30,6 +29,8 @@ pub enum Act {
         op: Op,
     },
     Step,
+    /// A step whose batch is one, which is a take, a publish and a give.
+    SingleSteps,
     Poll {
         client: usize,
         serial: u64,
@@ -43,6 +44,8 @@ pub enum Act {
         client: usize,
         serial: u64,
     },
+    /// The reader says hello to a peer, and answers the hellos of others.
+    Send,
 }
 
 /// What is asked of a document.
@@ -77,8 +80,20 @@ impl Probe {
     }
 }
 
+/// So many acts, and then a peer is sent what both have.
+pub fn random_acts(alloc: Global, dice: Dice, count: u32) -> Result<Vec<Act>, Refusal> {
+    let mut dice = dice;
+    let mut acts = Vec::new(alloc);
+    for _ in 0..count {
+        let act = next_act(alloc, &mut dice)?;
+        acts.push(act)?;
+    }
+    acts.push(Act::Send)?;
+    Ok(acts)
+}
+
 /// The next act of a play. Commands, operations and questions speak of few places, so that they meet.
-pub fn next_act(alloc: Global, dice: &mut Dice) -> Result<Act, Fail> {
+fn next_act(alloc: Global, dice: &mut Dice) -> Result<Act, Refusal> {
     let client = dice.roll(CLIENTS) as usize;
     let token = dice.roll(CLIENTS + 1) as usize;
     let serial = dice.roll(16);

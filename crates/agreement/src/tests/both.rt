@@ -4,8 +4,8 @@ ghost use Rattle.std.specs.Prelude.{◌≡◌};
 ghost use Rattle.ids.specs.Members.{in_order};
 ghost use Rattle.world.specs.Worlds.{IsAskedBeside, tables_of};
 
-use super::acts::{Act, CLIENTS, Probe, REPLICAS, next_act};
-use super::dice::Dice;
+use super::acts::{Act, CLIENTS, Probe, REPLICAS};
+use super::peers::send_the_same;
 use document::Reading;
 use engine::{
     Client, EngineName, Notice, Parts, ReaderToken, Step, Ticket, Writer, close, open, prepare,
@@ -21,7 +21,8 @@ use std::test::Fail;
 use wire::write_op;
 use world::{World, WorldReply, WorldStep};
 
-fn config(alloc: Global) -> Result<Config, Fail> {
+/// An engine of replica 1 with so many places in its queue, whose steps take so many items.
+fn config(alloc: Global, queue: u32, batch: u32) -> Result<Config, Fail> {
     let mut members = Vec::new(alloc);
     for replica in 1..=REPLICAS as u32 {
         members.push(replica)?;
@@ -31,8 +32,8 @@ fn config(alloc: Global) -> Result<Config, Fail> {
         members,
         clients: CLIENTS as u32,
         readers: 1,
-        queue: 4,
-        batch: 3,
+        queue,
+        batch,
         serials: 12,
     })
 }
@@ -45,19 +46,26 @@ struct Engine<'a, N: EngineName> {
     reader: &'a mut ReaderToken<N>,
 }
 
-/// Plays so many acts to a new world and a new engine. Fails where they say different things.
-pub fn play<R: Wait + Abort>(rt: &R, alloc: Global, dice: Dice, acts: u32) -> Result<(), Fail> {
-    let config = config(alloc)?;
-    let parts = prepare(alloc, config)?;
-    play_in::<Brand, R>(rt, alloc, parts, dice, acts)
+/// Plays these acts to a new world and a new engine, with so many places in their queues and such a batch. Fails where they say
+/// different things.
+pub fn play<R: Wait + Abort>(
+    rt: &R,
+    alloc: Global,
+    queue: u32,
+    batch: u32,
+    acts: &[Act],
+) -> Result<(), Fail> {
+    let mut world = World::new(alloc, &[config(alloc, queue, batch)?])?;
+    let parts = prepare(alloc, config(alloc, queue, batch)?)?;
+    play_in::<Brand, R>(rt, alloc, &mut world, parts, acts)
 }
 
 fn play_in<N: EngineName, R: Wait + Abort>(
     rt: &R,
     alloc: Global,
+    world: &mut World,
     parts: Parts,
-    dice: Dice,
-    acts: u32,
+    acts: &[Act],
 ) -> Result<(), Fail>
     requires book { parts.opened.seen.book ≡ N.book }
     requires own { parts.config.own ≡ N.own }
@@ -71,7 +79,7 @@ fn play_in<N: EngineName, R: Wait + Abort>(
                 clients: &mut clients,
                 reader,
             };
-            act_on_both(rt, alloc, &mut engine, dice, acts)
+            act_on_both(rt, alloc, world, &mut engine, acts)
         }
         None => Err("no reader".into()),
     };
@@ -79,39 +87,18 @@ fn play_in<N: EngineName, R: Wait + Abort>(
     same
 }
 
-/// A world of one engine.
-fn new_world(alloc: Global) -> Result<World, Fail> {
-    let config = config(alloc)?;
-    Ok(World::new(alloc, &[config])?)
-}
-
+/// Both say the same to each act.
 fn act_on_both<N: EngineName, R: Wait + Abort>(
-    rt: &R,
-    alloc: Global,
-    engine: &mut Engine<N>,
-    dice: Dice,
-    acts: u32,
-) -> Result<(), Fail> {
-    let mut dice = dice;
-    let mut world = new_world(alloc)?;
-    for number in 0..acts {
-        act_once(rt, alloc, &mut world, engine, &mut dice, number)?;
-    }
-    Ok(())
-}
-
-/// Both say the same to the next act.
-fn act_once<N: EngineName, R: Wait + Abort>(
     rt: &R,
     alloc: Global,
     world: &mut World,
     engine: &mut Engine<N>,
-    dice: &mut Dice,
-    number: u32,
+    acts: &[Act],
 ) -> Result<(), Fail> {
-    let act = next_act(alloc, dice)?;
-    let same = is_same(rt, alloc, world, engine, &act)?;
-    assert!(rt; same, "act {number}: {act:?}");
+    for (number, act) in acts.iter().enumerate() {
+        let same = is_same(rt, alloc, world, engine, act)?;
+        assert!(rt; same, "act {number}: {act:?}");
+    }
     Ok(())
 }
 
@@ -127,6 +114,7 @@ fn is_same<N: EngineName, R: Wait>(
         Act::Submit { client, command } => submit(rt, alloc, world, engine, *client, command),
         Act::Deliver { client, op } => deliver(rt, alloc, world, engine, *client, op),
         Act::Step => step(rt, alloc, world, engine),
+        Act::SingleSteps => single_steps(rt, alloc, world, engine),
         Act::Poll { client, serial } => poll(alloc, world, engine, *client, *serial),
         Act::Ask { token, probe } => ask(alloc, world, engine, *token, probe),
         Act::Learn {
@@ -134,11 +122,12 @@ fn is_same<N: EngineName, R: Wait>(
             client,
             serial,
         } => learn(alloc, world, engine, *token, *client, *serial),
+        Act::Send => send_the_same(alloc, world, engine.reader),
     }
 }
 
 /// What a step of the world's engine replies.
-fn reply(alloc: Global, world: &mut World, step: WorldStep) -> Result<WorldReply, Fail>
+pub fn reply(alloc: Global, world: &mut World, step: WorldStep) -> Result<WorldReply, Fail>
     requires { IsAskedBeside (tables_of world.old.engines) step }
 {
     let mut replies = world.run(alloc, &[step])?;
@@ -257,6 +246,24 @@ fn step<N: EngineName, R: Wait>(
     let told = reply(alloc, world, WorldStep::Step { engine: 0 })?;
     let stepped = engine.writer.step(rt, alloc);
     Ok(is_same_step(&told, &stepped))
+}
+
+/// The engine steps, with a batch of one, and the world's takes, publishes and gives.
+fn single_steps<N: EngineName, R: Wait>(
+    rt: &R,
+    alloc: Global,
+    world: &mut World,
+    engine: &mut Engine<N>,
+) -> Result<bool, Fail> {
+    let took = reply(alloc, world, WorldStep::Take { engine: 0 })?;
+    let published = reply(alloc, world, WorldStep::Publish { engine: 0 })?;
+    let gave = reply(alloc, world, WorldStep::Give { engine: 0 })?;
+    let stepped = engine.writer.step(rt, alloc);
+    Ok(is_idle(&took) == is_idle(&gave) && is_same_step(&published, &stepped))
+}
+
+fn is_idle(told: &WorldReply) -> bool {
+    matches!(told, WorldReply::Idle)
 }
 
 fn is_same_step(told: &WorldReply, stepped: &Step) -> bool {

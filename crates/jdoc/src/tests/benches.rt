@@ -7,16 +7,16 @@ use std::test::Fail;
 #[test]
 fn writers_agree(rt: HostRuntime) -> Result<(), Fail> {
     let rows = [
-        (1, 1, "agree 1 replicas 1 operations\n"),
-        (2, 2, "agree 1 replicas 4 operations\n"),
+        (1, 2, "agree 1 replicas 4 operations\n"),
+        (2, 1, "agree 2 replicas 4 operations\n"),
     ];
-    for (writers, ops, wanted) in rows {
+    for (replicas, ops, wanted) in rows {
         let mut out = Vec::new(rt.alloc());
         let mut faults = Vec::new(rt.alloc());
         let status = bench(
             &rt,
             rt.alloc(),
-            Plan::new(writers, ops)?,
+            Plan::new(replicas, 2, ops, 65_536)?,
             &mut out,
             &mut faults,
         );

@@ -24,29 +24,43 @@ fn a_script_or_standard_input(rt: HostRuntime) {
     }
 }
 
-/// The options of a bench, and the numbers of writers and of operations that they give.
-const PLANS: &[(&[&str], u32, u32)] = &[
+/// The options of a bench, and the numbers of replicas, writers, operations and places that they give.
+const PLANS: &[(&[&str], [u32; 4])] = &[
     (
         &["bench", "--replicas", "1", "--writers", "2", "--ops", "3"],
-        2,
-        3,
+        [1, 2, 3, 65_536],
     ),
     (
-        &["bench", "--ops=4096", "--writers=16", "--replicas=1"],
-        16,
-        4_096,
+        &[
+            "bench",
+            "--queue=65536",
+            "--ops=4096",
+            "--writers=16",
+            "--replicas=16",
+        ],
+        [16, 16, 4_096, 65_536],
     ),
     (
-        &["bench", "--replicas", "01", "--writers", "1", "--ops", "+1"],
-        1,
-        1,
+        &[
+            "bench",
+            "--replicas",
+            "02",
+            "--writers",
+            "1",
+            "--ops",
+            "+1",
+            "--queue",
+            "1",
+        ],
+        [2, 1, 1, 1],
     ),
 ];
 
 #[test]
 fn a_plan(rt: HostRuntime) -> Result<(), Fail> {
-    for (words, writers, ops) in PLANS {
-        let plan = Plan::new(*writers, *ops)?;
+    for (words, numbers) in PLANS {
+        let [replicas, writers, ops, queue] = *numbers;
+        let plan = Plan::new(replicas, writers, ops, queue)?;
         let job = read_words(rt.alloc(), words).ok();
         assert_eq!(rt; job, Some(Job::Bench(plan)), "{words:?}");
     }
@@ -83,7 +97,7 @@ const OTHERS: &[(&[&str], ErrorKind)] = &[
         ErrorKind::MissingRequiredArgument,
     ),
     (
-        &["bench", "--replicas=2", "--writers=1", "--ops=1"],
+        &["bench", "--replicas=17", "--writers=1", "--ops=1"],
         ErrorKind::ValueValidation,
     ),
     (
@@ -104,6 +118,26 @@ const OTHERS: &[(&[&str], ErrorKind)] = &[
     ),
     (
         &["bench", "--replicas=1", "--writers=1", "--ops=4097"],
+        ErrorKind::ValueValidation,
+    ),
+    (
+        &[
+            "bench",
+            "--replicas=1",
+            "--writers=1",
+            "--ops=1",
+            "--queue=0",
+        ],
+        ErrorKind::ValueValidation,
+    ),
+    (
+        &[
+            "bench",
+            "--replicas=1",
+            "--writers=1",
+            "--ops=1",
+            "--queue=65537",
+        ],
         ErrorKind::ValueValidation,
     ),
     (

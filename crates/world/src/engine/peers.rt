@@ -1,29 +1,31 @@
 //! How clients of an engine submit, and what its tokens say to other engines and its clients receive from them.
 
-ghost use Rattle.std.specs.Prelude.{◌≡◌, ◌≢◌, ◌⊎◌, ◌++◌, ◌∷◌, [], ◌+◌, ◌<◌, ◌≤◌, ◌^◌, ◌==◌, cond, true, false, OnOk, OnErr, IfOk, IfNone, IfSome, MatchResult, Option, Some, map, length, slice_get};
+ghost use Rattle.std.specs.Prelude.{◌≡◌, ◌≢◌, ◌⊎◌, ◌++◌, ◌∷◌, [], ◌+◌, ◌<◌, ◌≤◌, ◌^◌, ◌==◌, cond, true, false, ℕ, List, OnOk, OnErr, IfOk, IfNone, IfSome, MatchResult, Option, Some, map, length, slice_get};
 ghost use Rattle.std.specs.List.{All};
 ghost use Rattle.ids.specs.declared.refusal.Refusal.TheVariants.{NoMemory, UnknownReplica};
 ghost use Rattle.ids.specs.declared.refusal.Refusal.{Refusal as TheRefusal};
 ghost use Rattle.semantics.specs.Tables.{by_table};
 ghost use Rattle.semantics.specs.LegalAnswer.{OfCommand};
 ghost use Rattle.semantics.specs.Engine.{Client as TheClient, Hello as HelloOf};
-ghost use Rattle.semantics.specs.WriteSteps.{push};
+ghost use Rattle.semantics.specs.WriteSteps.{push, with_cell};
 ghost use Rattle.semantics.specs.PeerSteps.{answer_hello, answer_sent, lacked, names_members, published_vector, receive_lines, receive_message, say_hello, submit_all};
 ghost use Rattle.operation.specs.Meanings.{command_of, stamped_of};
 ghost use Rattle.wire.specs.Bundles.{readable};
-ghost use Rattle.items.specs.Meanings.{request_of};
-ghost use Rattle.world.specs.Engines.{IsNoHello, IsReachedEngine, first_of, message_of, stop_after, taken_or_denied};
+ghost use Rattle.items.specs.Meanings.{request_of, submitted_of};
+ghost use Rattle.world.specs.Engines.{IsNoHello, IsReachedEngine, client_of, first_of, message_of, stop_after, taken_or_denied};
 ghost use Rattle.world.specs.Parts.{IsBetween};
 ghost use Rattle.world.specs.Meanings.{reply_of};
 
+use crate::client::Client;
 use crate::engine::Engine;
 use crate::message::{Message, NamedOps, NamedVector};
 use crate::naming::{ops_beside, vector_beside};
 use crate::step::WorldReply;
 use ids::Refusal;
-use items::Request;
+use items::{Item, Request};
 use operation::{Command, Op};
 use std::alloc::{AllocError, Global};
+use std::collections::VecDeque;
 use wire::{LinesRead, read_lines};
 
 impl Engine {
@@ -72,11 +74,8 @@ impl Engine {
             return Ok(Some(Refusal::QueueFull));
         }
         let item = k.next_item(client, request);
-        let kept = item.clone()?;
-        self.queue.reserve(1)?;
         let k = &mut self.clients[client];
-        k.keep(kept)?;
-        self.queue.push_back_reserved(item);
+        enqueue(&mut self.queue, k, item)?;
         Ok(None)
     }
 
@@ -260,6 +259,23 @@ impl Engine {
         }
         Ok((submitted, None))
     }
+}
+
+/// Keeps an item for its client, and puts it last into the queue. Copies it once.
+///
+/// # Errors
+/// `AllocError` if allocation fails: nothing is kept or queued then.
+fn enqueue(queue: &mut VecDeque<Item>, k: &mut Client, item: Item) -> Result<(), AllocError>
+    ensures queue { OnOk result (queue.new.items ≡ queue.old.items ++ item ∷ []) }
+    ensures client { OnOk result ((table : List ℕ) → client_of table k.new ≡ with_cell (client_of table k.old) (submitted_of table item)) }
+    ensures unqueued { OnErr result (queue.new.items ≡ queue.old.items) }
+    ensures unchanged { OnErr result ((table : List ℕ) → client_of table k.new ≡ client_of table k.old) }
+{
+    let kept = item.clone()?;
+    queue.reserve(1)?;
+    k.keep(kept)?;
+    queue.push_back_reserved(item);
+    Ok(())
 }
 
 /// The hello of this number, if it is one.

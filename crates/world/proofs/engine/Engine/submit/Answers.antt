@@ -6,7 +6,6 @@ use Rattle.std.proofs.lemmas.Bool.{lt-leb, le-leb}
 use Rattle.semantics.specs.LegalAnswer.{Request, Submitted}
 use Rattle.semantics.specs.Engine.{Engine as TheEngine, Client as TheClient, Turn, Ticket}
 use Rattle.semantics.specs.WriteSteps.{next_item, with_cell, push}
-use Rattle.items.specs.declared.item.Item.{Item}
 use Rattle.items.specs.declared.item.Request.{Request as AnyRequest}
 use Rattle.items.specs.Meanings.{request_of, submitted_of}
 use Rattle.world.specs.Engines.{cell_of, client_of}
@@ -47,8 +46,8 @@ on_err : {X Y Q : Type 0} (r : Result X Y) → Q → OnErr r Q
 on_err (Ok x) q = tt
 on_err (Err e) q = q
 
-pub returns-in_err-keep-clause-unchanged : goal.returns-in_err-keep-clause-unchanged
-returns-in_err-keep-clause-unchanged c =
+pub returns-in_err-enqueue-clause-unchanged : goal.returns-in_err-enqueue-clause-unchanged
+returns-in_err-enqueue-clause-unchanged c =
     let E : TheEngine = the_view c.self.inside in
     let table = c.self.inside.handler.replica.document.table in
     let ks = c.self.inside.clients.items in
@@ -56,11 +55,11 @@ returns-in_err-keep-clause-unchanged c =
     let m = c.index_mut-k.result.now in
     let within : at < length ks = omega (arith, c.requires.there, ap (λ (F : TheEngine). length F.clients) c.self.view_is, length-map ks (client_of table)) in
     let there : slice_get (map (client_of table) ks) at ≡ Some (client_of table m) = read_mapped (client_of table) ks at m within c.index_mut-k.ensures.value in
-    let clients : map (client_of table) (set ks at c.keep.new.self) ≡ map (client_of table) ks =
-    map-set (client_of table) ks at c.keep.new.self
-    ∙ ap (set (map (client_of table) ks) at) (c.in_err-keep.ensures.unchanged table)
+    let clients : map (client_of table) (set ks at c.enqueue.new.k) ≡ map (client_of table) ks =
+    map-set (client_of table) ks at c.enqueue.new.k
+    ∙ ap (set (map (client_of table) ks) at) (c.in_err-enqueue.ensures.unchanged table)
     ∙ set_itself (map (client_of table) ks) at (client_of table m) there in
-    on_err c.from_residual-in_err-keep.result ((λ i. record E { queue = map (submitted_of table) (c.reserve.ensures.items i); clients = clients i }) ∙ c.self.view_is)
+    on_err c.from_residual.result ((λ i. record E { queue = map (submitted_of table) (c.in_err-enqueue.ensures.unqueued i); clients = clients i }) ∙ c.self.view_is)
 
 pub returns-clause-engine : goal.returns-clause-engine
 returns-clause-engine c =
@@ -76,13 +75,12 @@ returns-clause-engine c =
     let again : slice_get (map (client_of table) ks) at ≡ Some (client_of table m) = read_mapped (client_of table) ks at m within c.index_mut-k.ensures.value in
     let same : client_of table m ≡ client_of table k = same_Some (client_of table m) (client_of table k) (sym again ∙ there) in
     let item : submitted_of table c.next_item-item.result ≡ next_item at (client_of table k) q = c.next_item-item.ensures.item table in
-    let kept : submitted_of table c.in_ok-kept.kept ≡ next_item at (client_of table k) q = ap (submitted_of table) c.in_ok-kept.ensures.cases ∙ item in
     let serials : nat_le E.serials (length (client_of table k).cells) ≡ false = lt-leb E.serials (length (client_of table k).cells) (omega (arith, length-map k.cells.items (cell_of table))) in
     let places : nat_le E.places (length E.queue) ≡ false = lt-leb E.places (length E.queue) (omega (arith, length-map c.self.inside.queue.items (submitted_of table))) in
-    let queue : map (submitted_of table) c.push_back_reserved.new.self.items ≡ E.queue ++ next_item at (client_of table k) q ∷ [] =
-    ap (map (submitted_of table)) (c.push_back_reserved.ensures.items ∙ ap (λ (xs : List Item). xs ++ c.next_item-item.result ∷ []) c.reserve.ensures.items) ∙ map-append (submitted_of table) c.self.inside.queue.items (c.next_item-item.result ∷ []) ∙ ap (λ (x : Submitted). E.queue ++ x ∷ []) item in
-    let clients : map (client_of table) (set ks at c.keep.new.self) ≡ set (map (client_of table) ks) at (with_cell (client_of table k) (next_item at (client_of table k) q)) =
-    map-set (client_of table) ks at c.keep.new.self ∙ ap (set (map (client_of table) ks) at) (c.in_ok-keep.ensures.client table ∙ (λ i. with_cell (same i) (kept i))) in
+    let queue : map (submitted_of table) c.enqueue.new.queue.items ≡ E.queue ++ next_item at (client_of table k) q ∷ [] =
+    ap (map (submitted_of table)) c.in_ok-enqueue.ensures.queue ∙ map-append (submitted_of table) c.self.inside.queue.items (c.next_item-item.result ∷ []) ∙ ap (λ (x : Submitted). E.queue ++ x ∷ []) item in
+    let clients : map (client_of table) (set ks at c.enqueue.new.k) ≡ set (map (client_of table) ks) at (with_cell (client_of table k) (next_item at (client_of table k) q)) =
+    map-set (client_of table) ks at c.enqueue.new.k ∙ ap (set (map (client_of table) ks) at) (c.in_ok-enqueue.ensures.client table ∙ (λ i. with_cell (same i) (item i))) in
     (λ i. record E { queue = queue i; clients = clients i })
     ∙ sym (ap (λ (t : Turn). t.engine) (push-there E at q (client_of table k) there serials places))
     ∙ sym (moved E c.args.self.now (λ t. t.engine) at c.args.request c.self.view_is)

@@ -1,0 +1,80 @@
+//! What both engines send to a peer: an engine of threads as bytes, that of a world as values, which are written here.
+
+ghost use Rattle.world.specs.Worlds.{IsAskedBeside, tables_of};
+
+use super::acts::CLIENTS;
+use super::both::reply;
+use document::{Question, Reading};
+use engine::{EngineName, ReaderToken};
+use ids::ReplicaTable;
+use peer_sync::{answer, hello};
+use std::alloc::{AllocError, Global};
+use std::test::Fail;
+use version::VersionVector;
+use wire::{read_vector, write_bundle, write_vector};
+use world::{World, WorldReply, WorldStep};
+
+/// The hellos of a peer that has nothing, of one that has a little, and of one that has all that there may be.
+const HELLOS: [&[u8]; 3] = [
+    br#"["hello",[]]"#,
+    br#"["hello",[[1,2],[3,1]]]"#,
+    br#"["hello",[[1,1000],[2,1000],[3,1000]]]"#,
+];
+
+/// Whether both say hello with the same line, and answer the same to each of the hellos: all that the first lacks is the history.
+pub fn send_the_same<N: EngineName>(
+    alloc: Global,
+    world: &mut World,
+    reader: &mut ReaderToken<N>,
+) -> Result<bool, Fail> {
+    for line in HELLOS {
+        if answer(alloc, reader, line)? != world_answer(alloc, world, line)? {
+            return Ok(false);
+        }
+    }
+    Ok(hello(alloc, reader)? == world_hello(alloc, world)?)
+}
+
+/// The line of the vector that the world's engine sends as a hello.
+fn world_hello(alloc: Global, world: &mut World) -> Result<Vec<u8>, Fail> {
+    let step = WorldStep::Hello {
+        engine: 0,
+        token: CLIENTS as usize,
+    };
+    match reply(alloc, world, step)? {
+        WorldReply::Hello { table, vector, .. } => Ok(line_of(alloc, &vector, &table)?),
+        _ => Err("no hello".into()),
+    }
+}
+
+fn line_of(
+    alloc: Global,
+    vector: &VersionVector,
+    table: &ReplicaTable,
+) -> Result<Vec<u8>, AllocError> {
+    let mut line = write_vector(alloc, vector, table)?;
+    line.push(b'\n')?;
+    Ok(line)
+}
+
+/// The lines of what a hello lacks of the world's engine.
+fn world_answer(alloc: Global, world: &mut World, hello: &[u8]) -> Result<Vec<u8>, Fail> {
+    let vector = read_vector(alloc, hello, world.table(0).ok_or("no engine")?)?;
+    let step = WorldStep::Ask {
+        engine: 0,
+        token: CLIENTS as usize,
+        question: Question::Missing(vector),
+    };
+    match reply(alloc, world, step)? {
+        WorldReply::Read { table, reading, .. } => bundle_of(alloc, &reading, &table),
+        _ => Err("no answer".into()),
+    }
+}
+
+/// The lines of the operations that were read.
+fn bundle_of(alloc: Global, reading: &Reading, table: &ReplicaTable) -> Result<Vec<u8>, Fail> {
+    match reading {
+        Reading::Missing(ops) => Ok(write_bundle(alloc, ops.as_slice(), table)?),
+        _ => Err("no operations".into()),
+    }
+}

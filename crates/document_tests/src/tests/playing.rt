@@ -1,0 +1,474 @@
+//! What is done with a document in a test, as rows, and what plays them.
+//!
+//! A call that is refused memory leaves the document as it was, and is made once more. So a test of rows passes whichever single
+//! allocation is refused; with none refused, nothing is called again.
+
+ghost use Rattle.std.specs.Prelude.{◌≡◌, None, IsTrue, IfOk, OnOk, length};
+ghost use Rattle.ids.specs.Members.{is_member};
+ghost use Rattle.semantics.specs.Entries.{applied};
+ghost use Rattle.semantics.specs.Stamped.{MayFollow};
+ghost use Rattle.operation.specs.Alone.{fault_alone};
+ghost use Rattle.operation.specs.Meanings.{stamped_of};
+ghost use Rattle.document.specs.Documents.{HasRoomFor, IsBeside};
+
+use cursor::{Expr, Place, Tag};
+use document::{Document, Question, Reading};
+use ids::{OpId, Refusal, ReplicaId};
+use operation::{Entry, Mutation, Op, check_alone};
+use std::alloc::{AllocError, Global};
+use std::process::Abort;
+use std::test::Fail;
+use value::{Key, Scalar, Text, Val};
+use version::VersionVector;
+
+/// An id's counter and replica.
+pub type Pair = (u64, u32);
+
+/// One step of the way from the root to a place.
+#[derive(Clone, Copy)]
+pub enum Hop<'a> {
+    /// Into the map here, to the field with this key.
+    Field(&'a str),
+    /// Into the list here, to the item with this id.
+    Item(Pair),
+    /// To the head of the list here.
+    Head,
+}
+
+/// One step of an expression.
+#[derive(Clone, Copy)]
+pub enum Step<'a> {
+    /// To the field with this key of the map here.
+    Get(&'a str),
+    /// To the item at this place of the list here, from 1 on.
+    Idx(u64),
+}
+
+/// A value that an operation writes.
+#[derive(Clone, Copy)]
+pub enum Value<'a> {
+    Map,
+    List,
+    Whole(i64),
+    Text(&'a str),
+}
+
+/// What an operation does at its place.
+#[derive(Clone, Copy)]
+pub enum Does<'a> {
+    Assign(Value<'a>),
+    Insert(Value<'a>),
+    Delete,
+}
+
+/// A peer's operation: its id, the counters of the replicas 1, 2 and 3 in its vector, its place, and what it does there.
+pub type Sent<'a> = (Pair, [u64; 3], &'a [Hop<'a>], Does<'a>);
+
+/// Something that is done with a document, and what it answers.
+#[derive(Clone, Copy)]
+pub enum Turn<'a> {
+    /// Takes an operation that passes each test.
+    Take(Sent<'a>),
+    /// What is wrong with an operation that is ready, and isn't wrong alone.
+    Check(Sent<'a>, Result<(), Refusal>),
+    /// An operation whose vector is indexed by the table, and that isn't ready.
+    Waits(Sent<'a>),
+    /// Whether one with this id was applied.
+    Has(Pair, bool),
+    /// How many entries there are.
+    Len(usize),
+    /// The values that stand where an expression leads, with the ids of what wrote them.
+    Values(&'a [Step<'a>], &'a [(Pair, Value<'a>)]),
+    /// The keys of the map there.
+    Keys(&'a [Step<'a>], &'a [&'a str]),
+    /// The items of the list there.
+    Items(&'a [Step<'a>], &'a [Pair]),
+    /// The ids of what stands there, each with its tag.
+    Conflicts(&'a [Step<'a>], &'a [(Pair, Tag)]),
+    /// The operations that a vector of these counters doesn't cover, by a call and by a question.
+    Missing([u64; 3], &'a [Pair]),
+    /// The greatest counter that was applied.
+    Greatest(u64),
+}
+
+/// The id of this counter and this replica.
+fn id_of(pair: Pair) -> Result<OpId, Refusal> {
+    let (counter, replica) = pair;
+    let replica = ReplicaId::new(replica).ok_or(Refusal::UnknownReplica)?;
+    Ok(OpId { counter, replica })
+}
+
+/// The vector of these counters.
+fn vector(alloc: Global, counters: [u64; 3]) -> Result<VersionVector, Refusal> {
+    let mut vector = VersionVector::zero(alloc, 3)?;
+    vector.raise(0, counters[0]);
+    vector.raise(1, counters[1]);
+    vector.raise(2, counters[2]);
+    Ok(vector)
+}
+
+/// The place that a hop leads to from here.
+fn further(alloc: Global, place: &Place, hop: Hop) -> Result<Place, Refusal> {
+    match hop {
+        Hop::Field(key) => place.get(alloc, Key::new(alloc, key)?),
+        Hop::Item(pair) => place.item(alloc, id_of(pair)?),
+        Hop::Head => place.head(alloc),
+    }
+}
+
+/// The place that these hops lead to from the root.
+fn place(alloc: Global, hops: &[Hop]) -> Result<Place, Refusal> {
+    let mut place = Place::doc(alloc);
+    for hop in hops {
+        place = further(alloc, &place, *hop)?;
+    }
+    Ok(place)
+}
+
+/// The value that an operation writes.
+fn val(alloc: Global, value: Value) -> Result<Val, Refusal> {
+    Ok(match value {
+        Value::Map => Val::EmptyMap,
+        Value::List => Val::EmptyList,
+        Value::Whole(whole) => Val::Scalar(Scalar::Whole(whole)),
+        Value::Text(text) => Val::Scalar(Scalar::Text(Text::new(alloc, text)?)),
+    })
+}
+
+/// The mutation that an operation makes.
+fn mutation(alloc: Global, does: Does) -> Result<Mutation, Refusal> {
+    Ok(match does {
+        Does::Assign(value) => Mutation::Assign(val(alloc, value)?),
+        Does::Insert(value) => Mutation::Insert(val(alloc, value)?),
+        Does::Delete => Mutation::Delete,
+    })
+}
+
+/// The operation, or `NoMemory` where an allocation is refused.
+fn try_op(alloc: Global, sent: Sent) -> Result<Op, Refusal> {
+    let (pair, counters, hops, does) = sent;
+    let id = id_of(pair)?;
+    Ok(Op {
+        id,
+        deps: vector(alloc, counters)?,
+        place: place(alloc, hops)?,
+        mutation: mutation(alloc, does)?,
+    })
+}
+
+/// The operation, at the second attempt where the first is refused memory.
+fn op(alloc: Global, sent: Sent) -> Result<Op, Refusal> {
+    match try_op(alloc, sent) {
+        Err(Refusal::NoMemory) => try_op(alloc, sent),
+        made => made,
+    }
+}
+
+/// Whether nothing is wrong with the operation alone.
+fn stands_alone(document: &Document, op: &Op) -> bool
+    ensures alone { IsTrue result → fault_alone document.now.table op.now ≡ None }
+    ensures member { IsTrue result → IsTrue (is_member document.now.table op.now.id.replica) }
+    ensures width { IsTrue result → length op.now.deps ≡ length document.now.table }
+{
+    check_alone(op, document.table()).is_ok()
+}
+
+/// What is wrong with an operation that is ready, and isn't wrong alone.
+fn check(rt: &impl Abort, document: &Document, op: &Op) -> Result<(), Refusal>
+    ensures lawful { OnOk result (MayFollow (applied document.now.entries) (stamped_of document.now.table op.now)) }
+    ensures member { IsTrue (is_member document.now.table op.now.id.replica) }
+    ensures width { length op.now.deps ≡ length document.now.table }
+{
+    assert!(rt; stands_alone(document, op));
+    assert!(rt; document.ready(op));
+    document.check(op)
+}
+
+/// Takes the memory for an operation, at the second attempt where the first is refused. A refusal changes no content.
+fn reserve(
+    rt: &impl Abort,
+    alloc: Global,
+    document: &mut Document,
+    op: &Op,
+) -> Result<(), AllocError>
+    ensures table { document.new.table ≡ document.old.table }
+    ensures entries { document.new.entries ≡ document.old.entries }
+    ensures room { OnOk result (HasRoomFor document.new (stamped_of document.new.table op.now)) }
+{
+    let before = (document.len(), document.applied().greatest());
+    if document.reserve(alloc, op).is_ok() {
+        return Ok(());
+    }
+    assert_eq!(rt; (document.len(), document.applied().greatest()), before);
+    document.reserve(alloc, op)
+}
+
+/// Takes an operation that passes each test.
+fn take(
+    rt: &impl Abort,
+    alloc: Global,
+    document: &mut Document,
+    sent: Sent,
+) -> Result<(), Refusal> {
+    let op = op(alloc, sent)?;
+    check(rt, document, &op)?;
+    reserve(rt, alloc, document, &op)?;
+    document.commit(Entry::Peer(op));
+    Ok(())
+}
+
+/// Compares what is wrong with an operation that is ready, and isn't wrong alone.
+fn assert_check(
+    rt: &impl Abort,
+    alloc: Global,
+    document: &Document,
+    sent: Sent,
+    wanted: Result<(), Refusal>,
+) -> Result<(), Refusal> {
+    let op = op(alloc, sent)?;
+    let found = check(rt, document, &op);
+    assert_eq!(rt; found, wanted, "of {:?}", sent.0);
+    Ok(())
+}
+
+/// Whether an operation has a vector beside the table, and isn't ready.
+fn waits(document: &Document, op: &Op) -> bool {
+    op.deps.width() == document.table().len() && !document.ready(op)
+}
+
+/// The step of a row.
+fn step_of(alloc: Global, step: Step) -> Result<cursor::Step, Refusal> {
+    match step {
+        Step::Get(key) => Ok(cursor::Step::Get(Key::new(alloc, key)?)),
+        Step::Idx(index) => Ok(cursor::Step::Idx(index)),
+    }
+}
+
+/// The expression of these steps.
+fn expr(alloc: Global, path: &[Step]) -> Result<Expr, Refusal> {
+    let mut steps = Vec::new(alloc);
+    for next in path {
+        let step = step_of(alloc, *next)?;
+        steps.push(step)?;
+    }
+    Ok(Expr::new(steps))
+}
+
+/// The vector of these counters, which stands beside the document's table.
+fn beside(alloc: Global, document: &Document, counters: [u64; 3]) -> Result<VersionVector, Refusal>
+    ensures { IfOk result (λ v. length v ≡ length document.now.table) }
+{
+    let vector = vector(alloc, counters)?;
+    if vector.width() != document.table().len() {
+        return Err(Refusal::BadConfig);
+    }
+    Ok(vector)
+}
+
+/// The question of a turn that asks one. The others are never asked.
+fn question(alloc: Global, document: &Document, turn: Turn) -> Result<Question, Refusal>
+    ensures { IfOk result (λ q. IsBeside document.now.table q) }
+{
+    Ok(match turn {
+        Turn::Values(path, _) => Question::Values(expr(alloc, path)?),
+        Turn::Keys(path, _) => Question::Keys(expr(alloc, path)?),
+        Turn::Items(path, _) => Question::Items(expr(alloc, path)?),
+        Turn::Conflicts(path, _) => Question::Conflicts(expr(alloc, path)?),
+        Turn::Missing(counters, _) => Question::Missing(beside(alloc, document, counters)?),
+        _ => Question::Vector,
+    })
+}
+
+/// What the document answers, or `NoMemory` where an allocation is refused.
+fn try_ask(alloc: Global, document: &Document, turn: Turn) -> Result<Reading, Refusal> {
+    let question = question(alloc, document, turn)?;
+    document.ask(alloc, &question)
+}
+
+/// What the document answers, at the second attempt where the first is refused memory.
+fn ask(alloc: Global, document: &Document, turn: Turn) -> Result<Reading, Refusal> {
+    match try_ask(alloc, document, turn) {
+        Err(Refusal::NoMemory) => try_ask(alloc, document, turn),
+        answer => answer,
+    }
+}
+
+/// Whether the id has this counter and this replica.
+fn is_id(id: OpId, wanted: Pair) -> bool {
+    (id.counter, id.replica.number()) == wanted
+}
+
+/// Whether the scalar is this value.
+fn is_scalar(scalar: &Scalar, wanted: Value) -> bool {
+    match (scalar, wanted) {
+        (Scalar::Whole(whole), Value::Whole(wanted)) => *whole == wanted,
+        (Scalar::Text(text), Value::Text(wanted)) => text.as_str() == wanted,
+        _ => false,
+    }
+}
+
+/// Whether the values are these, with these ids.
+fn are_values(values: &[(OpId, Scalar)], wanted: &[(Pair, Value)]) -> bool {
+    for ((id, scalar), (pair, value)) in values.iter().zip(wanted) {
+        if !is_id(*id, *pair) || !is_scalar(scalar, *value) {
+            return false;
+        }
+    }
+    values.len() == wanted.len()
+}
+
+/// Whether the keys are these.
+fn are_keys(keys: &[Key], wanted: &[&str]) -> bool {
+    for (key, wanted) in keys.iter().zip(wanted) {
+        if key.as_str() != *wanted {
+            return false;
+        }
+    }
+    keys.len() == wanted.len()
+}
+
+/// Whether the ids are these.
+fn are_ids(ids: &[OpId], wanted: &[Pair]) -> bool {
+    for (id, pair) in ids.iter().zip(wanted) {
+        if !is_id(*id, *pair) {
+            return false;
+        }
+    }
+    ids.len() == wanted.len()
+}
+
+/// Whether the ids are these, with these tags.
+fn are_conflicts(conflicts: &[(OpId, Tag)], wanted: &[(Pair, Tag)]) -> bool {
+    for ((id, tag), (pair, wanted)) in conflicts.iter().zip(wanted) {
+        if !is_id(*id, *pair) || *tag != *wanted {
+            return false;
+        }
+    }
+    conflicts.len() == wanted.len()
+}
+
+/// Whether the operations have these ids.
+fn are_ops(ops: &[Op], wanted: &[Pair]) -> bool {
+    for (op, pair) in ops.iter().zip(wanted) {
+        if !is_id(op.id, *pair) {
+            return false;
+        }
+    }
+    ops.len() == wanted.len()
+}
+
+/// Whether the reading is the one that the turn wants.
+fn is_wanted(reading: &Reading, turn: Turn) -> bool {
+    match (reading, turn) {
+        (Reading::Values(values), Turn::Values(_, wanted)) => are_values(values, wanted),
+        (Reading::Keys(keys), Turn::Keys(_, wanted)) => are_keys(keys, wanted),
+        (Reading::Items(items), Turn::Items(_, wanted)) => are_ids(items, wanted),
+        (Reading::Conflicts(pairs), Turn::Conflicts(_, wanted)) => are_conflicts(pairs, wanted),
+        (Reading::Missing(ops), Turn::Missing(_, wanted)) => are_ops(ops, wanted),
+        (Reading::Vector(vector), Turn::Greatest(wanted)) => vector.greatest() == wanted,
+        _ => false,
+    }
+}
+
+/// Compares what the document answers.
+fn assert_answer(
+    rt: &impl Abort,
+    alloc: Global,
+    document: &Document,
+    turn: Turn,
+) -> Result<(), Refusal> {
+    let reading = ask(alloc, document, turn)?;
+    assert!(rt; is_wanted(&reading, turn), "{reading:?}");
+    Ok(())
+}
+
+/// The operations that a vector of these counters doesn't cover, or `NoMemory` where an allocation is refused.
+fn try_missing(alloc: Global, document: &Document, counters: [u64; 3]) -> Result<Vec<Op>, Refusal> {
+    let vector = beside(alloc, document, counters)?;
+    Ok(document.missing(alloc, &vector)?)
+}
+
+/// The operations that a vector of these counters doesn't cover, at the second attempt where the first is refused memory.
+fn missing(alloc: Global, document: &Document, counters: [u64; 3]) -> Result<Vec<Op>, Refusal> {
+    match try_missing(alloc, document, counters) {
+        Err(Refusal::NoMemory) => try_missing(alloc, document, counters),
+        answer => answer,
+    }
+}
+
+/// Compares the operations that a vector doesn't cover, by a call and by a question.
+fn assert_missing(
+    rt: &impl Abort,
+    alloc: Global,
+    document: &Document,
+    turn: Turn,
+    counters: [u64; 3],
+    wanted: &[Pair],
+) -> Result<(), Refusal> {
+    let ops = missing(alloc, document, counters)?;
+    assert!(rt; are_ops(&ops, wanted), "{ops:?}");
+    assert_answer(rt, alloc, document, turn)
+}
+
+/// Does a turn, which goes as it says.
+fn take_turn(
+    rt: &impl Abort,
+    alloc: Global,
+    document: &mut Document,
+    turn: Turn,
+) -> Result<(), Refusal> {
+    match turn {
+        Turn::Take(sent) => take(rt, alloc, document, sent),
+        Turn::Check(sent, wanted) => assert_check(rt, alloc, document, sent, wanted),
+        Turn::Waits(sent) => {
+            let op = op(alloc, sent)?;
+            assert!(rt; waits(document, &op));
+            Ok(())
+        }
+        Turn::Has(pair, wanted) => {
+            let id = id_of(pair)?;
+            assert_eq!(rt; document.contains(id), wanted, "{id:?}");
+            Ok(())
+        }
+        Turn::Len(wanted) => {
+            assert_eq!(rt; document.len(), wanted);
+            Ok(())
+        }
+        Turn::Missing(counters, wanted) => assert_missing(
+            rt, alloc, document, turn, counters, wanted,
+        ),
+        _ => assert_answer(rt, alloc, document, turn),
+    }
+}
+
+/// Takes these operations, and then does these turns.
+fn play(
+    rt: &impl Abort,
+    alloc: Global,
+    document: &mut Document,
+    ops: &[Sent],
+    turns: &[Turn],
+) -> Result<(), Refusal> {
+    for op in ops {
+        take(rt, alloc, document, *op)?;
+    }
+    for turn in turns {
+        take_turn(rt, alloc, document, *turn)?;
+    }
+    Ok(())
+}
+
+/// A document of the replicas 1, 2 and 3, at the second attempt where the first is refused memory.
+fn empty(alloc: Global) -> Result<Document, Refusal> {
+    match Document::new(alloc, &[1, 2, 3]) {
+        Err(Refusal::NoMemory) => Document::new(alloc, &[1, 2, 3]),
+        made => made,
+    }
+}
+
+/// A new document of the replicas 1, 2 and 3 takes these operations, and then does these turns.
+pub fn on_new(rt: &impl Abort, alloc: Global, ops: &[Sent], turns: &[Turn]) -> Result<(), Fail> {
+    let mut document = empty(alloc)?;
+    play(rt, alloc, &mut document, ops, turns)?;
+    Ok(())
+}

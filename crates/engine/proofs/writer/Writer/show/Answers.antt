@@ -1,0 +1,5 @@
+use Rattle.std.proofs.Common.{rules}
+use Rattle.engine.proofs.writer.Writer.show.Goals as goal
+
+pub give-requires : goal.give-requires
+give-requires g c = search rules

@@ -1,0 +1,45 @@
+//! What a play did, and how long it took.
+
+ghost use Rattle.std.specs.Prelude.{◌≡◌, ◌*◌, ◌/◌, ◌-◌, ◌^◌, max, min};
+
+use std::time::{Clock, Instant};
+
+/// What a play did.
+#[derive(Clone, Copy, Debug)]
+pub struct Figure {
+    pub name: &'static str,
+    /// How many operations were made, seen or received.
+    pub count: usize,
+    /// What its rate is of.
+    pub what: &'static str,
+    /// How many of these there were.
+    pub done: u64,
+    /// How long they took.
+    pub nanos: u64,
+}
+
+impl Figure {
+    /// How many were done in a second, rounded down.
+    pub fn a_second(&self) -> u64
+        ensures { result ≡ min (self.now.done * 1000000000 / max self.now.nanos 1) (2 ^ 64 - 1) }
+    {
+        let in_a_second = u128::from(self.done) * 1_000_000_000 / u128::from(self.nanos.max(1));
+        u64::try_from(in_a_second).unwrap_or(u64::MAX)
+    }
+}
+
+/// When something began, by a clock that may not be read.
+pub fn begin<R: Clock>(rt: &R) -> Option<Instant> {
+    Instant::now(rt).ok()
+}
+
+/// The nanoseconds since then; none where the clock wasn't read.
+pub fn nanos_since<R: Clock>(rt: &R, began: Option<Instant>) -> u64 {
+    let Some(began) = began else {
+        return 0;
+    };
+    match began.elapsed(rt) {
+        Ok(elapsed) => u64::try_from(elapsed.as_nanos()).unwrap_or(u64::MAX),
+        Err(_) => 0,
+    }
+}

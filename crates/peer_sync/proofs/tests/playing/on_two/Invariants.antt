@@ -1,6 +1,0 @@
-use Rattle.ids.specs.Members.{in_order}
-use Rattle.peer_sync.proofs.tests.playing.on_two.Given as goal
-
--- the first engine is that of these parts
-abbrev pub ghosts-open_first : goal.ghosts-open_first
-ghosts-open_first g a = record { book = a.one.opened.seen.book; own = a.one.config.own; table = in_order a.one.config.members }

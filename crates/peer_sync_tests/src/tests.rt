@@ -1,0 +1,41 @@
+//! Engines that exchange operations on one thread, as rows that small functions play.
+
+mod cuts;
+mod exchanges;
+mod forged;
+mod lines;
+mod playing;
+mod refused_memory;
+mod showing;
+
+use ids::Refusal;
+use peer_sync::{Received, answer, hello, receive};
+use std::test::Fail;
+
+/// The lines of five operations of replica 1, which make a list in the root and put three items into it.
+const FIVE: &str = r#"["op",[1,1],[],[],0,["a",{}]]
+["op",[2,1],[[1,1]],[["m",0]],"shopping",["a",[]]]
+["op",[3,1],[[1,2]],[["m",0],["l","shopping"]],1,["i","eggs"]]
+["op",[4,1],[[1,3]],[["m",0],["l","shopping"]],1,["i","cheese"]]
+["op",[5,1],[[1,4]],[["m",0],["l","shopping"]],[3,1],["i","milk"]]
+"#;
+
+/// The first of them.
+const FIRST_LINE: &str = r#"["op",[1,1],[],[],0,["a",{}]]
+"#;
+
+/// The line of a replica that is not a member.
+const STRANGER: &str = r#"["op",[1,4],[],[],0,["d"]]
+"#;
+
+/// The hello of an engine that has nothing.
+const NEW: &str = r#"["hello",[]]
+"#;
+
+/// Replica 1 deletes the second item of the list.
+const DELETED: &str = r#"["op",[6,1],[[1,5]],[["m",0],["l","shopping"]],[3,1],["d"]]
+"#;
+
+/// Replica 2 writes over that item.
+const HAM: &str = r#"["op",[6,2],[[1,5]],[["m",0],["l","shopping"]],[3,1],["a","ham"]]
+"#;

@@ -1,0 +1,414 @@
+//! An exchange in which an allocation fails goes on, and ends as it would have.
+//!
+//! To be run with each allocation refused in turn (`tests/refused_memory.sh`): what is refused is called once more and counted, so
+//! each run passes, and each answer that isn't refused is that of a run in which no allocation fails.
+
+ghost use Rattle.std.specs.Prelude.{◌≡◌};
+ghost use Rattle.ids.specs.Members.{in_order};
+
+use super::playing::Writing::{Assign, Delete, Insert};
+use super::playing::Wrote::{List, Map, Words};
+use super::playing::{Stage, Writing, command, config, poll};
+use super::showing::Shown::{Items, Values};
+use super::showing::To::{Key, Place};
+use super::showing::{Pair, Shown, To, expr, is_id, is_wanted, question};
+use super::*;
+use engine::{EngineName, Final, Parts, ReaderToken, Step, close, open, prepare};
+use items::Reply;
+use std::alloc::Global;
+use std::marker::Brand;
+use std::process::Abort;
+use std::sync::Wait;
+
+const LIST_AT: &[To] = &[Key("shopping")];
+
+const HEAD: &[To] = &[Key("shopping"), Place(0)];
+
+const ITEM: &[To] = &[Key("shopping"), Place(2)];
+
+/// What engine 1 writes, whose lines are `FIVE`, with the ids that it makes.
+const WRITTEN: &[(Writing, Pair)] = &[
+    (Assign(&[], Map), (1, 1)),
+    (Assign(LIST_AT, List), (2, 1)),
+    (Insert(HEAD, Words("eggs")), (3, 1)),
+    (Insert(HEAD, Words("cheese")), (4, 1)),
+    (Insert(ITEM, Words("milk")), (5, 1)),
+];
+
+/// What both engines are shown in the end.
+const SHOWN: &[(&[To], Shown)] = &[
+    (LIST_AT, Items(&[(4, 1), (3, 1), (5, 1)])),
+    (ITEM, Values(&[((6, 2), "ham")])),
+];
+
+/// What both say in the end.
+const ALL: &str = r#"["hello",[[1,6],[2,6]]]
+"#;
+
+/// How often memory was refused, in answers of engines and where a test makes its own values.
+#[derive(Drop)]
+struct Refused {
+    times: u32,
+}
+
+impl Refused {
+    /// Counts a refusal, if allocation failed.
+    ///
+    /// # Errors
+    /// Any other refusal.
+    fn count(&mut self, why: Refusal) -> Result<(), Refusal> {
+        if why != Refusal::NoMemory {
+            return Err(why);
+        }
+        self.note();
+        Ok(())
+    }
+
+    fn note(&mut self) {
+        self.times = self.times.saturating_add(1);
+    }
+}
+
+/// What is made, at the second attempt where allocation fails at the first.
+fn again<T: Drop, F: Fn() -> Result<T, Refusal>>(
+    refused: &mut Refused,
+    make: F,
+) -> Result<T, Refusal>
+    requires { F.IsAlwaysCallable make }
+{
+    match make() {
+        Err(Refusal::NoMemory) => {
+            refused.note();
+            make()
+        }
+        made => made,
+    }
+}
+
+#[test]
+fn an_exchange_goes_on(rt: HostRuntime) -> Result<(), Fail> {
+    let alloc = rt.alloc();
+    let mut refused = Refused { times: 0 };
+    for _ in 0..2 {
+        let parts = again(&mut refused, || prepare(alloc, config(alloc, 1, 16)?))?;
+        if with_one::<Brand, _>(&rt, alloc, &mut refused, parts)? {
+            assert!(rt; refused.times < 2);
+            return Ok(());
+        }
+    }
+    Err("engine 1 isn't opened at the second attempt".into())
+}
+
+/// Whether engine 1 was opened; then all was played.
+fn with_one<N: EngineName, R: Wait + Abort>(
+    rt: &R,
+    alloc: Global,
+    refused: &mut Refused,
+    parts: Parts,
+) -> Result<bool, Fail>
+    requires book { parts.opened.seen.book ≡ N.book }
+    requires own { parts.config.own ≡ N.own }
+    requires table { in_order parts.config.members ≡ N.table }
+{
+    // `open` is refused for a failed allocation, or since the copies have no place for a reader.
+    let Ok((mut writer, mut clients, mut readers)) = open::<N>(rt, alloc, parts) else {
+        refused.note();
+        return Ok(false);
+    };
+    let played = match (clients.pop(), readers.pop()) {
+        (Some(mut client), Some(mut reader)) => {
+            let mut stage = Stage {
+                own: 1,
+                writer: &mut writer,
+                client: &mut client,
+                reader: &mut reader,
+            };
+            open_two(rt, alloc, refused, &mut stage)
+        }
+        _ => Err("no client".into()),
+    };
+    let last = close(rt, writer, Vec::new(alloc));
+    played?;
+    assert_seven(rt, &last);
+    Ok(true)
+}
+
+/// All seven operations are published, and nothing is left.
+fn assert_seven<R: Abort>(rt: &R, last: &Final) {
+    assert_eq!(rt; last.history.len(), 7);
+    assert_eq!(rt; last.left, 0);
+}
+
+fn open_two<N: EngineName, R: Wait + Abort>(
+    rt: &R,
+    alloc: Global,
+    refused: &mut Refused,
+    one: &mut Stage<N>,
+) -> Result<(), Fail> {
+    for _ in 0..2 {
+        let parts = again(refused, || prepare(alloc, config(alloc, 2, 16)?))?;
+        if with_two::<N, Brand, R>(rt, alloc, refused, one, parts)? {
+            return Ok(());
+        }
+    }
+    Err("engine 2 isn't opened at the second attempt".into())
+}
+
+/// Whether engine 2 was opened; then all was played.
+fn with_two<N: EngineName, M: EngineName, R: Wait + Abort>(
+    rt: &R,
+    alloc: Global,
+    refused: &mut Refused,
+    one: &mut Stage<N>,
+    parts: Parts,
+) -> Result<bool, Fail>
+    requires book { parts.opened.seen.book ≡ M.book }
+    requires own { parts.config.own ≡ M.own }
+    requires table { in_order parts.config.members ≡ M.table }
+{
+    let Ok((mut writer, mut clients, mut readers)) = open::<M>(rt, alloc, parts) else {
+        refused.note();
+        return Ok(false);
+    };
+    let played = match (clients.pop(), readers.pop()) {
+        (Some(mut client), Some(mut reader)) => {
+            let mut stage = Stage {
+                own: 2,
+                writer: &mut writer,
+                client: &mut client,
+                reader: &mut reader,
+            };
+            play(rt, alloc, refused, one, &mut stage)
+        }
+        _ => Err("no client".into()),
+    };
+    let last = close(rt, writer, Vec::new(alloc));
+    played?;
+    assert_seven(rt, &last);
+    Ok(true)
+}
+
+/// Engine 1 writes, engine 2 gets that; then each writes for itself, and they exchange it.
+fn play<N: EngineName, M: EngineName, R: Wait + Abort>(
+    rt: &R,
+    alloc: Global,
+    refused: &mut Refused,
+    one: &mut Stage<N>,
+    two: &mut Stage<M>,
+) -> Result<(), Fail> {
+    for (writing, id) in WRITTEN {
+        write(rt, alloc, refused, one, *writing, *id)?;
+    }
+    pull(rt, alloc, refused, two, one, FIVE)?;
+    write(rt, alloc, refused, one, Delete(ITEM), (6, 1))?;
+    write(rt, alloc, refused, two, Assign(ITEM, Words("ham")), (6, 2))?;
+    pull(rt, alloc, refused, one, two, HAM)?;
+    pull(rt, alloc, refused, two, one, DELETED)?;
+    end(rt, alloc, refused, one, &[FIVE, DELETED, HAM])?;
+    end(rt, alloc, refused, two, &[FIVE, HAM, DELETED])
+}
+
+/// Writes, once more where allocation fails, and compares the id.
+fn write<N: EngineName, R: Wait + Abort>(
+    rt: &R,
+    alloc: Global,
+    refused: &mut Refused,
+    stage: &mut Stage<N>,
+    writing: Writing,
+    want: Pair,
+) -> Result<(), Fail> {
+    for _ in 0..2 {
+        let serial = submit(rt, alloc, refused, stage, writing)?;
+        step_all(rt, alloc, refused, stage)?;
+        match poll(stage, serial)? {
+            Some(Reply::Made(id, _)) if is_id(id, want) => return Ok(()),
+            Some(Reply::Refused(why, _)) => refused.count(why)?,
+            _ => return Err("another answer".into()),
+        }
+    }
+    Err("no memory for a second command".into())
+}
+
+/// Submits what is to be written: its serial. A refused call takes none.
+fn submit<N: EngineName, R: Wait>(
+    rt: &R,
+    alloc: Global,
+    refused: &mut Refused,
+    stage: &mut Stage<N>,
+    writing: Writing,
+) -> Result<u64, Refusal> {
+    let first = again(refused, || command(alloc, writing))?;
+    match stage.client.submit(rt, alloc, first) {
+        Ok(ticket) => Ok(ticket.serial),
+        Err(why) => {
+            refused.count(why)?;
+            let second = command(alloc, writing)?;
+            Ok(stage.client.submit(rt, alloc, second)?.serial)
+        }
+    }
+}
+
+/// Steps until there is nothing to do. A step that is held is followed by another one.
+fn step_all<N: EngineName, R: Wait>(
+    rt: &R,
+    alloc: Global,
+    refused: &mut Refused,
+    stage: &mut Stage<N>,
+) -> Result<(), Fail> {
+    for _ in 0..6 {
+        match stage.writer.step(rt, alloc) {
+            Step::Idle => return Ok(()),
+            Step::Held => refused.note(),
+            Step::Published(_) => {}
+        }
+    }
+    Err("there is still something to do".into())
+}
+
+/// One engine gets what the other has, until it lacks nothing. The first bundle is this one, and each later one the end of it.
+fn pull<N: EngineName, M: EngineName, R: Wait + Abort>(
+    rt: &R,
+    alloc: Global,
+    refused: &mut Refused,
+    to: &mut Stage<N>,
+    from: &mut Stage<M>,
+    want: &str,
+) -> Result<(), Fail> {
+    assert!(rt; get(rt, alloc, refused, to, from, want)? == want.len());
+    for _ in 0..2 {
+        if get(rt, alloc, refused, to, from, want)? == 0 {
+            return Ok(());
+        }
+    }
+    Err("something is still lacking".into())
+}
+
+/// One engine gets what it lacks, the end of this bundle: how many bytes that is.
+fn get<N: EngineName, M: EngineName, R: Wait + Abort>(
+    rt: &R,
+    alloc: Global,
+    refused: &mut Refused,
+    to: &mut Stage<N>,
+    from: &mut Stage<M>,
+    whole: &str,
+) -> Result<usize, Fail> {
+    let said = said(alloc, refused, to.reader)?;
+    let bundle = answered(alloc, refused, from.reader, said.as_slice())?;
+    assert!(rt; whole.as_bytes().ends_with(bundle.as_slice()));
+    take(rt, alloc, refused, to, bundle.as_slice())?;
+    Ok(bundle.len())
+}
+
+/// The hello of a reader, at the second attempt where allocation fails at the first.
+fn said<N: EngineName>(
+    alloc: Global,
+    refused: &mut Refused,
+    reader: &mut ReaderToken<N>,
+) -> Result<Vec<u8>, Refusal> {
+    match hello(alloc, reader) {
+        Err(Refusal::NoMemory) => {
+            refused.note();
+            hello(alloc, reader)
+        }
+        said => said,
+    }
+}
+
+/// A reader's answer to a hello, in the same way.
+fn answered<N: EngineName>(
+    alloc: Global,
+    refused: &mut Refused,
+    reader: &mut ReaderToken<N>,
+    said: &[u8],
+) -> Result<Vec<u8>, Refusal> {
+    match answer(alloc, reader, said) {
+        Err(Refusal::NoMemory) => {
+            refused.note();
+            answer(alloc, reader, said)
+        }
+        lines => lines,
+    }
+}
+
+/// Receives a bundle and handles it. Where allocation fails some of it isn't kept.
+fn take<N: EngineName, R: Wait>(
+    rt: &R,
+    alloc: Global,
+    refused: &mut Refused,
+    stage: &mut Stage<N>,
+    bundle: &[u8],
+) -> Result<(), Fail> {
+    let received = receive(rt, alloc, stage.client, bundle);
+    if let Some((_line, why)) = received.stopped {
+        refused.count(why)?;
+    }
+    step_all(rt, alloc, refused, stage)?;
+    for number in 0..received.submitted {
+        let serial = received.first_serial.saturating_add(number);
+        match poll(stage, serial)? {
+            Some(Reply::Kept(_)) => {}
+            // It came again, since another one of the same bundle was refused.
+            Some(Reply::Known(_)) if refused.times > 0 => {}
+            Some(Reply::Refused(why, _)) => refused.count(why)?,
+            _ => return Err("another answer".into()),
+        }
+    }
+    Ok(())
+}
+
+/// The reader learns of all that is published, is shown it, and would send it in this order.
+fn end<N: EngineName, R: Wait + Abort>(
+    rt: &R,
+    alloc: Global,
+    refused: &mut Refused,
+    stage: &mut Stage<N>,
+    lines: &[&str],
+) -> Result<(), Fail> {
+    stage.reader.learn(&stage.writer.notice());
+    assert_eq!(rt; stage.reader.seen_len(), 7);
+    for (path, want) in SHOWN {
+        assert_shown(rt, alloc, refused, stage.reader, path, *want)?;
+    }
+    let hello = said(alloc, refused, stage.reader)?;
+    assert_eq!(rt; hello.as_slice(), ALL.as_bytes());
+    assert_history(rt, alloc, refused, stage.reader, lines)
+}
+
+/// Compares what a reader is shown.
+fn assert_shown<N: EngineName>(
+    rt: &impl Abort,
+    alloc: Global,
+    refused: &mut Refused,
+    reader: &mut ReaderToken<N>,
+    path: &[To],
+    want: Shown,
+) -> Result<(), Fail> {
+    let place = again(refused, || expr(alloc, path))?;
+    let question = question(reader, place, want);
+    let reading = match reader.ask(alloc, &question) {
+        Err(Refusal::NoMemory) => {
+            refused.note();
+            reader.ask(alloc, &question)
+        }
+        reading => reading,
+    };
+    assert!(rt; is_wanted(&reading, want), "{want:?}, but {reading:?}");
+    Ok(())
+}
+
+/// Compares the whole history, as a peer gets it that has nothing.
+fn assert_history<N: EngineName>(
+    rt: &impl Abort,
+    alloc: Global,
+    refused: &mut Refused,
+    reader: &mut ReaderToken<N>,
+    parts: &[&str],
+) -> Result<(), Fail> {
+    let history = answered(alloc, refused, reader, NEW.as_bytes())?;
+    let mut rest = history.as_slice();
+    for part in parts {
+        rest = rest.strip_prefix(part.as_bytes()).ok_or("another line")?;
+    }
+    assert!(rt; rest.is_empty());
+    Ok(())
+}

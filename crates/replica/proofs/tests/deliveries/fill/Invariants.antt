@@ -1,5 +1,0 @@
-use Rattle.semantics.specs.Entries.{IsAbove}
-use Rattle.replica.proofs.tests.deliveries.fill.Given as goal
-
-abbrev pub invariant-loop-counter : goal.invariant-loop-counter
-invariant-loop-counter g l = IsAbove 0 l.serial l.replica.document.entries

@@ -1,0 +1,141 @@
+//! Lines of vectors.
+
+use super::{Around, joined, with_part};
+use ids::{Refusal, ReplicaTable};
+use std::alloc::{AllocError, Global};
+use std::process::Abort;
+use std::test::Fail;
+use wire::{read_vector, write_vector};
+
+/// What is written of the vector that is read of this line beside the table 1, 2, 9, or why none is read.
+fn rewritten(alloc: Global, line: &str) -> Result<Vec<u8>, Refusal> {
+    let table = ReplicaTable::new(alloc, &[9, 1, 2])?;
+    let vector = read_vector(alloc, line.as_bytes(), &table)?;
+    Ok(write_vector(alloc, &vector, &table)?)
+}
+
+/// The vector of this line is written so.
+fn is_written(rt: &impl Abort, alloc: Global, line: &str, written: &str) -> Result<(), Refusal> {
+    let again = rewritten(alloc, line)?;
+    assert_eq!(rt; again.as_slice(), written.as_bytes(), "{line}");
+    Ok(())
+}
+
+#[test]
+fn vectors_are_written_as_they_are_read(rt: HostRuntime) -> Result<(), Fail> {
+    const ROWS: &[(&str, &str)] = &[
+        (r#"["hello",[]]"#, r#"["hello",[]]"#),
+        (r#"["hello",[[1,5]]]"#, r#"["hello",[[1,5]]]"#),
+        (
+            r#"["hello",[[9,4611686018427387904]]]"#,
+            r#"["hello",[[9,4611686018427387904]]]"#,
+        ),
+        (r#"["\u0068ello",[[2,7]]]"#, r#"["hello",[[2,7]]]"#),
+    ];
+    for (line, written) in ROWS {
+        is_written(&rt, rt.alloc(), line, written)?;
+    }
+    Ok(())
+}
+
+#[test]
+fn white_space_is_not_written(rt: HostRuntime) -> Result<(), Fail> {
+    const PARTS: &[&str] = &[r#" [ "hello","#, "\t[[1,1] ,[2,2],\r\n[ 9,3 ]] ] "];
+    let line = joined(rt.alloc(), PARTS)?;
+    is_written(
+        &rt,
+        rt.alloc(),
+        line.as_str(),
+        r#"["hello",[[1,1],[2,2],[9,3]]]"#,
+    )?;
+    Ok(())
+}
+
+/// No vector is read of this line, for this reason.
+fn is_refused(rt: &impl Abort, alloc: Global, line: &str, why: Refusal) {
+    let read = rewritten(alloc, line).err();
+    assert_eq!(rt; read, Some(why), "{line}");
+}
+
+#[test]
+fn lines_that_are_no_vectors(rt: HostRuntime) {
+    const LINES: &[&str] = &[
+        "",
+        r#""hello""#,
+        "[]",
+        r#"["hello"]"#,
+        r#"["hello",[],[]]"#,
+        r#"["Hello",[]]"#,
+        r#"["op",[]]"#,
+        r#"[[],"hello"]"#,
+        r#"["hello",[]"#,
+        r#"["hello",[]]]"#,
+        r#"["hello",[]] x"#,
+    ];
+    for line in LINES {
+        is_refused(&rt, rt.alloc(), line, Refusal::BadLine);
+    }
+}
+
+/// What stands around the pairs of a vector.
+const HELLO: Around = (r#"["hello","#, "]");
+
+/// No vector is read of a line with these pairs, for this reason.
+fn are_refused(
+    rt: &impl Abort,
+    alloc: Global,
+    pairs: &str,
+    why: Refusal,
+) -> Result<(), AllocError> {
+    let line = with_part(alloc, HELLO, pairs)?;
+    is_refused(rt, alloc, line.as_str(), why);
+    Ok(())
+}
+
+#[test]
+fn vectors_without_form(rt: HostRuntime) -> Result<(), Fail> {
+    const VECTORS: &[&str] = &[
+        "null",
+        "{}",
+        "[1,1]",
+        "[[]]",
+        "[[1]]",
+        "[[1,1,1]]",
+        r#"[["1",1]]"#,
+        "[[0,1]]",
+        "[[1,0]]",
+        "[[-1,1]]",
+        "[[1.0,1]]",
+        "[[1,1e3]]",
+        "[[1,-0]]",
+        "[[4294967296,1]]",
+        "[[1,4611686018427387905]]",
+        "[[1,18446744073709551616]]",
+        "[[1,1],[1,1]]",
+        "[[2,2],[1,2]]",
+        "[[1,1],[9,3],[9,4]]",
+        // Not rising, and no member: that it doesn't rise comes first.
+        "[[9,1],[3,1]]",
+        "[[1,1],[0,1],[3,1]]",
+    ];
+    for pairs in VECTORS {
+        are_refused(&rt, rt.alloc(), pairs, Refusal::BadLine)?;
+    }
+    Ok(())
+}
+
+/// The first pair that has a fault decides.
+#[test]
+fn vectors_of_no_members(rt: HostRuntime) -> Result<(), Fail> {
+    const VECTORS: &[&str] = &[
+        "[[3,1]]",
+        "[[4294967295,1]]",
+        "[[1,1],[3,1],[9,1]]",
+        "[[3,1],[1,1]]",
+        "[[3,1],null]",
+    ];
+    for pairs in VECTORS {
+        are_refused(&rt, rt.alloc(), pairs, Refusal::UnknownReplica)?;
+    }
+    Ok(())
+}
