@@ -1,6 +1,6 @@
 //! The writer: it takes what clients submitted, handles it, publishes, and only then answers.
 
-ghost use Rattle.std.specs.Prelude.{◌≡◌, ◌<◌, ◌≤◌, ◌++◌, [], List, MatchBool, length, map, vec_capacity};
+ghost use Rattle.std.specs.Prelude.{◌≡◌, ◌<◌, ◌≤◌, ◌++◌, [], List, MatchBool, MatchResult, length, map, vec_capacity};
 ghost use Rattle.crossbeam_queue.specs.Passes.{view};
 ghost use Rattle.semantics.specs.Engine.{Handled as TheHandled};
 ghost use Rattle.semantics.specs.Entries.{IsAbove};
@@ -16,12 +16,16 @@ ghost use Rattle.engine.specs.Turns.{Ends, IsTurn, Shows, WasEmpty, publication_
 
 use command::{Envelope, Taker};
 use handling::Handler;
+use ids::Refusal;
 use items::Reply;
 use published::{EngineName, Notice, Publisher};
 use replica::Replica;
 use std::alloc::Global;
 use std::marker::Model;
 use std::sync::Wait;
+
+#[cfg(test)]
+mod tests;
 
 /// What a step did.
 #[derive(Clone, Copy, Debug, PartialEq, Eq)]
@@ -184,12 +188,29 @@ impl<N: EngineName> Writer<N> {
         ensures positive { 0 < self.new.batch }
     {
         let count = self.held.len();
-        if self.publisher.publish(rt).is_err() {
+        if self.publish_all(rt).is_err() {
             return Step::Held;
         }
+        self.answer_all();
+        Step::Published(count)
+    }
+
+    /// Publishes all entries. `NoMemory` if allocation fails, and then nothing changes.
+    fn publish_all(&mut self, rt: &impl Wait) -> Result<(), Refusal>
+        ensures publishes { MatchResult result (λ _. self.new ≡ record self.old { published = self.old.handler.replica.entries }) (λ _. self.new ≡ self.old) }
+        ensures positive { 0 < self.new.batch }
+    {
+        self.publisher.publish(rt)
+    }
+
+    /// Answers what is held, once all entries are published.
+    fn answer_all(&mut self)
+        requires { self.old.published ≡ self.old.handler.replica.entries }
+        ensures answers { self.new ≡ record self.old { held = [] } }
+        ensures positive { 0 < self.new.batch }
+    {
         let notice = self.publisher.notice();
         give(&mut self.held, &notice);
-        Step::Published(count)
     }
 }
 

@@ -18,6 +18,14 @@ pub struct Figure {
     pub nanos: u64,
 }
 
+/// What the plays did.
+#[derive(Clone, Copy, Debug)]
+pub struct Figures {
+    pub polls: Figure,
+    pub reads: Figure,
+    pub exchange: Figure,
+}
+
 impl Figure {
     /// How many were done in a second, rounded down.
     pub fn a_second(&self) -> u64

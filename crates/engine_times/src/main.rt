@@ -5,7 +5,7 @@ mod figure;
 mod playing;
 mod stage;
 
-use figure::Figure;
+use figure::Figures;
 use playing::play;
 use std::{env, io};
 
@@ -18,8 +18,8 @@ fn main(rt: HostRuntime) -> io::Result<()> {
 }
 
 /// Prints a line for each figure.
-fn report(rt: &HostRuntime, figures: &[Figure], is_timed: bool) -> io::Result<()> {
-    for figure in figures {
+fn report(rt: &HostRuntime, figures: &Figures, is_timed: bool) -> io::Result<()> {
+    for figure in [figures.polls, figures.reads, figures.exchange] {
         let (name, count) = (figure.name, figure.count);
         if is_timed {
             let rate = figure.a_second();

@@ -3,7 +3,7 @@
 ghost use Rattle.std.specs.Prelude.{◌≡◌};
 ghost use Rattle.ids.specs.Members.{in_order};
 
-use crate::figure::{Figure, begin, nanos_since};
+use crate::figure::{Figure, Figures, begin, nanos_since};
 use crate::stage::{Stage, read_until, write_all};
 use engine::{EngineName, Parts, close, open, prepare};
 use ids::{Config, Refusal};
@@ -20,10 +20,7 @@ const OPS: u32 = 1_000;
 ///
 /// # Errors
 /// The refusal of a call: `NoMemory`, `NoReaderPlace`, `NoReading`.
-pub fn play<R: Threads + Wait + Clock + Sync>(
-    rt: &R,
-    alloc: Global,
-) -> Result<[Figure; 3], Refusal> {
+pub fn play<R: Threads + Wait + Clock + Sync>(rt: &R, alloc: Global) -> Result<Figures, Refusal> {
     let one = prepare(alloc, configuration(alloc, 1)?)?;
     let two = prepare(alloc, configuration(alloc, 2)?)?;
     open_one::<Brand, R>(rt, alloc, one, two)
@@ -47,7 +44,7 @@ fn open_one<A: EngineName + Send + Sync, R: Threads + Wait + Clock + Sync>(
     alloc: Global,
     one: Parts,
     two: Parts,
-) -> Result<[Figure; 3], Refusal>
+) -> Result<Figures, Refusal>
     requires book { one.opened.seen.book ≡ A.book }
     requires own { one.config.own ≡ A.own }
     requires table { in_order one.config.members ≡ A.table }
@@ -73,7 +70,7 @@ fn open_two<B: EngineName, A: EngineName + Send + Sync, R: Threads + Wait + Cloc
     alloc: Global,
     one: &mut Stage<A>,
     two: Parts,
-) -> Result<[Figure; 3], Refusal>
+) -> Result<Figures, Refusal>
     requires book { two.opened.seen.book ≡ B.book }
     requires own { two.config.own ≡ B.own }
     requires table { in_order two.config.members ≡ B.table }
@@ -99,12 +96,12 @@ fn play_all<A: EngineName + Send + Sync, B: EngineName, R: Threads + Wait + Cloc
     alloc: Global,
     one: &mut Stage<A>,
     two: &mut Stage<B>,
-) -> Result<[Figure; 3], Refusal> {
-    Ok([
-        submit_to_poll(rt, alloc, one)?,
-        read_beside(rt, alloc, one)?,
-        exchange(rt, alloc, two, one)?,
-    ])
+) -> Result<Figures, Refusal> {
+    Ok(Figures {
+        polls: submit_to_poll(rt, alloc, one)?,
+        reads: read_beside(rt, alloc, one)?,
+        exchange: exchange(rt, alloc, two, one)?,
+    })
 }
 
 /// A client submits, the writer steps, and the client polls, on one thread.

@@ -72,16 +72,22 @@ pub fn read_until<N: EngineName>(
     reader: &mut ReaderToken<N>,
     wanted: usize,
 ) -> Result<(usize, u64), Refusal> {
-    let question = Question::Values(place(alloc)?);
     for reads in 0..MOST_READS {
         if reader.seen_len() >= wanted {
             return Ok((reader.seen_len(), reads));
         }
-        let Reading::Values(_values) = reader.ask(alloc, &question)? else {
-            return Err(Refusal::NoReading);
-        };
+        read(alloc, reader)?;
     }
     Ok((reader.seen_len(), MOST_READS))
+}
+
+/// Reads the value once.
+fn read<N: EngineName>(alloc: Global, reader: &mut ReaderToken<N>) -> Result<(), Refusal> {
+    let question = Question::Values(place(alloc)?);
+    match reader.ask(alloc, &question)? {
+        Reading::Values(_values) => Ok(()),
+        _ => Err(Refusal::NoReading),
+    }
 }
 
 impl<N: EngineName> Stage<'_, N> {
