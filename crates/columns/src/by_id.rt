@@ -140,7 +140,7 @@ fn is_greatest<T>(ids: &IdColumns, beside: &Rings<(ReplicaId, T)>, id: OpId) -> 
 impl<T: Drop> ById<T> {
     /// Puts an entry in its place, where `index` is the place of the id's replica in the table. What stood beside the id goes, if there was something.
     ///
-    /// Takes no memory. A binary search and a move of each entry of a greater id; for the greatest id one comparison and one push.
+    /// Takes no memory. A binary search and one insert into `Rings`; for the greatest id one comparison and one push.
     pub fn put(&mut self, id: OpId, index: usize, value: T)
         requires { 0 < self.old.room }
         ensures entries { self.new.entries ≡ put id_cmp id value self.old.entries }
@@ -151,7 +151,7 @@ impl<T: Drop> ById<T> {
         put_in(&mut self.ids, &mut self.beside, id, index, value);
     }
 
-    /// Takes away the entries whose ids the vector covers. Takes no memory, looks at each entry once, and moves the entries that stay to the front.
+    /// Takes away the entries whose ids the vector covers. Takes no memory, straightens its rings, looks at each entry once, and moves the entries that stay to the front.
     pub fn clear(&mut self, vector: &VersionVector)
         requires { All (λ place. place < length vector.now) self.old.indices }
         ensures kept { zip self.new.entries self.new.indices ≡ filter (λ e. is_uncovered vector.now (e.0.0.counter, e.1)) (zip self.old.entries self.old.indices) }

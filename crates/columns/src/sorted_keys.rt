@@ -96,7 +96,7 @@ impl SortedKeys {
         find_in(&self.keys, &self.order, key, probes)
     }
 
-    /// Puts a key that isn't there, at the place that `find` gives for it. Takes no memory; the number of each key from there on moves.
+    /// Puts a key that isn't there, at the place that `find` gives for it. Takes no memory. One insert into `Rings`.
     pub fn put(&mut self, place: usize, key: Key)
         requires place { GoesTo name_cmp key self.old.keys place }
         requires room { 0 < self.old.room }
