@@ -14,6 +14,7 @@ ghost use Rattle.columns.specs.Entries.{AreEntries, StandBeside, entries_of, ind
 
 use cursor::Tag;
 use ids::{OpId, ReplicaId};
+use rings::Rings;
 use std::alloc::{AllocError, Global};
 use std::cmp::Ordering;
 use std::marker::Model;
@@ -26,7 +27,7 @@ use version::{IdColumns, VersionVector};
 #[derive(Debug, Drop)]
 pub struct ById<T> {
     ids: IdColumns,
-    beside: Vec<(ReplicaId, T)>,
+    beside: Rings<(ReplicaId, T)>,
 }
 
 /// The ids by which something is present at an element, each with the tag as which it is.
@@ -41,7 +42,7 @@ impl<T> Model for ById<T> {
 
     ghost Value = { Entries T };
 
-    ghost view = { λ m. record { entries = entries_of m.ids.ids m.beside.items; indices = indices_of m.ids.ids; room = min m.ids.room (vec_capacity m.beside - vec_len m.beside) } };
+    ghost view = { λ m. record { entries = entries_of m.ids.ids m.beside.items; indices = indices_of m.ids.ids; room = min m.ids.room m.beside.room } };
 
     ghost invariant = { λ m. AreEntries m.ids.ids m.beside.items };
 }
@@ -53,7 +54,7 @@ impl<T> ById<T> {
     {
         ById {
             ids: IdColumns::new(alloc),
-            beside: Vec::new(alloc),
+            beside: Rings::new(alloc),
         }
     }
 
@@ -71,7 +72,10 @@ impl<T> ById<T> {
         requires { place < length self.now.entries }
         ensures { slice_get self.now.entries place ≡ Some (result.0, result.1.now) }
     {
-        (id_at(&self.ids, &self.beside, place), &self.beside[place].1)
+        (
+            id_at(&self.ids, &self.beside, place),
+            &self.beside.get(place).1,
+        )
     }
 
     /// Makes room for one more entry.
@@ -85,25 +89,25 @@ impl<T> ById<T> {
         ensures kept { self.old.room ≤ self.new.room }
     {
         self.ids.reserve_one()?;
-        self.beside.reserve(1)
+        self.beside.reserve_one()
     }
 }
 
 /// The id at a place.
-fn id_at<T>(ids: &IdColumns, beside: &[(ReplicaId, T)], place: usize) -> OpId
-    requires long { length beside.now ≡ length ids.now.ids }
-    requires within { place < length beside.now }
-    ensures { (d : TheId) → slice_index_or (keys_of (entries_of ids.now.ids beside.now)) place d ≡ result }
+fn id_at<T>(ids: &IdColumns, beside: &Rings<(ReplicaId, T)>, place: usize) -> OpId
+    requires long { length beside.now.items ≡ length ids.now.ids }
+    requires within { place < length beside.now.items }
+    ensures { (d : TheId) → slice_index_or (keys_of (entries_of ids.now.ids beside.now.items)) place d ≡ result }
 {
     let (counter, _) = ids.at(place);
-    let replica = beside[place].0;
+    let replica = beside.get(place).0;
     OpId { counter, replica }
 }
 
 /// The place of an id, or the one to which it goes. One comparison where it goes to the end, otherwise a binary search.
-fn find_id<T>(ids: &IdColumns, beside: &[(ReplicaId, T)], id: OpId) -> Result<usize, usize>
-    requires { AreEntries ids.now.ids beside.now }
-    ensures { MatchResult result (StandsAt id_cmp id (keys_of (entries_of ids.now.ids beside.now))) (GoesTo id_cmp id (keys_of (entries_of ids.now.ids beside.now))) }
+fn find_id<T>(ids: &IdColumns, beside: &Rings<(ReplicaId, T)>, id: OpId) -> Result<usize, usize>
+    requires { AreEntries ids.now.ids beside.now.items }
+    ensures { MatchResult result (StandsAt id_cmp id (keys_of (entries_of ids.now.ids beside.now.items))) (GoesTo id_cmp id (keys_of (entries_of ids.now.ids beside.now.items))) }
 {
     if is_greatest(ids, beside, id) {
         return Err(beside.len());
@@ -122,9 +126,9 @@ fn find_id<T>(ids: &IdColumns, beside: &[(ReplicaId, T)], id: OpId) -> Result<us
 }
 
 /// Whether the id is greater than all.
-fn is_greatest<T>(ids: &IdColumns, beside: &[(ReplicaId, T)], id: OpId) -> bool
-    requires { AreEntries ids.now.ids beside.now }
-    ensures { IsTrue result ↔ GoesTo id_cmp id (keys_of (entries_of ids.now.ids beside.now)) (length beside.now) }
+fn is_greatest<T>(ids: &IdColumns, beside: &Rings<(ReplicaId, T)>, id: OpId) -> bool
+    requires { AreEntries ids.now.ids beside.now.items }
+    ensures { IsTrue result ↔ GoesTo id_cmp id (keys_of (entries_of ids.now.ids beside.now.items)) (length beside.now.items) }
 {
     let count = beside.len();
     if count == 0 {
@@ -136,7 +140,7 @@ fn is_greatest<T>(ids: &IdColumns, beside: &[(ReplicaId, T)], id: OpId) -> bool
 impl<T: Drop> ById<T> {
     /// Puts an entry in its place, where `index` is the place of the id's replica in the table. What stood beside the id goes, if there was something.
     ///
-    /// Takes no memory. A binary search and a move of each entry of a greater id; for the greatest id one comparison and one push.
+    /// Takes no memory. A binary search and one insert into `Rings`; for the greatest id one comparison and one push.
     pub fn put(&mut self, id: OpId, index: usize, value: T)
         requires { 0 < self.old.room }
         ensures entries { self.new.entries ≡ put id_cmp id value self.old.entries }
@@ -147,7 +151,7 @@ impl<T: Drop> ById<T> {
         put_in(&mut self.ids, &mut self.beside, id, index, value);
     }
 
-    /// Takes away the entries whose ids the vector covers. Takes no memory, looks at each entry once, and moves the entries that stay to the front.
+    /// Takes away the entries whose ids the vector covers. Takes no memory, straightens its rings, looks at each entry once, and moves the entries that stay to the front.
     pub fn clear(&mut self, vector: &VersionVector)
         requires { All (λ place. place < length vector.now) self.old.indices }
         ensures kept { zip self.new.entries self.new.indices ≡ filter (λ e. is_uncovered vector.now (e.0.0.counter, e.1)) (zip self.old.entries self.old.indices) }
@@ -162,27 +166,28 @@ impl<T: Drop> ById<T> {
 /// Puts an entry in its place. What stood beside the id goes, if there was something.
 fn put_in<T: Drop>(
     ids: &mut IdColumns,
-    beside: &mut Vec<(ReplicaId, T)>,
+    beside: &mut Rings<(ReplicaId, T)>,
     id: OpId,
     index: usize,
     value: T,
 )
     requires entries { AreEntries ids.old.ids beside.old.items }
     requires room_for_the_id { 0 < ids.old.room }
-    requires room_beside { vec_len beside.old < vec_capacity beside.old }
+    requires room_beside { 0 < beside.old.room }
     ensures entries { entries_of ids.new.ids beside.new.items ≡ put id_cmp id value (entries_of ids.old.ids beside.old.items) }
     ensures indices { indices_of ids.new.ids ≡ put_index id index (keys_of (entries_of ids.old.ids beside.old.items)) (indices_of ids.old.ids) }
     ensures long { length beside.new.items ≡ length ids.new.ids }
-    ensures one_more { vec_len beside.new ≤ vec_len beside.old + 1 }
     ensures room { ids.old.room ≤ ids.new.room + 1 }
-    ensures capacity { vec_capacity beside.new ≡ vec_capacity beside.old }
+    ensures room_beside { beside.old.room ≤ beside.new.room + 1 }
 {
     let OpId { counter, replica } = id;
     match find_id(ids, beside, id) {
-        Ok(place) => beside[place] = (replica, value),
+        Ok(place) => {
+            let _ = beside.replace(place, (replica, value));
+        }
         Err(place) => {
             ids.insert(place, counter, index);
-            let _ = beside.insert(place, (replica, value));
+            beside.insert(place, (replica, value));
         }
     }
 }

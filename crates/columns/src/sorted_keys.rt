@@ -7,6 +7,7 @@ ghost use Rattle.semantics.specs.Elements.{Name, name_cmp};
 ghost use Rattle.columns.specs.Keys.{AreNumbers, AreOrdered, numbered};
 ghost use Rattle.columns.specs.Rank.{GoesTo, as_set, rank};
 
+use rings::Rings;
 use std::alloc::{AllocError, Global};
 use std::cmp::Ordering;
 use std::marker::Model;
@@ -20,7 +21,7 @@ pub struct SortedKeys {
     /// As they were put.
     keys: Vec<Key>,
     /// The number of the key at each place in byte order.
-    order: Vec<usize>,
+    order: Rings<usize>,
 }
 
 impl Model for SortedKeys {
@@ -29,7 +30,7 @@ impl Model for SortedKeys {
 
     ghost Value = { Keys };
 
-    ghost view = { λ k. record { keys = numbered [] k.keys.items k.order.items; numbers = k.order.items; room = min (vec_capacity k.keys - vec_len k.keys) (vec_capacity k.order - vec_len k.order) } };
+    ghost view = { λ k. record { keys = numbered [] k.keys.items k.order.items; numbers = k.order.items; room = min (vec_capacity k.keys - vec_len k.keys) k.order.room } };
 
     ghost invariant = { λ k. AreOrdered k.keys.items k.order.items };
 }
@@ -41,7 +42,7 @@ impl SortedKeys {
     {
         SortedKeys {
             keys: Vec::new(alloc),
-            order: Vec::new(alloc),
+            order: Rings::new(alloc),
         }
     }
 
@@ -67,7 +68,7 @@ impl SortedKeys {
         ensures number { slice_get self.now.numbers place ≡ Some result }
         ensures numbers { AreNumbers (length self.now.keys) self.now.numbers }
     {
-        self.order[place]
+        *self.order.get(place)
     }
 
     /// Makes room for one more key.
@@ -81,7 +82,7 @@ impl SortedKeys {
         ensures kept { self.old.room ≤ self.new.room }
     {
         self.keys.reserve(1)?;
-        self.order.reserve(1)
+        self.order.reserve_one()
     }
 
     /// The place of a key, or the one to which it goes. A binary search, which compares the key with at most as many as the number of keys has binary digits: n has at most k where n is below 2 to the k. Each comparison adds 1 to `probes`.
@@ -95,7 +96,7 @@ impl SortedKeys {
         find_in(&self.keys, &self.order, key, probes)
     }
 
-    /// Puts a key that isn't there, at the place that `find` gives for it. Takes no memory; the number of each key from there on moves.
+    /// Puts a key that isn't there, at the place that `find` gives for it. Takes no memory. One insert into `Rings`.
     pub fn put(&mut self, place: usize, key: Key)
         requires place { GoesTo name_cmp key self.old.keys place }
         requires room { 0 < self.old.room }
@@ -104,29 +105,29 @@ impl SortedKeys {
         ensures numbers { self.new.numbers ≡ insert self.old.numbers place (length self.old.keys) }
         ensures room { self.old.room ≤ self.new.room + 1 }
     {
-        let _ = self.order.insert(place, self.keys.len());
+        self.order.insert(place, self.keys.len());
         self.keys.push_reserved(key);
     }
 }
 
 /// The key at a place in byte order.
-fn key_at<'a>(keys: &'a [Key], order: &[usize], place: usize) -> &'a Key
-    requires numbers { AreNumbers (length keys.now) order.now }
-    requires within { place < length order.now }
-    ensures { (d : Name) → slice_index_or (numbered [] keys.now order.now) place d ≡ result.now }
+fn key_at<'a>(keys: &'a [Key], order: &Rings<usize>, place: usize) -> &'a Key
+    requires numbers { AreNumbers (length keys.now) order.now.items }
+    requires within { place < length order.now.items }
+    ensures { (d : Name) → slice_index_or (numbered [] keys.now order.now.items) place d ≡ result.now }
 {
-    &keys[order[place]]
+    &keys[*order.get(place)]
 }
 
 /// The place of a key, or the one to which it goes. Binary search.
-fn find_in(keys: &[Key], order: &[usize], key: &Key, probes: &mut u64) -> Result<usize, usize>
-    requires ordered { AreOrdered keys.now order.now }
-    requires fits { length order.now < 2 ^ 64 }
+fn find_in(keys: &[Key], order: &Rings<usize>, key: &Key, probes: &mut u64) -> Result<usize, usize>
+    requires ordered { AreOrdered keys.now order.now.items }
+    requires fits { length order.now.items < 2 ^ 64 }
     requires probes { probes.old ≤ 18446744073709551551 }
-    ensures place { let sorted = numbered [] keys.now order.now in
+    ensures place { let sorted = numbered [] keys.now order.now.items in
         MatchResult result (λ place. (slice_get sorted place ≡ Some key.now) × (place ≡ rank name_cmp key.now sorted)) (GoesTo name_cmp key.now sorted) }
-    ensures few_probes { (k : ℕ) → length order.now < 2 ^ k → probes.new ≤ probes.old + k }
-    ensures any_probe { 0 < length order.now → probes.old < probes.new }
+    ensures few_probes { (k : ℕ) → length order.now.items < 2 ^ k → probes.new ≤ probes.old + k }
+    ensures any_probe { 0 < length order.now.items → probes.old < probes.new }
     ensures counted { probes.old ≤ probes.new }
 {
     let mut low = 0;

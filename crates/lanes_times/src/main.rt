@@ -1,7 +1,8 @@
-//! Compares each kernel with its plain twin: their answers, and by the word `time` their times.
+//! Compares each kernel with its plain twin, and rings with a vector: what they answer, and by the word `time` their times.
 #![tactic(auto)]
 
 mod agreement;
+mod inserts;
 mod kernel;
 mod numbers;
 mod plain;
@@ -11,8 +12,10 @@ use std::{env, io};
 
 fn main(rt: HostRuntime) -> io::Result<()> {
     agreement::report(&rt, rt.alloc())?;
+    inserts::compare(&rt, rt.alloc())?;
     if is_time_asked(&rt)? {
         times::report(&rt, rt.alloc())?;
+        inserts::report(&rt, rt.alloc())?;
     }
     Ok(())
 }

@@ -7,6 +7,7 @@ ghost use Rattle.version.specs.Columns.{AreBeside, uncovered, first_bits};
 
 use crate::marks::keep_marked;
 use crate::vector::VersionVector;
+use rings::Rings;
 use std::alloc::{AllocError, Global};
 use std::marker::Model;
 
@@ -15,8 +16,8 @@ use std::marker::Model;
 /// Contracts see the ids, and how many more fit without memory.
 #[derive(Debug, Drop)]
 pub struct IdColumns {
-    counters: Vec<u64>,
-    indices: Vec<usize>,
+    counters: Rings<u64>,
+    indices: Rings<usize>,
     bounds: Vec<u64>,
     mask: Vec<u64>,
 }
@@ -28,7 +29,7 @@ impl Model for IdColumns {
 
     ghost Value = { Columns };
 
-    ghost view = { λ c. record { ids = zip c.counters.items c.indices.items; room = min (min (vec_capacity c.counters - vec_len c.counters) (vec_capacity c.indices - vec_len c.indices)) (min (vec_capacity c.bounds - vec_len c.bounds) (vec_capacity c.mask - vec_len c.mask)) } };
+    ghost view = { λ c. record { ids = zip c.counters.items c.indices.items; room = min (min c.counters.room c.indices.room) (min (vec_capacity c.bounds - vec_len c.bounds) (vec_capacity c.mask - vec_len c.mask)) } };
 
     ghost invariant = { λ c. AreBeside c.counters.items c.indices.items c.bounds.items c.mask.items };
 }
@@ -38,8 +39,8 @@ impl IdColumns {
         ensures { result.ids ≡ [] }
     {
         IdColumns {
-            counters: Vec::new(alloc),
-            indices: Vec::new(alloc),
+            counters: Rings::new(alloc),
+            indices: Rings::new(alloc),
             bounds: Vec::new(alloc),
             mask: Vec::new(alloc),
         }
@@ -57,7 +58,7 @@ impl IdColumns {
         requires { place < length self.now.ids }
         ensures { slice_get self.now.ids place ≡ Some result }
     {
-        (self.counters[place], self.indices[place])
+        (*self.counters.get(place), *self.indices.get(place))
     }
 
     /// Makes room for one more id.
@@ -69,22 +70,21 @@ impl IdColumns {
         ensures room { OnOk result (0 < self.new.room) }
         ensures kept { self.old.room ≤ self.new.room }
     {
-        self.counters.reserve(1)?;
-        self.indices.reserve(1)?;
+        self.counters.reserve_one()?;
+        self.indices.reserve_one()?;
         self.bounds.reserve(1)?;
         self.mask.reserve(1)
     }
 
-    /// Puts an id at a place. Takes no memory; each id from there on moves, so at the end it is one push.
+    /// Puts an id at a place. Takes no memory. Costs what an insert into `Rings` does, so at the end it is one push.
     pub fn insert(&mut self, place: usize, counter: u64, index: usize)
         requires within { place ≤ length self.old.ids }
         requires room { 0 < self.old.room }
         ensures ids { self.new.ids ≡ insert self.old.ids place (counter, index) }
         ensures room { self.old.room ≤ self.new.room + 1 }
     {
-        // There is room, so neither is refused.
-        let _ = self.counters.insert(place, counter);
-        let _ = self.indices.insert(place, index);
+        self.counters.insert(place, counter);
+        self.indices.insert(place, index);
         self.bounds.push_reserved(0);
         if self.mask.len() < self.counters.len().div_ceil(64) {
             self.mask.push_reserved(0);
@@ -99,10 +99,12 @@ impl VersionVector {
         ensures ids { ids.new.ids ≡ items_where_true (uncovered self.now ids.old.ids) ids.old.ids }
         ensures room { ids.old.room ≤ ids.new.room }
     {
+        ids.counters.straighten();
+        ids.indices.straighten();
         mark_uncovered(
             self,
-            &ids.counters,
-            &ids.indices,
+            ids.counters.as_slice(),
+            ids.indices.as_slice(),
             &mut ids.bounds,
             &mut ids.mask,
         );
@@ -115,18 +117,20 @@ impl VersionVector {
     }
 
     /// Keeps, in order, the ids that the vector doesn't cover, and what stands beside them. Takes no memory.
-    pub fn keep_uncovered_beside<T: Drop>(&self, ids: &mut IdColumns, beside: &mut Vec<T>)
+    pub fn keep_uncovered_beside<T: Drop>(&self, ids: &mut IdColumns, beside: &mut Rings<T>)
         requires within { All (λ id. id.1 < length self.now) ids.old.ids }
-        requires length { vec_len beside.old ≡ length ids.old.ids }
+        requires length { length beside.old.items ≡ length ids.old.ids }
         ensures ids { ids.new.ids ≡ items_where_true (uncovered self.now ids.old.ids) ids.old.ids }
         ensures beside { beside.new.items ≡ items_where_true (uncovered self.now ids.old.ids) beside.old.items }
         ensures room { ids.old.room ≤ ids.new.room }
-        ensures capacity { vec_capacity beside.new ≡ vec_capacity beside.old }
+        ensures room_beside { beside.old.room ≤ beside.new.room }
     {
+        ids.counters.straighten();
+        ids.indices.straighten();
         mark_uncovered(
             self,
-            &ids.counters,
-            &ids.indices,
+            ids.counters.as_slice(),
+            ids.indices.as_slice(),
             &mut ids.bounds,
             &mut ids.mask,
         );
@@ -164,17 +168,17 @@ fn mark_uncovered(
 
 /// Keeps, in order, the ids whose bits are set.
 fn keep_ids(
-    counters: &mut Vec<u64>,
-    indices: &mut Vec<usize>,
+    counters: &mut Rings<u64>,
+    indices: &mut Rings<usize>,
     bounds: &mut Vec<u64>,
     mask: &mut Vec<u64>,
 )
     requires { AreBeside counters.old.items indices.old.items bounds.old.items mask.old.items }
     ensures ids { zip counters.new.items indices.new.items ≡ items_where_true (first_bits mask.old.items (length counters.old.items)) (zip counters.old.items indices.old.items) }
     ensures beside { AreBeside counters.new.items indices.new.items bounds.new.items mask.new.items }
-    ensures few { vec_len counters.new ≤ vec_len counters.old }
-    ensures capacity_of_counters { vec_capacity counters.new ≡ vec_capacity counters.old }
-    ensures capacity_of_indices { vec_capacity indices.new ≡ vec_capacity indices.old }
+    ensures few { length counters.new.items ≤ length counters.old.items }
+    ensures capacity_of_counters { counters.old.room ≤ counters.new.room }
+    ensures capacity_of_indices { indices.old.room ≤ indices.new.room }
     ensures capacity_of_bounds { vec_capacity bounds.new ≡ vec_capacity bounds.old }
     ensures capacity_of_mask { vec_capacity mask.new ≡ vec_capacity mask.old }
 {

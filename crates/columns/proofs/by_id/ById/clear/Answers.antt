@@ -73,11 +73,7 @@ returns-clause-beside g c table stand =
 pub returns-clause-room : goal.returns-clause-room
 returns-clause-room g c =
     let d = c.self.inside in
-    let old : c.args.self.now.room ≡ min d.ids.room (vec_capacity d.beside - vec_len d.beside) = ap (λ (m : Entries g.row.T.Denot). m.room) (sym c.self.view_is) in
-    let new = c.keep_uncovered_beside.new.beside in
-    let few : length new.items ≤ length d.beside.items = subst (λ (xs : List (ℕ × g.row.T.Denot)). length xs ≤ length d.beside.items) (sym c.keep_uncovered_beside.ensures.beside) (few-items_where_true (uncovered c.args.vector.now d.ids.ids) d.beside.items) in
-    let long : vec_len new ≡ length new.items = search rules in
-    let old_long : vec_len d.beside ≡ length d.beside.items = search rules in
-    let capacity = c.keep_uncovered_beside.ensures.capacity in
+    let old : c.args.self.now.room ≡ min d.ids.room d.beside.room = ap (λ (m : Entries g.row.T.Denot). m.room) (sym c.self.view_is) in
+    let beside = c.keep_uncovered_beside.ensures.room_beside in
     let room = c.keep_uncovered_beside.ensures.room in
     omega arith

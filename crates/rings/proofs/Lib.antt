@@ -1,0 +1,5 @@
+-- Lists in rings.
+pub mod Straight
+pub mod Slots
+pub mod Turned
+pub mod Pushed

@@ -1,0 +1,19 @@
+use Rattle.std.proofs.Common.{rules, ◌≡◌, ◌<◌, ◌≤◌, ◌+◌, ◌*◌, ◌/◌, ◌%◌, ◌∙◌, ℕ, length, get_or, sym, ap, subst, arith}
+use Rattle.rings.specs.Rings.{IsSlot}
+use Rattle.rings.proofs.Straight.{IsWrapped}
+use Rattle.rings.proofs.Slots.{goes_round}
+use Rattle.rings.proofs.rings.slot_of.Goals as goal
+
+pub returns : goal.returns
+returns c =
+    let starts = c.args.starts.now in
+    let position = c.args.position in
+    let before : position / 512 < length starts = search rules in
+    record {
+      inside = λ k o kl ol e.
+          let same_k : position / 512 ≡ k = omega (arith, e, ol) in
+          let same_o : position % 512 ≡ o = omega (arith, e, ol) in
+          let round = goes_round (get_or starts k 0) o (c.requires k 0 kl) ol in
+          ((get_or starts k 0 + o) % 512, round.0, round.1, λ t. same_k t * 512 + (get_or starts (same_k t) 0 + same_o t) % 512);
+      past = λ ge. absurd (omega (arith, ge, before));
+    }

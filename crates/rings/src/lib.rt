@@ -1,0 +1,8 @@
+//! A list that is read at any position in constant time, and that takes an item at any position at little cost, also among a million.
+#![tactic(auto)]
+
+mod rings;
+#[cfg(test)]
+mod tests;
+
+pub use rings::Rings;

@@ -1,0 +1,351 @@
+//! A list whose items lie in rings, and the moves that keep them there.
+
+ghost use Rattle.std.specs.Prelude.{◌≡◌, ◌<◌, ◌≤◌, ◌+◌, ◌*◌, ◌/◌, ◌++◌, ◌∷◌, [], length, Some, slice_get, slice_index_or, slice_set, take, IsTrue, OnOk, vec_len, vec_capacity};
+ghost use Rattle.std.specs.List.{All, insert};
+ghost use Rattle.rings.specs.Rings.{AreRings, IsClosed, IsSlot, are_zero, straight, turned};
+
+use std::alloc::{AllocError, Global};
+use std::marker::Model;
+use std::mem::replace;
+
+/// How many slots a ring has.
+const RING: usize = 512;
+
+/// A list that stays fast at a million items: one is read at any position in constant time, and one that goes in moves at most those of its own ring and one of each later ring.
+///
+/// All items stand in one vector: first the full rings of 512 slots, each of which begins at one of its slots and goes round, and then fewer than 512 items in their order. So a list below 512 items is a vector. Contracts see the items, how many more fit without memory, and whether all rings begin at their first slots.
+#[derive(Debug, Drop)]
+pub struct Rings<T> {
+    slots: Vec<T>,
+    /// Of each full ring, the slot in which it begins.
+    starts: Vec<usize>,
+}
+
+impl<T> Model for Rings<T> {
+    ghost use Rattle.std.specs.Prelude.{min, ◌-◌, ◌+◌, ◌*◌, length, vec_len, vec_capacity};
+    ghost use Rattle.rings.specs.Rings.{AreRings, Sequence, are_zero, straight};
+
+    ghost Value = { Sequence T };
+
+    ghost view = { λ r. record { items = straight 512 r.starts.items r.slots.items; room = min (vec_capacity r.slots - vec_len r.slots) (vec_capacity r.starts * 512 + 511 - vec_len r.slots); is_straight = are_zero r.starts.items } };
+
+    ghost invariant = { λ r. AreRings 512 r.starts.items (length r.slots.items) };
+}
+
+impl<T> Rings<T> {
+    /// Returns an empty list. Takes no memory.
+    pub fn new(alloc: Global) -> Rings<T>
+        ensures { result.items ≡ [] }
+    {
+        Rings {
+            slots: Vec::new(alloc),
+            starts: Vec::new(alloc),
+        }
+    }
+
+    /// Returns how many items there are.
+    pub fn len(&self) -> usize
+        ensures { result ≡ length self.now.items }
+    {
+        self.slots.len()
+    }
+
+    /// Returns the item at this position, in constant time.
+    pub fn get(&self, position: usize) -> &T
+        requires { position < length self.now.items }
+        ensures { slice_get self.now.items position ≡ Some result.now }
+    {
+        item(&self.slots, &self.starts, position)
+    }
+
+    /// Puts the value where another item stands, in constant time, and returns that item.
+    pub fn replace(&mut self, position: usize, value: T) -> T
+        requires { position < length self.old.items }
+        ensures items { self.new.items ≡ slice_set self.old.items position value }
+        ensures value { slice_get self.old.items position ≡ Some result }
+        ensures room { self.new.room ≡ self.old.room }
+    {
+        write(&mut self.slots, &self.starts, position, value)
+    }
+
+    /// Makes room for one more item.
+    ///
+    /// # Errors
+    /// Returns `AllocError` if allocation fails; the items stay as they are.
+    pub fn reserve_one(&mut self) -> Result<(), AllocError>
+        ensures same { self.new.items ≡ self.old.items }
+        ensures room { OnOk result (0 < self.new.room) }
+        ensures kept { self.old.room ≤ self.new.room }
+    {
+        self.slots.reserve(1)?;
+        if self.slots.len() % RING == RING - 1 {
+            self.starts.reserve(1)?;
+        }
+        Ok(())
+    }
+
+    /// Swaps the items at two positions, in constant time.
+    pub fn swap(&mut self, a: usize, b: usize)
+        requires a { a < length self.old.items }
+        requires b { b < length self.old.items }
+        ensures items { (d : T) → self.new.items ≡ slice_set (slice_set self.old.items a (slice_index_or self.old.items b d)) b (slice_index_or self.old.items a d) }
+        ensures room { self.new.room ≡ self.old.room }
+    {
+        swap_in(&mut self.slots, &self.starts, a, b);
+    }
+
+    /// Moves the items so that `as_slice` can return them as one slice. Takes no memory. Costs one move of each ring that doesn't begin at its first slot.
+    pub fn straighten(&mut self)
+        ensures items { self.new.items ≡ self.old.items }
+        ensures room { self.new.room ≡ self.old.room }
+        ensures straight { IsTrue self.new.is_straight }
+    {
+        straighten_all(&mut self.slots, &mut self.starts);
+    }
+
+    /// Returns all items as one slice, once they are straightened.
+    pub fn as_slice(&self) -> &[T]
+        requires { IsTrue self.now.is_straight }
+        ensures { result.now ≡ self.now.items }
+    {
+        &self.slots
+    }
+}
+
+impl<T: Drop> Rings<T> {
+    /// Keeps this many items and drops those behind them. Takes no memory; all rings are straightened first.
+    pub fn truncate(&mut self, count: usize)
+        ensures items { self.new.items ≡ take count self.old.items }
+        ensures room { self.old.room ≤ self.new.room }
+    {
+        straighten_all(&mut self.slots, &mut self.starts);
+        truncate_in(&mut self.slots, &mut self.starts, count);
+    }
+
+    /// Puts an item at this position; those from there on come one later. Takes no memory. Moves those behind it in its ring at once, and one item of each later ring.
+    pub fn insert(&mut self, position: usize, value: T)
+        requires within { position ≤ length self.old.items }
+        requires room { 0 < self.old.room }
+        ensures items { self.new.items ≡ insert self.old.items position value }
+        ensures room { self.old.room ≤ self.new.room + 1 }
+    {
+        insert_in(&mut self.slots, &mut self.starts, position, value);
+    }
+}
+
+/// Returns the slot of a position.
+fn slot_of(starts: &[usize], position: usize) -> usize
+    requires { All (λ s. s < 512) starts.now }
+    ensures { IsSlot 512 starts.now position result }
+{
+    let ring = position / RING;
+    if ring >= starts.len() {
+        return position;
+    }
+    ring * RING + (starts[ring] + position % RING) % RING
+}
+
+/// Returns the item at a position.
+fn item<'a, T>(slots: &'a [T], starts: &[usize], position: usize) -> &'a T
+    requires rings { AreRings 512 starts.now (length slots.now) }
+    requires within { position < length slots.now }
+    ensures { slice_get (straight 512 starts.now slots.now) position ≡ Some result.now }
+{
+    &slots[slot_of(starts, position)]
+}
+
+/// Puts the value where another item stands, and returns that item.
+fn write<T>(slots: &mut [T], starts: &[usize], position: usize, value: T) -> T
+    requires rings { AreRings 512 starts.now (length slots.old) }
+    requires within { position < length slots.old }
+    ensures items { straight 512 starts.now slots.new ≡ slice_set (straight 512 starts.now slots.old) position value }
+    ensures value { slice_get (straight 512 starts.now slots.old) position ≡ Some result }
+    ensures length { length slots.new ≡ length slots.old }
+{
+    let slot = slot_of(starts, position);
+    replace(&mut slots[slot], value)
+}
+
+/// Turns a ring back by one slot, so that the value comes first. Returns its last item, which falls out.
+fn turn<T>(slots: &mut [T], starts: &mut [usize], ring: usize, value: T) -> T
+    requires within { All (λ s. s < 512) starts.old }
+    requires full { length starts.old * 512 ≤ length slots.old }
+    requires ring { ring < length starts.old }
+    ensures items { insert (straight 512 starts.new slots.new) (ring * 512 + 512) result ≡ insert (straight 512 starts.old slots.old) (ring * 512) value }
+    ensures within { All (λ s. s < 512) starts.new }
+    ensures starts { length starts.new ≡ length starts.old }
+    ensures slots { length slots.new ≡ length slots.old }
+{
+    let start = starts[ring];
+    let before = if start == 0 { RING - 1 } else { start - 1 };
+    starts[ring] = before;
+    replace(&mut slots[ring * RING + before], value)
+}
+
+/// Moves each item one slot on and puts the value into the first, by one move of memory. Returns the item that falls out at the end: the value, where there are no slots.
+fn push_front<T>(items: &mut [T], value: T) -> T
+    ensures { items.new ++ result ∷ [] ≡ value ∷ items.old }
+{
+    if items.is_empty() {
+        return value;
+    }
+    items.rotate_right(1);
+    replace(&mut items[0], value)
+}
+
+/// Puts an item at a position of a ring, by one move of memory, or two where those behind it go round. Returns the ring's last item, which falls out.
+fn push_into<T>(ring: &mut [T], start: usize, position: usize, value: T) -> T
+    requires start { start ≤ length ring.old }
+    requires position { position ≤ length ring.old }
+    ensures items { turned start ring.new ++ result ∷ [] ≡ insert (turned start ring.old) position value }
+    ensures length { length ring.new ≡ length ring.old }
+{
+    let (back, front) = ring.split_at_mut(start);
+    let count = front.len();
+    if position < count {
+        let carried = push_front(&mut front[position..], value);
+        return push_front(back, carried);
+    }
+    push_front(&mut back[position - count..], value)
+}
+
+/// Puts an item at a position that lies in a ring. Returns that ring's last item, which falls out.
+fn push_at<T>(slots: &mut [T], starts: &[usize], position: usize, value: T) -> T
+    requires rings { AreRings 512 starts.now (length slots.old) }
+    requires position { position < length starts.now * 512 }
+    ensures items { insert (straight 512 starts.now slots.new) (position / 512 * 512 + 512) result ≡ insert (straight 512 starts.now slots.old) position value }
+    ensures slots { length slots.new ≡ length slots.old }
+{
+    let ring = position / RING;
+    let first = ring * RING;
+    push_into(
+        &mut slots[first..first + RING],
+        starts[ring],
+        position % RING,
+        value,
+    )
+}
+
+/// Puts an item at a position that lies in a ring. Each ring from there on passes its last item on to the next; returns that of the last ring.
+fn carry<T>(slots: &mut [T], starts: &mut [usize], position: usize, value: T) -> T
+    requires rings { AreRings 512 starts.old (length slots.old) }
+    requires position { position < length starts.old * 512 }
+    ensures items { insert (straight 512 starts.new slots.new) (length starts.old * 512) result ≡ insert (straight 512 starts.old slots.old) position value }
+    ensures within { All (λ s. s < 512) starts.new }
+    ensures starts { length starts.new ≡ length starts.old }
+    ensures slots { length slots.new ≡ length slots.old }
+{
+    let mut carried = push_at(slots, starts, position, value);
+    for ring in position / RING + 1..starts.len() {
+        carried = turn(slots, starts, ring, carried);
+    }
+    carried
+}
+
+/// Lets the rings from a position on take the value, and returns which item is then left and where it goes behind the rings.
+fn make_way<T>(slots: &mut [T], starts: &mut [usize], position: usize, value: T) -> (usize, T)
+    requires rings { AreRings 512 starts.old (length slots.old) }
+    requires position { position ≤ length slots.old }
+    ensures items { insert (straight 512 starts.new slots.new) result.0 result.1 ≡ insert (straight 512 starts.old slots.old) position value }
+    ensures behind { length starts.old * 512 ≤ result.0 }
+    ensures position { result.0 ≤ length slots.old }
+    ensures within { All (λ s. s < 512) starts.new }
+    ensures starts { length starts.new ≡ length starts.old }
+    ensures slots { length slots.new ≡ length slots.old }
+{
+    let full = starts.len() * RING;
+    if position >= full {
+        return (position, value);
+    }
+    let last = carry(slots, starts, position, value);
+    (full, last)
+}
+
+/// Makes a ring of the items behind the rings if they fill one.
+fn close_ring(starts: &mut Vec<usize>, count: usize)
+    requires within { All (λ s. s < 512) starts.old.items }
+    requires full { length starts.old.items * 512 ≤ count }
+    requires rest { count ≤ length starts.old.items * 512 + 512 }
+    requires room { count ≤ vec_capacity starts.old * 512 + 511 }
+    ensures closed { IsClosed 512 starts.old.items starts.new.items count }
+    ensures rings { AreRings 512 starts.new.items count }
+    ensures capacity { vec_capacity starts.new ≡ vec_capacity starts.old }
+{
+    if count - starts.len() * RING == RING {
+        starts.push_reserved(0);
+    }
+}
+
+/// Puts an item at a position. Takes no memory.
+fn insert_in<T: Drop>(slots: &mut Vec<T>, starts: &mut Vec<usize>, position: usize, value: T)
+    requires rings { AreRings 512 starts.old.items (length slots.old.items) }
+    requires within { position ≤ length slots.old.items }
+    requires room { vec_len slots.old < vec_capacity slots.old }
+    requires room_for_start { vec_len slots.old < vec_capacity starts.old * 512 + 511 }
+    ensures items { straight 512 starts.new.items slots.new.items ≡ insert (straight 512 starts.old.items slots.old.items) position value }
+    ensures rings { AreRings 512 starts.new.items (length slots.new.items) }
+    ensures length { vec_len slots.new ≡ vec_len slots.old + 1 }
+    ensures slots { vec_capacity slots.new ≡ vec_capacity slots.old }
+    ensures starts { vec_capacity starts.new ≡ vec_capacity starts.old }
+{
+    let (at, item) = make_way(slots, starts, position, value);
+    // There is room, so it isn't refused.
+    let _ = slots.insert(at, item);
+    close_ring(starts, slots.len());
+}
+
+/// Swaps the items at two positions.
+fn swap_in<T>(slots: &mut [T], starts: &[usize], a: usize, b: usize)
+    requires rings { AreRings 512 starts.now (length slots.old) }
+    requires a { a < length slots.old }
+    requires b { b < length slots.old }
+    ensures items { (d : T) → straight 512 starts.now slots.new ≡ slice_set (slice_set (straight 512 starts.now slots.old) a (slice_index_or (straight 512 starts.now slots.old) b d)) b (slice_index_or (straight 512 starts.now slots.old) a d) }
+    ensures length { length slots.new ≡ length slots.old }
+{
+    let first = slot_of(starts, a);
+    let second = slot_of(starts, b);
+    slots.swap(first, second);
+}
+
+/// Turns a ring so that it begins at its first slot.
+fn straighten_ring<T>(slots: &mut [T], starts: &mut [usize], ring: usize)
+    requires within { All (λ s. s < 512) starts.old }
+    requires full { length starts.old * 512 ≤ length slots.old }
+    requires ring { ring < length starts.old }
+    ensures same { straight 512 starts.new slots.new ≡ straight 512 starts.old slots.old }
+    ensures starts { starts.new ≡ slice_set starts.old ring 0 }
+    ensures length { length slots.new ≡ length slots.old }
+{
+    let first = ring * RING;
+    let start = starts[ring];
+    slots[first..first + RING].rotate_left(start);
+    starts[ring] = 0;
+}
+
+/// Turns all rings so that they begin at their first slots.
+fn straighten_all<T>(slots: &mut [T], starts: &mut [usize])
+    requires { AreRings 512 starts.old (length slots.old) }
+    ensures same { straight 512 starts.new slots.new ≡ straight 512 starts.old slots.old }
+    ensures straight { IsTrue (are_zero starts.new) }
+    ensures starts { length starts.new ≡ length starts.old }
+    ensures length { length slots.new ≡ length slots.old }
+    ensures rings { AreRings 512 starts.new (length slots.new) }
+{
+    for ring in 0..starts.len() {
+        straighten_ring(slots, starts, ring);
+    }
+}
+
+/// Keeps this many items where all rings begin at their first slots.
+fn truncate_in<T: Drop>(slots: &mut Vec<T>, starts: &mut Vec<usize>, count: usize)
+    requires rings { AreRings 512 starts.old.items (length slots.old.items) }
+    requires straight { IsTrue (are_zero starts.old.items) }
+    ensures items { straight 512 starts.new.items slots.new.items ≡ take count (straight 512 starts.old.items slots.old.items) }
+    ensures rings { AreRings 512 starts.new.items (length slots.new.items) }
+    ensures few { vec_len slots.new ≤ vec_len slots.old }
+    ensures slots { vec_capacity slots.new ≡ vec_capacity slots.old }
+    ensures starts { vec_capacity starts.new ≡ vec_capacity starts.old }
+{
+    slots.truncate(count);
+    starts.truncate(count / RING);
+}

@@ -1,0 +1,118 @@
+//! Lists of none to several rings, beside vectors that take the same.
+
+ghost use Rattle.std.specs.Prelude.{◌≡◌, ◌<◌, length, vec_len};
+
+use super::*;
+use std::alloc::Global;
+use std::process::Abort;
+use std::test::Fail;
+
+/// Puts a number at a position of both.
+fn put(
+    numbers: &mut Rings<usize>,
+    beside: &mut Vec<usize>,
+    position: usize,
+    number: usize,
+) -> Result<(), Fail> {
+    numbers.reserve_one()?;
+    if position > numbers.len() || position > beside.len() {
+        return Err("no such position".into());
+    }
+    numbers.insert(position, number);
+    beside.insert(position, number)?;
+    Ok(())
+}
+
+/// How many numbers come, and how far behind the one before it each goes, round the end.
+type Row = (usize, usize);
+
+/// Puts the numbers of a row into both.
+fn fill(numbers: &mut Rings<usize>, beside: &mut Vec<usize>, row: &Row) -> Result<(), Fail> {
+    let (count, step) = *row;
+    let mut position: usize = 0;
+    for number in 0..count {
+        position = position.wrapping_add(step) % (number + 1);
+        put(numbers, beside, position, number)?;
+    }
+    Ok(())
+}
+
+/// Compares the items one by one.
+fn assert_items(rt: &impl Abort, numbers: &Rings<usize>, want: &[usize]) {
+    assert_eq!(rt; numbers.len(), want.len());
+    for (position, number) in want.iter().enumerate() {
+        assert_eq!(rt; *numbers.get(position), *number, "at {position}");
+    }
+}
+
+/// What a row puts stands where the vector has it, also as one slice, and takes one more at its front.
+fn assert_filled(rt: &impl Abort, alloc: Global, row: &Row) -> Result<(), Fail> {
+    let mut numbers = Rings::new(alloc);
+    let mut beside = Vec::new(alloc);
+    fill(&mut numbers, &mut beside, row)?;
+    assert_items(rt, &numbers, &beside);
+    numbers.straighten();
+    assert_eq!(rt; numbers.as_slice(), beside.as_slice());
+    put(&mut numbers, &mut beside, 0, 7)?;
+    assert_items(rt, &numbers, &beside);
+    Ok(())
+}
+
+#[test]
+fn items_go_where_they_are_put(rt: HostRuntime) -> Result<(), Fail> {
+    const ROWS: &[Row] = &[
+        (0, 0),
+        (1, 0),
+        (511, 0),
+        (512, 0),
+        (513, 0),
+        (1024, 0),
+        (1025, 0),
+        (1600, 1),
+        (1600, 513),
+        (1600, 1_000_003),
+    ];
+    for row in ROWS {
+        assert_filled(&rt, rt.alloc(), row)?;
+    }
+    Ok(())
+}
+
+/// Swaps two items of both, and writes over the first of them.
+fn change(rt: &impl Abort, numbers: &mut Rings<usize>, beside: &mut [usize], a: usize, b: usize) {
+    assert!(rt; a < numbers.len() && b < numbers.len());
+    assert!(rt; a < beside.len() && b < beside.len());
+    numbers.swap(a, b);
+    beside.swap(a, b);
+    assert!(rt; a < numbers.len());
+    assert_eq!(rt; numbers.replace(a, 7), beside[a]);
+    beside[a] = 7;
+}
+
+/// Two positions of a list of three rings and a half, turned: its items change, and those before the second one stay.
+fn assert_changed(rt: &impl Abort, alloc: Global, a: usize, b: usize) -> Result<(), Fail> {
+    let mut numbers = Rings::new(alloc);
+    let mut beside = Vec::new(alloc);
+    fill(&mut numbers, &mut beside, &(1800, 1_000_003))?;
+    change(rt, &mut numbers, &mut beside, a, b);
+    assert_items(rt, &numbers, &beside);
+    numbers.truncate(b);
+    beside.truncate(b);
+    assert_items(rt, &numbers, &beside);
+    Ok(())
+}
+
+#[test]
+fn items_change_and_go(rt: HostRuntime) -> Result<(), Fail> {
+    for (a, b) in [
+        (0, 0),
+        (0, 511),
+        (600, 512),
+        (1023, 513),
+        (1799, 1600),
+        (3, 1799),
+    ] {
+        assert_changed(&rt, rt.alloc(), a, b)?;
+    }
+    Ok(())
+}
