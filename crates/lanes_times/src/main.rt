@@ -1,4 +1,4 @@
-//! Compares each kernel with its plain twin: their answers, and by the word `time` their times.
+//! Compares each kernel with its plain twin: their answers, and with the word `time` their times.
 #![tactic(auto)]
 
 mod agreement;
