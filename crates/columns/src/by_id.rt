@@ -100,7 +100,8 @@ fn id_at<T>(ids: &IdColumns, beside: &[(ReplicaId, T)], place: usize) -> OpId
     OpId { counter, replica }
 }
 
-/// The position of an id, or `Err` with the one where it would be inserted. One comparison for an id greater than all, otherwise a binary search.
+/// The position of an id, or `Err` with the one where it would be inserted. One comparison for an id greater than all, otherwise a
+/// binary search.
 fn find_id<T>(ids: &IdColumns, beside: &[(ReplicaId, T)], id: OpId) -> Result<usize, usize>
     requires { AreEntries ids.now.ids beside.now }
     ensures { MatchResult result (StandsAt id_cmp id (keys_of (entries_of ids.now.ids beside.now))) (GoesTo id_cmp id (keys_of (entries_of ids.now.ids beside.now))) }
@@ -147,7 +148,8 @@ impl<T: Drop> ById<T> {
         put_in(&mut self.ids, &mut self.beside, id, index, value);
     }
 
-    /// Removes the entries whose ids the vector covers. Takes no memory, looks at each entry once, and moves the entries that stay to the front.
+    /// Removes the entries whose ids the vector covers. Takes no memory, looks at each entry once, and moves the entries that stay
+    /// to the front.
     pub fn clear(&mut self, vector: &VersionVector)
         requires { All (λ place. place < length vector.now) self.old.indices }
         ensures kept { zip self.new.entries self.new.indices ≡ filter (λ e. is_uncovered vector.now (e.0.0.counter, e.1)) (zip self.old.entries self.old.indices) }

@@ -12,7 +12,8 @@ use std::alloc::{AllocError, Global};
 use std::cmp::Ordering;
 use std::marker::Model;
 
-/// The order of the items of a list, tombstones included, as RGA has it. Items are numbered as they come, and each has the number of the next one.
+/// The order of the items of a list, tombstones included, as RGA has it. Items are numbered as they come, and each has the number
+/// of the next one.
 ///
 /// Contracts see the items in their order, and for how many more there is room.
 #[derive(Debug, Drop)]
@@ -80,7 +81,8 @@ impl ListOrder {
 
     /// Puts a new item after `prev`, or after the head, past each next item with a greater id: the skipping rule of RGA.
     ///
-    /// Takes no memory. Finds `prev` by binary search, follows a link for each item that it goes past, and moves a number for each item with a greater id.
+    /// Takes no memory. Finds `prev` by binary search, follows a link for each item that it goes past, and moves a number for each
+    /// item with a greater id.
     pub fn place(&mut self, prev: Option<OpId>, id: OpId)
         requires prev { IsTrue (has_place prev self.old.items) }
         requires id { IsFalse (has_item id self.old.items) }

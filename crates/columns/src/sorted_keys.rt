@@ -14,7 +14,8 @@ use value::Key;
 
 /// Distinct keys in byte order. What belongs to each key is in columns of the caller's.
 ///
-/// A key stays where it was put, and only its number moves, which is a third of a key's size. Contracts see the keys, the number of each, and for how many more there is room.
+/// A key stays where it was put, and only its number moves, which is a third of a key's size. Contracts see the keys, the number of
+/// each, and for how many more there is room.
 #[derive(Debug, Drop)]
 pub struct SortedKeys {
     /// In the order in which they were put.
@@ -84,7 +85,8 @@ impl SortedKeys {
         self.order.reserve(1)
     }
 
-    /// The position of a key, or `Err` with the one where it would be inserted. A binary search that compares the key with at most as many others as their number has binary digits: at most k of fewer than 2 to the k. Each comparison adds 1 to `probes`.
+    /// The position of a key, or `Err` with the one where it would be inserted. A binary search that compares the key with at most
+    /// as many others as their number has binary digits: at most k of fewer than 2 to the k. Each comparison adds 1 to `probes`.
     pub fn find(&self, key: &Key, probes: &mut u64) -> Result<usize, usize>
         requires { probes.old ≤ 18446744073709551551 }
         ensures place { MatchResult result (λ place. (slice_get self.now.keys place ≡ Some key.now) × (place ≡ rank name_cmp key.now self.now.keys)) (GoesTo name_cmp key.now self.now.keys) }
@@ -95,7 +97,8 @@ impl SortedKeys {
         find_in(&self.keys, &self.order, key, probes)
     }
 
-    /// Puts a key that isn't there yet at the position that `find` gives for it. Takes no memory; moves the number of each key from there on.
+    /// Puts a key that isn't there yet at the position that `find` gives for it. Takes no memory; moves the number of each key from
+    /// there on.
     pub fn put(&mut self, place: usize, key: Key)
         requires place { GoesTo name_cmp key self.old.keys place }
         requires room { 0 < self.old.room }

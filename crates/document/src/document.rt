@@ -123,10 +123,14 @@ impl Document {
         op.deps.le(&self.applied)
     }
 
-    /// Tests a causally ready operation against the history. One that passed `check_alone` for this table may follow the history exactly where this answers `Ok`. Takes no memory. Costs a binary search for each counter of its vector, and a walk down its place.
+    /// Tests a causally ready operation against the history. One that passed `check_alone` for this table may follow the
+    /// history exactly where this answers `Ok`. Takes no memory. Costs a binary search for each counter of its vector,
+    /// and a walk down its place.
     ///
     /// # Errors
-    /// In this order: `BrokenChain` where its vector doesn't name all that was applied of its own replica; `NamesNothing` where a counter of its vector is that of no applied operation; `NotClosed` where an operation that its vector names has a vector that isn't at most this; `BadPlace` where an item of its place was not inserted into that very list.
+    /// In this order: `BrokenChain` where its vector doesn't name all that was applied of its own replica; `NamesNothing` where a
+    /// counter of its vector is that of no applied operation; `NotClosed` where an operation that its vector names has a vector
+    /// that isn't at most this; `BadPlace` where an item of its place was not inserted into that very list.
     pub fn check(&self, op: &Op) -> Result<(), Refusal>
         requires width { length op.now.deps ≡ length self.now.table }
         ensures fault { let fault = fault_of (stamped_entries self.now.entries) (stamped_of self.now.table op.now) in
@@ -180,10 +184,12 @@ impl Document {
         self.log.push(entry);
     }
 
-    /// The answer to a question: the history's, which for a question to the document is the view of its operations as a set. Copies what it returns.
+    /// The answer to a question: the history's, which for a question to the document is the view of its operations as a set. Copies
+    /// what it returns.
     ///
     /// # Errors
-    /// The refusal of the expression: those of `resolve`, and `AtHead` where it leads to a head. The history and the view of its operations refuse alike. Or `NoMemory` if allocation fails.
+    /// The refusal of the expression: those of `resolve`, and `AtHead` where it leads to a head. The history and the view of its
+    /// operations refuse alike. Or `NoMemory` if allocation fails.
     pub fn ask(&self, alloc: Global, question: &Question) -> Result<Reading, Refusal>
         requires { IsBeside self.now.table question.now }
         ensures answer { IfOk result (λ r. said_by self.now.table r ≡ reading_of self.now.entries (asked_of self.now.table question.now)) }

@@ -88,7 +88,8 @@ impl Inbox {
         self.len() <= most
     }
 
-    /// Keeps an operation until it is taken, unless one with its id waits already. A binary search; moves the keys of greater ids, and no operation.
+    /// Keeps an operation until it is taken, unless one with its id waits already. A binary search; moves the keys of greater ids,
+    /// and no operation.
     ///
     /// # Errors
     /// `InboxFull` if no more may wait, else `NoMemory` if allocation fails. What waited stays, and the operation is dropped.
@@ -118,7 +119,9 @@ impl Inbox {
         Ok(Delivered::Kept)
     }
 
-    /// The smallest operation that is causally ready, if there is one. Looks from the smallest on, and stops at a counter so far above the greatest that was applied that nothing from there on is ready: if nothing smaller is stuck, it looks at one operation.
+    /// The smallest operation that is causally ready, if there is one. Looks from the smallest on, and stops at a
+    /// counter so far above the greatest that was applied that nothing from there on is ready: if nothing smaller is
+    /// stuck, it looks at one operation.
     pub fn smallest_ready(&self, document: &Document) -> Option<&Op>
         requires width { AreAsWide document.now.table self.now }
         ensures some { IfSome result (λ o. IsLeastReady (applied document.now.entries) document.now.table self.now o.now) }

@@ -5,7 +5,8 @@ ghost use Rattle.std.specs.Cmp.Lexicographic.{pointwise};
 
 use crate::block;
 
-/// Whether each counter of `a` is at most the one at the same index of `b`. True for empty slices. Stops at the first block of eight that fails.
+/// Whether each counter of `a` is at most the one at the same index of `b`. True for empty slices. Stops at the first block of
+/// eight that fails.
 pub fn all_le(a: &[u64], b: &[u64]) -> bool
     requires { length a.now ≡ length b.now }
     ensures { result ≡ pointwise nat_le a.now b.now }

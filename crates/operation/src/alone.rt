@@ -18,7 +18,10 @@ use version::VersionVector;
 /// The first fault that can be seen of an operation without a history.
 ///
 /// # Errors
-/// In this order: `UnknownReplica` if its id or an item of its place names a replica that isn't a member, or its vector isn't as wide as the table; `BadCounter` if its counter isn't 1 plus the greatest of its vector, or is past the last; `NotInList` for an insert that stands neither at a head nor at an item; `BadPlace` for an assign or a delete at a head, or if its vector doesn't cover an item of its place.
+/// In this order: `UnknownReplica` if its id or an item of its place names a replica that isn't a member, or its vector isn't as
+/// wide as the table; `BadCounter` if its counter isn't 1 plus the greatest of its vector, or is past the last; `NotInList` for an
+/// insert that stands neither at a head nor at an item; `BadPlace` for an assign or a delete at a head, or if its vector doesn't
+/// cover an item of its place.
 pub fn check_alone(op: &Op, table: &ReplicaTable) -> Result<(), Refusal>
     ensures { MatchResult result (λ _. fault_alone table.now op.now ≡ None) (λ why. fault_alone table.now op.now ≡ Some why) }
 {

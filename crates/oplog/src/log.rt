@@ -19,7 +19,8 @@ use std::alloc::{AllocError, Global};
 use std::marker::Model;
 use version::VersionVector;
 
-/// The entries of a history, with the table of its replicas. Contracts see the table, the entries, the newest first, and for how many more there is room.
+/// The entries of a history, with the table of its replicas. Contracts see the table, the entries, the newest first, and for how
+/// many more there is room.
 #[derive(Debug, Drop)]
 pub struct Log {
     table: ReplicaTable,
@@ -90,7 +91,8 @@ impl Log {
         self.places[index].get(&id)
     }
 
-    /// The positions of the operations that the vector doesn't cover, rising. A binary search for each replica, and a sort of what is found.
+    /// The positions of the operations that the vector doesn't cover, rising. A binary search for each replica, and a sort of what
+    /// is found.
     ///
     /// # Errors
     /// `AllocError` if allocation fails.
@@ -117,9 +119,11 @@ impl Log {
         reserve_places(&mut self.places)
     }
 
-    /// Appends an entry, for which there is room. Takes no memory. Moves the positions of its replica's greater ids, of which a legal history has none.
+    /// Appends an entry, for which there is room. Takes no memory. Moves the positions of its replica's greater ids, of which a
+    /// legal history has none.
     ///
-    /// Its id must be new, as that of an operation that may follow is (`what_may_follow_is_new`). That its replica is a member and that its vector is as wide as the table is nothing that a history knows.
+    /// Its id must be new, as that of an operation that may follow is (`what_may_follow_is_new`). That its replica is a member and
+    /// that its vector is as wide as the table is nothing that a history knows.
     pub fn push(&mut self, entry: Entry)
         requires room { 0 < self.old.room }
         requires width { length (op_in entry).deps ≡ length self.old.table }

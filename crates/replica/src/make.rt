@@ -28,7 +28,8 @@ pub fn is_full(document: &Document) -> bool
 /// The operation that the command makes after the history.
 ///
 /// # Errors
-/// In this order: `HistoryFull`; the refusal of the expression; `NotInList` for an insert that would stand neither at a head nor at an item, `AtHead` for another command at a head. Or `NoMemory` if allocation fails.
+/// In this order: `HistoryFull`; the refusal of the expression; `NotInList` for an insert that would stand neither at a head nor at
+/// an item, `AtHead` for another command at a head. Or `NoMemory` if allocation fails.
 pub fn make(
     alloc: Global,
     own: ReplicaId,

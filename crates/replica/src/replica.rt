@@ -56,7 +56,8 @@ impl Replica {
     /// A replica with this number among these members, and with an empty history.
     ///
     /// # Errors
-    /// `BadConfig` if the members aren't 1 to 64 distinct numbers above 0, or the own number isn't one of them, else `NoMemory` if allocation fails.
+    /// `BadConfig` if the members aren't 1 to 64 distinct numbers above 0, or the own number isn't one of them, else `NoMemory` if
+    /// allocation fails.
     pub fn new(alloc: Global, own: u32, members: &[u32]) -> Result<Replica, Refusal>
         ensures new { IfOk result (λ r. replica_of r ≡ record { own = own; members = in_order members.now; entries = []; waiting = []; dropped = 0 }) }
         ensures bad_config { (result ≡ Err BadConfig) ↔ IsFalse (are_members members.now && is_member members.now own) }
@@ -105,7 +106,8 @@ impl Replica {
     /// The operation that the command makes after the history. Reserves all that committing it needs, and changes no content.
     ///
     /// # Errors
-    /// In this order: `HistoryFull`; the refusal of the expression; `NotInList` for an insert that would stand neither at a head nor at an item, `AtHead` for another command at a head. Or `NoMemory` if allocation fails.
+    /// In this order: `HistoryFull`; the refusal of the expression; `NotInList` for an insert that would stand neither at a head
+    /// nor at an item, `AtHead` for another command at a head. Or `NoMemory` if allocation fails.
     pub fn make(&mut self, alloc: Global, command: &Command) -> Result<Op, Refusal>
         ensures same { replica_of self.new ≡ replica_of self.old }
         ensures made { IfOk result (λ op. IsMade self.old.document.entries self.old.own (command_of command.now) (stamped_of self.old.document.table op)) }
@@ -135,12 +137,15 @@ impl Replica {
         });
     }
 
-    /// Keeps an operation of a peer in the inbox until it is causally ready. Nothing is applied here: that is for `next_ready` and `commit_peer`, or `drain`.
+    /// Keeps an operation of a peer in the inbox until it is causally ready. Nothing is applied here: that is for `next_ready` and
+    /// `commit_peer`, or `drain`.
     ///
     /// `Known` if an operation with its id was applied or waits, whatever else it holds. The operation is dropped, unless it is `Kept`.
     ///
     /// # Errors
-    /// The first of these that holds, and then the replica is as it was: those of `check_alone`; then, unless the operation is known, `OwnName` for the own number, `HistoryFull`, and `InboxFull`; and those of `Document::check` if it is ready. Or `NoMemory` if allocation fails.
+    /// The first of these that holds, and then the replica is as it was: those of `check_alone`; then, unless the operation is
+    /// known, `OwnName` for the own number, `HistoryFull`, and `InboxFull`; and those of `Document::check` if it is ready. Or
+    /// `NoMemory` if allocation fails.
     pub fn deliver(&mut self, op: Op) -> Result<Delivered, Refusal>
         ensures answer { MatchResult result
             (λ d. answer_to (replica_of self.old) op ≡ delivered_of d)
@@ -156,7 +161,8 @@ impl Replica {
         self.inbox.put(op, &self.document)
     }
 
-    /// A copy of the next operation of a peer that `commit_peer` appends: the smallest one that is ready, or `None` if there is none or the history is full. Drops and counts what is smaller, ready and unlawful. Reserves all that committing it needs.
+    /// A copy of the next operation of a peer that `commit_peer` appends: the smallest one that is ready, or `None` if there is
+    /// none or the history is full. Drops and counts what is smaller, ready and unlawful. Reserves all that committing it needs.
     ///
     /// # Errors
     /// `AllocError` if allocation fails. What was dropped stays dropped then, and nothing else has changed.
@@ -208,7 +214,8 @@ impl Replica {
         Ok(())
     }
 
-    /// Drops what is ready and unlawful until the next one is lawful, and reserves all that committing that one needs. Returns whether there is one.
+    /// Drops what is ready and unlawful until the next one is lawful, and reserves all that committing that one needs. Returns
+    /// whether there is one.
     fn prepare(&mut self, alloc: Global) -> Result<bool, AllocError>
         ensures dropped { (n : ℕ) × (replica_of self.new ≡ counted (drain_for n (replica_of self.old))) × (self.new.document.entries ≡ self.old.document.entries) }
         ensures none { result ≡ Ok false → next_of (replica_of self.new) ≡ None }

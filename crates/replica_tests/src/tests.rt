@@ -1,4 +1,5 @@
-//! What replicas answer, and what they keep, as the rules have it. Each test is turns that a replica takes in order, and the history that they leave.
+//! What replicas answer, and what they keep, as the rules have it. Each test is turns that a replica takes in order, and the
+//! history that they leave.
 
 mod deliveries;
 mod leaving;

@@ -36,7 +36,8 @@ pub fn batches_grow()
         Handles u h.submitted h.reply v → IsBatch w took (hs ++ h ∷ []) v }
 {}
 
-/// A submission that is refused because an allocation failed, or for its floor, changes nothing. It is refused for its floor exactly where that is above the history.
+/// A submission that is refused because an allocation failed, or for its floor, changes nothing. It is refused for its floor
+/// exactly where that is above the history.
 pub fn refused_items_change_nothing()
     ensures same { (w v : Handler) (x : Submitted) (e : Refusal) (m : ℕ) → is_outside_rules e ≡ true → Handles w x (NotMade e m) v → v ≡ w }
     ensures floor { (w v : Handler) (x : Submitted) (y : Reply) → Handles w x y v →

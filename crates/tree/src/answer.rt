@@ -98,7 +98,8 @@ fn copy_tags(presence: &Presence, alloc: Global) -> Result<Vec<(OpId, Tag)>, All
     Ok(tags)
 }
 
-/// The keys of the map's fields at which something stands, in byte order. Looks at each field that ever was, and copies the keys that it returns.
+/// The keys of the map's fields at which something stands, in byte order. Looks at each field that ever was, and copies the keys
+/// that it returns.
 fn keys_at(nodes: &[Node], at: NodeNumber, alloc: Global) -> Result<Vec<Key>, AllocError>
     requires tree { IsTree nodes.now }
     requires inside { at < length nodes.now }
@@ -131,7 +132,8 @@ fn is_present(nodes: &[Node], at: NodeNumber) -> bool
     node_at(nodes, at).presence.len() > 0
 }
 
-/// Whether something stands at an item of a node's list. Looks for its node next to that of the item before, whose position among the ids is `near`.
+/// Whether something stands at an item of a node's list. Looks for its node next to that of the item before, whose position among
+/// the ids is `near`.
 fn is_visible(nodes: &[Node], at: NodeNumber, id: &OpId, near: &mut usize) -> bool
     requires tree { IsTree nodes.now }
     requires inside { at < length nodes.now }

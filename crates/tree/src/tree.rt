@@ -65,7 +65,8 @@ impl Tree {
         })
     }
 
-    /// Makes all that applying this operation needs: nodes, room, and copies of keys and of the scalar. The content stays, whatever the answer.
+    /// Makes all that applying this operation needs: nodes, room, and copies of keys and of the scalar. The content stays, whatever
+    /// the answer.
     ///
     /// # Errors
     /// `AllocError` if allocation fails.
@@ -79,7 +80,8 @@ impl Tree {
         Ok(())
     }
 
-    /// Applies an operation that was reserved. Takes no memory. Visits each node beneath an assign's or a delete's element, and writes at each element of the path.
+    /// Applies an operation that was reserved. Takes no memory. Visits each node beneath an assign's or a delete's element, and
+    /// writes at each element of the path.
     pub fn apply(&mut self, op: &Op)
         requires ready { IsReady self.old (stamped_of self.old.table op.now) }
         requires placed { IsPlaced (document self.old) (stamped_of self.old.table op.now) }

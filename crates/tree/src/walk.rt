@@ -73,7 +73,8 @@ pub fn item_of(nodes: &[Node], at: NodeNumber, id: &OpId) -> Option<NodeNumber>
     node_at(nodes, at).items.get(id).map(NodeNumber::new)
 }
 
-/// The number of an item's node, by the item's id. Looks on both sides of the position `near` among the items' ids first, falls back to a binary search, and sets `near` to the item's position.
+/// The number of an item's node, by the item's id. Looks on both sides of the position `near` among the items' ids first, falls
+/// back to a binary search, and sets `near` to the item's position.
 pub fn item_near(nodes: &[Node], at: NodeNumber, id: &OpId, near: &mut usize) -> Option<NodeNumber>
     requires { at < length nodes.now }
     ensures { result ≡ child_number nodes.now at (ItemKey id.now) }

@@ -17,7 +17,8 @@ impl Val {
     /// The value of a JSON value. Only a text takes memory, once its length is known.
     ///
     /// # Errors
-    /// `NotWhole` for a number that isn't whole or has more than 64 bits, `TextTooLong` for a text of more than 4,096 bytes, `BadLine` for a list or an object with parts, or `NoMemory` if allocation fails.
+    /// `NotWhole` for a number that isn't whole or has more than 64 bits, `TextTooLong` for a text of more than 4,096 bytes,
+    /// `BadLine` for a list or an object with parts, or `NoMemory` if allocation fails.
     pub fn from_json(alloc: Global, json: &Value) -> Result<Val, Refusal>
         ensures ok { IfOk result (λ v. value_form (view json.now) ≡ Ok (value_of v)) }
         ensures err { IfErr result (λ why. (value_form (view json.now) ≡ Err why) ⊎ ((why ≡ NoMemory) × IsOkAnd (value_form (view json.now)) IsText)) }

@@ -10,7 +10,8 @@ use crate::vector::VersionVector;
 use std::alloc::{AllocError, Global};
 use std::marker::Model;
 
-/// Ids of replicas of a table, in an order that the caller chooses: a column of counters and a column of the replicas' indices in the table, with scratch room for the bound that a vector sets each id and for a bit of each.
+/// Ids of replicas of a table, in an order that the caller chooses: a column of counters and a column of the replicas' indices in
+/// the table, with scratch room for the bound that a vector sets each id and for a bit of each.
 ///
 /// Contracts see the ids, and for how many more there is room.
 #[derive(Debug, Drop)]
@@ -140,7 +141,8 @@ impl VersionVector {
     }
 }
 
-/// Sets the bit of each id that the vector doesn't cover, and clears the others. The ids are given as two columns; the bounds are scratch. Takes no memory.
+/// Sets the bit of each id that the vector doesn't cover, and clears the others. The ids are given as two columns; the bounds are
+/// scratch. Takes no memory.
 fn mark_uncovered(
     vector: &VersionVector,
     counters: &[u64],

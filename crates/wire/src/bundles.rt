@@ -19,7 +19,8 @@ use ids::{Refusal, ReplicaTable};
 use operation::Op;
 use std::alloc::{AllocError, Global};
 
-/// The lines of the operations, in order. An empty bundle has no byte. Where all names are of members, and all counters those of the wire, `read_bundle` reads the same operations.
+/// The lines of the operations, in order. An empty bundle has no byte. Where all names are of members, and all counters those of
+/// the wire, `read_bundle` reads the same operations.
 ///
 /// # Errors
 /// `AllocError` if allocation fails.
@@ -47,7 +48,8 @@ pub struct LinesRead {
 
 /// The operations of a text as far as it can be read, their vectors as wide as the table.
 ///
-/// Reading stops at the first bad line, with the refusal of `read_op`; bytes after the last line feed are a bad line, `BadLine`. It also stops with `NoMemory` if allocation fails: what was read until then is kept.
+/// Reading stops at the first bad line, with the refusal of `read_op`; bytes after the last line feed are a bad line, `BadLine`. It
+/// also stops with `NoMemory` if allocation fails: what was read until then is kept.
 pub fn read_lines(alloc: Global, text: &[u8], table: &ReplicaTable) -> LinesRead
     ensures read { (result.stopped ≡ Some NoMemory) ⊎ ((map (stamped_of table.now) result.ops.items ≡ (readable table.now text.now).operations) × (result.stopped ≡ (readable table.now text.now).stopped)) }
     ensures first { map (stamped_of table.now) result.ops.items ≡ take (length result.ops.items) (readable table.now text.now).operations }
@@ -83,7 +85,8 @@ pub fn read_lines(alloc: Global, text: &[u8], table: &ReplicaTable) -> LinesRead
 /// The operations of a bundle, in order, their vectors as wide as the table.
 ///
 /// # Errors
-/// The number of the first bad line, from 1, with the refusal of `read_op`; bytes after the last line feed are a bad line, `BadLine`. If allocation fails, `NoMemory` with the line that was being read.
+/// The number of the first bad line, from 1, with the refusal of `read_op`; bytes after the last line feed are a bad line,
+/// `BadLine`. If allocation fails, `NoMemory` with the line that was being read.
 pub fn read_bundle(
     alloc: Global,
     text: &[u8],

@@ -37,7 +37,9 @@ struct Part {
 /// The place of a path and a last key.
 ///
 /// # Errors
-/// The first of these: `BadLine` if the path is no list; `TooDeep` if it has more than 32 parts; the first fault of its parts from the left, and then of the last key: `BadLine` for another form, `KeyTooLong` for a text of more than 256 bytes, `UnknownReplica` for the id of a replica that isn't a member; `BadLine` if the keys don't fit what is entered.
+/// The first of these: `BadLine` if the path is no list; `TooDeep` if it has more than 32 parts; the first fault of its parts from
+/// the left, and then of the last key: `BadLine` for another form, `KeyTooLong` for a text of more than 256 bytes, `UnknownReplica`
+/// for the id of a replica that isn't a member; `BadLine` if the keys don't fit what is entered.
 pub(crate) fn place_in(
     alloc: Global,
     table: &ReplicaTable,

@@ -48,7 +48,8 @@ pub(crate) fn operation_in(
     })
 }
 
-/// The fields of an operation, unread. Each method reads its own field and gives that field's refusals alone, so another way to write one of them takes one more method here.
+/// The fields of an operation, unread. Each method reads its own field and gives that field's refusals alone, so another way to
+/// write one of them takes one more method here.
 #[derive(Drop)]
 struct OperationFields<'a> {
     id: &'a Value,

@@ -18,7 +18,8 @@ use version::VersionVector;
 /// A vector whose replicas are members, and rise.
 ///
 /// # Errors
-/// At the first pair from the left that has one: `BadLine` where its form is wrong or it doesn't rise, `UnknownReplica` where its replica isn't a member.
+/// At the first pair from the left that has one: `BadLine` where its form is wrong or it doesn't rise, `UnknownReplica` where its
+/// replica isn't a member.
 pub fn vector_in(
     alloc: Global,
     table: &ReplicaTable,

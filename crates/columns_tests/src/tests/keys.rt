@@ -93,7 +93,7 @@ fn assert_few_probes(
     Ok(())
 }
 
-/// Asserts that searches among this many keys compare at most so many.
+/// Asserts that each search among `count` keys compares at most `most`.
 fn assert_most_probes(rt: &impl Abort, alloc: Global, count: usize, most: u64) -> Result<(), Fail> {
     let keys = numbered(alloc, count)?;
     assert_eq!(rt; keys.len(), count);

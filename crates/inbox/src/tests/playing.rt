@@ -214,7 +214,8 @@ fn fill_and_play(
     play(rt, alloc, inbox, document, second)
 }
 
-/// Plays these turns and then those on a new inbox of replica 1 among 1, 2 and 3, once this many operations wait there of which none is ready.
+/// Plays these turns and then those on a new inbox of replica 1 among 1, 2 and 3, once this many operations wait there of which
+/// none is ready.
 pub fn on_new(
     rt: &impl Abort,
     alloc: Global,

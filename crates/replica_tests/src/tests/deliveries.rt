@@ -137,7 +137,7 @@ fn what_turns_out_unlawful_is_dropped(rt: HostRuntime) -> Result<(), Fail> {
     on_new(&rt, rt.alloc(), 1, TURNS, HISTORY)
 }
 
-/// Replica 1, which saw 1@1 and then assigned at `key`, beside replica 2, which did the same.
+/// Replica 1, which saw 1@1 and then assigned at `key`, concurrently with replica 2, which did the same.
 const FORKED_1: &[Turn<'static>] = &[
     Turn::Assign("key", "A", (1, 1)),
     Turn::Assign("key", "B", (2, 1)),

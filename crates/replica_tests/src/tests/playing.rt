@@ -1,6 +1,7 @@
 //! What is done with a replica in a test, as a table of turns, and what plays it.
 //!
-//! A turn whose allocation is refused is taken once more, so that a test passes whichever allocation is refused. With none refused, nothing is done twice.
+//! A turn whose allocation is refused is taken once more, so that a test passes whichever allocation is refused. With none refused,
+//! nothing is done twice.
 
 ghost use Rattle.std.specs.Prelude.{◌≡◌, ℕ, length, IfOk, OnErr};
 ghost use Rattle.semantics.specs.Entries.{IsAbove};
@@ -272,7 +273,8 @@ fn try_turn(
     Ok(serial)
 }
 
-/// Asserts how the lengths after a turn whose allocation was refused compare with those before it. A drain may have appended and dropped some, a search for the next one may have dropped some, and no other turn has changed anything.
+/// Asserts how the lengths after a turn whose allocation was refused compare with those before it. A drain may have appended and
+/// dropped some, a search for the next one may have dropped some, and no other turn has changed anything.
 fn expect_kept(rt: &impl Abort, turn: Turn<'_>, before: (usize, u64), after: (usize, u64)) {
     match turn {
         Turn::Drain(..) => assert!(rt; after.0 >= before.0 && after.1 >= before.1),

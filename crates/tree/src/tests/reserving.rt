@@ -34,7 +34,7 @@ const HELD: &[Turn] = &[
     Conflicts(LIST, &[((1, 1), Tag::List), ((2, 1), Tag::List)]),
 ];
 
-/// Reserves an operation of each form, beside the groceries.
+/// Reserves an operation of each form, among the groceries.
 const FORMS: &[&[Turn]] = &[
     &[Reserve(
         (4, 2),

@@ -326,7 +326,7 @@ fn faults_in_their_order(rt: HostRuntime) {
             r#"["op",[1,1],[],[["l",0],["m",[1,3]]],null,["a",1.5]]"#,
             Err(Refusal::UnknownReplica),
         ),
-        // The keys before the place's form.
+        // The keys come before how they fit together.
         (
             r#"["op",[1,1],[],[["m",1]],[1,3],["d"]]"#,
             Err(Refusal::UnknownReplica),
