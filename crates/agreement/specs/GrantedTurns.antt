@@ -6,12 +6,12 @@ use Rattle.semantics.specs.WriteSteps.{handle_all, whole_step}
 use Rattle.semantics.specs.Batches.{items_of}
 use Rattle.semantics.specs.Handling.{Handler, IsWhole}
 
--- these items are handled one after another, each by the rules alone, since every allocation succeeds
+-- these submissions are handled one after another, each by the rules alone, since every allocation succeeds
 abbrev pub AreGranted : Handler → List Handled → Handler → Type 0
 AreGranted w [] v = v ≡ w
 AreGranted w (h ∷ hs) v = (u : Handler) × IsWhole w h.submitted h.reply u × AreGranted u hs v
 
--- between its steps the world's engine has the replica of the writer, and these items are the batch that is next
+-- between its steps the world's engine has the replica of the writer, and these submissions are the batch that is next
 pub record Awaits (E : Engine) (w : Handler) (hs : List Handled) (rest : List Submitted) : Type 0 where
   pub handled : E.handled ≡ []
   pub due : E.due ≡ []

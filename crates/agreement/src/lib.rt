@@ -1,5 +1,5 @@
-//! The engine of a world and the engine of threads do the same: a law, and tests that play the same to both and compare all
-//! that they say.
+//! The engine of a world and the engine of threads do the same: a law, and tests that play the same on both and compare all their
+//! answers.
 #![tactic(auto)]
 
 mod law;

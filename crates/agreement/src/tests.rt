@@ -1,4 +1,4 @@
-//! Plays the same to the engine of a world and to an engine of threads, on one thread, and compares what both say.
+//! Plays the same on the engine of a world and on an engine of threads, on one thread, and compares their answers.
 
 mod acts;
 mod both;

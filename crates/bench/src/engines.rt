@@ -41,7 +41,7 @@ pub fn play<R: Threads + Wait + Sync>(rt: &R, alloc: Global, plan: Plan) -> Resu
     }
 }
 
-/// Where an engine sits: its number, and its end of the channels.
+/// An engine's number, and its end of the channels.
 #[derive(Drop)]
 struct Seat {
     own: u32,

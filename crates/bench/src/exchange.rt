@@ -1,4 +1,4 @@
-//! What is asked of the engines: that all have played, that each sends the others what they lack, and what they show.
+//! What the engines are asked: whether all have played, what each lacks of the others, and what they show.
 
 use crate::links::Link;
 use crate::plan::{MOST_TURNS, Stop};
@@ -7,12 +7,12 @@ use std::alloc::{AllocError, Global};
 use std::sync::Wait;
 use std::thread::yield_now;
 
-/// Waits until all engines have played, lets each of them have what the others wrote, and looks at all. None where a value
-/// wasn't read back. The links end with it, and with them the engines' threads.
+/// Waits until all engines have played, lets each take what the others wrote, and looks at all. `None` if a value wasn't read back.
+/// The links are dropped at the end, and so the engines' threads end.
 ///
 /// # Errors
-/// `TurnLimit` where a thread didn't begin, or an exchange brought nothing, for `MOST_TURNS` turns; `NoReading` where an engine's
-/// thread has ended before; `NoMemory` if allocation fails.
+/// `TurnLimit` if a thread didn't begin, or an exchange brought nothing, for `MOST_TURNS` turns; `NoReading` if an engine's thread has
+/// ended before; `NoMemory` if allocation fails.
 pub fn meet<R: Wait>(rt: &R, alloc: Global, links: Vec<Link>) -> Result<Option<Vec<Shown>>, Stop> {
     let links = links.as_slice();
     if !all_played(rt, links)? {
@@ -33,7 +33,7 @@ fn all_played<R: Wait>(rt: &R, links: &[Link]) -> Result<bool, Stop> {
     Ok(all_read)
 }
 
-/// Waits until all threads run. From then on each of them replies or ends, so that to wait for a reply is safe.
+/// Waits until all threads run. From then on each of them replies or ends, so that waiting for a reply ends.
 fn await_starts<R: Wait>(rt: &R, links: &[Link]) -> Result<(), Stop> {
     for link in links {
         await_start(rt, link)?;
@@ -86,14 +86,14 @@ fn pull<R: Wait>(rt: &R, to: &Link, from: &Link) -> Result<(), Stop> {
     unreachable!()
 }
 
-/// What a hello, its answer and a receipt brought.
+/// The result of a hello, its answer and a receipt.
 #[derive(Clone, Copy)]
 enum Turn {
     /// Nothing was lacking.
     Complete,
     /// The first engine shows more than before.
     Grew,
-    /// It doesn't.
+    /// The first engine shows no more than before.
     Idle,
 }
 

@@ -1,4 +1,4 @@
-//! When a worker may go on.
+//! Gates: when a worker may go on.
 
 ghost use Rattle.std.specs.Prelude.{◌≡◌, ◌∷◌, [], IfOk, IfErr, true, false};
 ghost use Rattle.semantics.specs.Questions.{Get};
@@ -69,7 +69,7 @@ pub(crate) fn values_at(alloc: Global, key: &Key) -> Result<Question, AllocError
     Ok(Question::Values(at(alloc, key)?))
 }
 
-/// The place of a key of the document.
+/// The expression of a key of the document.
 pub(crate) fn at(alloc: Global, key: &Key) -> Result<Expr, AllocError>
     ensures { IfOk result (λ e. e ≡ Get key.now ∷ []) }
 {

@@ -1,4 +1,4 @@
-//! The channels between a thread that has an engine and the one that asks it.
+//! The channels between an engine's thread and the thread that sends it requests.
 
 use crate::plan::Stop;
 use crate::showing::Shown;
@@ -7,20 +7,20 @@ use ids::Refusal;
 use std::alloc::{AllocError, Global};
 use std::sync::Wait;
 
-/// What an engine is asked for.
+/// A request to an engine.
 #[derive(Drop)]
 pub enum Request {
     /// The line of its hello.
     Hello,
     /// The bundle that answers this hello.
     Answer(Vec<u8>),
-    /// To receive this bundle: whether it shows more than before.
+    /// To receive this bundle: the reply is whether the engine shows more than before.
     Receive(Vec<u8>),
     /// What its reader is shown.
     Look,
 }
 
-/// The end of the one that asks.
+/// The requesting end.
 #[derive(Drop)]
 pub struct Link {
     requests: Sender<Request>,
@@ -29,7 +29,7 @@ pub struct Link {
     shown: Receiver<Shown>,
 }
 
-/// The end of the engine.
+/// The engine's end.
 #[derive(Drop)]
 pub struct Desk {
     pub requests: Receiver<Request>,
@@ -39,7 +39,7 @@ pub struct Desk {
     pub shown: Sender<Shown>,
 }
 
-/// Two ends that belong together.
+/// The two ends of one link.
 ///
 /// # Errors
 /// `AllocError` if allocation fails.
@@ -63,13 +63,13 @@ pub fn open_link(alloc: Global) -> Result<(Link, Desk), AllocError> {
     Ok((link, desk))
 }
 
-/// An engine's thread has ended, and says itself why.
+/// An engine's thread has ended, which says itself why.
 const GONE: Stop = Stop::Refused(Refusal::NoReading);
 
 /// # Errors
-/// Each call answers `NoReading` where the engine's thread has ended.
+/// Each call answers `NoReading` if the engine's thread has ended.
 impl Link {
-    /// What the engine has told already, if it has told anything.
+    /// What the engine has told already, if anything.
     pub fn told_yet(&self, rt: &impl Wait) -> Result<Option<bool>, Stop> {
         match self.told.try_recv(rt) {
             Ok(told) => Ok(Some(told)),

@@ -8,11 +8,11 @@ ghost use Rattle.bench.specs.Plans.{is_plan};
 use ids::Refusal;
 use std::alloc::AllocError;
 
-/// How many turns a loop that waits may find nothing new, before it gives up.
+/// How many turns a waiting loop may find nothing new, before it gives up.
 pub const MOST_TURNS: u32 = 10_000_000;
 
-/// How many engines there are and how many clients of each write, both from 1 to 16; how many commands each client submits, from 1
-/// to 4,096; and how many places the queue of each engine has, from 1 to 65,536.
+/// How many engines there are and how many clients of each write, both from 1 to 16; how many commands each client submits, from 1 to
+/// 4,096; and the capacity of each engine's queue, from 1 to 65,536.
 #[derive(Clone, Copy, Debug, PartialEq, Eq)]
 pub struct Plan {
     replicas: u32,
@@ -23,7 +23,7 @@ pub struct Plan {
 }
 
 impl Plan {
-    /// So many engines with so many writers each, so many operations of each writer, and so many places of each queue.
+    /// This many engines, writers of each engine, operations of each writer, and slots of each queue.
     ///
     /// # Errors
     /// `BadConfig` if a number is outside its limits.
@@ -86,10 +86,10 @@ impl Plan {
     }
 }
 
-/// What a bench found.
+/// The result of a bench.
 #[derive(Clone, Copy, Debug, PartialEq, Eq)]
 pub enum Verdict {
-    /// Each value was read back, and each engine shows the same, in a history of so many operations, which is what was submitted.
+    /// Each value was read back, and each engine shows the same, in a history of this many operations, which is what was submitted.
     Agree(u32),
     /// A value wasn't read back, or an engine shows something else or has a history of another length.
     Differ,
@@ -98,7 +98,7 @@ pub enum Verdict {
 /// Why a bench ended early.
 #[derive(Clone, Copy, Debug, PartialEq, Eq)]
 pub enum Stop {
-    /// A loop that waits found nothing new for `MOST_TURNS` turns.
+    /// A waiting loop found nothing new for `MOST_TURNS` turns.
     TurnLimit,
     /// A call or a command was refused.
     Refused(Refusal),

@@ -22,7 +22,7 @@ pub struct Task<N: EngineName> {
 }
 
 impl<N: EngineName> Task<N> {
-    /// Writes so many numbers and reads each back.
+    /// Writes this many numbers and reads each back.
     fn work<R: Wait>(&mut self, rt: &R, alloc: Global, ops: u32) {
         self.read = worker(rt, alloc, &mut self.gate, &mut self.client, &self.key, ops);
     }
@@ -72,8 +72,8 @@ fn key_of(alloc: Global, number: u32) -> Result<Key, Refusal> {
 /// Lets the clients write, while the writer steps. Whether each of them read back what it wrote.
 ///
 /// # Errors
-/// `TurnLimit` where one waited for too long, `Refused` where a call or a command was refused. That of a client with a lower
-/// number comes first.
+/// `TurnLimit` if one waited for too long, `Refused` if a call or a command was refused. The error of a client with a lower number
+/// comes first.
 pub fn write_all<N: EngineName + Send + Sync, R: Threads + Wait + Sync>(
     rt: &R,
     alloc: Global,
@@ -124,7 +124,7 @@ fn all_read<N: EngineName>(tasks: &[Task<N>]) -> Result<bool, Stop> {
     Ok(true)
 }
 
-/// Steps until so many submissions are answered.
+/// Steps until this many submissions are answered.
 fn answer_until<N: EngineName, R: Wait>(
     rt: &R,
     alloc: Global,

@@ -1,4 +1,4 @@
-//! An engine that serves requests of others.
+//! An engine that serves requests.
 
 use crate::gate::values_at;
 use crate::links::{Desk, Request};
@@ -14,7 +14,7 @@ use std::sync::Wait;
 use std::thread::yield_now;
 use value::{Key, Scalar};
 
-/// What a thread needs of its engine, to serve others.
+/// What a thread needs of its engine to serve requests.
 #[derive(Drop)]
 pub struct Served<'a, N: EngineName> {
     pub writer: &'a mut Writer<N>,
@@ -23,10 +23,10 @@ pub struct Served<'a, N: EngineName> {
 }
 
 impl<N: EngineName> Served<'_, N> {
-    /// Serves requests, one after another, until the one that asks has gone.
+    /// Serves requests, one after another, until the requesting end is gone.
     ///
     /// # Errors
-    /// `TurnLimit` where a publish was held for too long; `Refused` where a call was refused.
+    /// `TurnLimit` if a publish was held for too long; `Refused` if a call was refused.
     pub fn serve<R: Wait>(&mut self, rt: &R, alloc: Global, desk: &Desk) -> Result<(), Stop> {
         for _ in rt.forever() {
             let Ok(request) = desk.requests.recv(rt) else {
@@ -37,7 +37,7 @@ impl<N: EngineName> Served<'_, N> {
         unreachable!()
     }
 
-    /// Replies to a request. That nobody waits for the reply is met at the next request.
+    /// Replies to a request. A send that fails is ignored: the next receive finds that the requesting end is gone.
     fn reply<R: Wait>(
         &mut self,
         rt: &R,

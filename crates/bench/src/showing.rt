@@ -29,7 +29,7 @@ impl Shown {
     }
 }
 
-/// Whether all engines show the same, in histories of so many operations.
+/// Whether all engines show the same, in histories of this many operations.
 pub fn judge(shown: &[Shown], operations: u32) -> Verdict
     ensures agree { (result ≡ Agree operations) ↔ ShowAlike operations (map view_of shown.now) }
     ensures differ { (result ≡ Agree operations) ⊎ (result ≡ Differ) }

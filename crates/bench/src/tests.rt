@@ -1,4 +1,4 @@
-//! What a bench finds, and where it gives up.
+//! What a bench finds, and when it gives up.
 
 mod workers;
 
@@ -6,7 +6,7 @@ use super::*;
 use ids::Refusal;
 use std::test::Fail;
 
-/// Replicas, writers, operations of each writer, and places of each queue.
+/// Replicas, writers, operations of each writer, and capacity of each queue.
 const PLANS: [(u32, u32, u32, u32); 5] = [
     (1, 1, 3, 65_536),
     (1, 16, 4, 65_536),

@@ -20,12 +20,12 @@ use std::sync::Wait;
 use std::thread::yield_now;
 use value::{Key, Scalar, Val};
 
-/// Assigns the numbers from 0 to `ops - 1` at the key, in turn: waits until the gate lets it, submits, polls the answer, and reads
-/// the number back. False where a number wasn't read back; then the rest isn't submitted.
+/// Assigns the numbers from 0 to `ops - 1` at the key, in turn: waits until the gate lets it, submits, polls the answer, and reads the
+/// number back. False if a number wasn't read back; then the rest isn't submitted.
 ///
 /// # Errors
-/// `TurnLimit` where the gate stayed shut, the queue full or an answer away for `MOST_TURNS` turns; `Refused` where a call or a
-/// command was refused.
+/// `TurnLimit` if the gate stayed shut, the queue full or an answer away for `MOST_TURNS` turns; `Refused` if a call or a command was
+/// refused.
 pub fn worker<N: EngineName, R: Wait, G: Gate>(
     rt: &R,
     alloc: Global,

@@ -1,4 +1,4 @@
-//! What stands at each id: columns of ids, and what stands beside them.
+//! What stands at each id: columns of ids, and a value for each.
 
 ghost use Rattle.std.specs.Prelude.{◌≡◌, ◌↔◌, ◌≤◌, ◌<◌, ◌+◌, ℕ, List, [], length, map, Some, slice_get, slice_index_or, IsTrue, OnOk, MatchResult, vec_len, vec_capacity};
 ghost use Rattle.std.specs.List.{All, filter, zip};
@@ -21,19 +21,19 @@ use std::marker::Model;
 use value::Scalar;
 use version::{IdColumns, VersionVector};
 
-/// A finite map by id. The counters of the ids stand in a column of their own, so that a vector is compared with eight of them at once.
+/// A finite map by id. The counters of the ids are in a column of their own, so that a vector is compared with eight of them at once.
 ///
-/// Contracts see the entries, rising by id, the place of each entry's replica in the table, and how many more fit without memory.
+/// Contracts see the entries, rising by id, the index of each entry's replica in the table, and for how many more entries there is room.
 #[derive(Debug, Drop)]
 pub struct ById<T> {
     ids: IdColumns,
     beside: Rings<(ReplicaId, T)>,
 }
 
-/// The ids by which something is present at an element, each with the tag as which it is.
+/// The presence of an element: the ids that keep it visible, each with its tag.
 pub type Presence = ById<Tag>;
 
-/// The ids of the values at an element, each with its value.
+/// The register of an element: the ids of its values, each with its value.
 pub type Register = ById<Scalar>;
 
 impl<T> Model for ById<T> {
@@ -67,7 +67,7 @@ impl<T> ById<T> {
         self.beside.len()
     }
 
-    /// The id at a place, and what stands beside it.
+    /// The id at a position, and its value.
     pub fn at(&self, place: usize) -> (OpId, &T)
         requires { place < length self.now.entries }
         ensures { slice_get self.now.entries place ≡ Some (result.0, result.1.now) }
@@ -93,7 +93,7 @@ impl<T> ById<T> {
     }
 }
 
-/// The id at a place.
+/// The id at a position.
 fn id_at<T>(ids: &IdColumns, beside: &Rings<(ReplicaId, T)>, place: usize) -> OpId
     requires long { length beside.now.items ≡ length ids.now.ids }
     requires within { place < length beside.now.items }
@@ -104,7 +104,8 @@ fn id_at<T>(ids: &IdColumns, beside: &Rings<(ReplicaId, T)>, place: usize) -> Op
     OpId { counter, replica }
 }
 
-/// The place of an id, or the one to which it goes. One comparison where it goes to the end, otherwise a binary search.
+/// The position of an id, or `Err` with the one where it would be inserted. One comparison for an id greater than all, otherwise a
+/// binary search.
 fn find_id<T>(ids: &IdColumns, beside: &Rings<(ReplicaId, T)>, id: OpId) -> Result<usize, usize>
     requires { AreEntries ids.now.ids beside.now.items }
     ensures { MatchResult result (StandsAt id_cmp id (keys_of (entries_of ids.now.ids beside.now.items))) (GoesTo id_cmp id (keys_of (entries_of ids.now.ids beside.now.items))) }
@@ -125,7 +126,7 @@ fn find_id<T>(ids: &IdColumns, beside: &Rings<(ReplicaId, T)>, id: OpId) -> Resu
     Err(low)
 }
 
-/// Whether the id is greater than all.
+/// Whether the id is greater than all that are there.
 fn is_greatest<T>(ids: &IdColumns, beside: &Rings<(ReplicaId, T)>, id: OpId) -> bool
     requires { AreEntries ids.now.ids beside.now.items }
     ensures { IsTrue result ↔ GoesTo id_cmp id (keys_of (entries_of ids.now.ids beside.now.items)) (length beside.now.items) }
@@ -138,7 +139,7 @@ fn is_greatest<T>(ids: &IdColumns, beside: &Rings<(ReplicaId, T)>, id: OpId) -> 
 }
 
 impl<T: Drop> ById<T> {
-    /// Puts an entry in its place, where `index` is the place of the id's replica in the table. What stood beside the id goes, if there was something.
+    /// Puts an entry where its id belongs; `index` is the index of the id's replica in the table. Replaces the id's value, if it has one.
     ///
     /// Takes no memory. A binary search and one insert into `Rings`; for the greatest id one comparison and one push.
     pub fn put(&mut self, id: OpId, index: usize, value: T)
@@ -151,7 +152,8 @@ impl<T: Drop> ById<T> {
         put_in(&mut self.ids, &mut self.beside, id, index, value);
     }
 
-    /// Takes away the entries whose ids the vector covers. Takes no memory, straightens its rings, looks at each entry once, and moves the entries that stay to the front.
+    /// Removes the entries whose ids the vector covers. Takes no memory, straightens the rings, looks at each entry once, and moves
+    /// the entries that stay to the front.
     pub fn clear(&mut self, vector: &VersionVector)
         requires { All (λ place. place < length vector.now) self.old.indices }
         ensures kept { zip self.new.entries self.new.indices ≡ filter (λ e. is_uncovered vector.now (e.0.0.counter, e.1)) (zip self.old.entries self.old.indices) }
@@ -163,7 +165,7 @@ impl<T: Drop> ById<T> {
     }
 }
 
-/// Puts an entry in its place. What stood beside the id goes, if there was something.
+/// Puts an entry where its id belongs. Replaces the id's value, if it has one.
 fn put_in<T: Drop>(
     ids: &mut IdColumns,
     beside: &mut Rings<(ReplicaId, T)>,

@@ -1,4 +1,5 @@
-//! The columns of which a document's tree is made: what stands at each id, the keys of a map, the order of a list, and the numbers of the nodes below.
+//! The columns of which a document's tree is made: what stands at each id, the keys of a map, the order of a list, and the numbers
+//! of the nodes below.
 #![tactic(auto)]
 
 mod by_id;

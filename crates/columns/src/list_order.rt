@@ -1,4 +1,4 @@
-//! The order of a list, as linked items.
+//! The order of a list (RGA), as linked items.
 
 ghost use Rattle.std.specs.Prelude.{◌≡◌, ◌≤◌, ◌<◌, ◌+◌, ℕ, List, [], length, ◌∷◌, IfSome, IsTrue, IsFalse, OnOk, Option, vec_len, vec_capacity};
 ghost use Rattle.semantics.specs.Context.{insert_after, skip};
@@ -12,15 +12,16 @@ use std::alloc::{AllocError, Global};
 use std::cmp::Ordering;
 use std::marker::Model;
 
-/// The order of the items of a list, visible or not. Items are numbered as they come, and each has the number of the next one.
+/// The order of the items of a list, tombstones included, as RGA has it. Items are numbered as they come, and each has the number
+/// of the next one.
 ///
-/// Contracts see the items in their order, and how many more fit without memory.
+/// Contracts see the items in their order, and for how many more there is room.
 #[derive(Debug, Drop)]
 pub struct ListOrder {
     first: Option<usize>,
-    /// The number of the next item, by the number of each.
+    /// The number of the next item, indexed by an item's number.
     nexts: Vec<Option<usize>>,
-    /// The ids, by the number of each item.
+    /// The ids, indexed by an item's number.
     ids: Vec<OpId>,
     /// The number of each item, by its id.
     column: Numbers,
@@ -57,7 +58,7 @@ impl ListOrder {
         self.nexts.len()
     }
 
-    /// The items in their order. Each costs a look at its link.
+    /// The items in list order. Each step follows one link.
     pub fn iter(&self) -> Items<'_>
         ensures { result ≡ self.now.items }
     {
@@ -78,9 +79,10 @@ impl ListOrder {
         self.column.reserve_one()
     }
 
-    /// Puts a new item after `prev`, or after the head, past each next item that is greater.
+    /// Puts a new item after `prev`, or after the head, past each next item with a greater id: the skipping rule of RGA.
     ///
-    /// Takes no memory. It finds `prev` by binary search, looks at each item that it goes past, and moves a number for each item of a greater id.
+    /// Takes no memory. Finds `prev` by binary search, follows a link for each item that it goes past, and moves a number for each
+    /// item with a greater id.
     pub fn place(&mut self, prev: Option<OpId>, id: OpId)
         requires prev { IsTrue (has_place prev self.old.items) }
         requires id { IsFalse (has_item id self.old.items) }
@@ -96,14 +98,14 @@ impl ListOrder {
         self.ids.push_reserved(id);
     }
 
-    /// Whether this is one of the items. Binary search.
+    /// Whether the id is one of the items. Binary search.
     pub fn contains(&self, id: &OpId) -> bool
         ensures { result ≡ has_item id.now self.now.items }
     {
         number_of(&self.column, Some(*id)).is_some()
     }
 
-    /// The item after this one, or the first after the head. There is none past the last, and none after what is no item. Binary search.
+    /// The item after this one, or the first one after the head. `None` past the last, and after an id that is no item. Binary search.
     pub fn next(&self, after: Option<OpId>) -> Option<OpId>
         ensures { result ≡ item_after after self.now.items }
     {
@@ -116,14 +118,14 @@ impl ListOrder {
     }
 }
 
-/// The number of an item. The head has none.
+/// The number of an item, `None` for the head.
 fn number_of(column: &Numbers, item: Option<OpId>) -> Option<usize>
     ensures { result ≡ number_at column.now.entries item }
 {
     column.get(&item?)
 }
 
-/// Links a new item in after the last one that it goes past.
+/// Links a new item in, after the last one that it goes past.
 fn link(first: &mut Option<usize>, nexts: &mut Vec<Option<usize>>, last: Option<usize>)
     requires last { IfSome last (λ n. n < length nexts.old.items) }
     requires room { vec_len nexts.old < vec_capacity nexts.old }
@@ -140,7 +142,7 @@ fn link(first: &mut Option<usize>, nexts: &mut Vec<Option<usize>>, last: Option<
     nexts.push_reserved(next);
 }
 
-/// Where the link of an item leads, or that of the head.
+/// The number that an item's link leads to, or the head's.
 fn next_number(first: Option<usize>, nexts: &[Option<usize>], last: Option<usize>) -> Option<usize>
     requires { IfSome last (λ n. n < length nexts.now) }
     ensures { result ≡ following first nexts.now last }
@@ -151,7 +153,7 @@ fn next_number(first: Option<usize>, nexts: &[Option<usize>], last: Option<usize
     }
 }
 
-/// The last item that a new one goes past, where it goes after `prev`.
+/// The last item that a new one after `prev` goes past.
 fn last_passed(
     first: Option<usize>,
     nexts: &[Option<usize>],

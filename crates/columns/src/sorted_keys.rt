@@ -13,14 +13,15 @@ use std::cmp::Ordering;
 use std::marker::Model;
 use value::Key;
 
-/// Different keys in byte order. What stands at each key stands beside them, in columns of the caller's.
+/// Distinct keys in byte order. What belongs to each key is in columns of the caller's.
 ///
-/// A key stays where it was put, and a number for it moves, since a key is three times as long. Contracts see the keys, the number of each, and how many more fit without memory.
+/// A key stays where it was put, and only its number moves, which is a third of a key's size. Contracts see the keys, the number of
+/// each, and for how many more there is room.
 #[derive(Debug, Drop)]
 pub struct SortedKeys {
-    /// As they were put.
+    /// In the order in which they were put.
     keys: Vec<Key>,
-    /// The number of the key at each place in byte order.
+    /// The number of the key at each position in byte order.
     order: Rings<usize>,
 }
 
@@ -54,7 +55,7 @@ impl SortedKeys {
         self.order.len()
     }
 
-    /// The key at a place.
+    /// The key at a position in byte order.
     pub fn at(&self, place: usize) -> &Key
         requires { place < length self.now.keys }
         ensures { slice_get self.now.keys place ≡ Some result.now }
@@ -62,7 +63,7 @@ impl SortedKeys {
         key_at(&self.keys, &self.order, place)
     }
 
-    /// How many keys were put before the one at a place.
+    /// How many keys were put before the one at a position.
     pub fn number(&self, place: usize) -> usize
         requires { place < length self.now.keys }
         ensures number { slice_get self.now.numbers place ≡ Some result }
@@ -85,7 +86,8 @@ impl SortedKeys {
         self.order.reserve_one()
     }
 
-    /// The place of a key, or the one to which it goes. A binary search, which compares the key with at most as many as the number of keys has binary digits: n has at most k where n is below 2 to the k. Each comparison adds 1 to `probes`.
+    /// The position of a key, or `Err` with the one where it would be inserted. A binary search that compares the key with at most
+    /// as many others as their number has binary digits: at most k of fewer than 2 to the k. Each comparison adds 1 to `probes`.
     pub fn find(&self, key: &Key, probes: &mut u64) -> Result<usize, usize>
         requires { probes.old ≤ 18446744073709551551 }
         ensures place { MatchResult result (λ place. (slice_get self.now.keys place ≡ Some key.now) × (place ≡ rank name_cmp key.now self.now.keys)) (GoesTo name_cmp key.now self.now.keys) }
@@ -96,7 +98,7 @@ impl SortedKeys {
         find_in(&self.keys, &self.order, key, probes)
     }
 
-    /// Puts a key that isn't there, at the place that `find` gives for it. Takes no memory. One insert into `Rings`.
+    /// Puts a key that isn't there yet at the position that `find` gives for it. Takes no memory. One insert into `Rings`.
     pub fn put(&mut self, place: usize, key: Key)
         requires place { GoesTo name_cmp key self.old.keys place }
         requires room { 0 < self.old.room }
@@ -110,7 +112,7 @@ impl SortedKeys {
     }
 }
 
-/// The key at a place in byte order.
+/// The key at a position in byte order.
 fn key_at<'a>(keys: &'a [Key], order: &Rings<usize>, place: usize) -> &'a Key
     requires numbers { AreNumbers (length keys.now) order.now.items }
     requires within { place < length order.now.items }
@@ -119,7 +121,7 @@ fn key_at<'a>(keys: &'a [Key], order: &Rings<usize>, place: usize) -> &'a Key
     &keys[*order.get(place)]
 }
 
-/// The place of a key, or the one to which it goes. Binary search.
+/// The position of a key, or `Err` with the one where it would be inserted. Binary search.
 fn find_in(keys: &[Key], order: &Rings<usize>, key: &Key, probes: &mut u64) -> Result<usize, usize>
     requires ordered { AreOrdered keys.now order.now.items }
     requires fits { length order.now.items < 2 ^ 64 }

@@ -1,4 +1,4 @@
-//! A queue of items: its limits, full and empty, in order, and with its two ends in threads of their own; and answers.
+//! A queue of items: its limits, full and empty, its order, its two ends in threads of their own; and answers.
 
 ghost use Rattle.std.specs.Prelude.{◌≡◌, ◌+◌, ◌++◌, ◌∷◌, [], IfOk, length};
 ghost use Rattle.crossbeam_queue.specs.Passes.{view};
@@ -35,7 +35,7 @@ fn a_full_queue_gives_the_item_back(rt: HostRuntime) -> Result<(), Fail> {
     fill_and_empty(&rt, alloc, &mut taker, &mut sender)
 }
 
-/// Sends two items through a queue of one place.
+/// Sends two items through a queue of capacity 1.
 fn fill_and_empty<N: EngineName, R: Wait + Abort>(
     rt: &R,
     alloc: Global,
@@ -72,7 +72,7 @@ fn a_client_sends_while_the_writer_takes(rt: HostRuntime) -> Result<(), Fail> {
     Ok(())
 }
 
-/// Sends items with the serials from 1 on, each again until the queue has a place.
+/// Sends items with the serials from 1 on, each again until there is room.
 fn send_all<N: EngineName, R: Wait>(
     rt: &R,
     alloc: Global,
@@ -88,7 +88,7 @@ fn send_all<N: EngineName, R: Wait>(
     Ok(())
 }
 
-/// Sends one item, again until the queue has a place.
+/// Sends one item, again until there is room.
 fn send_until_sent<N: EngineName, R: Wait>(rt: &R, sender: &mut Sender<N>, item: Envelope<N>)
     requires client { item.answer.value.item.client ≡ (view sender.old.pass).from }
     requires serial { item.answer.value.item.serial ≡ length (view sender.old.pass).put + 1 }
@@ -108,7 +108,7 @@ fn send_until_sent<N: EngineName, R: Wait>(rt: &R, sender: &mut Sender<N>, item:
     unreachable!()
 }
 
-/// Takes so many items, and says whether their serials were 1, 2, 3 and so on.
+/// Takes this many items, and says whether their serials were 1, 2, 3 and so on.
 fn take_all<N: EngineName, R: Wait>(rt: &R, taker: &mut Taker<N>, count: u64) -> bool {
     let mut taken = 0;
     for _ in rt.forever() {
@@ -124,7 +124,7 @@ fn take_all<N: EngineName, R: Wait>(rt: &R, taker: &mut Taker<N>, count: u64) ->
     unreachable!()
 }
 
-/// The serial of the item at the front, which is taken.
+/// Takes the item at the front, and returns its serial.
 fn serial_taken<N: EngineName, R: Wait>(rt: &R, taker: &mut Taker<N>) -> Option<u64> {
     let item = taker.take(rt)?;
     Some(item.answer.item().serial)

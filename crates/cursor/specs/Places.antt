@@ -50,6 +50,6 @@ room_at (At e) = if nat_le 32 (depth e) then Err TooDeep else Ok tt
 abbrev pub one_down : Place → (Element → Place) → Result Place Refusal
 one_down p next = result_map_both (λ _. next (element_of p)) (λ why. why) (room_at p)
 
--- this answer, or want of memory where this is a success
+-- this answer, or NoMemory where the answer is a success
 abbrev pub IsUnlessMemory : {T : Type 0} → Result T Refusal → Result T Refusal → Type 0
 IsUnlessMemory r wanted = (r ≡ wanted) ⊎ ((r ≡ Err NoMemory) × IsOk wanted)

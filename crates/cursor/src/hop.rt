@@ -1,4 +1,4 @@
-//! The keys of places.
+//! The keys that a place is made of.
 
 ghost use Rattle.std.specs.Prelude.{◌≡◌};
 ghost use Rattle.std.specs.Cmp;

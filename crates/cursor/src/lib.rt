@@ -1,4 +1,4 @@
-//! Cursors: where in a document something stands.
+//! Cursors: places in a document, and expressions that lead to them.
 #![tactic(auto)]
 
 mod expression;

@@ -1,4 +1,4 @@
-//! Where an operation stands.
+//! Places: what an operation's cursor names.
 
 ghost use Rattle.std.specs.Prelude.{◌≡◌, ◌≤◌, ℕ, suc, true, List, [], ◌∷◌, ◌++◌, map, Some, slice_get, IfOk, MatchOption};
 ghost use Rattle.semantics.specs.Elements.{Element, Doc, At};
@@ -79,7 +79,9 @@ impl Place {
     }
 
     /// The element that these hops lead to from the root, or the head of the list there.
-    /// A path of more than 32 keys, where the head is one, is `TooDeep`.
+    ///
+    /// # Errors
+    /// `TooDeep` for a path of more than 32 keys, counting a head as one.
     pub fn new(hops: Vec<Hop>, is_head: bool) -> Result<Place, Refusal>
         ensures { result ≡ place_from (map hop_of hops.items) is_head }
     {
@@ -89,15 +91,17 @@ impl Place {
         Ok(Place { hops, is_head })
     }
 
-    /// The field with this key of the map here. None is entered from a head, `AtHead`,
-    /// and none where the path has 32 keys already, `TooDeep`; only then is memory taken.
+    /// The field with this key of the map here.
+    ///
+    /// # Errors
+    /// `AtHead` from a head, else `TooDeep` if the path has 32 keys already, else `NoMemory` if allocation fails.
     pub fn get(&self, alloc: Global, key: Key) -> Result<Place, Refusal>
         ensures { (items : Element → List TheId) → IsUnlessMemory result (step_from items self.now (Get key)) }
     {
         self.with_hop(alloc, Hop::Field(key))
     }
 
-    /// The head of the list here, with the refusals of `get`.
+    /// The head of the list here, with the errors of `get`.
     pub fn head(&self, alloc: Global) -> Result<Place, Refusal>
         ensures { (items : Element → List TheId) → IsUnlessMemory result (step_from items self.now (Idx 0)) }
     {
@@ -108,7 +112,7 @@ impl Place {
         })
     }
 
-    /// The item with this id of the list here, with the refusals of `get`.
+    /// The item with this id of the list here, with the errors of `get`.
     pub fn item(&self, alloc: Global, id: OpId) -> Result<Place, Refusal>
         ensures { (items : Element → List TheId) (i : ℕ) → slice_get (items (element_of self.now)) i ≡ Some id →
             IsUnlessMemory result (step_from items self.now (Idx (suc i))) }
@@ -122,7 +126,7 @@ impl Place {
         self.is_head
     }
 
-    /// The place as that of an element, or nothing for a head. Takes no memory.
+    /// The place as that of an element, or `None` for a head. Takes no memory.
     pub fn into_element(self) -> Option<ElementPlace>
         ensures { MatchOption result (is_head self ≡ true) (λ e. self ≡ At e) }
     {
@@ -160,7 +164,7 @@ impl Place {
         }
     }
 
-    /// Whether one more key may follow here.
+    /// Tests whether one more key may follow here.
     fn check_room(&self) -> Result<(), Refusal>
         ensures { result ≡ room_at self.now }
     {
@@ -194,7 +198,7 @@ impl ElementPlace {
     }
 }
 
-/// A copy of the hops, and then this one.
+/// A copy of the hops, with this one at the end.
 fn longer(alloc: Global, hops: &[Hop], hop: Hop) -> Result<Vec<Hop>, AllocError>
     ensures { IfOk result (λ v. v.items ≡ hops.now ++ hop ∷ []) }
 {

@@ -1,4 +1,4 @@
-//! As what something stands in a document.
+//! The types of what stands in a document.
 
 ghost use Rattle.std.specs.Prelude.{◌≡◌};
 ghost use Rattle.semantics.specs.Elements.{tag_of as tag_of_value};
@@ -6,7 +6,7 @@ ghost use Rattle.value.specs.Meanings.{value_of};
 
 use value::Val;
 
-/// As what something stands at an element: the map, the list or the register there.
+/// The type of what stands at an element: a map, a list or a register.
 #[derive(Clone, Copy, Debug, PartialEq, Eq)]
 pub enum Tag {
     Map,
@@ -18,7 +18,7 @@ pub enum Tag {
 impl Tag {
     ghost use Rattle.cursor.specs.Meanings.{tag_of};
 
-    /// As what a value stands where it is written.
+    /// The tag of a value.
     pub fn of(value: &Val) -> Tag
         ensures { tag_of result ≡ tag_of_value (value_of value.now) }
     {

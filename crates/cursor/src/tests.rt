@@ -12,7 +12,7 @@ fn id(counter: u64, replica: u32) -> Result<OpId, Fail> {
     Ok(OpId { counter, replica })
 }
 
-/// So many fields of one key below one another.
+/// This many fields of one key, one below the other.
 fn fields(alloc: Global, count: usize) -> Result<Place, Fail> {
     let mut place = Place::doc(alloc);
     for _ in 0..count {
@@ -21,13 +21,13 @@ fn fields(alloc: Global, count: usize) -> Result<Place, Fail> {
     Ok(place)
 }
 
-/// How deep a place stands.
+/// The depth of a place.
 fn depth_of(place: Result<Place, Refusal>) -> Result<usize, Refusal> {
     let place = place?;
     Ok(place.depth())
 }
 
-/// How deep the field, the head and the item of a place stand.
+/// The depths of the field, the head and the item of a place.
 fn depths_below(alloc: Global, place: &Place) -> Result<[Result<usize, Refusal>; 3], Fail> {
     let key = Key::new(alloc, "")?;
     let item = id(7, 2)?;
@@ -36,7 +36,7 @@ fn depths_below(alloc: Global, place: &Place) -> Result<[Result<usize, Refusal>;
     Ok([field, head, depth_of(place.item(alloc, item))])
 }
 
-/// The place stands this deep, and each one below it so.
+/// Asserts the depth of the place, and of each one below it.
 fn assert_depths(
     rt: &impl Abort,
     alloc: Global,
@@ -64,7 +64,7 @@ fn paths_have_at_most_32_keys(rt: HostRuntime) -> Result<(), Fail> {
     Ok(())
 }
 
-/// The head below so many fields.
+/// The head below this many fields.
 fn head_below(alloc: Global, count: usize) -> Result<Place, Fail> {
     let place = fields(alloc, count)?;
     Ok(place.head(alloc)?)
@@ -79,7 +79,7 @@ fn nothing_stands_below_a_head(rt: HostRuntime) -> Result<(), Fail> {
     Ok(())
 }
 
-/// So many hops to a field.
+/// This many hops to a field.
 fn hops(alloc: Global, count: usize) -> Result<Vec<Hop>, Refusal> {
     let mut hops = Vec::new(alloc);
     for _ in 0..count {
@@ -89,7 +89,7 @@ fn hops(alloc: Global, count: usize) -> Result<Vec<Hop>, Refusal> {
     Ok(hops)
 }
 
-/// How deep the place of so many hops stands.
+/// The depth of the place of this many hops.
 fn depth_made(alloc: Global, count: usize, is_head: bool) -> Result<usize, Refusal> {
     let hops = hops(alloc, count)?;
     depth_of(Place::new(hops, is_head))
@@ -119,7 +119,7 @@ enum At {
     Field(&'static str),
     /// The item of this counter and replica.
     Item(u64, u32),
-    /// So many fields of one key below one another.
+    /// This many fields of one key, one below the other.
     Fields(usize),
 }
 
@@ -205,7 +205,7 @@ fn items_end_in_ids(rt: HostRuntime) -> Result<(), Fail> {
     Ok(())
 }
 
-/// The place leads over the key `k` to the item 7@2.
+/// Asserts that the place leads over the key `k` to the item 7@2.
 fn assert_hops(rt: &impl Abort, place: &Place) -> Result<(), Fail> {
     let [Hop::Field(first), Hop::Item(second)] = place.hops() else {
         return Err(Fail::from("other hops"));
@@ -246,7 +246,7 @@ fn steps(alloc: Global) -> Result<Vec<Step>, Fail> {
     Ok(steps)
 }
 
-/// The expression has just those steps.
+/// Asserts that the expression has just those steps.
 fn assert_steps(rt: &impl Abort, expression: &Expr) -> Result<(), Fail> {
     let [Step::Get(key), Step::Idx(index)] = expression.steps() else {
         return Err(Fail::from("other steps"));

@@ -9,12 +9,12 @@ use Rattle.semantics.specs.Tables.{component}
 use Rattle.version.proofs.TableColumns.{component-get, component-none}
 use Rattle.document.specs.Checks.{named_at}
 
--- the counter beside the replica at a place
+-- the counter of the replica at an index
 pub component_there : (ps cs : List ℕ) (i p : ℕ) → AreDistinct ps → length cs ≡ length ps → slice_get ps i ≡ Some p → component ps cs p ≡ get_or cs i 0
 component_there ps cs i p distinct width is =
     ap (component ps cs) (sym (get_or_from_slice_get ps i p 0 is)) ∙ component-get ps cs i distinct (slice_get_within ps i p is) width
 
--- a member stands at a place
+-- a member stands at an index
 member_place : (ps : List ℕ) (p : ℕ) → is_member ps p ≡ true → (i : ℕ) × (slice_get ps i ≡ Some p)
 member_place [] p h = absurd (true≢false (sym h))
 member_place (q ∷ ps) p h = at_test (q == p) refl (member_place ps p) h
@@ -23,7 +23,7 @@ member_place (q ∷ ps) p h = at_test (q == p) refl (member_place ps p) h
     at_test true e rest m = (0, ap Some (eqb-true q p e))
     at_test false e rest m = let r = rest m in (suc r.0, r.1)
 
--- an id that is named has the counter beside its replica, and that isn't 0
+-- an id that is named has the counter of its replica, and that isn't 0
 pub named_counter : (ps cs : List ℕ) (i : ℕ) (a : OpId) → AreDistinct ps → length cs ≡ length ps → named_at ps cs i ≡ Some a → (a.counter ≡ component ps cs a.replica) × (a.counter ≢ 0)
 named_counter ps cs i a distinct width is = by (get_or cs i 0 == 0) refl (slice_get ps i) refl is
   where
@@ -35,7 +35,7 @@ named_counter ps cs i a distinct width is = by (get_or cs i 0 == 0) refl (slice_
         let there = component_there ps cs i p distinct width f in
         subst (λ (x : OpId). (x.counter ≡ component ps cs x.replica) × (x.counter ≢ 0)) same (sym there, eqb-false (get_or cs i 0) 0 e)
 
--- each counter that isn't 0 is named at a place
+-- each counter that isn't 0 is named at an index
 pub named_place : (ps cs : List ℕ) (p : ℕ) → AreDistinct ps → length cs ≡ length ps → component ps cs p ≢ 0 → (i : ℕ) × (i < length ps) × (named_at ps cs i ≡ Some (id_at (component ps cs p) p))
 named_place ps cs p distinct width n = by (is_member ps p) refl
   where

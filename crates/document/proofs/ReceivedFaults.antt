@@ -104,7 +104,7 @@ module _ (ps cs : List ℕ) (distinct : AreDistinct ps) (width : length cs ≡ l
       let (i, h, is) = named_there a.replica (λ z. n (named' ∙ z)) in
       ap (λ c. opens G named (Some (id_at c a.replica))) named' ∙ ap (opens G named) (sym is) ∙ none i h))
 
--- the chain is tested by the counters at the place of the operation's replica
+-- the chain is tested by the counters at the index of the operation's replica
 pub chain_there : (H : List Operation) (ps cs ds : List ℕ) → AreDistinct ps → length cs ≡ length ps → length ds ≡ length ps → ((p : ℕ) → component ps ds p ≡ greatest_counter H p)
     → (i p : ℕ) → slice_get ps i ≡ Some p → (get_or cs i 0 == get_or ds i 0) ≡ (at (by_table ps cs) p == greatest_counter H p)
 chain_there H ps cs ds distinct width beside all i p is = λ t.

@@ -7,7 +7,7 @@ use Rattle.semantics.specs.Vectors.{Vector, is_at_most}
 use Rattle.semantics.specs.Entries.{Entry as TheEntry, entry_at, stamped_in}
 use Rattle.oplog.specs.Logs.{place_of}
 
--- the id that a column names at a place of the table, unless its counter is 0
+-- the id that a column names at an index of the table, unless its counter is 0
 abbrev pub named_at : List ℕ → List ℕ → ℕ → Option OpId
 named_at table column i = cond (slice_index column i == 0) None (option_map (id_at (slice_index column i)) (slice_get table i))
 
@@ -21,7 +21,7 @@ abbrev pub is_beyond : Vector → Option TheEntry → Bool
 is_beyond v None = false
 is_beyond v (Some e) = not (is_at_most (stamped_in e).vector v)
 
--- the entry at a place, if there is a place
+-- the entry at a position, if there is a position
 abbrev pub entry_there : Option ℕ → List TheEntry → Option TheEntry
 entry_there None G = None
 entry_there (Some n) G = entry_at n G

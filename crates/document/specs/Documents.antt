@@ -17,7 +17,7 @@ use Rattle.document.specs.declared.question.Question.TheVariants.{Values, Keys, 
 use Rattle.document.specs.declared.question.Reading.{Reading}
 use Rattle.document.specs.declared.question.Reading.TheVariants as reading
 
--- a document: the table of replicas, the entries with the newest first, how many more fit without memory, and the tree of what they leave
+-- a document: the table of replicas, the entries with the newest first, for how many more there is room, and the tree of what they leave
 pub record Kept : Type 0 where
   pub table : List ℕ
   pub entries : List TheEntry
@@ -33,7 +33,7 @@ pub record HasRoomFor (kept : Kept) (s : Stamped) : Type 0 where
 abbrev pub MayFollowEntries : List TheEntry → TheEntry → Type 0
 MayFollowEntries G e = MayFollow (applied G) (stamped_in e)
 
--- what is asked, where the counters of a vector stand beside a table
+-- what is asked, where the counters of a vector are indexed by a table
 abbrev pub asked_of : List ℕ → Question → Asked
 asked_of table (Values e) = OfDocument (AskValues e)
 asked_of table (Keys e) = OfDocument (AskKeys e)

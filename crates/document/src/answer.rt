@@ -57,7 +57,10 @@ pub fn answer(
     }
 }
 
-/// The element that an expression leads to; a head is refused.
+/// The element that an expression leads to.
+///
+/// # Errors
+/// Those of `resolve`, and `AtHead` where it leads to a head.
 fn find(alloc: Global, tree: &Tree, expression: &Expr) -> Result<ElementPlace, Refusal>
     ensures ok { IfOk result (λ e. resolve (visible_items (document tree.now)) expression.now ≡ Ok (At e)) }
     ensures err { IfErr result (λ why. (why ≡ NoMemory) ⊎ ((f : Element → Answer) → answer_at f (resolve (visible_items (document tree.now)) expression.now) ≡ Refused why)) }
@@ -80,7 +83,7 @@ pub fn missing(alloc: Global, log: &Log, vector: &VersionVector) -> Result<Vec<O
     Ok(ops)
 }
 
-/// Copies the operation at a place behind these, where there is one.
+/// Appends a copy of the operation at a position, if there is one.
 fn push_copy(ops: &mut Vec<Op>, log: &Log, place: usize) -> Result<(), AllocError>
     ensures op { OnOk result (map (stamped_of log.now.table) ops.new.items ≡ map (stamped_of log.now.table) ops.old.items ++ cons_option (option_map stamped_in (entry_at place log.now.entries)) []) }
     ensures width { OnOk result (All (λ o. length o.deps ≡ length log.now.table) ops.old.items → All (λ o. length o.deps ≡ length log.now.table) ops.new.items) }

@@ -39,7 +39,7 @@ pub fn check(log: &Log, applied: &VersionVector, tree: &Tree, op: &Op) -> Result
     Ok(())
 }
 
-/// Whether the counter that is named of the operation's own replica isn't the greatest that was applied of it.
+/// Whether the vector names another counter of the operation's own replica than the greatest that was applied.
 fn breaks_chain(log: &Log, applied: &VersionVector, op: &Op) -> bool
     requires distinct { AreDistinct log.now.table }
     requires applied { (p : ℕ) → component log.now.table applied.now p ≡ greatest_counter (operations_in log.now.entries) p }
@@ -53,7 +53,7 @@ fn breaks_chain(log: &Log, applied: &VersionVector, op: &Op) -> bool
     }
 }
 
-/// Whether a counter of the vector is that of no operation of the log.
+/// Whether the vector names a counter of no operation of the log.
 fn names_nothing(log: &Log, vector: &VersionVector) -> bool
     requires distinct { AreDistinct log.now.table }
     requires width { length vector.now ≡ length log.now.table }
@@ -67,7 +67,7 @@ fn names_nothing(log: &Log, vector: &VersionVector) -> bool
     false
 }
 
-/// Whether the id that the vector names at this place of the table is that of no operation of the log.
+/// Whether the id that the vector names at this index of the table is that of no operation of the log.
 fn is_missing(log: &Log, vector: &VersionVector, index: usize) -> bool
     requires width { length vector.now ≡ length log.now.table }
     requires inside { index < length log.now.table }
@@ -94,7 +94,7 @@ fn is_open(log: &Log, vector: &VersionVector) -> bool
     false
 }
 
-/// Whether the operation that the vector names at this place of the table has a vector that isn't at most this.
+/// Whether the operation that the vector names at this index of the table has a vector that isn't at most this.
 fn opens(log: &Log, vector: &VersionVector, index: usize) -> bool
     requires distinct { AreDistinct log.now.table }
     requires width { length vector.now ≡ length log.now.table }
@@ -113,7 +113,7 @@ fn opens(log: &Log, vector: &VersionVector, index: usize) -> bool
     }
 }
 
-/// The id that the vector names at this place of the table, unless its counter is 0.
+/// The id that the vector names at this index of the table, `None` if its counter is 0.
 fn named(log: &Log, vector: &VersionVector, index: usize) -> Option<OpId>
     requires width { length vector.now ≡ length log.now.table }
     requires inside { index < length log.now.table }

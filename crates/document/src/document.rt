@@ -1,4 +1,4 @@
-//! The history of a replica, with the document that it leaves.
+//! A replica's history and its document, kept together.
 
 ghost use Rattle.std.specs.Prelude.{◌≡◌, ◌≤◌, ◌⊎◌, ◌↔◌, ◌∷◌, [], Ok, None, Some, true, IsTrue, IsFalse, IsOk, MatchResult, length, map, reverse, option_map, IfOk, IfSome, OnOk, IfErr, Err};
 ghost use Rattle.std.specs.List.{All};
@@ -57,7 +57,7 @@ impl Model for Document {
 impl Document {
     ghost use Rattle.document.specs.Documents.{HasRoomFor, IsBeside, MayFollowEntries, asked_of, said_by};
 
-    /// A document with no history, of a replica with these members.
+    /// A document with an empty history, of a replica with these members.
     ///
     /// # Errors
     /// `BadConfig` if the members aren't 1 to 64 distinct numbers above 0, else `NoMemory` if allocation fails.
@@ -90,7 +90,7 @@ impl Document {
         self.log.len()
     }
 
-    /// The entry at this place, where the oldest is at 0, or nothing past the end.
+    /// The entry at this position, where the oldest is at 0, or `None` past the end.
     pub fn entry(&self, place: usize) -> Option<&Entry>
         ensures entry { option_map (λ e. entry_of self.now.table e.now) result ≡ entry_at place self.now.entries }
         ensures width { IfSome result (λ e. length (op_in e.now).deps ≡ length self.now.table) }
@@ -98,7 +98,7 @@ impl Document {
         self.log.get(place)
     }
 
-    /// The greatest counter of each replica, beside the table.
+    /// The vector of all that was applied: the greatest counter of each replica, indexed by the table.
     pub fn applied(&self) -> &VersionVector
         ensures width { length result.now ≡ length self.now.table }
         ensures all { by_table self.now.table result.now ≡ vector_of (applied self.now.entries) }
@@ -115,7 +115,7 @@ impl Document {
         self.log.find(id).is_some()
     }
 
-    /// Whether all that the operation's vector names is at most what was applied. Compares eight counters at once.
+    /// Whether the operation is causally ready: its vector is at most what was applied. Compares eight counters at once.
     pub fn ready(&self, op: &Op) -> bool
         requires width { length op.now.deps ≡ length self.now.table }
         ensures { result ≡ is_ready (applied self.now.entries) (stamped_of self.now.table op.now) }
@@ -123,10 +123,14 @@ impl Document {
         op.deps.le(&self.applied)
     }
 
-    /// What is wrong with a ready operation, against the history. One that passed `check_alone` beside this table may follow exactly where nothing is. Takes no memory. For each counter of its vector it does a binary search, and it walks down its place.
+    /// Tests a causally ready operation against the history. One that passed `check_alone` for this table may follow the
+    /// history exactly where this answers `Ok`. Takes no memory. Costs a binary search for each counter of its vector,
+    /// and a walk down its place.
     ///
     /// # Errors
-    /// In this order: `BrokenChain` where its vector doesn't name all that was applied of its own replica; `NamesNothing` where a counter of its vector is that of no applied operation; `NotClosed` where an operation that its vector names has a vector that isn't at most this; `BadPlace` where an item of its place was not inserted into that very list.
+    /// In this order: `BrokenChain` where its vector doesn't name all that was applied of its own replica; `NamesNothing` where a
+    /// counter of its vector is that of no applied operation; `NotClosed` where an operation that its vector names has a vector
+    /// that isn't at most this; `BadPlace` where an item of its place was not inserted into that very list.
     pub fn check(&self, op: &Op) -> Result<(), Refusal>
         requires width { length op.now.deps ≡ length self.now.table }
         ensures fault { let fault = fault_of (stamped_entries self.now.entries) (stamped_of self.now.table op.now) in
@@ -180,10 +184,12 @@ impl Document {
         self.log.push(entry);
     }
 
-    /// The answer to a question: the history's, which for a question to the document is the view of its operations as a set. Copies what it answers.
+    /// The answer to a question: the history's, which for a question to the document is the view of its operations as a set. Copies
+    /// what it returns.
     ///
     /// # Errors
-    /// The refusal of the expression, as the rules have it: those of `resolve`, and `AtHead` where it leads to a head. The history and the view of its operations refuse alike. Or `NoMemory` if allocation fails.
+    /// The refusal of the expression: those of `resolve`, and `AtHead` where it leads to a head. The history and the view of its
+    /// operations refuse alike. Or `NoMemory` if allocation fails.
     pub fn ask(&self, alloc: Global, question: &Question) -> Result<Reading, Refusal>
         requires { IsBeside self.now.table question.now }
         ensures answer { IfOk result (λ r. said_by self.now.table r ≡ reading_of self.now.entries (asked_of self.now.table question.now)) }

@@ -1,4 +1,4 @@
-//! Questions to a document, and what it answers.
+//! Questions to a document, and its answers.
 
 use cursor::{Expr, Tag};
 use ids::OpId;
@@ -17,13 +17,13 @@ pub enum Question {
     Items(Expr),
     /// For what stands at the element, and as what.
     Conflicts(Expr),
-    /// For the operations that the vector doesn't cover; it stands beside the document's table.
+    /// For the operations that the vector doesn't cover. The vector is indexed by the document's table.
     Missing(VersionVector),
-    /// For all that was applied.
+    /// For the vector of all that was applied.
     Vector,
 }
 
-/// What a document answers. Vectors stand beside its table.
+/// The answer to a question (ANSWER of a script). Vectors are indexed by the document's table.
 #[derive(Debug, Drop)]
 pub enum Reading {
     /// The values with the ids of the operations that wrote them, rising by id.

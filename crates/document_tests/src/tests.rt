@@ -45,7 +45,7 @@ fn new_documents_are_empty(rt: HostRuntime) -> Result<(), Fail> {
     Ok(())
 }
 
-/// How many replicas a new document with these members has.
+/// How many replicas the table of a new document with these members has.
 fn width(alloc: Global, members: &[u32]) -> Result<usize, Refusal> {
     let document = Document::new(alloc, members)?;
     Ok(document.table().len())
@@ -64,7 +64,7 @@ fn members_are_within_limits(rt: HostRuntime) {
     }
 }
 
-/// Takes the memory for that operation twice.
+/// Reserves that operation twice.
 fn reserve_twice(alloc: Global, document: &mut Document) -> Result<(), Fail> {
     let op = first_op(alloc, document)?;
     document.reserve(alloc, &op)?;
@@ -80,7 +80,7 @@ fn taking_memory_changes_no_content(rt: HostRuntime) -> Result<(), Fail> {
     Ok(())
 }
 
-/// A map is inserted into a list, and a number is written at a key of it.
+/// Inserts a map into a list, and writes a number at a key of it.
 #[test]
 fn a_map_stands_in_a_list(rt: HostRuntime) -> Result<(), Fail> {
     const HEAD: &[Hop] = &[Field("l"), Head];

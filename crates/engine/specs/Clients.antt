@@ -15,7 +15,7 @@ pub record Keeps : Type 0 where
   pub item : Item
   pub known : Option Answered
 
--- a client: the engine's replica number and its own, how many serials it has, its queue with the places of that, what its token has seen and what it read last, and what it keeps of each serial
+-- a client: the engine's replica number and its own, how many serials it has, its queue with its capacity, what its token has seen and what it read last, and what it keeps of each serial
 pub record Client : Type 0 where
   pub replica : ℕ
   pub number : ℕ

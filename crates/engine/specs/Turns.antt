@@ -42,7 +42,7 @@ pub record IsWriter (own : ℕ) (table : List ℕ) (publication : Publication) (
   pub fits : batch ≤ room
   pub positive : 0 < batch
 
--- when so much had been taken, there was a moment at which the queue was empty
+-- when this much had been taken, there was a moment at which the queue was empty
 abbrev pub WasEmpty : List Item → Type 0
 WasEmpty took = (made : ℕ) × (known : List (List Item)) × Moment (taker_hand took made known) []
 
@@ -61,7 +61,7 @@ Ends w hs Idle v = (hs ≡ []) × (v.held ≡ []) × (v.published ≡ w.publishe
 Ends w hs (Published n) v = (n ≡ length hs) × (v.held ≡ []) × (v.published ≡ v.handler.replica.entries) × (n < w.batch → WasEmpty v.took) × (n ≡ 0 → length w.published < length v.published)
 Ends w hs Held v = (v.held ≡ hs) × (v.published ≡ w.published) × (length hs ≡ 0 → length v.published < length v.handler.replica.entries)
 
--- a publish of what is held, and the answers after it; without memory to publish, nothing
+-- a publish of what is held, and the answers after it; if allocation fails, nothing
 abbrev pub Shows : Writer → Step → Writer → Type 0
 Shows w Idle v = ⊥
 Shows w (Published n) v = (n ≡ length w.held) × (v ≡ record w { published = w.handler.replica.entries; held = [] })

@@ -176,11 +176,11 @@ impl<N: EngineName> Client<N> {
         }
     }
 
-    /// The reply to the ticket's submission, once the writer has answered it, or none. From then on the client has seen all
-    /// that was published with the answer. Never waits; takes no memory. Linear in the size of what was submitted.
+    /// The reply to the ticket's submission once the writer has answered it, else `None`. From then on the client has seen all that was
+    /// published with the answer. Never waits; takes no memory. Linear in the size of what was submitted.
     ///
     /// # Errors
-    /// `Foreign` if the ticket is of another engine's number or another client, or of a serial that wasn't taken.
+    /// `Foreign` if the ticket is of another replica number or another client, or of a serial that wasn't taken.
     pub fn poll(&mut self, ticket: &Ticket) -> Result<Option<Reply>, Refusal>
         ensures mine { MatchResult result (λ _. IsMine self.old ticket.now) (λ e. (e ≡ Foreign) × (IsMine self.old ticket.now → ⊥) × (self.new ≡ self.old)) }
         ensures grows { BeginsWith self.new.seen self.old.seen }
@@ -200,7 +200,7 @@ impl<N: EngineName> Client<N> {
         Ok(Some(reply))
     }
 
-    /// The notice of the ticket's answer, once the writer has answered it, or none. Never waits; takes no memory.
+    /// The notice of the ticket's answer once the writer has answered it, else `None`. Never waits; takes no memory.
     ///
     /// # Errors
     /// `Foreign`, as `poll`.
@@ -214,7 +214,7 @@ impl<N: EngineName> Client<N> {
         Ok(self.kept[ticket.serial as usize - 1].notice())
     }
 
-    /// Whether the client was given this ticket.
+    /// Whether the ticket is one of this client's.
     fn is_mine(&self, ticket: &Ticket) -> bool
         ensures { MatchBool result (IsMine self.now ticket.now) (IsMine self.now ticket.now → ⊥) }
     {

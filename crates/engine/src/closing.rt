@@ -1,4 +1,4 @@
-//! How an engine is closed.
+//! Closing an engine.
 
 ghost use Rattle.std.specs.Prelude.{◌≡◌, ◌+◌, ◌++◌, ℕ, List, length, Some, slice_get};
 ghost use Rattle.semantics.specs.Batches.{AsksFor};

@@ -1,4 +1,4 @@
-//! What a client keeps of a serial.
+//! What a client keeps for a serial.
 
 ghost use Rattle.std.specs.Prelude.{◌≡◌, Some, None, MatchOption, IfSome};
 ghost use Rattle.items.specs.Meanings.{answer_of as reply_of, submitted_of};
@@ -47,7 +47,7 @@ impl<N: EngineName> Kept<N> {
         Kept { item, cell, note }
     }
 
-    /// The reply and its notice, once they are there; from then on always the same. Never waits.
+    /// The reply and its notice once they are there, and from then on always the same. Never waits.
     pub fn look(&mut self) -> Option<(Reply, Notice<N>)>
         ensures item { self.new.item ≡ self.old.item }
         ensures known { IfSome self.old.known (λ a. self.new.known ≡ Some a) }
@@ -59,7 +59,7 @@ impl<N: EngineName> Kept<N> {
         Some((given.reply, given.notice.again()))
     }
 
-    /// The notice of the answer, once it is there. Never waits.
+    /// The notice of the answer once it is there. Never waits.
     pub fn notice(&self) -> Option<&Notice<N>>
         ensures { IfSome result (λ n. (g : TheGiven) × (n.now ≡ g.history) × IsAnswer N.own N.table g.history (submitted_of N.table self.now.item) (reply_of g.reply)) }
     {
@@ -68,7 +68,7 @@ impl<N: EngineName> Kept<N> {
     }
 }
 
-/// What an answer gives to the item, which is none where another item is answered.
+/// What an answer gives to the item, `None` if it is another item's answer.
 fn given_to<'a, N: EngineName>(answer: &'a Answer<N>, item: &Item) -> Option<&'a Given<N>>
     ensures { MatchOption result (answer_in item.now (Some answer.now) ≡ None)
         (λ g. (answer_in item.now (Some answer.now) ≡ Some (record { reply = g.now.reply; history = g.now.notice })) × IsAnswer N.own N.table g.now.notice (submitted_of N.table item.now) (reply_of g.now.reply)) }

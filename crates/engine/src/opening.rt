@@ -1,4 +1,4 @@
-//! How an engine is opened.
+//! Opening an engine.
 
 ghost use Rattle.std.specs.Prelude.{◌≡◌, ◌+◌, ◌<◌, ◌≤◌, ◌⊎◌, ◌↔◌, [], length, true, Err, IfOk, IfErr, IsTrue, IsFalse, vec_capacity};
 ghost use Rattle.std.specs.List.{All};
@@ -61,7 +61,7 @@ pub fn prepare(alloc: Global, config: Config) -> Result<Parts, Refusal>
     })
 }
 
-/// The own number of a configuration within its limits.
+/// The own replica number of a configuration within its limits.
 fn own_number(config: &Config) -> ReplicaId
     requires { is_within_limits config.now ≡ true }
     ensures { result ≡ config.now.own }
@@ -87,12 +87,12 @@ fn two_documents(alloc: Global, members: &[u32]) -> Result<(Document, Document),
     Ok((first, second))
 }
 
-/// Opens an engine: returns its writer, its clients numbered from 0, and its readers. `N` names the engine: it is picked for
-/// these parts by whoever calls, and what carries it is of this engine. Takes the permission to wait for the case that it is refused
-/// halfway and ends the copies again; no reader is there yet to wait for.
+/// Opens an engine: returns its writer, its clients numbered from 0, and its readers. `N` names the engine: the caller picks it for
+/// these parts, and what carries it is of this engine. If opening is refused halfway the copies are ended again, which needs the
+/// permission to wait, although no reader is there yet to wait for.
 ///
 /// # Errors
-/// `NoReaderPlace` if the copies have no place for a reader, which can come without cause; `NoMemory` if allocation fails.
+/// `NoReaderPlace` if the copies have no seat for a reader, which may come without cause; `NoMemory` if allocation fails.
 pub fn open<N: EngineName>(
     rt: &impl Wait,
     alloc: Global,

@@ -32,13 +32,13 @@ mod tests;
 pub enum Step {
     /// Nothing was taken, and there was nothing to publish.
     Idle,
-    /// All entries are published, and so many items were answered.
+    /// All entries are published, and this many submissions were answered.
     Published(usize),
-    /// Allocation failed in the publish. The batch stays whole, and none of it is answered.
+    /// Allocation failed in the publish. The batch is held whole, and none of it is answered.
     Held,
 }
 
-/// An item that was handled, and waits for the publish. Contracts see the submission and its reply.
+/// A submission that was handled, and waits for the publish. Contracts see the submission and its reply.
 #[derive(Drop)]
 pub struct Handled<N: EngineName> {
     pub envelope: Envelope<N>,
@@ -203,7 +203,7 @@ impl<N: EngineName> Writer<N> {
         self.publisher.publish(rt)
     }
 
-    /// Answers what is held, once all entries are published.
+    /// Answers what is held. All entries are published.
     fn answer_all(&mut self)
         requires { self.old.published ≡ self.old.handler.replica.entries }
         ensures answers { self.new ≡ record self.old { held = [] } }

@@ -1,4 +1,4 @@
-//! Engines played on one thread, as rows that `play` does one after another, and in threads.
+//! Engines on one thread, as tables of turns, and in threads.
 
 mod batches;
 mod closing;

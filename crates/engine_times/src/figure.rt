@@ -1,24 +1,24 @@
-//! What a play did, and how long it took.
+//! What a play counted, and how long it took.
 
 ghost use Rattle.std.specs.Prelude.{◌≡◌, ◌*◌, ◌/◌, ◌-◌, ◌^◌, max, min};
 
 use std::time::{Clock, Instant};
 
-/// What a play did.
+/// What a play counted.
 #[derive(Clone, Copy, Debug)]
 pub struct Figure {
     pub name: &'static str,
     /// How many operations were made, seen or received.
     pub count: usize,
-    /// What its rate is of.
+    /// What is counted.
     pub what: &'static str,
-    /// How many of these there were.
+    /// The count.
     pub done: u64,
-    /// How long they took.
+    /// How long it took.
     pub nanos: u64,
 }
 
-/// What the plays did.
+/// The figures of all plays.
 #[derive(Clone, Copy, Debug)]
 pub struct Figures {
     pub polls: Figure,
@@ -27,7 +27,7 @@ pub struct Figures {
 }
 
 impl Figure {
-    /// How many were done in a second, rounded down.
+    /// Rate per second, rounded down.
     pub fn a_second(&self) -> u64
         ensures { result ≡ min (self.now.done * 1000000000 / max self.now.nanos 1) (2 ^ 64 - 1) }
     {
@@ -36,12 +36,12 @@ impl Figure {
     }
 }
 
-/// When something began, by a clock that may not be read.
+/// When something began; `None` if the clock can't be read.
 pub fn begin<R: Clock>(rt: &R) -> Option<Instant> {
     Instant::now(rt).ok()
 }
 
-/// The nanoseconds since then; none where the clock wasn't read.
+/// The nanoseconds since then; `None` if the clock wasn't read.
 pub fn nanos_since<R: Clock>(rt: &R, began: Option<Instant>) -> u64 {
     let Some(began) = began else {
         return 0;

@@ -1,4 +1,4 @@
-//! Plays engines for a while, and tells how much they did; by the word `time` also how much a second.
+//! Plays engines for a while, and prints how much they did; with the word `time` also how much a second.
 #![tactic(auto)]
 
 mod figure;

@@ -1,4 +1,4 @@
-//! The plays: a client that submits and polls, a reader beside a busy writer, and an exchange between two engines.
+//! The plays: a client that submits and polls, a reader next to a busy writer, and an exchange between two engines.
 
 ghost use Rattle.std.specs.Prelude.{◌≡◌};
 ghost use Rattle.ids.specs.Members.{in_order};
@@ -13,7 +13,7 @@ use std::sync::Wait;
 use std::thread::{Threads, join};
 use std::time::Clock;
 
-/// How many operations are written in each of the two first plays.
+/// How many operations are written in each of the first two plays.
 const OPS: u32 = 1_000;
 
 /// Plays with two engines, one play after another.
@@ -121,7 +121,7 @@ fn submit_to_poll<N: EngineName, R: Wait + Clock>(
     })
 }
 
-/// A reader asks without pause, while a client and the writer go on in another thread.
+/// A reader asks without a pause, while a client and the writer go on in another thread.
 fn read_beside<N: EngineName + Send + Sync, R: Threads + Wait + Clock + Sync>(
     rt: &R,
     alloc: Global,

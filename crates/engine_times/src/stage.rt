@@ -19,10 +19,10 @@ pub struct Stage<'a, N: EngineName> {
     pub reader: &'a mut ReaderToken<N>,
 }
 
-/// How often a reader may ask without seeing all.
+/// How often a reader may ask without seeing all, before it gives up.
 const MOST_READS: u64 = 1_000_000_000;
 
-/// Submits numbers one after another, steps after each, and polls its answer. How many were made.
+/// Submits numbers one after another, steps after each, and polls its answer. Returns how many were made.
 pub fn write_all<N: EngineName, R: Wait>(
     rt: &R,
     alloc: Global,
@@ -66,7 +66,7 @@ fn place(alloc: Global) -> Result<Expr, Refusal> {
     Ok(Expr::new(vec![in alloc; step]?))
 }
 
-/// Reads the value again and again, until so many operations are seen. How many were seen, and how often it was read.
+/// Reads the value again and again until this many operations are seen. Returns how many were seen, and how often it was read.
 pub fn read_until<N: EngineName>(
     alloc: Global,
     reader: &mut ReaderToken<N>,
@@ -101,7 +101,7 @@ impl<N: EngineName> Stage<'_, N> {
         answer(alloc, self.reader, hello)
     }
 
-    /// Receives a bundle and handles all of it. How many operations are seen then.
+    /// Receives a bundle and handles all of it. Returns how many operations are seen then.
     pub fn take<R: Wait>(
         &mut self,
         rt: &R,
@@ -118,7 +118,7 @@ impl<N: EngineName> Stage<'_, N> {
     }
 }
 
-/// Steps until nothing waits.
+/// Steps until the queue is empty.
 fn step_all<N: EngineName, R: Wait>(
     rt: &R,
     alloc: Global,

@@ -13,7 +13,7 @@ use Rattle.semantics.proofs.HandledAnswers.{IsPart, part}
 use Rattle.replica.specs.Replicas.{next_of}
 use Rattle.replica.proofs.Turns.{appending, count_stays, counted_for, ended, ended_by_count, next_some}
 
--- q is r after some turns of a drain, at least so many; the entries of q were taken to be published, after which h is h0
+-- q is r after some turns of a drain, at least this many; the entries of q were taken to be published, after which h is h0
 pub record IsUnderWay (r : Replica) (h0 h : Publication) (q : Replica) (least : ℕ) : Type 0 where
   pub turns : ℕ
   pub enough : least ≤ turns

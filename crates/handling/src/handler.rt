@@ -1,4 +1,4 @@
-//! A replica that handles items, and hands each entry to what publishes it.
+//! A replica that handles submissions, and hands each entry to a publisher.
 
 ghost use Rattle.std.specs.Prelude.{◌≡◌, ◌≢◌, ◌≤◌, ℕ, false, length, Err, IsTrue, IfErr, OnOk, OnErr};
 ghost use Rattle.ids.specs.Members.{is_member};
@@ -55,7 +55,7 @@ impl Handler {
         }
     }
 
-    /// Handles an item: appends what the rules make of a command, or delivers a peer's operation and drains the inbox.
+    /// Handles a submission: appends what the rules make of a command, or delivers a peer's operation and drains the inbox.
     /// The reply says what was made or kept, or why not. Clones a command twice and its operation once, a peer's operation twice.
     ///
     /// If allocation fails for a command or for the delivery, the reply is `Refused(NoMemory, ..)` and nothing has changed. If it
@@ -139,7 +139,7 @@ fn deliver(replica: &mut Replica, op: &Op) -> Result<Delivered, Refusal>
     replica.deliver(op.clone()?)
 }
 
-/// The reply to a delivery after which the history has this length.
+/// The reply to a delivery, for a history that has this length afterwards.
 fn reply_to(answer: Result<Delivered, Refusal>, length: u64) -> Reply
     ensures { answer_of result ≡ reply_delivered length (outcome_of answer) }
 {

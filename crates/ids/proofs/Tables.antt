@@ -68,7 +68,7 @@ search_decides ps p r h found = by_result r (searched ps p r found (rising_place
         by_order j l same (inl below) = let low = m.1 j below in omega arith
         by_order j l same (inr above) = let high = m.2 j above l in omega arith
 
--- the number at a place is that of a replica, since it isn't 0
+-- the number at an index is that of a replica, since it isn't 0
 pub replica_at : (ps : List ℕ) (k n : ℕ) (r : Option ℕ) → IsBelowAll 0 ps → k < length ps → n ≡ get_or ps k 0 → MatchOption r (n ≡ 0) (λ m. (m ≡ n) × (0 < n)) → r ≡ slice_get ps k
 replica_at ps k n None h l e m = let above : 0 < get_or ps k 0 = all_above 0 ps h k l in absurd (omega arith)
 replica_at ps k n (Some r) h l e m = ap Some (m.0 ∙ e) ∙ sym (slice_get-get_or ps k 0 l)

@@ -1,4 +1,4 @@
-//! What an engine is opened with.
+//! The configuration that an engine is opened with.
 
 ghost use Rattle.std.specs.Prelude.{◌≡◌, IsTrue, IsFalse, MatchResult};
 ghost use Rattle.ids.specs.Configurations.{is_within_limits};
@@ -8,22 +8,22 @@ use crate::Refusal;
 use crate::members::{are_members, is_from_one_to};
 use std::marker::Model;
 
-/// What an engine is opened with. Contracts see the members as a list; `check` tests the limits.
+/// The configuration of an engine. Contracts see the members as a list; `check` tests the limits.
 #[derive(Debug, Drop)]
 pub struct Config {
-    /// The own replica number, one of the members.
+    /// The engine's own replica number, one of the members.
     pub own: u32,
-    /// From 1 to 64 replica numbers, each from 1 on and different from the others.
+    /// From 1 to 64 distinct replica numbers above 0.
     pub members: Vec<u32>,
-    /// From 1 to 64.
+    /// How many clients there are, from 1 to 64.
     pub clients: u32,
-    /// From 1 to 64.
+    /// How many readers there are, from 1 to 64.
     pub readers: u32,
-    /// The places of the queue, from 1 to 65,536.
+    /// The capacity of the queue, from 1 to 65,536.
     pub queue: u32,
-    /// The greatest number of items that are published at once, from 1 to 256.
+    /// The most submissions that one step of the writer takes, from 1 to 256.
     pub batch: u32,
-    /// The serials that each client has, from 1 on.
+    /// How many serials each client has, at least 1.
     pub serials: u32,
 }
 
@@ -36,10 +36,10 @@ impl Model for Config {
 }
 
 impl Config {
-    /// Whether an engine may be opened with this. Compares at most 2,080 pairs of numbers, and takes no memory.
+    /// Tests whether an engine may be opened with this configuration. Compares at most 2,080 pairs of numbers, and takes no memory.
     ///
     /// # Errors
-    /// `BadConfig` where a number is outside its limits, a member stands twice, or the own number is no member.
+    /// `BadConfig` if a number is outside its limits, a member stands twice, or the own number isn't a member.
     pub fn check(&self) -> Result<(), Refusal>
         ensures { MatchResult result (λ _. IsTrue (is_within_limits self.now)) (λ why. (why ≡ BadConfig) × IsFalse (is_within_limits self.now)) }
     {
@@ -78,10 +78,10 @@ mod tests {
         })
     }
 
-    /// What `check` answers.
+    /// What `check` returns.
     type Answer = Result<(), Refusal>;
 
-    /// A number, and what is answered where it is the own number, the clients, the readers, the queue, the batch and the serials.
+    /// A number, and the answers of `check` with it as the own number, the clients, the readers, the queue, the batch and the serials.
     type Row = (u32, [Answer; 6]);
 
     const OK: Answer = Ok(());
@@ -137,7 +137,7 @@ mod tests {
         Ok(config.check())
     }
 
-    /// What is answered where the number stands in each place in turn.
+    /// The answers of `check` with the number as each of these in turn.
     fn answers(alloc: Global, number: u32) -> Result<[Answer; 6], Fail> {
         Ok([
             with_own(alloc, number)?,

@@ -26,7 +26,7 @@ impl Model for ReplicaId {
 }
 
 impl ReplicaId {
-    /// The replica with this number. None has the number 0.
+    /// The replica with this number, or `None` for 0.
     pub fn new(number: u32) -> Option<ReplicaId>
         ensures { MatchOption result (number ≡ 0) (λ r. (r ≡ number) × (0 < number)) }
     {
@@ -45,7 +45,7 @@ impl ReplicaId {
     }
 }
 
-/// The id of an operation, printed `counter@replica`. Ids are ordered by counter, ties by replica.
+/// The id of an operation: a Lamport timestamp, printed `counter@replica`. Ids are ordered by counter, ties by replica.
 #[derive(Clone, Copy, Debug, PartialEq, Eq, PartialOrd, Ord)]
 pub struct OpId {
     pub counter: u64,

@@ -1,4 +1,5 @@
-//! Names that everything else speaks in: the ids of operations, the table of replicas, why a call is refused, and the configuration of an engine.
+//! What every other crate speaks of: the ids of operations, the table of replicas, why a call is refused, and the configuration of
+//! an engine.
 #![tactic(auto)]
 
 mod config;

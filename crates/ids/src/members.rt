@@ -5,7 +5,7 @@ ghost use Rattle.std.specs.List.{list_all};
 ghost use Rattle.ids.specs.Members.{are_distinct};
 ghost use Rattle.ids.specs.Configurations.{are_members, is_from_one_to};
 
-/// Whether these are from 1 to 64 different numbers above 0. Compares at most 2,016 pairs, and takes no memory.
+/// Whether these are 1 to 64 distinct numbers above 0. Compares at most 2,016 pairs, and takes no memory.
 pub(crate) fn are_members(numbers: &[u32]) -> bool
     ensures { result ≡ are_members numbers.now }
 {
@@ -19,7 +19,7 @@ fn are_above_zero(numbers: &[u32]) -> bool
     numbers.iter().all(|&number| number >= 1)
 }
 
-/// Whether no number stands twice.
+/// Whether no number occurs twice.
 fn are_distinct(numbers: &[u32]) -> bool
     ensures { result ≡ are_distinct numbers.now }
 {
@@ -31,7 +31,7 @@ fn are_distinct(numbers: &[u32]) -> bool
     true
 }
 
-/// Whether a number is from 1 to a limit.
+/// Whether a number is at least 1 and at most the limit.
 pub(crate) fn is_from_one_to(limit: u32, number: u32) -> bool
     ensures { result ≡ is_from_one_to limit number }
 {

@@ -6,7 +6,7 @@ use std::alloc::{AllocError, AllocFailed};
 use std::error::Error;
 use std::fmt;
 
-/// Why a call is refused. Every refusal leaves its object as it was, but where a call says otherwise.
+/// Why a call is refused. A refused call leaves its object as it was, unless its documentation says otherwise.
 #[derive(Clone, Copy, Debug, PartialEq, Eq)]
 pub enum Refusal {
     /// An allocation failed.
@@ -29,7 +29,7 @@ pub enum Refusal {
     QueueFull = 9,
     /// The client has used all its serials.
     SerialEnd = 10,
-    /// A ticket that this client was not given.
+    /// The ticket isn't one of this client's.
     Foreign = 11,
     /// The history is shorter than what the client had seen.
     BadFloor = 12,
@@ -43,17 +43,17 @@ pub enum Refusal {
     NamesNothing = 16,
     /// An operation that the vector names has a vector that isn't at most this.
     NotClosed = 17,
-    /// An element of the place isn't covered by the vector, or was inserted into no such list.
+    /// An assign or a delete at a head, or an item of the place that the vector doesn't cover or that was never inserted into that list.
     BadPlace = 18,
-    /// No place is left for an operation that waits.
+    /// The inbox is full.
     InboxFull = 19,
     /// An operation of the own replica that isn't applied here.
     OwnName = 20,
     /// A number that isn't whole, where a value is expected.
     NotWhole = 21,
-    /// A line or a value that has no form.
+    /// A line or a value that isn't of its format.
     BadLine = 22,
-    /// The published copies gave no place for a reader.
+    /// The published copies gave no seat for a reader.
     NoReaderPlace = 23,
     /// A configuration outside the limits.
     BadConfig = 24,
@@ -64,7 +64,7 @@ pub enum Refusal {
 impl Refusal {
     ghost use Rattle.ids.specs.Refusals.{number_of};
 
-    /// The number that a refusal is printed by, as in `E22`.
+    /// The refusal's number, as it is printed in `E22`.
     pub fn number(self) -> u8
         ensures { result ≡ number_of self }
     {

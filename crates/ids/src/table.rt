@@ -11,7 +11,7 @@ use crate::{Refusal, ReplicaId};
 use std::alloc::{AllocError, AllocFailed, Global};
 use std::marker::Model;
 
-/// The replicas of an engine: from 1 to 64 different numbers, rising. Contracts see the list of the numbers.
+/// The replicas of an engine: 1 to 64 distinct numbers, rising. Contracts see the list of the numbers.
 #[derive(Debug, Drop)]
 pub struct ReplicaTable {
     numbers: Vec<u32>,
@@ -32,7 +32,7 @@ impl Model for ReplicaTable {
 impl ReplicaTable {
     ghost use Rattle.ids.specs.declared.refusal.Refusal.TheVariants.{NoMemory, BadConfig};
 
-    /// The table of just these members, in order. Compares each two of them at most twice.
+    /// The table of these members, sorted. Compares any two of them at most twice.
     ///
     /// # Errors
     /// `BadConfig` if these aren't 1 to 64 distinct numbers above 0, else `NoMemory` if allocation fails.
@@ -53,7 +53,7 @@ impl ReplicaTable {
         Ok(ReplicaTable { numbers })
     }
 
-    /// Where a replica stands, or nothing where it is no member. Binary search, so it compares at most 7 numbers.
+    /// The index of a replica, or `None` if it isn't a member. Binary search: compares at most 7 numbers.
     pub fn index_of(&self, replica: ReplicaId) -> Option<usize>
         ensures found { IfSome result (λ index. slice_get self.now index ≡ Some replica) }
         ensures none { IsNone result ↔ IsFalse (is_member self.now replica) }
@@ -61,7 +61,7 @@ impl ReplicaTable {
         self.numbers.binary_search(&replica.number()).ok()
     }
 
-    /// The replica at a place, or nothing past the end.
+    /// The replica at an index, or `None` past the end.
     pub fn at(&self, index: usize) -> Option<ReplicaId>
         ensures { result ≡ slice_get self.now index }
     {
@@ -91,7 +91,7 @@ impl Clone for ReplicaTable {
     }
 }
 
-/// Puts a number before the first that is greater. Compares it with those before that one, and moves those after it.
+/// Inserts a number before the first greater one: compares it with those before that one, and moves the rest.
 fn put_number(numbers: &mut Vec<u32>, number: u32) -> Result<(), AllocFailed<u32>>
     ensures { OnOk result (numbers.new.items ≡ put_number number numbers.old.items) }
 {
@@ -99,7 +99,7 @@ fn put_number(numbers: &mut Vec<u32>, number: u32) -> Result<(), AllocFailed<u32
     numbers.insert(place, number)
 }
 
-/// Where the first greater number stands.
+/// The index of the first greater number.
 fn first_greater(numbers: &[u32], number: u32) -> Option<usize>
     ensures { result ≡ position (λ other. nat_lt number other) numbers.now }
 {
@@ -119,7 +119,7 @@ mod tests {
         table.index_of(replica)
     }
 
-    /// Each of `RISING` stands in the table, and nothing else.
+    /// Asserts that the table holds the numbers of `RISING` and no others.
     fn assert_rising(rt: &impl Abort, table: &ReplicaTable) {
         assert_eq!(rt; table.len(), 4);
         for (index, number) in RISING {
@@ -147,7 +147,7 @@ mod tests {
         Ok(())
     }
 
-    /// How many members the table of these has.
+    /// The length of the table of these members.
     fn made(alloc: Global, members: &[u32]) -> Result<usize, Refusal> {
         let table = ReplicaTable::new(alloc, members)?;
         Ok(table.len())

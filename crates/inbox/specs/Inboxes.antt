@@ -30,7 +30,7 @@ abbrev pub delivered_of : Delivered → delivery.Delivered
 delivered_of Known = delivery.Known
 delivered_of Kept = delivery.Kept
 
--- operations as those that wait in the definitions, where their vectors stand beside this table
+-- operations as those that wait in the definitions, where their vectors are indexed by this table
 abbrev pub waiting_in : List ℕ → List Op → List Stamped
 waiting_in table ops = map (stamped_of table) ops
 
@@ -48,7 +48,7 @@ pub record IsLeastReady (H : List Operation) (table : List ℕ) (ops : List Op) 
 abbrev pub AreNotReady : List Operation → List ℕ → List Op → Type 0
 AreNotReady H table ops = (o : Op) → IsAmong o ops → is_ready H (stamped_of table o) ≡ false
 
--- so many wait that no more may: one more place is held for what is ready
+-- as many wait as may: one more slot is held for what is ready
 abbrev pub is_crowded : Bool → ℕ → Bool
 is_crowded ready n = nat_lt (cond ready 4096 4095) n
 

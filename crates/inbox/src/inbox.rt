@@ -1,4 +1,4 @@
-//! What waits, as a set.
+//! The inbox: a causal delivery buffer.
 
 ghost use Rattle.std.specs.Prelude.{◌≡◌, ◌≢◌, ◌⊎◌, ℕ, List, [], Some, Ok, not, length, option_map, IfNone, IfSome, MatchResult, false};
 ghost use Rattle.ids.specs.declared.refusal.Refusal.TheVariants.{NoMemory};
@@ -23,13 +23,13 @@ use std::marker::Model;
 /// The most operations that wait.
 const MOST_WAITING: usize = 4096;
 
-/// A set of operations that wait. Contracts see them by rising id, each id once.
+/// A set of operations that wait to become causally ready. Contracts see them by rising id, each id once.
 #[derive(Debug, Drop)]
 pub struct Inbox {
     ops: Slab<Op>,
-    /// The key of each, by its id.
+    /// The slab's key of each operation, by its id.
     keys: Numbers,
-    /// The most that the counter of an operation put here was above the greatest of its vector: 1 where each passed `check_alone`.
+    /// The furthest that the counter of an operation put here was above the greatest of its vector: 1 if each passed `check_alone`.
     lead: u64,
 }
 
@@ -50,7 +50,7 @@ impl Model for Inbox {
 }
 
 impl Inbox {
-    /// An inbox in which nothing waits.
+    /// An empty inbox.
     pub fn new(alloc: Global) -> Inbox
         ensures { result ≡ [] }
     {
@@ -88,7 +88,8 @@ impl Inbox {
         self.len() <= most
     }
 
-    /// Keeps an operation until it is taken, unless one with its id waits already. A binary search; it moves the keys of greater ids, and no operation.
+    /// Keeps an operation until it is taken, unless one with its id waits already. A binary search; moves the keys of greater ids,
+    /// and no operation.
     ///
     /// # Errors
     /// `InboxFull` if no more may wait, else `NoMemory` if allocation fails. What waited stays, and the operation is dropped.
@@ -118,7 +119,9 @@ impl Inbox {
         Ok(Delivered::Kept)
     }
 
-    /// The smallest that is ready, if there is one. Looks from the smallest on, and ends where a counter is so far above the greatest that was applied that nothing from there on is ready: where nothing smaller is stuck, it looks at one operation.
+    /// The smallest operation that is causally ready, if there is one. Looks from the smallest on, and stops at a
+    /// counter so far above the greatest that was applied that nothing from there on is ready: if nothing smaller is
+    /// stuck, it looks at one operation.
     pub fn smallest_ready(&self, document: &Document) -> Option<&Op>
         requires width { AreAsWide document.now.table self.now }
         ensures some { IfSome result (λ o. IsLeastReady (applied document.now.entries) document.now.table self.now o.now) }
@@ -141,7 +144,7 @@ impl Inbox {
         None
     }
 
-    /// Takes an operation out. A binary search; it moves the keys of greater ids.
+    /// Takes an operation out. A binary search; moves the keys of greater ids.
     pub fn take(&mut self, id: OpId) -> Option<Op>
         ensures some { IfSome result (λ o. (o.id ≡ id) × IsAmong o self.old) }
         ensures none { (table : List ℕ) → IfNone result (is_waiting (waiting_in table self.old) id ≡ false) }

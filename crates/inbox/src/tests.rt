@@ -1,4 +1,4 @@
-//! What waits, in which order it comes out, and how much may wait. Each test is rows that `play` does one after another.
+//! What waits, in which order it comes out, and how much may wait. Each test is a table of turns that `play` plays.
 
 mod order;
 mod playing;
@@ -14,13 +14,13 @@ const MAP: Option<Writes> = Some(Writes::Map);
 
 const KEPT: Result<Delivered, Refusal> = Ok(Delivered::Kept);
 
-/// The first operation of replica 1 is put, and kept. It depends on nothing, so it is ready.
+/// Puts the first operation of replica 1, which is kept. It depends on nothing, so it is ready.
 const FIRST_OF_1: Turn = Turn::Put((1, 1), [0, 0, 0], Writes::Map, KEPT);
 
-/// That of replica 2.
+/// The same for replica 2.
 const FIRST_OF_2: Turn = Turn::Put((1, 2), [0, 0, 0], Writes::Map, KEPT);
 
-/// That of replica 3.
+/// The same for replica 3.
 const FIRST_OF_3: Turn = Turn::Put((1, 3), [0, 0, 0], Writes::Map, KEPT);
 
 #[test]

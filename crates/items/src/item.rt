@@ -27,7 +27,7 @@ impl Clone for Request {
     }
 }
 
-/// What a client submitted: its number, the serial, and the length of the history that it had seen, the floor.
+/// A submission of a client: its number, the serial, the floor, which is the length of the history that it had seen, and the request.
 #[derive(Debug, Drop)]
 pub struct Item {
     pub client: usize,
@@ -37,7 +37,7 @@ pub struct Item {
 }
 
 impl Item {
-    /// Whether both ask for the same, under one client, serial and floor. Linear in the size of the request.
+    /// Whether both are the same request, under the same client, serial and floor. Linear in the size of the request.
     pub fn is_same(&self, other: &Item) -> bool
         ensures { result ≡ is_same_item self.now other.now }
     {
@@ -48,7 +48,7 @@ impl Item {
     }
 }
 
-/// Whether both ask for the same.
+/// Whether both requests are the same.
 fn is_same_request(request: &Request, other: &Request) -> bool
     ensures { result ≡ is_same_request request.now other.now }
 {
@@ -79,7 +79,7 @@ pub enum Reply {
     Made(OpId, u64),
     /// The peer's operation was kept, and applied if it was ready. The history had this length then.
     Kept(u64),
-    /// The peer's operation was there already. The history had this length then.
+    /// The peer's operation was known: applied already, or waiting. The history had this length then.
     Known(u64),
     /// Why it was refused, and the length of the history then.
     Refused(Refusal, u64),

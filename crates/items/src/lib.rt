@@ -1,4 +1,4 @@
-//! What clients submit to a writer, what it answers, and where the entries go that it makes of it.
+//! What clients submit to a writer, how it answers, and where the entries go that it makes.
 #![tactic(auto)]
 
 mod item;

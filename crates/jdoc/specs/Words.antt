@@ -24,7 +24,7 @@ run_app = with_rule (new_app (codes "run")) script_rule
 abbrev pub number_rule : Text → ℕ → Rule
 number_rule name most = record (new_rule name) { long = Some name; required = true; parser = Some (Unsigned 1 most) }
 
--- an option with the places of a queue, all of them where it isn't given
+-- an option with the capacity of a queue, the greatest where it isn't given
 abbrev pub queue_rule : Rule
 queue_rule = record (new_rule (codes "queue")) { long = Some (codes "queue"); parser = Some (Unsigned 1 65536); defaults = codes "65536" ∷ [] }
 

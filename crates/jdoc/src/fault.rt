@@ -44,7 +44,7 @@ pub enum Fault<'a> {
 impl<'a> Fault<'a> {
     ghost use Rattle.jdoc.specs.declared.fault.Fault.TheVariants.{NoMemory, CannotRead, BadWord};
 
-    /// Why what has this name wasn't read.
+    /// The fault of a file or stream of this name that can't be read.
     pub fn of_read(name: &'a str, error: &io::Error) -> Fault<'a>
         ensures memory { error_kind error.now ≡ ErrorKind.OutOfMemory → result ≡ NoMemory }
         ensures other { error_kind error.now ≢ ErrorKind.OutOfMemory → result ≡ CannotRead name.entry }
@@ -55,7 +55,7 @@ impl<'a> Fault<'a> {
         }
     }
 
-    /// Why the program's words weren't read.
+    /// The fault of words that can't be read.
     pub fn of_words(error: &io::Error) -> Fault<'a>
         ensures memory { error_kind error.now ≡ ErrorKind.OutOfMemory → result ≡ NoMemory }
         ensures other { error_kind error.now ≢ ErrorKind.OutOfMemory → result ≡ BadWord }
@@ -66,7 +66,7 @@ impl<'a> Fault<'a> {
         }
     }
 
-    /// The status of a run that ends so.
+    /// The status of a run that ends with this fault.
     pub fn status(&self) -> Status
         ensures { result ≡ status_of self.now }
     {
@@ -77,7 +77,7 @@ impl<'a> Fault<'a> {
         }
     }
 
-    /// Tells it, and gives the status of the run.
+    /// Tells the fault on standard error, and returns the status of the run.
     pub fn report<W: Write>(&self, faults: &mut W) -> Status
         ensures { (result ≡ status_of self.now) ⊎ (result ≡ NotWritten) }
     {

@@ -39,7 +39,7 @@ fn lent<'a>(rt: &HostRuntime, owned: &'a [String]) -> Result<Vec<&'a str>, Alloc
     owned.iter().map(|word| word.as_str()).collect(rt.alloc())
 }
 
-/// Does what the words ask for, and gives the status. Threads are started by the second handle.
+/// Does what the words ask for, and returns the status. Threads are started by the second handle.
 fn start<R: Threads + Wait + Sync>(rt: &HostRuntime, threads: &R, owned: &[String]) -> u8 {
     let mut faults = rt.stderr();
     let Ok(words) = lent(rt, owned) else {

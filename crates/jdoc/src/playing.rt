@@ -14,8 +14,8 @@ use std::io::Write;
 use std::sync::Wait;
 use std::thread::Threads;
 
-/// Plays the plan. Prints `agree N replicas M operations`, where each thread read back what it wrote and all N engines show the
-/// same in histories of M operations, as many as were submitted, else `differ`. Gives the status that the process exits with.
+/// Plays the plan. Prints `agree N replicas M operations` if each thread read back what it wrote and all N engines show the
+/// same in histories of M operations, as many as were submitted, else `differ`. Returns the status that the process exits with.
 pub fn bench<R: Threads + Wait + Sync, O: Write, F: Write>(
     rt: &R,
     alloc: Global,
@@ -48,7 +48,7 @@ pub fn bench<R: Threads + Wait + Sync, O: Write, F: Write>(
     }
 }
 
-/// Says that all read back what they wrote, and that the engines show the same.
+/// Prints that all read back what they wrote, and that the engines show the same.
 fn agree<O: Write, F: Write>(
     alloc: Global,
     replicas: u32,
@@ -66,7 +66,7 @@ fn agree<O: Write, F: Write>(
     }
 }
 
-/// Says that one read back something else, or that the engines show different things.
+/// Prints that one read back something else, or that the engines show different things.
 fn differ<O: Write>(out: &mut O) -> Status
     ensures status { (result ≡ Differ) ⊎ (result ≡ NotWritten) }
     ensures done { result ≡ Differ → Appends (O.contents out.old) (O.contents out.new) difference }
@@ -77,7 +77,7 @@ fn differ<O: Write>(out: &mut O) -> Status
     }
 }
 
-/// Says that a thread waited for too long.
+/// Tells that a thread waited for too long.
 fn tell_limit<W: Write>(faults: &mut W) -> Status
     ensures { (result ≡ TurnLimit) ⊎ (result ≡ NotWritten) }
 {

@@ -11,8 +11,8 @@ use scripts::replies_to;
 use std::alloc::Global;
 use std::io::{Read, Write};
 
-/// Reads a script whole, checks each line, runs its steps, and then prints what they reply. The name is told where the
-/// script can't be read. Gives the status that the process exits with.
+/// Reads a whole script, checks each line, runs its steps, and then prints the replies. The name is told if the script can't be
+/// read. Returns the status that the process exits with.
 pub fn run_script<R: Read, O: Write, F: Write>(
     alloc: Global,
     name: &str,
@@ -33,7 +33,7 @@ pub fn run_script<R: Read, O: Write, F: Write>(
     }
 }
 
-/// Writes the text, and gives the status of a run that is done.
+/// Writes the text, and returns the status of a run that is done.
 pub(crate) fn print<W: Write>(out: &mut W, text: &[u8]) -> Status
     ensures status { (result ≡ Done) ⊎ (result ≡ NotWritten) }
     ensures done { result ≡ Done → Appends (W.contents out.old) (W.contents out.new) text.now }
@@ -44,7 +44,7 @@ pub(crate) fn print<W: Write>(out: &mut W, text: &[u8]) -> Status
     Status::Done
 }
 
-/// What a script's steps reply, as lines of JSON.
+/// The replies to a script's steps, as lines of JSON.
 fn replies_of<'a, R: Read>(
     alloc: Global,
     name: &'a str,

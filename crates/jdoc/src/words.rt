@@ -1,4 +1,4 @@
-//! The program's words.
+//! The program's words: its arguments.
 
 ghost use Rattle.std.specs.Prelude.{◌≡◌, ◌≢◌, ◌⊎◌, ◌<◌, ℕ, true, false, None, IfOk, IfErr, IfSome, map};
 ghost use Rattle.clap.specs.Words.{app_of, found_of, has_subcommand, kind_of, rows_of, rule_of, subcommand_of, subcommand_rows_of};
@@ -24,7 +24,7 @@ pub enum Job<'a> {
     Bench(Plan),
 }
 
-/// Why words ask for nothing.
+/// Why the words ask for nothing.
 #[derive(Debug, Drop)]
 pub enum BadWords {
     /// What `clap` says of them, help that they ask for included.
@@ -160,7 +160,7 @@ fn queue_option<'a>(alloc: Global) -> Arg<'a>
 }
 
 impl BadWords {
-    /// Tells what is wrong with the words, or the help that they ask for, and gives the status of the run.
+    /// Tells what is wrong with the words, or the help that they ask for, and returns the status of the run.
     pub fn report<W: Write>(&self, faults: &mut W) -> Status
         ensures memory { IsOutOfMemory self.now → (result ≡ NoMemory) ⊎ (result ≡ NotWritten) }
         ensures other { (IsOutOfMemory self.now → ⊥) → (result ≡ BadInput) ⊎ (result ≡ NotWritten) }
@@ -172,7 +172,7 @@ impl BadWords {
     }
 }
 
-/// Tells what `clap` says, and gives the status of the run.
+/// Tells what `clap` says, and returns the status of the run.
 fn report<W: Write>(error: &Error, faults: &mut W) -> Status
     ensures memory { kind_of error.now ≡ ErrorKind.OutOfMemory → (result ≡ NoMemory) ⊎ (result ≡ NotWritten) }
     ensures other { kind_of error.now ≢ ErrorKind.OutOfMemory → (result ≡ BadInput) ⊎ (result ≡ NotWritten) }

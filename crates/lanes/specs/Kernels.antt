@@ -1,15 +1,15 @@
--- Columns of counters compared place by place, and lists of bits packed into words.
+-- Columns of counters compared index by index, and lists of bits packed into words.
 use Rattle.std.specs.Prelude.{ℕ, ◌*◌, ◌/◌, ◌%◌, max, Bool, ◌==◌, nat_lt, List, [], ◌∷◌, length, map, get_or}
 use Rattle.std.specs.List.{range_with_len, count_by}
 use Rattle.std.specs.Int.{bit_at, div_ceil}
 use Rattle.std.specs.Simd.Lanes.{zip2, chunk, mask_l}
 
--- the greatest number of a list, 0 of none
+-- the greatest number of a list, 0 of the empty one
 abbrev pub greatest : List ℕ → ℕ
 greatest [] = 0
 greatest (c ∷ cs) = max c (greatest cs)
 
--- for each place, whether the counter is above the bound
+-- for each index, whether the counter is above the bound
 abbrev pub over : List ℕ → List ℕ → List Bool
 over counters bounds = zip2 nat_lt bounds counters
 

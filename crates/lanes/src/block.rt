@@ -26,7 +26,7 @@ pub(crate) fn all_eq(a: &Block, b: &Block) -> bool
     u64x8::from_array(*a).simd_eq(u64x8::from_array(*b)).all()
 }
 
-/// The greater of each two.
+/// The greater of each two counters, lane by lane.
 #[inline(always)]
 pub(crate) fn greater(a: u64x8, b: &Block) -> u64x8
     ensures { result ≡ zip2 max a b.now }

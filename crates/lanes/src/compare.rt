@@ -1,11 +1,12 @@
-//! Tests of two columns, place by place.
+//! Tests of two columns, counter by counter.
 
 ghost use Rattle.std.specs.Prelude.{◌≡◌, ◌↔◌, nat_le, length, IsTrue};
 ghost use Rattle.std.specs.Cmp.Lexicographic.{pointwise};
 
 use crate::block;
 
-/// Whether each counter of `a` is at most the one at its place in `b`. True of none. Stops at the first eight that differ.
+/// Whether each counter of `a` is at most the one at the same index of `b`. True for empty slices. Stops at the first block of
+/// eight that fails.
 pub fn all_le(a: &[u64], b: &[u64]) -> bool
     requires { length a.now ≡ length b.now }
     ensures { result ≡ pointwise nat_le a.now b.now }
@@ -19,7 +20,7 @@ pub fn all_le(a: &[u64], b: &[u64]) -> bool
         && rest.iter().zip(other_rest).all(|(x, y)| *x <= *y)
 }
 
-/// Whether the columns are equal. True of none. Stops at the first eight that differ.
+/// Whether the columns are equal. True for empty slices. Stops at the first block of eight that fails.
 pub fn all_eq(a: &[u64], b: &[u64]) -> bool
     requires { length a.now ≡ length b.now }
     ensures { IsTrue result ↔ (a.now ≡ b.now) }

@@ -65,7 +65,7 @@ pub fn count_over(counters: &[u64], bounds: &[u64]) -> usize
     count
 }
 
-/// A mask has as many ones as bits were packed that are true: those that `count_over` counts, where `mask_over` packed them.
+/// A mask has as many ones as there were true bits to pack: `count_over` counts what `mask_over` sets.
 pub fn masks_keep_counts()
     ensures { (bits : List Bool) → sum_by count_ones (packed bits) ≡ count_true bits }
 {}

@@ -7,7 +7,7 @@ ghost use Rattle.lanes.specs.Kernels.{greatest};
 use crate::block::{Block, greater};
 use std::simd::prelude::*;
 
-/// The greatest counter, 0 of none.
+/// The greatest counter, 0 for an empty slice.
 pub fn greatest(a: &[u64]) -> u64
     ensures { result ≡ greatest a.now }
 {
@@ -30,7 +30,7 @@ fn greatest_of_few(counters: &[u64]) -> u64
     most
 }
 
-/// Each counter of `a` becomes the greater of it and the one at its place in `b`.
+/// Each counter of `a` becomes the greater of it and the one at the same index of `b`.
 pub fn max_into(a: &mut [u64], b: &[u64])
     requires { length a.old ≡ length b.now }
     ensures { a.new ≡ zip2 max a.old b.now }

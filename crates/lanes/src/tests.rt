@@ -1,4 +1,4 @@
-//! Rows of known answers, and plain loops at widths on both sides of a block and of a word.
+//! Tables of known answers, and plain loops at widths on both sides of a block and of a word.
 
 ghost use Rattle.std.specs.Prelude.{◌≡◌, length};
 
@@ -9,7 +9,7 @@ use std::test::Fail;
 
 const WIDTHS: [usize; 9] = [0, 1, 7, 8, 9, 63, 64, 65, 256];
 
-/// What is said of two columns: whether the first is at most the second, whether they are equal, the greatest counter of the first,
+/// Answers about two columns: whether the first is at most the second, whether they are equal, the greatest counter of the first,
 /// and how many of its counters are above those of the second.
 type Said = (bool, bool, u64, usize);
 
@@ -27,7 +27,7 @@ fn number(state: u64) -> u64 {
     if is_small { small } else { u64::MAX - small }
 }
 
-/// As many numbers as asked, near 0 or near the greatest one. Equal seeds give equal numbers.
+/// This many numbers, near 0 or near the greatest one. Equal seeds give equal numbers.
 fn numbers(alloc: Global, width: usize, seed: u64) -> Result<Vec<u64>, Fail> {
     let mut numbers = Vec::new(alloc);
     let mut state = seed;
@@ -38,7 +38,7 @@ fn numbers(alloc: Global, width: usize, seed: u64) -> Result<Vec<u64>, Fail> {
     Ok(numbers)
 }
 
-/// So many zeros, but 1 in the last place.
+/// This many zeros, but 1 at the end.
 fn one_at_end(alloc: Global, width: usize) -> Result<Vec<u64>, Fail> {
     let mut numbers = Vec::new(alloc);
     for place in 1..=width {
@@ -47,14 +47,14 @@ fn one_at_end(alloc: Global, width: usize) -> Result<Vec<u64>, Fail> {
     Ok(numbers)
 }
 
-/// What the kernels say.
+/// What the kernels answer.
 fn said(a: &[u64], b: &[u64]) -> Said
     requires { length a.now ≡ length b.now }
 {
     (all_le(a, b), all_eq(a, b), greatest(a), count_over(a, b))
 }
 
-/// What a plain loop says.
+/// What a plain loop answers.
 fn said_plainly(a: &[u64], b: &[u64]) -> Said {
     let mut is_le = true;
     let mut is_eq = true;
@@ -75,7 +75,7 @@ fn assert_said(rt: &impl Abort, a: &[u64], b: &[u64], want: Said)
     assert_eq!(rt; said(a, b), want, "{} wide", a.len());
 }
 
-/// Compares what is said of a column and of one that is greater in its last place, where it has any.
+/// Asserts the answers about a column and one whose last counter is greater, if it has any.
 fn assert_last(rt: &impl Abort, one: &[u64], zeros: &[u64])
     requires { length one.now ≡ length zeros.now }
 {
@@ -97,7 +97,7 @@ fn the_last_place_counts(rt: HostRuntime) -> Result<(), Fail> {
     Ok(())
 }
 
-/// Compares what is said of a column whose last place has `a` and of one that has `b` there, where both have `b` in the first.
+/// Asserts the answers about two columns whose last counters are `a` and `b`, and whose first counter is `b`.
 fn assert_last_in_block(rt: &impl Abort, a: u64, b: u64, is_le: bool) {
     let block = [b, 0, 0, 0, 0, 0, 0, a];
     let other = [b, 0, 0, 0, 0, 0, 0, b];
@@ -106,7 +106,7 @@ fn assert_last_in_block(rt: &impl Abort, a: u64, b: u64, is_le: bool) {
     assert_eq!(rt; said(&block, &other), want, "{a} and {b}");
 }
 
-/// Compares what the last place of such a column is raised to.
+/// Asserts what the last counter of such a column is raised to.
 fn assert_last_raised(rt: &impl Abort, a: u64, b: u64, is_le: bool) {
     let mut block = [b, 0, 0, 0, 0, 0, 0, a];
     let other = [b, 0, 0, 0, 0, 0, 0, b];
@@ -115,7 +115,7 @@ fn assert_last_raised(rt: &impl Abort, a: u64, b: u64, is_le: bool) {
     assert_eq!(rt; block[7], want, "{a} and {b}");
 }
 
-/// Compares two columns of one place.
+/// Asserts the answers about two columns of one counter.
 fn assert_alone(rt: &impl Abort, a: u64, b: u64, is_le: bool) {
     let column = [a];
     let other = [b];
@@ -162,7 +162,7 @@ fn masks_of_rows(rt: HostRuntime) {
     mask_over(&[], &[], &mut []);
 }
 
-/// Compares the bits of a mask of these columns.
+/// Asserts the bits of a mask of these columns.
 fn assert_bits(rt: &impl Abort, a: &[u64], b: &[u64], mask: &[u64]) {
     for (i, (x, y)) in a.iter().zip(b).enumerate() {
         assert_eq!(rt; is_set(mask, i), *x > *y, "at {i}");
@@ -176,7 +176,7 @@ fn assert_rest(rt: &impl Abort, counters: &[u64], mask: &[u64]) {
     }
 }
 
-/// Compares a mask over words whose bits were all 1.
+/// Asserts a mask that is written over words whose bits were all 1.
 fn assert_mask(rt: &impl Abort, alloc: Global, a: &[u64], b: &[u64]) -> Result<(), Fail>
     requires { length a.now ≡ length b.now }
 {
@@ -188,7 +188,7 @@ fn assert_mask(rt: &impl Abort, alloc: Global, a: &[u64], b: &[u64]) -> Result<(
     Ok(())
 }
 
-/// The greater of each two.
+/// The greater of each two counters.
 fn greater(alloc: Global, a: &[u64], b: &[u64]) -> Result<Vec<u64>, Fail> {
     let mut greater = Vec::new(alloc);
     for (x, y) in a.iter().zip(b) {
@@ -197,7 +197,7 @@ fn greater(alloc: Global, a: &[u64], b: &[u64]) -> Result<Vec<u64>, Fail> {
     Ok(greater)
 }
 
-/// Compares what a column is raised to.
+/// Asserts what a column is raised to.
 fn assert_greater(rt: &impl Abort, alloc: Global, a: &[u64], b: &[u64]) -> Result<(), Fail>
     requires { length a.now ≡ length b.now }
 {
@@ -208,7 +208,7 @@ fn assert_greater(rt: &impl Abort, alloc: Global, a: &[u64], b: &[u64]) -> Resul
     Ok(())
 }
 
-/// Compares what the kernels say and do with plain loops, at columns of numbers from equal or different seeds.
+/// Asserts that the kernels answer and write what plain loops do, on columns of numbers from equal or different seeds.
 fn assert_agree(rt: &impl Abort, alloc: Global, width: usize, seed: u64) -> Result<(), Fail> {
     let a = numbers(alloc, width, seed)?;
     let b = numbers(alloc, width, seed / 2)?;

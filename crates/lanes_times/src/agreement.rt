@@ -56,7 +56,7 @@ fn is_same(alloc: Global, kernel: Kernel, width: usize, seed: u64) -> Result<boo
     ))
 }
 
-/// Runs a kernel in lanes on a first column and a mask, and its twin on others. Whether both answer and leave the same.
+/// Runs a kernel in lanes on one column and one mask, and its twin on others. Whether both answer and write the same.
 fn leave_the_same(
     kernel: Kernel,
     second: &[u64],

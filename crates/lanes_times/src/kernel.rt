@@ -45,7 +45,7 @@ impl Kernel {
         }
     }
 
-    /// Runs the kernel on two columns and gives its answer as a number. What it writes is left in the first column or in the mask.
+    /// Runs the kernel on two columns and returns its answer as a number. It writes into the first column or into the mask.
     #[inline(always)]
     pub fn answer(self, way: Way, first: &mut [u64], second: &[u64], mask: &mut [u64]) -> u64
         requires columns { length first.old ≡ length second.now }

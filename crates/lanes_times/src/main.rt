@@ -1,4 +1,4 @@
-//! Compares each kernel with its plain twin, and rings with a vector: what they answer, and by the word `time` their times.
+//! Compares each kernel with its plain twin, and rings with a vector: their answers, and with the word `time` their times.
 #![tactic(auto)]
 
 mod agreement;

@@ -4,7 +4,7 @@ ghost use Rattle.std.specs.Prelude.{◌≡◌, length, IfOk};
 
 use std::alloc::{AllocError, Global};
 
-/// As many numbers as asked, half of them near 0 and half near the greatest one. Equal seeds give equal numbers.
+/// This many numbers, half of them near 0 and half near the greatest one. Equal seeds give equal numbers.
 pub fn numbers(alloc: Global, width: usize, seed: u64) -> Result<Vec<u64>, AllocError>
     ensures { IfOk result (λ numbers. length numbers.items ≡ width) }
 {

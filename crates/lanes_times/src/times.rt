@@ -1,4 +1,4 @@
-//! How long a call of each kernel takes, beside its plain twin.
+//! How long a call of each kernel takes, and how long its plain twin.
 
 ghost use Rattle.std.specs.Prelude.{◌≡◌, ◌+◌, ◌^◌, ◌<◌, length};
 ghost use Rattle.std.specs.Int.{div_ceil};
@@ -12,10 +12,10 @@ use std::{fmt, io};
 
 const WIDTHS: [usize; 5] = [1, 8, 64, 256, 4096];
 
-/// Each time is the best of so many.
+/// How many rounds are timed; the best one counts.
 const ROUNDS: usize = 7;
 
-/// How far the second start is from the first: a line of the processor's cache.
+/// How far apart the two starts are: a line of the processor's cache.
 const STEP: usize = 8;
 
 /// The time of one call in tenths of a nanosecond, with the sum of all answers.
@@ -31,7 +31,7 @@ impl Display for Time {
     }
 }
 
-/// Prints a line for each kernel and width: the times in nanoseconds, and how many times as fast the lanes are.
+/// Prints a line for each kernel and width: the times in nanoseconds, and how many times faster the lanes are.
 pub fn report<R: Print + Clock>(rt: &R, alloc: Global) -> io::Result<()> {
     for kernel in Kernel::ALL {
         for width in WIDTHS {
@@ -54,7 +54,7 @@ pub fn report<R: Print + Clock>(rt: &R, alloc: Global) -> io::Result<()> {
     Ok(())
 }
 
-/// The time on generated columns. They are equal for tests of equality, which so look at each counter.
+/// The time on generated columns. For tests of equality both are equal, so that each counter is compared.
 fn time_of<R: Clock>(
     rt: &R,
     alloc: Global,
@@ -74,7 +74,7 @@ fn time_of<R: Clock>(
     best_of_rounds(rt, kernel, way, &mut first, &second, &mut mask, width)
 }
 
-/// The best time of a few rounds.
+/// The best time of `ROUNDS` rounds.
 fn best_of_rounds<R: Clock>(
     rt: &R,
     kernel: Kernel,

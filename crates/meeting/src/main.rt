@@ -26,7 +26,7 @@ fn main(rt: HostRuntime) -> io::Result<()> {
     }
 }
 
-/// What each of the two reads at the key `title` once they have met.
+/// What each of the two reads at the key `title` after they met.
 fn meet<R: Wait>(rt: &R, alloc: Global) -> Result<(String, String), Refusal> {
     let alice = prepare(alloc, configuration(alloc, 1)?)?;
     let bob = prepare(alloc, configuration(alloc, 2)?)?;
@@ -106,7 +106,7 @@ struct Engine<'a, N: EngineName> {
     reader: ReaderToken<N>,
 }
 
-/// Both write at one key, neither having seen the other's value. Then each takes what it lacks.
+/// Both write at one key before they have seen the other's value. Then each takes what it lacks.
 fn edit_and_meet<A: EngineName, B: EngineName, R: Wait>(
     rt: &R,
     alloc: Global,
@@ -150,7 +150,7 @@ fn step<N: EngineName, R: Wait>(
     }
 }
 
-/// The first engine takes what it lacks of the second one's operations. What goes between them is bytes.
+/// The first engine takes what it lacks of the second one's operations. What passes between them is bytes.
 fn pull<A: EngineName, B: EngineName, R: Wait>(
     rt: &R,
     alloc: Global,
@@ -166,7 +166,7 @@ fn pull<A: EngineName, B: EngineName, R: Wait>(
     }
 }
 
-/// The titles, one after another: more than one where writers conflict.
+/// The titles, one after another: more than one if writers conflicted.
 fn read<N: EngineName>(alloc: Global, engine: &mut Engine<N>) -> Result<String, Refusal> {
     let mut titles = String::new(alloc);
     if let Reading::Values(values) = engine.reader.ask(alloc, &Question::Values(title(alloc)?))? {

@@ -1,4 +1,4 @@
--- The faults of an operation alone, by its counters beside a table.
+-- The faults of an operation alone, by the counters of its vector.
 use Rattle.std.proofs.Common.{◌≡◌, refl, ap, ◌∙◌, ℕ, Bool, true, false, ◌&&◌, ◌==◌, cond, nat_lt, max, List, [], ◌∷◌, length, Some, arith}
 use Rattle.std.specs.List.{list_all}
 use Rattle.std.proofs.lemmas.Bool.{or_left, or_right, eq-eqb, and_parts, and_from}

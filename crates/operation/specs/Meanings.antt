@@ -26,7 +26,7 @@ command_of (command.Assign e v) = record { expression = e; mutation = Assigning 
 command_of (command.InsertAfter e v) = record { expression = e; mutation = Inserting (value_of v) }
 command_of (command.Delete e) = record { expression = e; mutation = Deleting }
 
--- an operation with its vector, where its counters stand beside a table
+-- an operation with its vector, where its counters are indexed by a table
 abbrev pub stamped_of : List ℕ → Op → Stamped
 stamped_of table o = record { id = o.id; vector = by_table table o.deps; place = o.place; mutation = mutation_of o.mutation }
 

@@ -15,10 +15,13 @@ use cursor::{Hop, Last, Place};
 use ids::{Refusal, ReplicaId, ReplicaTable};
 use version::VersionVector;
 
-/// The first fault that can be seen of an operation alone, beside the table of replicas.
+/// The first fault that can be seen of an operation without a history.
 ///
 /// # Errors
-/// In this order: `UnknownReplica` where its id or an item of its place names a replica that isn't in the table, or its vector has another width; `BadCounter` where its counter isn't 1 plus the greatest of its vector, or is past the last; `NotInList` for an insert that stands neither at a head nor at an item; `BadPlace` for an assign or a delete at a head, or where its vector doesn't cover an item of its place.
+/// In this order: `UnknownReplica` if its id or an item of its place names a replica that isn't a member, or its vector isn't as
+/// wide as the table; `BadCounter` if its counter isn't 1 plus the greatest of its vector, or is past the last; `NotInList` for an
+/// insert that stands neither at a head nor at an item; `BadPlace` for an assign or a delete at a head, or if its vector doesn't
+/// cover an item of its place.
 pub fn check_alone(op: &Op, table: &ReplicaTable) -> Result<(), Refusal>
     ensures { MatchResult result (λ _. fault_alone table.now op.now ≡ None) (λ why. fault_alone table.now op.now ≡ Some why) }
 {
@@ -47,7 +50,7 @@ fn has_counter(op: &Op) -> bool
     }
 }
 
-/// Whether the id and the items of the place are of members.
+/// Whether the id and the items of the place name members.
 fn names_members(op: &Op, table: &ReplicaTable) -> bool
     ensures { result ≡ (is_member table.now op.now.id.replica && items_of_members table.now (element_of op.now.place)) }
 {
@@ -55,7 +58,7 @@ fn names_members(op: &Op, table: &ReplicaTable) -> bool
         && op.place.hops().iter().all(|hop| is_of_member(hop, table))
 }
 
-/// Whether the hop is to a field, or to an item of a member.
+/// Whether the hop is to a field, or to an item of a member's id.
 fn is_of_member(hop: &Hop, table: &ReplicaTable) -> bool
     ensures { result ≡ key_of_member table.now (hop_of hop.now) }
 {
@@ -89,7 +92,7 @@ fn is_covered(hop: &Hop, vector: &VersionVector, table: &ReplicaTable) -> bool
     }
 }
 
-/// The counter that the vector names of a replica, 0 where the table lacks it.
+/// The counter that the vector names of a replica, 0 if the replica isn't a member.
 fn named_of(replica: ReplicaId, vector: &VersionVector, table: &ReplicaTable) -> u64
     requires width { length vector.now ≡ length table.now }
     requires distinct { AreDistinct table.now }
@@ -101,7 +104,7 @@ fn named_of(replica: ReplicaId, vector: &VersionVector, table: &ReplicaTable) ->
     }
 }
 
-/// An insert stands at a head or an item.
+/// An insert has to stand at a head or an item.
 fn is_in_list(mutation: &Mutation, place: &Place) -> bool
     ensures { result ≡ is_in_list (mutation_of mutation.now) place.now }
 {
@@ -111,7 +114,7 @@ fn is_in_list(mutation: &Mutation, place: &Place) -> bool
     }
 }
 
-/// An assign or a delete stands at no head.
+/// An assign or a delete must not stand at a head.
 fn is_at_element(mutation: &Mutation, place: &Place) -> bool
     ensures { result ≡ is_at_element (mutation_of mutation.now) place.now }
 {

@@ -1,4 +1,4 @@
-//! Commands, the entries of a history that are made of them or come from peers, and what a delivery is answered.
+//! Commands, the entries of a history, and the answers to a delivery.
 
 ghost use Rattle.std.specs.Prelude.{◌≡◌, IfOk};
 ghost use Rattle.std.specs.Cmp;
@@ -10,7 +10,7 @@ use cursor::Expr;
 use std::alloc::AllocError;
 use value::Val;
 
-/// What a client wants done.
+/// What a client wants done: a mutation, and the expression of where.
 #[derive(Debug, Drop)]
 pub enum Command {
     /// The value is to stand at the element.
@@ -24,7 +24,7 @@ pub enum Command {
 impl Command {
     ghost use Rattle.operation.specs.Meanings.{command_of, mutation_of};
 
-    /// Where it is to be done.
+    /// The expression of the element, item or head that the command is about.
     pub fn expression(&self) -> &Expr
         ensures { result.now ≡ (command_of self.now).expression }
     {
@@ -35,10 +35,10 @@ impl Command {
         }
     }
 
-    /// What is to be done there. Copies the value.
+    /// The mutation that the command asks for. Copies the value.
     ///
     /// # Errors
-    /// `AllocError` if allocation fails, which only the clone of a text needs.
+    /// `AllocError` if allocation fails, which can happen only for a text.
     pub fn mutation(&self) -> Result<Mutation, AllocError>
         ensures { IfOk result (λ m. mutation_of m ≡ (command_of self.now).mutation) }
     {
@@ -97,7 +97,7 @@ pub enum Entry {
         command: Command,
         op: Op,
     },
-    /// Delivered.
+    /// Delivered by a peer.
     Peer(Op),
 }
 
@@ -137,7 +137,7 @@ impl Clone for Entry {
     }
 }
 
-/// What a replica answers to the delivery of an operation that it doesn't refuse.
+/// The answer to a delivery that isn't refused.
 #[derive(Clone, Copy, Debug, PartialEq, Eq)]
 pub enum Delivered {
     /// It is applied already, or waits.

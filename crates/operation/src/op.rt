@@ -16,7 +16,7 @@ use version::VersionVector;
 pub enum Mutation {
     /// Clears the element, and writes the value there.
     Assign(Val),
-    /// Puts a new item into the list, after the place, and writes the value there.
+    /// Inserts a new item into the list, after the place's item or head, and writes the value there.
     Insert(Val),
     /// Clears the element.
     Delete,
@@ -64,11 +64,11 @@ impl Eq for Mutation {
     ghost laws = { Cmp.on_equiv mutation_of same_mutation_equiv };
 }
 
-/// An operation.
+/// An operation: its id, what it depends on, where it stands and what it does there.
 #[derive(Debug, Drop)]
 pub struct Op {
     pub id: OpId,
-    /// All that its replica had applied, beside the table of replicas.
+    /// The vector of all that its replica had applied, indexed by the table. (`vector` of the definitions' `Stamped`.)
     pub deps: VersionVector,
     pub place: Place,
     pub mutation: Mutation,

@@ -14,7 +14,7 @@ use version::VersionVector;
 /// An id's counter and replica.
 type Pair = (u64, u32);
 
-/// Where an operation of a test stands; a field is that of the root with the key `a`, an item has this counter and replica.
+/// Where an operation of a test stands. A field is the root's with the key `a`; an item has this counter and replica.
 #[derive(Clone, Copy)]
 enum At {
     Root,
@@ -96,13 +96,13 @@ fn op(alloc: Global, pair: Pair, counters: &[u64], at: At, does: Does) -> Result
     })
 }
 
-/// An operation's id, the counters of its vector, where it stands and what it does, and what it is answered alone.
+/// An operation's id, the counters of its vector, where it stands, what it does, and what `check_alone` answers.
 type Row<'a> = (Pair, &'a [u64], At, Does, Result<(), Refusal>);
 
-/// The greatest counter.
+/// The greatest counter that an operation may have.
 const LAST: u64 = 4_611_686_018_427_387_904;
 
-/// Operations with other counters than their vectors have them.
+/// Operations whose counters don't follow their vectors.
 const COUNTERS: &[Row] = &[
     ((1, 1), &[0, 0, 0], Field, Delete, Ok(())),
     ((1, 1), &[0, 0, 0], Root, Assign, Ok(())),
@@ -154,7 +154,7 @@ const MEMBERS: &[Row] = &[
     ),
 ];
 
-/// Operations at places that are not for them.
+/// Operations at places where they may not stand.
 const PLACES: &[Row] = &[
     ((9, 2), &[7, 0, 0], Field, Insert, Err(Refusal::BadCounter)),
     ((1, 2), &[0, 0, 0], Field, Insert, Err(Refusal::NotInList)),
@@ -201,12 +201,12 @@ const PLACES: &[Row] = &[
     ((3, 2), &[1, 2, 0], ItemOfField(2, 2), Insert, Ok(())),
 ];
 
-/// The operation is answered so alone, beside the table.
+/// Asserts what `check_alone` answers.
 fn is_answered(rt: &impl Abort, table: &ReplicaTable, op: &Op, want: Result<(), Refusal>) {
     assert_eq!(rt; check_alone(op, table), want, "{op:?}");
 }
 
-/// The operation of a row and its copy are answered so.
+/// Asserts what `check_alone` answers about the operation of a row and about its copy.
 fn both_are_answered(
     rt: &impl Abort,
     alloc: Global,
@@ -221,7 +221,7 @@ fn both_are_answered(
     Ok(())
 }
 
-/// The operations of these rows are answered so, beside the table 1, 2, 3.
+/// Asserts the answers of these rows, for the table 1, 2, 3.
 fn are_answered(rt: &impl Abort, alloc: Global, rows: &[Row]) -> Result<(), Fail> {
     let table = ReplicaTable::new(alloc, &[1, 2, 3])?;
     for row in rows {
@@ -257,7 +257,7 @@ fn milk(alloc: Global) -> Result<Val, Refusal> {
     Ok(Val::Scalar(Scalar::Text(Text::new(alloc, "milk")?)))
 }
 
-/// What a command at the second item does, of the text milk where it writes.
+/// A command at the second item, with the text milk where it writes.
 fn command(alloc: Global, does: Does) -> Result<Command, Refusal> {
     let at = second_item(alloc)?;
     match does {
@@ -276,14 +276,14 @@ fn asked(alloc: Global, does: Does) -> Result<Mutation, Refusal> {
     }
 }
 
-/// The command is at the second item.
+/// Asserts that the command is at the second item.
 fn is_at_second(rt: &impl Abort, alloc: Global, command: &Command) -> Result<(), Refusal> {
     let at = second_item(alloc)?;
     assert_eq!(rt; command.expression().steps(), at.steps(), "{command:?}");
     Ok(())
 }
 
-/// The command asks for this mutation, at the second item.
+/// Asserts that the command asks for this mutation, at the second item.
 fn has_parts(rt: &impl Abort, alloc: Global, command: &Command, does: Does) -> Result<(), Refusal> {
     let want = asked(alloc, does)?;
     let mutation = command.mutation()?;
@@ -291,7 +291,7 @@ fn has_parts(rt: &impl Abort, alloc: Global, command: &Command, does: Does) -> R
     is_at_second(rt, alloc, command)
 }
 
-/// A copy of the command asks for this mutation, at the second item.
+/// Asserts that a copy of the command asks for this mutation, at the second item.
 fn copy_has_parts(
     rt: &impl Abort,
     alloc: Global,
@@ -302,7 +302,7 @@ fn copy_has_parts(
     has_parts(rt, alloc, &copy, does)
 }
 
-/// A command that does this, and its copy, have their parts.
+/// Asserts that such a command and its copy have their parts.
 fn keeps_parts(rt: &impl Abort, alloc: Global, does: Does) -> Result<(), Refusal> {
     let command = command(alloc, does)?;
     has_parts(rt, alloc, &command, does)?;
@@ -317,7 +317,7 @@ fn commands_keep_their_parts(rt: HostRuntime) -> Result<(), Fail> {
     Ok(())
 }
 
-/// Such a mutation is as its copy.
+/// Asserts that such a mutation equals its copy.
 fn is_as_copy(rt: &impl Abort, alloc: Global, does: Does) -> Result<(), Refusal> {
     let mutation = asked(alloc, does)?;
     let copy = mutation.clone()?;
@@ -355,14 +355,14 @@ fn are_same(op: &Op, other: &Op) -> bool {
     op.id == other.id && op.place == other.place && op.mutation == other.mutation
 }
 
-/// The entry holds the first operation.
+/// Asserts that the entry holds the first operation.
 fn has_first(rt: &impl Abort, alloc: Global, entry: &Entry) -> Result<(), Refusal> {
     let want = first_op(alloc)?;
     assert!(rt; are_same(entry.op(), &want), "{entry:?}");
     Ok(())
 }
 
-/// The entry and its copy hold the first operation.
+/// Asserts that the entry and its copy hold the first operation.
 fn keeps_first(rt: &impl Abort, alloc: Global, entry: &Entry) -> Result<(), Refusal> {
     has_first(rt, alloc, entry)?;
     let copy = entry.clone()?;

@@ -1,4 +1,4 @@
--- What a vector doesn't cover, by the places of each replica and by the rules.
+-- What a vector doesn't cover, by the positions of each replica and by the rules.
 use Rattle.std.proofs.Common.{◌≡◌, refl, sym, ap, ◌∙◌, ℕ, zero, suc, ◌+◌, ◌<◌, ◌≤◌, ◌==◌, ◌||◌, not, Bool, true, false, cond, nat_lt, nat_le, IsTrue, Less, Equal, Greater, List, [], ◌∷◌, ◌++◌, map, reverse, length, get_or, drop, subst, arith, Option, Some, None}
 use Rattle.std.specs.Option.{option_map}
 use Rattle.std.specs.Ordering.{is_eq}
@@ -34,7 +34,7 @@ by_places f [] (c ∷ cs) long at_place = absurd (omega arith)
 by_places f (p ∷ ps) [] long at_place = absurd (omega arith)
 by_places f (p ∷ ps) (c ∷ cs) long at_place = (λ t. at_place 0 (omega arith) t ∷ by_places f ps cs (omega arith) (λ i lt. at_place (suc i) (omega arith)) t)
 
--- the counters beside a table are those that their vector names
+-- counters that are indexed by a table are those that their vector names
 pub counters-are : (ps cs : List ℕ) → AreDistinct ps → length cs ≡ length ps → map (at (by_table ps cs)) ps ≡ cs
 counters-are ps cs distinct long = by_places (at (by_table ps cs)) ps cs long (λ i lt. at-by_table ps cs distinct (get_or ps i 0) ∙ component-get ps cs i distinct lt long)
 
@@ -42,7 +42,7 @@ counters-are ps cs distinct long = by_places (at (by_table ps cs)) ps cs long (�
 abbrev pub above : ℕ → List (OpId × ℕ) → List ℕ
 above c es = map (λ e. e.1) (filter (λ e. nat_lt c e.0.counter) es)
 
--- what is above in the columns from a place on
+-- what is above in the columns from a position on
 pub next-above : (cs : List ℕ) (ns : List (Numbered OpId)) (i : ℕ) (d : Numbered OpId) → length cs ≡ length ns → i < length ns
     → numbers_above (drop i cs) (numbers_of (drop i ns)) ≡ above (get_or cs i 0) (get_or ns i d).entries ++ numbers_above (drop (suc i) cs) (numbers_of (drop (suc i) ns))
 next-above [] [] i d same inside = absurd (omega arith)
@@ -122,7 +122,7 @@ count-none : (n : ℕ) (f : ℕ → ℕ) (ps : List ℕ) → count n (numbers_ab
 count-none n f [] = refl
 count-none n f (p ∷ ps) = count-none n f ps
 
--- each place is missing as often as its id is above the counter of its replica
+-- each position is missing as often as its id is above the counter of its replica
 count-missing : (n : ℕ) (v : Vector) (G : List TheEntry) (ps : List ℕ) → AreDistinct ps → AreOfMembers ps G → HaveOwnIds G
     → count n (numbers_above (map (at v) ps) (map (λ p. places_by p G) ps)) ≡ count n (missing_places v G)
 count-missing n v [] ps distinct members own = count-none n (at v) ps
@@ -139,7 +139,7 @@ count-missing n v (x ∷ G) ps distinct members own =
     at_test true = refl
     at_test false = omega arith
 
--- missing places are below the length
+-- missing positions are below the length
 missing-to : (v : Vector) (m : ℕ) (G : List TheEntry) → length G ≤ m → AreTo m (missing_places v G)
 missing-to v m [] le = tt
 missing-to v m (x ∷ G) le = at_test (covers v (stamped_in x).id) (missing_places v G) (missing-to v m G (omega arith))
@@ -160,7 +160,7 @@ missing-rises v (x ∷ G) = at_test (covers v (stamped_in x).id) (missing_places
     at_test true xs rises to = subst Rises (sym (append-nil xs)) rises
     at_test false xs rises to = rises-last (length G) xs rises to
 
--- the places above the counters, sorted, are those that are missing
+-- the positions above the counters, sorted, are those that are missing
 pub sorted-missing : (ps cs : List ℕ) (G : List TheEntry) (xs : List ℕ) → AreDistinct ps → length cs ≡ length ps → AreOfMembers ps G → HaveOwnIds G
     → IsPermutation (numbers_above cs (map (λ p. places_by p G) ps)) xs → IsSorted nat_cmp xs → xs ≡ missing_places (by_table ps cs) G
 sorted-missing ps cs G xs distinct long members own moved sorted =
@@ -170,7 +170,7 @@ sorted-missing ps cs G xs distinct long members own moved sorted =
     ∙ ap (λ ds. count n (numbers_above ds (map (λ p. places_by p G) ps))) (sym (counters-are ps cs distinct long))
     ∙ count-missing n v G ps distinct members own)
 
--- what reads the places of a history reads at the missing ones what is missing
+-- what reads the positions of a history reads at the missing ones what is missing
 read_missing : (v : Vector) (G : List TheEntry) (h : ℕ → Option Stamped) → ((n : ℕ) → n < length G → h n ≡ option_map stamped_in (entry_at n G))
     → map h (missing_places v G) ≡ map Some (reverse (missing v (stamped_of G)))
 read_missing v [] h reads = refl

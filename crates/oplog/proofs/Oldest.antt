@@ -1,4 +1,4 @@
--- A history that is kept oldest first: its places, and one more entry.
+-- A history that is kept oldest first: its positions, and one more entry.
 use Rattle.std.proofs.Common.{◌≡◌, refl, sym, ap, ◌∙◌, ℕ, zero, suc, Bool, true, false, cond, ◌==◌, List, [], ◌∷◌, ◌++◌, map, reverse, length, arith, Some, None, slice_get}
 use Rattle.std.specs.Option.{option_map}
 use Rattle.std.proofs.lemmas.Bool.{eq-eqb, eqb-true, eqb-false, ne_eqb}
@@ -34,7 +34,7 @@ entry_at-reverse (e ∷ G) n =
     ∙ sym (slice_get-last (reverse G) e n)
     ∙ ap (λ l. slice_get l n) (sym (reverse-append (e ∷ []) G))
 
--- the entry at a place of a history
+-- the entry at a position of a history
 pub entry_at-history : (table : List ℕ) (entries : List Entry) (n : ℕ) → entry_at n (history table entries) ≡ option_map (entry_of table) (slice_get entries n)
 entry_at-history table entries n =
     entry_at-reverse (history table entries) n

@@ -1,4 +1,4 @@
--- An id has a place where an operation has it.
+-- An id has a position where an operation has it.
 use Rattle.std.proofs.Common.{◌≡◌, ℕ, Bool, true, false, cond, ◌||◌, List, [], ◌∷◌, length, Option, Some, None, is_some, refl, ◌∙◌, true≢false}
 use Rattle.semantics.specs.Ids.{OpId, is_same_id}
 use Rattle.semantics.specs.LegalHistory.{has_id}

@@ -14,7 +14,7 @@ use Rattle.semantics.proofs.Orders.{id_total, ids_from_test}
 use Rattle.columns.specs.Numbered.{Numbered}
 use Rattle.oplog.specs.Logs.{AreOfMembers, numbers_of, place_of, places_by}
 
--- a replica that stands at a place is a member
+-- a replica that stands at an index is a member
 pub member_at : (ps : List ℕ) (i p : ℕ) → slice_get ps i ≡ Some p → is_member ps p ≡ true
 member_at [] i p e = cc
 member_at (q ∷ ps) zero p e = or_left (q == p) (is_member ps p) (eq-eqb q p (cc))
@@ -56,7 +56,7 @@ all_others G x (p ∷ ps) absent =
     let r = (stamped_in x).id.replica in
     (λ t. places_by-other p G x (λ own. absent (or_left (p == r) (is_member ps r) (eq-eqb p r (sym own)))) t ∷ all_others G x ps (λ m. absent (or_right (p == r) (is_member ps r) m)) t)
 
--- one more entry, whose place is put among those of its replica
+-- one more entry, whose position is put among those of its replica
 pub all_more : (G : List TheEntry) (x : TheEntry) (ps : List ℕ) (i : ℕ) → AreDistinct ps → slice_get ps i ≡ Some (stamped_in x).id.replica
     → set (map (λ p. places_by p G) ps) i (put id_cmp (stamped_in x).id (length G) (get_or (map (λ p. places_by p G) ps) i [])) ≡ map (λ p. places_by p (x ∷ G)) ps
 all_more G x [] i distinct at = cc
@@ -66,12 +66,12 @@ all_more G x (p ∷ ps) zero distinct at =
 all_more G x (p ∷ ps) (suc i) distinct at =
     (λ t. sym (places_by-other p G x (λ same. distinct.0 (ap (is_member ps) (sym same) ∙ member_at ps i (stamped_in x).id.replica at))) t ∷ all_more G x ps i distinct.1 at t)
 
--- no entry has no place
+-- without entries there is no position
 pub all_none : (ps : List ℕ) → map (λ p. places_by p []) ps ≡ replicate (length ps) []
 all_none [] = refl
 all_none (p ∷ ps) = ap (λ l. [] ∷ l) (all_none ps)
 
--- a replica's places stand among the columns
+-- a replica's positions stand among the columns
 pub places_inside : (G : List TheEntry) (ps : List ℕ) (ns : List (Numbered OpId)) (i p : ℕ) → slice_get ps i ≡ Some p → numbers_of ns ≡ map (λ q. places_by q G) ps → i < length ns
 places_inside G ps ns i p at are =
     let here = slice_get_within ps i p at in
@@ -80,7 +80,7 @@ places_inside G ps ns i p at are =
     let long = length-map ps (λ q. places_by q G) in
     omega arith
 
--- the places at a replica's place in the table are its own
+-- the positions at a replica's index in the table are its own
 pub all_at : (G : List TheEntry) (ps : List ℕ) (i p : ℕ) → slice_get ps i ≡ Some p → get_or (map (λ q. places_by q G) ps) i [] ≡ places_by p G
 all_at G [] i p at = cc
 all_at G (q ∷ ps) zero p at = ap (λ r. places_by r G) (cc)

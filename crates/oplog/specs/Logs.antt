@@ -1,4 +1,4 @@
--- The entries of a history beside the table of their replicas.
+-- The entries of a history, with the table of their replicas.
 use Rattle.std.specs.Prelude.{◌≡◌, ℕ, min, nat_lt, ◌==◌, if◌then◌else◌, ⊤, IsTrue, List, [], ◌∷◌, ◌++◌, map, reverse, length, Option, Some, None}
 use Rattle.std.specs.List.{All, filter}
 use Rattle.std.specs.FinMap.{put}
@@ -12,7 +12,7 @@ use Rattle.operation.specs.declared.command.Entry.TheVariants.{Own, Peer}
 use Rattle.columns.specs.Numbered.{Numbered}
 use Rattle.operation.specs.Meanings.{entry_of, op_in}
 
--- a log: the table, the entries with the newest first, and how many more fit without memory
+-- a log: the table, the entries with the newest first, and for how many more there is room
 pub record Logged : Type 0 where
   pub table : List ℕ
   pub entries : List TheEntry
@@ -27,12 +27,12 @@ abbrev pub id_in : Entry → OpId
 id_in (Own client serial command op) = op.id
 id_in (Peer op) = op.id
 
--- the place of the operation with this id, where the oldest is at 0; the newest where there are several
+-- the position of the operation with this id, where the oldest is at 0; the newest where there are several
 abbrev pub place_of : OpId → List TheEntry → Option ℕ
 place_of a [] = None
 place_of a (e ∷ G) = if is_same_id (stamped_in e).id a then Some (length G) else place_of a G
 
--- the places of the operations of replica p by their ids
+-- the positions of the operations of replica p by their ids
 abbrev pub places_by : ℕ → List TheEntry → List (OpId × ℕ)
 places_by p [] = []
 places_by p (e ∷ G) = if (stamped_in e).id.replica == p then put id_cmp (stamped_in e).id (length G) (places_by p G) else places_by p G
@@ -51,7 +51,7 @@ abbrev pub AreOfMembers : List ℕ → List TheEntry → Type 0
 AreOfMembers table [] = ⊤
 AreOfMembers table (e ∷ G) = AreOfMembers table G × IsTrue (is_member table (stamped_in e).id.replica)
 
--- for each replica of the table the places of its operations; the operations are of these replicas, and have ids of their own; each vector has the table's width
+-- for each replica of the table the positions of its operations; the operations are of these replicas, and have ids of their own; each vector has the table's width
 pub record IsIndexed (table : List ℕ) (places : List (Numbered OpId)) (entries : List Entry) : Type 0 where
   pub distinct : AreDistinct table
   pub places_are : numbers_of places ≡ map (λ p. places_by p (history table entries)) table
@@ -65,12 +65,12 @@ numbers_above cs [] = []
 numbers_above [] (m ∷ ms) = []
 numbers_above (c ∷ cs) (m ∷ ms) = map (λ e. e.1) (filter (λ e. nat_lt c e.0.counter) m) ++ numbers_above cs ms
 
--- the places of the operations that the vector doesn't cover, rising
+-- the positions of the operations that the vector doesn't cover, rising
 abbrev pub missing_places : Vector → List TheEntry → List ℕ
 missing_places v [] = []
 missing_places v (e ∷ G) = missing_places v G ++ (if covers v (stamped_in e).id then [] else length G ∷ [])
 
--- how many more fit into each of these columns, where n fit beside them
+-- the least of n and of the room in each of these columns
 abbrev pub least_room : ℕ → List (Numbered OpId) → ℕ
 least_room n [] = n
 least_room n (m ∷ ms) = min m.room (least_room n ms)

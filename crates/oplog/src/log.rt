@@ -1,4 +1,4 @@
-//! A list of entries, and for each replica of a table the places of its operations.
+//! A list of entries, and for each replica of a table the positions of its operations.
 
 ghost use Rattle.std.specs.Prelude.{◌≡◌, ◌≤◌, ◌<◌, ◌+◌, ◌++◌, ◌∷◌, [], IsTrue, ℕ, List, Some, false, option_map, map, replicate, reverse, set, length, IfOk, IfSome, OnOk, slice_index_or};
 ghost use Rattle.std.specs.FinMap.{put};
@@ -19,12 +19,13 @@ use std::alloc::{AllocError, Global};
 use std::marker::Model;
 use version::VersionVector;
 
-/// The entries of a history, beside the table of their replicas. Contracts see the table, the entries, the newest first, and how many more fit without memory.
+/// The entries of a history, with the table of its replicas. Contracts see the table, the entries, the newest first, and for how
+/// many more there is room.
 #[derive(Debug, Drop)]
 pub struct Log {
     table: ReplicaTable,
     entries: Vec<Entry>,
-    /// For each replica of the table the places of its operations, by their ids.
+    /// For each replica of the table the positions of its operations, by their ids.
     places: Vec<Numbers>,
 }
 
@@ -74,7 +75,7 @@ impl Log {
         self.entries.len()
     }
 
-    /// The entry at this place, where the oldest is at 0, or nothing past the end.
+    /// The entry at this position, where the oldest is at 0, or `None` past the end.
     pub fn get(&self, place: usize) -> Option<&Entry>
         ensures entry { option_map (λ e. entry_of self.now.table e.now) result ≡ entry_at place self.now.entries }
         ensures width { IfSome result (λ e. length (op_in e.now).deps ≡ length self.now.table) }
@@ -82,7 +83,7 @@ impl Log {
         self.entries.get(place)
     }
 
-    /// The place of the operation with this id. A binary search among those of its replica.
+    /// The position of the operation with this id, if there is one. A binary search among those of its replica.
     pub fn find(&self, id: OpId) -> Option<usize>
         ensures { result ≡ place_of id self.now.entries }
     {
@@ -90,7 +91,8 @@ impl Log {
         self.places[index].get(&id)
     }
 
-    /// The places of the operations that the vector doesn't cover, rising. A binary search for each replica, and a sort of what was found.
+    /// The positions of the operations that the vector doesn't cover, rising. A binary search for each replica, and a sort of what
+    /// is found.
     ///
     /// # Errors
     /// `AllocError` if allocation fails.
@@ -103,7 +105,7 @@ impl Log {
         Ok(places)
     }
 
-    /// Makes room for one more entry, of whichever replica. Looks at the room of each replica's places.
+    /// Makes room for one more entry, of any replica. Looks at the room for each replica's positions.
     ///
     /// # Errors
     /// `AllocError` if allocation fails.
@@ -117,9 +119,11 @@ impl Log {
         reserve_places(&mut self.places)
     }
 
-    /// Appends an entry, for which there is room. Takes no memory. It moves the places of its replica's greater ids, of which a history has none.
+    /// Appends an entry, for which there is room. Takes no memory. Moves the positions of its replica's greater ids, of which a
+    /// legal history has none.
     ///
-    /// Its id may be that of no entry yet, and an operation that may follow has such an id (`what_may_follow_is_new`). That its replica is a member and that its vector has the table's width is nothing that a history knows.
+    /// Its id must be new, as that of an operation that may follow is (`what_may_follow_is_new`). That its replica is a member and
+    /// that its vector is as wide as the table is nothing that a history knows.
     pub fn push(&mut self, entry: Entry)
         requires room { 0 < self.old.room }
         requires width { length (op_in entry).deps ≡ length self.old.table }
@@ -147,7 +151,7 @@ impl Log {
     }
 }
 
-/// For each of so many replicas no places.
+/// Empty columns of positions, one for each replica.
 fn no_places(alloc: Global, count: usize) -> Result<Vec<Numbers>, AllocError>
     ensures { IfOk result (λ v. numbers_of v.items ≡ replicate count []) }
 {
@@ -158,7 +162,7 @@ fn no_places(alloc: Global, count: usize) -> Result<Vec<Numbers>, AllocError>
     Ok(places)
 }
 
-/// Makes room for one more place of each replica.
+/// Makes room for one more position of each replica.
 fn reserve_places(places: &mut Vec<Numbers>) -> Result<(), AllocError>
     ensures same { numbers_of places.new.items ≡ numbers_of places.old.items }
     ensures room { (n : ℕ) → 0 < n → OnOk result (0 < least_room n places.new.items) }
@@ -171,7 +175,7 @@ fn reserve_places(places: &mut Vec<Numbers>) -> Result<(), AllocError>
     Ok(())
 }
 
-/// Puts the place of an operation among those of its replica. Moves none where its id is the greatest of them.
+/// Puts the position of an operation among those of its replica. Moves none if its id is the greatest of them.
 fn put_place(places: &mut Vec<Numbers>, index: usize, id: OpId, place: usize)
     requires inside { index < length places.old.items }
     requires room { 0 < least_room 1 places.old.items }
@@ -182,7 +186,7 @@ fn put_place(places: &mut Vec<Numbers>, index: usize, id: OpId, place: usize)
     numbers.put(id, place);
 }
 
-/// The places of the ids that the vector doesn't cover, replica by replica.
+/// The positions of the ids that the vector doesn't cover, replica by replica.
 fn places_above(
     alloc: Global,
     places: &[Numbers],
@@ -198,7 +202,7 @@ fn places_above(
     Ok(above)
 }
 
-/// Appends the number of each entry.
+/// Appends the position of each entry.
 fn push_numbers(numbers: &mut Vec<usize>, entries: &[(OpId, usize)]) -> Result<(), AllocError>
     ensures { OnOk result (numbers.new.items ≡ numbers.old.items ++ map (λ e. e.1) entries.now) }
 {
@@ -214,7 +218,7 @@ pub fn what_may_follow_is_new()
     ensures { (G : List TheEntry) (s : Stamped) → MayFollow (applied G) s → has_id (applied G) s.id ≡ false }
 {}
 
-/// The operations at the missing places are those that the rules call missing, the oldest first.
+/// The operations at the missing positions are those that the rules call missing, the oldest first.
 pub fn places_name_what_is_missing()
     ensures { (v : Vector) (G : List TheEntry) →
         map (λ n. option_map stamped_in (entry_at n G)) (missing_places v G) ≡ map Some (reverse (missing v (stamped_of G))) }

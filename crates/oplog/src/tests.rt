@@ -35,7 +35,7 @@ fn vector(alloc: Global, counters: &[u64; 3]) -> Result<VersionVector, Fail> {
     Ok(vector)
 }
 
-/// An assign at the root, beside a table of three.
+/// An assign at the root, for a table of three.
 fn op(alloc: Global, pair: Pair, counters: &[u64; 3]) -> Result<Op, Fail> {
     let id = id(pair)?;
     let deps = vector(alloc, counters)?;
@@ -80,7 +80,7 @@ fn has(log: &Log, id: OpId) -> bool
     log.find(id).is_some()
 }
 
-/// Whether the operation is a member's, has a vector of the table's width, and wasn't applied.
+/// Whether the operation is a member's, has a vector as wide as the table, and wasn't applied.
 fn fits(log: &Log, op: &Op) -> bool
     ensures width { IsTrue result → length op.now.deps ≡ length log.now.table }
     ensures member { IsTrue result → IsTrue (is_member log.now.table op.now.id.replica) }
@@ -101,7 +101,7 @@ fn append(log: &mut Log, entry: Entry) -> Result<(), Fail> {
     Ok(())
 }
 
-/// The places of what a vector of these counters lacks.
+/// The positions of what a vector of these counters lacks.
 fn missing(
     rt: &impl Abort,
     alloc: Global,
@@ -113,7 +113,7 @@ fn missing(
     Ok(log.missing(alloc, &vector)?)
 }
 
-/// Replica 1 assigned, both saw it, and then each assigned: 1@1, 2@1 and 2@2, in a table of 1, 2, 3.
+/// Replica 1 assigned, both saw it, and then each assigned: 1@1, 2@1 and 2@2, with the table 1, 2, 3.
 fn log(alloc: Global) -> Result<Log, Fail> {
     let mut log = new_log(alloc)?;
     append(&mut log, own(alloc, 1, (1, 1), &[0, 0, 0])?)?;
@@ -122,20 +122,20 @@ fn log(alloc: Global) -> Result<Log, Fail> {
     Ok(log)
 }
 
-/// The id at a place.
+/// The id at a position.
 fn id_at(log: &Log, place: usize) -> Option<Pair> {
     let id = log.get(place)?.op().id;
     Some((id.counter, id.replica.number()))
 }
 
-/// Compares the place of an id.
+/// Asserts the position of an id.
 fn assert_found(rt: &impl Abort, log: &Log, pair: Pair, want: Option<usize>) -> Result<(), Fail> {
     let id = id(pair)?;
     assert_eq!(rt; log.find(id), want, "of {id}");
     Ok(())
 }
 
-/// Just these ids stand in the log, in this order.
+/// Asserts that just these ids are in the log, in this order.
 fn assert_ids(rt: &impl Abort, log: &Log, want: &[Pair]) -> Result<(), Fail> {
     assert_eq!(rt; log.len(), want.len());
     for (place, pair) in want.iter().enumerate() {
@@ -145,7 +145,7 @@ fn assert_ids(rt: &impl Abort, log: &Log, want: &[Pair]) -> Result<(), Fail> {
     Ok(())
 }
 
-/// None of these ids stands in the log.
+/// Asserts that none of these ids is in the log.
 fn assert_absent(rt: &impl Abort, log: &Log, pairs: &[Pair]) -> Result<(), Fail> {
     for pair in pairs {
         assert_found(rt, log, *pair, None)?;
@@ -163,7 +163,7 @@ fn entries_stand_in_order(rt: HostRuntime) -> Result<(), Fail> {
     Ok(())
 }
 
-/// Whose entry this is: the client and the serial of an own one, and nothing of a peer's.
+/// The client and the serial of an own entry, `None` for a peer's.
 fn client_of(entry: &Entry) -> Option<(usize, u64)> {
     match entry {
         Entry::Own { client, serial, .. } => Some((*client, *serial)),
@@ -206,7 +206,7 @@ fn interleaved(alloc: Global) -> Result<Log, Fail> {
     Ok(log)
 }
 
-/// Before, between and after those of a replica, and of replicas that are no members.
+/// Ids before, between and after those of a replica, and of replicas that aren't members.
 const NOWHERE: &[Pair] = &[
     (0, 2),
     (2, 1),
@@ -225,10 +225,10 @@ fn each_replica_has_its_places(rt: HostRuntime) -> Result<(), Fail> {
     assert_absent(&rt, &log, NOWHERE)
 }
 
-/// The counters of a vector, and the places of what it lacks.
+/// The counters of a vector, and the positions of what it lacks.
 type Lacking<'a> = ([u64; 3], &'a [usize]);
 
-/// Compares what a vector lacks.
+/// Asserts what a vector lacks.
 fn assert_missing(rt: &impl Abort, alloc: Global, log: &Log, row: &Lacking) -> Result<(), Fail> {
     let (counters, want) = *row;
     let missing = missing(rt, alloc, log, &counters)?;
@@ -236,7 +236,7 @@ fn assert_missing(rt: &impl Abort, alloc: Global, log: &Log, row: &Lacking) -> R
     Ok(())
 }
 
-/// Compares what each vector lacks.
+/// Asserts what each vector lacks.
 fn assert_all_missing(
     rt: &impl Abort,
     alloc: Global,
@@ -283,7 +283,7 @@ fn what_a_vector_lacks_of_each(rt: HostRuntime) -> Result<(), Fail> {
     assert_all_missing(&rt, rt.alloc(), &log, ROWS)
 }
 
-/// A log of so many operations of replica 2.
+/// A log of this many operations of replica 2.
 fn log_of(alloc: Global, count: u64) -> Result<Log, Fail> {
     let mut log = new_log(alloc)?;
     for known in 0..count {
@@ -292,7 +292,7 @@ fn log_of(alloc: Global, count: u64) -> Result<Log, Fail> {
     Ok(log)
 }
 
-/// The places from this one to the last of so many.
+/// The positions from this one to the last.
 fn places_from(alloc: Global, first: usize, count: usize) -> Result<Vec<usize>, Fail> {
     let mut places = Vec::new(alloc);
     for place in first..count {
@@ -301,7 +301,7 @@ fn places_from(alloc: Global, first: usize, count: usize) -> Result<Vec<usize>, 
     Ok(places)
 }
 
-/// Compares what a vector lacks that knows so many of 130.
+/// Asserts what a vector lacks that knows this many of 130.
 fn assert_rest(rt: &impl Abort, alloc: Global, log: &Log, known: u64) -> Result<(), Fail> {
     let want = places_from(alloc, known as usize, 130)?;
     assert_missing(rt, alloc, log, &([0, known, 0], want.as_slice()))

@@ -14,7 +14,7 @@ use Rattle.wire.specs.Sent.{CanBeSent, are_counters}
 use Rattle.peer_sync.specs.Sending.{without_end}
 use Rattle.peer_sync.proofs.EndedLines.{without_end-ended}
 
--- a vector's line with its line feed, where the line is read as the vector beside the same table
+-- a vector's line with its line feed, where the line is read as the vector with the same table
 pub hello_back : (table ts cs : List ℕ) (v : Vector) (line text : List ℕ) → ts ≡ table → by_table table cs ≡ v → text ≡ line ++ 10 ∷ []
     → (IsTrue (are_counters (by_table ts cs)) → hello_form ts line ≡ Ok (by_table ts cs)) → IsTrue (are_counters v) → hello_form table (without_end text) ≡ Ok v
 hello_back table ts cs v line text same is ended back sent =
@@ -35,7 +35,7 @@ unmapped : {X Y : Type 0} (P : X → Type 0) (f : Y → X) (ys : List Y) → All
 unmapped P f [] h = All-nil (λ y. P (f y))
 unmapped P f (y ∷ ys) h = All-cons (λ x. P (f x)) y ys (All-head P (f y) (map f ys) h) (unmapped P f ys (All-tail P (f y) (map f ys) h))
 
--- a bundle, where it is read as its operations beside the same table
+-- a bundle, where it is read as its operations with the same table
 pub answer_back : (table ts : List ℕ) (xs ys : List Op) (ss : List Stamped) (text : List ℕ) → ts ≡ table → ys ≡ xs → map (stamped_of table) xs ≡ ss
     → (All (λ (o : Op). CanBeSent ts (stamped_of ts o)) ys → bundle_form ts text ≡ Ok (map (stamped_of ts) ys)) → All (CanBeSent table) ss → bundle_form table text ≡ Ok ss
 answer_back table ts xs ys ss text same slice is back sent =

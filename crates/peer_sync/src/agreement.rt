@@ -1,4 +1,4 @@
-//! What tokens of different engines are answered.
+//! Tokens of different engines are answered alike.
 
 ghost use Rattle.std.specs.Prelude.{◌≡◌, ℕ, List};
 ghost use Rattle.semantics.specs.Entries.{Entry, IsEntryHistory, missing, stamped_of};

@@ -1,8 +1,8 @@
-//! The exchange of operations between engines, as lines of JSON.
+//! Anti-entropy between engines: the exchange of operations, as lines of JSON.
 //!
-//! An engine says `hello` with the vector of all that it has applied. A peer's `answer` is the operations that this vector
-//! doesn't cover, a bundle of lines. A client of the first engine `receive`s the bundle and submits them. The bytes may come by
-//! any way, late, twice, in any order or never: what a peer sends is taken as what it is worth.
+//! An engine says `hello` with the vector of all that it has published. A peer's `answer` is the operations that this vector doesn't
+//! cover, a bundle of lines. A client of the first engine `receive`s the bundle and submits them. The bytes may take any way, late,
+//! twice, in any order or never: what a peer sends is never trusted.
 #![tactic(auto)]
 
 mod agreement;

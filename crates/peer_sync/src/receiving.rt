@@ -1,4 +1,4 @@
-//! What a client receives of a peer.
+//! What a client receives from a peer.
 
 ghost use Rattle.std.specs.Prelude.{◌≡◌, ◌≢◌, ◌⊎◌, ◌+◌, ◌<◌, ◌≤◌, ◌^◌, ◌==◌, cond, [], List, Ok, Err, IfOk, IfErr, MatchOption, length, map, take};
 ghost use Rattle.std.specs.List.{All};
@@ -15,14 +15,14 @@ use std::alloc::Global;
 use std::sync::Wait;
 use wire::{Lines, read_op};
 
-/// What became of a bundle.
+/// The result of a receipt.
 #[derive(Clone, Copy, Debug, PartialEq, Eq)]
 pub struct Received {
-    /// The serial of the first operation that was submitted, 0 where there is none. The others have the next ones.
+    /// The serial of the first operation that was submitted, 0 if there is none. The others have the next ones.
     pub first_serial: u64,
     /// How many operations were submitted: those of the lines before the stop.
     pub submitted: u64,
-    /// The line, counted from 1, at which it stopped, and why; none where all lines were submitted.
+    /// The line, counted from 1, at which it stopped, and why; `None` if all lines were submitted.
     pub stopped: Option<(u64, Refusal)>,
 }
 
@@ -64,7 +64,7 @@ pub fn receive<N: EngineName>(
     received
 }
 
-/// The stop at bytes that no line feed ends, if there are any.
+/// The stop at bytes after the last line feed, if there are any.
 fn cut_stop(lines: &Lines) -> Option<(u64, Refusal)>
     ensures { MatchOption result (lines.now.rest.now ≡ []) (λ stop. (stop.0 ≡ lines.now.taken + 1) × (stop.1 ≡ BadLine) × (lines.now.rest.now ≢ [])) }
 {

@@ -62,9 +62,9 @@ fn applied<N: EngineName>(
     }
 }
 
-/// The answer to a hello, which stands with its line feed or without it: the lines, each with its line feed, of the operations
-/// that its vector doesn't cover, the oldest first, of all that the token sees in this one read. The token has then seen that.
-/// Where all names are of members, and all counters those of the wire, a peer with the same members reads the same operations.
+/// The answer to a hello, which is given with its line feed or without it: the lines, each with its line feed, of the operations that
+/// its vector doesn't cover, the oldest first, of all that the token sees in this one read. The token has then seen that. Where all
+/// names are of members, and all counters those of the wire, a peer with the same members reads the same operations.
 ///
 /// # Errors
 /// First those of the hello: `BadLine` if it is no such line, `UnknownReplica` if it names a replica that isn't a member, as

@@ -1,4 +1,4 @@
-//! Engines that exchange operations on one thread, as rows that small functions play.
+//! Engines that exchange operations on one thread, as tables that small functions play.
 
 mod cuts;
 mod exchanges;
@@ -24,7 +24,7 @@ const FIVE: &str = r#"["op",[1,1],[],[],0,["a",{}]]
 const FIRST_LINE: &str = r#"["op",[1,1],[],[],0,["a",{}]]
 "#;
 
-/// The line of a replica that is not a member.
+/// The line of a replica that isn't a member.
 const STRANGER: &str = r#"["op",[1,4],[],[],0,["d"]]
 "#;
 

@@ -134,6 +134,6 @@ module _ (book : Book) (own : ℕ) (table : List ℕ) (s : Snapshot) (ws : List 
         book_is = name ∙ h.book_is;
       }
 
--- the one place is empty: what waits stands in the log
+-- no entry is kept aside: what waits is in the log
 pub flushed : (vs ws : List Pending) (m : Option Pending) → vs ++ option_to_list m ≡ ws → m ≡ None → vs ≡ ws
 flushed vs ws m moved none = sym (append-nil vs) ∙ ap (λ (o : Option Pending). vs ++ option_to_list o) (sym none) ∙ moved

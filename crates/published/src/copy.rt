@@ -1,4 +1,4 @@
-//! What stands in each of the two copies, and how an entry gets there.
+//! What each of the two copies holds, and how an entry gets there.
 
 ghost use Rattle.std.specs.Prelude.{◌≡◌, ◌∷◌, true, IsTrue, MatchResult, is_none, length};
 ghost use Rattle.ids.specs.Members.{is_member};
@@ -93,8 +93,8 @@ impl Absorb<Pending> for Copy {
     }
 }
 
-/// Whether the operation passes every test of a received one. Absorbing can't rest on a caller's promise: the crate of
-/// the copies calls it with whatever was appended. The publisher's invariant shows that each entry passes.
+/// Whether the operation passes every test of a received one. Absorbing can't rest on a caller's promise: the crate of the copies
+/// calls it with whatever was appended. The publisher's invariant shows that each entry passes.
 fn is_lawful(document: &Document, op: &Op) -> bool
     ensures tests { result ≡ is_lawful document.now.table document.now.entries op.now }
     ensures lawful { IsTrue result → MayFollow (applied document.now.entries) (stamped_of document.now.table op.now) }

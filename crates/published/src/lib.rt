@@ -1,7 +1,7 @@
-//! A history that one writer publishes and many seats read without locks, in two copies of a document.
+//! A history that one writer publishes and many readers query without locks, in two copies of a document (left-right).
 //!
-//! The writer appends entries and publishes them. A seat asks, and is answered from a snapshot: the history as it was
-//! published at one atomic step, which begins with all that the seat had seen. Atomic steps, each with what it owes:
+//! The writer appends entries and publishes them. A seat is a reader: what it asks is answered from a snapshot, the history as it
+//! was published at one atomic step, which begins with all that the seat had seen. Atomic steps, and what each ensures:
 //!
 //! - *publish* (the writer, in `Publisher::publish`): what is shown afterwards is the snapshot of all that was appended;
 //! - *enter* (a reader, in `Seat::ask`): what is read is what is shown at that step.

@@ -1,4 +1,4 @@
-//! Engines by their names, and notices of what was published.
+//! The names of engines, and notices of what was published.
 
 ghost use Rattle.std.specs.Prelude.{◌≡◌, ◌≤◌, length};
 ghost use Rattle.semantics.specs.Entries.{IsEntryHistory};
@@ -31,7 +31,7 @@ impl EngineName for Brand {
     ghost table = { [] };
 }
 
-/// Proof that so much of engine N's history was published. It is a counter; any token of the engine may learn it.
+/// Proof that a beginning of engine N's history was published. It is a counter; any token of the engine may learn it.
 /// Contracts see the entries, the newest first, which are an entry history.
 #[derive(Drop)]
 pub struct Notice<N: EngineName> {
@@ -75,7 +75,7 @@ impl<N: EngineName> Notice<N> {
         &self.point
     }
 
-    /// How many entries it has.
+    /// How many entries the published history has.
     pub fn len(&self) -> usize
         ensures length { result ≡ length self.now }
         ensures legal { IsEntryHistory N.own self.now }

@@ -27,7 +27,7 @@ use std::alloc::Global;
 use std::marker::Model;
 use std::sync::Wait;
 
-/// The writer's end of the copies, with one place for an entry that their log had no room for. It isn't `Drop`: call `end`.
+/// The writer's end of the copies, with room for one entry that their log had no room for. It isn't `Drop`: call `end`.
 /// Contracts see what is published and all that was appended, the newest first.
 pub struct Publisher<N: EngineName> {
     writer: Writer<Copy, Pending, View, Shown<N>>,
@@ -53,10 +53,10 @@ impl<N: EngineName> Model for Publisher<N> {
     ghost invariant = { λ p. IsPublisher N.book N.own N.table p.writer.desk.shown.value (drop p.writer.behind p.writer.log.items ++ option_to_list p.next) p.head p.all };
 }
 
-/// Opens the two copies over two new documents of one table, with a seat for each of so many readers.
+/// Opens the two copies over two new documents of one table, with a seat for each reader.
 ///
 /// # Errors
-/// `NoReaderPlace` if the copies have no place for one of the readers, `NoMemory` if allocation fails. Nothing is opened then.
+/// `NoReaderPlace` if the copies have no seat for one of the readers, `NoMemory` if allocation fails. Nothing is opened then.
 pub fn open<N: EngineName>(
     rt: &impl Wait,
     alloc: Global,
@@ -107,7 +107,7 @@ pub fn open<N: EngineName>(
     }
 }
 
-/// A seat that has seen nothing for each of so many readers.
+/// A new seat for each reader.
 fn seats<N: EngineName>(
     alloc: Global,
     writer: &Writer<Copy, Pending, View, Shown<N>>,
@@ -130,7 +130,7 @@ fn seats<N: EngineName>(
     Ok(seats)
 }
 
-/// Moves the entry in the one place on to the log of the copies, and says whether the place is free.
+/// Moves the entry that is kept aside to the log of the copies, and says whether none is kept now.
 fn flush<N: EngineName>(
     writer: &mut Writer<Copy, Pending, View, Shown<N>>,
     next: &mut Option<Pending>,
@@ -151,7 +151,7 @@ fn flush<N: EngineName>(
     }
 }
 
-/// Puts an entry into the one place. A function of its own keeps the drop of what stood there out of its callers' proofs.
+/// Keeps an entry aside. A function of its own keeps the drop of what was there out of its callers' proofs.
 fn put(next: &mut Option<Pending>, pending: Pending)
     ensures { next.new ≡ Some pending }
 {
@@ -171,7 +171,7 @@ fn show_all<N: EngineName>(
     replace_with(writer, rt, |writer, rt| show::<N, _>(rt, writer))
 }
 
-/// The same for a writer by value, as the copies' crate has it.
+/// The same on a writer by value, as the crate of the copies has it.
 fn show<N: EngineName, R: Wait>(
     rt: &R,
     writer: Writer<Copy, Pending, View, Shown<N>>,

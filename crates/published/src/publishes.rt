@@ -1,4 +1,4 @@
-//! A publisher is where the entries of a replica go.
+//! A publisher receives the entries of a replica.
 
 use crate::notice::EngineName;
 use crate::publisher::Publisher;

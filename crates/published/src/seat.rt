@@ -35,7 +35,7 @@ impl<N: EngineName> Protocol<Copy, View> for Shown<N> {
     ghost first = { reader_of [] };
 }
 
-/// What the step of a read or of a publish tells.
+/// What the step of a read or of a publish proves.
 pub struct Sees<N: EngineName> {
     of: PhantomData<N>,
 }

@@ -94,7 +94,7 @@ fn shared<N: EngineName + Send + Sync, R: Threads + Wait + Abort + Sync>(
     result
 }
 
-/// One thread publishes two entries, and another asks until it reads both.
+/// One thread publishes two entries, while another asks until it reads both.
 fn meanwhile<N: EngineName + Send + Sync, R: Threads + Wait + Abort + Sync>(
     rt: &R,
     alloc: Global,
@@ -127,7 +127,7 @@ fn fill<N: EngineName, R: Abort>(
     write_two(rt, alloc, &mut mirror, publisher)
 }
 
-/// Whether the one thread published, and the other read the number.
+/// Whether one thread published and the other read the number.
 fn both<N: EngineName + Send + Sync, R: Threads + Wait + Sync>(
     rt: &R,
     alloc: Global,
@@ -142,7 +142,7 @@ fn both<N: EngineName + Send + Sync, R: Threads + Wait + Sync>(
     published.is_ok() && read
 }
 
-/// Asks until the number is read. False where a read is refused.
+/// Asks until the number is read. False if a read is refused.
 fn wait_for<N: EngineName, R: Wait>(
     rt: &R,
     alloc: Global,
@@ -196,7 +196,7 @@ fn session<N: EngineName, R: Wait + Abort>(
     check_value(rt, alloc, seat, None, 0)?;
     publish(rt, publisher, 2)?;
     check_value(rt, alloc, seat, Some(8), 2)?;
-    // A seat that has read nothing sees what it is told.
+    // A seat that has read nothing learns what it is told.
     check_lessons(rt, late, &opening, &publisher.notice());
     write(rt, alloc, mirror, publisher, 3, 9)?;
     publish(rt, publisher, 3)?;
@@ -205,7 +205,7 @@ fn session<N: EngineName, R: Wait + Abort>(
     Ok(())
 }
 
-/// Publish, so that this many entries are published.
+/// Publishes, and asserts how many entries are published.
 fn publish<N: EngineName, R: Wait + Abort>(
     rt: &R,
     publisher: &mut Publisher<N>,
@@ -218,7 +218,7 @@ fn publish<N: EngineName, R: Wait + Abort>(
     Ok(())
 }
 
-/// Reads the number at the key `a`, in a history of this length.
+/// Asserts the number at the key `a`, in a history of this length.
 fn check_value<N: EngineName, R: Abort>(
     rt: &R,
     alloc: Global,
@@ -232,7 +232,7 @@ fn check_value<N: EngineName, R: Abort>(
     Ok(())
 }
 
-/// A seat that has seen nothing learns the longer of two notices, the opening and that of two entries.
+/// Asserts that a seat that has seen nothing learns the longer of two notices, the opening and that of two entries.
 fn check_lessons<N: EngineName, R: Abort>(
     rt: &R,
     seat: &mut Seat<N>,
@@ -348,7 +348,7 @@ fn assign(alloc: Global, document: &Document, counter: u64, number: i64) -> Resu
     })
 }
 
-/// Whether nothing is wrong with the operation alone.
+/// Whether the operation has no fault alone.
 fn stands_alone(document: &Document, op: &Op) -> bool
     ensures alone { IsTrue result → fault_alone document.now.table op.now ≡ None }
     ensures member { IsTrue result → IsTrue (is_member document.now.table op.now.id.replica) }
@@ -357,7 +357,7 @@ fn stands_alone(document: &Document, op: &Op) -> bool
     check_alone(op, document.table()).is_ok()
 }
 
-/// What is wrong with an operation of a peer that is ready, and isn't wrong alone.
+/// The fault of an operation of a peer that is ready and has none alone.
 fn check(rt: &impl Abort, document: &Document, op: &Op) -> Result<(), Refusal>
     ensures lawful { OnOk result (MayFollow (applied document.now.entries) (stamped_of document.now.table op.now)) }
     ensures member { IsTrue (is_member document.now.table op.now.id.replica) }

@@ -17,7 +17,7 @@ use Rattle.replica.specs.Replicas.{Running, IsReplica, next_of, replica_of}
 use Rattle.replica.proofs.Leaving.{still_alone}
 use Rattle.replica.proofs.Turns.{counted_for, counted_running, dropping, next_some, turn}
 
--- q is r after so many turns, of which each dropped what is unlawful
+-- q is r after this many turns, of which each dropped what is unlawful
 pub record IsDropping (r q : Running) : Type 0 where
   pub turns : ℕ
   pub after : replica_of q ≡ counted (drain_for turns (replica_of r))

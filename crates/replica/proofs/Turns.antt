@@ -76,7 +76,7 @@ ended n r h none = by (cases_lt (length r.waiting) n) where
 suc_alike : (m x y : ℕ) → min x m ≡ min y m → min (suc x) m ≡ min (suc y) m
 suc_alike m x y e = omega (arith, e)
 
--- the replica, where so many were dropped
+-- the replica, where this many were dropped
 abbrev pub with_dropped : Replica → ℕ → Replica
 with_dropped r n = record r { dropped = n }
 

@@ -18,7 +18,7 @@ use std::alloc::Global;
 /// The most operations that a history holds.
 const MOST_ENTRIES: usize = 1_048_576;
 
-/// Whether no more operations may be appended.
+/// Whether the history is full.
 pub fn is_full(document: &Document) -> bool
     ensures { result ≡ is_full document.now.entries }
 {
@@ -28,7 +28,8 @@ pub fn is_full(document: &Document) -> bool
 /// The operation that the command makes after the history.
 ///
 /// # Errors
-/// Those of the rules, in this order: `HistoryFull`; the refusal of the expression; `NotInList` for an insert that would stand neither at a head nor at an item, `AtHead` for another command at a head. Or `NoMemory` where a growth was refused.
+/// In this order: `HistoryFull`; the refusal of the expression; `NotInList` for an insert that would stand neither at a head nor at
+/// an item, `AtHead` for another command at a head. Or `NoMemory` if allocation fails.
 pub fn make(
     alloc: Global,
     own: ReplicaId,
@@ -59,7 +60,7 @@ pub fn make(
     })
 }
 
-/// Whether what the command does may stand at this place.
+/// Tests whether what the command does may stand at this place.
 fn check_place(command: &Command, place: &Place) -> Result<(), Refusal>
     ensures { MatchResult result
         (λ _. place_for (command_of command.now).mutation place.now ≡ Ok place.now)
@@ -71,7 +72,7 @@ fn check_place(command: &Command, place: &Place) -> Result<(), Refusal>
     }
 }
 
-/// An insert stands at a head or at an item.
+/// An insert has to stand at a head or at an item.
 fn check_in_list(place: &Place) -> Result<(), Refusal>
     ensures { (v : Value) → MatchResult result
         (λ _. place_for (Insert v) place.now ≡ Ok place.now)
@@ -83,7 +84,7 @@ fn check_in_list(place: &Place) -> Result<(), Refusal>
     }
 }
 
-/// Any other command stands at an element.
+/// Any other command has to stand at an element.
 fn check_element(place: &Place) -> Result<(), Refusal>
     ensures assign { (v : Value) → MatchResult result
         (λ _. place_for (Assign v) place.now ≡ Ok place.now)

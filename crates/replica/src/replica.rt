@@ -1,4 +1,4 @@
-//! A replica, its own operations, and what can be asked of it.
+//! A replica: its own operations, those of peers, and what can be asked of it.
 
 ghost use Rattle.std.specs.Prelude.{◌≡◌, ◌⊎◌, ◌↔◌, ◌&&◌, ℕ, [], true, false, Ok, Err, Some, None, IsTrue, IsFalse, length, option_map, IfOk, IfErr, IfSome, MatchResult, OnErr, OnOk};
 ghost use Rattle.ids.specs.declared.refusal.Refusal.TheVariants.{NoMemory, BadConfig};
@@ -32,7 +32,7 @@ pub struct Replica {
     own: ReplicaId,
     document: Document,
     inbox: Inbox,
-    /// How many operations of peers were dropped. Stays at its greatest.
+    /// How many operations of peers were dropped, at most 18446744073709551615.
     dropped: u64,
 }
 
@@ -53,10 +53,11 @@ impl Model for Replica {
 impl Replica {
     ghost use Rattle.replica.specs.Replicas.{IsMade, IsNextReady, answer_to, next_of, replica_of};
 
-    /// A replica with this number among these members, and with no history.
+    /// A replica with this number among these members, and with an empty history.
     ///
     /// # Errors
-    /// `BadConfig` where the members aren't from 1 to 64 different numbers above 0, or the own number is none of them, else `NoMemory` if allocation fails.
+    /// `BadConfig` if the members aren't 1 to 64 distinct numbers above 0, or the own number isn't one of them, else `NoMemory` if
+    /// allocation fails.
     pub fn new(alloc: Global, own: u32, members: &[u32]) -> Result<Replica, Refusal>
         ensures new { IfOk result (λ r. replica_of r ≡ record { own = own; members = in_order members.now; entries = []; waiting = []; dropped = 0 }) }
         ensures bad_config { (result ≡ Err BadConfig) ↔ IsFalse (are_members members.now && is_member members.now own) }
@@ -72,7 +73,7 @@ impl Replica {
         })
     }
 
-    /// The document of what was applied, to be asked. Its entries are an entry history of this replica, whatever was delivered.
+    /// The document of what was applied. Its entries are an entry history of this replica, whatever was delivered.
     pub fn document(&self) -> &Document
         ensures document { result.now ≡ self.now.document }
         ensures running { IsRunning (replica_of self.now) }
@@ -95,17 +96,18 @@ impl Replica {
         self.inbox.len()
     }
 
-    /// How many operations of peers were dropped since they turned out to be unlawful. Stays at 18446744073709551615.
+    /// How many operations of peers were dropped because they turned out to be unlawful. Stays at 18446744073709551615.
     pub fn dropped(&self) -> u64
         ensures { result ≡ self.now.dropped }
     {
         self.dropped
     }
 
-    /// The operation that the command makes after the history. All that committing it needs is made too, and no content changes.
+    /// The operation that the command makes after the history. Reserves all that committing it needs, and changes no content.
     ///
     /// # Errors
-    /// Those of the rules, in this order: `HistoryFull`; the refusal of the expression; `NotInList` for an insert that would stand neither at a head nor at an item, `AtHead` for another command at a head. Or `NoMemory` if allocation fails.
+    /// In this order: `HistoryFull`; the refusal of the expression; `NotInList` for an insert that would stand neither at a head
+    /// nor at an item, `AtHead` for another command at a head. Or `NoMemory` if allocation fails.
     pub fn make(&mut self, alloc: Global, command: &Command) -> Result<Op, Refusal>
         ensures same { replica_of self.new ≡ replica_of self.old }
         ensures made { IfOk result (λ op. IsMade self.old.document.entries self.old.own (command_of command.now) (stamped_of self.old.document.table op)) }
@@ -119,7 +121,7 @@ impl Replica {
         Ok(op)
     }
 
-    /// Appends what the last `make` gave, under a serial that is above each that the client had. Takes no memory.
+    /// Appends what the last `make` returned, under a serial above each that the client had. Takes no memory.
     pub fn commit_own(&mut self, client: usize, serial: u64, command: Command, op: Op)
         requires made { IsMade self.old.document.entries self.old.own (command_of command) (stamped_of self.old.document.table op) }
         requires width { length op.deps ≡ length self.old.document.table }
@@ -135,12 +137,15 @@ impl Replica {
         });
     }
 
-    /// Keeps an operation of a peer until all that it depends on is applied. Nothing is applied here: that is for `next_ready` and `commit_peer`, or `drain`.
+    /// Keeps an operation of a peer in the inbox until it is causally ready. Nothing is applied here: that is for `next_ready` and
+    /// `commit_peer`, or `drain`.
     ///
-    /// `Known` where an operation with its id was applied or waits, whatever else it holds. The operation is gone, unless it is `Kept`.
+    /// `Known` if an operation with its id was applied or waits, whatever else it holds. The operation is dropped, unless it is `Kept`.
     ///
     /// # Errors
-    /// The first of these that holds, and then the replica is as it was: those of `check_alone`; then, unless it is known, `OwnName` for the own number, `HistoryFull`, and `InboxFull`; and those of `Document::check` where it is ready. Or `NoMemory` if allocation fails.
+    /// The first of these that holds, and then the replica is as it was: those of `check_alone`; then, unless the operation is
+    /// known, `OwnName` for the own number, `HistoryFull`, and `InboxFull`; and those of `Document::check` if it is ready. Or
+    /// `NoMemory` if allocation fails.
     pub fn deliver(&mut self, op: Op) -> Result<Delivered, Refusal>
         ensures answer { MatchResult result
             (λ d. answer_to (replica_of self.old) op ≡ delivered_of d)
@@ -156,7 +161,8 @@ impl Replica {
         self.inbox.put(op, &self.document)
     }
 
-    /// A copy of the next operation of a peer that `commit_peer` appends: the smallest that is ready, unless the history is full. What is smaller, ready and unlawful is dropped and counted. All that committing it needs is made.
+    /// A copy of the next operation of a peer that `commit_peer` appends: the smallest one that is ready, or `None` if there is
+    /// none or the history is full. Drops and counts what is smaller, ready and unlawful. Reserves all that committing it needs.
     ///
     /// # Errors
     /// `AllocError` if allocation fails. What was dropped stays dropped then, and nothing else has changed.
@@ -175,7 +181,7 @@ impl Replica {
         }
     }
 
-    /// Appends what the last `next_ready` gave a copy of. Takes no memory.
+    /// Appends what the last `next_ready` returned a copy of. Takes no memory.
     pub fn commit_peer(&mut self)
         requires { (s : Stamped) × IsNextReady self.old s }
         ensures { replica_of self.new ≡ drain_for 1 (replica_of self.old) }
@@ -190,7 +196,7 @@ impl Replica {
         self.document.commit(Entry::Peer(op));
     }
 
-    /// Appends or drops all that is ready, and all that becomes ready by it, the smallest first, until the history is full.
+    /// Appends or drops all that is ready, and all that becomes ready by that, the smallest id first, until the history is full.
     ///
     /// # Errors
     /// `AllocError` if allocation fails. The drain has ended early then, and another goes on.
@@ -208,7 +214,8 @@ impl Replica {
         Ok(())
     }
 
-    /// Drops what is ready and unlawful, as far as it comes before what isn't, and makes all that committing the next one needs. Answers whether there is one.
+    /// Drops what is ready and unlawful until the next one is lawful, and reserves all that committing that one needs. Returns
+    /// whether there is one.
     fn prepare(&mut self, alloc: Global) -> Result<bool, AllocError>
         ensures dropped { (n : ℕ) × (replica_of self.new ≡ counted (drain_for n (replica_of self.old))) × (self.new.document.entries ≡ self.old.document.entries) }
         ensures none { result ≡ Ok false → next_of (replica_of self.new) ≡ None }
@@ -218,7 +225,7 @@ impl Replica {
         reserve_next(alloc, &mut self.document, &self.inbox)
     }
 
-    /// Drops the smallest ready one as long as that is unlawful.
+    /// Drops the smallest ready one as long as it is unlawful.
     fn drop_faulty(&mut self)
         ensures dropped { (n : ℕ) × (replica_of self.new ≡ counted (drain_for n (replica_of self.old))) × (self.new.document ≡ self.old.document) }
         ensures faultless { (s : Stamped) → next_of (replica_of self.new) ≡ Some s → fault_of (stamped_entries self.new.document.entries) s ≡ None }
@@ -229,7 +236,7 @@ impl Replica {
         }
     }
 
-    /// The entries of the history, the oldest first. Takes no memory; what waits is gone.
+    /// The entries of the history, the oldest first. Takes no memory. What waits is dropped.
     pub fn into_entries(self) -> Vec<Entry>
         ensures { history self.document.table result.items ≡ self.document.entries }
     {
@@ -237,7 +244,7 @@ impl Replica {
     }
 }
 
-/// The own number, which is one of the members.
+/// The own number, if it is one of the members.
 fn own_among(own: u32, members: &[u32]) -> Result<ReplicaId, Refusal>
     ensures { MatchResult result (λ p. (p ≡ own) × IsTrue (is_member members.now own)) (λ why. (why ≡ BadConfig) × ((own ≡ 0) ⊎ IsFalse (is_member members.now own))) }
 {

@@ -1,4 +1,4 @@
-//! What is asked of an operation that is to wait, and of the next one that leaves.
+//! The tests of an operation that is to wait, and of the next one that leaves the inbox.
 
 ghost use Rattle.std.specs.Prelude.{◌≡◌, true, false, Ok, Some, None, length, option_map, IfNone, IfSome, MatchResult};
 ghost use Rattle.ids.specs.declared.refusal.Refusal.{Refusal as ARefusal};
@@ -19,7 +19,7 @@ use inbox::Inbox;
 use operation::Op;
 use std::alloc::{AllocError, Global};
 
-/// Whether an operation that is neither applied nor waits may wait.
+/// Tests whether an operation that is neither applied nor waits may wait.
 pub fn check_wanted(
     own: ReplicaId,
     document: &Document,
@@ -46,7 +46,7 @@ pub fn check_wanted(
     Ok(())
 }
 
-/// What a ready operation is refused for. Every ready one passes here, when it is delivered and when it leaves.
+/// The one test of a ready operation, when it is delivered and when it leaves.
 fn check_ready(document: &Document, op: &Op) -> Result<(), Refusal>
     requires { length op.now.deps ≡ length document.now.table }
     ensures { let fault = fault_of (stamped_entries document.now.entries) (stamped_of document.now.table op.now) in
@@ -67,7 +67,7 @@ pub fn next<'a>(document: &Document, inbox: &'a Inbox) -> Option<&'a Op>
     inbox.smallest_ready(document)
 }
 
-/// The id of the next one, where it is unlawful.
+/// The id of the next one, if it is unlawful.
 pub fn next_faulty(document: &Document, inbox: &Inbox) -> Option<OpId>
     requires { StandAlone document.now.table inbox.now }
     ensures some { IfSome result (λ a. (s : Stamped) × (next_in document.now inbox.now ≡ Some s) × (s.id ≡ a) × ((why : ARefusal) × (fault_of (stamped_entries document.now.entries) s ≡ Some why))) }
@@ -80,7 +80,7 @@ pub fn next_faulty(document: &Document, inbox: &Inbox) -> Option<OpId>
     }
 }
 
-/// Makes all that committing the next one needs. Answers whether there is one.
+/// Reserves all that committing the next one needs. Returns whether there is one.
 pub fn reserve_next(
     alloc: Global,
     document: &mut Document,

@@ -1,4 +1,5 @@
-//! What replicas reply, and what they keep, as their rules have it. Each test is turns that a replica takes one after another, and the history that they leave.
+//! What replicas answer, and what they keep, as the rules have it. Each test is turns that a replica takes in order, and the
+//! history that they leave.
 
 mod deliveries;
 mod leaving;
@@ -38,7 +39,7 @@ fn counters_go_on_after_a_commit(rt: HostRuntime) -> Result<(), Fail> {
     on_new(&rt, rt.alloc(), 1, TURNS, &[(1, 1)])
 }
 
-/// Whether a replica of this number is opened among these members.
+/// Whether a replica with this number among these members is opened.
 fn opened(alloc: Global, own: u32, members: &[u32]) -> Result<(), Refusal> {
     let _replica = Replica::new(alloc, own, members)?;
     Ok(())

@@ -1,4 +1,4 @@
--- The table of an engine, where it is there, is the one at its place, and new engines have the tables of their configurations.
+-- The table of an engine, where it is there, is the one at its index, and new engines have the tables of their configurations.
 use Rattle.std.proofs.Common.{◌≡◌, ℕ, zero, suc, List, [], ◌∷◌, refl, ap, slice_get}
 use Rattle.ids.specs.Configurations.{Configuration}
 use Rattle.ids.specs.Members.{in_order}

@@ -12,7 +12,7 @@ use Rattle.wire.specs.Forms.{and_then, number_form, list_form}
 abbrev pub get_form : List ℕ → Result Step Refusal
 get_form key = if nat_lt 256 (length key) then Err KeyTooLong else Ok (Get key)
 
--- a text is a key, and a number the place of an item
+-- a text is a key, and a number the index of an item
 abbrev pub path_step_form : Data → Result Step Refusal
 path_step_form d = option_map_or get_form (as_str d) (and_then (λ i. Ok (Idx i)) (number_form d))
 

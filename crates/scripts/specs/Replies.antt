@@ -34,7 +34,7 @@ row_json v = array (items_of (id_json v.0 ∷ scalar_json v.1 ∷ []))
 abbrev pub conflict_json : OpId × Tag → Data
 conflict_json x = array (items_of (id_json x.0 ∷ string (tag_name x.1) ∷ []))
 
--- what a token that has seen so many entries is answered
+-- what a token that has seen this many entries is answered
 abbrev pub answer_json : ℕ → Answer → Data
 answer_json seen (ValuesAre vs) = phrase (codes "reading") (count seen ∷ array (items_of (map row_json vs)) ∷ [])
 answer_json seen (KeysAre names) = phrase (codes "reading") (count seen ∷ array (items_of (map string names)) ∷ [])

@@ -14,7 +14,7 @@ steps_from engines number [] (b ∷ tail) = Err (number, BadLine)
 steps_from engines number (l ∷ ls) tail =
     unless_bad (λ s. unless_bad (λ ss. Ok (s ∷ ss)) (steps_from engines (number + 1) ls tail)) (on_line number (step_line engines l))
 
--- the steps in what is left of a script, after so many lines
+-- the steps in what is left of a script, after this many lines
 abbrev pub steps_left : List Configuration → ℕ → List ℕ → Result (List WorldStep) Bad
 steps_left engines taken rest = steps_from engines (taken + 1) (cut rest).lines (cut rest).tail
 

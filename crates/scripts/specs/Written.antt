@@ -10,7 +10,7 @@ use Rattle.value.specs.Forms.{json_of}
 use Rattle.wire.specs.Operations.{phrase}
 use Rattle.wire.specs.Vectors.{count, vector_json}
 
--- the key of a field, or the place of an item
+-- the key of a field, or the index of an item
 abbrev pub path_step_json : Step → Data
 path_step_json (Get key) = string key
 path_step_json (Idx i) = count i

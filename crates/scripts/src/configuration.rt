@@ -34,8 +34,7 @@ impl Model for Engine {
     ghost view = { λ e. record { own = e.own; members = e.members.items; clients = e.clients; readers = e.readers; queue = e.queue; batch = e.batch; serials = e.serials } };
 }
 
-/// The engines that a script's first line says, from 1 to 16 of them.
-/// Whether they are within the limits is the world's to say.
+/// The engines that a script's first line opens, from 1 to 16 of them. Whether they are within the limits is for the world to test.
 pub fn read_engines(alloc: Global, text: &[u8]) -> Result<Vec<Config>, Refusal>
     ensures { IsRead (λ v. v.items) result (said_engines text.now) }
 {
@@ -67,7 +66,7 @@ fn only_engines_in(alloc: Global, parts: &[Value]) -> Result<Vec<Engine>, Refusa
     Ok(engines)
 }
 
-/// Each engine in its turn.
+/// The engines, from the left.
 fn engines_in(alloc: Global, parts: &[Value]) -> Result<Vec<Engine>, Refusal>
     ensures { IsRead (λ v. v.items) result (engines_of (items_view parts.now)) }
 {
@@ -105,7 +104,7 @@ fn numbers_in(alloc: Global, parts: &[Value]) -> Result<Vec<u64>, Refusal>
     Ok(numbers)
 }
 
-/// The configurations of the engines, unless a number is too large for one.
+/// The configurations of the engines. A number that is too large for its type is `BadConfig`.
 fn configurations_of(alloc: Global, engines: &[Engine]) -> Result<Vec<Config>, Refusal>
     ensures ok { IfOk result (λ v. (v.items ≡ engines.now) × (list_all all_fit engines.now ≡ true)) }
     ensures err { IfErr result (λ why. (why ≡ NoMemory) ⊎ ((why ≡ BadConfig) × (list_all all_fit engines.now ≡ false))) }
@@ -118,7 +117,7 @@ fn configurations_of(alloc: Global, engines: &[Engine]) -> Result<Vec<Config>, R
 }
 
 impl Engine {
-    /// The configuration of this engine, unless a number is too large for one.
+    /// The configuration of this engine. A number that is too large for its type is `BadConfig`.
     fn fitted(&self, alloc: Global) -> Result<Config, Refusal>
         ensures ok { IfOk result (λ g. (g ≡ self.now) × (all_fit self.now ≡ true)) }
         ensures err { IfErr result (λ why. (why ≡ NoMemory) ⊎ ((why ≡ BadConfig) × (all_fit self.now ≡ false))) }

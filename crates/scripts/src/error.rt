@@ -18,7 +18,7 @@ pub enum ScriptError {
 }
 
 impl ScriptError {
-    /// Why the line of this number has no meaning, or that memory was wanted for it.
+    /// The error of the line with this number: it is bad, or allocation failed.
     pub(crate) fn of_line(line: u64, refusal: Refusal) -> ScriptError
         ensures { result ≡ error_of line refusal }
     {

@@ -13,7 +13,7 @@ use std::alloc::Global;
 use value::Key;
 use wire::{list_in, number_in};
 
-/// A list of keys and of places in lists.
+/// An expression: a list of keys and of indices in lists.
 pub fn expression_in(alloc: Global, value: &Value) -> Result<Expr, Refusal>
     ensures { IsUnlessMemory result (expression_form (view value.now)) }
 {
@@ -30,7 +30,7 @@ fn steps_in(alloc: Global, parts: &[Value]) -> Result<Vec<Step>, Refusal>
     Ok(steps)
 }
 
-/// A text is a key, and a number the place of an item.
+/// A step: a text is a key, and a number an index in a list.
 fn step_in(alloc: Global, value: &Value) -> Result<Step, Refusal>
     ensures { IsRead step_of result (path_step_form (view value.now)) }
 {

@@ -38,7 +38,7 @@ pub fn numbered_step_in(word: &str, parts: &[Value]) -> Result<WorldStep, Refusa
     }
 }
 
-/// A step with a message.
+/// A step that names a message.
 fn message_step_in(word: &str, parts: &[Value]) -> Result<WorldStep, Refusal>
     ensures read { (tables : List (List ℕ)) → IsRead (step_meant tables) result (message_step_of (word.now, items_view parts.now)) }
     ensures beside { (tables : List (List ℕ)) → IfOk result (IsAskedBeside tables) }
@@ -68,7 +68,7 @@ fn message_step_in(word: &str, parts: &[Value]) -> Result<WorldStep, Refusal>
     }
 }
 
-/// A step that has an engine alone.
+/// A step that names an engine alone.
 fn engine_step_in(word: &str, parts: &[Value]) -> Result<WorldStep, Refusal>
     ensures read { (tables : List (List ℕ)) → IsRead (step_meant tables) result (engine_step_of (word.now, items_view parts.now)) }
     ensures beside { (tables : List (List ℕ)) → IfOk result (IsAskedBeside tables) }

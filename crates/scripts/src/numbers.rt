@@ -1,4 +1,4 @@
-//! Numbers alone as the parts of a step: of engines, clients, tokens, messages and serials.
+//! The parts of a step that are numbers: engines, clients, tokens, messages and serials.
 #![tactic(auto, using(crate::proofs::WrongLengths::number_lengths))]
 
 ghost use Rattle.std.specs.Prelude.{◌≡◌};

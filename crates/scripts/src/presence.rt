@@ -1,4 +1,4 @@
-//! Whether what a step names is there.
+//! Whether the engine, client and token of a step exist.
 
 ghost use Rattle.std.specs.Prelude.{◌≡◌, ℕ, List};
 ghost use Rattle.world.specs.Meanings.{step_of};
@@ -7,7 +7,7 @@ ghost use Rattle.scripts.specs.Presence.{has_client as client_there, has_token a
 use ids::Config;
 use world::WorldStep;
 
-/// Whether a step's engine is one of these, and its client and token are that engine's. A message need not be there.
+/// Whether a step's engine is one of these, and its client and token are that engine's. A message need not exist.
 pub fn is_there(step: &WorldStep, engines: &[Config]) -> bool
     ensures { (table : List ℕ) → result ≡ step_there engines.now (step_of table step.now) }
 {

@@ -1,4 +1,4 @@
-//! What questions are answered, as JSON.
+//! The answers to questions, as JSON.
 
 ghost use Rattle.std.specs.Prelude.{◌≡◌, ◌∷◌, ℕ, [], map, codes, IfOk};
 ghost use Rattle.serde_json.specs.Data.{array, string};
@@ -20,7 +20,7 @@ use std::alloc::{AllocError, Global};
 use value::{Key, Scalar};
 use wire::{id_value, operation_value, vector_value};
 
-/// The reply to a question of a token that has seen so many entries.
+/// The reply to a question of a token that has seen this many entries.
 pub fn reading_value(
     alloc: Global,
     seen: u64,
@@ -95,7 +95,7 @@ fn conflicts_value(alloc: Global, pairs: &[(OpId, Tag)]) -> Result<Value, AllocE
     Ok(Value::Array(list))
 }
 
-/// The id of a sibling, and what it is.
+/// The id of a conflict, and its tag.
 fn conflict_value(alloc: Global, id: OpId, tag: Tag) -> Result<Value, AllocError>
     ensures { IfOk result (λ v. view v ≡ conflict_json (id, tag_of tag)) }
 {

@@ -1,4 +1,4 @@
-//! What the steps reply, as lines of JSON.
+//! The replies to steps, as lines of JSON.
 
 ghost use Rattle.std.specs.Prelude.{◌≡◌, ◌∷◌, [], Some, map, IfOk, codes, string_bytes};
 ghost use Rattle.semantics.specs.Engine.{SentHello, Denied};
@@ -77,7 +77,7 @@ fn world_reply(alloc: Global, reply: &WorldReply) -> Result<Value, AllocError>
     }
 }
 
-/// The answer to what was submitted.
+/// The answer to a submission.
 fn request_reply(alloc: Global, reply: Reply) -> Result<Value, AllocError>
     ensures { IfOk result (λ v. view v ≡ reply_json (answer_of reply)) }
 {
@@ -89,28 +89,28 @@ fn request_reply(alloc: Global, reply: Reply) -> Result<Value, AllocError>
     }
 }
 
-/// The word of a reply that says no more.
+/// A reply that is a word alone.
 fn word(alloc: Global, word: &str) -> Result<Value, AllocError>
     ensures { IfOk result (λ v. view v ≡ phrase word.now []) }
 {
     json!(in alloc; [word])
 }
 
-/// A word and its number.
+/// A word and a number.
 fn one(alloc: Global, word: &str, number: u64) -> Result<Value, AllocError>
     ensures { IfOk result (λ v. view v ≡ phrase word.now (count number ∷ [])) }
 {
     json!(in alloc; [word, number])
 }
 
-/// A word and its two numbers.
+/// A word and two numbers.
 fn two(alloc: Global, word: &str, first: u64, second: u64) -> Result<Value, AllocError>
     ensures { IfOk result (λ v. view v ≡ phrase word.now (count first ∷ count second ∷ [])) }
 {
     json!(in alloc; [word, first, second])
 }
 
-/// An operation's id and its place in the history.
+/// An operation's id and its position in the history.
 fn made(alloc: Global, id: OpId, place: u64) -> Result<Value, AllocError>
     ensures { IfOk result (λ v. view v ≡ reply_json (Made id place)) }
 {
@@ -147,7 +147,7 @@ fn hello(
     json!(in alloc; ["message", message, vector])
 }
 
-/// The first serial and how many operations were submitted, and the line where that stopped.
+/// The first serial and how many operations were submitted.
 fn received(
     alloc: Global,
     first: u64,
@@ -162,7 +162,7 @@ fn received(
     }
 }
 
-/// The same where the operations stopped at a line.
+/// The first serial and how many operations were submitted, and the line where that stopped, and why.
 fn received_until(
     alloc: Global,
     first: u64,

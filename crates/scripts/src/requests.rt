@@ -67,7 +67,7 @@ fn delete_in(alloc: Global, parts: &[Value]) -> Result<Command, Refusal>
     Ok(Command::Delete(expression_in(alloc, expression)?))
 }
 
-/// A question to an engine with this table. A vector is refused where there is no table.
+/// A question to an engine with this table. A vector is refused if there is no table.
 pub fn question_in(
     alloc: Global,
     table: Option<&ReplicaTable>,
@@ -91,7 +91,7 @@ pub fn question_in(
     }
 }
 
-/// An expression for what is asked about.
+/// The expression of a question.
 fn asked_in(alloc: Global, parts: &[Value]) -> Result<Expr, Refusal>
     ensures { (what : List Step → TheQuestion) → IsRead (λ e. OfDocument (what e)) result (asking_of what (items_view parts.now)) }
 {
@@ -118,7 +118,7 @@ fn missing_in(
     Ok(Question::Missing(script_vector_in(alloc, table, vector)?))
 }
 
-/// A vector of replicas of the table. Whatever else is wrong with one in a script is `BadLine`.
+/// A vector of members. Every fault of a vector in a script is `BadLine`.
 fn script_vector_in(
     alloc: Global,
     table: &ReplicaTable,
@@ -134,7 +134,7 @@ fn script_vector_in(
     }
 }
 
-/// Nothing follows the word.
+/// Tests that nothing follows the word.
 fn check_none(parts: &[Value]) -> Result<(), Refusal>
     ensures { IsRead (λ _. OfDocument AppliedVector) result (applied_of (items_view parts.now)) }
 {
@@ -144,7 +144,8 @@ fn check_none(parts: &[Value]) -> Result<(), Refusal>
     Ok(())
 }
 
-/// A line that is read as a command or a question, or as a step that holds one, has the JSON that writing that gives, whatever its spaces and escapes.
+/// A line that is read as a command or a question, or as a step that holds one, has the JSON that writing it gives, whatever its
+/// spaces and escapes.
 pub fn what_is_read_is_written_alike()
     ensures command { (text : List ℕ) (c : TheCommand) → and_then command_form (json_form text) ≡ Ok c → json_form text ≡ Ok (command_json c) }
     ensures question { (table : Option (List ℕ)) (text : List ℕ) (q : Asked) → and_then (question_form table) (json_form text) ≡ Ok q → json_form text ≡ Ok (question_json q) }

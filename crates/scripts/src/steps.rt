@@ -17,7 +17,7 @@ use std::alloc::Global;
 use wire::{json_of, phrase_in, text_in};
 use world::{World, WorldStep};
 
-/// The step on a line, of an engine, client and token that are there. The world is that of the engines.
+/// The step on a line, whose engine, client and token exist. The world is that of the engines.
 pub fn read_step(
     alloc: Global,
     text: &[u8],
@@ -67,7 +67,7 @@ fn push_in(alloc: Global, parts: &[Value]) -> Result<WorldStep, Refusal>
     })
 }
 
-/// The token of an engine asks.
+/// An engine, a token of it, and a question.
 fn ask_in(alloc: Global, parts: &[Value], world: &World) -> Result<WorldStep, Refusal>
     ensures read { IsRead (step_meant (tables_of world.now.engines)) result (ask_of (tables_of world.now.engines) (items_view parts.now)) }
     ensures beside { IfOk result (IsAskedBeside (tables_of world.now.engines)) }
@@ -85,7 +85,7 @@ fn ask_in(alloc: Global, parts: &[Value], world: &World) -> Result<WorldStep, Re
     })
 }
 
-/// An engine, a client of it, and a text of any lines.
+/// An engine, a client of it, and a text of lines.
 fn line_in(alloc: Global, parts: &[Value]) -> Result<WorldStep, Refusal>
     ensures read { (tables : List (List ℕ)) → IsRead (step_meant tables) result (line_of tables (items_view parts.now)) }
     ensures beside { (tables : List (List ℕ)) → IfOk result (IsAskedBeside tables) }

@@ -1,4 +1,4 @@
-//! The tests of `scripts`, by what it exports. They are a crate of their own, so that their proof doesn't repeat that of the crate.
+//! The tests of `scripts`, through its public functions. They are a crate of their own, so that their proof doesn't repeat the crate's.
 #![tactic(auto)]
 
 #[cfg(test)]

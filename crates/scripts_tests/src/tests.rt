@@ -1,4 +1,4 @@
-//! Scripts with their replies or their first bad lines, and what no clause says of them.
+//! Scripts with their replies or their first bad lines, and what no contract says of them.
 
 mod bad_requests;
 mod bad_scripts;

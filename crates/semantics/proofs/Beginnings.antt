@@ -8,7 +8,7 @@ use Rattle.semantics.specs.LegalAnswer.{Request, OfCommand, OfPeer, Submitted, R
 use Rattle.semantics.specs.WorldHistory.{BeginsWith, IsNotBelow}
 use Rattle.semantics.proofs.Replies.{first_stay, entry_stays, before, made_stays, refused_stays}
 
--- the first of a history are those of a beginning that has so many
+-- the first entries of a history are those of a beginning of that length
 pub first_of_longer : (m : ℕ) (more F : List Entry) → m ≤ length F → first_entries m (more ++ F) ≡ first_entries m F
 first_of_longer m [] F h = refl
 first_of_longer m (e ∷ more) F h =

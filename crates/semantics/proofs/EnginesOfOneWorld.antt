@@ -55,7 +55,7 @@ module _ (Claim : List Operation → Engine → Type 0) (kept : IsTracked Claim)
         (λ command s e. cc) (λ k ss s is m t e. (let same : s ≡ t = cc in subst (IsOfWorld K) same (h.sent k ss s is m)))
         (starts here K h.legal E (h.engines (mover w) E there) (λ e. claim E (sym (ap (slice_get W.engines) e) ∙ there)))
 
-    -- the engine at a place is the one that moved, or the one that was there
+    -- the engine at an index is the one that moved, or the one that was there
     placed : (d : ℕ) (D : Engine) → slice_get engines d ≡ Some D → ((d ≡ mover w) × (moved ≡ D)) ⊎ ((d ≡ mover w → ⊥) × (slice_get W.engines d ≡ Some D))
     placed d D e = at_cases (cases_eq d (mover w))
       where

@@ -1,4 +1,4 @@
--- An inbox that is full: 4,096 operations wait, and one place more is held for what is ready.
+-- An inbox that is full: 4,096 operations wait, and one more slot is held for what is ready.
 use Rattle.std.specs.Prelude.{◌≡◌, ℕ, zero, suc, ◌-◌, List, [], ◌∷◌, length, codes, refl}
 use Rattle.ids.specs.declared.refusal.Refusal.TheVariants.{InboxFull}
 use Rattle.semantics.specs.Ids.{id_at}
@@ -14,7 +14,7 @@ use Rattle.semantics.proofs.ExampleWords.{field, sent, new, history}
 abbrev deletes_a : ℕ → ℕ → Vector → Stamped
 deletes_a c p v = sent c p v (At (field (codes "a"))) Delete
 
--- so many operations of replica 2, from this counter on, each of which waits for one of replica 3
+-- this many operations of replica 2, from this counter on, each of which waits for one of replica 3
 abbrev waiting_from : ℕ → ℕ → List Stamped
 waiting_from zero c = []
 waiting_from (suc n) c = deletes_a c 2 (id_at (c - 1) 3 ∷ []) ∷ waiting_from n (suc c)
@@ -69,7 +69,7 @@ after_enabling_history = refl
 after_enabling_dropped : after_enabling.dropped ≡ 1
 after_enabling_dropped = refl
 
--- so there is a place again
+-- so there is room again
 last_again : answer_to after_enabling last ≡ Kept
 last_again = refl
 

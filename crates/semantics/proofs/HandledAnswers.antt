@@ -1,4 +1,4 @@
--- What handling an item keeps, with want of memory or without.
+-- What handling an item keeps, whether an allocation fails or not.
 use Rattle.std.proofs.Common.{◌≡◌, ◌⊎◌, inl, inr, ℕ, suc, ◌+◌, ◌<◌, ◌≤◌, Bool, true, false, nat_lt, List, [], ◌∷◌, ◌++◌, length, Option, Some, None, Result, Ok, Err, refl, sym, ap, ◌∙◌, subst, arith}
 use Rattle.std.proofs.lemmas.Bool.{ltb-true, ltb-false}
 use Rattle.ids.specs.declared.refusal.Refusal.{Refusal}
@@ -27,7 +27,7 @@ use Rattle.semantics.specs.Handling.{Handler, DrainsTo, IsWhole, IsTurnedAway, I
 
 -- ---- drains
 
--- q is r after so many turns of a drain
+-- q is r after this many turns of a drain
 pub record IsPart (r q : Replica) : Type 0 where
   pub own : q.own ≡ r.own
   pub members : q.members ≡ r.members
@@ -119,7 +119,7 @@ bad_floor r x above below = of_request x.request refl
     of_request (OfCommand c) is = rw is ((omega arith, inr (inr (refl, below)), refused_lacking r x c above), inr refl)
     of_request (OfPeer s) is = rw is (inr (inr (refl, below, omega arith)))
 
--- an operation of a peer, after whose delivery a drain made so many turns
+-- an operation of a peer, after whose delivery a drain made this many turns
 peer_part : (n : ℕ) (r q : Replica) (x : Submitted) (s : Stamped) → IsRunning r → x.floor ≤ length r.entries → x.request ≡ OfPeer s → q ≡ counted (drain_for n (deliver r s))
     → IsAfter r x (reply_delivered (length q.entries) (answer_to r s)) q
 peer_part n r q x s h floor is e =

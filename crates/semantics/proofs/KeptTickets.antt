@@ -83,7 +83,7 @@ ticket_kept cs steps more e c command serial E F there ticket later =
 
 -- ---- a receipt
 
--- operation i of these was submitted under serial i after the first, when the token had seen so many entries
+-- operation i of these was submitted under serial i after the first, when the token had seen this many entries
 abbrev IsSubmittedAt : Engine → ℕ → ℕ → ℕ → List Stamped → ℕ → Type 0
 IsSubmittedAt F c first seen ss i =
     (s : Stamped) × (slice_get ss i ≡ Some s)

@@ -1,4 +1,4 @@
--- What the rules refuse is never refused for want of memory or for its floor, so such items change nothing.
+-- What the rules refuse is never refused because an allocation failed or for its floor, so such items change nothing.
 use Rattle.std.proofs.Common.{◌≡◌, ◌≢◌, ◌⊎◌, inl, inr, ℕ, zero, suc, ◌<◌, ◌≤◌, Bool, true, false, cond, ◌||◌, ◌==◌, nat_lt, nat_le, not, List, [], ◌∷◌, length, Option, Some, None, Result, Ok, Err, refl, sym, ap, ◌∙◌, subst, arith, true≢false, slice_get}
 use Rattle.std.specs.Bool.{⊤}
 use Rattle.std.proofs.lemmas.Bool.{ltb-true, ltb-false, lt-ltb}
@@ -144,7 +144,7 @@ requested_fine r (OfPeer s) = delivered_fine (length (receive r s).entries) (ans
 
 -- ---- items
 
--- a reply for want of memory, or for the floor, and no other
+-- a reply that names a failed allocation or the floor, and no other cause
 no_rule : (y : Reply) (e : Refusal) (m : ℕ) → y ≡ NotMade e m → is_outside_rules e ≡ true → FineReply y → ⊥
 no_rule y e m is t f = true≢false (sym t ∙ subst FineReply is f)
 
@@ -163,7 +163,7 @@ tested_replica w x b is = ap (λ c. cond c w.replica (after_request w.replica x 
 tested_behind : (w : Handler) (x : Submitted) → nat_lt (length w.replica.entries) x.floor ≡ true → still_behind w x ≡ w.behind
 tested_behind w x is = rw is refl
 
--- an item that is refused for want of memory or for its floor changes nothing
+-- an item that is refused because an allocation failed or for its floor changes nothing
 pub nothing_changes : (w v : Handler) (x : Submitted) (e : Refusal) (m : ℕ) → is_outside_rules e ≡ true → Handles w x (NotMade e m) v → v ≡ w
 nothing_changes w v x e m t (inl k) = by (nat_lt (length w.replica.entries) x.floor) refl
   where

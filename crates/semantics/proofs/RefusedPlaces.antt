@@ -11,7 +11,7 @@ use Rattle.semantics.proofs.ExampleWords.{whole, assign, insert, delete, new, it
 abbrev replied : Command → Reply
 replied c = reply_to (new 1) (item (new 1) c)
 
--- so many steps into maps
+-- this many steps into maps
 abbrev gets : ℕ → List Step
 gets zero = []
 gets (suc n) = Get (codes "a") ∷ gets n

@@ -13,7 +13,7 @@ use Rattle.semantics.proofs.MovedTokens.{cell_of}
 past : {X : Type 0} (xs : List X) (i : ℕ) → slice_get xs i ≡ None → length xs ≤ i
 past xs i e = elim (slice_get_cases xs i).1 [ inl x ↦ absurd (none-some x.0 (sym e ∙ x.2)) | inr o ↦ o.0 ]
 
--- a token of the engine that sees so many entries has then seen so many
+-- a token of the engine that is shown m entries has then seen m
 sees : (E : Engine) (t m : ℕ) → t < length E.clients + length E.readers → seen_by (see E t m) t ≡ m
 sees E t m within = at_client (slice_get E.clients t) refl
   where

@@ -1,4 +1,4 @@
--- The vector that a column beside a table stands for.
+-- The vector that a column indexed by a table stands for.
 use Rattle.std.proofs.Common.{◌≡◌, ℕ, ◌≤◌, max, Bool, true, false, cond, ◌==◌, List, [], ◌∷◌, ◌++◌, refl, sym, ap, ◌∙◌, arith, length}
 use Rattle.std.proofs.lemmas.Bool.{or_left, or_right, false_from_ne_true, eqb-true, eqb-false, cond-false}
 use Rattle.semantics.specs.Ids.{id_at}

@@ -1,4 +1,4 @@
--- What holds of a batch of items that a writer handled, and of all that it has taken.
+-- What holds of a batch of submissions that a writer handled, and of all that it has taken.
 use Rattle.std.specs.Prelude.{◌≡◌, ◌-◌, ◌<◌, ℕ, ⊤, Some, List, [], ◌∷◌, ◌++◌, length, map, slice_get}
 use Rattle.semantics.specs.Making.{Command}
 use Rattle.semantics.specs.Entries.{Entry, Own, Peer}
@@ -9,7 +9,7 @@ use Rattle.semantics.specs.WorldHistory.{BeginsWith, of_client}
 use Rattle.semantics.specs.Receipts.{IsAnswer}
 use Rattle.semantics.specs.Handling.{Handler, Runs}
 
--- of one client's items, numbered from serial 1 on, the one with that serial asks for the command
+-- of one client's submissions, numbered from serial 1 on, the one with that serial asks for the command
 abbrev pub AsksFor : List Submitted → ℕ → Command → Type 0
 AsksFor xs serial c = (x : Submitted) × (0 < serial) × (slice_get xs (serial - 1) ≡ Some x) × (x.request ≡ OfCommand c)
 
@@ -24,11 +24,11 @@ abbrev pub AreAnswers : ℕ → List ℕ → List Entry → List Handled → Typ
 AreAnswers p ps G [] = ⊤
 AreAnswers p ps G (h ∷ hs) = IsAnswer p ps G h.submitted h.reply × AreAnswers p ps G hs
 
--- the items that were handled
+-- the submissions that were handled
 abbrev pub items_of : List Handled → List Submitted
 items_of hs = map (λ h. h.submitted) hs
 
--- these items were handled from w on, which had taken `took` before; v is what came of it
+-- these submissions were handled from w on, which had taken `took` before; v is what came of it
 pub record IsBatch (w : Handler) (took : List Submitted) (hs : List Handled) (v : Handler) : Type 0 where
   pub runs : Runs w hs v
   pub own : v.replica.own ≡ w.replica.own

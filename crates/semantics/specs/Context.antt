@@ -45,7 +45,7 @@ abbrev pub skip : OpId → List OpId → List OpId
 skip a [] = a ∷ []
 skip a (b ∷ bs) = cond (is_smaller_id b a) (a ∷ b ∷ bs) (b ∷ skip a bs)
 
--- a goes after p, or after the head, past each next item that is greater
+-- a goes after p, or after the head, past each next item that is greater: the skipping rule of RGA
 abbrev pub insert_after : Option OpId → OpId → List OpId → List OpId
 insert_after None a bs = skip a bs
 insert_after (Some p) a [] = []
@@ -56,7 +56,7 @@ abbrev pub insert_some : Option (Option OpId) → OpId → List OpId → List Op
 insert_some None a bs = bs
 insert_some (Some p) a bs = insert_after p a bs
 
--- the item of an insert takes its place in the order of its list
+-- the item of an insert goes into the order of its list
 abbrev pub link : Context → Operation → Context
 link C o = record C { order = λ l. insert_some (inserted_after o l) o.id (C.order l) }
 

@@ -31,7 +31,7 @@ abbrev pub kept_unless : Option Refusal → Delivered
 kept_unless None = Kept
 kept_unless (Some f) = NotKept f
 
--- the answer to what is ready, for which one more place is held, and to what is not
+-- the answer to what is ready, for which one more slot is held, and to what is not
 abbrev pub room_answer : Replica → Stamped → Delivered
 room_answer r s = cond (is_ready (operations r) s)
     (cond (nat_lt 4096 (length r.waiting)) (NotKept InboxFull) (kept_unless (fault_of (stamped_of r.entries) s)))

@@ -35,7 +35,7 @@ abbrev pub at_ready : Option Stamped → Replica → (Stamped → Replica) → R
 at_ready None r f = r
 at_ready (Some s) r f = f s
 
--- so many turns of a drain
+-- a drain of n turns
 abbrev pub drain_for : ℕ → Replica → Replica
 drain_for zero r = r
 drain_for (suc n) r = cond (is_full r.entries) r (at_ready (first_ready (operations r) r.waiting) r (λ s. drain_for n (taken r s)))

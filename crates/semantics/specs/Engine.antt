@@ -22,14 +22,14 @@ pub record Client : Type 0 where
   pub seen : ℕ
   pub cells : List Cell
 
--- an item that the writer handled, with its reply
+-- a submission that the writer handled, with its reply
 pub record Handled : Type 0 where
   pub submitted : Submitted
   pub reply : Reply
 
 -- An engine. Its history is that of its replica, and the first entries of it are published.
 pub record Engine : Type 0 where
-  -- the places of the queue, how many items go into a batch, and the last serial of a client
+  -- the capacity of the queue, how many items go into a batch, and the last serial of a client
   pub places : ℕ
   pub batch : ℕ
   pub serials : ℕ
@@ -59,11 +59,11 @@ pub data Message : Type 0 where
 pub data StepReply : Type 0 where
   -- a command was submitted under this serial
   Ticket : ℕ → StepReply
-  -- a command wasn't taken, a serial isn't the client's, or a hello names a replica that is no member
+  -- a command wasn't taken, a serial isn't the client's, or a hello names a replica that isn't a member
   Denied : Refusal → StepReply
-  -- an item was taken and handled
+  -- a submission was taken and handled
   Took : StepReply
-  -- so many items were published, or answered by a whole step
+  -- this many submissions were published, or answered by a whole step
   Published : ℕ → StepReply
   -- the answer to this client's serial was set
   Gave : ℕ → ℕ → StepReply
@@ -73,19 +73,19 @@ pub data StepReply : Type 0 where
   Unanswered : StepReply
   -- the answer to what was submitted
   Replied : Reply → StepReply
-  -- the token has seen so many entries, and this is what they answer
+  -- the token has seen this many entries, and this is what they answer
   Read : ℕ → Reading → StepReply
-  -- the token has seen so many entries
+  -- the token has seen this many entries
   Seen : ℕ → StepReply
   -- a hello was sent under this number, with this vector
   SentHello : ℕ → Vector → StepReply
-  -- a bundle was sent under this number, with so many operations
+  -- a bundle was sent under this number, with this many operations
   SentBundle : ℕ → ℕ → StepReply
   -- there is no message of that kind under the number
   NoMessage : StepReply
   -- the first serial, 0 where there is none, how many operations were submitted, and the line where that stopped, with its refusal
   Received : ℕ → ℕ → Option (ℕ × Refusal) → StepReply
-  -- so many operations were dropped so far
+  -- this many operations were dropped so far
   Dropped : ℕ → StepReply
 
 -- the engine after a step, and the reply

@@ -1,4 +1,4 @@
--- How a writer handles the items that it takes, one after another, where an allocation may fail in the middle.
+-- How a writer handles the submissions that it takes, one after another, where an allocation may fail in the middle.
 use Rattle.std.specs.Prelude.{◌≡◌, ◌⊎◌, ℕ, ◌≤◌, Bool, true, false, cond, nat_lt, ⊤, List, [], ◌∷◌, ◌++◌, length}
 use Rattle.ids.specs.declared.refusal.Refusal.{Refusal}
 use Rattle.ids.specs.declared.refusal.Refusal.TheVariants.{NoMemory, BadFloor}
@@ -39,13 +39,13 @@ still_behind w x = cond (nat_lt (length w.replica.entries) x.floor) w.behind (af
     after_request (OfCommand c) = w.behind
     after_request (OfPeer s) = false
 
--- the item is handled by the rules, and every allocation succeeded
+-- the submission is handled by the rules, and every allocation succeeded
 pub record IsWhole (w : Handler) (x : Submitted) (y : Reply) (v : Handler) : Type 0 where
   pub reply : y ≡ reply_to w.replica x
   pub replica : v.replica ≡ after_item w.replica x
   pub behind : v.behind ≡ still_behind w x
 
--- an allocation failed: the item is refused, and nothing has changed
+-- an allocation failed: the submission is refused, and nothing has changed
 pub record IsTurnedAway (w : Handler) (x : Submitted) (y : Reply) (v : Handler) : Type 0 where
   pub floor : x.floor ≤ length w.replica.entries
   pub reply : y ≡ NotMade NoMemory (length w.replica.entries)
@@ -60,11 +60,11 @@ pub record IsCutShort (w : Handler) (x : Submitted) (y : Reply) (v : Handler) : 
   pub reply : y ≡ reply_delivered (length v.replica.entries) (answer_to w.replica stamped)
   pub behind : v.behind ≡ true
 
--- handling the item x gives the reply y, and leads from w to v
+-- handling the submission x gives the reply y, and leads from w to v
 abbrev pub Handles : Handler → Submitted → Reply → Handler → Type 0
 Handles w x y v = IsWhole w x y v ⊎ IsTurnedAway w x y v ⊎ IsCutShort w x y v
 
--- these items are handled one after another, and none is skipped
+-- these submissions are handled one after another, and none is skipped
 abbrev pub Runs : Handler → List Handled → Handler → Type 0
 Runs w [] v = v ≡ w
 Runs w (h ∷ hs) v = (u : Handler) × Handles w h.submitted h.reply u × Runs u hs v
@@ -75,7 +75,7 @@ AreFor x [] = ⊤
 AreFor x (Own client serial c s ∷ G) = (client ≡ x.client) × (serial ≡ x.serial) × (x.request ≡ OfCommand c) × AreFor x G
 AreFor x (Peer s ∷ G) = AreFor x G
 
--- t is the replica r after the item x was handled, and y is a legal answer to it
+-- t is the replica r after the submission x was handled, and y is a legal answer to it
 pub record IsAfter (r : Replica) (x : Submitted) (y : Reply) (t : Replica) : Type 0 where
   pub own : t.own ≡ r.own
   pub members : t.members ≡ r.members

@@ -35,7 +35,7 @@ LacksSerial client serial [] = ⊤
 LacksSerial client serial (Own k n c s ∷ G) = (k ≡ client → n ≡ serial → ⊥) × LacksSerial client serial G
 LacksSerial client serial (Peer s ∷ G) = LacksSerial client serial G
 
--- the refusal of the command is true of the first m entries of replica p: it is that of its rules, or want of memory, or m is below the floor
+-- the refusal of the command is true of the first m entries of replica p: it is that of its rules, or NoMemory, or m is below the floor
 abbrev pub IsCause : ℕ → List Entry → Submitted → Command → ℕ → Refusal → Type 0
 IsCause p G x c m e = (make (applied (first_entries m G)) p c ≡ Err e) ⊎ (e ≡ NoMemory) ⊎ ((e ≡ BadFloor) × (m < x.floor))
 

@@ -32,7 +32,7 @@ names_members e v = list_all (λ a. is_member e.replica.members a.replica) v
 abbrev pub say_hello : Engine → ℕ → ℕ → Turn
 say_hello e t k = record { engine = see_published e t; reply = SentHello k (published_vector e) }
 
--- a token answers a hello, in message k; where the hello names a replica that is no member, nothing is sent or seen
+-- a token answers a hello, in message k; where the hello names a replica that isn't a member, nothing is sent or seen
 abbrev pub answer_hello : Engine → ℕ → ℕ → Option Message → Turn
 answer_hello e t k (Some (Hello v)) =
     cond (names_members e v)
@@ -82,7 +82,7 @@ receive_lines e c ss bad = at_client (slice_get e.clients c)
     at_client None = record { engine = e; reply = Idle }
     at_client (Some k) = as_received (suc (length k.cells)) (submit_all c bad 0 e ss)
 
--- the operations before the first that names no member
+-- the operations before the first that names a replica that isn't a member
 abbrev pub before_stranger : List ℕ → List Stamped → List Stamped
 before_stranger ms [] = []
 before_stranger ms (s ∷ ss) = cond (is_of_members ms s) (s ∷ before_stranger ms ss) []

@@ -8,7 +8,7 @@ use Rattle.semantics.specs.LegalHistory.{IsAmong, has_id, Follows}
 use Rattle.semantics.specs.Vectors.{Vector, at, covers}
 use Rattle.semantics.specs.NamedIds.{names, StandsFor}
 
--- an operation with the vector of what it depends on
+-- an operation with the version vector of what it depends on
 pub record Stamped : Type 0 where
   pub id : OpId
   pub vector : Vector

@@ -1,9 +1,9 @@
--- Vectors as columns of counters beside a table of replica numbers.
+-- Vectors as columns of counters indexed by a table of replica numbers.
 use Rattle.std.specs.Prelude.{ℕ, max, Bool, true, false, cond, ◌&&◌, ◌==◌, nat_le, List, [], ◌∷◌}
 use Rattle.semantics.specs.Ids.{id_at}
 use Rattle.semantics.specs.Vectors.{Vector, raise}
 
--- the counter beside a replica, 0 where there is none
+-- the counter of a replica, 0 where there is none
 abbrev pub component : List ℕ → List ℕ → ℕ → ℕ
 component [] cs p = 0
 component (q ∷ ps) [] p = 0
@@ -14,7 +14,7 @@ abbrev pub greatest_in : List ℕ → ℕ
 greatest_in [] = 0
 greatest_in (c ∷ cs) = max c (greatest_in cs)
 
--- each counter is at most the one at its place
+-- each counter is at most the one at the same index
 abbrev pub all_at_most : List ℕ → List ℕ → Bool
 all_at_most [] ds = true
 all_at_most (c ∷ cs) [] = false

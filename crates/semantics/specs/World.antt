@@ -39,7 +39,7 @@ opened cs = record { engines = map opened_engine cs; messages = [] }
 pub data WorldStep : Type 0 where
   -- client c submits a command
   Push : ℕ → ℕ → Command → WorldStep
-  -- the writer takes one item and handles it
+  -- the writer takes one submission and handles it
   Take : ℕ → WorldStep
   -- the writer publishes what it handled
   Publish : ℕ → WorldStep

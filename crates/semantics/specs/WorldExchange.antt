@@ -43,7 +43,7 @@ pub record IsExchange (cs : List Configuration) (steps : List WorldStep) (a b c 
   pub h : ℕ
   pub vector : Vector
   pub hello : reply_after cs before (SayHello a t) ≡ SentHello h vector
-  -- token u answers it in message k, with so many operations
+  -- token u answers it in message k, with this many operations
   pub u : ℕ
   pub k : ℕ
   pub sent : ℕ

@@ -24,13 +24,13 @@ WasSubmitted E c serial x = (cell : Cell) × (cell_under E c serial ≡ Some cel
 abbrev pub WasGiven : Engine → ℕ → ℕ → Given → Type 0
 WasGiven E c serial g = (cell : Cell) × (cell_under E c serial ≡ Some cell) × (cell.answer ≡ Some g)
 
--- r is what the writer replied to client c's serial: its answer, or the reply of a handled item that isn't answered yet
+-- r is what the writer replied to client c's serial: its answer, or the reply of a handled submission that isn't answered yet
 abbrev pub WasReplied : Engine → ℕ → ℕ → Reply → Type 0
 WasReplied E c serial r =
     ((g : Given) × WasGiven E c serial g × (g.reply ≡ r))
     ⊎ ((h : Handled) × IsAmong h (E.due ++ E.handled) × (h.submitted.client ≡ c) × (h.submitted.serial ≡ serial) × (h.reply ≡ r))
 
--- the place or the length that a reply names isn't below the floor
+-- the position or the length that a reply names isn't below the floor
 abbrev pub IsNotBelow : ℕ → Reply → Type 0
 IsNotBelow floor (Made a n) = floor ≤ n
 IsNotBelow floor (NotMade why m) = floor ≤ m
@@ -50,12 +50,12 @@ pub record HasGrown (E F : Engine) : Type 0 where
 
 -- ---- all that was submitted
 
--- the items of one client, in their order
+-- the submissions of one client, in order
 abbrev pub of_client : ℕ → List Submitted → List Submitted
 of_client c [] = []
 of_client c (x ∷ xs) = cond (x.client == c) (x ∷ of_client c xs) (of_client c xs)
 
--- what was submitted and isn't answered, the oldest first: the due items, the handled ones, and the queue
+-- what was submitted and isn't answered, the oldest first: what is due, what is handled, and the queue
 abbrev pub unanswered : Engine → List Submitted
 unanswered E = map (λ h. h.submitted) E.due ++ (map (λ h. h.submitted) E.handled ++ E.queue)
 
@@ -68,7 +68,7 @@ cells_of E c = in_client (slice_get E.clients c)
     in_client (Some k) = k.cells
 
 -- All that client c submitted is there. Its cells are those of the serials 1, 2, 3 and so on. The first ones have an answer.
--- The rest are the cells of the client's unanswered items, each item as it was submitted, once, and in order.
+-- The rest are the cells of the client's unanswered submissions, each as it was submitted, once, and in order.
 pub record HasAllSubmitted (E : Engine) (c : ℕ) : Type 0 where
   pub serials : (n : ℕ) (cell : Cell) → slice_get (cells_of E c) n ≡ Some cell
       → (cell.submitted.client ≡ c) × (cell.submitted.serial ≡ suc n)

@@ -19,11 +19,11 @@ use Rattle.semantics.specs.Engine.{Given, Cell, Client, Handled, Engine, StepRep
 abbrev pub next_item : ℕ → Client → Request → Submitted
 next_item c k request = record { client = c; serial = suc (length k.cells); request = request; floor = k.seen }
 
--- with one more cell
+-- the client with one more cell
 abbrev pub with_cell : Client → Submitted → Client
 with_cell k x = record k { cells = k.cells ++ (record { submitted = x; answer = None }) ∷ [] }
 
--- the client submits the item, unless its serials are used up or the queue is full
+-- the client's submission goes to the queue, unless its serials are used up or the queue is full
 abbrev pub submit : Engine → ℕ → Client → Submitted → Turn
 submit e c k x =
     cond (nat_le e.serials (length k.cells)) (record { engine = e; reply = Denied SerialEnd })
@@ -70,15 +70,15 @@ abbrev pub reply_requested : Replica → Request → Reply
 reply_requested r (OfCommand c) = reply_made r (make (operations r) r.own c)
 reply_requested r (OfPeer s) = reply_delivered (length (receive r s).entries) (answer_to r s)
 
--- the replica after an item: one whose floor is above the history changes nothing
+-- the replica after a submission: one whose floor is above the history changes nothing
 abbrev pub after_item : Replica → Submitted → Replica
 after_item r x = cond (nat_lt (length r.entries) x.floor) r (after_request r x x.request)
 
--- the reply to an item
+-- the reply to a submission
 abbrev pub reply_to : Replica → Submitted → Reply
 reply_to r x = cond (nat_lt (length r.entries) x.floor) (NotMade BadFloor (length r.entries)) (reply_requested r x.request)
 
--- the writer takes the oldest item and handles it, while fewer than a batch are handled and none of them is published
+-- the writer takes the oldest submission and handles it, while fewer than a batch are handled and none of them is published
 abbrev pub take_oldest : Engine → List Submitted → Turn
 take_oldest e [] = record { engine = e; reply = Idle }
 take_oldest e (x ∷ queue) =
@@ -112,7 +112,7 @@ give_to clients c serial g = at_client (slice_get clients c)
     at_client None = clients
     at_client (Some k) = slice_set clients c (with_answer k serial g)
 
--- the writer sets the answer to the oldest published item
+-- the writer sets the answer to the oldest published submission
 abbrev pub give_oldest : Engine → List Handled → Turn
 give_oldest e [] = record { engine = e; reply = Idle }
 give_oldest e (h ∷ due) =
@@ -123,12 +123,12 @@ give e = give_oldest e e.due
 
 -- ---- a whole step of the writer
 
--- so many takes
+-- n takes
 abbrev pub take_for : ℕ → Engine → Engine
 take_for zero e = e
 take_for (suc n) e = take_for n (take_item e).engine
 
--- so many gives
+-- n gives
 abbrev pub give_for : ℕ → Engine → Engine
 give_for zero e = e
 give_for (suc n) e = give_for n (give e).engine
@@ -137,7 +137,7 @@ give_for (suc n) e = give_for n (give e).engine
 abbrev pub handle_all : Engine → Engine
 handle_all e = (publish (take_for e.batch e)).engine
 
--- the reply of a whole step that set so many answers
+-- the reply of a whole step that set n answers
 abbrev pub answered_or_idle : ℕ → StepReply
 answered_or_idle zero = Idle
 answered_or_idle (suc n) = Published (suc n)

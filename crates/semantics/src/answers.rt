@@ -1,4 +1,4 @@
-//! What the answers of a replica are worth.
+//! Which answers of a replica are legal, and that they stay so.
 
 ghost use Rattle.std.specs.Prelude.{◌≡◌, ◌≤◌, ℕ, List, ◌∷◌, length, Some, Err};
 ghost use Rattle.semantics.specs.Stamped.{Stamped};

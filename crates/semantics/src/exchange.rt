@@ -19,7 +19,8 @@ pub fn an_exchange_leaves_the_union()
         HasReceived r (receive_all r (missing v F)) F }
 {}
 
-/// In one world, whatever waits: delivering what a history has above a vector, in order, each followed by a drain, leaves all of it, unless the history is full.
+/// In one world, whatever waits: delivering what a history has above a vector, in order, each followed by a drain, leaves all of
+/// it, unless the history is full.
 pub fn an_exchange_is_complete()
     ensures { (K : List Operation) (p : ℕ) (r : Replica) (v : Vector) (F : List Stamped) → IsLegal K → IsSettled K p r →
         ((q : ℕ) → at v q ≤ greatest_counter (operations r) q) → IsHistoryOf K F →

@@ -15,7 +15,8 @@ ghost use Rattle.semantics.specs.Drain.{drain, IsDrained};
 ghost use Rattle.semantics.specs.OneWorld.{AreWithin, AreOfOneWorld, IsHistoryOf, IsOfWorld, IsReplicaOf};
 ghost use Rattle.semantics.specs.Runs.{Replicas, IsReached};
 
-/// In every run of replicas of their own numbers, whatever comes in whatever order, all histories are of one legal history and nothing is dropped.
+/// In every run of replicas of their own numbers, whatever comes in whatever order, all histories are of one legal history and
+/// nothing is dropped.
 pub fn every_run_is_one_world()
     ensures { (members : ℕ → List ℕ) (W : Replicas) → IsReached members W →
         (K : List Operation) × IsLegal K × ((p : ℕ) → IsReplicaOf K p (W p)) }

@@ -8,7 +8,8 @@ ghost use Rattle.semantics.specs.Entries.{Entry, applied, first_entries};
 ghost use Rattle.semantics.specs.Delivery.{Kept, NotKept};
 ghost use Rattle.semantics.specs.Receipts.{WasAnswered, IsTrueOf};
 
-/// A refusal is true of the operation and of some beginning of the history, not before the floor; and what was kept was new before the floor.
+/// A refusal is true of the operation and of some beginning of the history, not before the floor; and what was kept was new before
+/// the floor.
 pub fn deliveries_are_answered_truly()
     ensures refused { (p : ℕ) (ps : List ℕ) (G : List Entry) (s : Stamped) (floor m : ℕ) (e : Refusal) → WasAnswered p ps G s floor m (NotKept e) →
         (k : ℕ) × (floor ≤ k) × (k ≤ m) × IsTrueOf p ps (first_entries k G) s e }

@@ -1,4 +1,4 @@
-//! What a version vector names, and how a table of counters stands for it.
+//! What a version vector names, and how a column of counters stands for it.
 
 ghost use Rattle.std.specs.Prelude.{◌≡◌, ◌≤◌, ℕ, List, ◌∷◌, ◌++◌, length};
 ghost use Rattle.semantics.specs.Ids.{OpId};
@@ -29,7 +29,7 @@ pub fn the_applied_vector_names_all()
     ensures canonical { (H : List Operation) → IsLegal H → IsCanonical (vector_of H) }
 {}
 
-/// Columns of counters beside a table of replica numbers stand for vectors.
+/// Columns of counters, indexed by a table of replica numbers, stand for vectors.
 pub fn tables_name_vectors()
     ensures at { (ps cs : List ℕ) → AreDistinct ps →
         (p : ℕ) → at (by_table ps cs) p ≡ component ps cs p }

@@ -64,7 +64,7 @@ pub fn polls_reply_legally()
         × IsLegalReply E.replica.own (published_entries E) x r × IsNotBelow x.floor r }
 {}
 
-/// A command that was answered Made stands in the history at the place that the answer names, as submitted, and nowhere else.
+/// A command that was answered Made stands in the history at the position that the answer names, as submitted, and nowhere else.
 pub fn made_commands_stand_once()
     ensures { (cs : List Configuration) (steps : List WorldStep) (e : ℕ) (E : Engine) → IsEngineAfter cs steps e E →
         (c serial : ℕ) (x : Submitted) (a : OpId) (n : ℕ) → WasSubmitted E c serial x → (poll E c serial).reply ≡ Replied (Made a n) →
@@ -73,7 +73,8 @@ pub fn made_commands_stand_once()
         × ((m : ℕ) (other : Command) (t : Stamped) → entry_at m E.replica.entries ≡ Some (Own c serial other t) → m ≡ n) }
 {}
 
-/// Each reading is what a published history answers that begins with what its token had seen: the document's answer, and the view of its operations as a set.
+/// Each reading is what a published history answers that begins with what its token had seen: the document's answer, and the view
+/// of its operations as a set.
 pub fn readings_are_of_what_is_published()
     ensures reading { (cs : List Configuration) (steps : List WorldStep) (e : ℕ) (E : Engine) → IsEngineAfter cs steps e E →
         (t : ℕ) (q : Asked) (n : ℕ) (R : Reading) → (ask E t q).reply ≡ Read n R →
@@ -84,7 +85,8 @@ pub fn readings_are_of_what_is_published()
         R ≡ Answered (view (applied (published_entries E)) q) }
 {}
 
-/// What a token reads, it has seen: after a question, a hello and an answer to one all that is published, after a poll and after it learnt of an answer at least what was published with that.
+/// What a token reads, it has seen: after a question, a hello and an answer to one all that is published, after a poll and after it
+/// learnt of an answer at least what was published with that.
 pub fn tokens_see_what_they_read()
     ensures asked { (E : Engine) (t : ℕ) (q : Asked) → t < length E.clients + length E.readers →
         seen_by (ask E t q).engine t ≡ E.published }
@@ -106,7 +108,8 @@ pub fn what_is_sent_is_published()
         (s : Stamped) → IsAmong s ss → IsAmong s (stamped_of (published_entries E)) }
 {}
 
-/// Nothing that was seen goes away: histories, what is published of them and what tokens have seen only grow, and what was submitted, replied and answered stays.
+/// Nothing that was seen goes away: histories, what is published of them and what tokens have seen only grow, and what was
+/// submitted, replied and answered stays.
 pub fn worlds_only_grow()
     ensures { (cs : List Configuration) (steps more : List WorldStep) (e : ℕ) (E : Engine) (F : Engine) →
         IsEngineAfter cs steps e E → IsEngineAfter cs (steps ++ more) e F → HasGrown E F }

@@ -24,7 +24,7 @@ fn main(rt: HostRuntime) -> io::Result<()> {
     }
 }
 
-/// Opens an engine for two clients and a reader, and tells how many entries the reader saw, and how many there are.
+/// Opens an engine for two clients and a reader. Returns how many entries the reader saw, and how many there are.
 fn shop<R: Threads + Wait + Sync>(rt: &R, alloc: Global) -> Result<(usize, usize), Refusal> {
     let parts = prepare(
         alloc,
@@ -92,7 +92,7 @@ fn together<N: EngineName + Send + Sync, R: Threads + Wait + Sync>(
     read
 }
 
-/// Steps until so many writes are answered.
+/// Steps until this many submissions are answered.
 fn step_until<N: EngineName, R: Wait>(
     rt: &R,
     alloc: Global,
@@ -111,7 +111,7 @@ fn step_until<N: EngineName, R: Wait>(
     }
 }
 
-/// Writes down what to buy, one after the other, each once the one before is answered.
+/// Writes down what to buy, one thing after the other, each once the one before is answered.
 fn write<N: EngineName, R: Wait>(
     rt: &R,
     alloc: Global,
@@ -149,7 +149,7 @@ fn wait_for<N: EngineName, R: Wait>(
     Ok(())
 }
 
-/// Reads the keys of the document until so many entries are seen. Never waits for the writer or for a client.
+/// Reads the keys of the document until this many entries are seen. Never waits for the writer or for a client.
 fn read_until<N: EngineName, R: Wait>(
     rt: &R,
     alloc: Global,

@@ -1,4 +1,4 @@
--- A node that was nobody's child becomes one, and no context changes.
+-- A node that was the child of none becomes one, and no context changes.
 use Rattle.std.proofs.Common.{◌≡◌, ◌⊎◌, ℕ, ◌<◌, ◌≤◌, IsTrue, List, length, set, Option, Some, None, refl, sym, ap, ◌∙◌, subst, arith, inl, inr}
 use Rattle.std.specs.Prelude.{slice_get}
 use Rattle.std.specs.FinMap.{find, is_sorted}

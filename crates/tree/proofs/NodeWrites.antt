@@ -1,4 +1,4 @@
--- What a write to one node keeps: room, and the indices beside the table.
+-- What a write to one node keeps: room, and the indices of replicas in the table.
 use Rattle.std.proofs.Common.{◌≡◌, ℕ, ◌≤◌, List, set, Option, Some, sym, subst, arith, inl, inr}
 use Rattle.std.specs.Prelude.{slice_get}
 use Rattle.std.proofs.lemmas.Bool.{cases_eq}

@@ -69,7 +69,7 @@ abbrev pub order_of : Option Node → List OpId
 order_of None = []
 order_of (Some n) = n.order.items
 
--- whether a write has come by
+-- whether it was written to
 abbrev pub is_written : Option Node → Bool
 is_written None = false
 is_written (Some n) = n.is_written
@@ -96,7 +96,7 @@ pub record IsTree (ns : List Node) : Type 0 where
   pub sorted_names : (i : ℕ) → IsTrue (is_sorted name_cmp (links ns i).0)
   pub sorted_ids : (i : ℕ) → IsTrue (is_sorted id_cmp (links ns i).1)
 
--- the index beside each id of a node is the place of its replica in the table
+-- the index beside each id of a node is the index of its replica in the table
 abbrev pub NodeBeside : List ℕ → Option Node → Type 0
 NodeBeside table None = Unit {0}
 NodeBeside table (Some n) = StandBeside table n.presence.entries n.presence.indices × StandBeside table n.register.entries n.register.indices
@@ -137,7 +137,7 @@ pub record RoomElse (at : ℕ) (ns ms : List Node) : Type 0 where
   pub presence : (i : ℕ) → i ≢ at → presence_room (slice_get ns i) ≤ presence_room (slice_get ms i)
   pub register : (i : ℕ) → register_room (slice_get ns i) ≤ register_room (slice_get ms i)
 
--- nothing stands there, and no write has come by
+-- nothing stands there, and it was never written to
 pub record IsEmptyNode (n : Node) : Type 0 where
   pub presence : n.presence.entries ≡ []
   pub no_presence : n.presence.indices ≡ []
@@ -163,7 +163,7 @@ pub record Kept (ns ms : List Node) : Type 0 where
   pub grows : Grows ns ms
   pub beside : (table : List ℕ) → AreBeside table ns → AreBeside table ms
 
--- the node at j is empty, and nobody's child
+-- the node at j is empty, and the child of none
 pub record IsOrphan (ns : List Node) (j : ℕ) : Type 0 where
   pub node : Node
   pub there : slice_get ns j ≡ Some node

@@ -26,7 +26,7 @@ pub record Planted : Type 0 where
 abbrev pub document : Planted → Context
 document t = context t.nodes
 
--- the nodes of a tree, beside its table
+-- the nodes of a tree, with its table
 pub record IsPlanted (t : Planted) : Type 0 where
   pub distinct : AreDistinct t.table
   pub tree : IsTree t.nodes

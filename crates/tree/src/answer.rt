@@ -1,4 +1,4 @@
-//! What stands at an element.
+//! What stands at an element, as questions ask for it.
 
 ghost use Rattle.std.specs.Prelude.{◌≡◌, ◌<◌, ◌&&◌, Some, IfOk, length, slice_get, IfSome};
 ghost use Rattle.semantics.specs.Elements.{Element, Item};
@@ -65,7 +65,7 @@ pub fn items(nodes: &[Node], element: &ElementPlace, alloc: Global) -> Result<Ve
     }
 }
 
-/// The number of an element's node, where one was made.
+/// The number of an element's node, if one was made.
 fn node_of(nodes: &[Node], element: &ElementPlace) -> Option<NodeNumber>
     requires { IsTree nodes.now }
     ensures number { result ≡ number nodes.now element.now }
@@ -98,7 +98,8 @@ fn copy_tags(presence: &Presence, alloc: Global) -> Result<Vec<(OpId, Tag)>, All
     Ok(tags)
 }
 
-/// The keys of the map's fields at which something stands, in byte order. Looks at each field that ever was, and copies the keys that it answers.
+/// The keys of the map's fields at which something stands, in byte order. Looks at each field that ever was, and copies the keys
+/// that it returns.
 fn keys_at(nodes: &[Node], at: NodeNumber, alloc: Global) -> Result<Vec<Key>, AllocError>
     requires tree { IsTree nodes.now }
     requires inside { at < length nodes.now }
@@ -115,7 +116,7 @@ fn keys_at(nodes: &[Node], at: NodeNumber, alloc: Global) -> Result<Vec<Key>, Al
     Ok(keys)
 }
 
-/// Whether a write has come by a field's node, and something stands there.
+/// Whether a field's node was written to, and something stands there.
 fn is_field(nodes: &[Node], at: NodeNumber) -> bool
     requires { at < length nodes.now }
     ensures { result ≡ is_written (slice_get nodes.now at) && is_any (presence_of (slice_get nodes.now at)) }
@@ -131,7 +132,8 @@ fn is_present(nodes: &[Node], at: NodeNumber) -> bool
     node_at(nodes, at).presence.len() > 0
 }
 
-/// Whether something stands at an item of a node's list. Its node is looked for beside that of the item before, whose place among the ids is `near`.
+/// Whether something stands at an item of a node's list. Looks for its node next to that of the item before, whose position among
+/// the ids is `near`.
 fn is_visible(nodes: &[Node], at: NodeNumber, id: &OpId, near: &mut usize) -> bool
     requires tree { IsTree nodes.now }
     requires inside { at < length nodes.now }
@@ -143,7 +145,7 @@ fn is_visible(nodes: &[Node], at: NodeNumber, id: &OpId, near: &mut usize) -> bo
     }
 }
 
-/// The items of the list at which something stands, in list order. Looks at each item that ever was.
+/// The items of the list at which something stands, in list order. Looks at each item that ever was, tombstones included.
 fn items_at(nodes: &[Node], at: NodeNumber, alloc: Global) -> Result<Vec<OpId>, AllocError>
     requires tree { IsTree nodes.now }
     requires inside { at < length nodes.now }
@@ -159,7 +161,7 @@ fn items_at(nodes: &[Node], at: NodeNumber, alloc: Global) -> Result<Vec<OpId>, 
     Ok(items)
 }
 
-/// The item of the list at which something stands, by its place among these. Looks at each item up to there.
+/// The item of the list at which something stands, by its index among these. Looks at each item up to there, tombstones included.
 pub fn item_at(nodes: &[Node], at: NodeNumber, place: u64) -> Option<OpId>
     requires tree { IsTree nodes.now }
     requires inside { at < length nodes.now }

@@ -23,7 +23,7 @@ use cursor::{Place, Tag};
 use operation::{Mutation, Op};
 use value::Scalar;
 
-/// Does what an operation says.
+/// Applies an operation: clears and writes what its mutation says.
 pub fn run(nodes: &mut [Node], op: &Op, stamp: &Stamp, scalar: Option<Scalar>)
     requires stamp { IsStamp stamp.now }
     requires id { stamp.now.id ≡ op.now.id }

@@ -1,4 +1,4 @@
-//! Clearing an element and all beneath it.
+//! Clearing an element and all that is beneath it.
 
 ghost use Rattle.std.specs.Prelude.{◌≡◌, ◌<◌, Some, length, map};
 ghost use Rattle.semantics.specs.Elements.{Element};
@@ -12,7 +12,7 @@ use crate::stamp::Stamp;
 use crate::walk::{count_fields, count_items, field_at, item_at, walk};
 use cursor::Hop;
 
-/// Takes the ids that the stamp's vector covers away at a node.
+/// Removes from a node every id that the stamp's vector covers.
 fn clear_node(nodes: &mut [Node], at: NodeNumber, stamp: &Stamp)
     requires tree { IsTree nodes.old }
     requires stamp { IsStamp stamp.now }
@@ -28,7 +28,7 @@ fn clear_node(nodes: &mut [Node], at: NodeNumber, stamp: &Stamp)
     node.register.clear(stamp.vector);
 }
 
-/// The same at a node and everywhere beneath it. Visits each of those nodes once.
+/// Clears a node and all nodes beneath it, and visits each of them once.
 pub fn clear_below(nodes: &mut [Node], at: NodeNumber, stamp: &Stamp)
     requires tree { IsTree nodes.old }
     requires stamp { IsStamp stamp.now }
@@ -52,7 +52,7 @@ pub fn clear_below(nodes: &mut [Node], at: NodeNumber, stamp: &Stamp)
     }
 }
 
-/// The same at the end of a path, where something was ever made there.
+/// Clears the element at the end of a path and all beneath it, if a node was ever made there.
 pub fn clear_at(nodes: &mut [Node], path: &[Hop], stamp: &Stamp)
     requires tree { IsTree nodes.old }
     requires stamp { IsStamp stamp.now }

@@ -1,4 +1,4 @@
-//! Making nodes and room, which changes no content.
+//! Making nodes and room for ids, which changes no content.
 
 ghost use Rattle.std.specs.Prelude.{◌≡◌, ◌<◌, ◌≤◌, ℕ, None, Some, OnOk, IfOk, length, slice_get};
 ghost use Rattle.std.specs.Borrow.{sem};
@@ -71,7 +71,7 @@ fn reserve_child(nodes: &mut Vec<Node>, at: NodeNumber, hop: &Hop) -> Result<(),
     }
 }
 
-/// Puts an empty node at the end, which is nobody's child yet, and answers its number.
+/// Puts an empty node at the end, which has no parent yet, and returns its number.
 fn push_node(nodes: &mut Vec<Node>, fresh: Node) -> Result<NodeNumber, AllocError>
     requires tree { IsTree nodes.old.items }
     requires empty { IsEmptyNode fresh }
@@ -85,7 +85,7 @@ fn push_node(nodes: &mut Vec<Node>, fresh: Node) -> Result<NodeNumber, AllocErro
     Ok(number)
 }
 
-/// Makes a node the field of another.
+/// Makes a node a field of another.
 fn link_field(nodes: &mut Vec<Node>, at: NodeNumber, key: Key, number: NodeNumber)
     requires tree { IsTree nodes.old.items }
     requires above { at < number }
@@ -99,7 +99,7 @@ fn link_field(nodes: &mut Vec<Node>, at: NodeNumber, key: Key, number: NodeNumbe
     node.fields.put(key, number.index());
 }
 
-/// Makes a node the item of another.
+/// Makes a node an item of another.
 fn link_item(nodes: &mut Vec<Node>, at: NodeNumber, id: OpId, number: NodeNumber)
     requires tree { IsTree nodes.old.items }
     requires above { at < number }
@@ -113,7 +113,7 @@ fn link_item(nodes: &mut Vec<Node>, at: NodeNumber, id: OpId, number: NodeNumber
     node.items.put(id, number.index());
 }
 
-/// Makes a child where there is none, and answers its number.
+/// Makes a child that isn't there yet, and returns its number.
 fn make_child(
     nodes: &mut Vec<Node>,
     at: NodeNumber,
@@ -142,7 +142,7 @@ fn make_child(
     }
 }
 
-/// The number of a child, which is made where there is none.
+/// The number of a child, which is made if it isn't there yet.
 pub fn reach(
     nodes: &mut Vec<Node>,
     at: NodeNumber,

@@ -1,4 +1,4 @@
-//! Putting a new item into a list, and writing it.
+//! Inserting a new item into a list, and writing it.
 
 ghost use Rattle.std.specs.Prelude.{◌≡◌, ◌<◌, ℕ, List, Option, Some, None, IsTrue, IsFalse, IsSome, length, map, option_map, slice_get};
 ghost use Rattle.semantics.specs.Elements.{Element, Item, EmptyMap};
@@ -19,14 +19,14 @@ use cursor::{Hop, Place, Tag};
 use ids::OpId;
 use value::Scalar;
 
-/// The path of a list, and the item there, if there is one, after which something goes.
+/// The path of a list, and the item that something is inserted after, `None` for the head.
 #[derive(Clone, Copy, Debug)]
 pub struct Slot<'a> {
     pub list: &'a [Hop],
     pub prev: Option<OpId>,
 }
 
-/// Where an insert at this place goes, if it is a head or an item.
+/// The slot of an insert at this place, if it is a head or an item.
 pub fn slot_of(place: &Place) -> Option<Slot<'_>>
     ensures { SlotIs result (slot_of (Insert EmptyMap) place.now) }
 {
@@ -62,7 +62,7 @@ fn link_order(nodes: &mut [Node], at: NodeNumber, prev: Option<OpId>, id: &OpId)
     node.order.place(prev, *id);
 }
 
-/// Puts an id into the order of the list at the end of a path, and answers the number of its node.
+/// Puts an id into the order of the list at the end of a path, and returns the number of its node.
 fn link_list(nodes: &mut [Node], slot: &Slot<'_>, id: &OpId) -> NodeNumber
     requires tree { IsTree nodes.old }
     requires there { IsSome (number nodes.old (Item (end_of (map hop_of slot.now.list.now)) id.now)) }
@@ -81,7 +81,7 @@ fn link_list(nodes: &mut [Node], slot: &Slot<'_>, id: &OpId) -> NodeNumber
     item
 }
 
-/// Puts a new item into a list, and writes it.
+/// Inserts a new item into a list, and writes it.
 pub fn insert(nodes: &mut [Node], slot: &Slot<'_>, stamp: &Stamp, tag: Tag, scalar: Option<Scalar>)
     requires tree { IsTree nodes.old }
     requires stamp { IsStamp stamp.now }

@@ -10,7 +10,7 @@ use crate::node::{Node, NodeNumber, node_at};
 use crate::resolve::next_of;
 use cursor::Hop;
 
-/// Whether each item of the path stands in the list that it is entered from. A binary search for each hop.
+/// Whether each item of the path was inserted into the list that it is entered from. A binary search for each hop.
 pub fn items_stand(nodes: &[Node], path: &[Hop]) -> bool
     requires { IsTree nodes.now }
     ensures { result ≡ items_stand (context nodes.now) (end_of (map hop_of path.now)) }

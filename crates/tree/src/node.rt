@@ -1,4 +1,4 @@
-//! Nodes: what stands at an element, and which nodes stand beneath it.
+//! Nodes: what stands at an element, and the nodes beneath it.
 
 ghost use Rattle.std.specs.Prelude.{◌≡◌, ◌<◌, Some, length, slice_get};
 ghost use Rattle.std.specs.Borrow.{sem};
@@ -9,7 +9,7 @@ use columns::{Fields, ListOrder, Numbers, Presence, Register};
 use std::alloc::Global;
 use std::marker::Model;
 
-/// The number of a node: its place among the nodes of a tree. Contracts see the number.
+/// The number of a node: its index among the nodes of a tree. Contracts see the number.
 #[derive(Clone, Copy, Debug, PartialEq, Eq)]
 pub struct NodeNumber {
     index: usize,
@@ -29,14 +29,14 @@ impl NodeNumber {
     /// The number of the root.
     pub const ROOT: NodeNumber = NodeNumber { index: 0 };
 
-    /// The number of the node at this place.
+    /// The number of the node at this index.
     pub fn new(index: usize) -> NodeNumber
         ensures { result ≡ index }
     {
         NodeNumber { index }
     }
 
-    /// The node's place.
+    /// The node's index.
     pub fn index(self) -> usize
         ensures { result ≡ self }
     {
@@ -55,12 +55,12 @@ pub struct Node {
     pub items: Numbers,
     /// The order of the list's items.
     pub order: ListOrder,
-    /// Whether a write has come by. A node that was only made for one is no field yet.
+    /// Whether it was written to. A node that was only reserved is no field yet.
     pub is_written: bool,
 }
 
 impl Node {
-    /// Takes no memory.
+    /// An empty node. Takes no memory.
     pub fn new(alloc: Global) -> Node
         ensures { IsEmptyNode result }
     {
@@ -83,7 +83,7 @@ pub fn node_at(nodes: &[Node], at: NodeNumber) -> &Node
     &nodes[at.index]
 }
 
-/// The node with a number, to be changed.
+/// The node with a number, mutably.
 pub fn node_at_mut(nodes: &mut [Node], at: NodeNumber) -> &mut Node
     requires { at < length nodes.old }
     ensures* lends { sem 𝓛 (LendsNode nodes.entry at result) }

@@ -1,4 +1,4 @@
-//! Making all that an operation needs along its path.
+//! Making all nodes and room that an operation needs along its path.
 
 ghost use Rattle.std.specs.Prelude.{◌≡◌, ◌<◌, ℕ, List, Some, IfOk, OnOk, length, map, option_map};
 ghost use Rattle.semantics.specs.Elements.{Element, Item};
@@ -19,7 +19,7 @@ use operation::{Mutation, Op};
 use std::alloc::{AllocError, Global};
 use value::{Scalar, Val};
 
-/// Makes each node of a path, with room for one more id in each, and answers the number of the last.
+/// Makes each node of a path, with room for one more id in each, and returns the number of the last.
 fn reserve_path(
     nodes: &mut Vec<Node>,
     path: &[Hop],
@@ -38,7 +38,7 @@ fn reserve_path(
     Ok(at)
 }
 
-/// A copy of the scalar that a value is.
+/// A copy of a value's scalar, `None` for an empty map or list.
 fn copy_scalar(value: &Val) -> Result<Option<Scalar>, AllocError>
     ensures { IfOk result (λ s. option_map scalar_of s ≡ scalar_in (Some (value_of value.now))) }
 {
@@ -49,7 +49,7 @@ fn copy_scalar(value: &Val) -> Result<Option<Scalar>, AllocError>
     }
 }
 
-/// Makes the nodes and the room for writing a value at the end of a path, and copies its scalar.
+/// Makes the nodes and the room for an assign at the end of a path, and copies its scalar.
 fn reserve_assign(
     nodes: &mut Vec<Node>,
     path: &[Hop],
@@ -86,7 +86,7 @@ fn reserve_item(
     reserve_register(nodes, item)
 }
 
-/// Makes the nodes and the room for writing a value at a new item of the list at the end of a path, and copies its scalar.
+/// Makes the nodes and the room for an insert into the list at the end of a path, and copies its scalar.
 fn reserve_insert(
     nodes: &mut Vec<Node>,
     list: &[Hop],
@@ -107,7 +107,7 @@ fn reserve_insert(
     copy_scalar(value)
 }
 
-/// Makes the nodes and the room for an insert, and copies its scalar.
+/// Makes the nodes and the room for an insert into a slot, and copies its scalar.
 fn reserve_slot(
     nodes: &mut Vec<Node>,
     op: &Op,

@@ -1,4 +1,4 @@
-//! From an expression to the place that it leads to.
+//! Expressions, and the places that they lead to.
 
 ghost use Rattle.std.specs.Prelude.{◌≡◌, ◌⊎◌, ◌<◌, List, length, map, slice_get, IfSome, IfOk, IfErr, OnOk, Ok, Err};
 ghost use Rattle.ids.specs.declared.refusal.Refusal.TheVariants.{NoMemory, AtHead, TooDeep};
@@ -19,7 +19,7 @@ use cursor::{Expr, Hop, MOST_KEYS, Place, Step};
 use ids::{OpId, Refusal};
 use std::alloc::{AllocError, Global};
 
-/// The place that an expression leads to from the root. Copies its keys, and walks a list up to the item that it wants.
+/// The place that an expression leads to from the root. Copies its keys, and walks a list up to the item that it asks for.
 pub fn resolve(alloc: Global, nodes: &[Node], expression: &Expr) -> Result<Place, Refusal>
     requires { IsTree nodes.now }
     ensures place { IfOk result (λ p. resolve (visible_items (context nodes.now)) expression.now ≡ Ok p) }
@@ -32,7 +32,7 @@ pub fn resolve(alloc: Global, nodes: &[Node], expression: &Expr) -> Result<Place
     Place::new(walker.hops, walker.is_head)
 }
 
-/// A walk from the root: the hops so far, and the number of the node at their end, where one was made.
+/// A walk from the root: the hops so far, and the number of the node at their end, if one was made.
 #[derive(Debug, Drop)]
 struct Walker {
     hops: Vec<Hop>,
@@ -41,7 +41,7 @@ struct Walker {
 }
 
 impl Walker {
-    /// At the root.
+    /// A walk that begins at the root.
     fn new(alloc: Global) -> Walker
         ensures stand { stand_of result ≡ At Doc }
         ensures walking { (ns : List Node) → IsWalking ns result }
@@ -53,7 +53,7 @@ impl Walker {
         }
     }
 
-    /// Takes one step, unless it's refused.
+    /// Takes one step, or says why not.
     fn take(&mut self, nodes: &[Node], step: &Step) -> Result<(), Refusal>
         requires tree { IsTree nodes.now }
         requires walking { IsWalking nodes.now self.old }
@@ -73,7 +73,7 @@ impl Walker {
         Ok(())
     }
 
-    /// Whether one more key may follow.
+    /// Tests whether one more key may follow.
     fn check_room(&self) -> Result<(), Refusal>
         ensures { result ≡ room_at (stand_of self.now) }
     {
@@ -86,7 +86,7 @@ impl Walker {
         Ok(())
     }
 
-    /// The visible item here at a place among these.
+    /// The visible item here with this index among the visible ones.
     fn item(&self, nodes: &[Node], place: u64) -> Option<OpId>
         requires tree { IsTree nodes.now }
         requires walking { IsWalking nodes.now self.now }
@@ -109,7 +109,7 @@ impl Walker {
     }
 }
 
-/// The number of the node one hop down, where one was made.
+/// The number of the node one hop down, if one was made.
 pub fn next_of(nodes: &[Node], node: Option<NodeNumber>, hop: &Hop) -> Option<NodeNumber>
     requires { IfSome node (λ i. i < length nodes.now) }
     ensures { result ≡ next_number nodes.now node (hop_of hop.now) }

@@ -1,4 +1,4 @@
-//! What an operation writes with.
+//! What an operation clears and writes with.
 
 ghost use Rattle.std.specs.Prelude.{◌≡◌, Some, slice_get};
 ghost use Rattle.tree.specs.Writes.{IsStamp};
@@ -6,7 +6,7 @@ ghost use Rattle.tree.specs.Writes.{IsStamp};
 use ids::{OpId, ReplicaTable};
 use version::VersionVector;
 
-/// The id of an operation and the vector of what it depends on, beside the table.
+/// The id of an operation, and the vector of what it depends on, indexed by the table.
 #[derive(Clone, Copy, Debug)]
 pub struct Stamp<'a> {
     pub table: &'a ReplicaTable,
@@ -15,7 +15,7 @@ pub struct Stamp<'a> {
 }
 
 impl<'a> Stamp<'a> {
-    /// Where the id's replica stands in the table. Compares at most 7 numbers.
+    /// The index of the id's replica in the table. Compares at most 7 numbers.
     pub fn index(&self) -> usize
         requires { IsStamp self.now }
         ensures { slice_get self.now.table.now result ≡ Some self.now.id.replica }

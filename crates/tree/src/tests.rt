@@ -1,4 +1,4 @@
-//! Trees as operations leave them. Each test is rows that `on_new` does one after another.
+//! Trees as operations leave them. Each test is a table of turns that `on_new` plays.
 
 mod applying;
 mod operations;

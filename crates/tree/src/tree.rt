@@ -1,4 +1,4 @@
-//! A tree: the nodes, and the calls that keep them beside the table.
+//! A tree: the nodes, with the table of replicas that vectors are indexed by.
 
 ghost use Rattle.std.specs.Prelude.{◌≡◌, ◌⊎◌, IsTrue, IfOk, IfErr, OnOk, Ok, Err, length};
 ghost use Rattle.ids.specs.declared.refusal.Refusal.TheVariants.{NoMemory};
@@ -32,7 +32,7 @@ use value::{Key, Scalar};
 pub struct Tree {
     pub(crate) table: ReplicaTable,
     pub(crate) nodes: Vec<Node>,
-    /// What the next operation writes into a register.
+    /// The scalar that the next operation writes into a register, copied by `reserve`.
     scalar: Option<Scalar>,
 }
 
@@ -47,7 +47,7 @@ impl Model for Tree {
 }
 
 impl Tree {
-    /// An empty document, of a replica with this table. Copies the table.
+    /// An empty document of a replica with this table. Copies the table.
     ///
     /// # Errors
     /// `AllocError` if allocation fails.
@@ -65,7 +65,8 @@ impl Tree {
         })
     }
 
-    /// Makes all that applying this operation needs: nodes, room, and copies of keys and of the scalar. What the tree holds stays, whatever the answer.
+    /// Makes all that applying this operation needs: nodes, room, and copies of keys and of the scalar. The content stays, whatever
+    /// the answer.
     ///
     /// # Errors
     /// `AllocError` if allocation fails.
@@ -79,7 +80,8 @@ impl Tree {
         Ok(())
     }
 
-    /// Applies an operation for which all is there. Takes no memory: it clears what stands beneath an assign's or a delete's element, and writes at each element of the path.
+    /// Applies an operation that was reserved. Takes no memory. Visits each node beneath an assign's or a delete's element, and
+    /// writes at each element of the path.
     pub fn apply(&mut self, op: &Op)
         requires ready { IsReady self.old (stamped_of self.old.table op.now) }
         requires placed { IsPlaced (document self.old) (stamped_of self.old.table op.now) }
@@ -98,14 +100,14 @@ impl Tree {
         run(&mut self.nodes, op, &stamp, scalar);
     }
 
-    /// Whether each item on the way to the place stands in the list that it is entered from. A binary search for each key.
+    /// Whether each item on the way to the place was inserted into the list that it is entered from. A binary search for each key.
     pub fn has_items(&self, place: &Place) -> bool
         ensures { result ≡ items_stand (document self.now) (element_of place.now) }
     {
         items_stand(&self.nodes, place.hops())
     }
 
-    /// The place that an expression leads to. Walks a list up to the item that it wants.
+    /// The place that an expression leads to. Walks a list up to the item that it asks for.
     ///
     /// # Errors
     /// `AtHead`, `PastEnd` or `TooDeep` by the rules, or `NoMemory` if allocation fails.
@@ -154,7 +156,7 @@ impl Tree {
         keys(&self.nodes, element, alloc)
     }
 
-    /// The items there at which something stands, in list order. Looks at each item that ever was.
+    /// The visible items there, in list order. Looks at each item that ever was, tombstones included.
     ///
     /// # Errors
     /// `AllocError` if allocation fails.

@@ -28,7 +28,7 @@ pub fn count_items(nodes: &[Node], at: NodeNumber) -> usize
     node_at(nodes, at).items.len()
 }
 
-/// The number of the node of a field, by the field's place.
+/// The number of a field's node, by the field's index.
 pub fn field_at(nodes: &[Node], at: NodeNumber, place: usize) -> NodeNumber
     requires tree { IsTree nodes.now }
     requires inside { at < length nodes.now }
@@ -40,7 +40,7 @@ pub fn field_at(nodes: &[Node], at: NodeNumber, place: usize) -> NodeNumber
     NodeNumber::new(node_at(nodes, at).fields.at(place).1)
 }
 
-/// The number of the node of an item, by the item's place.
+/// The number of an item's node, by the item's index.
 pub fn item_at(nodes: &[Node], at: NodeNumber, place: usize) -> NodeNumber
     requires tree { IsTree nodes.now }
     requires inside { at < length nodes.now }
@@ -52,7 +52,7 @@ pub fn item_at(nodes: &[Node], at: NodeNumber, place: usize) -> NodeNumber
     NodeNumber::new(node_at(nodes, at).items.at(place).1)
 }
 
-/// The number of the node one hop down. Binary search.
+/// The number of the node one hop down, if there is one. Binary search.
 pub fn child_of(nodes: &[Node], at: NodeNumber, hop: &Hop) -> Option<NodeNumber>
     requires inside { at < length nodes.now }
     ensures { result ≡ child_number nodes.now at (hop_of hop.now) }
@@ -65,7 +65,7 @@ pub fn child_of(nodes: &[Node], at: NodeNumber, hop: &Hop) -> Option<NodeNumber>
     child.map(NodeNumber::new)
 }
 
-/// The number of the node of an item, by its id. Binary search.
+/// The number of an item's node, by the item's id. Binary search.
 pub fn item_of(nodes: &[Node], at: NodeNumber, id: &OpId) -> Option<NodeNumber>
     requires { at < length nodes.now }
     ensures { result ≡ child_number nodes.now at (ItemKey id.now) }
@@ -73,7 +73,8 @@ pub fn item_of(nodes: &[Node], at: NodeNumber, id: &OpId) -> Option<NodeNumber>
     node_at(nodes, at).items.get(id).map(NodeNumber::new)
 }
 
-/// The number of the node of an item, by its id. It is looked for beside the place `near` among the items' ids, which becomes its own, and by binary search where it isn't there.
+/// The number of an item's node, by the item's id. Looks on both sides of the position `near` among the items' ids first, falls
+/// back to a binary search, and sets `near` to the item's position.
 pub fn item_near(nodes: &[Node], at: NodeNumber, id: &OpId, near: &mut usize) -> Option<NodeNumber>
     requires { at < length nodes.now }
     ensures { result ≡ child_number nodes.now at (ItemKey id.now) }
@@ -84,7 +85,7 @@ pub fn item_near(nodes: &[Node], at: NodeNumber, id: &OpId, near: &mut usize) ->
         .map(NodeNumber::new)
 }
 
-/// The number of the node at the end of a path from the root.
+/// The number of the node at the end of a path from the root, if there is one.
 pub fn walk(nodes: &[Node], path: &[Hop]) -> Option<NodeNumber>
     requires { IsTree nodes.now }
     ensures number { result ≡ number nodes.now (end_of (map hop_of path.now)) }

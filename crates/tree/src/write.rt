@@ -29,7 +29,7 @@ fn mark_node(nodes: &mut [Node], at: NodeNumber, stamp: &Stamp, tag: Tag)
     node.presence.put(stamp.id, stamp.index(), tag);
 }
 
-/// Notes that a write has come by a field.
+/// Notes that a field was written to.
 fn name_node(nodes: &mut [Node], at: NodeNumber)
     requires tree { IsTree nodes.old }
     requires inside { at < length nodes.old }
@@ -42,7 +42,7 @@ fn name_node(nodes: &mut [Node], at: NodeNumber)
     node.is_written = true;
 }
 
-/// Puts the stamp's id into the presence of a node, and goes on to a child.
+/// Puts the stamp's id into the presence of a node, and goes to a child.
 fn enter(nodes: &mut [Node], at: NodeNumber, hop: &Hop, stamp: &Stamp) -> NodeNumber
     requires tree { IsTree nodes.old }
     requires stamp { IsStamp stamp.now }
@@ -66,7 +66,7 @@ fn enter(nodes: &mut [Node], at: NodeNumber, hop: &Hop, stamp: &Stamp) -> NodeNu
     child
 }
 
-/// Puts the stamp's id into the presence of each node of a path, and answers the number of the last.
+/// Puts the stamp's id into the presence of each node of a path, and returns the number of the last.
 pub fn write_path(nodes: &mut [Node], path: &[Hop], stamp: &Stamp, tag: Tag) -> NodeNumber
     requires tree { IsTree nodes.old }
     requires stamp { IsStamp stamp.now }

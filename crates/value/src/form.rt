@@ -14,9 +14,11 @@ use serde_json::{Map, Value};
 use std::alloc::{AllocError, Global};
 
 impl Val {
-    /// The value that JSON stands for. A number that isn't whole or has more than 64 bits is `NotWhole`,
-    /// a text of more than 4,096 bytes `TextTooLong`, a list or an object with parts `BadLine`.
-    /// Only a text takes memory, once its length is known.
+    /// The value of a JSON value. Only a text takes memory, once its length is known.
+    ///
+    /// # Errors
+    /// `NotWhole` for a number that isn't whole or has more than 64 bits, `TextTooLong` for a text of more than 4,096 bytes,
+    /// `BadLine` for a list or an object with parts, or `NoMemory` if allocation fails.
     pub fn from_json(alloc: Global, json: &Value) -> Result<Val, Refusal>
         ensures ok { IfOk result (λ v. value_form (view json.now) ≡ Ok (value_of v)) }
         ensures err { IfErr result (λ why. (value_form (view json.now) ≡ Err why) ⊎ ((why ≡ NoMemory) × IsOkAnd (value_form (view json.now)) IsText)) }
@@ -69,7 +71,7 @@ impl Scalar {
     }
 }
 
-/// A value within the limits is what its JSON stands for.
+/// The JSON of a value within the limits is read as that value.
 pub fn values_are_read_back()
     ensures { (v : TheValue) → IsWithinLimits v → value_form (json_of v) ≡ Ok v }
 {}

@@ -16,7 +16,7 @@ fn repeated(alloc: Global, letter: &str, times: usize) -> Result<String, AllocEr
     Ok(text)
 }
 
-/// So many times a letter, and how many bytes are kept of it.
+/// How often a letter is repeated, the letter, and how many bytes are kept of that.
 type Long = (usize, &'static str, Result<usize, Refusal>);
 
 /// How many bytes a key of this text has.
@@ -44,7 +44,7 @@ fn keys_have_at_most_256_bytes(rt: HostRuntime) {
     }
 }
 
-/// How two keys compare, by each of the ways to ask.
+/// How two keys compare, by each method.
 fn compared(
     alloc: Global,
     a: &str,
@@ -57,7 +57,7 @@ fn compared(
 
 const RISING: &[&str] = &["", "Z", "a", "a0", "aa", "b", "z", "é"];
 
-/// Compares how two keys compare.
+/// Asserts how two keys compare.
 fn assert_compared(
     rt: &impl Abort,
     alloc: Global,
@@ -72,7 +72,7 @@ fn assert_compared(
     Ok(())
 }
 
-/// Compares the key at a place with each one.
+/// Asserts how the key at an index compares with each one.
 fn assert_place(rt: &impl Abort, alloc: Global, place: usize, key: &str) -> Result<(), Fail> {
     for (other, text) in RISING.iter().enumerate() {
         assert_compared(rt, alloc, key, text, place.cmp(&other))?;
@@ -98,14 +98,14 @@ const TEXTS: &[Long] = &[
     (1025, "🦀", Err(Refusal::TextTooLong)),
 ];
 
-/// How many bytes a text of this has.
+/// How many bytes the text has.
 fn text_len(alloc: Global, letter: &str, times: usize) -> Result<usize, Refusal> {
     let text = repeated(alloc, letter, times)?;
     let text = Text::new(alloc, text.as_str())?;
     Ok(text.as_str().len())
 }
 
-/// How many bytes the text has that is read of a string.
+/// How many bytes the text has that is read from a string.
 fn read_len(alloc: Global, letter: &str, times: usize) -> Result<usize, Refusal> {
     let json = Value::String(repeated(alloc, letter, times)?);
     match Val::from_json(alloc, &json)? {
@@ -153,13 +153,13 @@ fn val(alloc: Global, is: Is) -> Result<Val, Refusal> {
     }
 }
 
-/// What is read of a text of JSON.
+/// What is read from a text of JSON.
 fn read(alloc: Global, text: &str) -> Result<Result<Val, Refusal>, Fail> {
     let json = Value::from_str(alloc, text)?;
     Ok(Val::from_json(alloc, &json))
 }
 
-/// The value of the row is read of the text.
+/// Asserts that this value is read from the text.
 fn assert_read(rt: &impl Abort, alloc: Global, text: &str, is: Is) -> Result<(), Fail> {
     let read = read(alloc, text)?;
     let want = val(alloc, is);
@@ -187,7 +187,7 @@ fn values_are_read_from_json(rt: HostRuntime) -> Result<(), Fail> {
     Ok(())
 }
 
-/// Why no value is read of a text of JSON.
+/// Why no value is read from a text of JSON.
 fn refused(alloc: Global, text: &str) -> Result<Option<Refusal>, Fail> {
     let read = read(alloc, text)?;
     Ok(read.err())
@@ -219,13 +219,13 @@ fn value_of(alloc: Global, text: &str) -> Result<Val, Fail> {
     Ok(Val::from_json(alloc, &json)?)
 }
 
-/// What is printed of a value.
+/// The value, printed as JSON.
 fn printed(alloc: Global, value: &Val) -> Result<String, Fail> {
     let json = value.to_json(alloc)?;
     Ok(json.to_string(alloc)?)
 }
 
-/// What is printed of this text's value is the text, and is read as the value again.
+/// Asserts that the text's value is printed as the text, and read as the same value again.
 fn assert_kept(rt: &impl Abort, alloc: Global, text: &str) -> Result<(), Fail> {
     let value = value_of(alloc, text)?;
     let printed = printed(alloc, &value)?;
@@ -235,7 +235,7 @@ fn assert_kept(rt: &impl Abort, alloc: Global, text: &str) -> Result<(), Fail> {
     Ok(())
 }
 
-/// A copy of this text's value is equal.
+/// Asserts that a copy of the text's value is equal to it.
 fn assert_copied(rt: &impl Abort, alloc: Global, text: &str) -> Result<(), Fail> {
     let value = value_of(alloc, text)?;
     let copy = value.clone()?;

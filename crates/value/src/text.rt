@@ -40,7 +40,10 @@ impl<const MOST: usize> Model for BoundedText<MOST> {
 }
 
 impl Key {
-    /// A copy of the text as a key. A text of more than 256 bytes is `KeyTooLong`, before any memory is taken.
+    /// A copy of the text as a key.
+    ///
+    /// # Errors
+    /// `KeyTooLong` for more than 256 bytes, before any memory is taken, else `NoMemory` if allocation fails.
     pub fn new(alloc: Global, text: &str) -> Result<Key, Refusal>
         ensures ok { IfOk result (λ k. (k ≡ text.now) × (length text.now ≤ 256)) }
         ensures too_long { (result ≡ Err KeyTooLong) ↔ (256 < length text.now) }
@@ -51,7 +54,10 @@ impl Key {
 }
 
 impl Text {
-    /// A copy of the text as a value. A text of more than 4,096 bytes is `TextTooLong`, before any memory is taken.
+    /// A copy of the text as a value.
+    ///
+    /// # Errors
+    /// `TextTooLong` for more than 4,096 bytes, before any memory is taken, else `NoMemory` if allocation fails.
     pub fn new(alloc: Global, text: &str) -> Result<Text, Refusal>
         ensures ok { IfOk result (λ t. (t ≡ text.now) × (length text.now ≤ 4096)) }
         ensures too_long { (result ≡ Err TextTooLong) ↔ (4096 < length text.now) }
@@ -69,7 +75,7 @@ impl<const MOST: usize> BoundedText<MOST> {
         self.text.as_str()
     }
 
-    /// A copy of the text. Its length is looked at before any memory is taken.
+    /// A copy of the text. Tests its length before it takes memory.
     fn copy_of(alloc: Global, text: &str, too_long: Refusal) -> Result<BoundedText<MOST>, Refusal>
         ensures ok { IfOk result (λ t. (t ≡ text.now) × (length text.now ≤ MOST)) }
         ensures err { IfErr result (λ why. ((why ≡ NoMemory) × (length text.now ≤ MOST)) ⊎ ((why ≡ too_long) × (MOST < length text.now))) }

@@ -11,9 +11,10 @@ use rings::Rings;
 use std::alloc::{AllocError, Global};
 use std::marker::Model;
 
-/// Ids beside a table of replicas, in an order that the caller chooses: a column of counters, a column of the replicas' places, and room for the bounds that a vector sets them and for a bit of each.
+/// Ids of replicas of a table, in an order that the caller chooses: a column of counters and a column of the replicas' indices in
+/// the table, with scratch room for the bound that a vector sets each id and for a bit of each.
 ///
-/// Contracts see the ids, and how many more fit without memory.
+/// Contracts see the ids, and for how many more there is room.
 #[derive(Debug, Drop)]
 pub struct IdColumns {
     counters: Rings<u64>,
@@ -53,7 +54,7 @@ impl IdColumns {
         self.counters.len()
     }
 
-    /// The counter of the id at this place, and the place of its replica.
+    /// The counter of the id at a position, and the index of its replica.
     pub fn at(&self, place: usize) -> (u64, usize)
         requires { place < length self.now.ids }
         ensures { slice_get self.now.ids place ≡ Some result }
@@ -76,7 +77,7 @@ impl IdColumns {
         self.mask.reserve(1)
     }
 
-    /// Puts an id at a place. Takes no memory. Costs what an insert into `Rings` does, so at the end it is one push.
+    /// Inserts an id at a position. Takes no memory. Costs what an insert into `Rings` does, so at the end it is one push.
     pub fn insert(&mut self, place: usize, counter: u64, index: usize)
         requires within { place ≤ length self.old.ids }
         requires room { 0 < self.old.room }
@@ -116,7 +117,7 @@ impl VersionVector {
         );
     }
 
-    /// Keeps, in order, the ids that the vector doesn't cover, and what stands beside them. Takes no memory.
+    /// Keeps, in order, the ids that the vector doesn't cover, and of a second list the values at the same positions. Takes no memory.
     pub fn keep_uncovered_beside<T: Drop>(&self, ids: &mut IdColumns, beside: &mut Rings<T>)
         requires within { All (λ id. id.1 < length self.now) ids.old.ids }
         requires length { length beside.old.items ≡ length ids.old.ids }
@@ -144,7 +145,8 @@ impl VersionVector {
     }
 }
 
-/// Sets the bit of each id that the vector doesn't cover, and clears the others, where the ids stand in two columns. The bounds are scratch. Takes no memory.
+/// Sets the bit of each id that the vector doesn't cover, and clears the others. The ids are given as two columns; the bounds are
+/// scratch. Takes no memory.
 fn mark_uncovered(
     vector: &VersionVector,
     counters: &[u64],

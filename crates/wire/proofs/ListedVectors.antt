@@ -1,4 +1,4 @@
--- The pairs of a column beside a table whose numbers rise, one place after the other.
+-- The pairs of a column indexed by a table whose numbers rise, one index after the other.
 use Rattle.std.proofs.Common.{◌≡◌, ◌<◌, ℕ, zero, suc, Bool, true, false, nat_lt, cond, ◌==◌, max, List, [], ◌∷◌, length, get_or, drop, Some, None, refl, ap, ◌∙◌, arith, slice_get}
 use Rattle.std.proofs.lemmas.Bool.{lt-ltb, ne_eqb}
 use Rattle.ids.specs.Tables.{AreRising, IsBelowAll}

@@ -45,6 +45,6 @@ all_or_bad r = option_map_or (λ why. Err (length r.operations + 1, why)) r.stop
 abbrev pub bundle_form : List ℕ → List ℕ → Result (List Stamped) Bad
 bundle_form table text = all_or_bad (readable table text)
 
--- the number of a bad line with its refusal, or want of memory on any line
+-- the number of a bad line with its refusal, or NoMemory on any line
 abbrev pub IsBadOf : {T : Type 0} → Result T Bad → Bad → Type 0
 IsBadOf wanted bad = (bad.1 ≡ NoMemory) ⊎ (wanted ≡ Err bad)

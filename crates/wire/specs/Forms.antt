@@ -1,4 +1,4 @@
--- What a line of a script and its parts are, as JSON. A part that has no such form is `BadLine`.
+-- What a line of a script and its parts are, as JSON. A part of another form is `BadLine`.
 use Rattle.std.specs.Prelude.{◌≡◌, ◌⊎◌, ℕ, List, option_and_then, Result, MatchResult, Ok, Err, if◌then◌else◌}
 use Rattle.std.specs.Option.{ok_or}
 use Rattle.std.specs.Str.{is_utf8}
@@ -8,11 +8,11 @@ use Rattle.serde_json.specs.Data.{Data, Items, no_items, item}
 use Rattle.serde_json.specs.Find.{as_number, as_str, as_array, as_u64}
 use Rattle.serde_json.specs.Read.{read}
 
--- this answer, or want of memory
+-- this answer, or NoMemory
 abbrev pub IsUnlessMemory : {T : Type 0} → Result T Refusal → Result T Refusal → Type 0
 IsUnlessMemory r wanted = (r ≡ wanted) ⊎ (r ≡ Err NoMemory)
 
--- what was read means what is wanted, or a refusal is the one that is wanted, or want of memory
+-- what was read means what is wanted, or a refusal is the one that is wanted, or NoMemory
 abbrev pub IsRead : {T U : Type 0} → (T → U) → Result T Refusal → Result U Refusal → Type 0
 IsRead meaning r wanted = MatchResult r (λ x. wanted ≡ Ok (meaning x)) (λ why. IsUnlessMemory (Err why) wanted)
 

@@ -55,7 +55,7 @@ parts_after p = if bytes_eq p.0 (codes "op") then five_parts p.1 else Err BadLin
 abbrev pub fields_form : Data → Result Fields Refusal
 fields_form d = and_then parts_after (phrase_form d)
 
--- what they are, beside a table of replicas: an id, a vector, a path with its last key, and what is done
+-- what they are, with a table of replicas: an id, a vector, a path with its last key, and what is done
 abbrev pub fields_of : List ℕ → Fields → Result Stamped Refusal
 fields_of table f =
     and_then (λ a. and_then (λ v. and_then (λ p. and_then (λ m. Ok (record { id = a; vector = v; place = p; mutation = m }))

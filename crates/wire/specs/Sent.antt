@@ -1,4 +1,4 @@
--- The operations that a line can carry beside a table of replicas, and what of that types keep.
+-- The operations that a line can carry with a table of replicas, and what of that types keep.
 use Rattle.std.specs.Prelude.{◌≡◌, ℕ, ◌<◌, ◌≤◌, ⊤, IsTrue, Bool, true, List, [], ◌∷◌, length, Ok}
 use Rattle.std.specs.List.{list_all}
 use Rattle.ids.specs.Configurations.{is_from_one_to}

@@ -19,7 +19,8 @@ use ids::{Refusal, ReplicaTable};
 use operation::Op;
 use std::alloc::{AllocError, Global};
 
-/// The lines of the operations in their order. No operation is no byte. Where all names are of members, and all counters those of the wire, `read_bundle` reads the same operations.
+/// The lines of the operations, in order. An empty bundle has no byte. Where all names are of members, and all counters those of
+/// the wire, `read_bundle` reads the same operations.
 ///
 /// # Errors
 /// `AllocError` if allocation fails.
@@ -41,13 +42,14 @@ pub fn write_bundle(alloc: Global, ops: &[Op], table: &ReplicaTable) -> Result<V
 pub struct LinesRead {
     /// The operations of the lines before the first bad one, in their order.
     pub ops: Vec<Op>,
-    /// Why the line after those is bad, or none where the whole text was read.
+    /// Why the line after those is bad, or `None` where the whole text was read.
     pub stopped: Option<Refusal>,
 }
 
 /// The operations of a text as far as it can be read, their vectors as wide as the table.
 ///
-/// A bad line, with the refusal of `read_op`, ends what is read; bytes after the last line feed are a bad line, `BadLine`. So does a refused growth, as `NoMemory`: what was read until then is kept.
+/// Reading stops at the first bad line, with the refusal of `read_op`; bytes after the last line feed are a bad line, `BadLine`. It
+/// also stops with `NoMemory` if allocation fails: what was read until then is kept.
 pub fn read_lines(alloc: Global, text: &[u8], table: &ReplicaTable) -> LinesRead
     ensures read { (result.stopped ≡ Some NoMemory) ⊎ ((map (stamped_of table.now) result.ops.items ≡ (readable table.now text.now).operations) × (result.stopped ≡ (readable table.now text.now).stopped)) }
     ensures first { map (stamped_of table.now) result.ops.items ≡ take (length result.ops.items) (readable table.now text.now).operations }
@@ -80,10 +82,11 @@ pub fn read_lines(alloc: Global, text: &[u8], table: &ReplicaTable) -> LinesRead
     LinesRead { ops, stopped }
 }
 
-/// The operations of a bundle in its order, their vectors as wide as the table.
+/// The operations of a bundle, in order, their vectors as wide as the table.
 ///
 /// # Errors
-/// The first bad line, counted from 1, with the refusal of `read_op`; bytes after the last line feed are a bad line, `BadLine`. `NoMemory` with the line at which an allocation failed.
+/// The number of the first bad line, from 1, with the refusal of `read_op`; bytes after the last line feed are a bad line,
+/// `BadLine`. If allocation fails, `NoMemory` with the line that was being read.
 pub fn read_bundle(
     alloc: Global,
     text: &[u8],
@@ -99,7 +102,7 @@ pub fn read_bundle(
     }
 }
 
-/// Where the line of each operation is read as that operation, a bundle is read as its operations, also where more follows it.
+/// If the line of each operation is read as that operation, a bundle is read as its operations, also where more follows it.
 pub fn bundles_are_read_back()
     ensures bundle { (table : List ℕ) (ss : List Stamped) → All (λ s. op_form table (op_line s) ≡ Ok s) ss → bundle_form table (bundle_text ss) ≡ Ok ss }
     ensures operations { (table : List ℕ) (ss : List Stamped) (rest : List ℕ) → All (λ s. op_form table (op_line s) ≡ Ok s) ss → (readable table (bundle_text ss ++ rest)).operations ≡ ss ++ (readable table rest).operations }

@@ -9,7 +9,10 @@ use ids::Refusal;
 use serde_json::Value;
 use std::alloc::Global;
 
-/// What a line's text is in JSON.
+/// The JSON of a line's text.
+///
+/// # Errors
+/// `BadLine` if the text is no JSON, or `NoMemory` if allocation fails.
 pub fn json_of(alloc: Global, text: &[u8]) -> Result<Value, Refusal>
     ensures { MatchResult result (λ v. json_form text.now ≡ Ok (view v)) (λ why. IsUnlessMemory (Err why) (json_form text.now)) }
 {

@@ -20,13 +20,13 @@ pub struct Line<'a> {
 pub struct Lines<'a> {
     /// How many lines were taken.
     pub taken: u64,
-    /// The bytes after those.
+    /// The bytes after those lines.
     pub rest: &'a [u8],
     ghost fits: { taken + length rest.now < 2 ^ 64 },
 }
 
 impl<'a> Lines<'a> {
-    /// The lines of all these bytes.
+    /// An iterator over the lines of these bytes.
     pub fn new(bytes: &'a [u8]) -> Lines<'a>
         ensures none_taken { result.taken ≡ 0 }
         ensures all_left { result.rest.now ≡ bytes.entry.now }
@@ -38,7 +38,7 @@ impl<'a> Lines<'a> {
         }
     }
 
-    /// The next line that is ended.
+    /// The next line that has its line feed.
     pub fn take_line(&mut self) -> Option<Line<'a>>
         ensures line { IfSome result (λ line. IsFirstLine self.old.rest.now line.text.now self.new.rest.now) }
         ensures number { IfSome result (λ line. (line.number ≡ self.old.taken + 1) × (self.new.taken ≡ line.number)) }
@@ -54,7 +54,7 @@ impl<'a> Lines<'a> {
         })
     }
 
-    /// The number of a last line that isn't ended.
+    /// The number of a last line without a line feed, if there is one.
     pub fn cut_line(&self) -> Option<u64>
         ensures { MatchOption result (self.now.rest.now ≡ []) (λ number. (number ≡ self.now.taken + 1) × (self.now.rest.now ≢ [])) }
     {

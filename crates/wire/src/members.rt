@@ -1,4 +1,4 @@
-//! The ids of members' operations, as they are read.
+//! Ids of members, as they are read.
 #![tactic(auto, using(crate::proofs::WrongLengths::wrong_lengths))]
 
 ghost use Rattle.std.specs.Prelude.{◌≡◌, ◌≤◌, IfOk};
@@ -15,7 +15,7 @@ const MOST_COUNTER: u64 = 4_611_686_018_427_387_904;
 /// The greatest number of a replica.
 const MOST_REPLICA: u64 = 4_294_967_295;
 
-/// The id of a member's operation.
+/// The id of an operation, which has to be a member's.
 ///
 /// # Errors
 /// `BadLine` where its form is wrong, then `UnknownReplica` where its replica isn't in the table.
@@ -25,7 +25,7 @@ pub(crate) fn member_in(table: &ReplicaTable, value: &Value) -> Result<OpId, Ref
     member_of(table, id_of(list_in(value)?)?)
 }
 
-/// The id, where its replica is in the table.
+/// The id, if its replica is a member.
 pub(crate) fn member_of(table: &ReplicaTable, id: OpId) -> Result<OpId, Refusal>
     ensures { result ≡ member_of table.now id }
 {
@@ -35,7 +35,7 @@ pub(crate) fn member_of(table: &ReplicaTable, id: OpId) -> Result<OpId, Refusal>
     Ok(id)
 }
 
-/// A counter and a replica.
+/// The id of a list of a counter and a replica.
 pub(crate) fn id_of(parts: &[Value]) -> Result<OpId, Refusal>
     ensures { result ≡ id_of (items_view parts.now) }
 {

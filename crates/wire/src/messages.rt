@@ -23,7 +23,8 @@ use serde_json::{Value, json};
 use std::alloc::{AllocError, Global};
 use version::VersionVector;
 
-/// The line of an operation, whose vector stands beside the table. Where its names are of members, and its counters those of the wire, `read_op` reads it as the same operation.
+/// The line of an operation, whose vector is indexed by the table. Where its names are of members, and its counters those of the
+/// wire, `read_op` reads it as the same operation.
 ///
 /// # Errors
 /// `AllocError` if allocation fails.
@@ -34,7 +35,7 @@ pub fn write_op(alloc: Global, op: &Op, table: &ReplicaTable) -> Result<Vec<u8>,
     Ok(operation_value(alloc, table, op)?.to_vec(alloc)?)
 }
 
-/// The line of a vector beside the table, which says all that its sender has applied. Where its counters are those of the wire, `read_vector` reads it as the same vector.
+/// The line of a vector indexed by the table, a hello. Where its counters are those of the wire, `read_vector` reads it as the same vector.
 ///
 /// # Errors
 /// `AllocError` if allocation fails.
@@ -63,10 +64,14 @@ fn hello_value(
 
 /// The operation on a line, its vector as wide as the table.
 ///
-/// The JSON of the whole line is in memory before its parts are looked at, so time and memory are in proportion to the line: who takes lines from others bounds their length first. More than 127 lists and objects within each other are no JSON here.
+/// The whole line is parsed as JSON before its parts are looked at, so time and memory are proportional to its length: whoever
+/// takes lines from others bounds their length first. JSON nested deeper than 127 lists and objects is refused.
 ///
 /// # Errors
-/// The first fault in this order: the text is no JSON, or no list of six that begins with `op`, `BadLine`; the faults of the id, the vector, the path with its last key, and the mutation with its value. A part whose form is wrong is `BadLine`; a replica that isn't in the table is `UnknownReplica`; a path of more than 32 parts is `TooDeep`, a key of more than 256 bytes `KeyTooLong`, a text of more than 4,096 bytes `TextTooLong`, and a number as a value that isn't whole `NotWhole`. `NoMemory` where a growth was refused.
+/// The first fault in this order: `BadLine` if the text is no JSON, or no list of six that begins with `op`; then the faults of the
+/// id, the vector, the path with its last key, and the mutation with its value. A part of another form is `BadLine`; a replica that
+/// isn't a member is `UnknownReplica`; a path of more than 32 parts is `TooDeep`, a key of more than 256 bytes `KeyTooLong`, a text
+/// of more than 4,096 bytes `TextTooLong`, and a number as a value that isn't whole `NotWhole`. `NoMemory` if allocation fails.
 pub fn read_op(alloc: Global, text: &[u8], table: &ReplicaTable) -> Result<Op, Refusal>
     ensures read { IsRead (stamped_of table.now) result (op_form table.now text.now) }
     ensures width { IfOk result (λ o. length o.deps ≡ length table.now) }
@@ -78,7 +83,9 @@ pub fn read_op(alloc: Global, text: &[u8], table: &ReplicaTable) -> Result<Op, R
 /// The vector on a line.
 ///
 /// # Errors
-/// The first of these: `BadLine` where the text is no JSON or no such line; then the first fault of the vector from the left, `BadLine` where a pair's form is wrong or it doesn't rise, `UnknownReplica` where its replica isn't in the table. `NoMemory` where a growth was refused.
+/// The first of these: `BadLine` if the text is no JSON or not a hello; then the first fault of the vector from the
+/// left, `BadLine` where a pair has another form or doesn't rise, `UnknownReplica` where its replica isn't a member.
+/// `NoMemory` if allocation fails.
 pub fn read_vector(
     alloc: Global,
     text: &[u8],
@@ -95,7 +102,7 @@ pub fn read_vector(
     }
 }
 
-/// A vector alone.
+/// The vector of a list that holds nothing else.
 fn only_vector_in(
     alloc: Global,
     table: &ReplicaTable,
@@ -115,7 +122,8 @@ pub fn operations_are_read_back()
     ensures { (table : List ℕ) (s : Stamped) → IsSent table s → operation_form table (operation_json s) ≡ Ok s }
 {}
 
-/// The line of an operation whose names are of members, whose lengths and numbers are within their limits and whose texts are UTF-8, is read as that operation.
+/// The line of an operation whose names are of members, whose lengths and numbers are within their limits and whose texts are
+/// UTF-8, is read as that operation.
 pub fn lines_are_read_back()
     ensures { (table : List ℕ) (s : Stamped) → IsSent table s → IsUtf8 (op_line s) → op_form table (op_line s) ≡ Ok s }
 {}

@@ -16,7 +16,7 @@ use serde_json::{Value, json};
 use std::alloc::{AllocError, Global};
 use std::mem;
 
-/// The operation, whose vector stands beside the table. What its types keep is what a reader wants of it.
+/// The operation as JSON; its vector is indexed by the table. Its types keep what a reader tests of it.
 pub fn operation_value(alloc: Global, table: &ReplicaTable, op: &Op) -> Result<Value, AllocError>
     ensures json { IfOk result (λ v. view v ≡ operation_json (stamped_of table.now op.now)) }
     ensures typed { IfOk result (λ _. IsTyped (stamped_of table.now op.now)) }
@@ -29,14 +29,14 @@ pub fn operation_value(alloc: Global, table: &ReplicaTable, op: &Op) -> Result<V
     json!(in alloc; ["op", id, vector, path, last, mutation])
 }
 
-/// Counter and replica.
+/// The id as a list of counter and replica.
 pub fn id_value(alloc: Global, id: OpId) -> Result<Value, AllocError>
     ensures { IfOk result (λ v. view v ≡ id_json id) }
 {
     json!(in alloc; [id.counter, id.replica.number()])
 }
 
-/// What a place stands in, and its own key.
+/// The path of a place, and its last key.
 fn place_values(alloc: Global, place: &Place) -> Result<(Value, Value), AllocError>
     ensures json { IfOk result (λ p. (view p.0 ≡ path_json place.now) × (view p.1 ≡ last_json place.now)) }
     ensures typed { IfOk result (λ _. IsTypedPlace place.now) }
@@ -50,7 +50,7 @@ fn place_values(alloc: Global, place: &Place) -> Result<(Value, Value), AllocErr
     Ok((Value::Array(parts), last))
 }
 
-/// A key with its tag for each hop, and the key of the last.
+/// The path of these hops, each key with its tag, and the key of the last hop.
 fn path_parts(alloc: Global, hops: &[Hop]) -> Result<(Vec<Value>, Value), AllocError>
     ensures json { IfOk result (λ p. (map view p.0.items ≡ parts_from root_json (map hop_of hops.now)) × (view p.1 ≡ last_from root_json (map hop_of hops.now))) }
     ensures typed { IfOk result (λ _. AreTypedKeys (map hop_of hops.now)) }

@@ -1,4 +1,4 @@
-//! Where an operation stands, as it is read: a path of keys with what is entered at each, and a last key.
+//! Places, as they are read: a path of keys with the tag of what is entered at each, and a last key.
 #![tactic(auto, using(crate::proofs::WrongLengths::wrong_lengths))]
 
 ghost use Rattle.std.specs.Prelude.{◌≡◌, ◌≤◌, ◌+◌, ℕ, None, IfOk, MatchResult, length, map};
@@ -27,7 +27,7 @@ enum WrittenKey {
     Item(OpId),
 }
 
-/// A key, and as what the element there is entered.
+/// A key, and the tag of what is entered there.
 #[derive(Debug, Drop)]
 struct Part {
     key: WrittenKey,
@@ -37,7 +37,9 @@ struct Part {
 /// The place of a path and a last key.
 ///
 /// # Errors
-/// The first of these: the path is no list, `BadLine`; it has more than 32 parts, `TooDeep`; the first fault of its parts from the left, and then of the last key: `BadLine` where the form is wrong, `KeyTooLong` where a text has more than 256 bytes, `UnknownReplica` for the id of no member; the keys don't fit what is entered, `BadLine`.
+/// The first of these: `BadLine` if the path is no list; `TooDeep` if it has more than 32 parts; the first fault of its parts from
+/// the left, and then of the last key: `BadLine` for another form, `KeyTooLong` for a text of more than 256 bytes, `UnknownReplica`
+/// for the id of a replica that isn't a member; `BadLine` if the keys don't fit what is entered.
 pub(crate) fn place_in(
     alloc: Global,
     table: &ReplicaTable,
@@ -82,7 +84,7 @@ fn part_in(alloc: Global, table: &ReplicaTable, value: &Value) -> Result<Part, R
     Ok(Part { key, entered })
 }
 
-/// As what an element is entered.
+/// The tag of what is entered.
 fn tag_in(word: &str) -> Result<Tag, Refusal>
     ensures { MatchResult result (λ t. tag_form word.now ≡ Ok (tag_of t)) (λ why. tag_form word.now ≡ Err why) }
 {
@@ -93,7 +95,7 @@ fn tag_in(word: &str) -> Result<Tag, Refusal>
     }
 }
 
-/// One key alone.
+/// The key of a list that holds nothing else.
 fn only_key_in(alloc: Global, table: &ReplicaTable, values: &[Value]) -> Result<WrittenKey, Refusal>
     ensures { IsRead key_meant result (only_key table.now (items_view values.now)) }
 {
@@ -103,7 +105,7 @@ fn only_key_in(alloc: Global, table: &ReplicaTable, values: &[Value]) -> Result<
     key_in(alloc, table, key)
 }
 
-/// A text is a field's key, a list an item's, and a number that of the root or a head.
+/// A text is a field's key, a list an item's, and a number the root's or a head's.
 fn key_in(alloc: Global, table: &ReplicaTable, value: &Value) -> Result<WrittenKey, Refusal>
     ensures { IsRead key_meant result (key_form table.now (view value.now)) }
 {
@@ -126,7 +128,7 @@ fn numbered_key(number: u64) -> Result<WrittenKey, Refusal>
     }
 }
 
-/// The place that the parts and a last key lead to, which begin with the root.
+/// The place that the parts, which begin with the root, and a last key lead to.
 fn place_of(alloc: Global, parts: Vec<Part>, last: WrittenKey) -> Result<Place, Refusal>
     requires { length parts.items ≤ 32 }
     ensures { IsUnlessMemory result (place_below Doc None (map part_meant parts.items) (key_meant last)) }
@@ -140,7 +142,7 @@ fn place_of(alloc: Global, parts: Vec<Part>, last: WrittenKey) -> Result<Place, 
     place_at_last(hops, entered, last)
 }
 
-/// One hop further, to a key of the map or the list here. The root, where nothing is entered, is no hop.
+/// Appends the hop to a key of the map or the list here. The root, where nothing is entered, is no hop.
 fn enter(hops: &mut Vec<Hop>, entered: Option<Tag>, key: WrittenKey) -> Result<(), Refusal>
     ensures element { MatchResult result
         (λ _. element_at (down Doc (map hop_of hops.old.items)) (entered_as entered) (key_meant key) ≡ Ok (down Doc (map hop_of hops.new.items)))
@@ -156,7 +158,7 @@ fn enter(hops: &mut Vec<Hop>, entered: Option<Tag>, key: WrittenKey) -> Result<(
     Ok(())
 }
 
-/// The head of a list that is entered, or an element.
+/// The place of the last key: the head of a list that is entered, or an element.
 fn place_at_last(
     mut hops: Vec<Hop>,
     entered: Option<Tag>,

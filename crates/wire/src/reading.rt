@@ -1,4 +1,4 @@
-//! Operations as they are read: their fields unread, and each field by a method of its own.
+//! Operations, as they are read: first their fields unread, and then each field by a method of its own.
 #![tactic(auto, using(crate::proofs::WrongLengths::wrong_lengths))]
 
 ghost use Rattle.std.specs.Prelude.{◌≡◌, IfOk, MatchResult, Ok, Err, length};
@@ -26,7 +26,7 @@ use std::alloc::Global;
 use value::Val;
 use version::VersionVector;
 
-/// The operation that JSON stands for. The first fault from the left decides.
+/// The operation of a JSON value. The first fault from the left decides.
 pub(crate) fn operation_in(
     alloc: Global,
     table: &ReplicaTable,
@@ -48,7 +48,8 @@ pub(crate) fn operation_in(
     })
 }
 
-/// The fields of an operation, unread. Each method reads its own and gives that field's refusals alone, so another way to write one of them is one more method here.
+/// The fields of an operation, unread. Each method reads its own field and gives that field's refusals alone, so another way to
+/// write one of them takes one more method here.
 #[derive(Drop)]
 struct OperationFields<'a> {
     id: &'a Value,
@@ -59,7 +60,7 @@ struct OperationFields<'a> {
 }
 
 impl<'a> OperationFields<'a> {
-    /// The parts after the word.
+    /// The parts after the word `op`.
     fn of(value: &'a Value) -> Result<OperationFields<'a>, Refusal>
         ensures { MatchResult result (λ f. fields_form (view value.entry.now) ≡ Ok (fields_meant f)) (λ why. fields_form (view value.entry.now) ≡ Err why) }
     {
@@ -98,14 +99,14 @@ impl<'a> OperationFields<'a> {
         vector_in(alloc, table, self.vector)
     }
 
-    /// The path and the last key together.
+    /// The place of the path and the last key.
     fn place(&self, alloc: Global, table: &ReplicaTable) -> Result<Place, Refusal>
         ensures { IsUnlessMemory result (place_form table.now (view self.now.path.now) (view self.now.last.now)) }
     {
         place_in(alloc, table, self.path, self.last)
     }
 
-    /// What is done: a word, and the value that is written.
+    /// The mutation: a word, and the value that is written.
     fn mutation(&self, alloc: Global) -> Result<Mutation, Refusal>
         ensures { IsRead mutation_of result (mutation_form (view self.now.mutation.now)) }
     {
@@ -122,7 +123,7 @@ impl<'a> OperationFields<'a> {
     }
 }
 
-/// A value alone.
+/// The value of a list that holds nothing else.
 fn only_value_in(alloc: Global, parts: &[Value]) -> Result<Val, Refusal>
     ensures { IsRead value_of result (only_value (items_view parts.now)) }
 {
@@ -132,7 +133,7 @@ fn only_value_in(alloc: Global, parts: &[Value]) -> Result<Val, Refusal>
     Val::from_json(alloc, written)
 }
 
-/// Nothing follows the word.
+/// Tests that nothing follows the word.
 fn check_no_more(parts: &[Value]) -> Result<(), Refusal>
     ensures { IsRead (λ _. Delete) result (nothing_more (items_view parts.now)) }
 {

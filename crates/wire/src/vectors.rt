@@ -15,10 +15,11 @@ use serde_json::{Value, json};
 use std::alloc::{AllocError, Global};
 use version::VersionVector;
 
-/// A vector of replicas of the table, which rise.
+/// A vector whose replicas are members, and rise.
 ///
 /// # Errors
-/// At the first pair from the left that has one: `BadLine` where its form is wrong or it doesn't rise, `UnknownReplica` where its replica isn't in the table.
+/// At the first pair from the left that has one: `BadLine` where its form is wrong or it doesn't rise, `UnknownReplica` where its
+/// replica isn't a member.
 pub fn vector_in(
     alloc: Global,
     table: &ReplicaTable,
@@ -51,7 +52,7 @@ fn pairs_in(alloc: Global, table: &ReplicaTable, pairs: &[Value]) -> Result<Vers
     Ok(vector)
 }
 
-/// A replica and its counter.
+/// The id of a pair of a replica and its counter.
 fn pair_in(value: &Value) -> Result<OpId, Refusal>
     ensures form { result ≡ pair_form (view value.now) }
     ensures counted { IfOk result (λ id. 1 ≤ id.counter) }

@@ -11,7 +11,7 @@ use std::alloc::{AllocError, Global};
 use value::{Key, Scalar, Text, Val};
 use version::VersionVector;
 
-/// The operations of a list to buy: a map, a list in it, and three items.
+/// The operations of a shopping list: a map, a list in it, and three items.
 const LINES: [&str; 5] = [
     r#"["op",[1,1],[],[],0,["a",{}]]"#,
     r#"["op",[2,1],[[1,1]],[["m",0]],"shopping",["a",[]]]"#,
@@ -90,7 +90,7 @@ fn mutation(alloc: Global, does: Does) -> Result<Mutation, Refusal> {
     }
 }
 
-/// The vector of so many operations of replica 1, beside the table 1, 2.
+/// The vector of this many operations of replica 1, for the table 1, 2.
 fn deps(alloc: Global, before: u64) -> Result<VersionVector, Refusal> {
     let mut deps = VersionVector::zero(alloc, 2)?;
     if deps.width() > 0 {

@@ -28,7 +28,7 @@ pub fn report(rt: &impl Print, alloc: Global, samples: &[Sample]) -> io::Result<
     Ok(())
 }
 
-/// Whether a bundle of the operations is read, and those that are read are written as the same bundle.
+/// Whether a bundle of the operations is read back, and what is read is written as the same bundle.
 ///
 /// # Errors
 /// `AllocError` if allocation fails.

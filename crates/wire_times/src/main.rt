@@ -1,4 +1,4 @@
-//! Writes sample operations as lines and reads them again: whether they are the same, and by the word `time` how many a second.
+//! Writes sample operations as lines and reads them again: whether they are the same, and with the word `time` how many a second.
 #![tactic(auto)]
 
 mod agreement;

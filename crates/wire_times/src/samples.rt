@@ -8,7 +8,7 @@ use std::alloc::{AllocError, Global};
 use version::VersionVector;
 use wire::read_op;
 
-/// Operations beside their table of replicas.
+/// Operations with their table of replicas.
 #[derive(Debug, Drop)]
 pub struct Sample {
     pub name: &'static str,
@@ -28,13 +28,13 @@ const SHOPPING: [&str; 5] = [
 /// An operation that comes after a thousand others.
 const INSERT: &str = r#"["op",[1001,1],[],[["m",0],["l","shopping"]],1,["i","eggs"]]"#;
 
-/// As many as a table may have.
+/// The most members that a table may have.
 const MEMBERS: u32 = 64;
 
 /// All samples.
 ///
 /// # Errors
-/// `NoMemory` where a growth was refused, or what `read_op` says of a line.
+/// `NoMemory` if allocation fails, or the refusal of `read_op` for a line.
 pub fn all_samples(alloc: Global) -> Result<Vec<Sample>, Refusal>
     ensures { IfOk result (λ samples. length samples.items ≡ 2) }
 {
@@ -80,7 +80,7 @@ fn insert_after_all(alloc: Global) -> Result<Sample, Refusal>
     })
 }
 
-/// After a thousand operations of each replica.
+/// The vector of a thousand operations of each replica.
 fn after_all(alloc: Global, width: usize) -> Result<VersionVector, AllocError>
     ensures { IfOk result (λ v. length v ≡ width) }
 {

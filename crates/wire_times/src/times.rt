@@ -43,7 +43,7 @@ fn nanos_since<R: Clock>(rt: &R, started: Instant) -> io::Result<u64> {
     Ok(u64::try_from(elapsed).unwrap_or(u64::MAX))
 }
 
-/// How many of so many in so many nanoseconds are done in a second.
+/// Rate per second of this many in this many nanoseconds, rounded down.
 fn a_second(count: u64, nanos: u64) -> u64
     ensures { result ≡ min (count * 1000000000 / max nanos 1) (2 ^ 64 - 1) }
 {
@@ -60,7 +60,7 @@ fn lines_of(alloc: Global, sample: &Sample) -> Result<Vec<Vec<u8>>, Refusal> {
     Ok(lines)
 }
 
-/// Writes the operations again and again. How many bytes these were in all.
+/// Writes the operations again and again, and returns how many bytes they were in all.
 fn write_often(alloc: Global, sample: &Sample) -> Result<u64, Refusal> {
     let mut bytes = 0_u64;
     for _ in 0..TURNS {
@@ -72,7 +72,7 @@ fn write_often(alloc: Global, sample: &Sample) -> Result<u64, Refusal> {
     Ok(bytes)
 }
 
-/// Reads the lines again and again. How many operations were read in all.
+/// Reads the lines again and again, and returns how many operations they were in all.
 fn read_often(alloc: Global, lines: &[Vec<u8>], sample: &Sample) -> Result<u64, Refusal> {
     let mut count = 0_u64;
     for _ in 0..TURNS {

@@ -1,4 +1,4 @@
--- The operations before the first that names no member, one after the other.
+-- The operations before the first that names a replica that isn't a member, one after the other.
 use Rattle.std.proofs.Common.{◌≡◌, ◌&&◌, ◌∷◌, [], ℕ, List, true, false, cond, Some, None, ap}
 use Rattle.std.specs.List.{list_all}
 use Rattle.ids.specs.declared.refusal.Refusal.TheVariants.{UnknownReplica}

@@ -1,4 +1,4 @@
--- A vector that is named beside another table, one replica after the other as they rise.
+-- A vector that is indexed by another table, one replica after the other as they rise.
 use Rattle.std.proofs.Common.{◌≡◌, ◌≢◌, ◌≤◌, ◌<◌, ℕ, zero, suc, max, Bool, true, false, cond, ◌&&◌, ◌==◌, List, [], ◌∷◌, ◌++◌, get_or, Some, slice_get, refl, sym, ap, ◌∙◌, arith}
 use Rattle.std.specs.List.{list_all}
 use Rattle.std.proofs.lemmas.Bool.{and_from, and_parts, or_left, or_right, eq-eqb, eqb-true}
@@ -42,7 +42,7 @@ later_above (x ∷ ps) zero (suc j) p q r e f l =
     omega (arith, same, there, above)
 later_above (x ∷ ps) (suc i) (suc j) p q r e f l = later_above ps i j p q r.1 e f (omega arith)
 
--- no replica from place i of the rising table on has a counter beside the other one
+-- no replica from index i of the rising table on has a counter in the other one
 abbrev pub IsNoneFrom : List ℕ → ℕ → List ℕ → List ℕ → Type 0
 IsNoneFrom from i to cs = (j q : ℕ) → i ≤ j → slice_get from j ≡ Some q → (p : ℕ) → q ≤ p → component to cs p ≡ 0
 
@@ -76,7 +76,7 @@ members_all (p ∷ ps) = and_from (is_member (p ∷ ps) p) (list_all (is_member 
 pub all_of-by_table : (ps cs : List ℕ) → list_all (λ a. is_member ps a.replica) (by_table ps cs) ≡ true
 all_of-by_table ps cs = all-by_table (is_member ps) ps cs (members_all ps)
 
--- one that is no member
+-- one that isn't a member
 pub not_all_of : (ps : List ℕ) (u v : Vector) (a : OpId) → is_member ps a.replica ≡ false → list_all (λ b. is_member ps b.replica) (u ++ a ∷ v) ≡ false
 not_all_of ps [] v a e = rw e refl
 not_all_of ps (b ∷ u) v a e = at_test (is_member ps b.replica) (not_all_of ps u v a e)

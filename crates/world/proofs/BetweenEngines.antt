@@ -37,7 +37,7 @@ use Rattle.world.proofs.DrawnWaiting.{Draws, delivered_waits, draws_both, gives_
 drain_begins : (r d : Replica) → Drains r d → BeginsWith d.entries r.entries
 drain_begins r d h = let b = begins_with_peers h.appended r.entries in (b.0, h.entries ∙ b.1)
 
--- what is left of a drain after so many turns
+-- what is left of a drain after this many turns
 left_drains : (n : ℕ) (d : Replica) → IsRunning d → Drains (drain_for n d) (drain d)
 left_drains n d h = by (cases_lt (length d.waiting) n)
   where
@@ -198,7 +198,7 @@ wider E A F B G grown drawn h queue later draws = record {
   waits = λ o m. elim (draws.waits o m) [ inl w ↦ h.waits o w | inr q ↦ inr (q.0, queue q.0 q.1, q.2) ];
 }
 
--- so many answers
+-- this many answers
 given_grown : (n : ℕ) (E : Engine) → IsSound E → HasGrown E (give_for n E)
 given_grown zero E s = grown_refl E
 given_grown (suc n) E s =

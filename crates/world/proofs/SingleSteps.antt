@@ -7,11 +7,11 @@ use Rattle.semantics.specs.Engine.{Engine, Client, Cell, Given, Ticket, Denied, 
 use Rattle.semantics.specs.WriteSteps.{with_answer, give_to, with_cell, next_item, push}
 use Rattle.semantics.specs.ReadSteps.{poll, cell_at, see}
 
--- what stands at a place of a list, as its image
+-- what stands at an index of a list, as its image
 pub read_mapped : {A B : Type 0} (f : A → B) (xs : List A) (i : ℕ) (x : A) → i < length xs → x ≡ get_or xs i x → slice_get (map f xs) i ≡ Some (f x)
 read_mapped f xs i x h e = slice_get-map f xs i ∙ ap (option_map f) (slice_get_read xs (length xs) i x refl h e)
 
--- a list in which what stands at a place is put there again
+-- a list in which what stands at an index is put there again
 pub set_itself : {X : Type 0} (xs : List X) (i : ℕ) (x : X) → slice_get xs i ≡ Some x → slice_set xs i x ≡ xs
 set_itself [] i x e = refl
 set_itself (y ∷ ys) zero x e = (let same : x ≡ y = cc in ap (λ z. z ∷ ys) same)

@@ -1,4 +1,4 @@
--- An operation names a replica that is no member exactly where that is its first fault.
+-- An operation names a replica that isn't a member exactly where that is its first fault.
 use Rattle.std.proofs.Common.{◌≡◌, Bool, true, false, cond, List, ℕ, length, Some, refl, sym, ap, ◌∙◌, eq-eqb}
 use Rattle.ids.specs.declared.refusal.Refusal.TheVariants.{UnknownReplica}
 use Rattle.semantics.specs.Faults.{alone_fault, first_failed, is_of_members}

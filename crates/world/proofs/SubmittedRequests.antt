@@ -15,7 +15,7 @@ use Rattle.items.specs.Meanings.{received_of, stranger}
 pub received_wide : (table : List ℕ) (o : Op) → length o.deps ≡ length table → received_of table o ≡ stamped_of table o
 received_wide table o width = ap (λ b. cond b (stamped_of table o) (stranger table (stamped_of table o))) (eq-eqb (length o.deps) (length table) width)
 
--- what stands at a place within the list
+-- what stands at an index within the list
 pub found : {X : Type 0} (xs : List X) (i : ℕ) → i < length xs → (x : X) × (slice_get xs i ≡ Some x)
 found [] i l = absurd (omega arith)
 found (x ∷ xs) zero l = (x, refl)

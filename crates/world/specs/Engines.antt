@@ -34,7 +34,7 @@ cell_of table cell = record { submitted = submitted_of table cell.item; answer =
 abbrev pub client_of : List ℕ → Client → engine.Client
 client_of table k = record { seen = k.seen; cells = map (cell_of table) k.cells.items }
 
--- a message, whose vectors stand beside the table of its sender
+-- a message, whose vectors are indexed by the table of its sender
 abbrev pub message_of : Message → engine.Message
 message_of (message.Hello h) = engine.Hello (by_table h.table h.vector)
 message_of (message.Bundle b) = engine.Bundle (map (stamped_of b.table) b.ops.items)
@@ -44,7 +44,7 @@ abbrev pub taken_or_denied : ℕ → Option Refusal → engine.StepReply
 taken_or_denied serial None = engine.Ticket serial
 taken_or_denied serial (Some why) = engine.Denied why
 
--- the line after so many, where that is refused
+-- the next line, where that is refused
 abbrev pub stop_after : ℕ → Option Refusal → Option (ℕ × Refusal)
 stop_after n refused = option_map (λ why. (n + 1, why)) refused
 

@@ -8,7 +8,7 @@ use Rattle.world.specs.declared.step.WorldStep.{WorldStep}
 use Rattle.world.specs.Meanings.{AsksBeside, engine_in, step_of}
 use Rattle.world.specs.Parts.{IsBetween, IsInPart}
 
--- the engines, the messages, how many steps were done, and whether a growth was refused
+-- the engines, the messages, how many steps were done, and whether an allocation failed
 pub record Running : Type 0 where
   pub engines : List Engine
   pub messages : List Message
@@ -35,7 +35,7 @@ table_at tables e = slice_index_or tables e []
 abbrev pub step_in : List (List ℕ) → WorldStep → TheStep
 step_in tables s = step_of (table_at tables (engine_in s)) s
 
--- a vector that the step asks about stands beside the table of its engine
+-- a vector that the step asks about is indexed by the table of its engine
 abbrev pub IsAskedBeside : List (List ℕ) → WorldStep → Type 0
 IsAskedBeside tables s = AsksBeside (table_at tables (engine_in s)) s
 

@@ -42,7 +42,8 @@ impl Client {
         self.cells.get((serial - 1) as usize)
     }
 
-    /// What the client, number `client` of its engine, submits next: the request, under its next serial, with what its token has seen as the floor.
+    /// What the client, number `client` of its engine, submits next: the request, under its next serial, with what its token has
+    /// seen as the floor.
     pub fn next_item(&self, client: usize, request: Request) -> Item
         requires { vec_len self.now.cells + 1 < 2 ^ 64 }
         ensures item { (table : List ℕ) → submitted_of table result ≡ next_item client (client_of table self.now) (request_of table request) }
@@ -59,7 +60,7 @@ impl Client {
     /// Keeps what was submitted in a cell of its own.
     ///
     /// # Errors
-    /// `AllocError` if allocation fails: nothing is kept then.
+    /// `AllocError` if allocation fails. Nothing is kept then.
     pub fn keep(&mut self, item: Item) -> Result<(), AllocError>
         ensures client { OnOk result ((table : List ℕ) → client_of table self.new ≡ with_cell (client_of table self.old) (submitted_of table item)) }
         ensures unchanged { OnErr result ((table : List ℕ) → client_of table self.new ≡ client_of table self.old) }

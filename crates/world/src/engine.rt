@@ -26,7 +26,7 @@ use std::alloc::{AllocError, Global};
 use std::collections::VecDeque;
 use std::marker::Model;
 
-/// An item that was handled, and what is to be answered.
+/// A submission that was handled, and its reply.
 #[derive(Debug, Drop)]
 pub struct Handled {
     item: Item,
@@ -70,7 +70,7 @@ impl Model for Engine {
 }
 
 impl Engine {
-    /// A new engine, whose configuration is within the limits.
+    /// A new engine, whose configuration must be within the limits.
     ///
     /// # Errors
     /// `AllocError` if allocation fails.
@@ -101,10 +101,10 @@ impl Engine {
         self.handler.replica.document().table()
     }
 
-    /// One step, after these messages. What it sends is put behind them.
+    /// Plays one step. `messages` are all that were sent before; what the step sends is appended to them.
     ///
     /// # Errors
-    /// `AllocError` if allocation fails: the step may be done in part then.
+    /// `AllocError` if allocation fails. The step may be done in part then.
     pub fn turn(
         &mut self,
         alloc: Global,
@@ -156,7 +156,7 @@ impl Engine {
     }
 }
 
-/// A handler of a new replica, and a publisher of its history. The configuration is within the limits, so that nothing but memory can be refused.
+/// A handler of a new replica, and a publisher of its history. The configuration is within the limits, so that only an allocation can fail.
 fn new_histories(alloc: Global, config: &Config) -> Result<(Handler, Publisher), AllocError>
     requires { is_within_limits config.now ≡ true }
     ensures new { IfOk result (λ p. (replica_of p.0.replica ≡ (opened_engine config.now).replica) × Holds p.1 (replica_of p.0.replica) × (p.1.published ≡ [])) }
@@ -173,7 +173,7 @@ fn new_histories(alloc: Global, config: &Config) -> Result<(Handler, Publisher),
     ))
 }
 
-/// So many readers that have seen nothing.
+/// New readers, which have seen nothing.
 fn new_readers(alloc: Global, count: usize) -> Result<Vec<usize>, AllocError>
     ensures readers { IfOk result (λ v. v.items ≡ replicate count 0) }
 {
@@ -182,7 +182,7 @@ fn new_readers(alloc: Global, count: usize) -> Result<Vec<usize>, AllocError>
     Ok(readers)
 }
 
-/// So many clients that have seen and submitted nothing.
+/// New clients, which have seen and submitted nothing.
 fn new_clients(alloc: Global, count: usize) -> Result<Vec<Client>, AllocError>
     ensures clients { IfOk result (λ v. (table : List ℕ) → map (client_of table) v.items ≡ replicate count (record { seen = 0; cells = [] })) }
 {

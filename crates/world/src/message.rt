@@ -1,4 +1,4 @@
-//! Messages between engines. What they hold stands beside the table of the engine that sent them.
+//! Messages between engines. Their vectors are indexed by the table of the engine that sent them.
 
 ghost use Rattle.std.specs.Prelude.{◌≡◌, length};
 ghost use Rattle.std.specs.List.{All};
@@ -7,7 +7,7 @@ use ids::ReplicaTable;
 use operation::Op;
 use version::VersionVector;
 
-/// A vector beside the table of its engine.
+/// A vector, with the table that indexes it.
 #[derive(Debug, Drop)]
 pub struct NamedVector {
     pub table: ReplicaTable,
@@ -15,7 +15,7 @@ pub struct NamedVector {
     ghost width: { length vector ≡ length table },
 }
 
-/// Operations whose vectors stand beside the table of their engine.
+/// Operations, with the table that indexes their vectors.
 #[derive(Debug, Drop)]
 pub struct NamedOps {
     pub table: ReplicaTable,

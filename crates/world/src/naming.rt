@@ -1,4 +1,4 @@
-//! Vectors and operations of one engine beside the table of another.
+//! Vectors and operations of one engine, as they are indexed by the table of another.
 
 ghost use Rattle.std.specs.Prelude.{◌≡◌, ◌⊎◌, length, map, true, false, Some, None, MatchResult};
 ghost use Rattle.std.specs.List.{All, list_all};
@@ -16,10 +16,10 @@ use std::alloc::Global;
 use version::VersionVector;
 use wire::LinesRead;
 
-/// The vector beside another table.
+/// The vector, indexed by another table.
 ///
 /// # Errors
-/// `UnknownReplica` where it names a replica that isn't in that table, `NoMemory` where a growth was refused.
+/// `UnknownReplica` if it names a replica that isn't in that table, `NoMemory` if allocation fails.
 pub fn vector_beside(
     alloc: Global,
     from: &ReplicaTable,
@@ -47,10 +47,10 @@ pub fn vector_beside(
     Ok(named)
 }
 
-/// A copy of the operation beside another table.
+/// A copy of the operation, its vector indexed by another table.
 ///
 /// # Errors
-/// `UnknownReplica` where it names a replica that isn't in that table, `NoMemory` where a growth was refused.
+/// `UnknownReplica` if it names a replica that isn't in that table, `NoMemory` if allocation fails.
 pub fn op_beside(
     alloc: Global,
     from: &ReplicaTable,
@@ -74,7 +74,8 @@ pub fn op_beside(
     }
 }
 
-/// Copies of the operations beside another table, up to the first that names a replica which isn't in it. Want of memory stops it too.
+/// Copies of the operations for another table, up to the first that names a replica which isn't in it. A failed allocation stops it
+/// too, as `NoMemory`.
 pub fn ops_beside(alloc: Global, from: &NamedOps, to: &ReplicaTable) -> LinesRead
     ensures read { (result.stopped ≡ Some NoMemory)
         ⊎ ((map (stamped_of to.now) result.ops.items ≡ before_stranger to.now (map (stamped_of from.now.table) from.now.ops.items))

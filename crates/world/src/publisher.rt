@@ -15,7 +15,7 @@ use std::marker::Model;
 /// The published document, and the entries that are appended and not published yet. Contracts see the publication.
 #[derive(Debug, Drop)]
 pub struct Publisher {
-    /// The replica's own number, for contracts alone.
+    /// The replica's own number, which only contracts use.
     own: u32,
     published: Document,
     /// The oldest first.

@@ -6,7 +6,8 @@ use items::Reply;
 use operation::Command;
 use version::VersionVector;
 
-/// A step of one engine. Engines are numbered from 0, as are an engine's clients and the messages of a world; an engine's tokens are its clients', then its readers'.
+/// A step of one engine. Engines are numbered from 0, as are an engine's clients and the messages of a world; an engine's tokens
+/// are its clients', then its readers'.
 #[derive(Debug, Drop)]
 pub enum WorldStep {
     /// A client submits a command.
@@ -15,7 +16,7 @@ pub enum WorldStep {
         client: usize,
         command: Command,
     },
-    /// The writer takes one item and handles it.
+    /// The writer takes one submission and handles it.
     Take {
         engine: usize,
     },
@@ -23,11 +24,11 @@ pub enum WorldStep {
     Publish {
         engine: usize,
     },
-    /// The writer sets the answer to the oldest item that is published.
+    /// The writer sets the answer to the oldest submission that is published.
     Give {
         engine: usize,
     },
-    /// The writer takes up to a batch of items and handles them, publishes, and then sets their answers.
+    /// The writer takes up to a batch of submissions and handles them, publishes, and then sets their answers.
     Step {
         engine: usize,
     },
@@ -37,7 +38,7 @@ pub enum WorldStep {
         client: usize,
         serial: u64,
     },
-    /// A token asks. A vector that it asks about stands beside the table of the engine.
+    /// A token asks. A vector in the question is indexed by the table of the engine.
     Ask {
         engine: usize,
         token: usize,
@@ -50,12 +51,12 @@ pub enum WorldStep {
         client: usize,
         serial: u64,
     },
-    /// A token says what it has seen, in a message to whoever receives it.
+    /// A token sends a hello: the vector of what is published.
     Hello {
         engine: usize,
         token: usize,
     },
-    /// A token answers a hello by a bundle of what that lacks.
+    /// A token answers a hello with a bundle of what the sender lacks.
     Bundle {
         engine: usize,
         token: usize,
@@ -84,7 +85,7 @@ impl WorldStep {
     ghost use Rattle.semantics.specs.World.{mover};
     ghost use Rattle.world.specs.Meanings.{engine_in, step_of};
 
-    /// The engine that moves.
+    /// The engine that does the step.
     pub fn engine(&self) -> usize
         ensures number { result ≡ engine_in self.now }
         ensures mover { (table : List ℕ) → result ≡ mover (step_of table self.now) }
@@ -107,16 +108,16 @@ impl WorldStep {
     }
 }
 
-/// What a step replies.
+/// The reply to a step.
 #[derive(Debug, Drop)]
 pub enum WorldReply {
     /// The command was submitted under this serial.
     Ticket(u64),
-    /// The command wasn't taken, the serial isn't the client's, or the hello names a replica that is no member.
+    /// The command wasn't taken, the serial isn't the client's, or the hello names a replica that isn't a member.
     Denied(Refusal),
-    /// An item was taken and handled.
+    /// A submission was taken and handled.
     Took,
-    /// So many items were published, or answered by a whole step.
+    /// This many submissions were published, or answered by a whole step.
     Published(u64),
     /// The answer to this client's serial was set.
     Gave {
@@ -129,38 +130,38 @@ pub enum WorldReply {
     Unanswered,
     /// The answer to what was submitted.
     Replied(Reply),
-    /// How many entries the token has seen, and what they answer, beside the table of the engine.
+    /// How many entries the token has seen, and what they answer, with the table that indexes its vectors.
     Read {
         seen: u64,
         table: ReplicaTable,
         reading: Reading,
     },
-    /// How many entries the token has seen, and why they don't answer: the expression leads nowhere.
+    /// How many entries the token has seen, and why they give no answer: the expression is refused.
     NotRead {
         seen: u64,
         why: Refusal,
     },
-    /// The token has seen so many entries.
+    /// The token has seen this many entries.
     Seen(u64),
-    /// A hello was sent under this number: the greatest counter of each replica, beside the table of the engine.
+    /// A hello was sent under this number, with this vector, indexed by the table of the engine.
     Hello {
         message: u64,
         table: ReplicaTable,
         vector: VersionVector,
     },
-    /// A bundle of so many operations was sent under this number.
+    /// A bundle of this many operations was sent under this number.
     Bundle {
         message: u64,
         operations: u64,
     },
     /// There is no such message.
     NoMessage,
-    /// The first serial, 0 where there is none, and how many operations were submitted; the line where that stopped, counted from 1, and why.
+    /// The first serial, 0 if there is none, and how many operations were submitted; the line where that stopped, counted from 1, and why.
     Received {
         first: u64,
         submitted: u64,
         stopped: Option<(u64, Refusal)>,
     },
-    /// So many operations were dropped so far.
+    /// This many operations were dropped so far.
     Dropped(u64),
 }

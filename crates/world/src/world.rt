@@ -16,9 +16,10 @@ use ids::{Config, Refusal, ReplicaTable};
 use std::alloc::{AllocError, Global};
 use std::marker::Model;
 
-/// Engines on one thread. Once a growth was refused the world has failed, and answers nothing else from then on.
+/// Engines on one thread, and the messages between them. If an allocation fails, the world is poisoned: every later call of `run`
+/// answers `AllocError`.
 ///
-/// Contracts see the engines of the definitions, how many steps were done, and whether the world has failed.
+/// Contracts see the engines of the definitions, how many steps were done, and whether the world is poisoned.
 #[derive(Debug, Drop)]
 pub struct World {
     engines: Vec<Engine>,
@@ -48,7 +49,7 @@ impl World {
     /// New engines, numbered from 0.
     ///
     /// # Errors
-    /// `BadConfig` where a configuration is outside the limits, else `NoMemory` if allocation fails.
+    /// `BadConfig` if a configuration is outside the limits, else `NoMemory` if allocation fails.
     pub fn new(alloc: Global, configs: &[Config]) -> Result<World, Refusal>
         ensures engines { IfOk result (λ w. world_of w ≡ opened configs.now) }
         ensures started { IfOk result (λ w. (w.done ≡ 0) × (w.failed ≡ false)) }
@@ -65,7 +66,7 @@ impl World {
         })
     }
 
-    /// The table of an engine's replicas, or nothing where there is no such engine.
+    /// The table of an engine's replicas, or `None` if there is no such engine.
     pub fn table(&self, engine: usize) -> Option<&ReplicaTable>
         ensures { option_map (λ table. table.now) result ≡ slice_get (tables_of self.now.engines) engine }
     {
@@ -75,10 +76,11 @@ impl World {
         }
     }
 
-    /// Runs the steps in order, and gives the reply to each. A step of an engine that isn't there replies Idle.
+    /// Runs the steps in order, and returns the reply to each. A step of an engine that isn't there replies `Idle`.
     ///
     /// # Errors
-    /// `AllocError` if allocation fails, and at each call after that: `steps_done` steps were done whole, and the next may be done in part, by its engine alone, which is between what it was and what the whole step makes of it.
+    /// `AllocError` if allocation fails, and at each call after that. `steps_done` steps were done whole; the next one may be done
+    /// in part, by its engine alone, which is then between what it was and what the whole step makes of it.
     pub fn run(&mut self, alloc: Global, steps: &[WorldStep]) -> Result<Vec<WorldReply>, AllocError>
         requires { All (IsAskedBeside (tables_of self.old.engines)) steps.now }
         ensures replies { IfOk result (λ rs. map reply_of rs.items ≡ replies_of (world_of self.old) (map (step_in (tables_of self.old.engines)) steps.now)) }
@@ -107,7 +109,7 @@ impl World {
         Ok(replies)
     }
 
-    /// How many steps were done whole, by all runs; a count that stays at 18446744073709551615.
+    /// How many steps were done whole, by all runs. Stays at 18446744073709551615.
     pub fn steps_done(&self) -> u64
         ensures { result ≡ self.now.done }
     {
@@ -115,7 +117,7 @@ impl World {
     }
 }
 
-/// Whether each configuration is within the limits.
+/// Tests whether each configuration is within the limits.
 fn check_all(configs: &[Config]) -> Result<(), Refusal>
     ensures ok { OnOk result (list_all is_within_limits configs.now ≡ true) }
     ensures err { IfErr result (λ why. (why ≡ BadConfig) × IsFalse (list_all is_within_limits configs.now)) }

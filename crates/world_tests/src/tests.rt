@@ -83,10 +83,10 @@ use Act::{
 use To::{Key as AtKey, Place};
 use Wrote::{List, Map, Null, Truth, Whole, Words};
 
-/// The numbers of a configuration beside its members: clients, readers, places of the queue, items of a batch, serials.
+/// The numbers of a configuration next to its members: clients, readers, capacity of the queue, batch, serials.
 type Sizes = (u32, u32, u32, u32, u32);
 
-/// An engine's number, its members and its sizes.
+/// An engine's own number, its members and its sizes.
 type Opening<'a> = (u32, &'a [u32], Sizes);
 
 fn config(alloc: Global, own: u32, members: &[u32], sizes: Sizes) -> Result<Config, Refusal> {
@@ -253,7 +253,7 @@ fn steps(alloc: Global, engine: usize, acts: &[Act]) -> Result<Vec<WorldStep>, R
     Ok(steps)
 }
 
-/// The vector of these counters, beside a table of so many replicas.
+/// The vector of these counters, for a table of this width.
 fn vector(alloc: Global, width: usize, counters: &[u64]) -> Result<VersionVector, Refusal>
     ensures { IfOk result (λ v. length v ≡ width) }
 {
@@ -298,7 +298,7 @@ fn row_steps(alloc: Global, engine: usize, rows: &[Row]) -> Result<Vec<WorldStep
     steps(alloc, engine, &acts)
 }
 
-/// The replies are those of the rows, the first of which has this number where a failure names it.
+/// Asserts that the replies are those of the rows. A failure names a row by its number, which is this one for the first.
 fn are_shown(
     rt: &impl Abort,
     alloc: Global,
@@ -313,7 +313,7 @@ fn are_shown(
     Ok(())
 }
 
-/// In one run, each act of the engine gets its reply. The first row has this number where a failure names it.
+/// Asserts the replies to the acts of the engine, in one run. A failure names a row by its number, which is this one for the first.
 fn replies_from(
     rt: &impl Abort,
     alloc: Global,
@@ -327,7 +327,7 @@ fn replies_from(
     are_shown(rt, alloc, first, &replies, rows)
 }
 
-/// In one run, each act of the engine gets its reply.
+/// Asserts the replies to the acts of the engine, in one run.
 fn replies(
     rt: &impl Abort,
     alloc: Global,
@@ -338,7 +338,7 @@ fn replies(
     replies_from(rt, alloc, world, engine, 0, rows)
 }
 
-/// In one run, each act of an engine, which is alone in its world and number 1 of these members, gets its reply.
+/// Asserts the replies to the acts of an engine, in one run. It is alone in its world and number 1 of these members.
 fn one_replies(
     rt: &impl Abort,
     alloc: Global,

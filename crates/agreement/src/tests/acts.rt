@@ -48,7 +48,7 @@ pub enum Act {
     Send,
 }
 
-/// What is asked of a document.
+/// What a document is asked for.
 #[derive(Clone, Copy, Debug)]
 pub enum Kind {
     Values,
@@ -80,7 +80,7 @@ impl Probe {
     }
 }
 
-/// So many acts, and then a peer is sent what both have.
+/// This many acts, and then what both have is sent to a peer.
 pub fn random_acts(alloc: Global, dice: Dice, count: u32) -> Result<Vec<Act>, Refusal> {
     let mut dice = dice;
     let mut acts = Vec::new(alloc);
@@ -92,7 +92,7 @@ pub fn random_acts(alloc: Global, dice: Dice, count: u32) -> Result<Vec<Act>, Re
     Ok(acts)
 }
 
-/// The next act of a play. Commands, operations and questions speak of few places, so that they meet.
+/// The next act of a play. Commands, operations and questions speak of few elements, so that they meet.
 fn next_act(alloc: Global, dice: &mut Dice) -> Result<Act, Refusal> {
     let client = dice.roll(CLIENTS) as usize;
     let token = dice.roll(CLIENTS + 1) as usize;
@@ -124,7 +124,7 @@ fn key(alloc: Global, dice: &mut Dice) -> Result<Key, Refusal> {
     Key::new(alloc, if dice.roll(2) == 0 { "a" } else { "b" })
 }
 
-/// A place at most two steps below the document.
+/// An expression of at most two steps.
 fn expression(alloc: Global, dice: &mut Dice) -> Result<Expr, Refusal> {
     let mut steps = Vec::new(alloc);
     for _ in 0..dice.roll(3) {
@@ -185,7 +185,7 @@ fn vector(alloc: Global, dice: &mut Dice) -> Result<VersionVector, Refusal> {
     Ok(deps)
 }
 
-/// The counter after these operations, or now and then a greater one.
+/// The counter after these operations, or sometimes a greater one.
 fn counter(deps: &VersionVector, dice: &mut Dice) -> u64 {
     let next = deps.greatest().saturating_add(1);
     if dice.roll(8) == 0 {

@@ -21,7 +21,7 @@ use std::test::Fail;
 use wire::write_op;
 use world::{World, WorldReply, WorldStep};
 
-/// An engine of replica 1 with so many places in its queue, whose steps take so many items.
+/// An engine of replica 1 with a queue of this capacity, whose steps take a batch of this size.
 fn config(alloc: Global, queue: u32, batch: u32) -> Result<Config, Fail> {
     let mut members = Vec::new(alloc);
     for replica in 1..=REPLICAS as u32 {
@@ -46,8 +46,8 @@ struct Engine<'a, N: EngineName> {
     reader: &'a mut ReaderToken<N>,
 }
 
-/// Plays these acts to a new world and a new engine, with so many places in their queues and such a batch. Fails where they say
-/// different things.
+/// Plays these acts on a new world and a new engine, with queues of this capacity and batches of this size. Fails where their answers
+/// differ.
 pub fn play<R: Wait + Abort>(
     rt: &R,
     alloc: Global,
@@ -87,7 +87,7 @@ fn play_in<N: EngineName, R: Wait + Abort>(
     same
 }
 
-/// Both say the same to each act.
+/// Plays an act on both, and asserts that they answer the same.
 fn act_on_both<N: EngineName, R: Wait + Abort>(
     rt: &R,
     alloc: Global,
@@ -102,7 +102,7 @@ fn act_on_both<N: EngineName, R: Wait + Abort>(
     Ok(())
 }
 
-/// Whether both say the same to an act.
+/// Plays an act on both: whether they answer the same.
 fn is_same<N: EngineName, R: Wait>(
     rt: &R,
     alloc: Global,
@@ -159,7 +159,7 @@ fn submit<N: EngineName, R: Wait>(
     Ok(is_same_ticket(&told, &ticket))
 }
 
-/// What a client of the engine of threads answers to a command.
+/// What a client of the engine of threads is answered to a command.
 fn submitted<N: EngineName, R: Wait>(
     rt: &R,
     alloc: Global,
@@ -198,7 +198,7 @@ fn deliver<N: EngineName, R: Wait>(
     Ok(is_same_receipt(&told, &ticket))
 }
 
-/// What a client of the engine of threads answers to an operation.
+/// What a client of the engine of threads is answered to an operation.
 fn delivered<N: EngineName, R: Wait>(
     rt: &R,
     alloc: Global,
@@ -248,7 +248,7 @@ fn step<N: EngineName, R: Wait>(
     Ok(is_same_step(&told, &stepped))
 }
 
-/// The engine steps, with a batch of one, and the world's takes, publishes and gives.
+/// The engine steps, with batches of one, and the world's engine takes, publishes and gives.
 fn single_steps<N: EngineName, R: Wait>(
     rt: &R,
     alloc: Global,
@@ -332,7 +332,7 @@ fn told(alloc: Global, world: &mut World, token: usize, probe: &Probe) -> Result
     reply(alloc, world, step)
 }
 
-/// Whether the world's reply is this answer, by a token that has seen so many entries.
+/// Whether the world's reply is this answer, by a token that has seen this many entries.
 fn is_same_answer(told: &WorldReply, read: &Result<Reading, Refusal>, length: u64) -> bool {
     match (told, read) {
         (WorldReply::Read { seen, reading, .. }, Ok(read)) => {
@@ -392,7 +392,7 @@ fn is_same_reading(one: &Reading, other: &Reading) -> bool {
     }
 }
 
-/// A token learns of an answer, where there is one.
+/// A token learns of an answer, if there is one.
 fn learn<N: EngineName>(
     alloc: Global,
     world: &mut World,
@@ -413,7 +413,7 @@ fn learn<N: EngineName>(
     Ok(is_same_lesson(&told, length))
 }
 
-/// How many entries a token has seen once it has learnt of a ticket's answer. `None` where there is no answer.
+/// How many entries a token has seen once it has learnt of a ticket's answer. `None` if there is no answer.
 fn learnt<N: EngineName>(
     engine: &mut Engine<N>,
     token: usize,

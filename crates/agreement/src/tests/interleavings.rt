@@ -1,9 +1,9 @@
 //! Two clients, a writer and a reader take their turns in every order.
 //!
-//! No test can force a schedule of threads, so each order is played on one thread: by an engine of threads, one call after
-//! another, and by a new world in the same order, whose writer takes, publishes and gives where the engine steps. All that both
-//! say is compared, and in the end what each token sees. Other calls don't come between the take, the publish and the answer of
-//! one step here, nor within any other call: the contracts speak of those.
+//! No test can force a schedule of threads, so each order is played on one thread: on an engine of threads, one call after another, and on
+//! a new world in the same order, whose writer takes, publishes and gives where the engine steps. All answers of both are compared, and at
+//! the end what each token sees. Other calls don't come between the take, the publish and the answer of one step here, nor within any
+//! other call: the contracts speak of those.
 
 use super::acts::{Act, Kind, Probe};
 use super::both::play;
@@ -81,7 +81,7 @@ fn polls_in_every_order(rt: HostRuntime) -> Result<(), Fail> {
     play_all(&rt, rt.alloc(), &TURNS, &mut order, 1_680)
 }
 
-/// Plays this order of the actors and all that come after it, which are so many.
+/// Plays this order of the actors and all that come after it, and asserts how many there are.
 fn play_all<R: Wait + Abort>(
     rt: &R,
     alloc: Global,
@@ -150,7 +150,7 @@ fn ask(alloc: Global, token: usize, kind: Kind, places: &[u64]) -> Result<Act, R
     })
 }
 
-/// The expression of the list, or of a place in it.
+/// The expression of the list, or of an index in it.
 fn at(alloc: Global, places: &[u64]) -> Result<Expr, Refusal> {
     let list = Hop::Get(Key::new(alloc, "l")?);
     let mut steps = vec![in alloc; list]?;

@@ -1,7 +1,7 @@
 //! Every order in which actors can take their turns.
 
-/// Turns an order into the next one, where orders are sorted by their first numbers, then by their second, and so on. Each number
-/// stands in it as often as before. False at the last order, which stays.
+/// Turns an order into the next one in lexicographic order. Each number occurs in it as often as before. False at the last order, which
+/// stays.
 pub fn next_order(order: &mut [usize]) -> bool {
     let Some(place) = last_rise(order) else {
         return false;
@@ -13,7 +13,7 @@ pub fn next_order(order: &mut [usize]) -> bool {
     true
 }
 
-/// The last place whose number is below the one behind it.
+/// The last index whose number is below the next one.
 fn last_rise(order: &[usize]) -> Option<usize> {
     let mut found = None;
     for (place, pair) in order.windows(2).enumerate() {
@@ -24,7 +24,7 @@ fn last_rise(order: &[usize]) -> Option<usize> {
     found
 }
 
-/// Swaps the number at a place with the last one behind it that is greater. None behind that one is.
+/// Swaps the number at an index with the last one behind it that is greater.
 fn swap_with_next_greater(order: &mut [usize], place: usize) {
     let mut with = place;
     for other in place..order.len() {

@@ -1,4 +1,4 @@
-//! What both engines send to a peer: an engine of threads as bytes, that of a world as values, which are written here.
+//! What both engines send to a peer: an engine of threads as bytes, a world's as values, which are written as bytes here.
 
 ghost use Rattle.world.specs.Worlds.{IsAskedBeside, tables_of};
 
@@ -21,7 +21,7 @@ const HELLOS: [&[u8]; 3] = [
     br#"["hello",[[1,1000],[2,1000],[3,1000]]]"#,
 ];
 
-/// Whether both say hello with the same line, and answer the same to each of the hellos: all that the first lacks is the history.
+/// Whether both send the same hello, and answer each of the hellos alike; the answer to the first of them is the whole history.
 pub fn send_the_same<N: EngineName>(
     alloc: Global,
     world: &mut World,

@@ -1,4 +1,4 @@
-//! Workers whose engine has no thread for its writer, behind gates that open or not.
+//! Workers whose engine has no thread for its writer, behind gates that open or don't.
 
 ghost use Rattle.std.specs.Prelude.{◌≡◌};
 ghost use Rattle.ids.specs.Members.{in_order};
@@ -12,7 +12,7 @@ use std::process::Abort;
 use std::sync::Wait;
 use value::Key;
 
-/// A gate that says the same to each number.
+/// A gate that gives each number the same answer.
 #[derive(Drop)]
 struct Always {
     says: Result<bool, Refusal>,
@@ -29,7 +29,7 @@ impl Gate for Always {
     }
 }
 
-/// What a worker with two commands ends with, and how many of them wait in the queue then.
+/// What a worker with two commands returns, and how many of them wait in the queue then.
 fn row<R: Wait + Abort>(
     rt: &R,
     alloc: Global,

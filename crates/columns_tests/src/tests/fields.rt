@@ -5,7 +5,7 @@ use std::alloc::Global;
 use std::process::Abort;
 use value::Key;
 
-/// Puts a field that isn't there.
+/// Puts a field that isn't there yet.
 fn put(alloc: Global, fields: &mut Fields, text: &str, number: usize) -> Result<(), Fail> {
     fields.reserve_one()?;
     let key = Key::new(alloc, text)?;
@@ -25,7 +25,7 @@ fn fields_of(alloc: Global, rows: &[(&str, usize)]) -> Result<Fields, Fail> {
     Ok(fields)
 }
 
-/// Compares the fields, in their order.
+/// Asserts the fields, in order.
 fn assert_fields(rt: &impl Abort, fields: &Fields, want: &[(&str, usize)]) {
     assert_eq!(rt; fields.len(), want.len());
     for (place, row) in want.iter().enumerate() {
@@ -34,7 +34,7 @@ fn assert_fields(rt: &impl Abort, fields: &Fields, want: &[(&str, usize)]) {
     }
 }
 
-/// Compares the number of each key.
+/// Asserts the number of each key.
 fn assert_got(
     rt: &impl Abort,
     alloc: Global,

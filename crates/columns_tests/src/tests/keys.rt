@@ -1,14 +1,14 @@
-//! Keys in byte order, and how many a search looks at.
+//! Keys in byte order, and how many keys a search compares.
 
 use super::*;
 use std::alloc::Global;
 use std::process::Abort;
 use value::Key;
 
-/// The probes that were counted before a search, the most that may be.
+/// The greatest count of probes that a search may start from.
 const BEFORE: u64 = 18_446_744_073_709_551_551;
 
-/// Puts a key that isn't there.
+/// Puts a key that isn't there yet.
 fn put(alloc: Global, keys: &mut SortedKeys, text: &str) -> Result<(), Fail> {
     keys.reserve_one()?;
     let key = Key::new(alloc, text)?;
@@ -37,7 +37,7 @@ fn put_number(alloc: Global, keys: &mut SortedKeys, number: usize) -> Result<(),
     put(alloc, keys, text.as_str())
 }
 
-/// So many keys, each a number of four digits.
+/// This many keys, each a number of four digits.
 fn numbered(alloc: Global, count: usize) -> Result<SortedKeys, Fail> {
     let mut keys = SortedKeys::new(alloc);
     for number in 0..count {
@@ -46,7 +46,7 @@ fn numbered(alloc: Global, count: usize) -> Result<SortedKeys, Fail> {
     Ok(keys)
 }
 
-/// How many keys a search looks at.
+/// How many keys a search compares.
 fn probes_for(alloc: Global, keys: &SortedKeys, text: &str) -> Result<u64, Fail> {
     let key = Key::new(alloc, text)?;
     let mut probes = BEFORE;
@@ -54,7 +54,7 @@ fn probes_for(alloc: Global, keys: &SortedKeys, text: &str) -> Result<u64, Fail>
     Ok(probes - BEFORE)
 }
 
-/// Compares the keys in their order, each with how many were put before it.
+/// Asserts the keys in order, each with how many were put before it.
 fn assert_keys(rt: &impl Abort, keys: &SortedKeys, want: &[(&str, usize)]) {
     assert_eq!(rt; keys.len(), want.len());
     for (place, row) in want.iter().enumerate() {
@@ -63,7 +63,7 @@ fn assert_keys(rt: &impl Abort, keys: &SortedKeys, want: &[(&str, usize)]) {
     }
 }
 
-/// Compares the place of each key, or the one to which it goes.
+/// Asserts the position of each key, or where it would be inserted.
 fn assert_found(
     rt: &impl Abort,
     alloc: Global,
@@ -78,7 +78,7 @@ fn assert_found(
     Ok(())
 }
 
-/// Searches for each text look at so many keys at most.
+/// Asserts that a search for each text compares at most this many keys.
 fn assert_few_probes(
     rt: &impl Abort,
     alloc: Global,
@@ -93,7 +93,7 @@ fn assert_few_probes(
     Ok(())
 }
 
-/// Searches among so many keys look at so many at most.
+/// Asserts that each search among `count` keys compares at most `most`.
 fn assert_most_probes(rt: &impl Abort, alloc: Global, count: usize, most: u64) -> Result<(), Fail> {
     let keys = numbered(alloc, count)?;
     assert_eq!(rt; keys.len(), count);

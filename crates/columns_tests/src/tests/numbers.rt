@@ -32,7 +32,7 @@ fn get(numbers: &Numbers, pair: Pair) -> Result<Option<usize>, Fail> {
     Ok(numbers.get(&id))
 }
 
-/// The number of an id that is looked for near a place, and the place that is near then.
+/// The number of an id that is looked for near a position, and the position that is near then.
 fn get_near(numbers: &Numbers, pair: Pair, from: usize) -> Result<(Option<usize>, usize), Fail> {
     let id = id_of(pair)?;
     let mut near = from;
@@ -40,7 +40,7 @@ fn get_near(numbers: &Numbers, pair: Pair, from: usize) -> Result<(Option<usize>
     Ok((number, near))
 }
 
-/// Takes an id out, and answers its number.
+/// Removes an id, and returns its number.
 fn remove(numbers: &mut Numbers, pair: Pair) -> Result<Option<usize>, Fail> {
     let id = id_of(pair)?;
     Ok(numbers.remove(&id))
@@ -51,7 +51,7 @@ fn row_of(entry: &(OpId, usize)) -> Row {
     (pair_of(entry.0), entry.1)
 }
 
-/// Compares the entries in their order, and the number of each id.
+/// Asserts the entries in order, and the number of each id.
 fn assert_rows(rt: &impl Abort, numbers: &Numbers, want: &[Row]) -> Result<(), Fail> {
     assert_eq!(rt; numbers.len(), want.len(), "of {want:?}");
     for (place, row) in want.iter().enumerate() {
@@ -63,7 +63,7 @@ fn assert_rows(rt: &impl Abort, numbers: &Numbers, want: &[Row]) -> Result<(), F
     Ok(())
 }
 
-/// None of these ids has a number.
+/// Asserts that none of these ids has a number.
 fn assert_absent(rt: &impl Abort, numbers: &Numbers, pairs: &[Pair]) -> Result<(), Fail> {
     for pair in pairs {
         assert_eq!(rt; get(numbers, *pair)?, None, "of {pair:?}");
@@ -71,7 +71,7 @@ fn assert_absent(rt: &impl Abort, numbers: &Numbers, pairs: &[Pair]) -> Result<(
     Ok(())
 }
 
-/// Compares the entries whose ids have a greater counter than this.
+/// Asserts the entries whose ids have a greater counter than this.
 fn assert_above(rt: &impl Abort, numbers: &Numbers, counter: u64, want: &[Row]) {
     let above = numbers.above(counter);
     assert_eq!(rt; above.len(), want.len(), "above {counter}");
@@ -80,7 +80,7 @@ fn assert_above(rt: &impl Abort, numbers: &Numbers, counter: u64, want: &[Row]) 
     }
 }
 
-/// Compares the number of each id, looked for near a place, and the place that is near then.
+/// Asserts the number of each id that is looked for near a position, and the position that is near then.
 fn assert_near(
     rt: &impl Abort,
     numbers: &Numbers,
@@ -97,14 +97,14 @@ fn assert_near(
     Ok(())
 }
 
-/// Puts numbers in this order, and compares them.
+/// Puts numbers in this order, and asserts the entries.
 fn assert_put(rt: &impl Abort, alloc: Global, given: &[Row], want: &[Row]) -> Result<(), Fail> {
     let numbers = numbers_of(alloc, given)?;
     assert_rows(rt, &numbers, want)?;
     assert_absent(rt, &numbers, &[(0, 9), (1, 3), (2, 2), (9, 9), (11, 1)])
 }
 
-/// Takes an id out of the first three, which had this number, and compares what is left.
+/// Removes an id from the first three, which had this number, and asserts what is left.
 fn assert_left(
     rt: &impl Abort,
     alloc: Global,

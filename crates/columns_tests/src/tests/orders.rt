@@ -4,7 +4,7 @@ use super::*;
 use std::alloc::Global;
 use std::process::Abort;
 
-/// An item, and the one after which it is put. Where there is none, it is put after the head.
+/// An item, and the one that it is put after; `None` stands for the head.
 type Row = (Option<Pair>, Pair);
 
 /// Puts an item.
@@ -52,7 +52,7 @@ fn items(alloc: Global, order: &ListOrder) -> Result<Vec<Pair>, Fail> {
     Ok(items)
 }
 
-/// The same, by the iterator.
+/// The items, by the iterator.
 fn iterated(alloc: Global, order: &ListOrder) -> Result<Vec<Pair>, Fail> {
     let mut items = Vec::new(alloc);
     for id in order.iter() {
@@ -61,7 +61,7 @@ fn iterated(alloc: Global, order: &ListOrder) -> Result<Vec<Pair>, Fail> {
     Ok(items)
 }
 
-/// Compares the items, by the links and by the iterator.
+/// Asserts the items, by the links and by the iterator.
 fn assert_items(
     rt: &impl Abort,
     alloc: Global,
@@ -75,14 +75,14 @@ fn assert_items(
     Ok(())
 }
 
-/// Asks for what is no item.
+/// Asserts that an id is no item.
 fn assert_absent(rt: &impl Abort, order: &ListOrder, pair: Pair) -> Result<(), Fail> {
     let id = id_of(pair)?;
     assert_eq!(rt; (order.contains(&id), order.next(Some(id))), (false, None));
     Ok(())
 }
 
-/// Puts items in this order, and compares the list.
+/// Puts items in this order, and asserts the list.
 fn assert_order(rt: &impl Abort, alloc: Global, given: &[Row], want: &[Pair]) -> Result<(), Fail> {
     let order = order_of(alloc, given)?;
     assert_eq!(rt; order.len(), want.len(), "of {want:?}");

@@ -25,7 +25,7 @@ fn vector(alloc: Global, counters: [u64; 2]) -> Result<VersionVector, Fail>
     Ok(vector)
 }
 
-/// Puts an entry, where the table has two replicas, numbered from 1.
+/// Puts an entry, for a table of two replicas, numbered from 1.
 fn put<T: Drop>(entries: &mut ById<T>, pair: Pair, value: T) -> Result<(), Fail>
     requires { All (λ place. place < 2) entries.old.indices }
     ensures { All (λ place. place < 2) entries.new.indices }
@@ -59,7 +59,7 @@ fn presence(alloc: Global, rows: &[(Pair, Tag)]) -> Result<Presence, Fail>
     Ok(presence)
 }
 
-/// An entry as a row, if a whole number stands there.
+/// An entry as a row, if its value is a whole number.
 fn row_of(id: OpId, scalar: &Scalar) -> Option<Row> {
     match scalar {
         Scalar::Whole(whole) => Some((pair_of(id), *whole)),
@@ -67,7 +67,7 @@ fn row_of(id: OpId, scalar: &Scalar) -> Option<Row> {
     }
 }
 
-/// Compares the entries of a register, in their order.
+/// Asserts the entries of a register, in order.
 fn assert_rows(rt: &impl Abort, register: &Register, want: &[Row]) {
     assert_eq!(rt; register.len(), want.len(), "of {want:?}");
     for (place, row) in want.iter().enumerate() {
@@ -76,14 +76,14 @@ fn assert_rows(rt: &impl Abort, register: &Register, want: &[Row]) {
     }
 }
 
-/// Puts whole numbers in this order, and compares what the register then holds.
+/// Puts whole numbers in this order, and asserts what the register then holds.
 fn assert_put(rt: &impl Abort, alloc: Global, given: &[Row], want: &[Row]) -> Result<(), Fail> {
     let register = register(alloc, given)?;
     assert_rows(rt, &register, want);
     Ok(())
 }
 
-/// Clears the four by the vector of these counters, and compares what is left.
+/// Clears the four by the vector of these counters, and asserts what is left.
 fn assert_left(
     rt: &impl Abort,
     alloc: Global,
@@ -97,7 +97,7 @@ fn assert_left(
     Ok(())
 }
 
-/// Compares the tags of a presence, in their order.
+/// Asserts the tags of a presence, in order.
 fn assert_tags(rt: &impl Abort, presence: &Presence, want: &[Tag]) {
     assert_eq!(rt; presence.len(), want.len());
     for (place, tag) in want.iter().enumerate() {
@@ -105,7 +105,7 @@ fn assert_tags(rt: &impl Abort, presence: &Presence, want: &[Tag]) {
     }
 }
 
-/// Puts tags in this order, clears them by the vector of these counters, and compares what is left.
+/// Puts tags in this order, clears them by the vector of these counters, and asserts what is left.
 fn assert_tags_left(
     rt: &impl Abort,
     alloc: Global,

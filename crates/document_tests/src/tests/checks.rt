@@ -1,4 +1,4 @@
-//! What received operations are refused for.
+//! Why received operations are refused.
 
 use super::playing::Does::{Assign, Delete};
 use super::playing::Hop::{Field, Item};

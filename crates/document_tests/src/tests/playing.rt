@@ -1,6 +1,6 @@
-//! What is done with a document in a test, as rows, and what plays them.
+//! What is done with a document in a test, as a table of turns, and what plays it.
 //!
-//! A call that is refused memory leaves the document as it was, and is made once more. So a test of rows passes whichever single
+//! A call whose allocation is refused leaves the document as it was, and is made once more. So such a test passes whichever single
 //! allocation is refused; with none refused, nothing is called again.
 
 ghost use Rattle.std.specs.Prelude.{◌≡◌, None, IsTrue, IfOk, OnOk, length};
@@ -40,7 +40,7 @@ pub enum Hop<'a> {
 pub enum Step<'a> {
     /// To the field with this key of the map here.
     Get(&'a str),
-    /// To the item at this place of the list here, from 1 on.
+    /// To the item with this index in the list here, from 1 on.
     Idx(u64),
 }
 
@@ -64,14 +64,14 @@ pub enum Does<'a> {
 /// A peer's operation: its id, the counters of the replicas 1, 2 and 3 in its vector, its place, and what it does there.
 pub type Sent<'a> = (Pair, [u64; 3], &'a [Hop<'a>], Does<'a>);
 
-/// Something that is done with a document, and what it answers.
+/// One turn: something that is done with a document, or a question with its answer.
 #[derive(Clone, Copy)]
 pub enum Turn<'a> {
     /// Takes an operation that passes each test.
     Take(Sent<'a>),
-    /// What is wrong with an operation that is ready, and isn't wrong alone.
+    /// The fault of an operation that is ready and has none alone.
     Check(Sent<'a>, Result<(), Refusal>),
-    /// An operation whose vector is indexed by the table, and that isn't ready.
+    /// An operation whose vector is as wide as the table, and that isn't ready.
     Waits(Sent<'a>),
     /// Whether one with this id was applied.
     Has(Pair, bool),
@@ -85,7 +85,7 @@ pub enum Turn<'a> {
     Items(&'a [Step<'a>], &'a [Pair]),
     /// The ids of what stands there, each with its tag.
     Conflicts(&'a [Step<'a>], &'a [(Pair, Tag)]),
-    /// The operations that a vector of these counters doesn't cover, by a call and by a question.
+    /// The operations that a vector of these counters doesn't cover, by `missing` and by a question.
     Missing([u64; 3], &'a [Pair]),
     /// The greatest counter that was applied.
     Greatest(u64),
@@ -144,7 +144,7 @@ fn mutation(alloc: Global, does: Does) -> Result<Mutation, Refusal> {
     })
 }
 
-/// The operation, or `NoMemory` where an allocation is refused.
+/// The operation, or `NoMemory` if an allocation is refused.
 fn try_op(alloc: Global, sent: Sent) -> Result<Op, Refusal> {
     let (pair, counters, hops, does) = sent;
     let id = id_of(pair)?;
@@ -156,7 +156,7 @@ fn try_op(alloc: Global, sent: Sent) -> Result<Op, Refusal> {
     })
 }
 
-/// The operation, at the second attempt where the first is refused memory.
+/// The operation, at the second attempt if an allocation of the first is refused.
 fn op(alloc: Global, sent: Sent) -> Result<Op, Refusal> {
     match try_op(alloc, sent) {
         Err(Refusal::NoMemory) => try_op(alloc, sent),
@@ -164,7 +164,7 @@ fn op(alloc: Global, sent: Sent) -> Result<Op, Refusal> {
     }
 }
 
-/// Whether nothing is wrong with the operation alone.
+/// Whether the operation has no fault alone.
 fn stands_alone(document: &Document, op: &Op) -> bool
     ensures alone { IsTrue result → fault_alone document.now.table op.now ≡ None }
     ensures member { IsTrue result → IsTrue (is_member document.now.table op.now.id.replica) }
@@ -173,7 +173,7 @@ fn stands_alone(document: &Document, op: &Op) -> bool
     check_alone(op, document.table()).is_ok()
 }
 
-/// What is wrong with an operation that is ready, and isn't wrong alone.
+/// The fault of an operation that is ready and has none alone.
 fn check(rt: &impl Abort, document: &Document, op: &Op) -> Result<(), Refusal>
     ensures lawful { OnOk result (MayFollow (applied document.now.entries) (stamped_of document.now.table op.now)) }
     ensures member { IsTrue (is_member document.now.table op.now.id.replica) }
@@ -184,7 +184,7 @@ fn check(rt: &impl Abort, document: &Document, op: &Op) -> Result<(), Refusal>
     document.check(op)
 }
 
-/// Takes the memory for an operation, at the second attempt where the first is refused. A refusal changes no content.
+/// Reserves an operation, at the second attempt if an allocation of the first is refused. A refusal changes no content.
 fn reserve(
     rt: &impl Abort,
     alloc: Global,
@@ -217,7 +217,7 @@ fn take(
     Ok(())
 }
 
-/// Compares what is wrong with an operation that is ready, and isn't wrong alone.
+/// Asserts the fault of an operation that is ready and has none alone.
 fn assert_check(
     rt: &impl Abort,
     alloc: Global,
@@ -231,7 +231,7 @@ fn assert_check(
     Ok(())
 }
 
-/// Whether an operation has a vector beside the table, and isn't ready.
+/// Whether an operation has a vector as wide as the table, and isn't ready.
 fn waits(document: &Document, op: &Op) -> bool {
     op.deps.width() == document.table().len() && !document.ready(op)
 }
@@ -254,7 +254,7 @@ fn expr(alloc: Global, path: &[Step]) -> Result<Expr, Refusal> {
     Ok(Expr::new(steps))
 }
 
-/// The vector of these counters, which stands beside the document's table.
+/// The vector of these counters, as wide as the document's table.
 fn beside(alloc: Global, document: &Document, counters: [u64; 3]) -> Result<VersionVector, Refusal>
     ensures { IfOk result (λ v. length v ≡ length document.now.table) }
 {
@@ -279,13 +279,13 @@ fn question(alloc: Global, document: &Document, turn: Turn) -> Result<Question, 
     })
 }
 
-/// What the document answers, or `NoMemory` where an allocation is refused.
+/// What the document answers, or `NoMemory` if an allocation is refused.
 fn try_ask(alloc: Global, document: &Document, turn: Turn) -> Result<Reading, Refusal> {
     let question = question(alloc, document, turn)?;
     document.ask(alloc, &question)
 }
 
-/// What the document answers, at the second attempt where the first is refused memory.
+/// What the document answers, at the second attempt if an allocation of the first is refused.
 fn ask(alloc: Global, document: &Document, turn: Turn) -> Result<Reading, Refusal> {
     match try_ask(alloc, document, turn) {
         Err(Refusal::NoMemory) => try_ask(alloc, document, turn),
@@ -370,7 +370,7 @@ fn is_wanted(reading: &Reading, turn: Turn) -> bool {
     }
 }
 
-/// Compares what the document answers.
+/// Asserts what the document answers.
 fn assert_answer(
     rt: &impl Abort,
     alloc: Global,
@@ -382,13 +382,13 @@ fn assert_answer(
     Ok(())
 }
 
-/// The operations that a vector of these counters doesn't cover, or `NoMemory` where an allocation is refused.
+/// The operations that a vector of these counters doesn't cover, or `NoMemory` if an allocation is refused.
 fn try_missing(alloc: Global, document: &Document, counters: [u64; 3]) -> Result<Vec<Op>, Refusal> {
     let vector = beside(alloc, document, counters)?;
     Ok(document.missing(alloc, &vector)?)
 }
 
-/// The operations that a vector of these counters doesn't cover, at the second attempt where the first is refused memory.
+/// The operations that a vector of these counters doesn't cover, at the second attempt if an allocation of the first is refused.
 fn missing(alloc: Global, document: &Document, counters: [u64; 3]) -> Result<Vec<Op>, Refusal> {
     match try_missing(alloc, document, counters) {
         Err(Refusal::NoMemory) => try_missing(alloc, document, counters),
@@ -396,7 +396,7 @@ fn missing(alloc: Global, document: &Document, counters: [u64; 3]) -> Result<Vec
     }
 }
 
-/// Compares the operations that a vector doesn't cover, by a call and by a question.
+/// Asserts the operations that a vector doesn't cover, by `missing` and by a question.
 fn assert_missing(
     rt: &impl Abort,
     alloc: Global,
@@ -410,7 +410,7 @@ fn assert_missing(
     assert_answer(rt, alloc, document, turn)
 }
 
-/// Does a turn, which goes as it says.
+/// Plays a turn.
 fn take_turn(
     rt: &impl Abort,
     alloc: Global,
@@ -441,7 +441,7 @@ fn take_turn(
     }
 }
 
-/// Takes these operations, and then does these turns.
+/// Takes these operations, and then plays these turns.
 fn play(
     rt: &impl Abort,
     alloc: Global,
@@ -458,7 +458,7 @@ fn play(
     Ok(())
 }
 
-/// A document of the replicas 1, 2 and 3, at the second attempt where the first is refused memory.
+/// A document of the replicas 1, 2 and 3, at the second attempt if an allocation of the first is refused.
 fn empty(alloc: Global) -> Result<Document, Refusal> {
     match Document::new(alloc, &[1, 2, 3]) {
         Err(Refusal::NoMemory) => Document::new(alloc, &[1, 2, 3]),
@@ -466,7 +466,7 @@ fn empty(alloc: Global) -> Result<Document, Refusal> {
     }
 }
 
-/// A new document of the replicas 1, 2 and 3 takes these operations, and then does these turns.
+/// A new document of the replicas 1, 2 and 3 takes these operations; then these turns are played.
 pub fn on_new(rt: &impl Abort, alloc: Global, ops: &[Sent], turns: &[Turn]) -> Result<(), Fail> {
     let mut document = empty(alloc)?;
     play(rt, alloc, &mut document, ops, turns)?;

@@ -1,4 +1,4 @@
-//! Calls that are refused memory leave the document as it was, and answer as ever once they get it.
+//! A call whose allocation is refused leaves the document as it was, and answers as ever when it is called again.
 //!
 //! To be run with each allocation refused in turn (`tests/refused_memory.sh`): what is refused is called once more, so each run
 //! passes.

@@ -1,9 +1,9 @@
 //! The atomic steps of an engine in every order that a small case allows.
 //!
-//! Where a batch has one item, a step of the writer takes it, publishes, and sets its answer; a client's submission is a push,
-//! its poll a get, and a question is an enter. No test can force a schedule of threads. So these steps are done here on one
-//! thread, in each order of two clients, a writer and a reader, and each has to answer what counting tells: how many items were
-//! pushed, taken, published and answered.
+//! Where a batch has one item, a step of the writer takes it, publishes, and sets its answer; a client's submission is a push, its poll
+//! a get, and a question is an enter. No test can force a schedule of threads. So these steps are done here on one thread, in each order
+//! of two clients, a writer and a reader, and each answer is compared with what counting says: how many items were pushed, taken,
+//! published and answered.
 
 mod schedules;
 
@@ -26,7 +26,7 @@ use std::process::Abort;
 use std::test::Fail;
 use value::{Key, Scalar, Val};
 
-/// An atomic step, and who does it.
+/// An atomic step, and whose it is.
 #[derive(Clone, Copy)]
 enum Atomic {
     /// A client pushes an item. The n-th item in the queue's order assigns n at the one key.
@@ -55,7 +55,7 @@ const TWO_STEPS: &[Atomic] = &[
     Atomic::Set,
 ];
 
-/// What follows each order: two more steps of the writer, and then all look.
+/// What follows each order: two more steps of the writer, and then everyone looks.
 const LAST: &[Atomic] = &[
     Atomic::Take,
     Atomic::Publish,
@@ -106,7 +106,7 @@ fn polls_in_every_order(rt: HostRuntime) -> Result<(), Fail> {
     play_all(&rt, rt.alloc(), &TURNS, 13_860)
 }
 
-/// Plays every schedule of these turns, which are so many.
+/// Plays every schedule of these turns, and asserts how many there are.
 fn play_all<R: Wait + Abort>(rt: &R, alloc: Global, turns: &Turns, count: u32) -> Result<(), Fail> {
     let mut choices = Vec::new(alloc);
     for number in 1..=count {
@@ -117,7 +117,7 @@ fn play_all<R: Wait + Abort>(rt: &R, alloc: Global, turns: &Turns, count: u32) -
     Ok(())
 }
 
-/// Opens an engine, and does these atomic steps with it, and the last ones.
+/// Opens an engine, and does these atomic steps on it, and the last ones.
 fn play<R: Wait + Abort>(rt: &R, alloc: Global, steps: &[Atomic]) -> Result<(), Fail> {
     let parts = prepare(
         alloc,
@@ -176,7 +176,7 @@ fn play_with<N: EngineName, R: Wait + Abort>(
     Ok(())
 }
 
-/// Pushes the next item, which is refused just where the queue is full.
+/// Pushes the next item, and asserts that it is refused exactly if the queue is full.
 fn push<N: EngineName, R: Wait + Abort>(
     rt: &R,
     alloc: Global,
@@ -248,7 +248,7 @@ fn set<N: EngineName>(writer: &mut Writer<N>, counted: &mut Counted) -> Result<(
     Ok(())
 }
 
-/// Polls for each item of a client: the n-th of all that were pushed made the n-th entry, once it is answered.
+/// Polls for each item of a client, and asserts that the n-th of all that were pushed made the n-th entry, once it is answered.
 fn get<N: EngineName, R: Abort>(
     rt: &R,
     clients: &mut Vec<Client<N>>,
@@ -285,7 +285,7 @@ fn made_at<N: EngineName>(
     }
 }
 
-/// The number at the key, 0 where nothing was assigned.
+/// The number at the key, 0 if nothing was assigned.
 fn number<N: EngineName>(alloc: Global, reader: &mut Seat<N>) -> Result<usize, Fail> {
     let Reading::Values(values) = reader.ask(alloc, &Question::Values(at_key(alloc)?))? else {
         return Err("no values".into());

@@ -39,7 +39,7 @@ fn one_left<N: EngineName, R: Wait + Abort>(rt: &R, alloc: Global, parts: Parts)
     Ok(())
 }
 
-/// One item is left, and the entry of the other stands in the history.
+/// Asserts that one item is left, and that the entry of the other is in the history.
 fn assert_one_left<A: Abort>(rt: &A, last: &Final) {
     assert_eq!(rt; last.left, 1);
     assert_eq!(rt; last.history.len(), 1);

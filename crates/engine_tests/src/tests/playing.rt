@@ -1,4 +1,4 @@
-//! What is done with an engine in a test, as rows, and what plays them.
+//! What is done with an engine in a test, as a table of turns, and what plays it.
 
 ghost use Rattle.std.specs.Prelude.{◌≡◌};
 ghost use Rattle.ids.specs.Members.{in_order};
@@ -23,7 +23,7 @@ pub enum Token {
     Reader,
 }
 
-/// What a poll answers.
+/// The answer to a poll.
 #[derive(Clone, Copy, Debug, PartialEq, Eq)]
 pub enum Told {
     Nothing,
@@ -35,14 +35,14 @@ pub enum Told {
     Foreign,
 }
 
-/// Something that is done with an engine, and what it answers.
+/// One turn: something that is done with an engine, and its answer.
 #[derive(Clone, Copy, Debug)]
 pub enum Turn {
     /// A client assigns a number at the key `a`: the serial of its ticket.
     Assign(usize, i64, Result<u64, Refusal>),
-    /// A client assigns so many numbers, from 1 on, at the key `a`.
+    /// A client assigns this many numbers, from 1 on, at the key `a`.
     AssignAll(usize, u32),
-    /// A client deletes at the head of a list, which no place of a command may be.
+    /// A client deletes at the head of a list, where no delete may stand.
     DeleteHead(usize, Result<u64, Refusal>),
     /// A client delivers the operation of replica 2 with this counter, which assigns its counter at the key `b` and
     /// depends on all its earlier ones.
@@ -51,11 +51,11 @@ pub enum Turn {
     Step(Step),
     /// A client polls the ticket of this client and serial.
     Poll(usize, (usize, u64), Told),
-    /// A token reads the number at a key, and has seen so many entries then.
+    /// A token reads the number at a key, and has seen this many entries then.
     Read(Token, &'static str, Option<i64>, usize),
-    /// A token reads the keys of the document, which are so many, and has seen so many entries then.
+    /// A token reads the keys of the document, how many there are, and has seen this many entries then.
     Keys(Token, usize, usize),
-    /// A token learns the notice of this client's serial, and has seen so many entries then.
+    /// A token learns the notice of this client's serial, and has seen this many entries then.
     Learn(Token, (usize, u64), usize),
 }
 
@@ -67,7 +67,7 @@ pub struct Stage<'a, N: EngineName> {
     pub reader: &'a mut ReaderToken<N>,
 }
 
-/// Opens an engine of this configuration, and does these turns with it.
+/// Opens an engine of this configuration, and plays these turns on it.
 pub fn on_new<R: Wait + Abort>(
     rt: &R,
     alloc: Global,
@@ -114,7 +114,7 @@ fn with_reader<N: EngineName, R: Wait + Abort>(
     Ok(())
 }
 
-/// Does a turn.
+/// Plays a turn.
 fn take_turn<N: EngineName, R: Wait + Abort>(
     rt: &R,
     alloc: Global,

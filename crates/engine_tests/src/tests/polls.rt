@@ -1,4 +1,4 @@
-//! What tickets are answered, and what tokens have seen then.
+//! What polls answer, and what tokens have seen then.
 
 use super::playing::{Token, Told, Turn, on_new};
 use super::*;
@@ -124,7 +124,7 @@ fn serials_end(rt: HostRuntime) -> Result<(), Fail> {
         config,
         &[
             Turn::Assign(0, 1, Ok(1)),
-            // The queue is full too, which is looked at later.
+            // The queue is full too, which is tested later.
             Turn::Assign(0, 2, Err(Refusal::SerialEnd)),
             Turn::Assign(1, 2, Err(Refusal::QueueFull)),
             Turn::Step(Step::Published(1)),

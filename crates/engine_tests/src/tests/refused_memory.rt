@@ -1,4 +1,4 @@
-//! Calls that are refused memory change nothing, and answer as ever once they get it.
+//! A call whose allocation is refused changes nothing, and answers as ever when it is called again.
 //!
 //! To be run with each allocation refused in turn (`tests/refused_memory.sh`): what is refused is called once more, so each run passes.
 
@@ -17,7 +17,7 @@ use std::sync::Wait;
 use value::{Key, Scalar, Val};
 use version::VersionVector;
 
-/// What is made, at the second attempt where the first is refused.
+/// What is made, at the second attempt if the first is refused.
 fn again<T: Drop, F: Fn() -> Result<T, Refusal>>(make: F) -> Result<T, Refusal>
     requires { F.IsAlwaysCallable make }
 {
@@ -58,7 +58,7 @@ fn an_engine_goes_on(rt: HostRuntime) -> Result<(), Fail> {
     Err("not opened at the second attempt".into())
 }
 
-/// Whether the engine was opened; then both plays were played.
+/// Whether the engine was opened. If so, both plays were played.
 fn opened<N: EngineName, R: Wait + Abort>(rt: &R, alloc: Global, parts: Parts) -> Result<bool, Fail>
     requires book { parts.opened.seen.book ≡ N.book }
     requires own { parts.config.own ≡ N.own }
@@ -121,7 +121,7 @@ fn write_four<N: EngineName, R: Wait + Abort>(
     write_again_what_was_refused(rt, alloc, writer, client)
 }
 
-/// Steps, once more where the first step is held, so that so many are answered.
+/// Steps, once more if the first step is held, and asserts how many are answered.
 fn publish<N: EngineName, R: Wait + Abort>(
     rt: &R,
     alloc: Global,
@@ -161,7 +161,7 @@ fn answer<N: EngineName>(client: &mut Client<N>, serial: u64) -> Result<Option<R
     Ok(client.poll(&ticket)?)
 }
 
-/// At most one of four commands was answered that there is no memory. The number 4 is written last in any case.
+/// Asserts that at most one of four commands was answered with `NoMemory`, and submits it again. The number 4 is written last in any case.
 fn write_again_what_was_refused<N: EngineName, R: Wait + Abort>(
     rt: &R,
     alloc: Global,
@@ -209,7 +209,7 @@ fn deliver_two<N: EngineName, R: Wait + Abort>(
     Ok(())
 }
 
-/// Delivers an operation, again where there was no memory for it.
+/// Delivers an operation, again if an allocation failed.
 fn deliver_until_taken<N: EngineName, R: Wait + Abort>(
     rt: &R,
     alloc: Global,

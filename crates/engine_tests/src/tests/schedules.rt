@@ -1,4 +1,4 @@
-//! Threads that meet as often as they can: a reader that never pauses, and clients that crowd a queue of one place.
+//! Threads that contend: a reader that never pauses, and clients that crowd a queue of capacity 1.
 
 ghost use Rattle.std.specs.Prelude.{◌≡◌};
 ghost use Rattle.ids.specs.Members.{in_order};
@@ -16,12 +16,12 @@ use value::{Scalar, Val};
 /// How many turns a thread may take, before it gives up.
 const MOST_TURNS: u32 = 10_000_000;
 
-/// How many items the list has that is read, and how often it is published after that.
+/// How many items the list has that is read, and how many publishes come after that.
 const ITEMS: usize = 500;
 
 const PUBLISHES: u32 = 1_000;
 
-/// How many entries there are in the end: one makes the list.
+/// How many entries there are at the end: one makes the list.
 const ENTRIES: usize = 1_501;
 
 /// How many clients write, and how many commands each of them submits.
@@ -29,7 +29,7 @@ const CLIENTS: usize = 8;
 
 const EACH: u32 = 100;
 
-/// How many that is in all.
+/// How many commands that is in all.
 const SUBMITTED: usize = 800;
 
 /// How a thread ended.
@@ -41,7 +41,7 @@ enum Ended {
     SawLess,
     /// It was shown another list.
     AnotherList,
-    /// A step of the writer answered another number of items.
+    /// A step of the writer answered another number of submissions.
     AnotherStep,
     TooManyTurns,
 }
@@ -223,7 +223,7 @@ fn crowd<N: EngineName + Send + Sync, R: Threads + Wait + Abort + Sync>(
     Ok(())
 }
 
-/// What all clients submitted is published, each client's in its order, and nothing is left.
+/// Asserts that all that the clients submitted is published, each client's in order, and that nothing is left.
 fn assert_whole<R: Abort>(rt: &R, last: &Final) {
     assert_eq!(rt; last.left, 0);
     assert_eq!(rt; last.history.len(), SUBMITTED);
@@ -232,7 +232,7 @@ fn assert_whole<R: Abort>(rt: &R, last: &Final) {
     }
 }
 
-/// All clients write at once; then a reader that never asked learns of it.
+/// All clients write at once; then a reader that never asked learns of the result.
 fn write_and_learn<N: EngineName + Send + Sync, R: Threads + Wait + Abort + Sync>(
     rt: &R,
     alloc: Global,
@@ -262,7 +262,7 @@ fn write_at_once<N: EngineName + Send + Sync, R: Threads + Wait + Sync>(
                 clients,
                 CLIENTS,
                 &|_: usize, client: &mut Client<N>| {
-                    // What a client can't submit is missed by the writer.
+                    // A submission that fails is missed by the writer.
                     let _refused = write_each(rt, alloc, client);
                 },
             )
@@ -271,7 +271,7 @@ fn write_at_once<N: EngineName + Send + Sync, R: Threads + Wait + Sync>(
     answered
 }
 
-/// Steps until the items of all clients are answered.
+/// Steps until the submissions of all clients are answered.
 fn answer_all<N: EngineName, R: Wait>(rt: &R, alloc: Global, writer: &mut Writer<N>) -> Ended {
     let mut answered = 0usize;
     for _ in 0..MOST_TURNS {
@@ -286,7 +286,7 @@ fn answer_all<N: EngineName, R: Wait>(rt: &R, alloc: Global, writer: &mut Writer
     Ended::TooManyTurns
 }
 
-/// Submits numbers, drops each ticket, and polls for nothing.
+/// Submits numbers, drops each ticket, and never polls.
 fn write_each<N: EngineName, R: Wait>(
     rt: &R,
     alloc: Global,
@@ -315,7 +315,7 @@ fn submit_until_taken<N: EngineName, R: Wait>(
     Err(Refusal::QueueFull)
 }
 
-/// A reader that never asked learns of all 800 entries, and then of the first one alone.
+/// Asserts that a reader that never asked learns of all 800 entries, and then, of the first one alone, nothing less.
 fn learn_late<N: EngineName, R: Abort>(
     rt: &R,
     alloc: Global,
@@ -334,7 +334,7 @@ fn learn_late<N: EngineName, R: Abort>(
     Ok(())
 }
 
-/// The greatest counter that a reader is shown, of one replica's operations 1, 2, 3 and so on: how many there are.
+/// The greatest counter that a reader is shown of one replica's operations 1, 2, 3 and so on: how many there are.
 fn greatest<N: EngineName>(alloc: Global, reader: &mut ReaderToken<N>) -> Result<u64, Refusal> {
     match reader.ask(alloc, &Question::Vector)? {
         Reading::Vector(vector) => Ok(vector.greatest()),
@@ -360,7 +360,7 @@ fn first_notice<N: EngineName>(clients: &Vec<Client<N>>) -> Result<Notice<N>, Fa
     Err("no notice of length 1".into())
 }
 
-/// Whether the history has each serial of a client, in their order.
+/// Whether the history has each serial of a client, in order.
 fn is_whole(history: &[Entry], client: usize) -> bool {
     let mut last = 0u64;
     for entry in history {
@@ -374,7 +374,7 @@ fn is_whole(history: &[Entry], client: usize) -> bool {
     last == u64::from(EACH)
 }
 
-/// The serial of an entry that is this client's.
+/// The serial of an entry, if it is this client's.
 fn serial_by(entry: &Entry, client: usize) -> Option<u64> {
     match entry {
         Entry::Own {

@@ -88,7 +88,7 @@ fn run<N: EngineName + Send + Sync, R: Threads + Wait + Sync>(
     )
 }
 
-/// Steps until the items of both clients are answered.
+/// Steps until the submissions of both clients are answered.
 fn answer_all<N: EngineName, R: Wait>(rt: &R, alloc: Global, writer: &mut Writer<N>) {
     let mut answered = 0u64;
     for _ in rt.forever() {
@@ -102,7 +102,7 @@ fn answer_all<N: EngineName, R: Wait>(rt: &R, alloc: Global, writer: &mut Writer
     }
 }
 
-/// Asks until all is published. False where less was seen than before.
+/// Asks until all is published. False if a reading shows less than one before.
 fn read_all<N: EngineName, R: Wait>(rt: &R, alloc: Global, reader: &mut ReaderToken<N>) -> bool {
     for _ in rt.forever() {
         let before = reader.seen_len();
@@ -117,7 +117,7 @@ fn read_all<N: EngineName, R: Wait>(rt: &R, alloc: Global, reader: &mut ReaderTo
     unreachable!()
 }
 
-/// Submits assignments of 1, 2 and so on, polls each answer and reads each number back.
+/// Submits assignments of 1, 2 and so on, polls each answer, and reads each number back.
 fn write_all<N: EngineName, R: Wait>(rt: &R, alloc: Global, client: &mut Client<N>) -> bool {
     for number in 0..EACH {
         let Ok(ticket) = submit_until_taken(rt, alloc, client, number as i64) else {

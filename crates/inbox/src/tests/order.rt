@@ -27,7 +27,7 @@ fn the_smallest_comes_first(rt: HostRuntime) -> Result<(), Fail> {
     Ok(())
 }
 
-/// Of the first operations of three replicas that of one is taken, and those of the others are left.
+/// Of the first operations of three replicas one is taken, and the others are left.
 const TAKEN: &[&[Turn]] = &[
     &[
         Turn::Take((1, 1), MAP),

@@ -1,4 +1,4 @@
-//! What is done with an inbox in a test, as rows, and what plays them.
+//! What is done with an inbox in a test, as a table of turns, and what plays it.
 
 ghost use Rattle.std.specs.Prelude.{◌<◌, ℕ, List};
 ghost use Rattle.inbox.specs.Inboxes.{AreAsWide};
@@ -23,14 +23,14 @@ pub enum Writes {
     Delete,
 }
 
-/// Something that is done with an inbox, and what it answers.
+/// One turn: something that is done with an inbox, and its answer.
 #[derive(Clone, Copy)]
 pub enum Turn {
     /// Puts an operation at the root, with these counters of the replicas 1, 2 and 3 in its vector.
     Put(Pair, [u64; 3], Writes, Result<Delivered, Refusal>),
     /// The smallest ready one.
     Smallest(Option<Pair>),
-    /// What the operation with this id, which is taken, writes.
+    /// What the operation with this id writes, which is taken.
     Take(Pair, Option<Writes>),
     /// Whether one with this id waits.
     Has(Pair, bool),
@@ -73,7 +73,7 @@ fn op(alloc: Global, pair: Pair, counters: [u64; 3], writes: Writes) -> Result<O
     })
 }
 
-/// Puts an operation, whose vector has the table's width.
+/// Puts an operation, whose vector is as wide as the table.
 fn put(inbox: &mut Inbox, op: Op, document: &Document) -> Result<Result<Delivered, Refusal>, Fail>
     requires { AreAsWide document.now.table inbox.old }
     ensures { AreAsWide document.now.table inbox.new }
@@ -84,7 +84,7 @@ fn put(inbox: &mut Inbox, op: Op, document: &Document) -> Result<Result<Delivere
     Ok(inbox.put(op, document))
 }
 
-/// Puts an operation, which is answered so.
+/// Puts an operation, and asserts the answer.
 fn answers(
     rt: &impl Abort,
     inbox: &mut Inbox,
@@ -117,7 +117,7 @@ fn written(op: &Op) -> (Pair, Writes) {
     (pair_of(&op.id), writes)
 }
 
-/// The id of the operation that is taken, which has this one, and what it writes.
+/// Takes the operation with this id, and returns its id and what it writes.
 fn take(inbox: &mut Inbox, id: OpId) -> Option<(Pair, Writes)>
     ensures { (table : List ℕ) → AreAsWide table inbox.old → AreAsWide table inbox.new }
 {
@@ -129,7 +129,7 @@ fn beside(pair: Pair, writes: Option<Writes>) -> Option<(Pair, Writes)> {
     Some((pair, writes?))
 }
 
-/// Does a turn.
+/// Plays a turn.
 fn take_turn(
     rt: &impl Abort,
     alloc: Global,
@@ -160,7 +160,7 @@ fn take_turn(
     Ok(())
 }
 
-/// Does these turns, one after another.
+/// Plays these turns in order.
 fn play(
     rt: &impl Abort,
     alloc: Global,
@@ -177,7 +177,7 @@ fn play(
     Ok(())
 }
 
-/// Puts so many operations of replica 2, from its second on. Each waits for the one of replica 3 whose counter is one less.
+/// Puts this many operations of replica 2, from its second on. Each waits for the one of replica 3 whose counter is one less.
 fn fill(
     rt: &impl Abort,
     alloc: Global,
@@ -196,7 +196,7 @@ fn fill(
     Ok(())
 }
 
-/// Does these turns and then those, once so many operations wait of which none is ready.
+/// Plays these turns and then those, once this many operations wait of which none is ready.
 fn fill_and_play(
     rt: &impl Abort,
     alloc: Global,
@@ -214,7 +214,8 @@ fn fill_and_play(
     play(rt, alloc, inbox, document, second)
 }
 
-/// Does these turns and then those with a new inbox of replica 1 among 1, 2 and 3, once so many operations wait there of which none is ready.
+/// Plays these turns and then those on a new inbox of replica 1 among 1, 2 and 3, once this many operations wait there of which
+/// none is ready.
 pub fn on_new(
     rt: &impl Abort,
     alloc: Global,

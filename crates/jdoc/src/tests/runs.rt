@@ -32,7 +32,7 @@ const RUNS: &[Run] = &[
     ),
 ];
 
-/// The script's run ends so.
+/// Asserts how the script's run ends.
 fn ends_so(rt: &impl Abort, alloc: Global, row: &Run) {
     let (script, printed, told, wanted) = *row;
     let mut reader = script.as_bytes();

@@ -11,7 +11,7 @@ const SCRIPT: &[u8] = br#"["world",[[1,[1],1,1,4,4,10]]]
 ["step",0]
 "#;
 
-/// Gives the bytes a few at a time, and then fails in this way.
+/// Gives the bytes a few at a time, and then fails with this error.
 #[derive(Drop)]
 struct Breaking<'a> {
     rest: &'a [u8],
@@ -30,7 +30,7 @@ impl Read for Breaking<'_> {
     }
 }
 
-/// Takes so many bytes, a few at a time, and then fails.
+/// Takes this many bytes, a few at a time, and then fails.
 #[derive(Drop)]
 struct Full {
     taken: Vec<u8>,
@@ -57,7 +57,7 @@ impl Write for Full {
     }
 }
 
-/// How many bytes are read before a read fails in this way, what is told then, and the status.
+/// How many bytes are read before a read fails, the error, what is told then, and the status.
 type Broken<'a> = (usize, ErrorKind, &'a str, u8);
 
 const BROKEN: &[Broken] = &[
@@ -73,7 +73,7 @@ const BROKEN: &[Broken] = &[
     (31, ErrorKind::OutOfMemory, "jdoc: no memory\n", 4),
 ];
 
-/// A run whose reader breaks so prints nothing, tells this and ends so.
+/// Asserts that a run whose reader fails like this prints nothing, what it tells, and its status.
 fn is_broken(rt: &impl Abort, alloc: Global, row: &Broken) {
     let (given, kind, told, wanted) = *row;
     let mut reader = Breaking {
@@ -94,7 +94,7 @@ fn a_read_that_fails(rt: HostRuntime) {
     assert_eq!(rt; SCRIPT.len(), 53);
 }
 
-/// What a run of the script prints, as whole runs have it.
+/// What a run of the script prints to a writer that takes everything.
 fn printed(alloc: Global) -> Vec<u8> {
     let (mut out, mut faults) = (Vec::new(alloc), Vec::new(alloc));
     let mut reader = SCRIPT;
@@ -102,7 +102,8 @@ fn printed(alloc: Global) -> Vec<u8> {
     out
 }
 
-/// A run of the script whose writer has this room ends as not written, and tells nothing. What it took of the replies.
+/// Runs the script on a writer with this room, and asserts that it ends as not written and tells nothing. Returns what was taken of
+/// the replies.
 fn not_written(rt: &impl Abort, alloc: Global, room: usize, flushes: bool) -> Vec<u8> {
     let mut out = Full {
         taken: Vec::new(alloc),
@@ -116,7 +117,7 @@ fn not_written(rt: &impl Abort, alloc: Global, room: usize, flushes: bool) -> Ve
     out.taken
 }
 
-/// What is taken is the beginning of the replies, as much as there is room for.
+/// Asserts that what is taken is a beginning of the replies, as much as there is room for.
 fn takes_a_part(rt: &impl Abort, alloc: Global, whole: &[u8], room: usize) {
     let taken = not_written(rt, alloc, room, true);
     assert_eq!(rt; taken.len(), room);
@@ -137,7 +138,7 @@ fn replies_that_are_not_flushed(rt: HostRuntime) {
     not_written(&rt, rt.alloc(), 1000, false);
 }
 
-/// A run whose faults have this room prints nothing, tells as much as there is room for and ends as not written.
+/// Asserts that a run with this room for its faults prints nothing, tells as much as there is room for, and ends as not written.
 fn is_not_told<R: Read>(rt: &impl Abort, alloc: Global, reader: &mut R, room: usize) {
     let mut faults = Full {
         taken: Vec::new(alloc),

@@ -24,7 +24,7 @@ fn a_script_or_standard_input(rt: HostRuntime) {
     }
 }
 
-/// The options of a bench, and the numbers of replicas, writers, operations and places that they give.
+/// The options of a bench, and the numbers of replicas, writers, operations and queue slots that they give.
 const PLANS: &[(&[&str], [u32; 4])] = &[
     (
         &["bench", "--replicas", "1", "--writers", "2", "--ops", "3"],

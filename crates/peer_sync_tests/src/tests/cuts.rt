@@ -11,7 +11,7 @@ use std::sync::Wait;
 /// How many bytes its first lines have, line feeds included: none of them, the first, the first two, and so on.
 const WHOLE: [usize; 6] = [0, 30, 81, 144, 209, 276];
 
-/// What an engine says that has handled none of them, the first, the first two, and so on.
+/// The hello of an engine that has handled none of them, the first, the first two, and so on.
 const HELLOS: [&str; 6] = [
     NEW,
     "[\"hello\",[[1,1]]]\n",
@@ -30,7 +30,7 @@ fn a_cut_stops_after_the_last_whole_line(rt: HostRuntime) -> Result<(), Fail> {
     Ok(())
 }
 
-/// A new engine receives so many bytes of the five lines.
+/// Asserts what a new engine receives of the first `length` bytes of the five lines.
 fn receive_cut<R: Wait + Abort>(rt: &R, alloc: Global, length: usize) -> Result<(), Fail> {
     let cut = FIVE.get(..length).ok_or("no such cut")?;
     let whole = whole_lines(length);
@@ -57,7 +57,7 @@ fn receive_cut<R: Wait + Abort>(rt: &R, alloc: Global, length: usize) -> Result<
     )
 }
 
-/// How many whole lines so many bytes have.
+/// How many whole lines there are in this many bytes.
 fn whole_lines(length: usize) -> usize {
     WHOLE.iter().skip(1).filter(|end| **end <= length).count()
 }

@@ -1,4 +1,4 @@
-//! Two engines that write apart, and exchange what they wrote byte by byte.
+//! Two engines that write apart, and exchange what they wrote, byte for byte.
 
 use super::playing::Side::{One, Two};
 use super::playing::Turn::{Answer, Hello, Pull, Show, Write};
@@ -11,10 +11,10 @@ use super::showing::To::{Key, Place};
 use super::*;
 use cursor::Tag;
 
-/// The places of each queue, which no test here fills.
+/// The capacity of each queue, which no test here fills.
 const QUEUE: u32 = 65_536;
 
-/// Those of engines that have the first operation of replica 1, and no more than the first two.
+/// The hellos of engines that have the first operation of replica 1, and no more than the first two.
 const FIRST: &str = r#"["hello",[[1,1]]]
 "#;
 

@@ -13,7 +13,7 @@ fn the_first_fault_of_an_operation_decides(rt: HostRuntime) -> Result<(), Fail> 
 "#;
     const INSERTS: &str = r#"["op",[1,2],[],[["m",0]],"a",["i",1]]
 "#;
-    // A delete of an item that its vector doesn't cover, with an operation before it that isn't there.
+    // A delete of an item that its vector doesn't cover, which names an operation that isn't there.
     const UNCOVERED: &str = r#"["op",[2,2],[[1,1]],[["m",0],["l","a"]],[5,1],["d"]]
 "#;
     // Of the engine's own replica, with a counter that skips one, and with the right one.
@@ -53,7 +53,7 @@ fn no_more_than_4096_operations_wait(rt: HostRuntime) -> Result<(), Fail> {
                 (One, TakeEarly(2, Known(0))),
             ],
             &[
-                // One that is ready has a place of its own.
+                // One that is ready has a slot of its own.
                 (One, Take(OF_TWO, Kept(1))),
                 (One, Dropped(0)),
                 // It makes operation 2 of replica 2 ready, whose vector leaves out operation 1 of that replica.

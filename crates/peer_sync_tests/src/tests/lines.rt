@@ -51,7 +51,7 @@ fn the_first_fault_of_a_hello_decides(rt: HostRuntime) -> Result<(), Fail> {
                     One,
                     Answer(r#"["hello",[[2,1],[1,1]]]"#, Err(Refusal::BadLine)),
                 ),
-                // No refused hello made it read.
+                // No refused hello made the token read.
                 (One, Seen(0)),
             ],
             &[

@@ -1,4 +1,4 @@
-//! What is done with two engines in a test, as rows, and what plays them.
+//! What is done with two engines in a test, as a table of turns, and what plays it.
 
 ghost use Rattle.std.specs.Prelude.{◌≡◌};
 ghost use Rattle.ids.specs.Members.{in_order};
@@ -40,7 +40,7 @@ pub enum Writing {
     Delete(&'static [To]),
 }
 
-/// What is answered to a peer's operation.
+/// The answer to a peer's operation.
 #[derive(Clone, Copy, Debug, PartialEq, Eq)]
 pub enum Told {
     Kept(u64),
@@ -48,7 +48,7 @@ pub enum Told {
     Refused(Refusal, u64),
 }
 
-/// Something that is done with an engine, and what it answers.
+/// One turn: something that is done with an engine, and its answer.
 #[derive(Clone, Copy, Debug)]
 pub enum Turn {
     /// Its client writes, and its writer steps.
@@ -63,14 +63,13 @@ pub enum Turn {
     Receive(&'static str, u64, u64, Option<(u64, Refusal)>),
     /// Its client receives this line, its writer steps, and the client polls.
     Take(&'static str, Told),
-    /// Its client is delivered the operation of replica 2 with this counter that depends on the one of replica 3 before it, and
-    /// polls after a step.
+    /// Its client delivers the operation of replica 2 with this counter, which depends on replica 3's one before, and polls after a step.
     TakeEarly(u64, Told),
     /// The same for each of these counters, from the first to the last.
     TakeAllEarly(u64, u64, Told),
     /// How many operations of peers it has dropped.
     Dropped(u64),
-    /// It says this hello, the other engine answers so, and its client receives that and its writer steps.
+    /// It says this hello, the other engine gives this answer, and its client receives that and its writer steps.
     Pull(&'static str, &'static str),
     /// Its reader asks what stands at a place.
     Show(&'static [To], Shown),
@@ -102,7 +101,7 @@ pub fn command(alloc: Global, writing: Writing) -> Result<Command, Refusal> {
     })
 }
 
-/// An engine's parts, which a test may use one after another.
+/// An engine and its ends, which a test may use one after another.
 #[derive(Drop)]
 pub struct Stage<'a, N: EngineName> {
     pub own: u32,
@@ -111,7 +110,7 @@ pub struct Stage<'a, N: EngineName> {
     pub reader: &'a mut ReaderToken<N>,
 }
 
-/// An engine of this replica among 1, 2 and 3, with one client and one reader, and a queue of so many places.
+/// An engine of this replica among 1, 2 and 3, with one client and one reader, and a queue of this capacity.
 pub fn config(alloc: Global, own: u32, queue: u32) -> Result<Config, Refusal> {
     Ok(Config {
         own,
@@ -124,7 +123,7 @@ pub fn config(alloc: Global, own: u32, queue: u32) -> Result<Config, Refusal> {
     })
 }
 
-/// Opens engines 1 and 2, whose queues have so many places, and plays these rows with them, one act after another.
+/// Opens engines 1 and 2 with queues of this capacity, and plays these rows on them in order.
 pub fn on_two<R: Wait + Abort>(
     rt: &R,
     alloc: Global,
@@ -223,7 +222,7 @@ fn play_act<N: EngineName, M: EngineName, R: Wait + Abort>(
     Ok(())
 }
 
-/// One engine gets what the other has, by these bytes, and handles all of it.
+/// One engine takes what the other has, by these bytes, and handles all of it.
 fn pull<N: EngineName, M: EngineName, R: Wait + Abort>(
     rt: &R,
     alloc: Global,
@@ -246,7 +245,7 @@ fn pull<N: EngineName, M: EngineName, R: Wait + Abort>(
     Ok(())
 }
 
-/// Does a turn of one engine.
+/// Plays a turn of one engine.
 fn take_turn<N: EngineName, R: Wait + Abort>(
     rt: &R,
     alloc: Global,
@@ -285,7 +284,7 @@ fn take_turn<N: EngineName, R: Wait + Abort>(
     }
 }
 
-/// Receives a line, which the writer handles so.
+/// Receives a line, and asserts how the writer answers it.
 fn take_line<N: EngineName, R: Wait + Abort>(
     rt: &R,
     alloc: Global,
@@ -302,7 +301,7 @@ fn take_line<N: EngineName, R: Wait + Abort>(
     handle(rt, alloc, stage, received.first_serial, want)
 }
 
-/// Delivers an operation of replica 2 that depends on one of replica 3, which the writer handles so.
+/// Delivers an operation of replica 2 that depends on one of replica 3, and asserts how the writer answers it.
 fn take_early<N: EngineName, R: Wait + Abort>(
     rt: &R,
     alloc: Global,
@@ -328,7 +327,7 @@ fn early_op(alloc: Global, counter: u64) -> Result<Op, Refusal> {
     })
 }
 
-/// Steps, and compares the reply to what was submitted under this serial.
+/// Steps, and asserts the reply to what was submitted under this serial.
 fn handle<N: EngineName, R: Wait + Abort>(
     rt: &R,
     alloc: Global,
@@ -341,7 +340,7 @@ fn handle<N: EngineName, R: Wait + Abort>(
     Ok(())
 }
 
-/// The answer to a peer's operation, where there is one.
+/// The answer to a peer's operation, if there is one.
 fn told_of(reply: Option<Reply>) -> Option<Told> {
     match reply? {
         Reply::Made(..) => None,
@@ -351,7 +350,7 @@ fn told_of(reply: Option<Reply>) -> Option<Told> {
     }
 }
 
-/// What a client is answered under this serial.
+/// The reply to a client's poll of this serial.
 pub fn poll<N: EngineName>(stage: &mut Stage<N>, serial: u64) -> Result<Option<Reply>, Fail> {
     let ticket = Ticket {
         replica: ReplicaId::new(stage.own).ok_or("numbered 0")?,
@@ -361,7 +360,7 @@ pub fn poll<N: EngineName>(stage: &mut Stage<N>, serial: u64) -> Result<Option<R
     Ok(stage.client.poll(&ticket)?)
 }
 
-/// Submits a command, which the writer handles.
+/// Submits a command, and steps.
 fn write<N: EngineName, R: Wait + Abort>(
     rt: &R,
     alloc: Global,
@@ -373,7 +372,7 @@ fn write<N: EngineName, R: Wait + Abort>(
     Ok(())
 }
 
-/// Does a turn of a reader.
+/// Plays a turn of a reader.
 fn read<N: EngineName>(
     rt: &impl Abort,
     alloc: Global,
@@ -393,7 +392,7 @@ fn read<N: EngineName>(
     Ok(())
 }
 
-/// Compares the answer to a hello, or why it is refused.
+/// Asserts the answer to a hello, or why it is refused.
 fn assert_answer<N: EngineName>(
     rt: &impl Abort,
     alloc: Global,

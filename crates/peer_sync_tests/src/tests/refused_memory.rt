@@ -1,7 +1,7 @@
 //! An exchange in which an allocation fails goes on, and ends as it would have.
 //!
-//! To be run with each allocation refused in turn (`tests/refused_memory.sh`): what is refused is called once more and counted, so
-//! each run passes, and each answer that isn't refused is that of a run in which no allocation fails.
+//! To be run with each allocation refused in turn (`tests/refused_memory.sh`): what is refused is called once more and counted, so each
+//! run passes, and each answer that isn't refused is that of a run in which no allocation fails.
 
 ghost use Rattle.std.specs.Prelude.{◌≡◌};
 ghost use Rattle.ids.specs.Members.{in_order};
@@ -35,13 +35,13 @@ const WRITTEN: &[(Writing, Pair)] = &[
     (Insert(ITEM, Words("milk")), (5, 1)),
 ];
 
-/// What both engines are shown in the end.
+/// What both engines show at the end.
 const SHOWN: &[(&[To], Shown)] = &[
     (LIST_AT, Items(&[(4, 1), (3, 1), (5, 1)])),
     (ITEM, Values(&[((6, 2), "ham")])),
 ];
 
-/// What both say in the end.
+/// The hello of both at the end.
 const ALL: &str = r#"["hello",[[1,6],[2,6]]]
 "#;
 
@@ -69,7 +69,7 @@ impl Refused {
     }
 }
 
-/// What is made, at the second attempt where allocation fails at the first.
+/// What is made, at the second attempt if an allocation of the first fails.
 fn again<T: Drop, F: Fn() -> Result<T, Refusal>>(
     refused: &mut Refused,
     make: F,
@@ -99,7 +99,7 @@ fn an_exchange_goes_on(rt: HostRuntime) -> Result<(), Fail> {
     Err("engine 1 isn't opened at the second attempt".into())
 }
 
-/// Whether engine 1 was opened; then all was played.
+/// Whether engine 1 was opened. If so, all was played.
 fn with_one<N: EngineName, R: Wait + Abort>(
     rt: &R,
     alloc: Global,
@@ -110,7 +110,7 @@ fn with_one<N: EngineName, R: Wait + Abort>(
     requires own { parts.config.own ≡ N.own }
     requires table { in_order parts.config.members ≡ N.table }
 {
-    // `open` is refused for a failed allocation, or since the copies have no place for a reader.
+    // `open` is refused for a failed allocation, or because the copies have no seat for a reader.
     let Ok((mut writer, mut clients, mut readers)) = open::<N>(rt, alloc, parts) else {
         refused.note();
         return Ok(false);
@@ -133,7 +133,7 @@ fn with_one<N: EngineName, R: Wait + Abort>(
     Ok(true)
 }
 
-/// All seven operations are published, and nothing is left.
+/// Asserts that all seven operations are published, and that nothing is left.
 fn assert_seven<R: Abort>(rt: &R, last: &Final) {
     assert_eq!(rt; last.history.len(), 7);
     assert_eq!(rt; last.left, 0);
@@ -154,7 +154,7 @@ fn open_two<N: EngineName, R: Wait + Abort>(
     Err("engine 2 isn't opened at the second attempt".into())
 }
 
-/// Whether engine 2 was opened; then all was played.
+/// Whether engine 2 was opened. If so, all was played.
 fn with_two<N: EngineName, M: EngineName, R: Wait + Abort>(
     rt: &R,
     alloc: Global,
@@ -188,7 +188,7 @@ fn with_two<N: EngineName, M: EngineName, R: Wait + Abort>(
     Ok(true)
 }
 
-/// Engine 1 writes, engine 2 gets that; then each writes for itself, and they exchange it.
+/// Engine 1 writes, engine 2 takes that; then each writes for itself, and they exchange it.
 fn play<N: EngineName, M: EngineName, R: Wait + Abort>(
     rt: &R,
     alloc: Global,
@@ -208,7 +208,7 @@ fn play<N: EngineName, M: EngineName, R: Wait + Abort>(
     end(rt, alloc, refused, two, &[FIVE, HAM, DELETED])
 }
 
-/// Writes, once more where allocation fails, and compares the id.
+/// Writes, once more if allocation fails, and asserts the id.
 fn write<N: EngineName, R: Wait + Abort>(
     rt: &R,
     alloc: Global,
@@ -229,7 +229,7 @@ fn write<N: EngineName, R: Wait + Abort>(
     Err("no memory for a second command".into())
 }
 
-/// Submits what is to be written: its serial. A refused call takes none.
+/// Submits what is to be written, and returns its serial. A refused call takes none.
 fn submit<N: EngineName, R: Wait>(
     rt: &R,
     alloc: Global,
@@ -265,7 +265,7 @@ fn step_all<N: EngineName, R: Wait>(
     Err("there is still something to do".into())
 }
 
-/// One engine gets what the other has, until it lacks nothing. The first bundle is this one, and each later one the end of it.
+/// One engine takes what the other has, until it lacks nothing. The first bundle is this one, and each later one is an end of it.
 fn pull<N: EngineName, M: EngineName, R: Wait + Abort>(
     rt: &R,
     alloc: Global,
@@ -283,7 +283,7 @@ fn pull<N: EngineName, M: EngineName, R: Wait + Abort>(
     Err("something is still lacking".into())
 }
 
-/// One engine gets what it lacks, the end of this bundle: how many bytes that is.
+/// One engine takes what it lacks, an end of this bundle. Returns how many bytes that is.
 fn get<N: EngineName, M: EngineName, R: Wait + Abort>(
     rt: &R,
     alloc: Global,
@@ -299,7 +299,7 @@ fn get<N: EngineName, M: EngineName, R: Wait + Abort>(
     Ok(bundle.len())
 }
 
-/// The hello of a reader, at the second attempt where allocation fails at the first.
+/// The hello of a reader, at the second attempt if an allocation of the first fails.
 fn said<N: EngineName>(
     alloc: Global,
     refused: &mut Refused,
@@ -330,7 +330,7 @@ fn answered<N: EngineName>(
     }
 }
 
-/// Receives a bundle and handles it. Where allocation fails some of it isn't kept.
+/// Receives a bundle and handles it. If allocation fails, some of it isn't kept.
 fn take<N: EngineName, R: Wait>(
     rt: &R,
     alloc: Global,
@@ -347,7 +347,7 @@ fn take<N: EngineName, R: Wait>(
         let serial = received.first_serial.saturating_add(number);
         match poll(stage, serial)? {
             Some(Reply::Kept(_)) => {}
-            // It came again, since another one of the same bundle was refused.
+            // It came again, because another one of the same bundle was refused.
             Some(Reply::Known(_)) if refused.times > 0 => {}
             Some(Reply::Refused(why, _)) => refused.count(why)?,
             _ => return Err("another answer".into()),
@@ -356,7 +356,7 @@ fn take<N: EngineName, R: Wait>(
     Ok(())
 }
 
-/// The reader learns of all that is published, is shown it, and would send it in this order.
+/// Asserts that the reader learns of all that is published, is shown it, and would send it in this order.
 fn end<N: EngineName, R: Wait + Abort>(
     rt: &R,
     alloc: Global,
@@ -374,7 +374,7 @@ fn end<N: EngineName, R: Wait + Abort>(
     assert_history(rt, alloc, refused, stage.reader, lines)
 }
 
-/// Compares what a reader is shown.
+/// Asserts what a reader is shown.
 fn assert_shown<N: EngineName>(
     rt: &impl Abort,
     alloc: Global,
@@ -396,7 +396,7 @@ fn assert_shown<N: EngineName>(
     Ok(())
 }
 
-/// Compares the whole history, as a peer gets it that has nothing.
+/// Asserts the whole history, as a new peer gets it.
 fn assert_history<N: EngineName>(
     rt: &impl Abort,
     alloc: Global,

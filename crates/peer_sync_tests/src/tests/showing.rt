@@ -1,4 +1,4 @@
-//! What a reader is shown in a test: questions as rows, and what they answer.
+//! What a reader is shown in a test: questions as rows, and their answers.
 
 ghost use Rattle.std.specs.Prelude.{◌≡◌, IfOk};
 ghost use Rattle.document.specs.Documents.{IsBeside};
@@ -20,11 +20,11 @@ pub type Pair = (u64, u32);
 pub enum To {
     /// To the field with this key.
     Key(&'static str),
-    /// To the visible item at this place, from 1 on, or to the head, 0.
+    /// To the visible item with this index, from 1 on, or to the head, 0.
     Place(u64),
 }
 
-/// What stands at a place.
+/// What stands where an expression leads.
 #[derive(Clone, Copy, Debug)]
 pub enum Shown {
     /// These texts, with the ids of what wrote them.
@@ -117,7 +117,7 @@ fn are_conflicts(conflicts: &[(OpId, Tag)], want: &[(Pair, Tag)]) -> bool {
     conflicts.len() == want.len()
 }
 
-/// Whether the answer is the one that is to be shown.
+/// Whether the answer is the wanted one.
 pub fn is_wanted(answer: &Result<Reading, Refusal>, want: Shown) -> bool {
     match (answer, want) {
         (Ok(Reading::Values(values)), Shown::Values(want)) => are_values(values, want),
@@ -129,7 +129,7 @@ pub fn is_wanted(answer: &Result<Reading, Refusal>, want: Shown) -> bool {
     }
 }
 
-/// Compares what a reader is shown.
+/// Asserts what a reader is shown.
 pub fn assert_shown<N: EngineName>(
     rt: &impl Abort,
     alloc: Global,

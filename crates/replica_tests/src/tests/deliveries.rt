@@ -22,7 +22,7 @@ const BAD_PLACE: Answer = Err(Refusal::BadPlace);
 
 const FULL: Answer = Err(Refusal::InboxFull);
 
-/// What each operation of replica 1 writes, where it made one after another.
+/// What each operation of replica 1 writes, made one after another.
 const LINK: Writes<'static> = Writes::Text("a", "x");
 
 #[test]
@@ -67,7 +67,7 @@ fn what_was_applied_is_known_by_its_own_replica(rt: HostRuntime) -> Result<(), F
     on_new(&rt, rt.alloc(), 1, TURNS, &[(1, 1)])
 }
 
-/// Delivers an operation to replica 1, which has no history and refuses it.
+/// Delivers an operation to replica 1, which has an empty history and refuses it.
 fn expect_refused_first(
     rt: &impl Abort,
     alloc: Global,
@@ -137,7 +137,7 @@ fn what_turns_out_unlawful_is_dropped(rt: HostRuntime) -> Result<(), Fail> {
     on_new(&rt, rt.alloc(), 1, TURNS, HISTORY)
 }
 
-/// Replica 1, which saw 1@1 and then assigned at `key`, beside replica 2, which did the same.
+/// Replica 1, which saw 1@1 and then assigned at `key`, concurrently with replica 2, which did the same.
 const FORKED_1: &[Turn<'static>] = &[
     Turn::Assign("key", "A", (1, 1)),
     Turn::Assign("key", "B", (2, 1)),
@@ -199,7 +199,7 @@ fn the_first_fault_is_answered(rt: HostRuntime) -> Result<(), Fail> {
     expect_refused_first(&rt, alloc, (2, 2), &[1, 0, 0], item, BAD_PLACE)
 }
 
-/// Delivers 2@2 to 4097@2, each of which waits for replica 3. Answers the serial that the client goes on with.
+/// Delivers 2@2 to 4097@2, each of which waits for replica 3. Returns the serial that the client goes on with.
 fn fill(rt: &impl Abort, alloc: Global, replica: &mut Replica, serial: u64) -> Result<u64, Refusal>
     requires { IsAbove 0 serial replica.old.document.entries }
     ensures { IfOk result (λ next. IsAbove 0 next replica.new.document.entries) }
@@ -229,7 +229,7 @@ fn fill_and_play(
     Ok(())
 }
 
-/// Takes these turns with replica 1, once 4,096 operations wait there, none of which is ready. Its history has these ids then.
+/// Plays these turns on replica 1, once 4,096 operations wait there, none of which is ready. Asserts the ids of the history then.
 fn on_full(
     rt: &impl Abort,
     alloc: Global,

@@ -34,16 +34,16 @@ fn where_nothing_waits_nothing_leaves(rt: HostRuntime) -> Result<(), Fail> {
     on_new(&rt, rt.alloc(), 1, TURNS, &[])
 }
 
-/// The smaller of two that don't depend on each other is delivered.
+/// Delivers the smaller of two operations that don't depend on each other.
 const SMALLER: Turn<'static> = Turn::Deliver((1, 2), &[0, 0, 0], Writes::Delete, KEPT);
 
-/// And the greater.
+/// Delivers the greater one.
 const GREATER: Turn<'static> = Turn::Deliver((1, 3), &[0, 0, 0], Writes::Delete, KEPT);
 
-/// In this order.
+/// The smaller one first.
 const RISING: &[Turn<'static>] = &[SMALLER, Turn::Lengths(0, 0), GREATER, Turn::Lengths(0, 0)];
 
-/// And the other way round.
+/// The greater one first.
 const FALLING: &[Turn<'static>] = &[GREATER, Turn::Lengths(0, 0), SMALLER, Turn::Lengths(0, 0)];
 
 #[test]

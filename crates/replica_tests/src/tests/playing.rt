@@ -1,6 +1,7 @@
-//! What is done with a replica in a test, as rows, and what plays them.
+//! What is done with a replica in a test, as a table of turns, and what plays it.
 //!
-//! A turn that is refused memory is taken once more, so that a test passes whichever allocation is refused. With none refused, nothing is done twice.
+//! A turn whose allocation is refused is taken once more, so that a test passes whichever allocation is refused. With none refused,
+//! nothing is done twice.
 
 ghost use Rattle.std.specs.Prelude.{◌≡◌, ℕ, length, IfOk, OnErr};
 ghost use Rattle.semantics.specs.Entries.{IsAbove};
@@ -19,7 +20,7 @@ use version::VersionVector;
 /// An id's counter and replica.
 pub type Pair = (u64, u32);
 
-/// What is answered to a delivery.
+/// The answer to a delivery.
 pub type Answer = Result<Delivered, Refusal>;
 
 /// What an operation writes, and where.
@@ -31,24 +32,24 @@ pub enum Writes<'a> {
     Delete,
     /// A delete of this item of the list at `key`.
     DeleteItem(Pair),
-    /// An insert of a map at the field `key` of the root, which is no place for one.
+    /// An insert of a map at the field `key` of the root, where no insert may stand.
     Insert,
 }
 
-/// Something that is done with a replica, and what it answers.
+/// One turn: something that is done with a replica, and its answer.
 #[derive(Clone, Copy)]
 pub enum Turn<'a> {
     /// Makes the operation of an assign, which has this id and is not committed.
     Make(Pair),
     /// Client 0 assigns a text at this field of the root, by an operation with this id.
     Assign(&'a str, &'a str, Pair),
-    /// Delivers an operation with this id and with these counters in its vector, which is answered so. Nothing is drained.
+    /// Delivers an operation with this id and with these counters in its vector: the answer. Nothing is drained.
     Deliver(Pair, &'a [u64], Writes<'a>, Answer),
-    /// Drains. So many operations are applied then, and so many were dropped.
+    /// Drains. How many operations are applied then, and how many were dropped.
     Drain(usize, u64),
-    /// Appends the next one that is ready, where there is one. It has this id.
+    /// Appends the next one that is ready, if there is one: its id.
     Next(Option<Pair>),
-    /// Asks for a copy of the next one that is ready, and appends nothing. It has this id.
+    /// Asks for a copy of the next one that is ready, and appends nothing: its id.
     Copy(Option<Pair>),
     /// How many operations are applied, and how many were dropped.
     Lengths(usize, u64),
@@ -115,7 +116,7 @@ fn item(alloc: Global, pair: Pair) -> Result<Place, Refusal> {
     Ok(field(alloc, "key")?.item(alloc, id)?)
 }
 
-/// Where an operation writes.
+/// The place that an operation writes at.
 fn place(alloc: Global, writes: Writes<'_>) -> Result<Place, Refusal> {
     match writes {
         Writes::Text(key, _) => field(alloc, key),
@@ -156,7 +157,7 @@ fn make(rt: &impl Abort, alloc: Global, replica: &mut Replica, want: Pair) -> Re
     Ok(())
 }
 
-/// Client 0 assigns a text at a field of the root, under a serial above those it had and by an operation with this id. Answers the next serial.
+/// Client 0 assigns a text at a field of the root, under a serial above those it had: the operation has this id. Returns the next serial.
 fn assign(
     rt: &impl Abort,
     alloc: Global,
@@ -179,7 +180,7 @@ fn assign(
     Ok(serial + 1)
 }
 
-/// Delivers an operation, which is answered so.
+/// Delivers an operation, and asserts the answer.
 fn deliver(rt: &impl Abort, replica: &mut Replica, op: Op, want: Answer) -> Result<(), Refusal>
     ensures { replica.new.document.entries ≡ replica.old.document.entries }
 {
@@ -200,7 +201,7 @@ fn drain(alloc: Global, replica: &mut Replica) -> Result<(), Refusal>
     Ok(replica.drain(alloc)?)
 }
 
-/// The id of a copy of the next one, where there is one.
+/// The id of a copy of the next one, if there is one.
 fn copy(alloc: Global, replica: &mut Replica) -> Result<Option<Pair>, Refusal>
     ensures { replica.new.document.entries ≡ replica.old.document.entries }
 {
@@ -210,7 +211,7 @@ fn copy(alloc: Global, replica: &mut Replica) -> Result<Option<Pair>, Refusal>
     Ok(Some(pair_of(&op.id)))
 }
 
-/// Appends the next one, where there is one. Answers its id.
+/// Appends the next one, if there is one. Returns its id.
 fn append_next(alloc: Global, replica: &mut Replica) -> Result<Option<Pair>, Refusal>
     ensures { (serial : ℕ) → IsAbove 0 serial replica.old.document.entries → IsAbove 0 serial replica.new.document.entries }
 {
@@ -221,7 +222,7 @@ fn append_next(alloc: Global, replica: &mut Replica) -> Result<Option<Pair>, Ref
     Ok(Some(pair_of(&op.id)))
 }
 
-/// Asks for the values at the field `key` of the root, which have these ids.
+/// Asserts the ids of the values at the field `key` of the root.
 fn expect_values(
     rt: &impl Abort,
     alloc: Global,
@@ -239,7 +240,7 @@ fn expect_values(
     Ok(())
 }
 
-/// Takes a turn. Where the client assigns, it does so under this serial. Answers the serial that it goes on with.
+/// Takes a turn. A client assigns under this serial. Returns the serial that it goes on with.
 fn try_turn(
     rt: &impl Abort,
     alloc: Global,
@@ -272,7 +273,8 @@ fn try_turn(
     Ok(serial)
 }
 
-/// Compares the lengths after a turn that was refused memory with those before it. A drain may have appended and dropped some, a search for the next one may have dropped some, and no other turn has changed anything.
+/// Asserts how the lengths after a turn whose allocation was refused compare with those before it. A drain may have appended and
+/// dropped some, a search for the next one may have dropped some, and no other turn has changed anything.
 fn expect_kept(rt: &impl Abort, turn: Turn<'_>, before: (usize, u64), after: (usize, u64)) {
     match turn {
         Turn::Drain(..) => assert!(rt; after.0 >= before.0 && after.1 >= before.1),
@@ -282,7 +284,7 @@ fn expect_kept(rt: &impl Abort, turn: Turn<'_>, before: (usize, u64), after: (us
     }
 }
 
-/// Takes a turn, and takes it once more where it is refused memory.
+/// Takes a turn, once more if an allocation is refused.
 fn take_turn(
     rt: &impl Abort,
     alloc: Global,
@@ -302,7 +304,7 @@ fn take_turn(
     try_turn(rt, alloc, replica, serial, turn)
 }
 
-/// Takes these turns, one after another. The client assigns from this serial on. Answers the serial after them.
+/// Takes these turns in order. The client assigns from this serial on. Returns the serial after them.
 pub fn play(
     rt: &impl Abort,
     alloc: Global,
@@ -330,7 +332,7 @@ pub fn new_replica(alloc: Global, own: u32) -> Result<Replica, Refusal>
     }
 }
 
-/// The history has these ids, the oldest first.
+/// Asserts that the history has these ids, the oldest first.
 pub fn expect_history(rt: &impl Abort, replica: Replica, history: &[Pair]) {
     let entries = replica.into_entries();
     assert_eq!(rt; entries.len(), history.len());
@@ -354,7 +356,7 @@ fn play_both(
     Ok(())
 }
 
-/// Takes these turns and then those with a new replica of this number among 1, 2 and 3. Its history has these ids then.
+/// Plays these turns and then those on a new replica of this number among 1, 2 and 3. Asserts the ids of its history then.
 pub fn on_new_after(
     rt: &impl Abort,
     alloc: Global,
@@ -369,7 +371,7 @@ pub fn on_new_after(
     Ok(())
 }
 
-/// Takes these turns with a new replica of this number among 1, 2 and 3. Its history has these ids then.
+/// Plays these turns on a new replica of this number among 1, 2 and 3. Asserts the ids of its history then.
 pub fn on_new(
     rt: &impl Abort,
     alloc: Global,

@@ -1,10 +1,12 @@
-//! Calls that are refused memory leave the replica as it was, and answer as ever once they get it.
+//! A call whose allocation is refused leaves the replica as it was, and answers as ever when it is called again.
 //!
-//! To be run with each allocation refused in turn (`tests/refused_memory.sh`): a turn that is refused memory is taken once more, so the tests of this file pass for each N. With none refused, nothing is called again.
+//! To be run with each allocation refused in turn (`tests/refused_memory.sh`): a turn that is refused is taken once more, so each
+//! run passes. With none refused, nothing is called again.
 
 use super::*;
 
-/// Replica 1 applies 1@1, 2@1, 3@2, 4@1 and 5@1, of which 3@2 is a peer's. Then 6@3, which names no operation, 7@2 and 6@2 are delivered. Once 6@2 is applied, the other two are ready.
+/// Replica 1 applies 1@1, 2@1, 3@2, 4@1 and 5@1, of which 3@2 is a peer's. Then 6@3, which names no operation, 7@2 and 6@2 are
+/// delivered. Once 6@2 is applied, the other two are ready.
 const EIGHT: &[Turn<'static>] = &[
     Turn::Assign("a", "1", (1, 1)),
     Turn::Assign("a", "1", (2, 1)),
@@ -18,7 +20,7 @@ const EIGHT: &[Turn<'static>] = &[
     Turn::Lengths(5, 0),
 ];
 
-/// 6@3 is delivered again, after all left.
+/// Delivers 6@3 again, after all left.
 const FORGED: Turn<'static> = Turn::Deliver((6, 3), &[5, 4, 0], Writes::Delete, NAMES_NOTHING);
 
 /// What is applied after all left.

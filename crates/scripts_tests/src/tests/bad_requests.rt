@@ -1,4 +1,4 @@
-//! Commands, questions and vectors without a form.
+//! Commands, questions and vectors of another form.
 
 use super::playing::{Around, are_bad, are_bad_with, is_bad_with};
 use std::alloc::{AllocError, Global};
@@ -105,7 +105,7 @@ fn vectors_without_form(rt: HostRuntime) -> Result<(), Fail> {
     are_bad_with(&rt, rt.alloc(), FIRST, missing, VECTORS, "E22")
 }
 
-/// A vector is a part as any other, and only then it is looked whether the engine is there.
+/// A vector is a part like any other; only after all parts it is tested whether the engine exists.
 #[test]
 fn questions_to_nobody(rt: HostRuntime) -> Result<(), Fail> {
     const LINES: &[&str] = &[
@@ -120,7 +120,7 @@ fn questions_to_nobody(rt: HostRuntime) -> Result<(), Fail> {
     are_bad(&rt, rt.alloc(), FIRST, LINES, "E22")
 }
 
-/// What stands around a long text, the text's letter and how many there are, and how the line is bad.
+/// What stands around a long text, the text's letter and how often it is repeated, and how the line is bad.
 type Long<'a> = (Around<'a>, &'a str, usize, &'a str);
 
 /// A key of 257 bytes is refused before what stands on its right, and so is a text of 4,097.

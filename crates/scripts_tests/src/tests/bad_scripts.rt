@@ -1,4 +1,4 @@
-//! Scripts that are bad: what is told of the first bad line.
+//! Bad scripts: what is told of the first bad line.
 
 use super::playing::{
     Around, ONE, are_bad, are_bad_first, are_bad_with, is_bad, is_bad_with, is_refused,
@@ -164,7 +164,7 @@ fn lines_that_are_cut(rt: HostRuntime) -> Result<(), Fail> {
     Ok(())
 }
 
-/// A line with a byte that stands in no text, between what is before and after it.
+/// A line with a byte that is no UTF-8, between what comes before and after it.
 fn with_byte(alloc: Global, around: Around) -> Result<Vec<u8>, AllocError> {
     let mut script = Vec::new(alloc);
     script.extend_from_slice(around.0.as_bytes())?;
@@ -173,7 +173,7 @@ fn with_byte(alloc: Global, around: Around) -> Result<Vec<u8>, AllocError> {
     Ok(script)
 }
 
-/// The byte makes the second line bad.
+/// Asserts that the byte makes the second line bad.
 fn is_no_text(rt: &impl Abort, alloc: Global, around: Around) -> Result<(), AllocError> {
     let script = with_byte(alloc, around)?;
     is_refused(rt, alloc, script.as_slice(), around.0, (2, "E22"))
@@ -198,7 +198,7 @@ fn lines_that_are_no_text(rt: HostRuntime) -> Result<(), Fail> {
     Ok(())
 }
 
-/// Each place of a number, with what is before and after it.
+/// Each number of a line, as what comes before and after it.
 const PLACES: &[Around] = &[
     (r#"["push","#, r#",0,["assign",["a"],1]]"#),
     (r#"["push",0,"#, r#",["assign",["a"],1]]"#),
@@ -316,7 +316,7 @@ fn the_first_fault_decides(rt: HostRuntime) -> Result<(), Fail> {
     Ok(())
 }
 
-/// A line of so many lists within one another.
+/// A line of this many lists within one another.
 fn nested(alloc: Global, count: usize) -> Result<String, AllocError> {
     let open = "[".repeat(alloc, count)?;
     let close = "]".repeat(alloc, count)?;

@@ -47,7 +47,7 @@ fn other_words(rt: HostRuntime) -> Result<(), Fail> {
     are_bad(&rt, rt.alloc(), FIRST, LINES, "E22")
 }
 
-/// Each place of a number, with what is before and after it.
+/// Each number of a line, as what comes before and after it.
 const PLACES: &[Around] = &[
     (r#"["take","#, "]"),
     (r#"["publish","#, "]"),
@@ -166,7 +166,7 @@ const FAULTS: &[(&str, u32, &str)] = &[
     ),
 ];
 
-/// The first part without form decides, and every form goes before what is there.
+/// The first part of another form decides, and every form goes before what exists.
 #[test]
 fn the_first_fault_decides(rt: HostRuntime) -> Result<(), Fail> {
     for (script, line, why) in FAULTS {

@@ -1,4 +1,4 @@
-//! First lines whose configuration is out of range, or has no form.
+//! First lines whose configuration is out of range, or of another form.
 
 use super::playing::{Around, are_bad_first, is_bad_first, replies_so, with_part};
 use std::alloc::{AllocError, Global};
@@ -17,7 +17,7 @@ fn engines_without_form(rt: HostRuntime) -> Result<(), Fail> {
         r#"["world",[[1,["1"],1,1,4,4,10]]]"#,
         r#"["world",[[1,[1,null],1,1,4,4,10]]]"#,
         r#"["world",[[1,[[1]],1,1,4,4,10]]]"#,
-        // A part without form goes before every number that is out of range.
+        // A part of another form goes before every number that is out of range.
         r#"["world",[[4294967296,[1],1,1,4,4,"10"]]]"#,
         r#"["world",[[1,[4294967296,-1],1,1,4,4,10]]]"#,
         r#"["world",[[0,[],0,0,0,0,-1]]]"#,
@@ -26,7 +26,7 @@ fn engines_without_form(rt: HostRuntime) -> Result<(), Fail> {
     are_bad_first(&rt, rt.alloc(), LINES, "E22")
 }
 
-/// The first line is bad in this way with this number.
+/// Asserts that the first line is bad in this way with this number.
 fn is_bad_with(
     rt: &impl Abort,
     alloc: Global,
@@ -38,7 +38,7 @@ fn is_bad_with(
     is_bad_first(rt, alloc, line.as_str(), why)
 }
 
-/// So it is with each of these numbers.
+/// The same for each of these numbers.
 fn are_bad_with(
     rt: &impl Abort,
     alloc: Global,
@@ -52,7 +52,7 @@ fn are_bad_with(
     Ok(())
 }
 
-/// Each place of a number, with what is before and after it.
+/// Each number of a line, as what comes before and after it.
 const PLACES: &[Around] = &[
     (r#"["world",[["#, ",[1],1,1,4,4,10]]]"),
     (r#"["world",[[1,["#, "],1,1,4,4,10]]]"),
@@ -72,7 +72,7 @@ fn parts_that_are_no_numbers(rt: HostRuntime) -> Result<(), Fail> {
     Ok(())
 }
 
-/// A configuration has no room for these.
+/// Numbers that are too large for a configuration.
 #[test]
 fn numbers_that_are_too_large(rt: HostRuntime) -> Result<(), Fail> {
     const NUMBERS: &[&str] = &["4294967296", "18446744073709551615"];

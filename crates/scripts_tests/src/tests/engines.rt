@@ -5,7 +5,7 @@ use std::alloc::{AllocError, Global};
 use std::process::Abort;
 use std::test::Fail;
 
-/// A first line of so many engines, each with these parts, without its line feed.
+/// A first line of this many engines, each with these parts, without its line feed.
 fn engines(alloc: Global, count: usize, parts: &str) -> Result<String, AllocError> {
     let engine = format!(in alloc; "[{parts}],")?;
     let engines = engine.repeat(alloc, count)?;
@@ -13,7 +13,7 @@ fn engines(alloc: Global, count: usize, parts: &str) -> Result<String, AllocErro
     format!(in alloc; r#"["world",[{engines}]]"#)
 }
 
-/// So many engines of these parts are bad in this way.
+/// Asserts that this many engines of these parts are bad in this way.
 fn are_refused(
     rt: &impl Abort,
     alloc: Global,
@@ -25,7 +25,7 @@ fn are_refused(
     is_bad_first(rt, alloc, line.as_str(), why)
 }
 
-/// So many engines of these parts are opened.
+/// Asserts that this many engines of these parts are opened.
 fn are_opened(rt: &impl Abort, alloc: Global, count: usize, parts: &str) -> Result<(), AllocError> {
     let line = engines(alloc, count, parts)?;
     let script = format!(in alloc; "{line}\n")?;
@@ -62,7 +62,7 @@ fn their_number_goes_before_limits(rt: HostRuntime) -> Result<(), Fail> {
     Ok(())
 }
 
-/// All forms of the line are read before any limit.
+/// The form of the whole line is tested before any limit.
 #[test]
 fn each_engine_has_its_form(rt: HostRuntime) -> Result<(), Fail> {
     const FORMS: &[&str] = &[

@@ -1,4 +1,4 @@
-//! Scripts in which every line has its form.
+//! Scripts in which every line is of its form.
 
 use super::playing::{Around, ONE, joined, replies_so, replies_well, with_part};
 use std::alloc::{AllocError, Global};
@@ -16,7 +16,7 @@ fn no_steps_reply_nothing(rt: HostRuntime) -> Result<(), Fail> {
 /// A first line of one engine with two clients and three readers.
 const FIRST: &str = r#"["world",[[1,[1,3],2,3,4,4,10]]]"#;
 
-/// The text is one line.
+/// Asserts that the text is one line.
 fn is_one_line(rt: &impl Abort, text: &[u8], name: &str) {
     let Some((last, line)) = text.split_last() else {
         panic!(rt; "no text of {name}");
@@ -25,7 +25,7 @@ fn is_one_line(rt: &impl Abort, text: &[u8], name: &str) {
     assert!(rt; !line.contains(&b'\n'), "{name}");
 }
 
-/// The line replies with one line.
+/// Asserts that the reply to the line is one line.
 fn replies_one_line(rt: &impl Abort, alloc: Global, line: &str) -> Result<(), AllocError> {
     let script = format!(in alloc; "{FIRST}\n{line}\n")?;
     let replies = replies_well(rt, alloc, script.as_str());
@@ -33,7 +33,7 @@ fn replies_one_line(rt: &impl Abort, alloc: Global, line: &str) -> Result<(), Al
     Ok(())
 }
 
-/// So does each of these.
+/// The same for each of these.
 fn reply_lines(rt: &impl Abort, alloc: Global, lines: &[&str]) -> Result<(), Fail> {
     for line in lines {
         replies_one_line(rt, alloc, line)?;
@@ -84,7 +84,7 @@ fn single_steps_reply_a_line(rt: HostRuntime) -> Result<(), Fail> {
     reply_lines(&rt, rt.alloc(), LINES)
 }
 
-/// A message need not be there.
+/// A message need not exist.
 #[test]
 fn messages_reply_a_line(rt: HostRuntime) -> Result<(), Fail> {
     const LINES: &[&str] = &[
@@ -101,7 +101,7 @@ fn messages_reply_a_line(rt: HostRuntime) -> Result<(), Fail> {
     reply_lines(&rt, rt.alloc(), LINES)
 }
 
-/// What stands around a long text, its letter, and how many there are.
+/// What stands around a long text, its letter, and how often it is repeated.
 type Long<'a> = (Around<'a>, &'a str, usize);
 
 /// A key of 256 bytes, and a text of 4,096.
@@ -115,7 +115,7 @@ const LONG: &[Long] = &[
     ((r#"["push",0,0,["insert",[0],""#, r#""]]"#), "t", 4096),
 ];
 
-/// The line with the long text replies with one line.
+/// Asserts that the reply to the line with the long text is one line.
 fn long_replies(rt: &impl Abort, alloc: Global, row: &Long) -> Result<(), AllocError> {
     let (around, letter, count) = *row;
     let long = letter.repeat(alloc, count)?;

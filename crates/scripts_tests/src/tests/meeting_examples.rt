@@ -1,4 +1,4 @@
-//! Worked examples of engines that write apart and meet: what stands on both after that.
+//! Worked examples of engines that write apart and meet: what both show after that.
 
 use super::playing::replies_so;
 
@@ -189,7 +189,7 @@ fn an_item_deleted_and_assigned(rt: HostRuntime) {
     replies_so(&rt, rt.alloc(), SCRIPT, REPLIES);
 }
 
-/// A hello is answered by all that its vector leaves out, in order: everything, the last two, or nothing.
+/// A hello is answered with all that its vector leaves out, in order: everything, the last two, or nothing.
 #[test]
 fn hellos_are_answered(rt: HostRuntime) {
     const SCRIPT: &str =

@@ -1,4 +1,4 @@
-//! Scripts, and what is wanted of them.
+//! Plays scripts, and asserts what they reply.
 
 use scripts::replies_to;
 use std::alloc::{AllocError, Global};
@@ -8,7 +8,7 @@ use std::test::Fail;
 /// A first line of one engine with one client and one reader.
 pub const ONE: &str = r#"["world",[[1,[1],1,1,4,4,10]]]"#;
 
-/// The replies to a script that has them.
+/// The replies to a script that has no bad line.
 pub fn replies_well(rt: &impl Abort, alloc: Global, script: &str) -> String {
     match replies_to(alloc, script.as_bytes()) {
         Ok(replies) => replies,
@@ -16,7 +16,7 @@ pub fn replies_well(rt: &impl Abort, alloc: Global, script: &str) -> String {
     }
 }
 
-/// The script gets these replies.
+/// Asserts the replies to the script.
 pub fn replies_so(rt: &impl Abort, alloc: Global, script: &str, replies: &str) {
     let given = replies_well(rt, alloc, script);
     assert_eq!(rt; given.as_str(), replies, "{script}");
@@ -31,7 +31,7 @@ pub fn joined(alloc: Global, parts: &[&str]) -> Result<String, AllocError> {
     Ok(script)
 }
 
-/// What is told of these bytes, which are no script. A failure names them so.
+/// What is told of these bytes, which are no good script. A failure names them so.
 fn told_of(rt: &impl Abort, alloc: Global, bytes: &[u8], name: &str) -> Result<String, AllocError> {
     match replies_to(alloc, bytes) {
         Ok(_) => panic!(rt; "a script: {name}"),
@@ -39,7 +39,7 @@ fn told_of(rt: &impl Abort, alloc: Global, bytes: &[u8], name: &str) -> Result<S
     }
 }
 
-/// These bytes have a bad line with this number, which is bad in this way. A failure names them so.
+/// Asserts that these bytes have a bad line with this number, which is bad in this way. A failure names them so.
 pub fn is_refused(
     rt: &impl Abort,
     alloc: Global,
@@ -54,7 +54,7 @@ pub fn is_refused(
     Ok(())
 }
 
-/// The first line of a script is bad in this way.
+/// Asserts that the first line of a script is bad in this way.
 pub fn is_bad_first(
     rt: &impl Abort,
     alloc: Global,
@@ -65,7 +65,7 @@ pub fn is_bad_first(
     is_refused(rt, alloc, script.as_bytes(), script.as_str(), (1, why))
 }
 
-/// So are these.
+/// The same for each of these lines.
 pub fn are_bad_first(
     rt: &impl Abort,
     alloc: Global,
@@ -78,7 +78,7 @@ pub fn are_bad_first(
     Ok(())
 }
 
-/// The second line of a script is bad in this way, after this first line.
+/// Asserts that the second line of a script is bad in this way, after this first line.
 pub fn is_bad(
     rt: &impl Abort,
     alloc: Global,
@@ -90,7 +90,7 @@ pub fn is_bad(
     is_refused(rt, alloc, script.as_bytes(), script.as_str(), (2, why))
 }
 
-/// So are these.
+/// The same for each of these lines.
 pub fn are_bad(
     rt: &impl Abort,
     alloc: Global,
@@ -113,7 +113,7 @@ pub fn with_part(alloc: Global, around: Around, part: &str) -> Result<String, Al
     format!(in alloc; "{before}{part}{after}")
 }
 
-/// The second line is bad in this way with this part.
+/// Asserts that the second line is bad in this way with this part.
 pub fn is_bad_with(
     rt: &impl Abort,
     alloc: Global,
@@ -126,7 +126,7 @@ pub fn is_bad_with(
     is_bad(rt, alloc, first, line.as_str(), why)
 }
 
-/// So it is with each of these parts.
+/// The same for each of these parts.
 pub fn are_bad_with(
     rt: &impl Abort,
     alloc: Global,

@@ -1,5 +1,5 @@
-//! Readings of values, keys and conflicts as they are printed. Those of items stand with the replies, those of missing
-//! operations with the sessions.
+//! Readings of values, keys and conflicts, as they are printed. Those of items are among the replies, those of missing operations
+//! among the sessions.
 
 use super::replies::{Pair, id_of, prints_line};
 use cursor::Tag;
@@ -11,7 +11,7 @@ use std::test::Fail;
 use value::{Key, Scalar, Text};
 use world::WorldReply;
 
-/// What was read after 7 entries, beside the table 1, 2, 9, is printed so.
+/// Asserts how a reading after 7 entries, with the table 1, 2, 9, is printed.
 fn is_printed(rt: &impl Abort, alloc: Global, reading: Reading, answer: &str) -> Result<(), Fail> {
     let reply = WorldReply::Read {
         seen: 7,

@@ -41,14 +41,14 @@ fn items_of(alloc: Global, pairs: &[Pair]) -> Result<Reading, Refusal> {
     Ok(Reading::Items(items))
 }
 
-/// These replies are printed so.
+/// Asserts that these replies are printed as this text.
 fn prints(rt: &impl Abort, alloc: Global, replies: &[WorldReply], text: &str) -> Result<(), Fail> {
     let printed = reply_lines(alloc, replies)?;
     assert_eq!(rt; printed.as_str(), text);
     Ok(())
 }
 
-/// These replies are printed as this line.
+/// Asserts that these replies are printed as this line.
 pub fn prints_line(
     rt: &impl Abort,
     alloc: Global,
@@ -129,16 +129,16 @@ fn reply(says: Says) -> Result<WorldReply, Refusal> {
     }
 }
 
-/// A reply, and what is printed of it without the line feed.
+/// A reply, and how it is printed, without the line feed.
 type Row<'a> = (Says, &'a str);
 
-/// The reply is printed so.
+/// Asserts how the reply is printed.
 fn is_printed(rt: &impl Abort, alloc: Global, row: &Row) -> Result<(), Fail> {
     let reply = reply(row.0)?;
     prints_line(rt, alloc, &[reply], row.1)
 }
 
-/// Each reply is printed so.
+/// Asserts how each reply is printed.
 fn are_printed(rt: &impl Abort, alloc: Global, rows: &[Row]) -> Result<(), Fail> {
     for row in rows {
         is_printed(rt, alloc, row)?;
@@ -212,7 +212,7 @@ fn what_peers_sent(rt: HostRuntime) -> Result<(), Fail> {
     are_printed(&rt, rt.alloc(), ROWS)
 }
 
-/// A hello's number and the counters of its vector, beside the table 1, 2, 9, and what is printed of it.
+/// A hello's number and the counters of its vector, with the table 1, 2, 9, and how it is printed.
 type Hello<'a> = (u64, [u64; 3], &'a str);
 
 /// No counter, and the greatest of the replicas 1 and 9.
@@ -231,7 +231,7 @@ const HELLOS: &[Hello] = &[
     ),
 ];
 
-/// The hello is printed so.
+/// Asserts how the hello is printed.
 fn is_told(rt: &impl Abort, alloc: Global, hello: &Hello) -> Result<(), Fail> {
     let (message, counters, text) = *hello;
     let vector = vector(alloc, &counters)?;
@@ -251,7 +251,7 @@ fn hellos_tell_their_vector(rt: HostRuntime) -> Result<(), Fail> {
     Ok(())
 }
 
-/// How many entries were seen, the ids that were read, and what is printed of that.
+/// How many entries were seen, the ids that were read, and how that is printed.
 type Read<'a> = (u64, &'a [Pair], &'a str);
 
 const READ: &[Read] = &[
@@ -269,7 +269,7 @@ const READ: &[Read] = &[
     ),
 ];
 
-/// The ids are printed so.
+/// Asserts how the ids are printed.
 fn is_read(rt: &impl Abort, alloc: Global, read: &Read) -> Result<(), Fail> {
     let (seen, pairs, text) = *read;
     let reading = items_of(alloc, pairs)?;

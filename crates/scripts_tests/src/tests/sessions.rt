@@ -3,7 +3,7 @@
 use super::playing::{is_refused, replies_so};
 use std::test::Fail;
 
-/// A shopping list: it is made, asked of in each way, and one of its items goes.
+/// A shopping list: it is made, asked for in each way, and one of its items is deleted.
 #[test]
 fn a_shopping_list(rt: HostRuntime) {
     const SCRIPT: &str = r#"["world",[[1,[1,2],1,1,16,8,100]]]
@@ -172,7 +172,7 @@ fn single_steps(rt: HostRuntime) {
     replies_so(&rt, rt.alloc(), SCRIPT, REPLIES);
 }
 
-/// An operation whose dependence is missing waits until a bundle brings that.
+/// An operation whose dependency is missing waits until a bundle brings it.
 #[test]
 fn lost_line(rt: HostRuntime) {
     const SCRIPT: &str = r#"["world",[[1,[1,2],1,1,4,4,10],[2,[1,2],1,1,4,4,10]]]

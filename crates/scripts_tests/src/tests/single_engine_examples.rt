@@ -1,4 +1,4 @@
-//! Worked examples of one engine: what it answers to commands, questions and foreign lines from its opening on.
+//! Worked examples of one engine: its answers to commands, questions and foreign lines from its opening on.
 
 use super::playing::{Around, is_bad_with, replies_so, with_part};
 use std::alloc::{AllocError, Global};
@@ -85,7 +85,7 @@ fn deep(alloc: Global) -> Result<String, AllocError> {
     format!(in alloc; "{before}{keys}{between}{keys}{after}")
 }
 
-/// At a head there is no step, assign or delete; an insert wants a list, and a path has 32 keys.
+/// At a head no step, assign or delete is taken; an insert needs a list, and a path has at most 32 keys.
 #[test]
 fn refused_commands(rt: HostRuntime) -> Result<(), Fail> {
     const REPLIES: &str = r#"["ticket",1]
@@ -105,7 +105,7 @@ fn refused_commands(rt: HostRuntime) -> Result<(), Fail> {
     Ok(())
 }
 
-/// What a client wrote is read by itself, by one who learnt nothing, and by one who learnt of the answer.
+/// A write is read by its client, by a token that learnt nothing, and by one that learnt of the answer.
 #[test]
 fn one_write_read_by_all(rt: HostRuntime) {
     const SCRIPT: &str = r#"["world",[[1,[1,2,3],1,1,8,8,100]]]
@@ -145,7 +145,7 @@ fn a_queue_of_one_place(rt: HostRuntime) {
     replies_so(&rt, rt.alloc(), SCRIPT, REPLIES);
 }
 
-/// Serials that were never taken are foreign, and their end is told before a full queue.
+/// Serials that were never taken are foreign, and using up the serials is told before a full queue.
 #[test]
 fn serials_of_one_client(rt: HostRuntime) {
     const SCRIPT: &str = r#"["world",[[1,[1,2,3],1,1,1,8,1]]]
@@ -213,7 +213,7 @@ fn keeping(alloc: Global, key: &str) -> Result<String, AllocError> {
     format!(in alloc; "{before}{key}{between}{key}{after}")
 }
 
-/// The script with this key gets its replies.
+/// Asserts the replies to the script with this key.
 fn is_kept(rt: &impl Abort, alloc: Global, key: &str) -> Result<(), AllocError> {
     let script = keeping(alloc, key)?;
     let replies = with_part(alloc, KEPT_REPLIES, key)?;
@@ -247,7 +247,7 @@ fn values_past_their_limits(rt: HostRuntime) -> Result<(), Fail> {
     Ok(())
 }
 
-/// So it is with a key past its limit.
+/// The same with a key past its limit.
 #[test]
 fn keys_past_their_limits(rt: HostRuntime) -> Result<(), Fail> {
     let around = (r#"["push",0,0,["assign",[""#, r#""],1]]"#);

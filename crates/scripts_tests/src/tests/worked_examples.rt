@@ -1,4 +1,4 @@
-//! Worked examples of several engines: what they write apart, what gets lost, comes again or was never made.
+//! Worked examples of several engines: what they write apart, what gets lost, comes again or was forged.
 
 use super::playing::replies_so;
 
@@ -249,7 +249,7 @@ fn where_lines_stop(rt: HostRuntime) {
     replies_so(&rt, rt.alloc(), SCRIPT, REPLIES);
 }
 
-/// Engines with different members take what names their own alone; what is refused takes no number.
+/// Engines with different members take only operations that name their own members; what is refused takes no number.
 #[test]
 fn strange_replicas(rt: HostRuntime) {
     const SCRIPT: &str = r#"["world",[[1,[1,3],1,1,8,8,100],[2,[1,2],1,1,8,8,100]]]
@@ -290,7 +290,7 @@ fn strange_replicas(rt: HostRuntime) {
     replies_so(&rt, rt.alloc(), SCRIPT, REPLIES);
 }
 
-/// Items that two replicas insert at the same place apart stand in one order on both.
+/// Items that two replicas insert at one position apart stand in one order on both.
 #[test]
 fn lists_meet(rt: HostRuntime) {
     const SCRIPT: &str = r#"["world",[[1,[1,2],1,1,8,8,100],[2,[1,2],1,1,8,8,100]]]

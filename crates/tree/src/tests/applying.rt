@@ -1,4 +1,4 @@
-//! What applies an operation once all that it needs of its caller is so.
+//! Reserves and applies an operation after testing what the contracts require of it.
 
 ghost use Rattle.std.specs.Prelude.{◌≡◌, IsTrue, length};
 ghost use Rattle.ids.specs.Members.{is_member};
@@ -17,7 +17,7 @@ use std::alloc::Global;
 use std::process::Abort;
 use std::test::Fail;
 
-/// Makes what the operation needs, and applies it.
+/// Reserves and applies an operation.
 pub fn play(rt: &impl Abort, alloc: Global, tree: &mut Tree, op: &Op) -> Result<(), Fail> {
     tree.reserve(alloc, op)?;
     assert!(rt; may_apply(tree, op));
@@ -25,7 +25,7 @@ pub fn play(rt: &impl Abort, alloc: Global, tree: &mut Tree, op: &Op) -> Result<
     Ok(())
 }
 
-/// Whether the operation has the right form, is of these replicas, and has its place in the document.
+/// Whether the operation has the right form, names members only, and its place is in the document.
 fn may_apply(tree: &Tree, op: &Op) -> bool
     ensures placed { IsTrue result → IsPlaced (document tree.now) (stamped_of tree.now.table op.now) }
     ensures formed { IsTrue result → IsFormed (mutation_of op.now.mutation) op.now.place }
@@ -38,7 +38,7 @@ fn may_apply(tree: &Tree, op: &Op) -> bool
         && op.deps.width() == tree.table.len()
 }
 
-/// Whether an insert stands at a head or an item, and nothing else at a head.
+/// Whether an insert stands at a head or an item, and anything else at an element.
 fn is_formed(op: &Op) -> bool
     ensures { IsTrue result → IsFormed (mutation_of op.now.mutation) op.now.place }
 {
@@ -49,7 +49,7 @@ fn is_formed(op: &Op) -> bool
     }
 }
 
-/// Whether what an insert goes after is in its list, and its own id isn't.
+/// Whether the item that an insert goes after is in its list, and its own id isn't.
 fn fits(nodes: &[Node], op: &Op) -> bool
     requires { IsTree nodes.now }
     ensures { IsTrue result → FitsIn (context nodes.now) op.now.id (slot_of (mutation_of op.now.mutation) op.now.place) }

@@ -1,4 +1,4 @@
-//! Documents that operations leave, whose values the rules give.
+//! Documents that operations leave, with values worked out from the rules.
 
 use super::playing::on_new_both;
 use super::*;
@@ -68,7 +68,7 @@ fn rewritten_items_outlive_a_delete_that_saw_less(rt: HostRuntime) -> Result<(),
     on_new(&rt, rt.alloc(), PARTS)
 }
 
-/// Does each of these rows of turns, and then the last ones, with a new tree.
+/// Plays each of these tables of turns, and then the last ones, on a new tree.
 fn on_each(rt: &impl Abort, alloc: Global, rows: &[&[Turn]], last: &[Turn]) -> Result<(), Fail> {
     for row in rows {
         on_new_both(rt, alloc, row, last)?;

@@ -1,4 +1,4 @@
-//! What is done with a tree in a test, as rows, and what plays them.
+//! What is done with a tree in a test, as a table of turns, and what plays it.
 
 use super::applying::play;
 use super::rows::{Does, Pair, Where, element_of, op, pair_of};
@@ -10,12 +10,12 @@ use std::process::Abort;
 use std::test::Fail;
 use value::Scalar;
 
-/// Something that is done with a tree, or asked of it with what it answers.
+/// One turn: something that is done with a tree, or a question with its answer.
 #[derive(Clone, Copy)]
 pub enum Turn<'a> {
-    /// Makes what an operation needs, and applies it. It has this id, and depends on these counters of the replicas 1 and 2.
+    /// Reserves and applies an operation with this id, which depends on these counters of the replicas 1 and 2.
     Play(Pair, [u64; 2], Where<'a>, Does<'a>),
-    /// Makes what such an operation needs, and no more.
+    /// Reserves such an operation, and no more.
     Reserve(Pair, [u64; 2], Where<'a>, Does<'a>),
     /// The visible items of the list there.
     Items(Where<'a>, &'a [Pair]),
@@ -27,7 +27,7 @@ pub enum Turn<'a> {
     Conflicts(Where<'a>, &'a [(Pair, Tag)]),
 }
 
-/// Compares the items at an element.
+/// Asserts the items at an element.
 fn assert_items(
     rt: &impl Abort,
     alloc: Global,
@@ -43,7 +43,7 @@ fn assert_items(
     Ok(())
 }
 
-/// Compares the keys there.
+/// Asserts the keys there.
 fn assert_keys(
     rt: &impl Abort,
     alloc: Global,
@@ -59,7 +59,7 @@ fn assert_keys(
     Ok(())
 }
 
-/// The text that a scalar is.
+/// The text of a scalar, if it is one.
 fn text_in(scalar: &Scalar) -> Option<&str> {
     match scalar {
         Scalar::Text(text) => Some(text.as_str()),
@@ -67,7 +67,7 @@ fn text_in(scalar: &Scalar) -> Option<&str> {
     }
 }
 
-/// Compares the values there, which are texts.
+/// Asserts the values there, which are texts.
 pub fn assert_values(
     rt: &impl Abort,
     alloc: Global,
@@ -87,7 +87,7 @@ pub fn assert_values(
     Ok(())
 }
 
-/// Compares the presence there.
+/// Asserts the presence there.
 fn assert_conflicts(
     rt: &impl Abort,
     alloc: Global,
@@ -103,7 +103,7 @@ fn assert_conflicts(
     Ok(())
 }
 
-/// Does a turn.
+/// Plays a turn.
 fn take_turn(rt: &impl Abort, alloc: Global, tree: &mut Tree, turn: Turn) -> Result<(), Fail> {
     match turn {
         Turn::Play(pair, counters, at, does) => {
@@ -133,7 +133,7 @@ fn take_turn(rt: &impl Abort, alloc: Global, tree: &mut Tree, turn: Turn) -> Res
     }
 }
 
-/// Does these turns, one after another.
+/// Plays these turns in order.
 pub fn take_turns(
     rt: &impl Abort,
     alloc: Global,
@@ -152,7 +152,7 @@ pub fn empty(alloc: Global) -> Result<Tree, Refusal> {
     Ok(Tree::new(alloc, &table)?)
 }
 
-/// Does the turns of each part with one new tree.
+/// Plays the turns of each part on one new tree.
 pub fn on_new(rt: &impl Abort, alloc: Global, parts: &[&[Turn]]) -> Result<(), Fail> {
     let mut tree = empty(alloc)?;
     for turns in parts {
@@ -161,7 +161,7 @@ pub fn on_new(rt: &impl Abort, alloc: Global, parts: &[&[Turn]]) -> Result<(), F
     Ok(())
 }
 
-/// Does these turns and then those with a tree.
+/// Plays these turns and then those on a tree.
 fn take_both(
     rt: &impl Abort,
     alloc: Global,
@@ -173,7 +173,7 @@ fn take_both(
     take_turns(rt, alloc, tree, last)
 }
 
-/// Does these turns and then those with one new tree.
+/// Plays these turns and then those on one new tree.
 pub fn on_new_both(
     rt: &impl Abort,
     alloc: Global,

@@ -1,4 +1,4 @@
-//! What a reserve leaves as it was, and what may follow it.
+//! What `reserve` leaves as it was, and what may follow it.
 
 use super::playing::{assert_values, empty, take_turns};
 use super::*;
@@ -34,7 +34,7 @@ const HELD: &[Turn] = &[
     Conflicts(LIST, &[((1, 1), Tag::List), ((2, 1), Tag::List)]),
 ];
 
-/// An operation of each form is reserved, beside the groceries.
+/// Reserves an operation of each form, among the groceries.
 const FORMS: &[&[Turn]] = &[
     &[Reserve(
         (4, 2),
@@ -56,14 +56,14 @@ fn at_first(alloc: Global) -> Result<Expr, Fail> {
     Ok(Expr::new(steps))
 }
 
-/// Where the first item of the list is.
+/// The place of the list's first item.
 fn first_item(alloc: Global, tree: &Tree) -> Result<ElementPlace, Fail> {
     let expression = at_first(alloc)?;
     let place = tree.resolve(alloc, &expression)?;
     Ok(place.into_element().ok_or("a head")?)
 }
 
-/// Reserves an operation, and asks for all that the groceries hold.
+/// Reserves an operation, and asserts all that the groceries hold.
 fn assert_held(rt: &impl Abort, alloc: Global, tree: &mut Tree, form: &[Turn]) -> Result<(), Fail> {
     take_turns(rt, alloc, tree, form)?;
     take_turns(rt, alloc, tree, HELD)?;
@@ -72,7 +72,7 @@ fn assert_held(rt: &impl Abort, alloc: Global, tree: &mut Tree, form: &[Turn]) -
 
 const KEYS: &[Turn] = &[Keys(ROOT, &["list", "note"])];
 
-/// Reserves an operation twice, and asks for all that the groceries hold each time.
+/// Reserves an operation twice, and asserts all that the groceries hold each time.
 fn assert_keeps(
     rt: &impl Abort,
     alloc: Global,
@@ -85,7 +85,7 @@ fn assert_keeps(
     assert_values(rt, alloc, tree, &first, &[((2, 1), "eggs")])
 }
 
-/// Reserves each form, with one tree.
+/// Reserves each form, on one tree.
 fn assert_keeps_all(rt: &impl Abort, alloc: Global, tree: &mut Tree) -> Result<(), Fail> {
     for form in FORMS {
         assert_keeps(rt, alloc, tree, form)?;
@@ -100,7 +100,7 @@ fn reserves_keep_the_content(rt: HostRuntime) -> Result<(), Fail> {
     assert_keeps_all(&rt, rt.alloc(), &mut tree)
 }
 
-/// Makes the groceries, reserves a form, and does these turns and then those.
+/// Makes the groceries, reserves a form, and plays these turns and then those.
 fn take_after(
     rt: &impl Abort,
     alloc: Global,
@@ -115,7 +115,7 @@ fn take_after(
     take_turns(rt, alloc, tree, last)
 }
 
-/// The same with a new tree.
+/// The same on a new tree.
 fn on_new_after(
     rt: &impl Abort,
     alloc: Global,
@@ -146,7 +146,7 @@ fn another_operation_follows_each_reserve(rt: HostRuntime) -> Result<(), Fail> {
     after_each(&rt, rt.alloc(), LATE, HELD)
 }
 
-/// A map is assigned, and is all that stands there.
+/// Assigns a map, which is all that stands there.
 const MAP: &[Turn] = &[
     Play((4, 1), [3, 0], MORE, Does::Map),
     Values(MORE, &[]),

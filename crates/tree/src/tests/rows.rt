@@ -1,4 +1,4 @@
-//! Operations and places as rows of a test.
+//! Operations and places as they are written in a table of turns.
 
 use cursor::{ElementPlace, Place};
 use ids::{OpId, Refusal, ReplicaId};
@@ -81,7 +81,7 @@ fn place_of(alloc: Global, at: Where) -> Result<Place, Refusal> {
     }
 }
 
-/// The place of a row, which is no head, as that of an element.
+/// The place of a row, which must not be a head, as an element's.
 pub fn element_of(alloc: Global, at: Where) -> Result<ElementPlace, Fail> {
     let place = place_of(alloc, at)?;
     Ok(place.into_element().ok_or("a head")?)

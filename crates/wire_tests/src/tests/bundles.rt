@@ -23,7 +23,7 @@ fn table(alloc: Global) -> Result<ReplicaTable, Refusal> {
     ReplicaTable::new(alloc, &[1, 2])
 }
 
-/// The operations are written as this text.
+/// Asserts that the operations are written as this text.
 fn are_written(rt: &impl Abort, alloc: Global, ops: &[Op], want: &str) -> Result<(), Refusal> {
     let table = table(alloc)?;
     let text = write_bundle(alloc, ops, &table)?;
@@ -62,7 +62,7 @@ fn no_operation_is_no_byte(rt: HostRuntime) -> Result<(), Fail> {
     Ok(())
 }
 
-/// So many operations are read of the text as lines, until it ends or a line stops it.
+/// Asserts how many operations are read from the text as lines, and what stops it.
 fn lines_are_read(
     rt: &impl Abort,
     alloc: Global,
@@ -77,13 +77,13 @@ fn lines_are_read(
     Ok(())
 }
 
-/// How many operations are read of the text as a bundle, or the line that stops it and why.
+/// How many operations are read from the text as a bundle, or the line that stops it and why.
 fn bundle_len(alloc: Global, text: &[u8]) -> Result<Result<usize, (u64, Refusal)>, Refusal> {
     let table = table(alloc)?;
     Ok(read_bundle(alloc, text, &table).map(|ops| ops.len()))
 }
 
-/// So many operations are read of the text, as lines and as a bundle, until it ends or a line stops it.
+/// Asserts how many operations are read from the text, as lines and as a bundle, and what stops it.
 fn is_read(
     rt: &impl Abort,
     alloc: Global,
@@ -104,7 +104,7 @@ fn is_read(
 /// Where the lines end in their text.
 const ENDS: [usize; 5] = [30, 81, 144, 209, 276];
 
-/// The text is whole after each line feed, and at no other byte.
+/// A bundle is whole after each line feed, and at no other byte.
 #[test]
 fn bundles_are_cut(rt: HostRuntime) -> Result<(), Fail> {
     let text = five_lines(rt.alloc())?;
@@ -121,7 +121,7 @@ fn bundles_are_cut(rt: HostRuntime) -> Result<(), Fail> {
     Ok(())
 }
 
-/// The parts of a text, how many operations are read of it, and why no more are.
+/// The parts of a text, how many operations are read from it, and why no more are.
 type Row<'a> = (&'a [&'a str], u32, Refusal);
 
 const GOOD: &str = r#"["op",[1,1],[],[],0,["a",{}]]"#;
@@ -145,7 +145,7 @@ const STOPPED: &[Row] = &[
     ),
 ];
 
-/// The text of a row is read so far.
+/// Asserts how far the text of a row is read.
 fn is_stopped(rt: &impl Abort, alloc: Global, row: &Row) -> Result<(), Refusal> {
     let (parts, count, why) = *row;
     let text = joined(alloc, parts)?;

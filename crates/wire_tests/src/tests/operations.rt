@@ -8,7 +8,7 @@ use std::process::Abort;
 use std::test::Fail;
 use wire::{read_op, write_op};
 
-/// The operation is written as this line, beside the table.
+/// Asserts that the operation is written as this line.
 fn is_written(
     rt: &impl Abort,
     alloc: Global,
@@ -21,7 +21,7 @@ fn is_written(
     Ok(())
 }
 
-/// Both operations have the same parts; the first one's vector has two counters.
+/// Asserts that both operations have the same parts; the first one's vector has two counters.
 fn are_same(rt: &impl Abort, again: &Op, op: &Op, line: &str) {
     assert_eq!(rt; again.id, op.id, "{line}");
     assert_eq!(rt; again.place, op.place, "{line}");
@@ -29,7 +29,7 @@ fn are_same(rt: &impl Abort, again: &Op, op: &Op, line: &str) {
     assert_eq!(rt; again.deps.width(), 2, "{line}");
 }
 
-/// The line of the operation is this one, and the operation is read of it.
+/// Asserts that this is the operation's line, and that it is read back as the operation.
 fn has_line(rt: &impl Abort, alloc: Global, op: &Op, line: &str) -> Result<(), Refusal> {
     let table = ReplicaTable::new(alloc, &[1, 2])?;
     is_written(rt, alloc, op, &table, line)?;
@@ -51,7 +51,7 @@ fn operations_are_read_as_they_are_written(rt: HostRuntime) -> Result<(), Fail> 
 /// The counter and the replica of an id.
 type Pair = (u64, u32);
 
-/// What is read of a line beside the table 1, 2: the id, or why there is no operation.
+/// What is read from a line with the table 1, 2: the id, or why there is no operation.
 fn read(alloc: Global, line: &[u8]) -> Result<Pair, Refusal> {
     let table = ReplicaTable::new(alloc, &[2, 1])?;
     let op = read_op(alloc, line, &table)?;
@@ -59,22 +59,22 @@ fn read(alloc: Global, line: &[u8]) -> Result<Pair, Refusal> {
     Ok((id.counter, id.replica.number()))
 }
 
-/// This is read of the line.
+/// Asserts what is read from the line.
 fn is_read(rt: &impl Abort, alloc: Global, line: &str, want: Result<Pair, Refusal>) {
     assert_eq!(rt; read(alloc, line.as_bytes()), want, "{line}");
 }
 
-/// A line, and what is read of it.
+/// A line, and what is read from it.
 type Row<'a> = (&'a str, Result<Pair, Refusal>);
 
-/// This is read of each line.
+/// Asserts what is read from each line.
 fn are_read(rt: &impl Abort, alloc: Global, rows: &[Row]) {
     for (line, want) in rows {
         is_read(rt, alloc, line, *want);
     }
 }
 
-/// None of these lines is an operation.
+/// Asserts that none of these lines is an operation.
 fn are_bad(rt: &impl Abort, alloc: Global, lines: &[&str]) {
     for line in lines {
         is_read(rt, alloc, line, Err(Refusal::BadLine));
@@ -166,7 +166,7 @@ fn parts_without_form(rt: HostRuntime) {
     are_bad(&rt, rt.alloc(), LINES);
 }
 
-/// The line with this part is no operation.
+/// Asserts that the line with this part is no operation.
 fn is_bad_with(
     rt: &impl Abort,
     alloc: Global,
@@ -188,7 +188,7 @@ fn texts_with_control_characters(rt: HostRuntime) -> Result<(), Fail> {
     Ok(())
 }
 
-/// White space that JSON doesn't have.
+/// White space that JSON doesn't allow.
 #[test]
 fn other_white_space(rt: HostRuntime) -> Result<(), Fail> {
     let before = ("", r#"["op",[1,1],[],[],0,["d"]]"#);
@@ -253,7 +253,7 @@ fn places_without_form(rt: HostRuntime) {
     are_bad(&rt, rt.alloc(), LINES);
 }
 
-/// What an operation does, and why no operation is read of its line.
+/// What an operation does, and why no operation is read from its line.
 const MUTATIONS: &[(&str, Refusal)] = &[
     (r#"["a",1.5]"#, Refusal::NotWhole),
     (r#"["a",1.0]"#, Refusal::NotWhole),
@@ -276,7 +276,7 @@ const MUTATIONS: &[(&str, Refusal)] = &[
     (r#"[1]"#, Refusal::BadLine),
 ];
 
-/// No operation is read of a line that does this, for this reason.
+/// Asserts that no operation is read from a line that does this, for this reason.
 fn is_no_mutation(
     rt: &impl Abort,
     alloc: Global,
@@ -326,7 +326,7 @@ fn faults_in_their_order(rt: HostRuntime) {
             r#"["op",[1,1],[],[["l",0],["m",[1,3]]],null,["a",1.5]]"#,
             Err(Refusal::UnknownReplica),
         ),
-        // The keys before the place's form.
+        // The keys come before how they fit together.
         (
             r#"["op",[1,1],[],[["m",1]],[1,3],["d"]]"#,
             Err(Refusal::UnknownReplica),
@@ -335,7 +335,7 @@ fn faults_in_their_order(rt: HostRuntime) {
     are_read(&rt, rt.alloc(), ROWS);
 }
 
-/// Lines that are read, and what is wrong with their operations alone.
+/// Lines that are read, and the faults that their operations have alone.
 const ALONE: &[(&str, Result<(), Refusal>)] = &[
     (r#"["op",[1,1],[],[],0,["a",{}]]"#, Ok(())),
     (
@@ -352,7 +352,7 @@ const ALONE: &[(&str, Result<(), Refusal>)] = &[
     ),
 ];
 
-/// The operation of the line is answered so alone.
+/// Asserts what `check_alone` answers about the operation of the line.
 fn is_answered(
     rt: &impl Abort,
     alloc: Global,
@@ -365,7 +365,7 @@ fn is_answered(
     Ok(())
 }
 
-/// What is read alone, and is refused beside other operations, or alone by what it says.
+/// What is read, and is refused only later: alone for what it says, or against a history.
 #[test]
 fn operations_that_are_read_and_refused_alone(rt: HostRuntime) -> Result<(), Fail> {
     for (line, want) in ALONE {
@@ -374,7 +374,7 @@ fn operations_that_are_read_and_refused_alone(rt: HostRuntime) -> Result<(), Fai
     Ok(())
 }
 
-/// What stands around a part that comes so many times, and what is read of the line.
+/// What stands around a part, the part, how often it is repeated, and what is read from the line.
 type Long<'a> = (Around<'a>, &'a str, usize, Result<Pair, Refusal>);
 
 const PATH: Around = (r#"["op",[1,1],[],[["m",0]"#, r#"],"a",["d"]]"#);
@@ -392,7 +392,7 @@ const LONG: &[Long] = &[
     (TEXT, "t", 4097, Err(Refusal::TextTooLong)),
 ];
 
-/// This is read of the line of a row.
+/// Asserts what is read from the line of a row.
 fn is_long(rt: &impl Abort, alloc: Global, row: &Long) -> Result<(), AllocError> {
     let (around, part, times, want) = *row;
     let parts = part.repeat(alloc, times)?;
@@ -409,14 +409,14 @@ fn lengths_are_limited(rt: HostRuntime) -> Result<(), Fail> {
     Ok(())
 }
 
-/// So many lists within one another.
+/// This many lists within one another.
 fn nested(alloc: Global, times: usize) -> Result<String, AllocError> {
     let open = "[".repeat(alloc, times)?;
     let close = "]".repeat(alloc, times)?;
     joined(alloc, &[open.as_str(), close.as_str()])
 }
 
-/// So many lists within those of a line of a replica that is no member are refused for this reason.
+/// Asserts why a line is refused with this many lists inside it, whose replica isn't a member.
 fn is_nested(rt: &impl Abort, alloc: Global, times: usize, why: Refusal) -> Result<(), AllocError> {
     let lists = nested(alloc, times)?;
     let line = with_part(
@@ -428,7 +428,7 @@ fn is_nested(rt: &impl Abort, alloc: Global, times: usize, why: Refusal) -> Resu
     Ok(())
 }
 
-/// A line of a replica that is no member is told as such where its text is JSON: with 125 lists inside the mutation's and the line's.
+/// A line of a replica that isn't a member is refused as such if its text is JSON: with 125 lists inside the mutation's and the line's.
 #[test]
 fn nesting_is_limited(rt: HostRuntime) -> Result<(), Fail> {
     is_nested(&rt, rt.alloc(), 125, Refusal::UnknownReplica)?;

@@ -7,14 +7,14 @@ use std::process::Abort;
 use std::test::Fail;
 use wire::{read_vector, write_vector};
 
-/// What is written of the vector that is read of this line beside the table 1, 2, 9, or why none is read.
+/// What is written of the vector that is read from this line with the table 1, 2, 9, or why none is read.
 fn rewritten(alloc: Global, line: &str) -> Result<Vec<u8>, Refusal> {
     let table = ReplicaTable::new(alloc, &[9, 1, 2])?;
     let vector = read_vector(alloc, line.as_bytes(), &table)?;
     Ok(write_vector(alloc, &vector, &table)?)
 }
 
-/// The vector of this line is written so.
+/// Asserts that the vector of this line is written as that text.
 fn is_written(rt: &impl Abort, alloc: Global, line: &str, written: &str) -> Result<(), Refusal> {
     let again = rewritten(alloc, line)?;
     assert_eq!(rt; again.as_slice(), written.as_bytes(), "{line}");
@@ -51,7 +51,7 @@ fn white_space_is_not_written(rt: HostRuntime) -> Result<(), Fail> {
     Ok(())
 }
 
-/// No vector is read of this line, for this reason.
+/// Asserts that no vector is read from this line, for this reason.
 fn is_refused(rt: &impl Abort, alloc: Global, line: &str, why: Refusal) {
     let read = rewritten(alloc, line).err();
     assert_eq!(rt; read, Some(why), "{line}");
@@ -80,7 +80,7 @@ fn lines_that_are_no_vectors(rt: HostRuntime) {
 /// What stands around the pairs of a vector.
 const HELLO: Around = (r#"["hello","#, "]");
 
-/// No vector is read of a line with these pairs, for this reason.
+/// Asserts that no vector is read from a line with these pairs, for this reason.
 fn are_refused(
     rt: &impl Abort,
     alloc: Global,
@@ -114,7 +114,7 @@ fn vectors_without_form(rt: HostRuntime) -> Result<(), Fail> {
         "[[1,1],[1,1]]",
         "[[2,2],[1,2]]",
         "[[1,1],[9,3],[9,4]]",
-        // Not rising, and no member: that it doesn't rise comes first.
+        // Not rising, and not a member: that it doesn't rise comes first.
         "[[9,1],[3,1]]",
         "[[1,1],[0,1],[3,1]]",
     ];

@@ -1,4 +1,4 @@
-//! How clients of an engine submit, and what its tokens say to other engines and its clients receive from them.
+//! What clients of an engine submit and receive, and what its tokens send to other engines.
 
 ghost use Rattle.std.specs.Prelude.{◌≡◌, ◌≢◌, ◌⊎◌, ◌++◌, ◌∷◌, [], ◌+◌, ◌<◌, ◌≤◌, ◌^◌, ◌==◌, cond, true, false, ℕ, List, OnOk, OnErr, IfOk, IfNone, IfSome, MatchResult, Option, Some, map, length, slice_get};
 ghost use Rattle.std.specs.List.{All};
@@ -56,7 +56,7 @@ impl Engine {
         self.clients[client].cells.len() as u64 + 1
     }
 
-    /// A client that is there submits a request; what is given is why that was refused, if it was.
+    /// A client that is there submits a request. Returns why that was refused, or `None` if it was taken.
     ///
     /// # Errors
     /// `AllocError` if allocation fails.
@@ -79,7 +79,7 @@ impl Engine {
         Ok(None)
     }
 
-    /// A token says hello in a message.
+    /// A token sends a hello.
     ///
     /// # Errors
     /// `AllocError` if allocation fails.
@@ -109,7 +109,7 @@ impl Engine {
         })
     }
 
-    /// A token answers a hello by a bundle of what that lacks. Copies those operations.
+    /// A token answers a hello with a bundle of what the sender lacks. Copies those operations.
     ///
     /// # Errors
     /// `AllocError` if allocation fails.
@@ -149,7 +149,7 @@ impl Engine {
     /// The published operations that a hello doesn't cover.
     ///
     /// # Errors
-    /// `UnknownReplica` where it names a replica that is no member, `NoMemory` where a growth was refused.
+    /// `UnknownReplica` if it names a replica that isn't a member, `NoMemory` if allocation fails.
     fn lacked(&self, alloc: Global, hello: &NamedVector) -> Result<NamedOps, Refusal>
         ensures { MatchResult result
             (λ b. (map (stamped_of b.table) b.ops.items ≡ lacked self.now (by_table hello.now.table hello.now.vector)) × (names_members self.now (by_table hello.now.table hello.now.vector) ≡ true))
@@ -206,7 +206,7 @@ impl Engine {
     /// A client submits the operations that were read, up to the first that is refused; the line after them may be bad.
     ///
     /// # Errors
-    /// `AllocError` if allocation fails, then or in reading.
+    /// `AllocError` if allocation fails, here or when the operations were read.
     fn receive(&mut self, client: usize, read: LinesRead) -> Result<WorldReply, AllocError>
         requires reached { IsReachedEngine self.old }
         requires wide { All (λ o. length o.deps ≡ length self.old.replica.members) read.ops.items }
@@ -233,7 +233,8 @@ impl Engine {
         })
     }
 
-    /// A client that is there submits the operations, up to the first that is refused. Gives how many it submitted, and why the next one was refused, if it was.
+    /// A client that is there submits the operations, up to the first that is refused. Returns how many it submitted, and why the
+    /// next one was refused, if it was.
     ///
     /// # Errors
     /// `AllocError` if allocation fails.
@@ -261,10 +262,10 @@ impl Engine {
     }
 }
 
-/// Keeps an item for its client, and puts it last into the queue. Copies it once.
+/// Keeps a submission for its client, and puts it at the back of the queue. Copies it once.
 ///
 /// # Errors
-/// `AllocError` if allocation fails: nothing is kept or queued then.
+/// `AllocError` if allocation fails. Nothing is kept or queued then.
 fn enqueue(queue: &mut VecDeque<Item>, k: &mut Client, item: Item) -> Result<(), AllocError>
     ensures queue { OnOk result (queue.new.items ≡ queue.old.items ++ item ∷ []) }
     ensures client { OnOk result ((table : List ℕ) → client_of table k.new ≡ with_cell (client_of table k.old) (submitted_of table item)) }
@@ -289,7 +290,7 @@ fn hello_at(messages: &[Message], number: usize) -> Option<&NamedVector>
     }
 }
 
-/// The first serial of so many that were submitted from this one on, 0 where there is none.
+/// The first serial of this many submissions, 0 if there is none.
 fn first_serial(submitted: u64, serial: u64) -> u64
     ensures { result ≡ cond (submitted == 0) 0 serial }
 {
@@ -309,7 +310,7 @@ fn first_refusal(refused: Option<Refusal>, bad: Option<Refusal>) -> Option<Refus
     }
 }
 
-/// The line after so many, where that is refused.
+/// The stop at the next line, if that is refused.
 fn stop_after(submitted: u64, refused: Option<Refusal>) -> Option<(u64, Refusal)>
     requires { submitted + 1 < 2 ^ 64 }
     ensures { result ≡ stop_after submitted refused }

@@ -1,4 +1,4 @@
-//! What tokens of an engine read: answers to what was submitted, and to questions. What a token reads, it has seen.
+//! What tokens of an engine read: answers to submissions, and to questions. What a token reads, it has seen.
 
 ghost use Rattle.std.specs.Prelude.{◌≡◌, OnErr, OnOk, IfOk, map, length, option_map, option_and_then, List, ℕ};
 ghost use Rattle.semantics.specs.Engine.{Engine as TheEngine, Read, published_entries};
@@ -106,7 +106,7 @@ impl Engine {
     }
 }
 
-/// The answer to a client's serial, once it is set.
+/// The answer to a client's serial once it is set.
 fn answer_under(clients: &[Client], client: usize, serial: u64) -> Option<Given>
     ensures { (table : List ℕ) (E : TheEngine) → E.clients ≡ map (client_of table) clients.now →
         option_map given_of result ≡ option_and_then (λ cell. cell.answer) (cell_under E client serial) }
@@ -127,7 +127,7 @@ fn seen_by(clients: &[Client], readers: &[usize], token: usize) -> usize
     }
 }
 
-/// A token has then seen so many entries.
+/// Notes that a token has seen this many entries.
 fn see(clients: &mut Vec<Client>, readers: &mut Vec<usize>, token: usize, seen: usize)
     ensures { (table : List ℕ) (E : TheEngine) → E.clients ≡ map (client_of table) clients.old.items → E.readers ≡ readers.old.items →
         see E token seen ≡ record E { clients = map (client_of table) clients.new.items; readers = readers.new.items } }

@@ -22,10 +22,10 @@ use std::alloc::{AllocError, Global};
 use std::mem;
 
 impl Engine {
-    /// The writer takes the oldest item and handles it, while fewer than a batch are handled and none of them is published.
+    /// The writer takes the oldest submission and handles it, if fewer than a batch are handled and none is due.
     ///
     /// # Errors
-    /// `AllocError` if allocation fails: the item may be handled in part then, and is still in the queue.
+    /// `AllocError` if allocation fails. The submission may be handled in part then, and is still in the queue.
     pub fn take(&mut self, alloc: Global) -> Result<WorldReply, AllocError>
         requires { IsReachedEngine self.old }
         ensures engine { OnOk result (self.new ≡ (take_item self.old).engine) }
@@ -50,7 +50,7 @@ impl Engine {
     /// The writer publishes all that it handled. Clones nothing.
     ///
     /// # Errors
-    /// `AllocError` if allocation fails: some entries may be published then.
+    /// `AllocError` if allocation fails. Some entries may be published then.
     pub fn publish(&mut self, alloc: Global) -> Result<WorldReply, AllocError>
         ensures engine { OnOk result (self.new ≡ (publish self.old).engine) }
         ensures reply { IfOk result (λ r. reply_of r ≡ (publish self.old).reply) }
@@ -65,7 +65,7 @@ impl Engine {
         Ok(WorldReply::Published(count as u64))
     }
 
-    /// The writer sets the answer to the oldest published item.
+    /// The writer sets the answer to the oldest published submission.
     pub fn give(&mut self) -> WorldReply
         ensures engine { self.new ≡ (give self.old).engine }
         ensures reply { reply_of result ≡ (give self.old).reply }
@@ -86,7 +86,7 @@ impl Engine {
     /// The writer takes while it may, publishes if it may, and then sets all answers.
     ///
     /// # Errors
-    /// `AllocError` if allocation fails: some items may be handled then, and are not answered.
+    /// `AllocError` if allocation fails. Some submissions may be handled then, and are not answered.
     pub fn step(&mut self, alloc: Global) -> Result<WorldReply, AllocError>
         requires { IsReachedEngine self.old }
         ensures engine { OnOk result (self.new ≡ (whole_step self.old).engine) }
@@ -103,10 +103,10 @@ impl Engine {
         Ok(WorldReply::Published(count as u64))
     }
 
-    /// Takes up to a batch of items.
+    /// Takes up to a batch of submissions.
     ///
     /// # Errors
-    /// `AllocError` if allocation fails: an item may be handled in part then.
+    /// `AllocError` if allocation fails. A submission may be handled in part then.
     fn take_all(&mut self, alloc: Global) -> Result<(), AllocError>
         requires { IsReachedEngine self.old }
         ensures engine { OnOk result (self.new ≡ take_for self.old.batch self.old) }
@@ -121,7 +121,7 @@ impl Engine {
         Ok(())
     }
 
-    /// Sets so many answers.
+    /// Sets this many answers.
     fn give_all(&mut self, count: usize)
         ensures { self.new ≡ give_for count self.old }
     {
@@ -131,10 +131,10 @@ impl Engine {
     }
 }
 
-/// Handles an item as the rules have it. Clones what the history keeps.
+/// Handles a submission as the rules have it. Clones what the history keeps.
 ///
 /// # Errors
-/// `AllocError` if allocation fails. The item may be handled in part then.
+/// `AllocError` if allocation fails. The submission may be handled in part then.
 fn handle(
     alloc: Global,
     handler: &mut Handler,
@@ -158,14 +158,14 @@ fn handle(
     Ok(reply)
 }
 
-/// Whether an item was refused because allocation failed.
+/// Whether a submission was refused because an allocation failed.
 fn is_no_memory(reply: &Reply) -> bool
     ensures { result ≡ is_no_memory (answer_of reply.now) }
 {
     matches!(reply, Reply::Refused(Refusal::NoMemory, _))
 }
 
-/// The clients after the answer to one's serial is set.
+/// Sets the answer to a client's serial.
 fn give_to(clients: &mut Vec<Client>, client: usize, serial: u64, given: Given)
     ensures { (table : List ℕ) → map (client_of table) clients.new.items ≡ give_to (map (client_of table) clients.old.items) client serial (given_of given) }
 {

@@ -1,11 +1,11 @@
-//! What engines reply of nested documents: each command and each question, and why they are refused.
+//! What engines reply about nested documents: each command and each question, and why they are refused.
 
 use super::*;
 
 /// Where the list is.
 const AT_LIST: &[To] = &[AtKey("shopping")];
 
-/// Where its head is, its items, and what would be behind them.
+/// The list's head, its items, and what would come after them.
 const AT_HEAD: &[To] = &[AtKey("shopping"), Place(0)];
 
 const AT_FIRST: &[To] = &[AtKey("shopping"), Place(1)];
@@ -16,7 +16,7 @@ const AT_THIRD: &[To] = &[AtKey("shopping"), Place(3)];
 
 const AT_FOURTH: &[To] = &[AtKey("shopping"), Place(4)];
 
-/// A place below the head.
+/// An expression with a step from the head.
 const BELOW_HEAD: &[To] = &[AtKey("shopping"), Place(0), AtKey("a")];
 
 /// A list with three items, made in one batch: 1@1 is the map, 2@1 the list, 3@1 and 4@1 stand at its front.
@@ -36,7 +36,7 @@ fn shop(rt: &impl Abort, alloc: Global) -> Result<World, Fail> {
     Ok(world)
 }
 
-/// In such a world, each act gets its reply.
+/// Asserts the replies in such a world.
 fn shop_replies(rt: &impl Abort, alloc: Global, rows: &[Row]) -> Result<(), Fail> {
     let mut world = shop(rt, alloc)?;
     replies(rt, alloc, &mut world, 0, rows)
@@ -113,7 +113,7 @@ fn each_value_is_read_as_written(rt: HostRuntime) -> Result<(), Fail> {
     Ok(())
 }
 
-/// Commands that are refused, and what their client is answered.
+/// Commands that are refused, and the answers to their client.
 const REFUSED: &[Row] = &[
     (Assign(0, AT_HEAD, Null), "Refused E2 at 5"),
     (Delete(0, AT_HEAD), "Refused E2 at 5"),
@@ -165,7 +165,7 @@ const LACKING: &[([u64; 2], &str)] = &[
     ([9, 0], "Read 5:"),
 ];
 
-/// Token 1 reads so what a vector of these counters lacks.
+/// Asserts what token 1 reads for what a vector of these counters lacks.
 fn reads_missing(
     rt: &impl Abort,
     alloc: Global,

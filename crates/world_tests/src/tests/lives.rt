@@ -1,4 +1,4 @@
-//! How a world is opened, counts its steps, and ends for want of memory.
+//! How a world is opened, counts its steps, and is poisoned by a failed allocation.
 
 use super::*;
 
@@ -34,12 +34,12 @@ const BAD: &[Opening] = &[
     (1, &[1], (1, 1, 1, 1, 0)),
 ];
 
-/// Opens a world of a good engine and one that is configured so.
+/// Opens a world of a good engine and one of this configuration.
 fn open_with(alloc: Global, opening: Opening) -> Result<World, Refusal> {
     engines(alloc, (1, &[1], (1, 1, 1, 1, 1)), opening)
 }
 
-/// Such a world is refused for this reason, or opens.
+/// Asserts why such a world is refused, or that it opens.
 fn opens(rt: &impl Abort, alloc: Global, opening: Opening, want: Option<Refusal>) {
     let (own, members, sizes) = opening;
     assert_eq!(rt;
@@ -105,7 +105,7 @@ fn steps_are_counted_over_all_runs(rt: HostRuntime) -> Result<(), Fail> {
     Ok(())
 }
 
-/// How many steps were given to a world, how many it has done, and whether a run was refused.
+/// How many steps a world was given, how many it has done, and whether a run was refused.
 #[derive(Clone, Copy)]
 struct Progress {
     given: u64,
@@ -113,14 +113,14 @@ struct Progress {
     failed: bool,
 }
 
-/// A run was answered, after which so many steps are done: all that were given, and no run was refused before.
+/// Asserts that a run was answered, after which this many steps are done: all that were given, and no run was refused before.
 fn expect_whole(rt: &impl Abort, progress: &mut Progress, done: u64) {
     assert!(rt; !progress.failed);
     assert_eq!(rt; done, progress.given);
     progress.done = done;
 }
 
-/// A run was refused, after which so many steps are done: as many as before where a run was refused then.
+/// Asserts that a run was refused, after which this many steps are done: as many as before if a run was refused then.
 fn expect_end(rt: &impl Abort, progress: &mut Progress, done: u64) {
     let Progress {
         given,
@@ -176,7 +176,7 @@ fn play(rt: &impl Abort, alloc: Global) -> Result<(), Refusal> {
     Ok(())
 }
 
-/// Where no allocation fails this is a session of 12 steps. It is for trying each allocation failing in turn: from the first `NoMemory` on
+/// If no allocation fails this is a session of 12 steps. It is for refusing each allocation in turn: after the first `NoMemory`
 /// there is no other answer.
 #[test]
 fn a_world_ends_where_memory_is_refused(rt: HostRuntime) {

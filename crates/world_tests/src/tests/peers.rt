@@ -1,11 +1,11 @@
-//! What engines say to one another, and what their clients receive.
+//! What engines send to one another, and what their clients receive.
 
 use super::*;
 
 /// The number of an engine, its act, and its reply.
 type Talk<'a> = (usize, Act<'a>, &'a str);
 
-/// Each act of an engine gets its reply, in a run of its own.
+/// Asserts the reply to each act, each in a run of its own.
 fn talk(rt: &impl Abort, alloc: Global, world: &mut World, rows: &[Talk]) -> Result<(), Fail> {
     for (index, (engine, act, want)) in rows.iter().enumerate() {
         replies_from(rt, alloc, world, *engine, index, &[(*act, *want)])?;
@@ -13,7 +13,7 @@ fn talk(rt: &impl Abort, alloc: Global, world: &mut World, rows: &[Talk]) -> Res
     Ok(())
 }
 
-/// The engines 1 and 2 of these members each, both with two clients and a reader, token 2, reply so.
+/// Asserts the replies of the engines 1 and 2 with these members, both with two clients and a reader, token 2.
 fn engines_reply(
     rt: &impl Abort,
     alloc: Global,
@@ -30,7 +30,7 @@ fn engines_reply(
     talk(rt, alloc, &mut world, rows)
 }
 
-/// Two engines, 1 and 2, that know each other reply so.
+/// Asserts the replies of two engines, 1 and 2, that have each other as members.
 fn two_reply(rt: &impl Abort, alloc: Global, rows: &[Talk]) -> Result<(), Fail> {
     engines_reply(rt, alloc, (1, &[1, 2]), (2, &[1, 2]), rows)
 }
@@ -267,7 +267,7 @@ fn lines_are_submitted(rt: HostRuntime) -> Result<(), Fail> {
 /// A line that is cut before its line feed.
 const CUT: &str = r#"["op",[1,2],[],[["m",0]],"a",["a",7]]"#;
 
-/// An assign of a replica that is no member.
+/// An assign of a replica that isn't a member.
 const STRANGE: &str = r#"["op",[1,3],[],[["m",0]],"a",["a",7]]
 "#;
 
@@ -287,7 +287,7 @@ fn a_bad_line_ends_a_receipt(rt: HostRuntime) -> Result<(), Fail> {
     two_reply(&rt, rt.alloc(), ROWS)
 }
 
-/// The places of the queue and the serials of an engine, lines that it receives, and its reply.
+/// The capacity of the queue and the serials of an engine, lines that it receives, and its reply.
 type Receipt<'a> = (u32, u32, &'a str, &'a str);
 
 #[test]

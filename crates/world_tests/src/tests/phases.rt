@@ -1,4 +1,4 @@
-//! What the phases of a writer reply, one by one and beside whole steps.
+//! What the phases of a writer reply, one by one and among whole steps.
 
 use super::*;
 

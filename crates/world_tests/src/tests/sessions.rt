@@ -155,7 +155,7 @@ fn the_last_assign_stands(rt: HostRuntime) -> Result<(), Fail> {
     one_replies(&rt, rt.alloc(), &[1], (2, 1, 8, 8, 8), ROWS)
 }
 
-/// The acts of two engines, whose queues have one place and whose clients have one serial, run by run.
+/// The acts of two engines, whose queues have capacity 1 and whose clients have one serial, run by run.
 const SHARED: &[(usize, &[Row])] = &[
     (0, &[(Push(0, "a", 1), "Ticket(1)")]),
     (

@@ -60,7 +60,7 @@ fn reading_shown(alloc: Global, reading: &Reading) -> Result<String, Fail> {
     Ok(text)
 }
 
-/// What was received as tests write it: `Received 2 from 1`, and where that stopped, `E22 at 3`.
+/// A receipt as tests write it: `Received 2 from 1`, and where it stopped, `E22 at 3`.
 fn receipt_shown(
     alloc: Global,
     first: u64,
@@ -137,7 +137,7 @@ fn shown(alloc: Global, reply: &WorldReply) -> Result<String, Fail> {
     }
 }
 
-/// The reply is this one. A failure names its row by this number.
+/// Asserts the reply. A failure names its row by this number.
 pub fn is_shown(
     rt: &impl Abort,
     alloc: Global,

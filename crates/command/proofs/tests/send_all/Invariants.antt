@@ -1,4 +1,4 @@
--- so many items were sent
+-- this many items were sent
 use Rattle.std.proofs.Common.{◌≡◌, length}
 use Rattle.crossbeam_queue.specs.Passes.{view}
 use Rattle.command.proofs.tests.send_all.Given as goal

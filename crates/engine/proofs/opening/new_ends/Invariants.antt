@@ -1,4 +1,4 @@
--- so many clients were made of the last seats
+-- this many clients were made of the last seats
 use Rattle.std.proofs.Common.{◌≡◌, ◌+◌, ◌≤◌, [], length, vec_capacity}
 use Rattle.std.specs.List.{All}
 use Rattle.std.specs.Arc.{arc_value}

@@ -7,15 +7,15 @@ use std::alloc::Global;
 /// How many steps a schedule has at most.
 const MOST_STEPS: usize = 12;
 
-/// Which of the actors with steps left goes on, counted from 0, and how many there are.
+/// Which of the actors with steps left goes on, counted from 0, and how many such actors there are.
 #[derive(Clone, Copy)]
 pub struct Choice {
     taken: usize,
     of: usize,
 }
 
-/// The steps of all actors by these choices. Where these end, the first actor with steps left goes on, and that is one of them
-/// from then on.
+/// The steps of all actors by these choices. Where the choices end, the first actor with steps left goes on, and that choice is
+/// appended.
 pub fn schedule(
     alloc: Global,
     turns: &Turns,
@@ -55,7 +55,7 @@ fn actors_left(
     Ok(left)
 }
 
-/// The choice at this turn, the first one where none was made yet.
+/// The choice at this turn, the first one if none was made yet.
 fn choose(choices: &mut Vec<Choice>, turn: usize, of: usize) -> Result<usize, Refusal> {
     if let Some(choice) = choices.get(turn) {
         return Ok(choice.taken);
@@ -64,8 +64,8 @@ fn choose(choices: &mut Vec<Choice>, turn: usize, of: usize) -> Result<usize, Re
     Ok(0)
 }
 
-/// Turns to the next schedule: the last choice that has another one left takes that, and what came after it is open again.
-/// False where no choice has one.
+/// Moves on to the next schedule: the last choice that has an alternative left takes it, and those after it are dropped. False if no
+/// choice has one.
 pub fn go_on(choices: &mut Vec<Choice>) -> bool {
     for _ in 0..MOST_STEPS {
         let Some(Choice { taken, of }) = choices.pop() else {

@@ -1,4 +1,4 @@
--- So many were published, and the others are left.
+-- Some were published, and the others are left.
 use Rattle.std.proofs.Common.{◌≡◌, drop}
 use Rattle.world.specs.Publishers.{PublishesMore}
 use Rattle.world.proofs.publisher.publish_all.Given as goal

@@ -18,7 +18,7 @@ on_err : {X Y Q : Type 0} (r : Result X Y) → Q → OnErr r Q
 on_err (Ok x) q = tt
 on_err (Err e) q = q
 
--- one step more after so many
+-- one step more after these
 one_more : (W U V : World) (tables now : List (List ℕ)) (steps : List WorldStep) (n : ℕ) (o : WorldStep) → now ≡ tables → slice_get (map (step_in tables) steps) n ≡ Some (step_in tables o)
     → U ≡ world_after W (take n (map (step_in tables) steps)) → V ≡ (world_step U (step_in now o)).world → V ≡ world_after W (take (n + 1) (map (step_in tables) steps))
 one_more W U V tables now steps n o same at so_far is =

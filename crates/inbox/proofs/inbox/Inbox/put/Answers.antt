@@ -12,7 +12,7 @@ use Rattle.inbox.proofs.KeptOps.{kept_put, kept_same}
 use Rattle.inbox.proofs.KeyedOps.{absent, same-ops_at, put-ops_at, waiting-put, in_put}
 use Rattle.inbox.proofs.inbox.Inbox.put.Goals as goal
 
--- ---- a growth of the slab was refused
+-- ---- an allocation of the slab failed
 
 pub invariant_of-self-in_default : goal.invariant_of-self-in_default
 invariant_of-self-in_default c =

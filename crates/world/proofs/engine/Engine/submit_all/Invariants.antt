@@ -1,4 +1,4 @@
--- What is left decides, after so many were submitted.
+-- What is left decides, after some were submitted.
 use Rattle.std.proofs.Common.{◌≡◌, ◌+◌, ◌<◌, Option, length, map}
 use Rattle.std.specs.List.{All}
 use Rattle.std.specs.Vec.Iter.{into_iter_items, into_iter_len}
