@@ -1,6 +1,7 @@
 //! Engines that exchange operations on one thread, as tables that small functions play.
 
 mod cuts;
+mod early;
 mod exchanges;
 mod forged;
 mod lines;

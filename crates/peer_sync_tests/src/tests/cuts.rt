@@ -59,5 +59,11 @@ fn receive_cut<R: Wait + Abort>(rt: &R, alloc: Global, length: usize) -> Result<
 
 /// How many whole lines there are in this many bytes.
 fn whole_lines(length: usize) -> usize {
-    WHOLE.iter().skip(1).filter(|end| **end <= length).count()
+    let mut whole = 0;
+    for (lines, end) in WHOLE.iter().enumerate() {
+        if *end <= length {
+            whole = lines;
+        }
+    }
+    whole
 }

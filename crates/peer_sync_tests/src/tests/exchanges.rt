@@ -48,20 +48,16 @@ fn concurrent_values_stand_side_by_side(rt: HostRuntime) -> Result<(), Fail> {
     const BOTH: Turn = Show(KEY, Values(&[((2, 1), "B"), ((2, 2), "C")]));
     const ALL: &str = r#"["hello",[[1,2],[2,2]]]
 "#;
-    on_two(
-        &rt,
-        rt.alloc(),
-        QUEUE,
+    const ACTS: &[&[Row]] = &[
+        APART,
         &[
-            APART,
-            &[
-                (One, BOTH),
-                (Two, BOTH),
-                (One, Hello(ALL)),
-                (Two, Hello(ALL)),
-            ],
+            (One, BOTH),
+            (Two, BOTH),
+            (One, Hello(ALL)),
+            (Two, Hello(ALL)),
         ],
-    )
+    ];
+    on_two(&rt, rt.alloc(), QUEUE, ACTS)
 }
 
 #[test]
@@ -78,21 +74,17 @@ fn answers_leave_out_what_the_hello_covers(rt: HostRuntime) -> Result<(), Fail> 
     const B_C: &str = r#"["op",[2,1],[[1,1]],[["m",0]],"key",["a","B"]]
 ["op",[2,2],[[1,1]],[["m",0]],"key",["a","C"]]
 "#;
-    on_two(
-        &rt,
-        rt.alloc(),
-        QUEUE,
+    const ACTS: &[&[Row]] = &[
+        APART,
         &[
-            APART,
-            &[
-                (One, Answer(NEW, Ok(A_B_C))),
-                (Two, Answer(NEW, Ok(A_C_B))),
-                (One, Answer(r#"["hello",[[1,2],[2,2]]]"#, Ok(""))),
-                (One, Answer(r#"["hello",[[1,1]]]"#, Ok(B_C))),
-                (One, Answer(FIRST, Ok(B_C))),
-            ],
+            (One, Answer(NEW, Ok(A_B_C))),
+            (Two, Answer(NEW, Ok(A_C_B))),
+            (One, Answer(r#"["hello",[[1,2],[2,2]]]"#, Ok(""))),
+            (One, Answer(r#"["hello",[[1,1]]]"#, Ok(B_C))),
+            (One, Answer(FIRST, Ok(B_C))),
         ],
-    )
+    ];
+    on_two(&rt, rt.alloc(), QUEUE, ACTS)
 }
 
 #[test]
@@ -109,27 +101,23 @@ fn runs_of_concurrent_inserts_stay_together(rt: HostRuntime) -> Result<(), Fail>
 ["op",[3,2],[[1,1],[2,2]],[["m",0],["l","l"]],[2,2],["i","b"]]
 "#;
     const BOTH: Turn = Show(L, Items(&[(2, 2), (3, 2), (2, 1), (3, 1)]));
-    on_two(
-        &rt,
-        rt.alloc(),
-        QUEUE,
+    const ACTS: &[&[Row]] = &[
         &[
-            &[
-                (One, Write(Assign(L, List))),
-                (Two, Pull(NEW, LIST_LINE)),
-                (One, Write(Insert(HEAD, Words("x")))),
-                (One, Write(Insert(ONE, Words("y")))),
-                (Two, Write(Insert(HEAD, Words("a")))),
-                (Two, Write(Insert(ONE, Words("b")))),
-            ],
-            &[
-                (One, Pull("[\"hello\",[[1,3]]]\n", A_B)),
-                (Two, Pull("[\"hello\",[[1,1],[2,3]]]\n", X_Y)),
-                (One, BOTH),
-                (Two, BOTH),
-            ],
+            (One, Write(Assign(L, List))),
+            (Two, Pull(NEW, LIST_LINE)),
+            (One, Write(Insert(HEAD, Words("x")))),
+            (One, Write(Insert(ONE, Words("y")))),
+            (Two, Write(Insert(HEAD, Words("a")))),
+            (Two, Write(Insert(ONE, Words("b")))),
         ],
-    )
+        &[
+            (One, Pull("[\"hello\",[[1,3]]]\n", A_B)),
+            (Two, Pull("[\"hello\",[[1,1],[2,3]]]\n", X_Y)),
+            (One, BOTH),
+            (Two, BOTH),
+        ],
+    ];
+    on_two(&rt, rt.alloc(), QUEUE, ACTS)
 }
 
 #[test]
@@ -148,32 +136,28 @@ fn what_is_written_beneath_a_deleted_map_stays(rt: HostRuntime) -> Result<(), Fa
     const FIELDS: Turn = Show(COLORS, Keys(&["green"]));
     const WRITTEN: Turn = Show(GREEN, Values(&[((3, 2), "#0f0")]));
     const STANDS: Turn = Show(COLORS, Conflicts(&[((3, 2), Tag::Map)]));
-    on_two(
-        &rt,
-        rt.alloc(),
-        QUEUE,
+    const ACTS: &[&[Row]] = &[
         &[
-            &[
-                (One, Write(Assign(COLORS, Map))),
-                (One, Write(Assign(BLUE, Words("#00f")))),
-                (Two, Pull(NEW, MAP_AND_BLUE)),
-                (One, Write(Delete(COLORS))),
-                (Two, Write(Assign(GREEN, Words("#0f0")))),
-                (Two, Pull("[\"hello\",[[1,2],[2,3]]]\n", DELETED)),
-                (One, Pull("[\"hello\",[[1,3]]]\n", GREEN_LINE)),
-            ],
-            &[
-                (One, ROOT),
-                (One, FIELDS),
-                (One, WRITTEN),
-                (One, STANDS),
-                (Two, ROOT),
-                (Two, FIELDS),
-                (Two, WRITTEN),
-                (Two, STANDS),
-            ],
+            (One, Write(Assign(COLORS, Map))),
+            (One, Write(Assign(BLUE, Words("#00f")))),
+            (Two, Pull(NEW, MAP_AND_BLUE)),
+            (One, Write(Delete(COLORS))),
+            (Two, Write(Assign(GREEN, Words("#0f0")))),
+            (Two, Pull("[\"hello\",[[1,2],[2,3]]]\n", DELETED)),
+            (One, Pull("[\"hello\",[[1,3]]]\n", GREEN_LINE)),
         ],
-    )
+        &[
+            (One, ROOT),
+            (One, FIELDS),
+            (One, WRITTEN),
+            (One, STANDS),
+            (Two, ROOT),
+            (Two, FIELDS),
+            (Two, WRITTEN),
+            (Two, STANDS),
+        ],
+    ];
+    on_two(&rt, rt.alloc(), QUEUE, ACTS)
 }
 
 #[test]
@@ -186,22 +170,18 @@ fn a_map_and_a_list_stand_under_one_key(rt: HostRuntime) -> Result<(), Fail> {
     const LIST_LINE: &str = r#"["op",[2,2],[[1,1]],[["m",0]],"k",["a",[]]]
 "#;
     const BOTH: Turn = Show(K, Conflicts(&[((2, 1), Tag::Map), ((2, 2), Tag::List)]));
-    on_two(
-        &rt,
-        rt.alloc(),
-        QUEUE,
+    const ACTS: &[&[Row]] = &[
         &[
-            &[
-                (One, Write(Assign(&[], Map))),
-                (Two, Pull(NEW, ROOT_LINE)),
-                (One, Write(Assign(K, Map))),
-                (Two, Write(Assign(K, List))),
-                (Two, Pull("[\"hello\",[[1,1],[2,2]]]\n", MAP_LINE)),
-                (One, Pull(SECOND, LIST_LINE)),
-            ],
-            &[(One, BOTH), (Two, BOTH)],
+            (One, Write(Assign(&[], Map))),
+            (Two, Pull(NEW, ROOT_LINE)),
+            (One, Write(Assign(K, Map))),
+            (Two, Write(Assign(K, List))),
+            (Two, Pull("[\"hello\",[[1,1],[2,2]]]\n", MAP_LINE)),
+            (One, Pull(SECOND, LIST_LINE)),
         ],
-    )
+        &[(One, BOTH), (Two, BOTH)],
+    ];
+    on_two(&rt, rt.alloc(), QUEUE, ACTS)
 }
 
 #[test]
@@ -212,33 +192,29 @@ fn an_assign_fills_an_item_that_was_deleted_apart(rt: HostRuntime) -> Result<(),
     const PAST: &[To] = &[Key("shopping"), Place(3)];
     const ALL: Turn = Show(LIST_AT, Items(&[(4, 1), (3, 1), (5, 1)]));
     const FILLED: Turn = Show(ITEM, Values(&[((6, 2), "ham")]));
-    on_two(
-        &rt,
-        rt.alloc(),
-        QUEUE,
+    const ACTS: &[&[Row]] = &[
         &[
-            &[
-                (One, Write(Assign(&[], Map))),
-                (One, Write(Assign(LIST_AT, List))),
-                (One, Write(Insert(HEAD, Words("eggs")))),
-                (One, Write(Insert(HEAD, Words("cheese")))),
-                (One, Write(Insert(ITEM, Words("milk")))),
-                (Two, Pull(NEW, FIVE)),
-                (Two, ALL),
-                (One, Write(Delete(ITEM))),
-                (Two, Write(Assign(ITEM, Words("ham")))),
-            ],
-            &[
-                (One, Show(LIST_AT, Items(&[(4, 1), (5, 1)]))),
-                (One, Show(ITEM, Values(&[((5, 1), "milk")]))),
-                (One, Show(PAST, NoValues(Refusal::PastEnd))),
-                (One, Pull("[\"hello\",[[1,6]]]\n", HAM)),
-                (Two, Pull("[\"hello\",[[1,5],[2,6]]]\n", DELETED)),
-                (One, ALL),
-                (Two, ALL),
-                (One, FILLED),
-                (Two, FILLED),
-            ],
+            (One, Write(Assign(&[], Map))),
+            (One, Write(Assign(LIST_AT, List))),
+            (One, Write(Insert(HEAD, Words("eggs")))),
+            (One, Write(Insert(HEAD, Words("cheese")))),
+            (One, Write(Insert(ITEM, Words("milk")))),
+            (Two, Pull(NEW, FIVE)),
+            (Two, ALL),
+            (One, Write(Delete(ITEM))),
+            (Two, Write(Assign(ITEM, Words("ham")))),
         ],
-    )
+        &[
+            (One, Show(LIST_AT, Items(&[(4, 1), (5, 1)]))),
+            (One, Show(ITEM, Values(&[((5, 1), "milk")]))),
+            (One, Show(PAST, NoValues(Refusal::PastEnd))),
+            (One, Pull("[\"hello\",[[1,6]]]\n", HAM)),
+            (Two, Pull("[\"hello\",[[1,5],[2,6]]]\n", DELETED)),
+            (One, ALL),
+            (Two, ALL),
+            (One, FILLED),
+            (Two, FILLED),
+        ],
+    ];
+    on_two(&rt, rt.alloc(), QUEUE, ACTS)
 }

@@ -3,7 +3,7 @@
 use super::playing::Side::One;
 use super::playing::Told::{Kept, Known, Refused};
 use super::playing::Turn::{Dropped, Take, TakeAllEarly, TakeEarly};
-use super::playing::on_two;
+use super::playing::{Row, on_two};
 use super::*;
 
 #[test]
@@ -21,19 +21,15 @@ fn the_first_fault_of_an_operation_decides(rt: HostRuntime) -> Result<(), Fail> 
 "#;
     const OWN: &str = r#"["op",[1,1],[],[["m",0]],"a",["d"]]
 "#;
-    on_two(
-        &rt,
-        rt.alloc(),
-        16,
-        &[&[
-            (One, Take(SKIPS, Refused(Refusal::BadCounter, 0))),
-            (One, Take(INSERTS, Refused(Refusal::NotInList, 0))),
-            (One, Take(UNCOVERED, Refused(Refusal::BadPlace, 0))),
-            (One, Take(OWN_SKIPS, Refused(Refusal::BadCounter, 0))),
-            (One, Take(OWN, Refused(Refusal::OwnName, 0))),
-            (One, Dropped(0)),
-        ]],
-    )
+    const ACTS: &[&[Row]] = &[&[
+        (One, Take(SKIPS, Refused(Refusal::BadCounter, 0))),
+        (One, Take(INSERTS, Refused(Refusal::NotInList, 0))),
+        (One, Take(UNCOVERED, Refused(Refusal::BadPlace, 0))),
+        (One, Take(OWN_SKIPS, Refused(Refusal::BadCounter, 0))),
+        (One, Take(OWN, Refused(Refusal::OwnName, 0))),
+        (One, Dropped(0)),
+    ]];
+    on_two(&rt, rt.alloc(), 16, ACTS)
 }
 
 #[test]
@@ -42,25 +38,21 @@ fn no_more_than_4096_operations_wait(rt: HostRuntime) -> Result<(), Fail> {
 "#;
     const OF_THREE: &str = r#"["op",[1,3],[],[["m",0]],"a",["d"]]
 "#;
-    on_two(
-        &rt,
-        rt.alloc(),
-        16,
+    const ACTS: &[&[Row]] = &[
         &[
-            &[
-                (One, TakeAllEarly(2, 4097, Kept(0))),
-                (One, TakeEarly(4098, Refused(Refusal::InboxFull, 0))),
-                (One, TakeEarly(2, Known(0))),
-            ],
-            &[
-                // One that is ready has a slot of its own.
-                (One, Take(OF_TWO, Kept(1))),
-                (One, Dropped(0)),
-                // It makes operation 2 of replica 2 ready, whose vector leaves out operation 1 of that replica.
-                (One, Take(OF_THREE, Kept(2))),
-                (One, Dropped(1)),
-                (One, TakeEarly(4098, Kept(2))),
-            ],
+            (One, TakeAllEarly(2, 4097, Kept(0))),
+            (One, TakeEarly(4098, Refused(Refusal::InboxFull, 0))),
+            (One, TakeEarly(2, Known(0))),
         ],
-    )
+        &[
+            // One that is ready has a slot of its own.
+            (One, Take(OF_TWO, Kept(1))),
+            (One, Dropped(0)),
+            // It makes operation 2 of replica 2 ready, whose vector leaves out operation 1 of that replica.
+            (One, Take(OF_THREE, Kept(2))),
+            (One, Dropped(1)),
+            (One, TakeEarly(4098, Kept(2))),
+        ],
+    ];
+    on_two(&rt, rt.alloc(), 16, ACTS)
 }

@@ -4,112 +4,96 @@ use super::playing::Side::{One, Two};
 use super::playing::Turn::{Answer, Hello, Receive, Seen, Step, Write};
 use super::playing::Writing::Assign;
 use super::playing::Wrote::Map;
-use super::playing::on_two;
+use super::playing::{Row, on_two};
 use super::*;
 use engine::Step::{Idle, Published};
 
 #[test]
 fn a_new_engine_names_nothing(rt: HostRuntime) -> Result<(), Fail> {
-    on_two(
-        &rt,
-        rt.alloc(),
-        16,
+    const ACTS: &[&[Row]] = &[
         &[
-            &[
-                (One, Hello("[\"hello\",[]]\n")),
-                (One, Seen(0)),
-                (One, Answer(r#"["hello",[]]"#, Ok(""))),
-            ],
-            &[
-                (One, Write(Assign(&[], Map))),
-                (One, Seen(0)),
-                (One, Hello("[\"hello\",[[1,1]]]\n")),
-                (One, Seen(1)),
-            ],
+            (One, Hello("[\"hello\",[]]\n")),
+            (One, Seen(0)),
+            (One, Answer(r#"["hello",[]]"#, Ok(""))),
         ],
-    )
+        &[
+            (One, Write(Assign(&[], Map))),
+            (One, Seen(0)),
+            (One, Hello("[\"hello\",[[1,1]]]\n")),
+            (One, Seen(1)),
+        ],
+    ];
+    on_two(&rt, rt.alloc(), 16, ACTS)
 }
 
 #[test]
 fn the_first_fault_of_a_hello_decides(rt: HostRuntime) -> Result<(), Fail> {
-    on_two(
-        &rt,
-        rt.alloc(),
-        16,
+    const ACTS: &[&[Row]] = &[
         &[
-            &[
-                (One, Write(Assign(&[], Map))),
-                (One, Answer("", Err(Refusal::BadLine))),
-                (One, Answer("\n", Err(Refusal::BadLine))),
-                (One, Answer(r#"["hello",[[1,1]]"#, Err(Refusal::BadLine))),
-                (One, Answer(r#"["op",[]]"#, Err(Refusal::BadLine))),
-                (
-                    One,
-                    Answer(r#"["hello",[[4,1]]]"#, Err(Refusal::UnknownReplica)),
-                ),
-                (
-                    One,
-                    Answer(r#"["hello",[[2,1],[1,1]]]"#, Err(Refusal::BadLine)),
-                ),
-                // No refused hello made the token read.
-                (One, Seen(0)),
-            ],
-            &[
-                (One, Answer(r#"["hello",[[3,7]]]"#, Ok(FIRST_LINE))),
-                (One, Seen(1)),
-            ],
+            (One, Write(Assign(&[], Map))),
+            (One, Answer("", Err(Refusal::BadLine))),
+            (One, Answer("\n", Err(Refusal::BadLine))),
+            (One, Answer(r#"["hello",[[1,1]]"#, Err(Refusal::BadLine))),
+            (One, Answer(r#"["op",[]]"#, Err(Refusal::BadLine))),
+            (
+                One,
+                Answer(r#"["hello",[[4,1]]]"#, Err(Refusal::UnknownReplica)),
+            ),
+            (
+                One,
+                Answer(r#"["hello",[[2,1],[1,1]]]"#, Err(Refusal::BadLine)),
+            ),
+            // No refused hello made the token read.
+            (One, Seen(0)),
         ],
-    )
+        &[
+            (One, Answer(r#"["hello",[[3,7]]]"#, Ok(FIRST_LINE))),
+            (One, Seen(1)),
+        ],
+    ];
+    on_two(&rt, rt.alloc(), 16, ACTS)
 }
 
 #[test]
 fn what_comes_before_a_bad_line_stays(rt: HostRuntime) -> Result<(), Fail> {
     const CUT: &str = r#"["op",[1,1],[],[],0,["a",{}]]
 ["op",[2,1],[[1,1]],[["m",0]],"shopping",["a",[]]]"#;
-    on_two(
-        &rt,
-        rt.alloc(),
-        16,
+    const ACTS: &[&[Row]] = &[
         &[
-            &[
-                (Two, Receive(CUT, 1, 1, Some((2, Refusal::BadLine)))),
-                (Two, Step(Published(1))),
-                (Two, Hello("[\"hello\",[[1,1]]]\n")),
-            ],
-            &[
-                (Two, Receive("", 0, 0, None)),
-                (Two, Receive("\n", 0, 0, Some((1, Refusal::BadLine)))),
-                (
-                    Two,
-                    Receive(STRANGER, 0, 0, Some((1, Refusal::UnknownReplica))),
-                ),
-                (Two, Step(Idle)),
-                (Two, Receive(FIRST_LINE, 2, 1, None)),
-                (Two, Step(Published(1))),
-                (Two, Seen(1)),
-            ],
+            (Two, Receive(CUT, 1, 1, Some((2, Refusal::BadLine)))),
+            (Two, Step(Published(1))),
+            (Two, Hello("[\"hello\",[[1,1]]]\n")),
         ],
-    )
+        &[
+            (Two, Receive("", 0, 0, None)),
+            (Two, Receive("\n", 0, 0, Some((1, Refusal::BadLine)))),
+            (
+                Two,
+                Receive(STRANGER, 0, 0, Some((1, Refusal::UnknownReplica))),
+            ),
+            (Two, Step(Idle)),
+            (Two, Receive(FIRST_LINE, 2, 1, None)),
+            (Two, Step(Published(1))),
+            (Two, Seen(1)),
+        ],
+    ];
+    on_two(&rt, rt.alloc(), 16, ACTS)
 }
 
 #[test]
 fn a_full_queue_stops_at_its_line(rt: HostRuntime) -> Result<(), Fail> {
-    on_two(
-        &rt,
-        rt.alloc(),
-        2,
+    const ACTS: &[&[Row]] = &[
         &[
-            &[
-                (Two, Receive(FIVE, 1, 2, Some((3, Refusal::QueueFull)))),
-                (Two, Step(Published(2))),
-                (Two, Hello("[\"hello\",[[1,2]]]\n")),
-            ],
-            &[
-                // The two that are known already fill the queue again.
-                (Two, Receive(FIVE, 3, 2, Some((3, Refusal::QueueFull)))),
-                (Two, Step(Published(2))),
-                (Two, Hello("[\"hello\",[[1,2]]]\n")),
-            ],
+            (Two, Receive(FIVE, 1, 2, Some((3, Refusal::QueueFull)))),
+            (Two, Step(Published(2))),
+            (Two, Hello("[\"hello\",[[1,2]]]\n")),
         ],
-    )
+        &[
+            // The two that are known already fill the queue again.
+            (Two, Receive(FIVE, 3, 2, Some((3, Refusal::QueueFull)))),
+            (Two, Step(Published(2))),
+            (Two, Hello("[\"hello\",[[1,2]]]\n")),
+        ],
+    ];
+    on_two(&rt, rt.alloc(), 2, ACTS)
 }

@@ -8,12 +8,12 @@ ghost use Rattle.ids.specs.Members.{in_order};
 
 use super::playing::Writing::{Assign, Delete, Insert};
 use super::playing::Wrote::{List, Map, Words};
-use super::playing::{Stage, Writing, command, config, poll};
+use super::playing::{Stage, Writing, command, poll, prepare_engine};
 use super::showing::Shown::{Items, Values};
 use super::showing::To::{Key, Place};
 use super::showing::{Pair, Shown, To, expr, is_id, is_wanted, question};
 use super::*;
-use engine::{EngineName, Final, Parts, ReaderToken, Step, close, open, prepare};
+use engine::{Client, EngineName, Final, Parts, ReaderToken, Step, Writer, close, open};
 use items::Reply;
 use std::alloc::Global;
 use std::marker::Brand;
@@ -90,7 +90,7 @@ fn an_exchange_goes_on(rt: HostRuntime) -> Result<(), Fail> {
     let alloc = rt.alloc();
     let mut refused = Refused { times: 0 };
     for _ in 0..2 {
-        let parts = again(&mut refused, || prepare(alloc, config(alloc, 1, 16)?))?;
+        let parts = again(&mut refused, || prepare_engine(alloc, 1, 16))?;
         if with_one::<Brand, _>(&rt, alloc, &mut refused, parts)? {
             assert!(rt; refused.times < 2);
             return Ok(());
@@ -115,28 +115,37 @@ fn with_one<N: EngineName, R: Wait + Abort>(
         refused.note();
         return Ok(false);
     };
-    let played = match (clients.pop(), readers.pop()) {
-        (Some(mut client), Some(mut reader)) => {
-            let mut stage = Stage {
-                own: 1,
-                writer: &mut writer,
-                client: &mut client,
-                reader: &mut reader,
-            };
-            open_two(rt, alloc, refused, &mut stage)
-        }
+    let played = match (clients.first_mut(), readers.first_mut()) {
+        (Some(client), Some(reader)) => on_one(rt, alloc, refused, &mut writer, client, reader),
         _ => Err("no client".into()),
     };
     let last = close(rt, writer, Vec::new(alloc));
-    played?;
-    assert_seven(rt, &last);
-    Ok(true)
+    has_seven(rt, played, &last)
 }
 
-/// Asserts that all seven operations are published, and that nothing is left.
-fn assert_seven<R: Abort>(rt: &R, last: &Final) {
+fn on_one<N: EngineName, R: Wait + Abort>(
+    rt: &R,
+    alloc: Global,
+    refused: &mut Refused,
+    writer: &mut Writer<N>,
+    client: &mut Client<N>,
+    reader: &mut ReaderToken<N>,
+) -> Result<(), Fail> {
+    let mut stage = Stage {
+        own: 1,
+        writer,
+        client,
+        reader,
+    };
+    open_two(rt, alloc, refused, &mut stage)
+}
+
+/// Whether all was played; then all seven operations are published, and nothing is left.
+fn has_seven<R: Abort>(rt: &R, played: Result<(), Fail>, last: &Final) -> Result<bool, Fail> {
+    played?;
     assert_eq!(rt; last.history.len(), 7);
     assert_eq!(rt; last.left, 0);
+    Ok(true)
 }
 
 fn open_two<N: EngineName, R: Wait + Abort>(
@@ -146,7 +155,7 @@ fn open_two<N: EngineName, R: Wait + Abort>(
     one: &mut Stage<N>,
 ) -> Result<(), Fail> {
     for _ in 0..2 {
-        let parts = again(refused, || prepare(alloc, config(alloc, 2, 16)?))?;
+        let parts = again(refused, || prepare_engine(alloc, 2, 16))?;
         if with_two::<N, Brand, R>(rt, alloc, refused, one, parts)? {
             return Ok(());
         }
@@ -170,22 +179,38 @@ fn with_two<N: EngineName, M: EngineName, R: Wait + Abort>(
         refused.note();
         return Ok(false);
     };
-    let played = match (clients.pop(), readers.pop()) {
-        (Some(mut client), Some(mut reader)) => {
-            let mut stage = Stage {
-                own: 2,
-                writer: &mut writer,
-                client: &mut client,
-                reader: &mut reader,
-            };
-            play(rt, alloc, refused, one, &mut stage)
-        }
+    let played = match (clients.first_mut(), readers.first_mut()) {
+        (Some(client), Some(reader)) => on_both(
+            rt,
+            alloc,
+            refused,
+            one,
+            &mut writer,
+            client,
+            reader,
+        ),
         _ => Err("no client".into()),
     };
     let last = close(rt, writer, Vec::new(alloc));
-    played?;
-    assert_seven(rt, &last);
-    Ok(true)
+    has_seven(rt, played, &last)
+}
+
+fn on_both<N: EngineName, M: EngineName, R: Wait + Abort>(
+    rt: &R,
+    alloc: Global,
+    refused: &mut Refused,
+    one: &mut Stage<N>,
+    writer: &mut Writer<M>,
+    client: &mut Client<M>,
+    reader: &mut ReaderToken<M>,
+) -> Result<(), Fail> {
+    let mut stage = Stage {
+        own: 2,
+        writer,
+        client,
+        reader,
+    };
+    play(rt, alloc, refused, one, &mut stage)
 }
 
 /// Engine 1 writes, engine 2 takes that; then each writes for itself, and they exchange it.
@@ -237,15 +262,24 @@ fn submit<N: EngineName, R: Wait>(
     stage: &mut Stage<N>,
     writing: Writing,
 ) -> Result<u64, Refusal> {
-    let first = again(refused, || command(alloc, writing))?;
-    match stage.client.submit(rt, alloc, first) {
-        Ok(ticket) => Ok(ticket.serial),
+    match try_submit(rt, alloc, stage, writing) {
         Err(why) => {
             refused.count(why)?;
-            let second = command(alloc, writing)?;
-            Ok(stage.client.submit(rt, alloc, second)?.serial)
+            try_submit(rt, alloc, stage, writing)
         }
+        serial => serial,
     }
+}
+
+fn try_submit<N: EngineName, R: Wait>(
+    rt: &R,
+    alloc: Global,
+    stage: &mut Stage<N>,
+    writing: Writing,
+) -> Result<u64, Refusal> {
+    let command = command(alloc, writing)?;
+    let ticket = stage.client.submit(rt, alloc, command)?;
+    Ok(ticket.serial)
 }
 
 /// Steps until there is nothing to do. A step that is held is followed by another one.
@@ -295,8 +329,7 @@ fn get<N: EngineName, M: EngineName, R: Wait + Abort>(
     let said = said(alloc, refused, to.reader)?;
     let bundle = answered(alloc, refused, from.reader, said.as_slice())?;
     assert!(rt; whole.as_bytes().ends_with(bundle.as_slice()));
-    take(rt, alloc, refused, to, bundle.as_slice())?;
-    Ok(bundle.len())
+    take(rt, alloc, refused, to, bundle.as_slice())
 }
 
 /// The hello of a reader, at the second attempt if an allocation of the first fails.
@@ -330,14 +363,14 @@ fn answered<N: EngineName>(
     }
 }
 
-/// Receives a bundle and handles it. If allocation fails, some of it isn't kept.
+/// Receives a bundle and handles it: how many bytes it has. Where allocation fails some of it isn't kept.
 fn take<N: EngineName, R: Wait>(
     rt: &R,
     alloc: Global,
     refused: &mut Refused,
     stage: &mut Stage<N>,
     bundle: &[u8],
-) -> Result<(), Fail> {
+) -> Result<usize, Fail> {
     let received = receive(rt, alloc, stage.client, bundle);
     if let Some((_line, why)) = received.stopped {
         refused.count(why)?;
@@ -345,13 +378,20 @@ fn take<N: EngineName, R: Wait>(
     step_all(rt, alloc, refused, stage)?;
     for number in 0..received.submitted {
         let serial = received.first_serial.saturating_add(number);
-        match poll(stage, serial)? {
-            Some(Reply::Kept(_)) => {}
-            // It came again, because another one of the same bundle was refused.
-            Some(Reply::Known(_)) if refused.times > 0 => {}
-            Some(Reply::Refused(why, _)) => refused.count(why)?,
-            _ => return Err("another answer".into()),
-        }
+        let reply = poll(stage, serial)?;
+        note_reply(refused, reply)?;
+    }
+    Ok(bundle.len())
+}
+
+/// Counts a refusal of a peer's operation, if allocation failed. It is known if it came again, since another one of the same
+/// bundle was refused.
+fn note_reply(refused: &mut Refused, reply: Option<Reply>) -> Result<(), Fail> {
+    match reply {
+        Some(Reply::Kept(_)) => {}
+        Some(Reply::Known(_)) if refused.times > 0 => {}
+        Some(Reply::Refused(why, _)) => refused.count(why)?,
+        _ => return Err("another answer".into()),
     }
     Ok(())
 }
@@ -369,9 +409,21 @@ fn end<N: EngineName, R: Wait + Abort>(
     for (path, want) in SHOWN {
         assert_shown(rt, alloc, refused, stage.reader, path, *want)?;
     }
-    let hello = said(alloc, refused, stage.reader)?;
+    assert_said(rt, alloc, refused, stage.reader)?;
+    assert_history(rt, alloc, refused, stage.reader, lines)?;
+    Ok(())
+}
+
+/// Compares what a reader says that has seen all.
+fn assert_said<N: EngineName>(
+    rt: &impl Abort,
+    alloc: Global,
+    refused: &mut Refused,
+    reader: &mut ReaderToken<N>,
+) -> Result<(), Refusal> {
+    let hello = said(alloc, refused, reader)?;
     assert_eq!(rt; hello.as_slice(), ALL.as_bytes());
-    assert_history(rt, alloc, refused, stage.reader, lines)
+    Ok(())
 }
 
 /// Asserts what a reader is shown.
@@ -382,7 +434,7 @@ fn assert_shown<N: EngineName>(
     reader: &mut ReaderToken<N>,
     path: &[To],
     want: Shown,
-) -> Result<(), Fail> {
+) -> Result<(), Refusal> {
     let place = again(refused, || expr(alloc, path))?;
     let question = question(reader, place, want);
     let reading = match reader.ask(alloc, &question) {
@@ -392,7 +444,7 @@ fn assert_shown<N: EngineName>(
         }
         reading => reading,
     };
-    assert!(rt; is_wanted(&reading, want), "{want:?}, but {reading:?}");
+    assert!(rt; is_wanted(&reading, want), "{reading:?}");
     Ok(())
 }
 
@@ -403,12 +455,20 @@ fn assert_history<N: EngineName>(
     refused: &mut Refused,
     reader: &mut ReaderToken<N>,
     parts: &[&str],
-) -> Result<(), Fail> {
+) -> Result<(), Refusal> {
     let history = answered(alloc, refused, reader, NEW.as_bytes())?;
-    let mut rest = history.as_slice();
-    for part in parts {
-        rest = rest.strip_prefix(part.as_bytes()).ok_or("another line")?;
-    }
-    assert!(rt; rest.is_empty());
+    assert!(rt; is_made_of(history.as_slice(), parts));
     Ok(())
+}
+
+/// Whether the bytes are those of these parts, one after another.
+fn is_made_of(bytes: &[u8], parts: &[&str]) -> bool {
+    let mut rest = bytes;
+    for part in parts {
+        match rest.strip_prefix(part.as_bytes()) {
+            Some(left) => rest = left,
+            None => return false,
+        }
+    }
+    rest.is_empty()
 }

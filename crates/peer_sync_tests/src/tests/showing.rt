@@ -16,7 +16,7 @@ use value::{Key, Scalar};
 pub type Pair = (u64, u32);
 
 /// One step of an expression.
-#[derive(Clone, Copy, Debug)]
+#[derive(Clone, Copy)]
 pub enum To {
     /// To the field with this key.
     Key(&'static str),
@@ -25,7 +25,7 @@ pub enum To {
 }
 
 /// What stands where an expression leads.
-#[derive(Clone, Copy, Debug)]
+#[derive(Clone, Copy)]
 pub enum Shown {
     /// These texts, with the ids of what wrote them.
     Values(&'static [(Pair, &'static str)]),
@@ -43,12 +43,21 @@ pub enum Shown {
 pub fn expr(alloc: Global, path: &[To]) -> Result<Expr, Refusal> {
     let mut steps = Vec::new(alloc);
     for to in path {
-        steps.push(match to {
-            To::Key(key) => Step::Get(Key::new(alloc, key)?),
-            To::Place(place) => Step::Idx(*place),
-        })?;
+        add_step(alloc, &mut steps, *to)?;
     }
     Ok(Expr::new(steps))
+}
+
+fn add_step(alloc: Global, steps: &mut Vec<Step>, to: To) -> Result<(), Refusal> {
+    let step = step(alloc, to)?;
+    Ok(steps.push(step)?)
+}
+
+fn step(alloc: Global, to: To) -> Result<Step, Refusal> {
+    Ok(match to {
+        To::Key(key) => Step::Get(Key::new(alloc, key)?),
+        To::Place(place) => Step::Idx(place),
+    })
 }
 
 /// The question for what is to be shown.
@@ -139,6 +148,6 @@ pub fn assert_shown<N: EngineName>(
 ) -> Result<(), Fail> {
     let question = question(reader, expr(alloc, path)?, want);
     let answer = reader.ask(alloc, &question);
-    assert!(rt; is_wanted(&answer, want), "{want:?}, but {answer:?}");
+    assert!(rt; is_wanted(&answer, want), "{answer:?}");
     Ok(())
 }

@@ -3,4 +3,4 @@ use Rattle.peer_sync_tests.proofs.tests.playing.on_two.Given as goal
 
 -- the first engine is that of these parts
 abbrev pub ghosts-open_first : goal.ghosts-open_first
-ghosts-open_first g a = record { book = a.one.opened.seen.book; own = a.one.config.own; table = in_order a.one.config.members }
+ghosts-open_first g a = record { book = a.parts.opened.seen.book; own = a.parts.config.own; table = in_order a.parts.config.members }

@@ -1,6 +1,0 @@
-use Rattle.ids.specs.Members.{in_order}
-use Rattle.peer_sync_tests.proofs.tests.playing.open_first.Given as goal
-
--- the second engine is that of these parts
-abbrev pub ghosts-open_second : goal.ghosts-open_second
-ghosts-open_second g a = record { book = a.two.opened.seen.book; own = a.two.config.own; table = in_order a.two.config.members }
