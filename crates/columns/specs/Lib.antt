@@ -1,7 +1,8 @@
 -- What the columns of a tree are to contracts.
 pub mod Rank
 pub mod Entries
+pub mod Held
 pub mod Keys
 pub mod Numbered
 pub mod Orders
-pub mod Chains
+pub mod Blocks

@@ -2,16 +2,20 @@
 //! of the nodes below.
 #![tactic(auto)]
 
+mod block;
 mod by_id;
+mod entry_columns;
+mod field_columns;
 mod fields;
-mod items;
+mod held;
 mod list_order;
 mod numbers;
+mod order_blocks;
 mod sorted_keys;
+mod walks;
 
 pub use by_id::{ById, Presence, Register};
 pub use fields::Fields;
-pub use items::Items;
 pub use list_order::ListOrder;
 pub use numbers::Numbers;
 pub use sorted_keys::SortedKeys;

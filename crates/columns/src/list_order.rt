@@ -1,176 +1,147 @@
-//! The order of a list (RGA), as linked items.
+//! The order of a list (RGA).
 
-ghost use Rattle.std.specs.Prelude.{◌≡◌, ◌≤◌, ◌<◌, ◌+◌, ℕ, List, [], length, ◌∷◌, IfSome, IsTrue, IsFalse, OnOk, Option, vec_len, vec_capacity};
-ghost use Rattle.semantics.specs.Context.{insert_after, skip};
-ghost use Rattle.columns.specs.Orders.{has_item, has_place, item_after};
-ghost use Rattle.columns.specs.Chains.{HasSplit, IsSplit, Passes, first_linked, following, ids_of, nexts_linked, number_at, numbers_of};
+ghost use Rattle.std.specs.Prelude.{◌≡◌, ◌≤◌, ◌<◌, ◌+◌, Bool, cond, [], IsTrue, IsFalse, IfOk, OnOk, slice_get};
+ghost use Rattle.std.specs.List.{filter};
+ghost use Rattle.semantics.specs.Ids.{OpId as TheId, is_same_id};
+ghost use Rattle.semantics.specs.Context.{insert_after};
+ghost use Rattle.columns.specs.Orders.{has_item, has_place};
 
-use crate::items::Items;
-use crate::numbers::Numbers;
+use crate::order_blocks::OrderBlocks;
 use ids::OpId;
 use std::alloc::{AllocError, Global};
-use std::cmp::Ordering;
 use std::marker::Model;
 
-/// The order of the items of a list, tombstones included, as RGA has it. Items are numbered as they come, and each has the number
-/// of the next one.
+/// The order of the items of a list, tombstones included, as RGA has it, and which of them are shown.
 ///
-/// Contracts see the items in their order, and for how many more there is room.
+/// Most elements have no list, so the items are behind a box that the first `reserve_one` makes: 16 bytes until then. They stand in
+/// blocks of at most 512, so a walk goes from block to block.
+///
+/// Contracts see the items in their order, those of them that are shown, and whether there is room for one more.
 #[derive(Debug, Drop)]
 pub struct ListOrder {
-    first: Option<usize>,
-    /// The number of the next item, indexed by an item's number.
-    nexts: Vec<Option<usize>>,
-    /// The ids, indexed by an item's number.
-    ids: Vec<OpId>,
-    /// The number of each item, by its id.
-    column: Numbers,
+    blocks: Option<Box<OrderBlocks>>,
+    alloc: Global,
 }
 
 impl Model for ListOrder {
-    ghost use Rattle.std.specs.Prelude.{min, vec_len, vec_capacity, ◌-◌};
-    ghost use Rattle.columns.specs.Orders.{Order};
-    ghost use Rattle.columns.specs.Chains.{AreLinked, ids_of, numbers_of};
+    ghost use Rattle.std.specs.Prelude.{option_map};
+    ghost use Rattle.columns.specs.Orders.{Order, order_or_empty};
 
     ghost Value = { Order };
 
-    ghost view = { λ o. record { items = ids_of o.ids.items (numbers_of o.first o.nexts.items); room = min (vec_capacity o.nexts - vec_len o.nexts) (min (vec_capacity o.ids - vec_len o.ids) o.column.room) } };
-
-    ghost invariant = { λ o. AreLinked o.first o.nexts.items o.ids.items o.column.entries (numbers_of o.first o.nexts.items) };
+    ghost view = { λ o. order_or_empty (option_map (λ blocks. blocks.value) o.blocks) };
 }
 
 impl ListOrder {
+    /// Returns the order of an empty list. Takes no memory.
     pub fn new(alloc: Global) -> ListOrder
-        ensures { result.items ≡ [] }
+        ensures items { result.items ≡ [] }
+        ensures visible { result.visible ≡ [] }
     {
         ListOrder {
-            first: None,
-            nexts: Vec::new(alloc),
-            ids: Vec::new(alloc),
-            column: Numbers::new(alloc),
+            blocks: None,
+            alloc,
         }
     }
 
-    /// How many items there are.
-    pub fn len(&self) -> usize
-        ensures { result ≡ length self.now.items }
-    {
-        self.nexts.len()
-    }
-
-    /// The items in list order. Each step follows one link.
-    pub fn iter(&self) -> Items<'_>
-        ensures { result ≡ self.now.items }
-    {
-        Items::from(self.first, &self.nexts, &self.ids)
-    }
-
-    /// Makes room for one more item.
+    /// Makes room for one more item. Cuts the block that the last one went into where that is full, which costs a binary search for
+    /// each item that gets another block.
     ///
     /// # Errors
     /// `AllocError` if allocation fails.
     pub fn reserve_one(&mut self) -> Result<(), AllocError>
         ensures same { self.new.items ≡ self.old.items }
+        ensures visible { self.new.visible ≡ self.old.visible }
         ensures room { OnOk result (0 < self.new.room) }
         ensures kept { self.old.room ≤ self.new.room }
     {
-        self.nexts.reserve(1)?;
-        self.ids.reserve(1)?;
-        self.column.reserve_one()
+        match &mut self.blocks {
+            None => {
+                let blocks = first_blocks(self.alloc)?;
+                self.blocks = Some(blocks);
+                Ok(())
+            }
+            Some(blocks) => blocks.reserve_one(),
+        }
     }
 
-    /// Puts a new item after `prev`, or after the head, past each next item with a greater id: the skipping rule of RGA.
+    /// Puts a new item after `prev`, or after the head, past each next item with a greater id: the skipping rule of RGA. It isn't
+    /// shown yet.
     ///
-    /// Takes no memory. Finds `prev` by binary search, follows a link for each item that it goes past, and moves a number for each
-    /// item with a greater id.
+    /// Takes no memory. Finds `prev` by a binary search, a look at each block and a walk in one, and goes past a block of greater items
+    /// by a look at one id. Moves the items behind the new one in its block.
     pub fn place(&mut self, prev: Option<OpId>, id: OpId)
         requires prev { IsTrue (has_place prev self.old.items) }
         requires id { IsFalse (has_item id self.old.items) }
         requires room { 0 < self.old.room }
         ensures items { self.new.items ≡ insert_after prev id self.old.items }
+        ensures visible { self.new.visible ≡ self.old.visible }
         ensures room { self.old.room ≤ self.new.room + 1 }
     {
-        let number = self.nexts.len();
-        let start = number_of(&self.column, prev);
-        let last = last_passed(self.first, &self.nexts, &self.ids, start, &id);
-        link(&mut self.first, &mut self.nexts, last);
-        self.column.put(id, number);
-        self.ids.push_reserved(id);
+        match &mut self.blocks {
+            None => unreachable!(),
+            Some(blocks) => blocks.place(prev, id),
+        }
+    }
+
+    /// Shows an item, or hides it. A binary search, a look at each block and a walk in one.
+    pub fn set_shown(&mut self, id: &OpId, shown: bool)
+        requires { IsTrue (has_item id.now self.old.items) }
+        ensures items { self.new.items ≡ self.old.items }
+        ensures visible { (f : TheId → Bool) → self.old.visible ≡ filter f self.old.items → self.new.visible ≡ filter (λ a. cond (is_same_id a id.now) shown (f a)) self.old.items }
+        ensures room { self.new.room ≡ self.old.room }
+    {
+        match &mut self.blocks {
+            None => unreachable!(),
+            Some(blocks) => blocks.set_shown(id, shown),
+        }
+    }
+
+    /// The item with this index among those that are shown, `None` past the last. Looks at how many are shown in each block, and at
+    /// the items of one.
+    pub fn nth_visible(&self, index: usize) -> Option<OpId>
+        ensures { result ≡ slice_get self.now.visible index }
+    {
+        match &self.blocks {
+            None => None,
+            Some(blocks) => blocks.nth_visible(index),
+        }
     }
 
     /// Whether the id is one of the items. Binary search.
     pub fn contains(&self, id: &OpId) -> bool
         ensures { result ≡ has_item id.now self.now.items }
     {
-        number_of(&self.column, Some(*id)).is_some()
+        match &self.blocks {
+            None => false,
+            Some(blocks) => blocks.contains(id),
+        }
     }
 
-    /// The item after this one, or the first one after the head. `None` past the last, and after an id that is no item. Binary search.
-    pub fn next(&self, after: Option<OpId>) -> Option<OpId>
-        ensures { result ≡ item_after after self.now.items }
+    /// The items that are shown, in list order. Looks at each item that ever was, tombstones included.
+    ///
+    /// # Errors
+    /// `AllocError` if allocation fails.
+    pub fn visible(&self, alloc: Global) -> Result<Vec<OpId>, AllocError>
+        ensures { IfOk result (λ v. v.items ≡ self.now.visible) }
     {
-        let last = number_of(&self.column, after);
-        if last.is_some() != after.is_some() {
-            return None;
-        }
-        let next = next_number(self.first, &self.nexts, last)?;
-        Some(self.ids[next])
-    }
-}
-
-/// The number of an item, `None` for the head.
-fn number_of(column: &Numbers, item: Option<OpId>) -> Option<usize>
-    ensures { result ≡ number_at column.now.entries item }
-{
-    column.get(&item?)
-}
-
-/// Links a new item in, after the last one that it goes past.
-fn link(first: &mut Option<usize>, nexts: &mut Vec<Option<usize>>, last: Option<usize>)
-    requires last { IfSome last (λ n. n < length nexts.old.items) }
-    requires room { vec_len nexts.old < vec_capacity nexts.old }
-    ensures first { first.new ≡ first_linked first.old (length nexts.old.items) last }
-    ensures nexts { nexts.new.items ≡ nexts_linked first.old nexts.old.items last }
-    ensures capacity { vec_capacity nexts.new ≡ vec_capacity nexts.old }
-{
-    let number = nexts.len();
-    let next = next_number(*first, nexts, last);
-    match last {
-        None => *first = Some(number),
-        Some(last) => nexts[last] = Some(number),
-    }
-    nexts.push_reserved(next);
-}
-
-/// The number that an item's link leads to, or the head's.
-fn next_number(first: Option<usize>, nexts: &[Option<usize>], last: Option<usize>) -> Option<usize>
-    requires { IfSome last (λ n. n < length nexts.now) }
-    ensures { result ≡ following first nexts.now last }
-{
-    match last {
-        None => first,
-        Some(last) => nexts[last],
-    }
-}
-
-/// The last item that a new one after `prev` goes past.
-fn last_passed(
-    first: Option<usize>,
-    nexts: &[Option<usize>],
-    ids: &[OpId],
-    prev: Option<usize>,
-    id: &OpId,
-) -> Option<usize>
-    requires long { length ids.now ≡ length nexts.now }
-    requires prev { HasSplit first nexts.now prev }
-    ensures { (before after : List ℕ) → IsSplit first nexts.now prev before after → Passes ids.now before after result (λ ns. skip id.now (ids_of ids.now ns)) (λ ns. id.now ∷ ids_of ids.now ns) }
-{
-    let mut last = prev;
-    while let Some(next) = next_number(first, nexts, last) {
-        match ids[next].cmp(id) {
-            Ordering::Less => return last,
-            _ => last = Some(next),
+        match &self.blocks {
+            None => Ok(Vec::new(alloc)),
+            Some(blocks) => blocks.visible(alloc),
         }
     }
-    last
+}
+
+/// Empty blocks with room for an item.
+///
+/// # Errors
+/// `AllocError` if allocation fails.
+fn first_blocks(alloc: Global) -> Result<Box<OrderBlocks>, AllocError>
+    ensures items { IfOk result (λ blocks. blocks.value.items ≡ []) }
+    ensures visible { IfOk result (λ blocks. blocks.value.visible ≡ []) }
+    ensures room { IfOk result (λ blocks. 0 < blocks.value.room) }
+{
+    let mut blocks = Box::new(alloc, OrderBlocks::new(alloc))?;
+    blocks.reserve_one()?;
+    Ok(blocks)
 }

@@ -32,12 +32,12 @@ fn get(numbers: &Numbers, pair: Pair) -> Result<Option<usize>, Fail> {
     Ok(numbers.get(&id))
 }
 
-/// The number of an id that is looked for near a position, and the position that is near then.
-fn get_near(numbers: &Numbers, pair: Pair, from: usize) -> Result<(Option<usize>, usize), Fail> {
-    let id = id_of(pair)?;
-    let mut near = from;
-    let number = numbers.get_near(&id, &mut near);
-    Ok((number, near))
+/// Sets the number of an id that is there.
+fn set(rt: &impl Abort, numbers: &mut Numbers, row: Row) -> Result<(), Fail> {
+    let id = id_of(row.0)?;
+    assert!(rt; numbers.get(&id).is_some());
+    numbers.set(&id, row.1);
+    Ok(())
 }
 
 /// Removes an id, and returns its number.
@@ -71,30 +71,9 @@ fn assert_absent(rt: &impl Abort, numbers: &Numbers, pairs: &[Pair]) -> Result<(
     Ok(())
 }
 
-/// Asserts the entries whose ids have a greater counter than this.
-fn assert_above(rt: &impl Abort, numbers: &Numbers, counter: u64, want: &[Row]) {
-    let above = numbers.above(counter);
-    assert_eq!(rt; above.len(), want.len(), "above {counter}");
-    for (place, row) in want.iter().enumerate() {
-        assert_eq!(rt; row_of(&above[place]), *row, "above {counter}");
-    }
-}
-
-/// Asserts the number of each id that is looked for near a position, and the position that is near then.
-fn assert_near(
-    rt: &impl Abort,
-    numbers: &Numbers,
-    from: usize,
-    rows: &[(Pair, (Option<usize>, usize))],
-) -> Result<(), Fail> {
-    for (pair, want) in rows {
-        assert_eq!(rt;
-            get_near(numbers, *pair, from)?,
-            *want,
-            "{pair:?} from {from}"
-        );
-    }
-    Ok(())
+/// Asserts where the entries begin whose ids have a greater counter than this.
+fn assert_above(rt: &impl Abort, numbers: &Numbers, counter: u64, first: usize) {
+    assert_eq!(rt; numbers.first_above(counter), first, "above {counter}");
 }
 
 /// Puts numbers in this order, and asserts the entries.
@@ -132,34 +111,14 @@ fn numbers_rise_by_id(rt: HostRuntime) -> Result<(), Fail> {
 
 #[test]
 fn numbers_above_a_counter(rt: HostRuntime) -> Result<(), Fail> {
-    assert_above(&rt, &Numbers::new(rt.alloc()), 0, &[]);
+    assert_above(&rt, &Numbers::new(rt.alloc()), 0, 0);
     let numbers = numbers_of(rt.alloc(), &FOUR)?;
-    assert_above(&rt, &numbers, 0, &FOUR);
-    assert_above(&rt, &numbers, 1, &[((2, 1), 9), ((10, 1), 0)]);
-    assert_above(&rt, &numbers, 2, &[((10, 1), 0)]);
-    assert_above(&rt, &numbers, 9, &[((10, 1), 0)]);
-    assert_above(&rt, &numbers, 10, &[]);
-    assert_above(&rt, &numbers, u64::MAX, &[]);
-    Ok(())
-}
-
-#[test]
-fn numbers_near_a_place(rt: HostRuntime) -> Result<(), Fail> {
-    let numbers = numbers_of(rt.alloc(), &FOUR)?;
-    for from in [0, 1, 2, 3, 4, 9, usize::MAX] {
-        assert_near(
-            &rt,
-            &numbers,
-            from,
-            &[
-                ((1, 1), (Some(7), 0)),
-                ((1, 2), (Some(5), 1)),
-                ((2, 1), (Some(9), 2)),
-                ((10, 1), (Some(0), 3)),
-                ((2, 2), (None, from)),
-            ],
-        )?;
-    }
+    assert_above(&rt, &numbers, 0, 0);
+    assert_above(&rt, &numbers, 1, 2);
+    assert_above(&rt, &numbers, 2, 3);
+    assert_above(&rt, &numbers, 9, 3);
+    assert_above(&rt, &numbers, 10, 4);
+    assert_above(&rt, &numbers, u64::MAX, 4);
     Ok(())
 }
 
@@ -167,6 +126,15 @@ fn numbers_near_a_place(rt: HostRuntime) -> Result<(), Fail> {
 fn a_put_number_replaces(rt: HostRuntime) -> Result<(), Fail> {
     let numbers = numbers_of(rt.alloc(), &[((1, 1), 7), ((2, 1), 8), ((1, 1), 9)])?;
     assert_rows(&rt, &numbers, &[((1, 1), 9), ((2, 1), 8)])
+}
+
+#[test]
+fn a_set_number_replaces(rt: HostRuntime) -> Result<(), Fail> {
+    let mut numbers = numbers_of(rt.alloc(), &FOUR)?;
+    set(&rt, &mut numbers, ((1, 2), 6))?;
+    set(&rt, &mut numbers, ((10, 1), 3))?;
+    let [first, _, third, _] = FOUR;
+    assert_rows(&rt, &numbers, &[first, ((1, 2), 6), third, ((10, 1), 3)])
 }
 
 #[test]

@@ -35,58 +35,41 @@ fn order_of(alloc: Global, rows: &[Row]) -> Result<ListOrder, Fail> {
     Ok(order)
 }
 
-/// The items, from the head on.
-fn items(alloc: Global, order: &ListOrder) -> Result<Vec<Pair>, Fail> {
+/// The items that are shown.
+fn visible(alloc: Global, order: &ListOrder) -> Result<Vec<Pair>, Fail> {
     let mut items = Vec::new(alloc);
-    let Some(first) = order.next(None) else {
-        return Ok(items);
-    };
-    let mut id = first;
-    for _ in 0..order.len() {
-        items.push((id.counter, id.replica.number()))?;
-        let Some(next) = order.next(Some(id)) else {
-            return Ok(items);
-        };
-        id = next;
+    for id in &order.visible(alloc)? {
+        items.push(pair_of(*id))?;
     }
     Ok(items)
 }
 
-/// The items, by the iterator.
-fn iterated(alloc: Global, order: &ListOrder) -> Result<Vec<Pair>, Fail> {
-    let mut items = Vec::new(alloc);
-    for id in order.iter() {
-        items.push(pair_of(id))?;
-    }
-    Ok(items)
-}
-
-/// Asserts the items, by the links and by the iterator.
+/// Asserts the items, once all of these are shown.
 fn assert_items(
     rt: &impl Abort,
     alloc: Global,
-    order: &ListOrder,
+    order: &mut ListOrder,
     want: &[Pair],
 ) -> Result<(), Fail> {
-    let items = items(alloc, order)?;
+    for pair in want {
+        show(order, *pair, true)?;
+    }
+    let items = visible(alloc, order)?;
     assert_eq!(rt; items.as_slice(), want);
-    let iterated = iterated(alloc, order)?;
-    assert_eq!(rt; iterated.as_slice(), want);
     Ok(())
 }
 
 /// Asserts that an id is no item.
 fn assert_absent(rt: &impl Abort, order: &ListOrder, pair: Pair) -> Result<(), Fail> {
     let id = id_of(pair)?;
-    assert_eq!(rt; (order.contains(&id), order.next(Some(id))), (false, None));
+    assert!(rt; !order.contains(&id));
     Ok(())
 }
 
 /// Puts items in this order, and asserts the list.
 fn assert_order(rt: &impl Abort, alloc: Global, given: &[Row], want: &[Pair]) -> Result<(), Fail> {
-    let order = order_of(alloc, given)?;
-    assert_eq!(rt; order.len(), want.len(), "of {want:?}");
-    assert_items(rt, alloc, &order, want)?;
+    let mut order = order_of(alloc, given)?;
+    assert_items(rt, alloc, &mut order, want)?;
     assert_absent(rt, &order, (9, 9))
 }
 
@@ -122,4 +105,70 @@ fn items_go_past_all_that_follows_a_greater_one(rt: HostRuntime) -> Result<(), F
         ],
         &[(1, 1), (3, 1), (4, 1), (5, 1), (2, 2)],
     )
+}
+
+/// Shows or hides an item, if it is there.
+fn show(order: &mut ListOrder, pair: Pair, shown: bool) -> Result<(), Fail> {
+    let id = id_of(pair)?;
+    if order.contains(&id) {
+        order.set_shown(&id, shown);
+    }
+    Ok(())
+}
+
+/// The item with this index among those that are shown.
+fn nth(order: &ListOrder, index: usize) -> Option<Pair> {
+    order.nth_visible(index).map(pair_of)
+}
+
+#[test]
+fn only_shown_items_are_counted(rt: HostRuntime) -> Result<(), Fail> {
+    let rows = [
+        (None, (1, 1)),
+        (Some((1, 1)), (2, 1)),
+        (Some((2, 1)), (3, 1)),
+    ];
+    let mut order = order_of(rt.alloc(), &rows)?;
+    assert_eq!(rt; nth(&order, 0), None);
+    show(&mut order, (3, 1), true)?;
+    show(&mut order, (1, 1), true)?;
+    assert_eq!(rt;
+        (nth(&order, 0), nth(&order, 1), nth(&order, 2)),
+        (Some((1, 1)), Some((3, 1)), None)
+    );
+    show(&mut order, (1, 1), false)?;
+    assert_eq!(rt; (nth(&order, 0), nth(&order, 1)), (Some((3, 1)), None));
+    Ok(())
+}
+
+/// Asserts that so many items, each put after the one before it or each at the head, are those from `1@1` on, or the other way.
+fn assert_long(rt: &impl Abort, alloc: Global, count: u64, at_head: bool) -> Result<(), Fail> {
+    let mut order = ListOrder::new(alloc);
+    let mut want = Vec::new(alloc);
+    for number in 0..count {
+        let counter = number + 1;
+        let prev = if at_head || number == 0 {
+            None
+        } else {
+            Some((number, 1))
+        };
+        place(&mut order, (prev, (counter, 1)))?;
+        show(&mut order, (counter, 1), true)?;
+        want.push((counter, 1))?;
+    }
+    if at_head {
+        want.reverse();
+    }
+    assert_items(rt, alloc, &mut order, &want)?;
+    assert_eq!(rt;
+        (nth(&order, 700), nth(&order, 2999)),
+        (want.get(700).copied(), want.get(2999).copied())
+    );
+    Ok(())
+}
+
+#[test]
+fn long_lists_stand_in_blocks(rt: HostRuntime) -> Result<(), Fail> {
+    assert_long(&rt, rt.alloc(), 3000, false)?;
+    assert_long(&rt, rt.alloc(), 3000, true)
 }

@@ -1,79 +1,31 @@
-use Rattle.std.proofs.Common.{rules, ◌≡◌, ◌≤◌, ◌<◌, ◌∙◌, ◌-◌, ℕ, List, min, not, ap, sym, subst, arith, length, vec_len, vec_capacity}
-use Rattle.std.proofs.lemmas.List.{length-map}
-use Rattle.std.specs.List.{All, zip, filter, items_where_true}
-use Rattle.semantics.specs.Ids.{OpId, id_cmp}
+use Rattle.std.proofs.Common.{◌≡◌, ◌∙◌, ◌∷◌, [], ℕ, Bool, cond, nat_le, List, length, ap, sym, subst}
+use Rattle.std.specs.Prelude.{slice_index}
+use Rattle.ids.specs.Members.{AreDistinct}
+use Rattle.semantics.specs.Context.{without}
 use Rattle.semantics.specs.Vectors.{covers}
 use Rattle.semantics.specs.Tables.{by_table}
-use Rattle.semantics.specs.Context.{without}
-use Rattle.version.specs.Columns.{is_uncovered, uncovered}
-use Rattle.version.proofs.Beside.{zip-items_where_true, same-length-items_where_true, few-items_where_true}
-use Rattle.columns.specs.Entries.{Entries, StandBeside, entries_of, indices_of}
-use Rattle.columns.proofs.Columns.{all-indices, kept-entries_of, kept-map, kept-filter, marks-tested, rising_kept, length-entries_of}
-use Rattle.columns.proofs.Beside.{marks-cover, stand_beside-kept}
+use Rattle.columns.specs.Entries.{Entries, StandBeside}
+use Rattle.columns.specs.Held.{held_entries}
+use Rattle.columns.specs.declared.held.Entry.{Entry}
+use Rattle.columns.specs.declared.held.Held.TheVariants.{Single}
+use Rattle.columns.proofs.Beside.{single_without}
 use Rattle.columns.proofs.by_id.ById.clear.Goals as goal
 
--- the entries and indices that are left, by the marks
-kept : {X : Type 0} (v : List ℕ) (cs new : List (ℕ × ℕ)) (bs beside : List (ℕ × X)) → new ≡ items_where_true (uncovered v cs) cs → beside ≡ items_where_true (uncovered v cs) bs
-    → (entries_of new beside ≡ items_where_true (uncovered v cs) (entries_of cs bs)) × (indices_of new ≡ items_where_true (uncovered v cs) (indices_of cs))
-kept v cs new bs beside e f =
-    ((λ t. entries_of (e t) (f t)) ∙ kept-entries_of (uncovered v cs) cs bs, ap indices_of e ∙ kept-map (λ id. id.1) (uncovered v cs) cs)
+-- what is left of a map with a single entry, by the test of its index
+left : {X : Type 0} (table v : List ℕ) (e : Entry X) (m : Entries X) (is_covered : Bool) → held_entries (Single e) ≡ m → is_covered ≡ nat_le e.id.counter (slice_index v e.index)
+    → AreDistinct table → length table ≡ length v → StandBeside table m.entries m.indices → cond is_covered [] ((e.id, e.value) ∷ []) ≡ without (covers (by_table table v)) m.entries
+left {X = X} table v e m is_covered seen is distinct wide stand =
+    let alone : StandBeside table ((e.id, e.value) ∷ []) (e.index ∷ []) = subst (λ (n : Entries X). StandBeside table n.entries n.indices) (sym seen) stand in
+    ap (λ b. cond b [] ((e.id, e.value) ∷ [])) is
+    ∙ sym (single_without table v e.id e.index e.value distinct wide alone)
+    ∙ ap (λ (n : Entries X). without (covers (by_table table v)) n.entries) seen
 
-long_indices : {X : Type 0} (cs : List (ℕ × ℕ)) (bs : List (ℕ × X)) → length bs ≡ length cs → length (indices_of cs) ≡ length (entries_of cs bs)
-long_indices cs bs h = length-map cs (λ (c : ℕ × ℕ). c.1) ∙ sym h ∙ sym (length-entries_of cs bs h)
+pub returns-then-covers-clause-without : goal.returns-then-covers-clause-without
+returns-then-covers-clause-without g c table distinct wide stand =
+    let seen : held_entries (Single c.in-Single.entry) ≡ c.args.self.now = ap held_entries (sym c.in-Single.is) ∙ c.self.view_is in
+    rw c.take_single.ensures.empty (left table c.args.vector.now c.in-Single.entry c.args.self.now _ seen (sym c.if-covers.true ∙ c.covers.ensures) distinct wide stand)
 
-pub keep_uncovered_beside-requires-clause-within : goal.keep_uncovered_beside-requires-clause-within
-keep_uncovered_beside-requires-clause-within g c =
-    all-indices (length c.args.vector.now) c.self.inside.ids.ids (subst (λ (m : Entries g.row.T.Denot). All (λ i. i < length c.args.vector.now) m.indices) (sym c.self.view_is) c.requires)
-
-pub invariant_of-self : goal.invariant_of-self
-invariant_of-self g c =
-    let d = c.self.inside in
-    let marks = uncovered c.args.vector.now d.ids.ids in
-    let left = kept c.args.vector.now d.ids.ids c.keep_uncovered_beside.new.ids.ids d.beside.items c.keep_uncovered_beside.new.beside.items c.keep_uncovered_beside.ensures.ids c.keep_uncovered_beside.ensures.beside in
-    record {
-      long = ap length c.keep_uncovered_beside.ensures.beside ∙ same-length-items_where_true marks d.ids.ids d.beside.items c.self.invariant.long ∙ ap length (sym c.keep_uncovered_beside.ensures.ids);
-      rising = rw left.0 (rising_kept id_cmp marks (entries_of d.ids.ids d.beside.items) c.self.invariant.rising);
-    }
-
-pub returns-clause-kept : goal.returns-clause-kept
-returns-clause-kept g c =
-    let d = c.self.inside in
-    let v = c.args.vector.now in
-    let marks = uncovered v d.ids.ids in
-    let es = entries_of d.ids.ids d.beside.items in
-    let is = indices_of d.ids.ids in
-    let left = kept v d.ids.ids c.keep_uncovered_beside.new.ids.ids d.beside.items c.keep_uncovered_beside.new.beside.items c.keep_uncovered_beside.ensures.ids c.keep_uncovered_beside.ensures.beside in
-    (λ t. zip (left.0 t) (left.1 t))
-    ∙ zip-items_where_true marks es is (long_indices d.ids.ids d.beside.items c.self.invariant.long)
-    ∙ ap (λ ms. items_where_true ms (zip es is)) (marks-tested v d.ids.ids d.beside.items c.self.invariant.long)
-    ∙ kept-filter (λ (e : (OpId × g.row.T.Denot) × ℕ). is_uncovered v (e.0.0.counter, e.1)) (zip es is)
-    ∙ ap (λ (m : Entries g.row.T.Denot). filter (λ e. is_uncovered v (e.0.0.counter, e.1)) (zip m.entries m.indices)) c.self.view_is
-
-pub returns-clause-without : goal.returns-clause-without
-returns-clause-without g c table distinct wide stand =
-    let d = c.self.inside in
-    let v = c.args.vector.now in
-    let es = entries_of d.ids.ids d.beside.items in
-    let old : StandBeside table es (indices_of d.ids.ids) = subst (λ (m : Entries g.row.T.Denot). StandBeside table m.entries m.indices) (sym c.self.view_is) stand in
-    let left = kept v d.ids.ids c.keep_uncovered_beside.new.ids.ids d.beside.items c.keep_uncovered_beside.new.beside.items c.keep_uncovered_beside.ensures.ids c.keep_uncovered_beside.ensures.beside in
-    left.0
-    ∙ ap (λ ms. items_where_true ms es) (marks-cover table v d.ids.ids d.beside.items distinct wide c.self.invariant.long old)
-    ∙ kept-filter (λ (e : OpId × g.row.T.Denot). not (covers (by_table table v) e.0)) es
-    ∙ ap (λ (m : Entries g.row.T.Denot). without (covers (by_table table v)) m.entries) c.self.view_is
-
-pub returns-clause-beside : goal.returns-clause-beside
-returns-clause-beside g c table stand =
-    let d = c.self.inside in
-    let v = c.args.vector.now in
-    let es = entries_of d.ids.ids d.beside.items in
-    let old : StandBeside table es (indices_of d.ids.ids) = subst (λ (m : Entries g.row.T.Denot). StandBeside table m.entries m.indices) (sym c.self.view_is) stand in
-    let left = kept v d.ids.ids c.keep_uncovered_beside.new.ids.ids d.beside.items c.keep_uncovered_beside.new.beside.items c.keep_uncovered_beside.ensures.ids c.keep_uncovered_beside.ensures.beside in
-    rw (left.0, left.1) (stand_beside-kept table (uncovered v d.ids.ids) es (indices_of d.ids.ids) old)
-
-pub returns-clause-room : goal.returns-clause-room
-returns-clause-room g c =
-    let d = c.self.inside in
-    let old : c.args.self.now.room ≡ min d.ids.room d.beside.room = ap (λ (m : Entries g.row.T.Denot). m.room) (sym c.self.view_is) in
-    let beside = c.keep_uncovered_beside.ensures.room_beside in
-    let room = c.keep_uncovered_beside.ensures.room in
-    omega arith
+pub returns-else-covers-clause-without : goal.returns-else-covers-clause-without
+returns-else-covers-clause-without g c table distinct wide stand =
+    let seen : held_entries (Single c.in-Single.entry) ≡ c.args.self.now = ap held_entries (sym c.in-Single.is) ∙ c.self.view_is in
+    left table c.args.vector.now c.in-Single.entry c.args.self.now _ seen (sym c.if-covers.false ∙ c.covers.ensures) distinct wide stand

@@ -1,0 +1,319 @@
+//! A block of a list: a run of neighbouring items.
+
+ghost use Rattle.std.specs.Prelude.{◌≡◌, ◌≤◌, ◌<◌, ◌+◌, ℕ, List, [], ◌∷◌, ◌++◌, length, take, drop, slice_get, slice_set, Some, cond, false, IsTrue, OnOk, OnErr, IfOk};
+ghost use Rattle.std.specs.List.{insert, items_where_true};
+ghost use Rattle.semantics.specs.Ids.{OpId as TheId};
+ghost use Rattle.columns.specs.Blocks.{AreGreater, IsFirstSmaller, IsFloor, IsPositionOf};
+
+use ids::OpId;
+use std::alloc::{AllocError, Global};
+use std::marker::Model;
+use std::mem::replace;
+
+/// Neighbouring items of a list, with what a walk asks before it looks at each of them: how many are shown, and an id that none of
+/// theirs is smaller than.
+///
+/// Contracts see the number of the block, its items in list order, of each whether it is shown, and for how many more there is room.
+#[derive(Debug, Drop)]
+pub(crate) struct Block {
+    number: usize,
+    ids: Vec<OpId>,
+    /// Of each item whether it is shown.
+    flags: Vec<bool>,
+    /// How many items are shown.
+    shown: usize,
+    /// No item is smaller. `None` where there is no item.
+    floor: Option<OpId>,
+}
+
+impl Model for Block {
+    ghost use Rattle.std.specs.Prelude.{◌-◌, min, vec_len, vec_capacity};
+    ghost use Rattle.columns.specs.Blocks.{IsBlock, Run};
+
+    ghost Value = { Run };
+
+    ghost view = { λ b. record { number = b.number; items = b.ids.items; flags = b.flags.items; room = min (vec_capacity b.ids - vec_len b.ids) (vec_capacity b.flags - vec_len b.flags) } };
+
+    ghost invariant = { λ b. IsBlock b.ids.items b.flags.items b.shown b.floor };
+}
+
+impl Block {
+    /// Returns an empty block with this number. Takes no memory.
+    pub fn new(number: usize, alloc: Global) -> Block
+        ensures number { result.number ≡ number }
+        ensures items { result.items ≡ [] }
+        ensures flags { result.flags ≡ [] }
+    {
+        Block {
+            number,
+            ids: Vec::new(alloc),
+            flags: Vec::new(alloc),
+            shown: 0,
+            floor: None,
+        }
+    }
+
+    /// The block's number.
+    pub fn number(&self) -> usize
+        ensures { result ≡ self.now.number }
+    {
+        self.number
+    }
+
+    /// How many items there are.
+    pub fn len(&self) -> usize
+        ensures items { result ≡ length self.now.items }
+        ensures flags { result ≡ length self.now.flags }
+    {
+        self.ids.len()
+    }
+
+    /// How many items are shown.
+    pub fn shown(&self) -> usize
+        ensures { result ≡ length (items_where_true self.now.flags self.now.items) }
+    {
+        self.shown
+    }
+
+    /// The item at an index.
+    pub fn at(&self, index: usize) -> OpId
+        requires { index < length self.now.items }
+        ensures { slice_get self.now.items index ≡ Some result }
+    {
+        self.ids[index]
+    }
+
+    /// The index of an item. Looks at each one before it.
+    pub fn position(&self, id: &OpId) -> Option<usize>
+        ensures { IsPositionOf id.now self.now.items result }
+    {
+        position_in(&self.ids, id)
+    }
+
+    /// The item at which so many shown ones stand before. Looks at each flag up to there.
+    pub fn nth_shown(&self, index: usize) -> Option<OpId>
+        ensures { result ≡ slice_get (items_where_true self.now.flags self.now.items) index }
+    {
+        nth_shown_in(&self.ids, &self.flags, index)
+    }
+
+    /// Appends the shown items. Looks at each flag.
+    ///
+    /// # Errors
+    /// `AllocError` if allocation fails.
+    pub fn push_shown(&self, items: &mut Vec<OpId>) -> Result<(), AllocError>
+        ensures { OnOk result (items.new.items ≡ items.old.items ++ items_where_true self.now.flags self.now.items) }
+    {
+        push_shown_of(&self.ids, &self.flags, items)
+    }
+
+    /// The index of the first item, from `from` on, that is smaller than this id. Looks at one id where all are greater and `from` is 0,
+    /// and at each up to there otherwise.
+    pub fn first_smaller(&self, from: usize, id: &OpId) -> Option<usize>
+        requires { from ≤ length self.now.items }
+        ensures { IsFirstSmaller id.now self.now.items from result }
+    {
+        if is_above(&self.floor, id) {
+            return None;
+        }
+        first_smaller_in(&self.ids, from, id)
+    }
+
+    /// Makes room for one more item.
+    ///
+    /// # Errors
+    /// `AllocError` if allocation fails.
+    pub fn reserve_one(&mut self) -> Result<(), AllocError>
+        ensures number { self.new.number ≡ self.old.number }
+        ensures items { self.new.items ≡ self.old.items }
+        ensures flags { self.new.flags ≡ self.old.flags }
+        ensures room { OnOk result (0 < self.new.room) }
+        ensures kept { self.old.room ≤ self.new.room }
+    {
+        self.ids.reserve(1)?;
+        self.flags.reserve(1)
+    }
+
+    /// Puts an item at an index, not shown. Takes no memory, and moves each item behind it.
+    pub fn put(&mut self, index: usize, id: OpId)
+        requires within { index ≤ length self.old.items }
+        requires room { 0 < self.old.room }
+        ensures number { self.new.number ≡ self.old.number }
+        ensures items { self.new.items ≡ insert self.old.items index id }
+        ensures flags { self.new.flags ≡ insert self.old.flags index false }
+    {
+        self.floor = lower(&self.floor, &id);
+        // There is room, so neither is refused.
+        let _ = self.ids.insert(index, id);
+        let _ = self.flags.insert(index, false);
+    }
+
+    /// Sets whether the item at an index is shown.
+    pub fn set_shown(&mut self, index: usize, is_shown: bool)
+        requires { index < length self.old.items }
+        ensures number { self.new.number ≡ self.old.number }
+        ensures items { self.new.items ≡ self.old.items }
+        ensures flags { self.new.flags ≡ slice_set self.old.flags index is_shown }
+        ensures room { self.new.room ≡ self.old.room }
+    {
+        let was_shown = replace(&mut self.flags[index], is_shown);
+        self.shown = self.shown - count_of(was_shown) + count_of(is_shown);
+    }
+
+    /// Cuts off the items from an index on, as a block with this number. Both have room for one more item then.
+    ///
+    /// # Errors
+    /// `AllocError` if allocation fails; then all items stay.
+    pub fn split_off(&mut self, at: usize, number: usize) -> Result<Block, AllocError>
+        requires { at < length self.old.items }
+        ensures number { self.new.number ≡ self.old.number }
+        ensures items { OnOk result (self.new.items ≡ take at self.old.items) }
+        ensures flags { OnOk result (self.new.flags ≡ take at self.old.flags) }
+        ensures room { OnOk result (0 < self.new.room) }
+        ensures back_number { IfOk result (λ back. back.number ≡ number) }
+        ensures back_items { IfOk result (λ back. back.items ≡ drop at self.old.items) }
+        ensures back_flags { IfOk result (λ back. back.flags ≡ drop at self.old.flags) }
+        ensures back_room { IfOk result (λ back. 0 < back.room) }
+        ensures refused_items { OnErr result (self.new.items ≡ self.old.items) }
+        ensures refused_flags { OnErr result (self.new.flags ≡ self.old.flags) }
+        ensures kept { self.old.room ≤ self.new.room }
+    {
+        let alloc = *self.ids.allocator();
+        let back = block_of(alloc, number, &self.ids[at..], &self.flags[at..])?;
+        self.ids.truncate(at);
+        self.flags.truncate(at);
+        self.shown -= back.shown;
+        self.floor = floor_of(&self.ids);
+        Ok(back)
+    }
+}
+
+/// A block of these items, with room for one more.
+///
+/// # Errors
+/// `AllocError` if allocation fails.
+fn block_of(alloc: Global, number: usize, ids: &[OpId], flags: &[bool]) -> Result<Block, AllocError>
+    requires { length flags.now ≡ length ids.now }
+    ensures number { IfOk result (λ block. block.number ≡ number) }
+    ensures items { IfOk result (λ block. block.items ≡ ids.now) }
+    ensures flags { IfOk result (λ block. block.flags ≡ flags.now) }
+    ensures room { IfOk result (λ block. 0 < block.room) }
+{
+    let mut block = Block {
+        number,
+        ids: Vec::with_capacity(alloc, ids.len() + 1)?,
+        flags: Vec::with_capacity(alloc, ids.len() + 1)?,
+        shown: count_shown(ids, flags),
+        floor: floor_of(ids),
+    };
+    block.ids.extend_from_slice(ids)?;
+    block.flags.extend_from_slice(flags)?;
+    Ok(block)
+}
+
+/// What an item counts among the shown ones: 1 where it is shown, otherwise 0.
+fn count_of(is_shown: bool) -> usize
+    ensures { result ≡ cond is_shown 1 0 }
+{
+    if is_shown { 1 } else { 0 }
+}
+
+/// How many of the items are shown.
+fn count_shown(ids: &[OpId], flags: &[bool]) -> usize
+    requires { length flags.now ≡ length ids.now }
+    ensures { result ≡ length (items_where_true flags.now ids.now) }
+{
+    let mut shown = 0;
+    for at in 0..ids.len() {
+        if flags[at] {
+            shown += 1;
+        }
+    }
+    shown
+}
+
+/// The least of the ids, `None` where there is none.
+fn floor_of(ids: &[OpId]) -> Option<OpId>
+    ensures { IsFloor result ids.now }
+{
+    let mut floor = None;
+    for id in ids {
+        floor = lower(&floor, id);
+    }
+    floor
+}
+
+/// The smaller one of a floor and an id.
+fn lower(floor: &Option<OpId>, id: &OpId) -> Option<OpId>
+    ensures { (ids : List TheId) → IsFloor floor.now ids → IsFloor result (id.now ∷ ids) }
+{
+    match floor {
+        Some(least) if least < id => Some(*least),
+        _ => Some(*id),
+    }
+}
+
+/// Whether no item of a block with this floor is smaller than an id.
+fn is_above(floor: &Option<OpId>, id: &OpId) -> bool
+    ensures { (ids : List TheId) → IsFloor floor.now ids → IsTrue result → AreGreater id.now ids }
+{
+    match floor {
+        Some(least) => id < least,
+        None => true,
+    }
+}
+
+/// The index of an id among others. Looks at each one before it.
+fn position_in(ids: &[OpId], id: &OpId) -> Option<usize>
+    ensures { IsPositionOf id.now ids.now result }
+{
+    for index in 0..ids.len() {
+        if ids[index] == *id {
+            return Some(index);
+        }
+    }
+    None
+}
+
+/// The index of the first id, from `from` on, that is smaller than this one.
+fn first_smaller_in(ids: &[OpId], from: usize, id: &OpId) -> Option<usize>
+    requires { from ≤ length ids.now }
+    ensures { IsFirstSmaller id.now ids.now from result }
+{
+    for index in from..ids.len() {
+        if ids[index] < *id {
+            return Some(index);
+        }
+    }
+    None
+}
+
+/// The id at which so many shown ones stand before.
+fn nth_shown_in(ids: &[OpId], flags: &[bool], index: usize) -> Option<OpId>
+    requires { length flags.now ≡ length ids.now }
+    ensures { result ≡ slice_get (items_where_true flags.now ids.now) index }
+{
+    let mut left = index;
+    for at in 0..ids.len() {
+        if flags[at] {
+            if left == 0 {
+                return Some(ids[at]);
+            }
+            left -= 1;
+        }
+    }
+    None
+}
+
+/// Appends the ids that are shown.
+fn push_shown_of(ids: &[OpId], flags: &[bool], items: &mut Vec<OpId>) -> Result<(), AllocError>
+    requires { length flags.now ≡ length ids.now }
+    ensures { OnOk result (items.new.items ≡ items.old.items ++ items_where_true flags.now ids.now) }
+{
+    for at in 0..ids.len() {
+        if flags[at] {
+            items.push(ids[at])?;
+        }
+    }
+    Ok(())
+}

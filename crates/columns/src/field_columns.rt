@@ -1,0 +1,100 @@
+//! Keys in columns, each with a number.
+
+ghost use Rattle.std.specs.Prelude.{◌≡◌, ◌≤◌, ◌<◌, ◌+◌, [], length, Some, None, slice_get, IsTrue, OnOk};
+ghost use Rattle.std.specs.FinMap.{find, put, is_sorted};
+ghost use Rattle.semantics.specs.Elements.{name_cmp};
+
+use crate::sorted_keys::SortedKeys;
+use std::alloc::{AllocError, Global};
+use std::marker::Model;
+use value::Key;
+
+/// A finite map from keys to numbers.
+///
+/// Contracts see the entries, rising by the bytes of their keys, and for how many more there is room.
+#[derive(Debug, Drop)]
+pub struct FieldColumns {
+    keys: SortedKeys,
+    /// The number of each key, in the order in which the keys were put.
+    numbers: Vec<usize>,
+}
+
+impl Model for FieldColumns {
+    ghost use Rattle.std.specs.Prelude.{◌-◌, min, vec_len, vec_capacity};
+    ghost use Rattle.std.specs.List.{zip};
+    ghost use Rattle.semantics.specs.Elements.{Name};
+    ghost use Rattle.columns.specs.Keys.{AreFields, numbered};
+    ghost use Rattle.columns.specs.Numbered.{Numbered};
+
+    ghost Value = { Numbered Name };
+
+    ghost view = { λ f. record { entries = zip f.keys.keys (numbered 0 f.numbers.items f.keys.numbers); room = min f.keys.room (vec_capacity f.numbers - vec_len f.numbers) } };
+
+    ghost invariant = { λ f. AreFields f.keys f.numbers.items };
+}
+
+impl FieldColumns {
+    pub fn new(alloc: Global) -> FieldColumns
+        ensures { result.entries ≡ [] }
+    {
+        FieldColumns {
+            keys: SortedKeys::new(alloc),
+            numbers: Vec::new(alloc),
+        }
+    }
+
+    /// How many fields there are.
+    pub fn len(&self) -> usize
+        ensures length { result ≡ length self.now.entries }
+        ensures rising { IsTrue (is_sorted name_cmp self.now.entries) }
+    {
+        self.keys.len()
+    }
+
+    /// The key at a position in byte order, and its number.
+    pub fn at(&self, place: usize) -> (&Key, usize)
+        requires { place < length self.now.entries }
+        ensures { slice_get self.now.entries place ≡ Some (result.0.now, result.1) }
+    {
+        (self.keys.at(place), self.numbers[self.keys.number(place)])
+    }
+
+    /// The number of a key. Binary search.
+    pub fn get(&self, key: &Key) -> Option<usize>
+        ensures { result ≡ find name_cmp key.now self.now.entries }
+    {
+        let mut probes = 0;
+        match self.keys.find(key, &mut probes) {
+            Ok(place) => Some(self.numbers[self.keys.number(place)]),
+            Err(_) => None,
+        }
+    }
+
+    /// Makes room for one more field.
+    ///
+    /// # Errors
+    /// `AllocError` if allocation fails.
+    pub fn reserve_one(&mut self) -> Result<(), AllocError>
+        ensures same { self.new.entries ≡ self.old.entries }
+        ensures room { OnOk result (0 < self.new.room) }
+        ensures kept { self.old.room ≤ self.new.room }
+    {
+        self.keys.reserve_one()?;
+        self.numbers.reserve(1)
+    }
+
+    /// Puts a key that isn't there yet, with its number. Takes no memory. A binary search and one insert into `Rings`.
+    pub fn put(&mut self, key: Key, number: usize)
+        requires new { find name_cmp key self.old.entries ≡ None }
+        requires room { 0 < self.old.room }
+        ensures entries { self.new.entries ≡ put name_cmp key number self.old.entries }
+        ensures room { self.old.room ≤ self.new.room + 1 }
+    {
+        let mut probes = 0;
+        let Err(place) = self.keys.find(&key, &mut probes) else {
+            unreachable!()
+        };
+        self.keys.put(place, key);
+        self.numbers.push_reserved(number);
+    }
+}

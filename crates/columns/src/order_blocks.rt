@@ -1,0 +1,215 @@
+//! The order of a list, in blocks of neighbouring items.
+
+ghost use Rattle.std.specs.Prelude.{◌≡◌, ◌≤◌, ◌<◌, ◌+◌, ℕ, Bool, List, cond, [], length, IsTrue, IsFalse, IsSome, IfOk, OnOk, true, slice_get};
+ghost use Rattle.std.specs.List.{filter};
+ghost use Rattle.std.specs.FinMap.{find};
+ghost use Rattle.semantics.specs.Ids.{OpId as TheId, id_cmp, is_same_id};
+ghost use Rattle.semantics.specs.Context.{insert_after};
+ghost use Rattle.columns.specs.Orders.{has_item, has_place};
+ghost use Rattle.columns.specs.Blocks.{AreBlocks, AreMoved, IsSameList, items_at, room_at};
+
+use crate::block::Block;
+use crate::numbers::Numbers;
+use crate::walks::{Position, behind, find, goes_to, nth_shown, shown_items};
+use ids::OpId;
+use std::alloc::{AllocError, Global};
+use std::marker::Model;
+
+/// How many items a block has at most, once there is room for one more.
+const MOST: usize = 512;
+
+/// The order of the items of a list, and which of them are shown.
+///
+/// Neighbouring items stand in a block of at most 512, so that a walk goes from block to block. Each item's home is the number of its
+/// block. Contracts see the items in their order, those of them that are shown, and whether there is room for one more.
+#[derive(Debug, Drop)]
+pub(crate) struct OrderBlocks {
+    /// In list order.
+    blocks: Vec<Block>,
+    /// The number of each item's block.
+    homes: Numbers,
+    /// Where the last item went in. No other block is full.
+    last: Position,
+}
+
+impl Model for OrderBlocks {
+    ghost use Rattle.std.specs.Prelude.{min};
+    ghost use Rattle.columns.specs.Orders.{Order};
+    ghost use Rattle.columns.specs.Blocks.{AreBlocks, joined, joined_shown, room_at};
+
+    ghost Value = { Order };
+
+    ghost view = { λ o. record { items = joined o.blocks.items; visible = joined_shown o.blocks.items; room = min o.homes.room (min 1 (room_at o.blocks.items o.last.block)) } };
+
+    ghost invariant = { λ o. AreBlocks o.blocks.items o.homes.entries o.last.block };
+}
+
+impl OrderBlocks {
+    /// Returns the order of an empty list. Takes no memory.
+    pub fn new(alloc: Global) -> OrderBlocks
+        ensures items { result.items ≡ [] }
+        ensures visible { result.visible ≡ [] }
+    {
+        OrderBlocks {
+            blocks: Vec::new(alloc),
+            homes: Numbers::new(alloc),
+            last: Position { block: 0, index: 0 },
+        }
+    }
+
+    /// Makes room for one more item. Cuts the block that the last one went into where that is full, which costs a binary search for
+    /// each item that gets another block.
+    ///
+    /// # Errors
+    /// `AllocError` if allocation fails.
+    pub fn reserve_one(&mut self) -> Result<(), AllocError>
+        ensures same { self.new.items ≡ self.old.items }
+        ensures visible { self.new.visible ≡ self.old.visible }
+        ensures room { OnOk result (0 < self.new.room) }
+        ensures kept { self.old.room ≤ self.new.room }
+    {
+        self.homes.reserve_one()?;
+        make_room(&mut self.blocks, &mut self.homes, self.last)
+    }
+
+    /// Puts a new item after `prev`, or after the head, past each next item with a greater id: the skipping rule of RGA. It isn't
+    /// shown yet.
+    ///
+    /// Takes no memory. Finds `prev` by a binary search, a look at each block and a walk in one, and goes past a block of greater items
+    /// by a look at one id. Moves the items behind the new one in its block.
+    pub fn place(&mut self, prev: Option<OpId>, id: OpId)
+        requires prev { IsTrue (has_place prev self.old.items) }
+        requires id { IsFalse (has_item id self.old.items) }
+        requires room { 0 < self.old.room }
+        ensures items { self.new.items ≡ insert_after prev id self.old.items }
+        ensures visible { self.new.visible ≡ self.old.visible }
+        ensures room { self.old.room ≤ self.new.room + 1 }
+    {
+        let Some(from) = behind(&self.blocks, &self.homes, prev) else {
+            unreachable!()
+        };
+        let at = goes_to(&self.blocks, from, &id);
+        self.homes.put(id, self.blocks[at.block].number());
+        self.blocks[at.block].put(at.index, id);
+        self.last = at;
+    }
+
+    /// Shows an item, or hides it. A binary search, a look at each block and a walk in one.
+    pub fn set_shown(&mut self, id: &OpId, shown: bool)
+        requires { IsTrue (has_item id.now self.old.items) }
+        ensures items { self.new.items ≡ self.old.items }
+        ensures visible { (f : TheId → Bool) → self.old.visible ≡ filter f self.old.items → self.new.visible ≡ filter (λ a. cond (is_same_id a id.now) shown (f a)) self.old.items }
+        ensures room { self.new.room ≡ self.old.room }
+    {
+        let home = self.homes.get(id).unwrap();
+        let at = find(&self.blocks, home, id).unwrap();
+        self.blocks[at.block].set_shown(at.index, shown);
+    }
+
+    /// The item with this index among those that are shown, `None` past the last. Looks at how many are shown in each block, and at
+    /// the items of one.
+    pub fn nth_visible(&self, index: usize) -> Option<OpId>
+        ensures { result ≡ slice_get self.now.visible index }
+    {
+        nth_shown(&self.blocks, index)
+    }
+
+    /// Whether the id is one of the items. Binary search.
+    pub fn contains(&self, id: &OpId) -> bool
+        ensures { result ≡ has_item id.now self.now.items }
+    {
+        self.homes.get(id).is_some()
+    }
+
+    /// The items that are shown, in list order. Looks at each item that ever was, tombstones included.
+    ///
+    /// # Errors
+    /// `AllocError` if allocation fails.
+    pub fn visible(&self, alloc: Global) -> Result<Vec<OpId>, AllocError>
+        ensures { IfOk result (λ v. v.items ≡ self.now.visible) }
+    {
+        shown_items(&self.blocks, alloc)
+    }
+}
+
+/// Makes room for an item in the block that the last one went into, or in a list's first block.
+///
+/// # Errors
+/// `AllocError` if allocation fails; then all stays.
+fn make_room(blocks: &mut Vec<Block>, homes: &mut Numbers, last: Position) -> Result<(), AllocError>
+    requires { AreBlocks blocks.old.items homes.old.entries last.block }
+    ensures same { IsSameList blocks.old.items blocks.new.items homes.new.entries last.block }
+    ensures room { OnOk result (0 < room_at blocks.new.items last.block) }
+    ensures homes { homes.new.room ≡ homes.old.room }
+{
+    if blocks.is_empty() {
+        return open(blocks);
+    }
+    if blocks[last.block].len() < MOST {
+        return reserve_in(blocks, last.block);
+    }
+    cut(blocks, homes, last)
+}
+
+/// Gives an empty list its first block, with room for an item.
+///
+/// # Errors
+/// `AllocError` if allocation fails.
+fn open(blocks: &mut Vec<Block>) -> Result<(), AllocError>
+    requires { blocks.old.items ≡ [] }
+    ensures same { (homes : List (TheId × ℕ)) (last : ℕ) → AreBlocks blocks.old.items homes last → IsSameList blocks.old.items blocks.new.items homes last }
+    ensures room { (homes : List (TheId × ℕ)) (last : ℕ) → AreBlocks blocks.old.items homes last → OnOk result (0 < room_at blocks.new.items last) }
+{
+    let mut first = Block::new(0, *blocks.allocator());
+    first.reserve_one()?;
+    // Most lists are short, so there is room for this block alone.
+    blocks.reserve_exact(1)?;
+    blocks.push_reserved(first);
+    Ok(())
+}
+
+/// Makes room for an item in a block.
+///
+/// # Errors
+/// `AllocError` if allocation fails.
+fn reserve_in(blocks: &mut Vec<Block>, block: usize) -> Result<(), AllocError>
+    requires { block < length blocks.old.items }
+    ensures same { (homes : List (TheId × ℕ)) → AreBlocks blocks.old.items homes block → IsSameList blocks.old.items blocks.new.items homes block }
+    ensures room { OnOk result (0 < room_at blocks.new.items block) }
+{
+    blocks[block].reserve_one()
+}
+
+/// Cuts the block that the last item went into: at that item, so that a list that grows at its end has full blocks, or in the middle
+/// where that is further back.
+///
+/// # Errors
+/// `AllocError` if allocation fails; then all stays.
+fn cut(blocks: &mut Vec<Block>, homes: &mut Numbers, last: Position) -> Result<(), AllocError>
+    requires blocks { AreBlocks blocks.old.items homes.old.entries last.block }
+    requires inside { last.block < length blocks.old.items }
+    requires full { 512 ≤ length (items_at blocks.old.items last.block) }
+    ensures same { IsSameList blocks.old.items blocks.new.items homes.new.entries last.block }
+    ensures room { OnOk result (0 < room_at blocks.new.items last.block) }
+    ensures homes { homes.new.room ≡ homes.old.room }
+{
+    blocks.reserve(1)?;
+    let at = last.index.clamp(MOST / 2, MOST - 1);
+    let number = blocks.len();
+    let back = blocks[last.block].split_off(at, number)?;
+    move_home(homes, &back);
+    // There is room, so it isn't refused.
+    let _ = blocks.insert(last.block + 1, back);
+    Ok(())
+}
+
+/// Gives the items of a block its number as their home. A binary search for each.
+fn move_home(homes: &mut Numbers, block: &Block)
+    requires { (a : TheId) → has_item a block.now.items ≡ true → IsSome (find id_cmp a homes.old.entries) }
+    ensures moved { AreMoved block.now.items block.now.number homes.old.entries homes.new.entries }
+    ensures room { homes.new.room ≡ homes.old.room }
+{
+    for index in 0..block.len() {
+        homes.set(&block.at(index), block.number());
+    }
+}

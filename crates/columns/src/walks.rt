@@ -1,0 +1,99 @@
+//! Walks over the blocks of a list.
+
+ghost use Rattle.std.specs.Prelude.{◌≡◌, ◌<◌, ◌≤◌, ℕ, length, Some, true, false, slice_get, IfOk, MatchOption};
+ghost use Rattle.columns.specs.Orders.{has_item, has_place};
+ghost use Rattle.columns.specs.Blocks.{AreHomes, GoesIn, IsBehind, IsFound, Run, items_at, joined, joined_shown};
+
+use crate::block::Block;
+use crate::numbers::Numbers;
+use ids::OpId;
+use std::alloc::{AllocError, Global};
+
+/// A position in a list: the index of a block, and one in it, which may be its end.
+#[derive(Clone, Copy, Debug)]
+pub(crate) struct Position {
+    pub block: usize,
+    pub index: usize,
+}
+
+/// The position of an item whose home is this block's number. Looks at the number of each block, and at the items of those that have
+/// it.
+pub(crate) fn find(blocks: &[Block], home: usize, id: &OpId) -> Option<Position>
+    requires { (block : ℕ) (r : Run) → slice_get blocks.now block ≡ Some r → has_item id.now r.items ≡ true → r.number ≡ home }
+    ensures { IsFound blocks.now id.now result }
+{
+    for block in 0..blocks.len() {
+        if blocks[block].number() == home {
+            if let Some(index) = blocks[block].position(id) {
+                return Some(Position { block, index });
+            }
+        }
+    }
+    None
+}
+
+/// The position behind an item, or behind the head, where what goes in after it comes in.
+pub(crate) fn behind(blocks: &[Block], homes: &Numbers, item: Option<OpId>) -> Option<Position>
+    requires { AreHomes blocks.now homes.now.entries }
+    ensures { MatchOption result (has_place item (joined blocks.now) ≡ false) (λ at. IsBehind blocks.now item at.block at.index) }
+{
+    let Some(id) = item else {
+        return Some(Position { block: 0, index: 0 });
+    };
+    let home = homes.get(&id)?;
+    let at = find(blocks, home, &id)?;
+    prove!(at.index < blocks[at.block].len());
+    Some(Position {
+        block: at.block,
+        index: at.index + 1,
+    })
+}
+
+/// The position of a new item that comes in at another one: past each item that isn't smaller. Looks at one id of a block whose items
+/// are all greater.
+pub(crate) fn goes_to(blocks: &[Block], from: Position, id: &OpId) -> Position
+    requires inside { from.block < length blocks.now }
+    requires within { from.index ≤ length (items_at blocks.now from.block) }
+    ensures { GoesIn blocks.now id.now from.block from.index result.block result.index }
+{
+    let mut start = from.index;
+    for block in from.block..blocks.len() {
+        if let Some(index) = blocks[block].first_smaller(start, id) {
+            return Position { block, index };
+        }
+        start = 0;
+    }
+    let last = blocks.len() - 1;
+    Position {
+        block: last,
+        index: blocks[last].len(),
+    }
+}
+
+/// The item at which so many shown ones stand before. Looks at how many are shown in each block up to there, and at the flags of one.
+pub(crate) fn nth_shown(blocks: &[Block], index: usize) -> Option<OpId>
+    ensures { result ≡ slice_get (joined_shown blocks.now) index }
+{
+    let mut left = index;
+    for block in blocks {
+        if left < block.shown() {
+            return block.nth_shown(left);
+        }
+        left -= block.shown();
+    }
+    None
+}
+
+/// The shown items, in list order.
+///
+/// # Errors
+/// `AllocError` if allocation fails.
+pub(crate) fn shown_items(blocks: &[Block], alloc: Global) -> Result<Vec<OpId>, AllocError>
+    ensures { IfOk result (λ v. v.items ≡ joined_shown blocks.now) }
+{
+    let mut items = Vec::new(alloc);
+    for block in blocks {
+        block.push_shown(&mut items)?;
+    }
+    Ok(items)
+}
