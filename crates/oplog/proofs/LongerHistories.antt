@@ -1,5 +1,5 @@
 -- The history of more entries begins with that of the first ones.
-use Rattle.std.proofs.Common.{◌≡◌, ℕ, List, map, reverse, ap, sym, ◌∙◌}
+use Rattle.std.proofs.Common.{ℕ, List, map, reverse, ap, sym, ◌∙◌}
 use Rattle.std.proofs.lemmas.List.{map-append, reverse-append}
 use mathlib.Core.List.{IsPrefix}
 use Rattle.semantics.specs.WorldHistory.{BeginsWith}

@@ -1,6 +1,7 @@
 //! A list of entries, and for each replica of a table the positions of its operations.
 
-ghost use Rattle.std.specs.Prelude.{◌≡◌, ◌≤◌, ◌<◌, ◌+◌, ◌++◌, ◌∷◌, [], IsTrue, ℕ, List, Some, false, option_map, map, replicate, reverse, set, length, IfOk, IfSome, OnOk, slice_index_or};
+ghost use Rattle.std.specs.Prelude.{◌≡◌, ◌≤◌, ◌<◌, ◌+◌, ◌++◌, ◌∷◌, [], IsTrue, ℕ, List, Some, false, nat_lt, option_map, map, replicate, reverse, set, length, IfOk, IfSome, OnOk, slice_index_or};
+ghost use Rattle.std.specs.List.{filter};
 ghost use Rattle.std.specs.FinMap.{put};
 ghost use Rattle.ids.specs.Members.{AreDistinct, is_member};
 ghost use Rattle.semantics.specs.Ids.{id_cmp};
@@ -197,18 +198,20 @@ fn places_above(
 {
     let mut above = Vec::new(alloc);
     for (index, numbers) in places.iter().enumerate() {
-        push_numbers(&mut above, numbers.above(vector.get(index)))?;
+        push_numbers(&mut above, numbers, vector.get(index))?;
     }
     Ok(above)
 }
 
-/// Appends the position of each entry.
-fn push_numbers(numbers: &mut Vec<usize>, entries: &[(OpId, usize)]) -> Result<(), AllocError>
-    ensures { OnOk result (numbers.new.items ≡ numbers.old.items ++ map (λ e. e.1) entries.now) }
+/// Appends the number of each id with a greater counter than this, rising by id. A binary search, and one read for each.
+fn push_numbers(numbers: &mut Vec<usize>, from: &Numbers, counter: u64) -> Result<(), AllocError>
+    ensures { OnOk result (numbers.new.items ≡ numbers.old.items ++ map (λ e. e.1) (filter (λ e. nat_lt counter e.0.counter) from.now.entries)) }
 {
-    numbers.reserve(entries.len())?;
-    for (_, number) in entries {
-        numbers.push_reserved(*number);
+    let first = from.first_above(counter);
+    let count = from.len();
+    numbers.reserve(count - first)?;
+    for place in first..count {
+        numbers.push_reserved(from.at(place).1);
     }
     Ok(())
 }

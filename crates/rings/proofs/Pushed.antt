@@ -1,12 +1,12 @@
 -- A ring that takes an item in its midst and lets its last one fall out.
-use Rattle.std.proofs.Common.{◌≡◌, ℕ, zero, suc, ◌+◌, ◌-◌, ◌*◌, ◌<◌, ◌≤◌, List, [], ◌∷◌, ◌++◌, length, get_or, take, drop, refl, sym, ap, ◌∙◌, arith, length-append, append_assoc}
+use Rattle.std.proofs.Common.{◌≡◌, ℕ, zero, suc, ◌+◌, ◌-◌, ◌*◌, ◌<◌, ◌≤◌, List, [], ◌∷◌, ◌++◌, length, get_or, take, drop, refl, sym, ap, ◌∙◌, arith, append_assoc}
 use Rattle.std.specs.List.{insert}
-use Rattle.std.proofs.lemmas.List.{length-drop, take-append-drop, take_at, drop_at}
-use Rattle.std.proofs.lemmas.List.Edits.{insert-append_left, insert-append_right, length-insert}
+use Rattle.std.proofs.lemmas.List.{take_at, drop_at}
+use Rattle.std.proofs.lemmas.List.Edits.{insert-append_left, insert-append_right}
 use Rattle.std.proofs.Math.Seq.{take-add}
 use Rattle.std.proofs.lemmas.List.{drop-drop}
 use Rattle.rings.specs.Rings.{turned, straight}
-use Rattle.rings.proofs.Straight.{in_ring, length-turned, length-straight, ring_full, rest_full}
+use Rattle.rings.proofs.Straight.{in_ring, length-turned, ring_full, rest_full}
 
 module _ {X : Type 0} where
   -- the end of the first part and all of the second one take an item each

@@ -1,9 +1,8 @@
 -- What a write to a slot is to the list, and what a ring's turn is.
 use Rattle.std.proofs.Common.{◌≡◌, ℕ, zero, suc, ◌+◌, ◌-◌, ◌*◌, ◌<◌, ◌≤◌, ◌⊎◌, inl, inr, List, [], ◌∷◌, ◌++◌, length, get_or, set, take, drop, refl, sym, ap, ◌∙◌, arith, length-set, length-append, append_assoc}
 use Rattle.std.specs.List.{insert}
-use Rattle.std.proofs.lemmas.Bool.{cases_lt}
-use Rattle.std.proofs.lemmas.List.{append-nil, length-take, length-take-le, length-drop, take-append-drop, get_or_append_left, get_or-append_right, get_or-take, get_or-drop, set-append_left, set-append_right, take-set-le, drop-set-lt, drop-set-add, take_all, take_more, take_more_set, take-set, drop_all, drop_more, drop-set, take_at, drop_at}
-use Rattle.std.proofs.lemmas.List.Edits.{insert-append_left, insert-append_right, length-insert, insert_end}
+use Rattle.std.proofs.lemmas.List.{append-nil, length-take, length-take-le, length-drop, take-append-drop, get_or_append_left, get_or-append_right, get_or-take, get_or-drop, set-append_left, set-append_right, take-set-le, drop-set-lt, drop-set-add, take_all, take_more, take-set, drop_all, drop-set, take_at, drop_at}
+use Rattle.std.proofs.lemmas.List.Edits.{insert-append_right}
 use Rattle.std.proofs.Math.Seq.{take-set-lt}
 use Rattle.rings.specs.Rings.{turned, straight}
 

@@ -1,12 +1,12 @@
 -- Rings that begin at their first slots.
-use Rattle.std.proofs.Common.{◌≡◌, ℕ, zero, suc, ◌+◌, ◌-◌, ◌*◌, ◌/◌, ◌<◌, ◌≤◌, ◌==◌, ◌&&◌, ◌⊎◌, inl, inr, min, Bool, true, false, true≢false, IsTrue, List, [], ◌∷◌, ◌++◌, length, get_or, set, take, drop, refl, sym, ap, ◌∙◌, arith, length-set, length-append, append_assoc}
+use Rattle.std.proofs.Common.{◌≡◌, ℕ, zero, suc, ◌+◌, ◌*◌, ◌<◌, ◌≤◌, ◌==◌, ◌&&◌, ◌⊎◌, inl, inr, Bool, true, false, true≢false, IsTrue, List, [], ◌∷◌, ◌++◌, length, get_or, set, take, drop, refl, sym, ap, ◌∙◌, arith, length-set, append_assoc}
 use Rattle.std.specs.List.{All}
 use Rattle.std.proofs.lemmas.Bool.{cases_lt, eqb-true, eq-eqb}
-use Rattle.std.proofs.lemmas.List.{append-nil, length-take, length-take-le, length-drop, drop-drop, take-append-drop, take_at, drop_at, get_or-take, get_or-set_same, get_or-set_other}
+use Rattle.std.proofs.lemmas.List.{append-nil, drop-drop, take-append-drop, take_at, drop_at, get_or-set_same, get_or-set_other}
 use Rattle.std.proofs.Math.Seq.{take-add}
-use Rattle.rings.specs.Rings.{turned, straight, are_zero, AreRings}
-use Rattle.rings.proofs.Straight.{in_ring, length-straight, length-turned, ring_full, rest_full}
-use Rattle.rings.proofs.Slots.{at_ring, MeetsSlot}
+use Rattle.rings.specs.Rings.{turned, straight, are_zero}
+use Rattle.rings.proofs.Straight.{in_ring, length-turned, ring_full, rest_full}
+use Rattle.rings.proofs.Slots.{MeetsSlot}
 
 zero_parts : (s : ℕ) (ss : List ℕ) → are_zero (s ∷ ss) ≡ true → (s ≡ 0) × (are_zero ss ≡ true)
 zero_parts s ss h = at_test (s == 0) refl h

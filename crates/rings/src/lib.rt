@@ -2,6 +2,7 @@
 #![tactic(auto)]
 
 mod rings;
+mod starts;
 #[cfg(test)]
 mod tests;
 

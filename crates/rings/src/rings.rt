@@ -1,9 +1,11 @@
 //! A list whose items lie in rings, and the moves that keep them there.
 
 ghost use Rattle.std.specs.Prelude.{◌≡◌, ◌<◌, ◌≤◌, ◌+◌, ◌*◌, ◌/◌, ◌++◌, ◌∷◌, [], length, Some, slice_get, slice_index_or, slice_set, take, IsTrue, OnOk, vec_len, vec_capacity};
-ghost use Rattle.std.specs.List.{All, insert};
+ghost use Rattle.std.specs.List.{All, insert, remove};
 ghost use Rattle.rings.specs.Rings.{AreRings, IsClosed, IsSlot, are_zero, straight, turned};
+ghost use Rattle.rings.specs.Starts.{capacity_of, starts_of};
 
+use crate::starts::Starts;
 use std::alloc::{AllocError, Global};
 use std::marker::Model;
 use std::mem::replace;
@@ -17,19 +19,19 @@ const RING: usize = 512;
 #[derive(Debug, Drop)]
 pub struct Rings<T> {
     slots: Vec<T>,
-    /// Of each full ring, the slot in which it begins.
-    starts: Vec<usize>,
+    starts: Starts,
 }
 
 impl<T> Model for Rings<T> {
     ghost use Rattle.std.specs.Prelude.{min, ◌-◌, ◌+◌, ◌*◌, length, vec_len, vec_capacity};
     ghost use Rattle.rings.specs.Rings.{AreRings, Sequence, are_zero, straight};
+    ghost use Rattle.rings.specs.Starts.{capacity_of, starts_of};
 
     ghost Value = { Sequence T };
 
-    ghost view = { λ r. record { items = straight 512 r.starts.items r.slots.items; room = min (vec_capacity r.slots - vec_len r.slots) (vec_capacity r.starts * 512 + 511 - vec_len r.slots); is_straight = are_zero r.starts.items } };
+    ghost view = { λ r. record { items = straight 512 (starts_of r.starts) r.slots.items; room = min (vec_capacity r.slots - vec_len r.slots) (capacity_of r.starts * 512 + 511 - vec_len r.slots); is_straight = are_zero (starts_of r.starts) } };
 
-    ghost invariant = { λ r. AreRings 512 r.starts.items (length r.slots.items) };
+    ghost invariant = { λ r. AreRings 512 (starts_of r.starts) (length r.slots.items) };
 }
 
 impl<T> Rings<T> {
@@ -39,7 +41,7 @@ impl<T> Rings<T> {
     {
         Rings {
             slots: Vec::new(alloc),
-            starts: Vec::new(alloc),
+            starts: Starts::new(),
         }
     }
 
@@ -55,7 +57,7 @@ impl<T> Rings<T> {
         requires { position < length self.now.items }
         ensures { slice_get self.now.items position ≡ Some result.now }
     {
-        item(&self.slots, &self.starts, position)
+        item(&self.slots, self.starts.as_slice(), position)
     }
 
     /// Puts the value where another item stands, in constant time, and returns that item.
@@ -65,7 +67,7 @@ impl<T> Rings<T> {
         ensures value { slice_get self.old.items position ≡ Some result }
         ensures room { self.new.room ≡ self.old.room }
     {
-        write(&mut self.slots, &self.starts, position, value)
+        write(&mut self.slots, self.starts.as_slice(), position, value)
     }
 
     /// Makes room for one more item.
@@ -79,7 +81,7 @@ impl<T> Rings<T> {
     {
         self.slots.reserve(1)?;
         if self.slots.len() % RING == RING - 1 {
-            self.starts.reserve(1)?;
+            self.starts.reserve_one(*self.slots.allocator())?;
         }
         Ok(())
     }
@@ -91,7 +93,7 @@ impl<T> Rings<T> {
         ensures items { (d : T) → self.new.items ≡ slice_set (slice_set self.old.items a (slice_index_or self.old.items b d)) b (slice_index_or self.old.items a d) }
         ensures room { self.new.room ≡ self.old.room }
     {
-        swap_in(&mut self.slots, &self.starts, a, b);
+        swap_in(&mut self.slots, self.starts.as_slice(), a, b);
     }
 
     /// Moves the items so that `as_slice` can return them as one slice. Takes no memory. Costs one move of each ring that doesn't begin at its first slot.
@@ -109,6 +111,17 @@ impl<T> Rings<T> {
         ensures { result.now ≡ self.now.items }
     {
         &self.slots
+    }
+
+    /// Removes the item at this position and returns it; those behind it come one earlier. Takes no memory. All rings are straightened first, and each item behind it moves, by one move of memory.
+    pub fn remove(&mut self, position: usize) -> T
+        requires { position < length self.old.items }
+        ensures items { self.new.items ≡ remove self.old.items position }
+        ensures value { slice_get self.old.items position ≡ Some result }
+        ensures room { self.old.room ≤ self.new.room }
+    {
+        straighten_all(&mut self.slots, &mut self.starts);
+        remove_in(&mut self.slots, &mut self.starts, position)
     }
 }
 
@@ -243,7 +256,25 @@ fn carry<T>(slots: &mut [T], starts: &mut [usize], position: usize, value: T) ->
 }
 
 /// Lets the rings from a position on take the value, and returns which item is then left and where it goes behind the rings.
-fn make_way<T>(slots: &mut [T], starts: &mut [usize], position: usize, value: T) -> (usize, T)
+fn make_way<T>(slots: &mut [T], starts: &mut Starts, position: usize, value: T) -> (usize, T)
+    requires rings { AreRings 512 (starts_of starts.old) (length slots.old) }
+    requires position { position ≤ length slots.old }
+    ensures items { insert (straight 512 (starts_of starts.new) slots.new) result.0 result.1 ≡ insert (straight 512 (starts_of starts.old) slots.old) position value }
+    ensures behind { length (starts_of starts.old) * 512 ≤ result.0 }
+    ensures position { result.0 ≤ length slots.old }
+    ensures within { All (λ s. s < 512) (starts_of starts.new) }
+    ensures starts { length (starts_of starts.new) ≡ length (starts_of starts.old) }
+    ensures capacity { capacity_of starts.new ≡ capacity_of starts.old }
+    ensures slots { length slots.new ≡ length slots.old }
+{
+    match &mut starts.begun {
+        Some(begun) => make_way_in(slots, begun, position, value),
+        None => (position, value),
+    }
+}
+
+/// The same for rings that begin at these slots.
+fn make_way_in<T>(slots: &mut [T], starts: &mut [usize], position: usize, value: T) -> (usize, T)
     requires rings { AreRings 512 starts.old (length slots.old) }
     requires position { position ≤ length slots.old }
     ensures items { insert (straight 512 starts.new slots.new) result.0 result.1 ≡ insert (straight 512 starts.old slots.old) position value }
@@ -262,31 +293,31 @@ fn make_way<T>(slots: &mut [T], starts: &mut [usize], position: usize, value: T)
 }
 
 /// Makes a ring of the items behind the rings if they fill one.
-fn close_ring(starts: &mut Vec<usize>, count: usize)
-    requires within { All (λ s. s < 512) starts.old.items }
-    requires full { length starts.old.items * 512 ≤ count }
-    requires rest { count ≤ length starts.old.items * 512 + 512 }
-    requires room { count ≤ vec_capacity starts.old * 512 + 511 }
-    ensures closed { IsClosed 512 starts.old.items starts.new.items count }
-    ensures rings { AreRings 512 starts.new.items count }
-    ensures capacity { vec_capacity starts.new ≡ vec_capacity starts.old }
+fn close_ring(starts: &mut Starts, count: usize)
+    requires within { All (λ s. s < 512) (starts_of starts.old) }
+    requires full { length (starts_of starts.old) * 512 ≤ count }
+    requires rest { count ≤ length (starts_of starts.old) * 512 + 512 }
+    requires room { count ≤ capacity_of starts.old * 512 + 511 }
+    ensures closed { IsClosed 512 (starts_of starts.old) (starts_of starts.new) count }
+    ensures rings { AreRings 512 (starts_of starts.new) count }
+    ensures capacity { capacity_of starts.new ≡ capacity_of starts.old }
 {
-    if count - starts.len() * RING == RING {
+    if count - starts.as_slice().len() * RING == RING {
         starts.push_reserved(0);
     }
 }
 
 /// Puts an item at a position. Takes no memory.
-fn insert_in<T: Drop>(slots: &mut Vec<T>, starts: &mut Vec<usize>, position: usize, value: T)
-    requires rings { AreRings 512 starts.old.items (length slots.old.items) }
+fn insert_in<T: Drop>(slots: &mut Vec<T>, starts: &mut Starts, position: usize, value: T)
+    requires rings { AreRings 512 (starts_of starts.old) (length slots.old.items) }
     requires within { position ≤ length slots.old.items }
     requires room { vec_len slots.old < vec_capacity slots.old }
-    requires room_for_start { vec_len slots.old < vec_capacity starts.old * 512 + 511 }
-    ensures items { straight 512 starts.new.items slots.new.items ≡ insert (straight 512 starts.old.items slots.old.items) position value }
-    ensures rings { AreRings 512 starts.new.items (length slots.new.items) }
+    requires room_for_start { vec_len slots.old < capacity_of starts.old * 512 + 511 }
+    ensures items { straight 512 (starts_of starts.new) slots.new.items ≡ insert (straight 512 (starts_of starts.old) slots.old.items) position value }
+    ensures rings { AreRings 512 (starts_of starts.new) (length slots.new.items) }
     ensures length { vec_len slots.new ≡ vec_len slots.old + 1 }
     ensures slots { vec_capacity slots.new ≡ vec_capacity slots.old }
-    ensures starts { vec_capacity starts.new ≡ vec_capacity starts.old }
+    ensures starts { capacity_of starts.new ≡ capacity_of starts.old }
 {
     let (at, item) = make_way(slots, starts, position, value);
     // There is room, so it isn't refused.
@@ -323,7 +354,22 @@ fn straighten_ring<T>(slots: &mut [T], starts: &mut [usize], ring: usize)
 }
 
 /// Turns all rings so that they begin at their first slots.
-fn straighten_all<T>(slots: &mut [T], starts: &mut [usize])
+fn straighten_all<T>(slots: &mut [T], starts: &mut Starts)
+    requires { AreRings 512 (starts_of starts.old) (length slots.old) }
+    ensures same { straight 512 (starts_of starts.new) slots.new ≡ straight 512 (starts_of starts.old) slots.old }
+    ensures straight { IsTrue (are_zero (starts_of starts.new)) }
+    ensures starts { length (starts_of starts.new) ≡ length (starts_of starts.old) }
+    ensures length { length slots.new ≡ length slots.old }
+    ensures capacity { capacity_of starts.new ≡ capacity_of starts.old }
+    ensures rings { AreRings 512 (starts_of starts.new) (length slots.new) }
+{
+    if let Some(begun) = &mut starts.begun {
+        straighten_rings(slots, begun);
+    }
+}
+
+/// Turns the rings, which begin at these slots, so that they begin at their first ones.
+fn straighten_rings<T>(slots: &mut [T], starts: &mut [usize])
     requires { AreRings 512 starts.old (length slots.old) }
     ensures same { straight 512 starts.new slots.new ≡ straight 512 starts.old slots.old }
     ensures straight { IsTrue (are_zero starts.new) }
@@ -337,15 +383,32 @@ fn straighten_all<T>(slots: &mut [T], starts: &mut [usize])
 }
 
 /// Keeps this many items where all rings begin at their first slots.
-fn truncate_in<T: Drop>(slots: &mut Vec<T>, starts: &mut Vec<usize>, count: usize)
-    requires rings { AreRings 512 starts.old.items (length slots.old.items) }
-    requires straight { IsTrue (are_zero starts.old.items) }
-    ensures items { straight 512 starts.new.items slots.new.items ≡ take count (straight 512 starts.old.items slots.old.items) }
-    ensures rings { AreRings 512 starts.new.items (length slots.new.items) }
+fn truncate_in<T: Drop>(slots: &mut Vec<T>, starts: &mut Starts, count: usize)
+    requires rings { AreRings 512 (starts_of starts.old) (length slots.old.items) }
+    requires straight { IsTrue (are_zero (starts_of starts.old)) }
+    ensures items { straight 512 (starts_of starts.new) slots.new.items ≡ take count (straight 512 (starts_of starts.old) slots.old.items) }
+    ensures rings { AreRings 512 (starts_of starts.new) (length slots.new.items) }
     ensures few { vec_len slots.new ≤ vec_len slots.old }
     ensures slots { vec_capacity slots.new ≡ vec_capacity slots.old }
-    ensures starts { vec_capacity starts.new ≡ vec_capacity starts.old }
+    ensures starts { capacity_of starts.new ≡ capacity_of starts.old }
 {
     slots.truncate(count);
     starts.truncate(count / RING);
+}
+
+/// Removes the item at a position where all rings begin at their first slots, and returns it.
+fn remove_in<T>(slots: &mut Vec<T>, starts: &mut Starts, position: usize) -> T
+    requires rings { AreRings 512 (starts_of starts.old) (length slots.old.items) }
+    requires straight { IsTrue (are_zero (starts_of starts.old)) }
+    requires within { position < length slots.old.items }
+    ensures items { straight 512 (starts_of starts.new) slots.new.items ≡ remove (straight 512 (starts_of starts.old) slots.old.items) position }
+    ensures value { slice_get (straight 512 (starts_of starts.old) slots.old.items) position ≡ Some result }
+    ensures rings { AreRings 512 (starts_of starts.new) (length slots.new.items) }
+    ensures fewer { vec_len slots.new + 1 ≡ vec_len slots.old }
+    ensures slots { vec_capacity slots.new ≡ vec_capacity slots.old }
+    ensures starts { capacity_of starts.new ≡ capacity_of starts.old }
+{
+    let item = slots.remove(position);
+    starts.truncate(slots.len() / RING);
+    item
 }

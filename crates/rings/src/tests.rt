@@ -116,3 +116,24 @@ fn items_change_and_go(rt: HostRuntime) -> Result<(), Fail> {
     }
     Ok(())
 }
+
+/// The item at each of these positions goes out of both, one after the other.
+fn assert_removed(rt: &impl Abort, alloc: Global, positions: &[usize]) -> Result<(), Fail> {
+    let mut numbers = Rings::new(alloc);
+    let mut beside = Vec::new(alloc);
+    fill(&mut numbers, &mut beside, &(1026, 1_000_003))?;
+    for position in positions {
+        assert!(rt; *position < numbers.len() && *position < beside.len());
+        assert_eq!(rt; numbers.remove(*position), beside.remove(*position));
+        assert_items(rt, &numbers, &beside);
+    }
+    put(&mut numbers, &mut beside, 600, 7)?;
+    assert_items(rt, &numbers, &beside);
+    Ok(())
+}
+
+#[test]
+fn items_are_removed(rt: HostRuntime) -> Result<(), Fail> {
+    // The last ring closes again once it isn't whole.
+    assert_removed(&rt, rt.alloc(), &[1025, 0, 512, 0])
+}

@@ -1,8 +1,6 @@
-use Rattle.std.proofs.Common.{rules, ◌≡◌, ◌+◌, ◌++◌, ◌∙◌, ℕ, suc, sym, ap, map, length, get_or, drop, nat_lt, arith}
+use Rattle.std.proofs.Common.{rules, ◌≡◌, ◌+◌, ◌++◌, ◌∙◌, suc, sym, ap, length, get_or, drop, arith}
 use Rattle.std.proofs.Math.Seq.{drop-length}
-use Rattle.std.specs.List.{filter}
 use Rattle.std.proofs.lemmas.List.{append-nil, append_assoc}
-use Rattle.semantics.specs.Ids.{OpId}
 use Rattle.oplog.specs.Logs.{numbers_above, numbers_of}
 use Rattle.oplog.proofs.Missing.{above, next-above}
 use Rattle.oplog.proofs.log.places_above.Goals as goal
@@ -20,8 +18,7 @@ loop-index-preserved c =
     let rest = numbers_above (drop (suc i) cs) (numbers_of (drop (suc i) ns)) in
     let next : i + 1 ≡ suc i = omega arith in
     let new : c.push_numbers.new.numbers.items ≡ before ++ above (get_or cs i 0) (get_or ns i m).entries =
-    c.in_ok-push_numbers.ensures
-    ∙ ap (λ es. before ++ map (λ (e : OpId × ℕ). e.1) es) (c.above.ensures ∙ (λ t. filter (λ (e : OpId × ℕ). nat_lt (c.get.ensures t) e.0.counter) (c.index-places-index.is t).entries)) in
+    c.in_ok-push_numbers.ensures ∙ (λ t. before ++ above (c.get.ensures t) (c.index-places-index.is t).entries) in
     (λ t. new t ++ numbers_above (drop (next t) cs) (numbers_of (drop (next t) ns)))
     ∙ append_assoc before (above (get_or cs i 0) (get_or ns i m).entries) rest
     ∙ ap (λ l. before ++ l) (sym (next-above cs ns i m c.requires (omega arith)))

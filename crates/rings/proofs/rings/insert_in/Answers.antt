@@ -1,8 +1,9 @@
-use Rattle.std.proofs.Common.{rules, ◌≡◌, ◌<◌, ◌≤◌, ◌*◌, ◌∙◌, List, true, cond, length, sym, ap, subst, arith}
+use Rattle.std.proofs.Common.{rules, ◌≡◌, ◌≤◌, ◌*◌, ◌∙◌, true, cond, length, ap, arith}
 use Rattle.std.specs.Prelude.{is_ok}
 use Rattle.std.specs.List.{insert}
 use Rattle.std.proofs.lemmas.List.{with_items_is}
 use Rattle.rings.specs.Rings.{straight, IsClosed}
+use Rattle.rings.specs.Starts.{starts_of}
 use Rattle.rings.proofs.Straight.{straight-insert}
 use Rattle.rings.proofs.Slots.{is_ok_true, closed_same}
 use Rattle.rings.proofs.rings.insert_in.Goals as goal
@@ -10,19 +11,18 @@ use Rattle.rings.proofs.rings.insert_in.Goals as goal
 pub returns-clause-items : goal.returns-clause-items
 returns-clause-items g c =
     let slots = c.make_way-at.new.slots in
-    let starts = c.make_way-at.new.starts in
+    let starts = starts_of c.make_way-at.new.starts in
     let at = c.make_way-at.result.0 in
     let item = c.make_way-at.result.1 in
     let front = with_items_is c.args.slots.now slots (c.make_way-at.auto.slots ∙ c.deref_mut.ensures.len) in
-    let begun = with_items_is c.args.starts.now starts (c.make_way-at.auto.starts ∙ c.deref_mut-2.ensures.len) in
     let done : is_ok c.insert.result ≡ true = is_ok_true _ (c.insert.ensures.succeeds c.requires.room) in
     let put : c.insert.new.self.items ≡ insert slots at item = c.insert.ensures.items ∙ (λ t. cond (done t) (insert (front t) at item) (front t)) in
-    let closed : IsClosed 512 starts c.close_ring.new.starts.items c.len.result = subst (λ (ss : List _). IsClosed 512 ss c.close_ring.new.starts.items c.len.result) begun c.close_ring.ensures.closed in
+    let closed : IsClosed 512 starts (starts_of c.close_ring.new.starts) c.len.result = c.close_ring.ensures.closed in
     let count : length c.insert.new.self.items ≡ c.len.result = search rules in
-    let full : length starts * 512 ≤ length slots = let a = c.make_way-at.ensures.starts in let b = c.make_way-at.ensures.slots in let d = ap length c.deref_mut.ensures.value in let e = ap length c.deref_mut-2.ensures.value in let h = c.requires.rings.full in omega (arith, a, b, d, e, h) in
+    let full : length starts * 512 ≤ length slots = let a = c.make_way-at.ensures.starts in let b = c.make_way-at.ensures.slots in let d = ap length c.deref_mut.ensures.value in let h = c.requires.rings.full in omega (arith, a, b, d, h) in
     let behind : length starts * 512 ≤ at = let a = c.make_way-at.ensures.starts in let h = c.make_way-at.ensures.behind in omega (arith, a, h) in
-    closed_same starts c.close_ring.new.starts.items c.insert.new.self.items c.len.result count closed
+    closed_same starts (starts_of c.close_ring.new.starts) c.insert.new.self.items c.len.result count closed
     ∙ ap (λ xs. straight 512 starts xs) put
     ∙ straight-insert 512 starts slots at item full behind
     ∙ c.make_way-at.ensures.items
-    ∙ (λ t. insert (straight 512 (c.deref_mut-2.ensures.value t) (c.deref_mut.ensures.value t)) c.args.position c.args.value)
+    ∙ ap (λ xs. insert (straight 512 (starts_of c.args.starts.now) xs) c.args.position c.args.value) c.deref_mut.ensures.value

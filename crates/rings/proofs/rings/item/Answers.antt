@@ -1,8 +1,8 @@
-use Rattle.std.proofs.Common.{rules, ◌≡◌, ◌<◌, ◌≤◌, ◌∙◌, length, Some, slice_get, get_or, refl, sym, ap, arith}
+use Rattle.std.proofs.Common.{◌∙◌, length, refl, sym, arith}
 use Rattle.std.proofs.lemmas.Option.{slice_get_read}
 use Rattle.rings.specs.Rings.{straight}
 use Rattle.rings.proofs.Straight.{length-straight}
-use Rattle.rings.proofs.Slots.{meets_slot, MeetsSlot}
+use Rattle.rings.proofs.Slots.{meets_slot}
 use Rattle.rings.proofs.rings.item.Goals as goal
 
 pub bounds-slots-slot_of : goal.bounds-slots-slot_of

@@ -1,6 +1,4 @@
-use Rattle.std.proofs.Common.{rules, ◌≡◌, ◌<◌, ◌≤◌, ◌+◌, ◌*◌, ◌/◌, ◌%◌, ◌∙◌, ℕ, length, get_or, sym, ap, subst, arith}
-use Rattle.rings.specs.Rings.{IsSlot}
-use Rattle.rings.proofs.Straight.{IsWrapped}
+use Rattle.std.proofs.Common.{rules, ◌≡◌, ◌<◌, ◌+◌, ◌*◌, ◌/◌, ◌%◌, length, get_or, arith}
 use Rattle.rings.proofs.Slots.{goes_round}
 use Rattle.rings.proofs.rings.slot_of.Goals as goal
 

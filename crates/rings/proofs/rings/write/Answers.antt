@@ -1,8 +1,8 @@
-use Rattle.std.proofs.Common.{rules, ◌≡◌, ◌<◌, ◌≤◌, ◌∙◌, length, Some, slice_get, get_or, set, refl, sym, ap, arith}
+use Rattle.std.proofs.Common.{rules, ◌≡◌, ◌<◌, ◌∙◌, length, get_or, set, refl, sym, ap, arith}
 use Rattle.std.proofs.lemmas.Option.{slice_get_read}
 use Rattle.rings.specs.Rings.{straight}
 use Rattle.rings.proofs.Straight.{length-straight}
-use Rattle.rings.proofs.Slots.{meets_slot, MeetsSlot}
+use Rattle.rings.proofs.Slots.{meets_slot}
 use Rattle.rings.proofs.rings.write.Goals as goal
 
 pub bounds-slots-slot : goal.bounds-slots-slot

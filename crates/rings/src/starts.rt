@@ -1,0 +1,75 @@
+//! Where the rings of a list begin.
+
+ghost use Rattle.std.specs.Prelude.{◌≡◌, ◌<◌, ◌≤◌, ◌++◌, ◌∷◌, [], length, take, OnOk};
+ghost use Rattle.rings.specs.Starts.{capacity_of, starts_of};
+
+use std::alloc::{AllocError, Global};
+
+/// Of each ring, the slot in which it begins.
+///
+/// Without rings it takes no memory, and is smaller than an empty vector, so that many small lists cost little.
+#[derive(Debug, Drop)]
+pub struct Starts {
+    /// `None` as long as room for a first start wasn't asked for.
+    pub begun: Option<Box<Vec<usize>>>,
+}
+
+impl Starts {
+    /// Returns those of no ring. Takes no memory.
+    pub fn new() -> Starts
+        ensures starts { starts_of result ≡ [] }
+        ensures capacity { capacity_of result ≡ 0 }
+    {
+        Starts { begun: None }
+    }
+
+    /// Returns the starts, that of the first ring first.
+    pub fn as_slice(&self) -> &[usize]
+        ensures { result.now ≡ starts_of self.now }
+    {
+        match &self.begun {
+            Some(begun) => begun,
+            None => &[],
+        }
+    }
+
+    /// Makes room for one more start.
+    ///
+    /// # Errors
+    /// Returns `AllocError` if allocation fails; the starts stay as they are.
+    pub fn reserve_one(&mut self, alloc: Global) -> Result<(), AllocError>
+        ensures same { starts_of self.new ≡ starts_of self.old }
+        ensures room { OnOk result (length (starts_of self.new) < capacity_of self.new) }
+        ensures kept { capacity_of self.old ≤ capacity_of self.new }
+    {
+        match &mut self.begun {
+            Some(begun) => begun.reserve(1),
+            None => {
+                let begun = Vec::with_capacity(alloc, 1)?;
+                self.begun = Some(Box::new(alloc, begun)?);
+                Ok(())
+            }
+        }
+    }
+
+    /// Appends the start of one more ring. Takes no memory.
+    pub fn push_reserved(&mut self, start: usize)
+        requires { length (starts_of self.old) < capacity_of self.old }
+        ensures starts { starts_of self.new ≡ starts_of self.old ++ start ∷ [] }
+        ensures capacity { capacity_of self.new ≡ capacity_of self.old }
+    {
+        if let Some(begun) = &mut self.begun {
+            begun.push_reserved(start);
+        }
+    }
+
+    /// Keeps the starts of this many rings.
+    pub fn truncate(&mut self, count: usize)
+        ensures starts { starts_of self.new ≡ take count (starts_of self.old) }
+        ensures capacity { capacity_of self.new ≡ capacity_of self.old }
+    {
+        if let Some(begun) = &mut self.begun {
+            begun.truncate(count);
+        }
+    }
+}
