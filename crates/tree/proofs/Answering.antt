@@ -1,5 +1,5 @@
 -- What a tree answers at a node.
-use Rattle.std.proofs.Common.{◌≡◌, ℕ, zero, suc, ◌+◌, ◌<◌, ◌&&◌, Bool, true, false, cond, List, [], ◌∷◌, ◌++◌, length, get_or, take, map, Option, Some, None, refl, sym, ap, ◌∙◌, arith, append_assoc, append-nil}
+use Rattle.std.proofs.Common.{◌≡◌, ℕ, zero, suc, ◌+◌, ◌<◌, ◌&&◌, Bool, true, false, cond, List, [], ◌∷◌, ◌++◌, length, get_or, take, map, Option, Some, None, refl, sym, ap, ◌∙◌, arith}
 use Rattle.std.specs.Prelude.{slice_get}
 use Rattle.std.specs.List.{filter}
 use Rattle.std.proofs.lemmas.List.{map-append, take_more}
@@ -25,19 +25,6 @@ take_next (y ∷ xs) zero x e = ap (λ z. z ∷ []) (some_is y x e) where
 take_next (y ∷ xs) (suc k) x e = ap (λ n. take n (y ∷ xs)) (next_is k) ∙ ap (λ zs. y ∷ zs) (take_next xs k x e) where
   next_is : (k : ℕ) → suc k + 1 ≡ suc (k + 1)
   next_is k = omega arith
-
--- the items before and those left: where the next one shows, it goes to the first ones
-pub shown_next : {X : Type 0} (p : X → Bool) (done left later : List X) (x : X) → left ≡ x ∷ later → p x ≡ true → done ++ filter p left ≡ (done ++ x ∷ []) ++ filter p later
-shown_next p done left later x is shown =
-    ap (λ xs. done ++ filter p xs) is ∙ ap (λ b. done ++ cond b (x ∷ filter p later) (filter p later)) shown ∙ sym (append_assoc done (x ∷ []) (filter p later))
-
--- where it doesn't, it's passed
-pub hidden_next : {X : Type 0} (p : X → Bool) (left later : List X) (x : X) → left ≡ x ∷ later → p x ≡ false → filter p left ≡ filter p later
-hidden_next p left later x is hidden = ap (filter p) is ∙ ap (λ b. cond b (x ∷ filter p later) (filter p later)) hidden
-
--- at the end all were looked at
-pub all_shown : {X : Type 0} (p : X → Bool) (done left : List X) → left ≡ [] → done ++ filter p left ≡ done
-all_shown p done left is = ap (λ xs. done ++ filter p xs) is ∙ append-nil done
 
 names-append : (ns : List Node) (fs gs : List (Name × ℕ)) → names_in ns (fs ++ gs) ≡ names_in ns fs ++ names_in ns gs
 names-append ns [] gs = refl

@@ -65,15 +65,15 @@ pub turn_item : (C : Context) (e : Element) (xs : List (OpId × ℕ)) (S : IdSet
 turn_item C e xs S k d h = ap (λ ys. clear_each C (items_of e ys) S) (drop_more xs k d h)
 
 -- the elements of the children
-abbrev beneath : Element → Links → List Element
+abbrev pub beneath : Element → Links → List Element
 beneath e l = fields_of e l.0 ++ items_of e l.1
 
-under_itself : (e : Element) → is_under e e ≡ true
+pub under_itself : (e : Element) → is_under e e ≡ true
 under_itself Doc = refl
 under_itself (Field e n) = or_left _ _ (element_itself (Field e n))
 under_itself (Item e a) = or_left _ _ (element_itself (Item e a))
 
-any_more : (p q : Element → Bool) → ((x : Element) → p x ≡ true → q x ≡ true) → (es : List Element) → list_any p es ≡ true → list_any q es ≡ true
+pub any_more : (p q : Element → Bool) → ((x : Element) → p x ≡ true → q x ≡ true) → (es : List Element) → list_any p es ≡ true → list_any q es ≡ true
 any_more p q h [] e = e
 any_more p q h (x ∷ xs) e = elim (or_cases (p x) (list_any p xs) e) [ inl a ↦ or_left (q x) _ (h x a) | inr b ↦ or_right (q x) _ (any_more p q h xs b) ]
 
@@ -87,7 +87,7 @@ any_linked R g tied a j (l ∷ ls) p =
       | false ↦ λ q r. or_right (is_under (g a) (g l.0)) _ (any_linked R g tied a j ls r)
     ] refl p
 
-linked_there : (e : Element) (l : Links) (k : Key) (j : ℕ) → linked_by l k ≡ Some j → list_any (is_under (child e k)) (beneath e l) ≡ true
+pub linked_there : (e : Element) (l : Links) (k : Key) (j : ℕ) → linked_by l k ≡ Some j → list_any (is_under (child e k)) (beneath e l) ≡ true
 linked_there e l (FieldKey n) j p =
     list_any-append (is_under (Field e n)) (fields_of e l.0) (items_of e l.1)
     ∙ or_left _ _ (any_linked name_cmp (Field e) (λ a b q. or_left _ _ (and_from _ _ q (element_itself e))) n j l.0 p)
@@ -95,11 +95,11 @@ linked_there e l (ItemKey a) j p =
     list_any-append (is_under (Item e a)) (fields_of e l.0) (items_of e l.1)
     ∙ or_right (list_any (is_under (Item e a)) (fields_of e l.0)) _ (any_linked id_cmp (Item e) (λ a b q. or_left _ _ (and_from _ _ q (element_itself e))) a j l.1 p)
 
-under_step : (y e : Element) (k : Key) → is_under (child y k) e ≡ (is_same (child y k) e || is_under y e)
+pub under_step : (y e : Element) (k : Key) → is_under (child y k) e ≡ (is_same (child y k) e || is_under y e)
 under_step y e (FieldKey n) = refl
 under_step y e (ItemKey a) = refl
 
-some_is : {A : Type 0} (x y : A) → Some x ≡ Some y → x ≡ y
+pub some_is : {A : Type 0} (x y : A) → Some x ≡ Some y → x ≡ y
 some_is x y e = cc
 
 module _ (ns : List Node) (e : Element) (i : ℕ) (at : number ns e ≡ Some i) where
@@ -120,7 +120,7 @@ module _ (ns : List Node) (e : Element) (i : ℕ) (at : number ns e ≡ Some i) 
     ]
 
   -- what has a node under e is e, or stands under one of its children
-  under_child : (x : Element) (j : ℕ) → number ns x ≡ Some j → is_under x e ≡ true → (is_same x e || list_any (is_under x) (beneath e (links ns i))) ≡ true
+  pub under_child : (x : Element) (j : ℕ) → number ns x ≡ Some j → is_under x e ≡ true → (is_same x e || list_any (is_under x) (beneath e (links ns i))) ≡ true
   under_child Doc j p u = or_left _ _ u
   under_child (Field y n) j p u = step y (FieldKey n) j p (under_child y) u
   under_child (Item y a) j p u = step y (ItemKey a) j p (under_child y) u
@@ -136,7 +136,7 @@ no_child e (FieldKey n) = refl
 no_child e (ItemKey a) = refl
 
 -- what stands under a child stands under its parent
-under_parent : (x e : Element) (l : Key) → is_under x (child e l) ≡ true → is_under x e ≡ true
+pub under_parent : (x e : Element) (l : Key) → is_under x (child e l) ≡ true → is_under x e ≡ true
 under_parent Doc e l u = absurd (true≢false (sym u ∙ no_child e l))
 under_parent (Field y n) e l u = elim (or_cases (is_same (Field y n) (child e l)) (is_under y (child e l)) u) [
   | inl s ↦ or_right (is_same (Field y n) e) _ (ap (λ z. is_under z e) (parent_same y e (FieldKey n) l (same_elements (Field y n) (child e l) s)) ∙ under_itself e)

@@ -11,7 +11,7 @@ use Rattle.tree.specs.declared.node.Node.{Node}
 use Rattle.tree.specs.Nodes.{links_of, number, node_in, node_at, presence_of, register_of, order_of, is_written, names_in, context, IsTree}
 use Rattle.tree.specs.Writes.{clear_own, mark, registered, linked}
 use Rattle.tree.proofs.ListReads.{get_same, get_other, get_inside}
-use Rattle.tree.proofs.Shape.{number_same, links_set, node_set, node_found, under_none}
+use Rattle.tree.proofs.Shape.{number_links, links_each, node_set, node_found, under_none}
 
 -- the context with what stands at e taken from n
 abbrev pub with_node : Context → Element → Node → Context
@@ -42,7 +42,7 @@ picked f false m o = refl
 pub context_set : (ns : List Node) → IsTree ns → (e : Element) (i : ℕ) (n m : Node) → number ns e ≡ Some i → slice_get ns i ≡ Some n → links_of (Some m) ≡ links_of (Some n) → m.is_written ≡ n.is_written → context (set ns i m) ≡ with_node (context ns) e m
 context_set ns t e i n m at g l d =
     let there : (x : Element) → node_at (set ns i m) x ≡ cond (is_same x e) (Some m) (node_at ns x) = node_set ns t e i n m at g l in
-    let linked : (x : Element) → links_of (node_at (set ns i m) x) ≡ links_of (node_at ns x) = λ x. same_links x (number ns x) (ap (node_in (set ns i m)) (sym (number_same ns (set ns i m) (links_set ns i n m g l) x))) in
+    let linked : (x : Element) → links_of (node_at (set ns i m) x) ≡ links_of (node_at ns x) = λ x. same_links x (number ns x) (ap (node_in (set ns i m)) (sym (number_links ns (set ns i m) (links_each ns i n m g l) x))) in
     context_same _ _
     (λ x. ap presence_of (there x) ∙ picked presence_of (is_same x e) m (node_at ns x))
     (λ x. ap register_of (there x) ∙ picked register_of (is_same x e) m (node_at ns x))
@@ -50,7 +50,7 @@ context_set ns t e i n m at g l d =
     (λ x. ap order_of (there x) ∙ picked order_of (is_same x e) m (node_at ns x)) where
       same_links : (x : Element) (o : Option ℕ) → node_at (set ns i m) x ≡ node_in (set ns i m) o → links_of (node_at (set ns i m) x) ≡ links_of (node_in ns o)
       same_links x None p = ap links_of p
-      same_links x (Some j) p = ap links_of p ∙ sym ((links_set ns i n m g l).same j)
+      same_links x (Some j) p = ap links_of p ∙ sym (links_each ns i n m g l j)
 
 -- where x is e, both are what stands at e
 pub at_one : {A : Type 0} (e x : Element) (v w : A) (f : Element → A) → v ≡ w → cond (is_same x e) v (f x) ≡ cond (is_same x e) w (f x)

@@ -2,9 +2,11 @@
 use Rattle.std.proofs.Common.{◌≡◌, ℕ, ◌<◌, List, Option, Some, None, sym, ap, ◌∙◌, refl, subst, arith}
 use Rattle.std.specs.Prelude.{slice_get}
 use Rattle.semantics.specs.Elements.{Element, Doc, Field, Item}
+use Rattle.semantics.specs.DocumentAnswer.{visible_items}
 use Rattle.semantics.specs.Paths.{FieldKey, ItemKey}
 use Rattle.tree.specs.declared.node.Node.{Node}
 use Rattle.tree.specs.Nodes.{Grows, IsTree, Kept, next_number, node_at, node_in, number, order_room, presence_room, register_room}
+use Rattle.tree.specs.Shown.{AreShown}
 use Rattle.tree.specs.Writes.{RoomTo}
 use Rattle.tree.proofs.Shape.{next_some}
 
@@ -21,10 +23,14 @@ grows_trans a b c p q = record {
 }
 
 pub kept_same : (ns : List Node) → IsTree ns → Kept ns ns
-kept_same ns t = record { tree = t; same = refl; grows = grows_same ns; beside = λ table b. b }
+kept_same ns t = record { tree = t; same = refl; visible = λ e. refl; grows = grows_same ns; beside = λ table b. b }
 
 pub kept_trans : (a b c : List Node) → Kept a b → Kept b c → Kept a c
-kept_trans a b c p q = record { tree = q.tree; same = q.same ∙ p.same; grows = grows_trans a b c p.grows q.grows; beside = λ table b. q.beside table (p.beside table b) }
+kept_trans a b c p q = record { tree = q.tree; same = q.same ∙ p.same; visible = λ e. q.visible e ∙ p.visible e; grows = grows_trans a b c p.grows q.grows; beside = λ table b. q.beside table (p.beside table b) }
+
+-- the lists show what they showed
+pub kept_shown : (ns ms : List Node) → Kept ns ms → AreShown ns → AreShown ms
+kept_shown ns ms k s e = k.visible e ∙ s e ∙ ap (λ C. visible_items C e) (sym k.same)
 
 -- an element keeps its number
 pub number_grows : (ns ms : List Node) → Grows ns ms → (e : Element) (i : ℕ) → number ns e ≡ Some i → number ms e ≡ Some i

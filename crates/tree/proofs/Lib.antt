@@ -23,3 +23,6 @@ pub mod StandingItems
 pub mod Applied
 pub mod Reserved
 pub mod Roots
+pub mod Beneath
+pub mod Showing
+pub mod NearTarget

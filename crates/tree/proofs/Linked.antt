@@ -7,7 +7,7 @@ use Rattle.semantics.specs.Elements.{Element, Doc, Field, Item, name_cmp}
 use Rattle.semantics.specs.Paths.{Key, FieldKey, ItemKey}
 use Rattle.columns.specs.Entries.{StandBeside}
 use Rattle.tree.specs.declared.node.Node.{Node}
-use Rattle.tree.specs.Nodes.{IsOrphan, IsTree, Kept, child_number, context, links, links_of, names_in, next_number, node_in, number, order_of, order_room, presence_of, presence_room, register_of, register_room, tagged, valued}
+use Rattle.tree.specs.Nodes.{IsOrphan, IsTree, Kept, child_number, context, links, links_of, names_in, next_number, node_at, node_in, number, order_of, order_room, presence_of, presence_room, register_of, register_room, tagged, valued, visible_of}
 use Rattle.tree.proofs.ListReads.{get_inside}
 use Rattle.tree.proofs.NodeWrites.{beside_at, beside_set}
 use Rattle.tree.proofs.Contexts.{context_same}
@@ -21,6 +21,7 @@ pub record Linked (at : ℕ) (key : Key) (j : ℕ) (ns ms : List Node) : Type 0 
   pub presence : (i : ℕ) → presence_of (slice_get ns i) ≡ presence_of (slice_get ms i)
   pub register : (i : ℕ) → register_of (slice_get ns i) ≡ register_of (slice_get ms i)
   pub order : (i : ℕ) → order_of (slice_get ns i) ≡ order_of (slice_get ms i)
+  pub visible : (i : ℕ) → visible_of (slice_get ns i) ≡ visible_of (slice_get ms i)
   pub names : (i : ℕ) → names_in ns (links ns i).0 ≡ names_in ms (links ms i).0
   pub sorted_names : (i : ℕ) → IsTrue (is_sorted name_cmp (links ms i).0)
   pub sorted_ids : (i : ℕ) → IsTrue (is_sorted id_cmp (links ms i).1)
@@ -90,6 +91,9 @@ module _ (at : ℕ) (key : Key) (j : ℕ) (ns ms : List Node) (l : Linked at key
       (λ x. kept (λ k. names_in ns (links_of k).0) (λ k. names_in ms (links_of k).0) refl l.names (sym (ap (names_in ns) o.empty.fields)) _ _ (moved x))
       (λ x. kept order_of order_of refl l.order (sym o.empty.order) _ _ (moved x)))
 
+  linked_visible : (e : Element) → visible_of (node_at ms e) ≡ visible_of (node_at ns e)
+  linked_visible e = sym (kept visible_of visible_of refl l.visible (sym o.empty.visible) _ _ (moved e))
+
   linked_children : (i : ℕ) (k : Key) (h : ℕ) → child_number ns i k ≡ Some h → child_number ms i k ≡ Some h
   linked_children i k h c = elim (l.children i k) [
     | inl e ↦ e ∙ c
@@ -110,6 +114,7 @@ pub linked_kept : (at : ℕ) (key : Key) (j : ℕ) (ns : List Node) (n m : Node)
 linked_kept at key j ns n m g s l t above o = record {
   tree = linked_tree at key j ns (set ns at m) l t above o;
   same = linked_context at key j ns (set ns at m) l t above o;
+  visible = linked_visible at key j ns (set ns at m) l t above o;
   grows = record {
     count = let c = l.count in omega arith;
     children = linked_children at key j ns (set ns at m) l t above o;

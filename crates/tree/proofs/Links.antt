@@ -1,11 +1,12 @@
 -- Which child is linked at a place.
-use Rattle.std.proofs.Common.{◌≡◌, ℕ, ◌<◌, List, length, get_or, Some, ap, ◌∙◌, arith}
-use Rattle.std.specs.Prelude.{IsTrue}
+use Rattle.std.proofs.Common.{◌≡◌, ℕ, ◌<◌, List, length, get_or, Some, sym, ap, ◌∙◌, arith}
+use Rattle.std.specs.Prelude.{IsTrue, slice_get}
 use Rattle.std.specs.declared.cmp.Ordering.{Ordering}
 use Rattle.std.specs.Cmp.{IsTotalOrder}
 use Rattle.std.specs.FinMap.{find, is_sorted}
 use Rattle.std.proofs.lemmas.Cmp.{tied_itself}
 use Rattle.std.proofs.lemmas.List.{length-map, get_or-map}
+use Rattle.std.proofs.lemmas.Option.{get_or_from_slice_get}
 use Rattle.semantics.specs.Ids.{OpId, id_cmp}
 use Rattle.semantics.specs.Elements.{Name, name_cmp}
 use Rattle.semantics.specs.Paths.{FieldKey, ItemKey}
@@ -14,7 +15,7 @@ use Rattle.columns.specs.Rank.{keys_of}
 use Rattle.columns.proofs.Ranks.{rising_keys, stands_here}
 use Rattle.columns.proofs.Puts.{find_there}
 use Rattle.tree.specs.declared.node.Node.{Node}
-use Rattle.tree.specs.Nodes.{links, child_number, IsTree}
+use Rattle.tree.specs.Nodes.{links, links_of, child_number, IsTree}
 
 find_at : {K X : Type 0} (R : K → K → Ordering) → IsTotalOrder R → (es : List (K × X)) (i : ℕ) (d : K × X) → IsTrue (is_sorted R es) → i < length es → find R (get_or es i d).0 es ≡ Some (get_or es i d).1
 find_at {K} {X} R o es i d s h =
@@ -28,3 +29,12 @@ field_there ns t i place d h = find_at name_cmp name_total (links ns i).0 place 
 
 pub item_there : (ns : List Node) → IsTree ns → (i place : ℕ) (d : OpId × ℕ) → place < length (links ns i).1 → child_number ns i (ItemKey (get_or (links ns i).1 place d).0) ≡ Some (get_or (links ns i).1 place d).1
 item_there ns t i place d h = find_at id_cmp id_total (links ns i).1 place d (t.sorted_ids i) h
+
+-- what stands at a place among a node's items
+pub item_entry : (ns : List Node) (i place : ℕ) (n : Node) (x : OpId × ℕ) → slice_get ns i ≡ Some n → slice_get n.items.entries place ≡ Some x → (d : OpId × ℕ) → get_or (links ns i).1 place d ≡ x
+item_entry ns i place n x g h d = ap (λ o. get_or (links_of o).1 place d) g ∙ get_or_from_slice_get n.items.entries place x d h
+
+pub item_number : (ns : List Node) → IsTree ns → (i place : ℕ) (n : Node) (x : OpId × ℕ) → slice_get ns i ≡ Some n → slice_get n.items.entries place ≡ Some x → place < length (links ns i).1 → child_number ns i (ItemKey x.0) ≡ Some x.1
+item_number ns t i place n x g h lt =
+    let e = item_entry ns i place n x g h x in
+    ap (λ (y : OpId × ℕ). child_number ns i (ItemKey y.0)) (sym e) ∙ item_there ns t i place x lt ∙ ap (λ (y : OpId × ℕ). Some y.1) e

@@ -17,7 +17,7 @@ use Rattle.tree.specs.declared.node.Node.{Node}
 use Rattle.tree.specs.Nodes.{links_of, links, child_number, number, node_in, node_at, presence_of, register_of, order_of, is_written, names_in, context, IsTree}
 use Rattle.tree.specs.Writes.{name_at}
 use Rattle.tree.proofs.ListReads.{get_same, get_other, get_inside}
-use Rattle.tree.proofs.Shape.{next_some, number_same, links_set, node_set, one_element, node_found}
+use Rattle.tree.proofs.Shape.{next_some, number_links, links_each, node_set, one_element, node_found}
 use Rattle.tree.proofs.Links.{field_there}
 use Rattle.tree.proofs.Contexts.{context_same, picked, itself}
 
@@ -102,10 +102,10 @@ key_name n m e = cc
 -- a write that marks the node of a field, and changes nothing else there
 module _ (ns : List Node) (t : IsTree ns) (e : Element) (n : Name) (j : ℕ) (old m : Node) (at : number ns (Field e n) ≡ Some j) (got : slice_get ns j ≡ Some old) (linked : links_of (Some m) ≡ links_of (Some old)) where
   same_links : (x : Element) (o : Option ℕ) → number ns x ≡ o → links_of (node_at (set ns j m) x) ≡ links_of (node_in ns o)
-  same_links x o p = ap (λ y. links_of (node_in (set ns j m) y)) (sym (number_same ns (set ns j m) (links_set ns j old m got linked) x) ∙ p) ∙ by o where
+  same_links x o p = ap (λ y. links_of (node_in (set ns j m) y)) (sym (number_links ns (set ns j m) (links_each ns j old m got linked) x) ∙ p) ∙ by o where
     by : (o : Option ℕ) → links_of (node_in (set ns j m) o) ≡ links_of (node_in ns o)
     by None = refl
-    by (Some k) = sym ((links_set ns j old m got linked).same k)
+    by (Some k) = sym (links_each ns j old m got linked k)
 
   -- the names at the element itself
   own_names : (written : m.is_written ≡ true) (i : ℕ) → child_number ns i (FieldKey n) ≡ Some j → names_in (set ns j m) (links ns i).0 ≡ put name_cmp n tt (names_in ns (links ns i).0)

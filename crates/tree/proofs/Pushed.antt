@@ -3,14 +3,14 @@ use Rattle.std.proofs.Common.{◌≡◌, ℕ, zero, suc, ◌+◌, ◌≤◌, IsT
 use Rattle.std.specs.Prelude.{slice_get}
 use Rattle.std.specs.FinMap.{is_sorted}
 use Rattle.semantics.specs.Ids.{id_cmp}
-use Rattle.semantics.specs.Elements.{name_cmp}
+use Rattle.semantics.specs.Elements.{Element, name_cmp}
 use Rattle.semantics.specs.Paths.{Key}
 use Rattle.cursor.specs.declared.tag.Tag.{Tag}
 use Rattle.value.specs.declared.value.Scalar.{Scalar}
 use Rattle.columns.specs.Entries.{StandBeside}
 use Rattle.tree.specs.declared.node.Node.{Node}
-use Rattle.tree.specs.Nodes.{Grows, IsEmptyNode, IsOrphan, IsTree, Kept, Links, NodeBeside, SameView, child_room, is_written, linked_by, links_of, order_of, order_room, presence_of, presence_room, register_of, register_room, tagged, valued}
-use Rattle.tree.proofs.SameViews.{context_view}
+use Rattle.tree.specs.Nodes.{Grows, IsEmptyNode, IsOrphan, IsTree, Kept, Links, NodeBeside, SameView, child_room, is_written, linked_by, links_of, order_of, order_room, presence_of, presence_room, register_of, register_room, tagged, valued, visible_of, node_at}
+use Rattle.tree.proofs.SameViews.{context_view, visible_view}
 use Rattle.tree.proofs.Widened.{links_pair}
 
 -- what holds of each node, and of an empty one where it holds of none
@@ -76,10 +76,14 @@ module _ (ns : List Node) (n : Node) (e : IsEmptyNode n) where
         order = room_push order_room refl n ns;
       }
 
+  pub push_visible : (x : Element) → visible_of (node_at ns x) ≡ visible_of (node_at (ns ++ n ∷ []) x)
+  push_visible = visible_view ns (ns ++ n ∷ []) (push_view ns n e).links (pushed visible_of n (sym e.visible) ns)
+
   pub push_kept : IsTree ns → Kept ns (ns ++ n ∷ [])
   push_kept t = record {
     tree = push_tree t;
     same = sym (context_view ns (ns ++ n ∷ []) (push_view ns n e));
+    visible = λ x. sym (push_visible x);
     grows = push_grows;
     beside = λ table b. push_each (λ o i. NodeBeside table o) n (λ i h. empty_beside table n e) ns b;
   }

@@ -10,7 +10,7 @@ use Rattle.semantics.specs.Paths.{Key, FieldKey, ItemKey, child, down}
 use Rattle.semantics.proofs.Orders.{element_itself, same_elements}
 use Rattle.semantics.proofs.ElementPaths.{down-append}
 use Rattle.tree.specs.declared.node.Node.{Node}
-use Rattle.tree.specs.Nodes.{links_of, links, linked_by, child_number, next_number, number, node_in, node_at, IsTree, SameLinks, MoreRoom}
+use Rattle.tree.specs.Nodes.{links_of, links, linked_by, child_number, next_number, number, node_in, node_at, visible_of, IsTree, SameLinks, MoreRoom}
 use Rattle.tree.specs.Writes.{end_of}
 use Rattle.tree.proofs.ListReads.{get_same, get_other, get_inside}
 
@@ -32,14 +32,18 @@ number_links ns ms h (Item e a) = ap (λ o. next_number ns o (ItemKey a)) (numbe
 pub number_same : (ns ms : List Node) → SameLinks ns ms → (e : Element) → number ns e ≡ number ms e
 number_same ns ms h e = number_links ns ms h.same e
 
-pub tree_same : (ns ms : List Node) → SameLinks ns ms → IsTree ns → IsTree ms
-tree_same ns ms h t = record {
-  rooted = let c = h.count in let r = t.rooted in omega arith;
-  rising = λ i s j e. let r = t.rising i s j (ap (λ l. linked_by l s) (h.same i) ∙ e) in let c = h.count in (r.0, omega arith);
-  one_parent = λ i s k u j e f. t.one_parent i s k u j (ap (λ l. linked_by l s) (h.same i) ∙ e) (ap (λ l. linked_by l u) (h.same k) ∙ f);
-  sorted_names = λ i. subst (λ l. IsTrue (is_sorted name_cmp l.0)) (h.same i) (t.sorted_names i);
-  sorted_ids = λ i. subst (λ l. IsTrue (is_sorted id_cmp l.1)) (h.same i) (t.sorted_ids i);
+-- a tree stays one where each number has the same children
+pub tree_links : (ns ms : List Node) → length ns ≡ length ms → ((i : ℕ) → links ns i ≡ links ms i) → IsTree ns → IsTree ms
+tree_links ns ms count same t = record {
+  rooted = let r = t.rooted in omega arith;
+  rising = λ i s j e. let r = t.rising i s j (ap (λ l. linked_by l s) (same i) ∙ e) in (r.0, omega arith);
+  one_parent = λ i s k u j e f. t.one_parent i s k u j (ap (λ l. linked_by l s) (same i) ∙ e) (ap (λ l. linked_by l u) (same k) ∙ f);
+  sorted_names = λ i. subst (λ l. IsTrue (is_sorted name_cmp l.0)) (same i) (t.sorted_names i);
+  sorted_ids = λ i. subst (λ l. IsTrue (is_sorted id_cmp l.1)) (same i) (t.sorted_ids i);
 }
+
+pub tree_same : (ns ms : List Node) → SameLinks ns ms → IsTree ns → IsTree ms
+tree_same ns ms h t = tree_links ns ms h.count h.same t
 
 -- the root is nobody's child_number
 no_root : (ns : List Node) → IsTree ns → (o : Option ℕ) (s : Key) → next_number ns o s ≡ Some 0 → ⊥
@@ -87,18 +91,29 @@ one_element ns t (Item e a) (Field f m) i p q =
     absurd (apart m a (sym (t.one_parent k (ItemKey a) h (FieldKey m) i kc hc).1))
 
 -- a write to a node that leaves its children alone
-pub links_set : (ns : List Node) (i : ℕ) (n m : Node) → slice_get ns i ≡ Some n → links_of (Some m) ≡ links_of (Some n) → SameLinks ns (set ns i m)
-links_set ns i n m g l = record {
+pub links_each : (ns : List Node) (i : ℕ) (n m : Node) → slice_get ns i ≡ Some n → links_of (Some m) ≡ links_of (Some n) → (j : ℕ) → links ns j ≡ links (set ns i m) j
+links_each ns i n m g l j = elim (cases_eq j i) [
+  | inl e ↦ ap (λ k. links ns k) e ∙ ap links_of g ∙ sym l ∙ sym (ap links_of (get_same ns i m (get_inside ns i n g))) ∙ ap (λ k. links (set ns i m) k) (sym e)
+  | inr n ↦ sym (ap links_of (get_other ns i m j n))
+]
+
+-- and its flags
+pub links_set : (ns : List Node) (i : ℕ) (n m : Node) → slice_get ns i ≡ Some n → links_of (Some m) ≡ links_of (Some n) → visible_of (Some m) ≡ visible_of (Some n) → SameLinks ns (set ns i m)
+links_set ns i n m g l v = record {
   count = sym (length-set ns i m);
-  same = λ j. elim (cases_eq j i) [
-    | inl e ↦ ap (λ k. links ns k) e ∙ ap links_of g ∙ sym l ∙ sym (ap links_of (get_same ns i m (get_inside ns i n g))) ∙ ap (λ k. links (set ns i m) k) (sym e)
-    | inr n ↦ sym (ap links_of (get_other ns i m j n))
+  same = links_each ns i n m g l;
+  visible = λ j. elim (cases_eq j i) [
+    | inl e ↦ ap (λ k. visible_of (slice_get ns k)) e ∙ ap visible_of g ∙ sym v ∙ sym (ap visible_of (get_same ns i m (get_inside ns i n g))) ∙ ap (λ k. visible_of (slice_get (set ns i m) k)) (sym e)
+    | inr n ↦ sym (ap visible_of (get_other ns i m j n))
   ];
 }
 
+pub links_same : (ns : List Node) → SameLinks ns ns
+links_same ns = record { count = refl; same = λ i. refl; visible = λ i. refl }
+
 pub node_set : (ns : List Node) → IsTree ns → (e : Element) (i : ℕ) (n m : Node) → number ns e ≡ Some i → slice_get ns i ≡ Some n → links_of (Some m) ≡ links_of (Some n) → (x : Element) → node_at (set ns i m) x ≡ cond (is_same x e) (Some m) (node_at ns x)
 node_set ns t e i n m at g l x =
-    ap (node_in (set ns i m)) (sym (number_same ns (set ns i m) (links_set ns i n m g l) x)) ∙
+    ap (node_in (set ns i m)) (sym (number_links ns (set ns i m) (links_each ns i n m g l) x)) ∙
     elim (is_same x e) as (λ b. is_same x e ≡ b → node_in (set ns i m) (number ns x) ≡ cond b (Some m) (node_at ns x)) [
       | true ↦ λ p. ap (λ y. node_in (set ns i m) (number ns y)) (same_elements x e p) ∙ ap (node_in (set ns i m)) at ∙ get_same ns i m (get_inside ns i n g)
       | false ↦ λ p. elsewhere (number ns x) refl p
@@ -111,7 +126,7 @@ pub node_found : (ns : List Node) (e : Element) (i : ℕ) (n : Node) → number 
 node_found ns e i n at g = ap (node_in ns) at ∙ g
 
 pub links_trans : (a b c : List Node) → SameLinks a b → SameLinks b c → SameLinks a c
-links_trans a b c p q = record { count = p.count ∙ q.count; same = λ i. p.same i ∙ q.same i }
+links_trans a b c p q = record { count = p.count ∙ q.count; same = λ i. p.same i ∙ q.same i; visible = λ i. p.visible i ∙ q.visible i }
 
 pub room_trans : (a b c : List Node) → MoreRoom a b → MoreRoom b c → MoreRoom a c
 room_trans a b c p q = record {

@@ -5,10 +5,10 @@ use Rattle.semantics.specs.Ids.{OpId}
 use Rattle.semantics.specs.Elements.{Name}
 use Rattle.columns.specs.Entries.{StandBeside}
 use Rattle.tree.specs.declared.node.Node.{Node}
-use Rattle.tree.specs.Nodes.{IsTree, Kept, Links, NodeBeside, SameView, is_written, linked_by, links, links_of, order_of, order_room, presence_of, presence_room, register_of, register_room, tagged, valued}
-use Rattle.tree.proofs.Shape.{tree_same}
+use Rattle.tree.specs.Nodes.{IsTree, Kept, Links, NodeBeside, SameView, is_written, linked_by, links, links_of, order_of, order_room, presence_of, presence_room, register_of, register_room, tagged, valued, visible_of}
+use Rattle.tree.proofs.Shape.{tree_links}
 use Rattle.tree.proofs.NodeWrites.{beside_at, beside_set, set_each}
-use Rattle.tree.proofs.SameViews.{context_view}
+use Rattle.tree.proofs.SameViews.{context_view, visible_view}
 
 -- m is n with no less room
 pub record Wider (n m : Node) : Type 0 where
@@ -19,6 +19,7 @@ pub record Wider (n m : Node) : Type 0 where
   pub register : m.register.entries ≡ n.register.entries
   pub register_indices : m.register.indices ≡ n.register.indices
   pub order : m.order.items ≡ n.order.items
+  pub visible : m.order.visible ≡ n.order.visible
   pub written : m.is_written ≡ n.is_written
   pub presence_room : n.presence.room ≤ m.presence.room
   pub register_room : n.register.room ≤ m.register.room
@@ -54,8 +55,9 @@ kept_set ns at n m g t w =
     } in
     let long : length ns ≡ length (set ns at m) = sym (length-set ns at m) in
     record {
-      tree = tree_same ns (set ns at m) (record { count = long; same = v.links }) t;
+      tree = tree_links ns (set ns at m) long v.links t;
       same = sym (context_view ns (set ns at m) v);
+      visible = λ e. sym (visible_view ns (set ns at m) v.links (same_set visible_of ns at n m g w.visible) e);
       grows = record {
         count = omega arith;
         children = λ i k j h. sym (ap (λ l. linked_by l k) (v.links i)) ∙ h;

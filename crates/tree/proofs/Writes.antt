@@ -15,7 +15,7 @@ pub entered_more : (C : Context) (e : Element) (k : Key) (a : OpId) → entered 
 entered_more C e (FieldKey n) a = refl
 entered_more C e (ItemKey b) a = refl
 
-same_sym : (x t : Element) → is_same x t ≡ is_same t x
+pub same_sym : (x t : Element) → is_same x t ≡ is_same t x
 same_sym x t = elim (is_same x t) as (λ b. is_same x t ≡ b → b ≡ is_same t x) [
   | true ↦ λ p. sym (ap (λ y. is_same t y) (same_elements x t p) ∙ element_itself t)
   | false ↦ λ p. sym (false_from_ne_true (is_same t x) (λ q. let r : true ≡ false = sym (ap (λ y. is_same y t) (sym (same_elements t x q)) ∙ element_itself t) ∙ p in cc))

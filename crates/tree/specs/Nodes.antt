@@ -69,6 +69,11 @@ abbrev pub order_of : Option Node → List OpId
 order_of None = []
 order_of (Some n) = n.order.items
 
+-- the items of its list that are flagged as shown
+abbrev pub visible_of : Option Node → List OpId
+visible_of None = []
+visible_of (Some n) = n.order.visible
+
 -- whether it was written to
 abbrev pub is_written : Option Node → Bool
 is_written None = false
@@ -105,10 +110,11 @@ NodeBeside table (Some n) = StandBeside table n.presence.entries n.presence.indi
 abbrev pub AreBeside : List ℕ → List Node → Type 0
 AreBeside table ns = (i : ℕ) → NodeBeside table (slice_get ns i)
 
--- the same children
+-- the same children, and the same flags of items
 pub record SameLinks (ns ms : List Node) : Type 0 where
   pub count : length ns ≡ length ms
   pub same : (i : ℕ) → links ns i ≡ links ms i
+  pub visible : (i : ℕ) → visible_of (slice_get ns i) ≡ visible_of (slice_get ms i)
 
 abbrev pub presence_room : Option Node → ℕ
 presence_room None = 0
@@ -146,6 +152,7 @@ pub record IsEmptyNode (n : Node) : Type 0 where
   pub fields : n.fields.entries ≡ []
   pub items : n.items.entries ≡ []
   pub order : n.order.items ≡ []
+  pub visible : n.order.visible ≡ []
   pub unwritten : n.is_written ≡ false
 
 -- each child and all room stays
@@ -156,10 +163,11 @@ pub record Grows (ns ms : List Node) : Type 0 where
   pub register : (i : ℕ) → register_room (slice_get ns i) ≤ register_room (slice_get ms i)
   pub order : (i : ℕ) → order_room (slice_get ns i) ≤ order_room (slice_get ms i)
 
--- a tree of the same context, with all that was there
+-- a tree of the same context and flags, with all that was there
 pub record Kept (ns ms : List Node) : Type 0 where
   pub tree : IsTree ms
   pub same : context ms ≡ context ns
+  pub visible : (e : Element) → visible_of (node_at ms e) ≡ visible_of (node_at ns e)
   pub grows : Grows ns ms
   pub beside : (table : List ℕ) → AreBeside table ns → AreBeside table ms
 

@@ -12,6 +12,7 @@ use Rattle.value.specs.Meanings.{scalar_of}
 use Rattle.columns.specs.Orders.{has_item, has_place}
 use Rattle.tree.specs.declared.node.Node.{Node}
 use Rattle.tree.specs.Nodes.{AreBeside, IsTree, context, node_at, order_room, register_room}
+use Rattle.tree.specs.Shown.{AreShown}
 use Rattle.cursor.specs.Meanings.{hop_of}
 use Rattle.tree.specs.declared.insert.Slot.{Slot}
 use Rattle.tree.specs.Writes.{RoomTo, end_of}
@@ -30,6 +31,7 @@ document t = context t.nodes
 pub record IsPlanted (t : Planted) : Type 0 where
   pub distinct : AreDistinct t.table
   pub tree : IsTree t.nodes
+  pub shown : AreShown t.nodes
   pub beside : AreBeside t.table t.nodes
 
 -- the element that s writes at

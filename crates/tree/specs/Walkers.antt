@@ -1,5 +1,6 @@
 -- Where a walk along an expression stands.
 use Rattle.std.specs.Prelude.{◌≡◌, ◌≤◌, List, map}
+use Rattle.semantics.specs.Limits.{most_keys}
 use Rattle.semantics.specs.Elements.{Place as ThePlace}
 use Rattle.cursor.specs.Meanings.{hop_of}
 use Rattle.cursor.specs.Places.{depth_of, place_at}
@@ -15,4 +16,4 @@ stand_of w = place_at (map hop_of w.hops.items) w.is_head
 -- the path isn't too long, and the number is that of the node at its end
 pub record IsWalking (ns : List Node) (w : Walker) : Type 0 where
   pub node : number ns (end_of (map hop_of w.hops.items)) ≡ w.node
-  pub short : depth_of (stand_of w) ≤ 32
+  pub short : depth_of (stand_of w) ≤ most_keys

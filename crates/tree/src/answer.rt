@@ -1,12 +1,13 @@
 //! What stands at an element, as questions ask for it.
 
 ghost use Rattle.std.specs.Prelude.{◌≡◌, ◌<◌, ◌&&◌, Some, IfOk, length, slice_get, IfSome};
-ghost use Rattle.semantics.specs.Elements.{Element, Item};
+ghost use Rattle.semantics.specs.Elements.{Element};
 ghost use Rattle.semantics.specs.DocumentAnswer.{is_any, visible_items, visible_names};
 ghost use Rattle.tree.specs.Nodes.{IsTree, context, is_written, number, presence_of, tagged, valued};
+ghost use Rattle.tree.specs.Shown.{AreShown};
 
 use crate::node::{Node, NodeNumber, node_at};
-use crate::walk::{count_fields, field_at, item_near, walk};
+use crate::walk::{count_fields, field_at, walk};
 use columns::{Presence, Register};
 use cursor::{ElementPlace, Tag};
 use ids::OpId;
@@ -56,7 +57,8 @@ pub fn keys(nodes: &[Node], element: &ElementPlace, alloc: Global) -> Result<Vec
 
 /// The items of an element's list at which something stands, in list order.
 pub fn items(nodes: &[Node], element: &ElementPlace, alloc: Global) -> Result<Vec<OpId>, AllocError>
-    requires { IsTree nodes.now }
+    requires tree { IsTree nodes.now }
+    requires shown { AreShown nodes.now }
     ensures { IfOk result (λ v. v.items ≡ visible_items (context nodes.now) element.now) }
 {
     match node_of(nodes, element) {
@@ -125,57 +127,31 @@ fn is_field(nodes: &[Node], at: NodeNumber) -> bool
 }
 
 /// Whether something stands at a node.
-fn is_present(nodes: &[Node], at: NodeNumber) -> bool
+pub fn is_present(nodes: &[Node], at: NodeNumber) -> bool
     requires { at < length nodes.now }
     ensures { result ≡ is_any (presence_of (slice_get nodes.now at)) }
 {
     node_at(nodes, at).presence.len() > 0
 }
 
-/// Whether something stands at an item of a node's list. Looks for its node next to that of the item before, whose position among
-/// the ids is `near`.
-fn is_visible(nodes: &[Node], at: NodeNumber, id: &OpId, near: &mut usize) -> bool
-    requires tree { IsTree nodes.now }
-    requires inside { at < length nodes.now }
-    ensures { (e : Element) → number nodes.now e ≡ Some at → result ≡ is_any ((context nodes.now).presence (Item e id.now)) }
-{
-    match item_near(nodes, at, id, near) {
-        Some(item) => is_present(nodes, item),
-        None => false,
-    }
-}
-
-/// The items of the list at which something stands, in list order. Looks at each item that ever was, tombstones included.
+/// The items of the list at which something stands, in list order. Asks the list's order, which looks at each item that ever was,
+/// tombstones included, and at no node.
 fn items_at(nodes: &[Node], at: NodeNumber, alloc: Global) -> Result<Vec<OpId>, AllocError>
     requires tree { IsTree nodes.now }
     requires inside { at < length nodes.now }
+    requires shown { AreShown nodes.now }
     ensures { IfOk result (λ v. (e : Element) → number nodes.now e ≡ Some at → v.items ≡ visible_items (context nodes.now) e) }
 {
-    let mut items = Vec::new(alloc);
-    let mut near = 0;
-    for id in node_at(nodes, at).order.iter() {
-        if is_visible(nodes, at, &id, &mut near) {
-            items.push(id)?;
-        }
-    }
-    Ok(items)
+    node_at(nodes, at).order.visible(alloc)
 }
 
-/// The item of the list at which something stands, by its index among these. Looks at each item up to there, tombstones included.
+/// The item of the list at which something stands, by its index among these. Asks the list's order, which looks at how many
+/// items each of its blocks shows, and at no node.
 pub fn item_at(nodes: &[Node], at: NodeNumber, place: u64) -> Option<OpId>
     requires tree { IsTree nodes.now }
     requires inside { at < length nodes.now }
+    requires shown { AreShown nodes.now }
     ensures { (e : Element) → number nodes.now e ≡ Some at → result ≡ slice_get (visible_items (context nodes.now) e) place }
 {
-    let mut left = place;
-    let mut near = 0;
-    for id in node_at(nodes, at).order.iter() {
-        if is_visible(nodes, at, &id, &mut near) {
-            if left == 0 {
-                return Some(id);
-            }
-            left -= 1;
-        }
-    }
-    None
+    node_at(nodes, at).order.nth_visible(place as usize)
 }

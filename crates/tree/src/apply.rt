@@ -10,21 +10,43 @@ ghost use Rattle.semantics.specs.Stamped.{loose_operation};
 ghost use Rattle.value.specs.Meanings.{scalar_of};
 ghost use Rattle.cursor.specs.Meanings.{tag_of};
 ghost use Rattle.operation.specs.Meanings.{mutation_of, stamped_of};
-ghost use Rattle.tree.specs.Nodes.{AreBeside, IsTree, context};
+ghost use Rattle.tree.specs.Nodes.{AreBeside, IsTree, SameLinks, context};
+ghost use Rattle.tree.specs.Shown.{AreShown};
 ghost use Rattle.tree.specs.Writes.{IsStamp, assigned, deps_of, linked};
 ghost use Rattle.tree.specs.Trees.{CanInsert, IsPlaced, IsReady};
 
 use crate::clear::clear_at;
 use crate::insert::{insert, slot_of};
 use crate::node::Node;
+use crate::show::show;
 use crate::stamp::Stamp;
 use crate::write::assign;
 use cursor::{Place, Tag};
 use operation::{Mutation, Op};
 use value::Scalar;
 
-/// Applies an operation: clears and writes what its mutation says.
-pub fn run(nodes: &mut [Node], op: &Op, stamp: &Stamp, scalar: Option<Scalar>)
+/// Applies an operation, and then sets what the lists show.
+pub fn apply(nodes: &mut [Node], op: &Op, stamp: &Stamp, scalar: Option<Scalar>)
+    requires stamp { IsStamp stamp.now }
+    requires id { stamp.now.id ≡ op.now.id }
+    requires vector { stamp.now.vector.now ≡ op.now.deps }
+    requires tree { IsTree nodes.old }
+    requires beside { AreBeside stamp.now.table.now nodes.old }
+    requires shown { AreShown nodes.old }
+    requires ready { IsReady (record { table = stamp.now.table.now; nodes = nodes.old; scalar = scalar }) (stamped_of stamp.now.table.now op.now) }
+    requires placed { IsPlaced (context nodes.old) (stamped_of stamp.now.table.now op.now) }
+    requires formed { IsFormed (mutation_of op.now.mutation) op.now.place }
+    ensures tree { IsTree nodes.new }
+    ensures beside { AreBeside stamp.now.table.now nodes.new }
+    ensures shown { AreShown nodes.new }
+    ensures applied { context nodes.new ≡ apply (context nodes.old) (loose_operation (stamped_of stamp.now.table.now op.now)) }
+{
+    run(nodes, op, stamp, scalar);
+    show(nodes, op);
+}
+
+/// Clears and writes what an operation's mutation says. The lists show what they showed.
+fn run(nodes: &mut [Node], op: &Op, stamp: &Stamp, scalar: Option<Scalar>)
     requires stamp { IsStamp stamp.now }
     requires id { stamp.now.id ≡ op.now.id }
     requires vector { stamp.now.vector.now ≡ op.now.deps }
@@ -34,6 +56,7 @@ pub fn run(nodes: &mut [Node], op: &Op, stamp: &Stamp, scalar: Option<Scalar>)
     requires placed { IsPlaced (context nodes.old) (stamped_of stamp.now.table.now op.now) }
     requires formed { IsFormed (mutation_of op.now.mutation) op.now.place }
     ensures tree { IsTree nodes.new }
+    ensures links { SameLinks nodes.old nodes.new }
     ensures beside { AreBeside stamp.now.table.now nodes.new }
     ensures applied { context nodes.new ≡ apply (context nodes.old) (loose_operation (stamped_of stamp.now.table.now op.now)) }
 {
@@ -52,6 +75,7 @@ fn insert_at(nodes: &mut [Node], place: &Place, stamp: &Stamp, tag: Tag, scalar:
     requires slot { IsSome (slot_of (Insert EmptyMap) place.now) }
     requires fits { (l : Element) (p : Option TheId) → slot_of (Insert EmptyMap) place.now ≡ Some (l, p) → CanInsert nodes.old l p stamp.now.id scalar }
     ensures tree { IsTree nodes.new }
+    ensures links { SameLinks nodes.old nodes.new }
     ensures beside { AreBeside stamp.now.table.now nodes.new }
     ensures inserted { (l : Element) (p : Option TheId) → slot_of (Insert EmptyMap) place.now ≡ Some (l, p) → context nodes.new ≡ assigned (linked (context nodes.old) l p stamp.now.id) stamp.now.id (deps_of stamp.now) (Item l stamp.now.id) (tag_of tag) (option_map scalar_of scalar) }
 {

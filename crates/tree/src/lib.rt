@@ -10,6 +10,7 @@ mod listed;
 mod node;
 mod reserve;
 mod resolve;
+mod show;
 mod stamp;
 #[cfg(test)]
 mod tests;

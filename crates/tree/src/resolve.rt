@@ -9,6 +9,7 @@ ghost use Rattle.semantics.specs.Questions.{resolve, step_from};
 ghost use Rattle.cursor.specs.Meanings.{hop_of, step_of};
 ghost use Rattle.cursor.specs.Places.{room_at};
 ghost use Rattle.tree.specs.Nodes.{IsTree, context, next_number};
+ghost use Rattle.tree.specs.Shown.{AreShown};
 ghost use Rattle.tree.specs.Writes.{end_of};
 ghost use Rattle.tree.specs.Walkers.{IsWalking, stand_of};
 
@@ -19,9 +20,11 @@ use cursor::{Expr, Hop, MOST_KEYS, Place, Step};
 use ids::{OpId, Refusal};
 use std::alloc::{AllocError, Global};
 
-/// The place that an expression leads to from the root. Copies its keys, and walks a list up to the item that it asks for.
+/// The place that an expression leads to from the root. Copies its keys, and asks the order of a list for the item with an index, which
+/// looks at how many items each of its blocks shows.
 pub fn resolve(alloc: Global, nodes: &[Node], expression: &Expr) -> Result<Place, Refusal>
-    requires { IsTree nodes.now }
+    requires tree { IsTree nodes.now }
+    requires shown { AreShown nodes.now }
     ensures place { IfOk result (λ p. resolve (visible_items (context nodes.now)) expression.now ≡ Ok p) }
     ensures err { IfErr result (λ why. (why ≡ NoMemory) ⊎ (resolve (visible_items (context nodes.now)) expression.now ≡ Err why)) }
 {
@@ -56,6 +59,7 @@ impl Walker {
     /// Takes one step, or says why not.
     fn take(&mut self, nodes: &[Node], step: &Step) -> Result<(), Refusal>
         requires tree { IsTree nodes.now }
+        requires shown { AreShown nodes.now }
         requires walking { IsWalking nodes.now self.old }
         ensures walking { OnOk result (IsWalking nodes.now self.new) }
         ensures stand { OnOk result (step_from (visible_items (context nodes.now)) (stand_of self.old) (step_of step.now) ≡ Ok (stand_of self.new)) }
@@ -89,6 +93,7 @@ impl Walker {
     /// The visible item here with this index among the visible ones.
     fn item(&self, nodes: &[Node], place: u64) -> Option<OpId>
         requires tree { IsTree nodes.now }
+        requires shown { AreShown nodes.now }
         requires walking { IsWalking nodes.now self.now }
         ensures { result ≡ slice_get (visible_items (context nodes.now) (end_of (map hop_of self.now.hops.items))) place }
     {

@@ -14,7 +14,7 @@ ghost use Rattle.tree.specs.Nodes.{context, tagged, valued};
 ghost use Rattle.tree.specs.Trees.{IsPlaced, IsReady, Planted, document, items_stand};
 
 use crate::answer::{conflicts, items, keys, values};
-use crate::apply::run;
+use crate::apply::apply;
 use crate::listed::items_stand;
 use crate::node::Node;
 use crate::reserve::reserve_operation;
@@ -81,7 +81,7 @@ impl Tree {
     }
 
     /// Applies an operation that was reserved. Takes no memory. Visits each node beneath an assign's or a delete's element, and
-    /// writes at each element of the path.
+    /// writes at each element of the path, and then sets whether the lists show the items there.
     pub fn apply(&mut self, op: &Op)
         requires ready { IsReady self.old (stamped_of self.old.table op.now) }
         requires placed { IsPlaced (document self.old) (stamped_of self.old.table op.now) }
@@ -97,7 +97,7 @@ impl Tree {
             id: op.id,
             vector: &op.deps,
         };
-        run(&mut self.nodes, op, &stamp, scalar);
+        apply(&mut self.nodes, op, &stamp, scalar);
     }
 
     /// Whether each item on the way to the place was inserted into the list that it is entered from. A binary search for each key.
@@ -107,7 +107,8 @@ impl Tree {
         items_stand(&self.nodes, place.hops())
     }
 
-    /// The place that an expression leads to. Walks a list up to the item that it asks for.
+    /// The place that an expression leads to. Asks a list's order for the item with an index, which looks at how many items each
+    /// of its blocks shows, and at no node.
     ///
     /// # Errors
     /// `AtHead`, `PastEnd` or `TooDeep` by the rules, or `NoMemory` if allocation fails.

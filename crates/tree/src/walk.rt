@@ -73,18 +73,6 @@ pub fn item_of(nodes: &[Node], at: NodeNumber, id: &OpId) -> Option<NodeNumber>
     node_at(nodes, at).items.get(id).map(NodeNumber::new)
 }
 
-/// The number of an item's node, by the item's id. Looks on both sides of the position `near` among the items' ids first, falls
-/// back to a binary search, and sets `near` to the item's position.
-pub fn item_near(nodes: &[Node], at: NodeNumber, id: &OpId, near: &mut usize) -> Option<NodeNumber>
-    requires { at < length nodes.now }
-    ensures { result ≡ child_number nodes.now at (ItemKey id.now) }
-{
-    node_at(nodes, at)
-        .items
-        .get_near(id, near)
-        .map(NodeNumber::new)
-}
-
 /// The number of the node at the end of a path from the root, if there is one.
 pub fn walk(nodes: &[Node], path: &[Hop]) -> Option<NodeNumber>
     requires { IsTree nodes.now }

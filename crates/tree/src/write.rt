@@ -109,6 +109,7 @@ fn put_scalar(nodes: &mut [Node], at: NodeNumber, stamp: &Stamp, scalar: Option<
     requires inside { at < length nodes.old }
     requires room { IsSome scalar → 0 < register_room (slice_get nodes.old at) }
     ensures tree { IsTree nodes.new }
+    ensures links { SameLinks nodes.old nodes.new }
     ensures beside { AreBeside stamp.now.table.now nodes.new }
     ensures written { (e : Element) → number nodes.old e ≡ Some at → context nodes.new ≡ registered (context nodes.old) e stamp.now.id (option_map scalar_of scalar) }
 {
@@ -126,6 +127,7 @@ pub fn settle(nodes: &mut [Node], at: NodeNumber, stamp: &Stamp, tag: Tag, scala
     requires room { 0 < presence_room (slice_get nodes.old at) }
     requires register { IsSome scalar → 0 < register_room (slice_get nodes.old at) }
     ensures tree { IsTree nodes.new }
+    ensures links { SameLinks nodes.old nodes.new }
     ensures beside { AreBeside stamp.now.table.now nodes.new }
     ensures settled { (e : Element) → number nodes.old e ≡ Some at → context nodes.new ≡ registered (mark (context nodes.old) e stamp.now.id (tag_of tag)) e stamp.now.id (option_map scalar_of scalar) }
 {
@@ -141,6 +143,7 @@ pub fn assign(nodes: &mut [Node], path: &[Hop], stamp: &Stamp, tag: Tag, scalar:
     requires room { HasRoom nodes.old (map hop_of path.now) }
     requires register { IsSome scalar → 0 < register_room (node_at nodes.old (end_of (map hop_of path.now))) }
     ensures tree { IsTree nodes.new }
+    ensures links { SameLinks nodes.old nodes.new }
     ensures beside { AreBeside stamp.now.table.now nodes.new }
     ensures assigned { context nodes.new ≡ assigned (context nodes.old) stamp.now.id (deps_of stamp.now) (end_of (map hop_of path.now)) (tag_of tag) (option_map scalar_of scalar) }
 {

@@ -14,7 +14,7 @@ returns-in-Field-clause-kept c =
     let n : Node = c.node_in_vec-node.result.now in
     let m : Node = record n { fields = c.reserve_one.new.self } in
     let there = c.node_in_vec-node.ensures.node in
-    kept_set ns c.args.at n m there c.requires.tree (record { fields = c.reserve_one.ensures.same; items = refl; presence = refl; presence_indices = refl; register = refl; register_indices = refl; order = refl; written = refl; presence_room = omega arith; register_room = omega arith; order_room = omega arith })
+    kept_set ns c.args.at n m there c.requires.tree (record { fields = c.reserve_one.ensures.same; items = refl; presence = refl; presence_indices = refl; register = refl; register_indices = refl; order = refl; visible = refl; written = refl; presence_room = omega arith; register_room = omega arith; order_room = omega arith })
 
 pub returns-in-Field-clause-shape : goal.returns-in-Field-clause-shape
 returns-in-Field-clause-shape c =
@@ -22,7 +22,7 @@ returns-in-Field-clause-shape c =
     let n : Node = c.node_in_vec-node.result.now in
     let m : Node = record n { fields = c.reserve_one.new.self } in
     let there = c.node_in_vec-node.ensures.node in
-    wider_links ns c.args.at n m there (record { fields = c.reserve_one.ensures.same; items = refl; presence = refl; presence_indices = refl; register = refl; register_indices = refl; order = refl; written = refl; presence_room = omega arith; register_room = omega arith; order_room = omega arith })
+    wider_links ns c.args.at n m there (record { fields = c.reserve_one.ensures.same; items = refl; presence = refl; presence_indices = refl; register = refl; register_indices = refl; order = refl; visible = refl; written = refl; presence_room = omega arith; register_room = omega arith; order_room = omega arith })
 
 pub returns-in-Field-clause-room : goal.returns-in-Field-clause-room
 returns-in-Field-clause-room c =
@@ -38,7 +38,7 @@ returns-in-Item-clause-kept c =
     let n : Node = c.node_in_vec-node.result.now in
     let m : Node = record n { items = c.reserve_one-in-Item.new.self } in
     let there = c.node_in_vec-node.ensures.node in
-    kept_set ns c.args.at n m there c.requires.tree (record { fields = refl; items = c.reserve_one-in-Item.ensures.same; presence = refl; presence_indices = refl; register = refl; register_indices = refl; order = refl; written = refl; presence_room = omega arith; register_room = omega arith; order_room = omega arith })
+    kept_set ns c.args.at n m there c.requires.tree (record { fields = refl; items = c.reserve_one-in-Item.ensures.same; presence = refl; presence_indices = refl; register = refl; register_indices = refl; order = refl; visible = refl; written = refl; presence_room = omega arith; register_room = omega arith; order_room = omega arith })
 
 pub returns-in-Item-clause-shape : goal.returns-in-Item-clause-shape
 returns-in-Item-clause-shape c =
@@ -46,7 +46,7 @@ returns-in-Item-clause-shape c =
     let n : Node = c.node_in_vec-node.result.now in
     let m : Node = record n { items = c.reserve_one-in-Item.new.self } in
     let there = c.node_in_vec-node.ensures.node in
-    wider_links ns c.args.at n m there (record { fields = refl; items = c.reserve_one-in-Item.ensures.same; presence = refl; presence_indices = refl; register = refl; register_indices = refl; order = refl; written = refl; presence_room = omega arith; register_room = omega arith; order_room = omega arith })
+    wider_links ns c.args.at n m there (record { fields = refl; items = c.reserve_one-in-Item.ensures.same; presence = refl; presence_indices = refl; register = refl; register_indices = refl; order = refl; visible = refl; written = refl; presence_room = omega arith; register_room = omega arith; order_room = omega arith })
 
 pub returns-in-Item-clause-room : goal.returns-in-Item-clause-room
 returns-in-Item-clause-room c =

@@ -18,6 +18,7 @@ returns-clause-kept c =
       register = refl;
       register_indices = refl;
       order = c.reserve_one.ensures.same;
+      visible = c.reserve_one.ensures.visible;
       written = refl;
       presence_room = omega arith;
       register_room = omega arith;

@@ -18,6 +18,7 @@ returns-clause-kept c =
       register = refl;
       register_indices = refl;
       order = refl;
+      visible = refl;
       written = refl;
       presence_room = c.reserve_one.ensures.kept;
       register_room = omega arith;

@@ -18,6 +18,7 @@ returns-clause-kept c =
       register = c.reserve_one.ensures.entries;
       register_indices = c.reserve_one.ensures.indices;
       order = refl;
+      visible = refl;
       written = refl;
       presence_room = omega arith;
       register_room = c.reserve_one.ensures.kept;

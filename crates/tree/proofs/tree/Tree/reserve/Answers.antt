@@ -1,9 +1,11 @@
+use Rattle.tree.proofs.Grown.{kept_shown}
 use Rattle.tree.proofs.tree.Tree.reserve.Goals as goal
 
 pub invariant_of-self : goal.invariant_of-self
 invariant_of-self c = record {
   distinct = c.self.invariant.distinct;
   tree = c.reserve_operation.ensures.kept.tree;
+  shown = kept_shown c.self.inside.nodes.items c.reserve_operation.new.nodes.items c.reserve_operation.ensures.kept c.self.invariant.shown;
   beside = c.reserve_operation.ensures.kept.beside c.self.inside.table c.self.invariant.beside;
 }
 
@@ -11,6 +13,7 @@ pub invariant_of-self-2 : goal.invariant_of-self-2
 invariant_of-self-2 c = record {
   distinct = c.self.invariant.distinct;
   tree = c.reserve_operation.ensures.kept.tree;
+  shown = kept_shown c.self.inside.nodes.items c.reserve_operation.new.nodes.items c.reserve_operation.ensures.kept c.self.invariant.shown;
   beside = c.reserve_operation.ensures.kept.beside c.self.inside.table c.self.invariant.beside;
 }
 

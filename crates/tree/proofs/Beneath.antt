@@ -1,0 +1,53 @@
+-- Which elements stand beneath another, and on the way down to it.
+use Rattle.std.proofs.Common.{◌≡◌, ◌⊎◌, ℕ, true, List, [], ◌∷◌, take, drop, Option, Some, None, sym, ap, ◌∙◌, inl, inr}
+use Rattle.std.specs.List.{list_any}
+use Rattle.std.proofs.lemmas.Bool.{or_cases, or_right}
+use Rattle.std.proofs.lemmas.List.{take-append-drop}
+use Rattle.semantics.specs.Elements.{Element, Doc, is_same, is_under}
+use Rattle.semantics.specs.Paths.{Key, child, down}
+use Rattle.semantics.proofs.Orders.{same_elements}
+use Rattle.semantics.proofs.ElementPaths.{down-append}
+use Rattle.tree.specs.declared.node.Node.{Node}
+use Rattle.tree.specs.Nodes.{linked_by, links, number}
+use Rattle.tree.specs.Writes.{end_of}
+use Rattle.tree.proofs.Shape.{next_some, number_extend, under_none}
+use Rattle.tree.proofs.Clears.{any_more, beneath, linked_there, some_is, under_child, under_itself, under_parent, under_step}
+
+-- an item with a node, of a list at e or under it, stands under one of e's children
+pub beneath_child : (ns : List Node) (e : Element) (i : ℕ) → number ns e ≡ Some i → (y : Element) (k : Key) (j : ℕ) → number ns (child y k) ≡ Some j → is_under y e ≡ true → list_any (is_under (child y k)) (beneath e (links ns i)) ≡ true
+beneath_child ns e i at y k j p u =
+    let (h, hp, hc) = next_some ns (number ns y) k j (sym (number_extend ns y k) ∙ p) in
+    elim (or_cases (is_same y e) (list_any (is_under y) (beneath e (links ns i))) (under_child ns e i at y h hp u)) [
+      | inl s ↦
+          let q : y ≡ e = same_elements y e s in
+          let here : h ≡ i = some_is h i (sym hp ∙ ap (number ns) q ∙ at) in
+          ap (λ z. list_any (is_under (child z k)) (beneath e (links ns i))) q ∙ linked_there e (links ns i) k j (ap (λ m. linked_by (links ns m) k) (sym here) ∙ hc)
+      | inr w ↦ any_more (is_under y) (is_under (child y k)) (λ z b. under_step y z k ∙ or_right (is_same (child y k) z) _ b) (beneath e (links ns i)) w
+    ]
+
+-- what is on the way down to a place below z is on the way to z, or below it
+way_parts : (z x : Element) (ks : List Key) → is_under (down z ks) x ≡ true → (is_under z x ≡ true) ⊎ (is_under x z ≡ true)
+way_parts z x [] u = inl u
+way_parts z x (k ∷ ks) u = elim (way_parts (child z k) x ks u) [
+  | inl v ↦ elim (or_cases (is_same (child z k) x) (is_under z x) (sym (under_step z x k) ∙ v)) [
+    | inl s ↦ inr (under_parent x z k (ap (is_under x) (same_elements (child z k) x s) ∙ under_itself x))
+    | inr w ↦ inl w
+  ]
+  | inr v ↦ inr (under_parent x z k v)
+]
+
+-- where a hop leads to no node, what has a node on the way down to the path's end is on the way to the hop's start
+pub way_lost : (ns : List Node) (path : List Key) (m : ℕ) (z : Element) (h : Key) → end_of (take m path) ≡ child z h → number ns (child z h) ≡ None
+    → (x : Element) (j : ℕ) → number ns x ≡ Some j → is_under (end_of path) x ≡ true → is_under z x ≡ true
+way_lost ns path m z h is none x j p u =
+    let whole : end_of path ≡ down (child z h) (drop m path) = ap end_of (sym (take-append-drop m path)) ∙ down-append Doc (take m path) (drop m path) ∙ ap (λ e. down e (drop m path)) is in
+    elim (way_parts (child z h) x (drop m path) (ap (λ e. is_under e x) (sym whole) ∙ u)) [
+      | inl v ↦ elim (or_cases (is_same (child z h) x) (is_under z x) (sym (under_step z x h) ∙ v)) [
+        | inl s ↦ absurd (none_some j (sym none ∙ ap (number ns) (same_elements (child z h) x s) ∙ p))
+        | inr w ↦ w
+      ]
+      | inr v ↦ absurd (none_some j (sym (under_none ns (child z h) none x v) ∙ p))
+    ]
+  where
+    none_some : (j : ℕ) → ◌≡◌ {A = Option ℕ} None (Some j) → ⊥
+    none_some j e = cc

@@ -1,0 +1,16 @@
+use Rattle.std.proofs.Common.{◌≡◌, ◌<◌, ◌||◌, Bool, length, map, take, Some}
+use Rattle.semantics.specs.Ids.{OpId}
+use Rattle.semantics.specs.Elements.{Element, Item, is_under}
+use Rattle.cursor.specs.Meanings.{hop_of}
+use Rattle.tree.specs.Nodes.{number}
+use Rattle.tree.specs.Shown.{SameButFlags, ShownBut}
+use Rattle.tree.specs.Writes.{end_of}
+use Rattle.tree.proofs.show.show_path.Given as goal
+
+abbrev pub invariant-loop-hop : goal.invariant-loop-hop
+invariant-loop-hop l = record {
+  same : SameButFlags l.fn.nodes l.nodes;
+  here : number l.fn.nodes (end_of (take l.hop-index (map hop_of l.path))) ≡ Some l.at;
+  inside : l.at < length l.nodes;
+  rest : (off : Element → OpId → Bool) → ShownBut l.fn.nodes (λ y a. is_under (end_of (take l.hop-index (map hop_of l.path))) (Item y a) || off y a) → ShownBut l.nodes off;
+}

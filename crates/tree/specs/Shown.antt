@@ -1,0 +1,30 @@
+-- Which items the lists show.
+use Rattle.std.specs.Prelude.{◌≡◌, ℕ, Bool, false, ◌||◌, List, length, None}
+use Rattle.std.specs.List.{filter}
+use Rattle.semantics.specs.Ids.{OpId}
+use Rattle.semantics.specs.Elements.{Element, Item, is_under}
+use Rattle.semantics.specs.DocumentAnswer.{is_any, visible_items}
+use Rattle.tree.specs.declared.node.Node.{Node}
+use Rattle.tree.specs.Nodes.{AreBeside, SameView, context, node_at, number, order_of, visible_of}
+
+-- each list shows its visible items
+abbrev pub AreShown : List Node → Type 0
+AreShown ns = (e : Element) → visible_of (node_at ns e) ≡ visible_items (context ns) e
+
+-- each list shows its visible items, but that the flags may be wrong at the items at which off holds
+pub record ShownBut (ns : List Node) (off : Element → OpId → Bool) : Type 0 where
+  -- the flags as they are
+  pub flag : Element → OpId → Bool
+  pub flagged : (l : Element) → visible_of (node_at ns l) ≡ filter (flag l) (order_of (node_at ns l))
+  pub right : (l : Element) (a : OpId) → off l a ≡ false → flag l a ≡ is_any ((context ns).presence (Item l a))
+  pub absent : (l : Element) (a : OpId) → number ns (Item l a) ≡ None → flag l a ≡ false
+
+-- the same nodes, but for the flags of their items
+pub record SameButFlags (ns ms : List Node) : Type 0 where
+  pub count : length ns ≡ length ms
+  pub view : SameView ns ms
+  pub beside : (table : List ℕ) → AreBeside table ns → AreBeside table ms
+
+-- the item a of l is on the way down to t, or stands beneath it
+abbrev pub is_near : Element → Element → OpId → Bool
+is_near t l a = is_under t (Item l a) || is_under l t

@@ -1,0 +1,191 @@
+//! Keeping what the lists show, once an operation was applied.
+
+ghost use Rattle.std.specs.Prelude.{◌≡◌, ◌<◌, ◌||◌, ℕ, Bool, Some, length, map, cond, slice_index_or, IfSome};
+ghost use Rattle.std.specs.List.{filter};
+ghost use Rattle.semantics.specs.Ids.{OpId as TheId, is_same_id};
+ghost use Rattle.semantics.specs.Elements.{Element, Item, EmptyMap, is_same, is_under};
+ghost use Rattle.semantics.specs.Operations.{Insert, slot_of, target_in};
+ghost use Rattle.semantics.specs.Paths.{ItemKey, child};
+ghost use Rattle.cursor.specs.Meanings.{hop_of};
+ghost use Rattle.operation.specs.Meanings.{mutation_of};
+ghost use Rattle.tree.specs.Nodes.{IsTree, child_number, links, number};
+ghost use Rattle.tree.specs.Shown.{AreShown, SameButFlags, ShownBut, is_near};
+ghost use Rattle.tree.specs.Writes.{end_of};
+
+use crate::answer::is_present;
+use crate::insert::{Slot, slot_of};
+use crate::node::{Node, NodeNumber, node_at, node_at_mut};
+use crate::walk::{child_of, count_fields, count_items, field_at, item_of};
+use columns::ListOrder;
+use cursor::{Hop, Place};
+use ids::OpId;
+use operation::{Mutation, Op};
+
+/// Shows an item, or hides it, if it is in the list. Binary search.
+fn set_flag(order: &mut ListOrder, id: &OpId, shown: bool)
+    ensures items { order.new.items ≡ order.old.items }
+    ensures visible { (f : TheId → Bool) → order.old.visible ≡ filter f order.old.items → order.new.visible ≡ filter (λ a. cond (is_same_id a id.now) shown (f a)) order.old.items }
+{
+    if order.contains(id) {
+        order.set_shown(id, shown);
+    }
+}
+
+/// Shows an item of a node's list if something stands at its node, and hides it if nothing does.
+fn show_item(nodes: &mut [Node], at: NodeNumber, id: &OpId, item: NodeNumber)
+    requires tree { IsTree nodes.old }
+    requires inside { at < length nodes.old }
+    requires item { child_number nodes.old at (ItemKey id.now) ≡ Some item }
+    ensures same { SameButFlags nodes.old nodes.new }
+    ensures shown { (e : Element) (off : Element → TheId → Bool) → number nodes.old e ≡ Some at → ShownBut nodes.old (λ l a. is_same (Item l a) (Item e id.now) || off l a) → ShownBut nodes.new off }
+{
+    let shown = is_present(nodes, item);
+    let node = node_at_mut(nodes, at);
+    set_flag(&mut node.order, id, shown);
+}
+
+/// The same for the item with this index among those that have a node. Returns the node's number.
+fn show_child(nodes: &mut [Node], at: NodeNumber, place: usize) -> NodeNumber
+    requires tree { IsTree nodes.old }
+    requires inside { at < length nodes.old }
+    requires place { place < length (links nodes.old at).1 }
+    ensures above { at < result }
+    ensures within { result < length nodes.old }
+    ensures same { SameButFlags nodes.old nodes.new }
+    ensures number { (e : Element) (d : TheId × ℕ) → number nodes.old e ≡ Some at → number nodes.old (Item e (slice_index_or (links nodes.old at).1 place d).0) ≡ Some result }
+    ensures shown { (e : Element) (off : Element → TheId → Bool) (d : TheId × ℕ) → number nodes.old e ≡ Some at → ShownBut nodes.old (λ l a. is_same (Item l a) (Item e (slice_index_or (links nodes.old at).1 place d).0) || off l a) → ShownBut nodes.new off }
+{
+    let (id, item) = node_at(nodes, at).items.at(place);
+    let item = NodeNumber::new(item);
+    show_item(nodes, at, &id, item);
+    item
+}
+
+/// The same for each item beneath a node, at any depth. Visits each node there once.
+fn show_below(nodes: &mut [Node], at: NodeNumber)
+    requires tree { IsTree nodes.old }
+    requires inside { at < length nodes.old }
+    ensures same { SameButFlags nodes.old nodes.new }
+    ensures shown { (e : Element) (off : Element → TheId → Bool) → number nodes.old e ≡ Some at → ShownBut nodes.old (λ l a. is_under l e || off l a) → ShownBut nodes.new off }
+{
+    let fields = count_fields(nodes, at);
+    'fields: for place in 0..fields {
+        let child = field_at(nodes, at, place);
+        show_below(nodes, child);
+    }
+    let items = count_items(nodes, at);
+    'items: for place in 0..items {
+        let child = show_child(nodes, at, place);
+        show_below(nodes, child);
+    }
+}
+
+/// Sets what the list shows of the item that a hop leads to.
+fn show_key(nodes: &mut [Node], at: NodeNumber, hop: &Hop, next: NodeNumber)
+    requires tree { IsTree nodes.old }
+    requires inside { at < length nodes.old }
+    requires next { child_number nodes.old at (hop_of hop.now) ≡ Some next }
+    ensures same { SameButFlags nodes.old nodes.new }
+    ensures shown { (e : Element) (off : Element → TheId → Bool) → number nodes.old e ≡ Some at → ShownBut nodes.old (λ l a. is_same (Item l a) (child e (hop_of hop.now)) || off l a) → ShownBut nodes.new off }
+{
+    match hop {
+        Hop::Field(_) => {}
+        Hop::Item(id) => show_item(nodes, at, id, next),
+    }
+}
+
+/// Goes one hop down, and sets what the list shows there. Returns the number of the node there, if there is one.
+fn show_hop(nodes: &mut [Node], at: NodeNumber, hop: &Hop) -> Option<NodeNumber>
+    requires tree { IsTree nodes.old }
+    requires inside { at < length nodes.old }
+    ensures same { SameButFlags nodes.old nodes.new }
+    ensures number { result ≡ child_number nodes.old at (hop_of hop.now) }
+    ensures shown { (e : Element) (off : Element → TheId → Bool) → number nodes.old e ≡ Some at → ShownBut nodes.old (λ l a. is_same (Item l a) (child e (hop_of hop.now)) || off l a) → ShownBut nodes.new off }
+{
+    let next = child_of(nodes, at, hop)?;
+    show_key(nodes, at, hop, next);
+    Some(next)
+}
+
+/// Goes down a path hop by hop, as far as there are nodes. Returns the number of the last, if all are there.
+fn show_path(nodes: &mut [Node], path: &[Hop]) -> Option<NodeNumber>
+    requires { IsTree nodes.old }
+    ensures same { SameButFlags nodes.old nodes.new }
+    ensures number { result ≡ number nodes.old (end_of (map hop_of path.now)) }
+    ensures inside { IfSome result (λ at. at < length nodes.new) }
+    ensures shown { (off : Element → TheId → Bool) → ShownBut nodes.old (λ l a. is_under (end_of (map hop_of path.now)) (Item l a) || off l a) → ShownBut nodes.new off }
+{
+    let mut at = NodeNumber::ROOT;
+    for hop in path {
+        match show_hop(nodes, at, hop) {
+            Some(next) => at = next,
+            None => return None,
+        }
+    }
+    Some(at)
+}
+
+/// Sets what the lists show on the way down a path, and beneath its end.
+fn show_at(nodes: &mut [Node], path: &[Hop])
+    requires { IsTree nodes.old }
+    ensures same { SameButFlags nodes.old nodes.new }
+    ensures shown { ShownBut nodes.old (is_near (end_of (map hop_of path.now))) → AreShown nodes.new }
+{
+    match show_path(nodes, path) {
+        Some(at) => show_below(nodes, at),
+        None => {}
+    }
+}
+
+/// Sets what the lists show at a new item of a node's list, and beneath it.
+fn show_entry(nodes: &mut [Node], at: NodeNumber, id: &OpId)
+    requires tree { IsTree nodes.old }
+    requires inside { at < length nodes.old }
+    ensures same { SameButFlags nodes.old nodes.new }
+    ensures shown { (e : Element) → number nodes.old e ≡ Some at → ShownBut nodes.old (λ l a. is_same (Item l a) (Item e id.now) || is_under l (Item e id.now)) → AreShown nodes.new }
+{
+    match item_of(nodes, at, id) {
+        Some(item) => {
+            show_item(nodes, at, id, item);
+            show_below(nodes, item);
+        }
+        None => {}
+    }
+}
+
+/// Sets what the lists show on the way to a new item of a list, and at it.
+fn show_new(nodes: &mut [Node], slot: &Slot<'_>, id: &OpId)
+    requires { IsTree nodes.old }
+    ensures same { SameButFlags nodes.old nodes.new }
+    ensures shown { ShownBut nodes.old (is_near (Item (end_of (map hop_of slot.now.list.now)) id.now)) → AreShown nodes.new }
+{
+    match show_path(nodes, slot.list) {
+        Some(at) => show_entry(nodes, at, id),
+        None => {}
+    }
+}
+
+/// The same for what an insert at this place puts in.
+fn show_insert(nodes: &mut [Node], place: &Place, id: &OpId)
+    requires { IsTree nodes.old }
+    ensures same { SameButFlags nodes.old nodes.new }
+    ensures shown { ShownBut nodes.old (is_near (target_in (slot_of (Insert EmptyMap) place.now) id.now place.now)) → AreShown nodes.new }
+{
+    match slot_of(place) {
+        Some(slot) => show_new(nodes, &slot, id),
+        None => show_at(nodes, place.hops()),
+    }
+}
+
+/// Sets what the lists show, after an operation was applied: on the way to its target, and beneath it.
+pub fn show(nodes: &mut [Node], op: &Op)
+    requires { IsTree nodes.old }
+    ensures same { SameButFlags nodes.old nodes.new }
+    ensures shown { ShownBut nodes.old (is_near (target_in (slot_of (mutation_of op.now.mutation) op.now.place) op.now.id op.now.place)) → AreShown nodes.new }
+{
+    match &op.mutation {
+        Mutation::Assign(_) => show_at(nodes, op.place.hops()),
+        Mutation::Insert(_) => show_insert(nodes, &op.place, &op.id),
+        Mutation::Delete => show_at(nodes, op.place.hops()),
+    }
+}
