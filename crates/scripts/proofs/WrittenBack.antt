@@ -10,7 +10,7 @@ use Rattle.semantics.specs.Making.{Command}
 use Rattle.semantics.specs.Questions.{Step, Get, Idx, Question, Values, Keys, Items as ItemsAt, Conflicts, AppliedVector}
 use Rattle.semantics.specs.Vectors.{Vector}
 use Rattle.semantics.specs.LegalAnswer.{Asked, OfDocument, Missing}
-use Rattle.semantics.specs.World.{WorldStep, Push, Take, Publish, Give, Whole, Poll, Ask, Learn, SayHello, AnswerHello, Deliver, CountDropped}
+use Rattle.semantics.specs.World.{WorldAct, WorldStep, step_by, Push, Take, Publish, Give, Whole, Poll, Ask, Learn, SayHello, AnswerHello, Deliver, CountDropped}
 use Rattle.serde_json.specs.Data.{Data, null, boolean, number, string, array, object, Items, no_items, item}
 use Rattle.serde_json.specs.View.{items_of}
 use Rattle.value.specs.Forms.{json_of, value_form}
@@ -148,19 +148,22 @@ question_in table d q h = let p = made_of (question_of table) (phrase_form d) q 
 -- ---- steps
 
 -- what the JSON of a step is, where it holds a command or a question
+abbrev IsWritten : Data → ℕ → WorldAct → Type 0
+IsWritten d e (Push c k) = d ≡ push_json e c k
+IsWritten d e (Ask t q) = d ≡ ask_json e t q
+IsWritten d e _ = ⊤
+
 abbrev HasJson : Data → WorldStep → Type 0
-HasJson d (Push e c k) = d ≡ push_json e c k
-HasJson d (Ask e t q) = d ≡ ask_json e t q
-HasJson d _ = ⊤
+HasJson d s = IsWritten d s.engine s.act
 
 push_in : (xs : Items) (s : WorldStep) → AreNormal xs → push_of xs ≡ Ok s → HasJson (worded (codes "push") xs) s
 push_in (item a (item b (item d no_items))) s normal h =
-    let e = made_of (λ e. and_then (λ c. and_then (λ k. Ok (Push e c k)) (command_form d)) (number_form b)) (number_form a) s h in
-    let c = made_of (λ c. and_then (λ k. Ok (Push e.0 c k)) (command_form d)) (number_form b) s e.2 in
-    let k = made_of (λ k. Ok (Push e.0 c.0 k)) (command_form d) s c.2 in
+    let e = made_of (λ e. and_then (λ c. and_then (λ k. Ok (step_by e (Push c k))) (command_form d)) (number_form b)) (number_form a) s h in
+    let c = made_of (λ c. and_then (λ k. Ok (step_by e.0 (Push c k))) (command_form d)) (number_form b) s e.2 in
+    let k = made_of (λ k. Ok (step_by e.0 (Push c.0 k))) (command_form d) s c.2 in
     let is : worded (codes "push") (item a (item b (item d no_items))) ≡ push_json e.0 c.0 k.0 =
     (λ i. worded (codes "push") (item (number_in a e.0 e.1 i) (item (number_in b c.0 c.1 i) (item (command_in d k.0 normal.1.1.0 k.1 i) no_items)))) in
-    subst (HasJson (worded (codes "push") (item a (item b (item d no_items))))) (same_ok (Push e.0 c.0 k.0) s k.2) is
+    subst (HasJson (worded (codes "push") (item a (item b (item d no_items))))) (same_ok (step_by e.0 (Push c.0 k.0)) s k.2) is
 push_in no_items s normal h = absurd (cc)
 push_in (item a no_items) s normal h = absurd (cc)
 push_in (item a (item b no_items)) s normal h = absurd (cc)
@@ -168,12 +171,12 @@ push_in (item a (item b (item d (item x xs)))) s normal h = absurd (cc)
 
 ask_in : (tables : List (List ℕ)) (xs : Items) (s : WorldStep) → ask_of tables xs ≡ Ok s → HasJson (worded (codes "ask") xs) s
 ask_in tables (item a (item b (item d no_items))) s h =
-    let e = made_of (λ e. and_then (λ t. and_then (λ q. Ok (Ask e t q)) (question_form (slice_get tables e) d)) (number_form b)) (number_form a) s h in
-    let t = made_of (λ t. and_then (λ q. Ok (Ask e.0 t q)) (question_form (slice_get tables e.0) d)) (number_form b) s e.2 in
-    let q = made_of (λ q. Ok (Ask e.0 t.0 q)) (question_form (slice_get tables e.0) d) s t.2 in
+    let e = made_of (λ e. and_then (λ t. and_then (λ q. Ok (step_by e (Ask t q))) (question_form (slice_get tables e) d)) (number_form b)) (number_form a) s h in
+    let t = made_of (λ t. and_then (λ q. Ok (step_by e.0 (Ask t q))) (question_form (slice_get tables e.0) d)) (number_form b) s e.2 in
+    let q = made_of (λ q. Ok (step_by e.0 (Ask t.0 q))) (question_form (slice_get tables e.0) d) s t.2 in
     let is : worded (codes "ask") (item a (item b (item d no_items))) ≡ ask_json e.0 t.0 q.0 =
     (λ i. worded (codes "ask") (item (number_in a e.0 e.1 i) (item (number_in b t.0 t.1 i) (item (question_in (slice_get tables e.0) d q.0 q.1 i) no_items)))) in
-    subst (HasJson (worded (codes "ask") (item a (item b (item d no_items))))) (same_ok (Ask e.0 t.0 q.0) s q.2) is
+    subst (HasJson (worded (codes "ask") (item a (item b (item d no_items))))) (same_ok (step_by e.0 (Ask t.0 q.0)) s q.2) is
 ask_in tables no_items s h = absurd (cc)
 ask_in tables (item a no_items) s h = absurd (cc)
 ask_in tables (item a (item b no_items)) s h = absurd (cc)
@@ -200,22 +203,22 @@ one_word d false r rest s first others h = others h
 
 engine_step_in : (d : Data) (p : List ℕ × Items) (s : WorldStep) → engine_step_of p ≡ Ok s → HasJson d s
 engine_step_in d p s =
-    one_word d (bytes_eq p.0 (codes "take")) _ _ s (other_in d Take (one_number p.1) s (λ e. tt))
-    (one_word d (bytes_eq p.0 (codes "publish")) _ _ s (other_in d Publish (one_number p.1) s (λ e. tt))
-    (one_word d (bytes_eq p.0 (codes "give")) _ _ s (other_in d Give (one_number p.1) s (λ e. tt))
-    (one_word d (bytes_eq p.0 (codes "step")) _ _ s (other_in d Whole (one_number p.1) s (λ e. tt))
-    (one_word d (bytes_eq p.0 (codes "dropped")) _ _ s (other_in d CountDropped (one_number p.1) s (λ e. tt)) (λ h. absurd (cc))))))
+    one_word d (bytes_eq p.0 (codes "take")) _ _ s (other_in d (λ e. step_by e Take) (one_number p.1) s (λ e. tt))
+    (one_word d (bytes_eq p.0 (codes "publish")) _ _ s (other_in d (λ e. step_by e Publish) (one_number p.1) s (λ e. tt))
+    (one_word d (bytes_eq p.0 (codes "give")) _ _ s (other_in d (λ e. step_by e Give) (one_number p.1) s (λ e. tt))
+    (one_word d (bytes_eq p.0 (codes "step")) _ _ s (other_in d (λ e. step_by e Whole) (one_number p.1) s (λ e. tt))
+    (one_word d (bytes_eq p.0 (codes "dropped")) _ _ s (other_in d (λ e. step_by e CountDropped) (one_number p.1) s (λ e. tt)) (λ h. absurd (cc))))))
 
 message_step_in : (d : Data) (p : List ℕ × Items) (s : WorldStep) → message_step_of p ≡ Ok s → HasJson d s
 message_step_in d p s =
-    one_word d (bytes_eq p.0 (codes "hello")) _ _ s (other_in d (λ (n : ℕ × ℕ). SayHello n.0 n.1) (two_numbers p.1) s (λ n. tt))
-    (one_word d (bytes_eq p.0 (codes "bundle")) _ _ s (other_in d (λ (n : ℕ × ℕ × ℕ). AnswerHello n.0 n.1 n.2) (three_numbers p.1) s (λ n. tt))
-    (one_word d (bytes_eq p.0 (codes "deliver")) _ _ s (other_in d (λ (n : ℕ × ℕ × ℕ). Deliver n.0 n.1 n.2) (three_numbers p.1) s (λ n. tt)) (engine_step_in d p s)))
+    one_word d (bytes_eq p.0 (codes "hello")) _ _ s (other_in d (λ (n : ℕ × ℕ). step_by n.0 (SayHello n.1)) (two_numbers p.1) s (λ n. tt))
+    (one_word d (bytes_eq p.0 (codes "bundle")) _ _ s (other_in d (λ (n : ℕ × ℕ × ℕ). step_by n.0 (AnswerHello n.1 n.2)) (three_numbers p.1) s (λ n. tt))
+    (one_word d (bytes_eq p.0 (codes "deliver")) _ _ s (other_in d (λ (n : ℕ × ℕ × ℕ). step_by n.0 (Deliver n.1 n.2)) (three_numbers p.1) s (λ n. tt)) (engine_step_in d p s)))
 
 numbered_step_in : (d : Data) (p : List ℕ × Items) (s : WorldStep) → numbered_step_of p ≡ Ok s → HasJson d s
 numbered_step_in d p s =
-    one_word d (bytes_eq p.0 (codes "poll")) _ _ s (other_in d (λ (n : ℕ × ℕ × ℕ). Poll n.0 n.1 n.2) (three_numbers p.1) s (λ n. tt))
-    (one_word d (bytes_eq p.0 (codes "learn")) _ _ s (other_in d (λ (n : ℕ × ℕ × ℕ × ℕ). Learn n.0 n.1 n.2 n.3) (four_numbers p.1) s (λ n. tt)) (message_step_in d p s))
+    one_word d (bytes_eq p.0 (codes "poll")) _ _ s (other_in d (λ (n : ℕ × ℕ × ℕ). step_by n.0 (Poll n.1 n.2)) (three_numbers p.1) s (λ n. tt))
+    (one_word d (bytes_eq p.0 (codes "learn")) _ _ s (other_in d (λ (n : ℕ × ℕ × ℕ × ℕ). step_by n.0 (Learn n.1 n.2 n.3)) (four_numbers p.1) s (λ n. tt)) (message_step_in d p s))
 
 step_in : (tables : List (List ℕ)) (d : Data) (s : WorldStep) → IsNormal d → step_form tables d ≡ Ok s → HasJson d s
 step_in tables d s normal h =
@@ -232,11 +235,11 @@ step_in tables d s normal h =
 
 -- ---- lines
 
-pub push_line_in : (tables : List (List ℕ)) (text : List ℕ) (e c : ℕ) (k : Command) → and_then (step_form tables) (json_form text) ≡ Ok (Push e c k) → json_form text ≡ Ok (push_json e c k)
-push_line_in tables text e c k h = let d = made_of (step_form tables) (json_form text) (Push e c k) h in d.1 ∙ ap Ok (step_in tables d.0 (Push e c k) (json_normal text d.0 d.1) d.2)
+pub push_line_in : (tables : List (List ℕ)) (text : List ℕ) (e c : ℕ) (k : Command) → and_then (step_form tables) (json_form text) ≡ Ok (step_by e (Push c k)) → json_form text ≡ Ok (push_json e c k)
+push_line_in tables text e c k h = let d = made_of (step_form tables) (json_form text) (step_by e (Push c k)) h in d.1 ∙ ap Ok (step_in tables d.0 (step_by e (Push c k)) (json_normal text d.0 d.1) d.2)
 
-pub ask_line_in : (tables : List (List ℕ)) (text : List ℕ) (e t : ℕ) (q : Asked) → and_then (step_form tables) (json_form text) ≡ Ok (Ask e t q) → json_form text ≡ Ok (ask_json e t q)
-ask_line_in tables text e t q h = let d = made_of (step_form tables) (json_form text) (Ask e t q) h in d.1 ∙ ap Ok (step_in tables d.0 (Ask e t q) (json_normal text d.0 d.1) d.2)
+pub ask_line_in : (tables : List (List ℕ)) (text : List ℕ) (e t : ℕ) (q : Asked) → and_then (step_form tables) (json_form text) ≡ Ok (step_by e (Ask t q)) → json_form text ≡ Ok (ask_json e t q)
+ask_line_in tables text e t q h = let d = made_of (step_form tables) (json_form text) (step_by e (Ask t q)) h in d.1 ∙ ap Ok (step_in tables d.0 (step_by e (Ask t q)) (json_normal text d.0 d.1) d.2)
 
 pub command_text_in : (text : List ℕ) (c : Command) → and_then command_form (json_form text) ≡ Ok c → json_form text ≡ Ok (command_json c)
 command_text_in text c h = let d = made_of command_form (json_form text) c h in d.1 ∙ ap Ok (command_in d.0 c (json_normal text d.0 d.1) d.2)

@@ -3,6 +3,7 @@ use Rattle.std.specs.Prelude.{ℕ, List, [], ◌∷◌, length, nat_lt, if◌the
 use Rattle.std.specs.Option.{option_map_or}
 use Rattle.ids.specs.declared.refusal.Refusal.{Refusal}
 use Rattle.ids.specs.declared.refusal.Refusal.TheVariants.{KeyTooLong}
+use Rattle.semantics.specs.Limits.{most_key_bytes}
 use Rattle.semantics.specs.Questions.{Step, Get, Idx}
 use Rattle.serde_json.specs.Data.{Data, Items, no_items, item}
 use Rattle.serde_json.specs.Find.{as_str}
@@ -10,7 +11,7 @@ use Rattle.wire.specs.Forms.{and_then, number_form, list_form}
 
 -- a step to the field with this key
 abbrev pub get_form : List ℕ → Result Step Refusal
-get_form key = if nat_lt 256 (length key) then Err KeyTooLong else Ok (Get key)
+get_form key = if nat_lt most_key_bytes (length key) then Err KeyTooLong else Ok (Get key)
 
 -- a text is a key, and a number the index of an item
 abbrev pub path_step_form : Data → Result Step Refusal

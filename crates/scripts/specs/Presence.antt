@@ -4,7 +4,7 @@ use Rattle.std.specs.Option.{option_map_or}
 use Rattle.ids.specs.Configurations.{Configuration}
 use Rattle.ids.specs.declared.refusal.Refusal.{Refusal}
 use Rattle.ids.specs.declared.refusal.Refusal.TheVariants.{BadLine}
-use Rattle.semantics.specs.World.{WorldStep, Push, Take, Publish, Give, Whole, Poll, Ask, Learn, SayHello, AnswerHello, Deliver, Lines, CountDropped}
+use Rattle.semantics.specs.World.{WorldAct, WorldStep, Push, Poll, Ask, Learn, SayHello, AnswerHello, Deliver, Lines}
 
 -- an engine of this number
 abbrev pub has_engine : List Configuration → ℕ → Bool
@@ -18,21 +18,21 @@ has_client engines e c = option_map_or (λ g. nat_lt c g.clients) (slice_get eng
 abbrev pub has_token : List Configuration → ℕ → ℕ → Bool
 has_token engines e t = option_map_or (λ g. nat_lt t (g.clients + g.readers)) (slice_get engines e) false
 
--- the step's engine is one of these, and its client and token are that engine's; a message need not be there
+-- the engine is one of these, and the client and the token that the act names are that engine's; a message need not be there
+abbrev pub act_is_there : List Configuration → ℕ → WorldAct → Bool
+act_is_there engines e (Push c _) = has_client engines e c
+act_is_there engines e (Poll c _) = has_client engines e c
+act_is_there engines e (Ask t _) = has_token engines e t
+act_is_there engines e (Learn t c _) = has_token engines e t && has_client engines e c
+act_is_there engines e (SayHello t) = has_token engines e t
+act_is_there engines e (AnswerHello t _) = has_token engines e t
+act_is_there engines e (Deliver c _) = has_client engines e c
+act_is_there engines e (Lines c _ _) = has_client engines e c
+act_is_there engines e _ = has_engine engines e
+
+-- all that the step names is there, but perhaps a message
 abbrev pub is_there : List Configuration → WorldStep → Bool
-is_there engines (Push e c _) = has_client engines e c
-is_there engines (Take e) = has_engine engines e
-is_there engines (Publish e) = has_engine engines e
-is_there engines (Give e) = has_engine engines e
-is_there engines (Whole e) = has_engine engines e
-is_there engines (Poll e c _) = has_client engines e c
-is_there engines (Ask e t _) = has_token engines e t
-is_there engines (Learn e t c _) = has_token engines e t && has_client engines e c
-is_there engines (SayHello e t) = has_token engines e t
-is_there engines (AnswerHello e t _) = has_token engines e t
-is_there engines (Deliver e c _) = has_client engines e c
-is_there engines (Lines e c _ _) = has_client engines e c
-is_there engines (CountDropped e) = has_engine engines e
+is_there engines s = act_is_there engines s.engine s.act
 
 -- the same step, unless something isn't there
 abbrev pub if_there : List Configuration → WorldStep → Result WorldStep Refusal

@@ -5,7 +5,7 @@ use Rattle.ids.specs.Configurations.{Configuration}
 use Rattle.ids.specs.Members.{in_order}
 use Rattle.ids.specs.declared.refusal.Refusal.{Refusal}
 use Rattle.ids.specs.declared.refusal.Refusal.TheVariants.{BadLine}
-use Rattle.semantics.specs.World.{WorldStep, Push, Ask, Lines}
+use Rattle.semantics.specs.World.{WorldStep, Push, Ask, Lines, step_by}
 use Rattle.serde_json.specs.Data.{Data, Items, no_items, item}
 use Rattle.wire.specs.Bundles.{Readable, readable}
 use Rattle.wire.specs.Forms.{and_then, json_form, number_form, phrase_form, text_form}
@@ -17,18 +17,18 @@ use Rattle.scripts.specs.Requests.{command_form, question_form}
 -- an engine, a client and a command
 abbrev pub push_of : Items → Result WorldStep Refusal
 push_of (item engine (item client (item command no_items))) =
-    and_then (λ e. and_then (λ c. and_then (λ k. Ok (Push e c k)) (command_form command)) (number_form client)) (number_form engine)
+    and_then (λ e. and_then (λ c. and_then (λ k. Ok (step_by e (Push c k))) (command_form command)) (number_form client)) (number_form engine)
 push_of _ = Err BadLine
 
 -- an engine, a token and a question, where the engines have these tables
 abbrev pub ask_of : List (List ℕ) → Items → Result WorldStep Refusal
 ask_of tables (item engine (item token (item question no_items))) =
-    and_then (λ e. and_then (λ t. and_then (λ q. Ok (Ask e t q)) (question_form (slice_get tables e) question)) (number_form token)) (number_form engine)
+    and_then (λ e. and_then (λ t. and_then (λ q. Ok (step_by e (Ask t q))) (question_form (slice_get tables e) question)) (number_form token)) (number_form engine)
 ask_of tables _ = Err BadLine
 
 -- a client receives what can be read of lines
 abbrev pub lines_step : ℕ → ℕ → Readable → WorldStep
-lines_step e c r = Lines e c r.operations r.stopped
+lines_step e c r = step_by e (Lines c r.operations r.stopped)
 
 -- an engine, a client and a text of any lines
 abbrev pub line_of : List (List ℕ) → Items → Result WorldStep Refusal

@@ -9,7 +9,7 @@ ghost use Rattle.scripts.specs.NumberedSteps.{engine_step_of, message_step_of, n
 use crate::numbers::{four_in, one_in, three_in, two_in};
 use ids::Refusal;
 use serde_json::Value;
-use world::WorldStep;
+use world::{WorldAct, WorldStep};
 
 /// The step of this word with these parts.
 pub fn numbered_step_in(word: &str, parts: &[Value]) -> Result<WorldStep, Refusal>
@@ -19,19 +19,20 @@ pub fn numbered_step_in(word: &str, parts: &[Value]) -> Result<WorldStep, Refusa
     match word {
         "poll" => {
             let (engine, client, serial) = three_in(parts)?;
-            Ok(WorldStep::Poll {
+            Ok(WorldStep {
                 engine,
-                client,
-                serial,
+                act: WorldAct::Poll { client, serial },
             })
         }
         "learn" => {
             let (engine, token, client, serial) = four_in(parts)?;
-            Ok(WorldStep::Learn {
+            Ok(WorldStep {
                 engine,
-                token,
-                client,
-                serial,
+                act: WorldAct::Learn {
+                    token,
+                    client,
+                    serial,
+                },
             })
         }
         _ => message_step_in(word, parts),
@@ -46,22 +47,25 @@ fn message_step_in(word: &str, parts: &[Value]) -> Result<WorldStep, Refusal>
     match word {
         "hello" => {
             let (engine, token) = two_in(parts)?;
-            Ok(WorldStep::Hello { engine, token })
+            Ok(WorldStep {
+                engine,
+                act: WorldAct::Hello { token },
+            })
         }
         "bundle" => {
             let (engine, token, message) = three_in(parts)?;
-            Ok(WorldStep::Bundle {
+            let message = message as usize;
+            Ok(WorldStep {
                 engine,
-                token,
-                message: message as usize,
+                act: WorldAct::Bundle { token, message },
             })
         }
         "deliver" => {
             let (engine, client, message) = three_in(parts)?;
-            Ok(WorldStep::Deliver {
+            let message = message as usize;
+            Ok(WorldStep {
                 engine,
-                client,
-                message: message as usize,
+                act: WorldAct::Deliver { client, message },
             })
         }
         _ => engine_step_in(word, parts),
@@ -74,20 +78,25 @@ fn engine_step_in(word: &str, parts: &[Value]) -> Result<WorldStep, Refusal>
     ensures beside { (tables : List (List ℕ)) → IfOk result (IsAskedBeside tables) }
 {
     match word {
-        "take" => Ok(WorldStep::Take {
+        "take" => Ok(WorldStep {
             engine: one_in(parts)?,
+            act: WorldAct::Take,
         }),
-        "publish" => Ok(WorldStep::Publish {
+        "publish" => Ok(WorldStep {
             engine: one_in(parts)?,
+            act: WorldAct::Publish,
         }),
-        "give" => Ok(WorldStep::Give {
+        "give" => Ok(WorldStep {
             engine: one_in(parts)?,
+            act: WorldAct::Give,
         }),
-        "step" => Ok(WorldStep::Step {
+        "step" => Ok(WorldStep {
             engine: one_in(parts)?,
+            act: WorldAct::Step,
         }),
-        "dropped" => Ok(WorldStep::Dropped {
+        "dropped" => Ok(WorldStep {
             engine: one_in(parts)?,
+            act: WorldAct::Dropped,
         }),
         _ => Err(Refusal::BadLine),
     }

@@ -5,31 +5,25 @@ ghost use Rattle.world.specs.Meanings.{step_of};
 ghost use Rattle.scripts.specs.Presence.{has_client as client_there, has_token as token_there, is_there as step_there};
 
 use ids::Config;
-use world::WorldStep;
+use world::{WorldAct, WorldStep};
 
 /// Whether a step's engine is one of these, and its client and token are that engine's. A message need not exist.
 pub fn is_there(step: &WorldStep, engines: &[Config]) -> bool
     ensures { (table : List ℕ) → result ≡ step_there engines.now (step_of table step.now) }
 {
-    match step {
-        WorldStep::Push { engine, client, .. }
-        | WorldStep::Poll { engine, client, .. }
-        | WorldStep::Deliver { engine, client, .. }
-        | WorldStep::Line { engine, client, .. } => has_client(engines, *engine, *client),
-        WorldStep::Take { engine }
-        | WorldStep::Publish { engine }
-        | WorldStep::Give { engine }
-        | WorldStep::Step { engine }
-        | WorldStep::Dropped { engine } => *engine < engines.len(),
-        WorldStep::Ask { engine, token, .. }
-        | WorldStep::Hello { engine, token }
-        | WorldStep::Bundle { engine, token, .. } => has_token(engines, *engine, *token),
-        WorldStep::Learn {
-            engine,
-            token,
-            client,
-            ..
-        } => { has_token(engines, *engine, *token) && has_client(engines, *engine, *client) }
+    let engine = step.engine;
+    match &step.act {
+        WorldAct::Push { client, .. }
+        | WorldAct::Poll { client, .. }
+        | WorldAct::Deliver { client, .. }
+        | WorldAct::Line { client, .. } => has_client(engines, engine, *client),
+        WorldAct::Ask { token, .. } | WorldAct::Hello { token } | WorldAct::Bundle { token, .. } =>
+            { has_token(engines, engine, *token) }
+        WorldAct::Learn { token, client, .. } => {
+            has_token(engines, engine, *token) && has_client(engines, engine, *client)
+        }
+        WorldAct::Take | WorldAct::Publish | WorldAct::Give | WorldAct::Step | WorldAct::Dropped =>
+            engine < engines.len(),
     }
 }
 

@@ -8,7 +8,7 @@ ghost use Rattle.semantics.specs.Operations.{Mutation as TheMutation};
 ghost use Rattle.semantics.specs.Questions.{AppliedVector, Step, Question as TheQuestion};
 ghost use Rattle.semantics.specs.LegalAnswer.{Asked, OfDocument};
 ghost use Rattle.semantics.specs.Making.{Command as TheCommand};
-ghost use Rattle.semantics.specs.World.{Push, Ask};
+ghost use Rattle.semantics.specs.World.{Push, Ask, step_by};
 ghost use Rattle.semantics.specs.Tables.{by_table};
 ghost use Rattle.value.specs.Meanings.{value_of};
 ghost use Rattle.operation.specs.Meanings.{command_of};
@@ -149,6 +149,6 @@ fn check_none(parts: &[Value]) -> Result<(), Refusal>
 pub fn what_is_read_is_written_alike()
     ensures command { (text : List ℕ) (c : TheCommand) → and_then command_form (json_form text) ≡ Ok c → json_form text ≡ Ok (command_json c) }
     ensures question { (table : Option (List ℕ)) (text : List ℕ) (q : Asked) → and_then (question_form table) (json_form text) ≡ Ok q → json_form text ≡ Ok (question_json q) }
-    ensures push { (tables : List (List ℕ)) (text : List ℕ) (e c : ℕ) (k : TheCommand) → and_then (step_form tables) (json_form text) ≡ Ok (Push e c k) → json_form text ≡ Ok (push_json e c k) }
-    ensures ask { (tables : List (List ℕ)) (text : List ℕ) (e t : ℕ) (q : Asked) → and_then (step_form tables) (json_form text) ≡ Ok (Ask e t q) → json_form text ≡ Ok (ask_json e t q) }
+    ensures push { (tables : List (List ℕ)) (text : List ℕ) (e c : ℕ) (k : TheCommand) → and_then (step_form tables) (json_form text) ≡ Ok (step_by e (Push c k)) → json_form text ≡ Ok (push_json e c k) }
+    ensures ask { (tables : List (List ℕ)) (text : List ℕ) (e t : ℕ) (q : Asked) → and_then (step_form tables) (json_form text) ≡ Ok (step_by e (Ask t q)) → json_form text ≡ Ok (ask_json e t q) }
 {}

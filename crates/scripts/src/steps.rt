@@ -15,7 +15,7 @@ use ids::{Config, Refusal};
 use serde_json::Value;
 use std::alloc::Global;
 use wire::{json_of, phrase_in, text_in};
-use world::{World, WorldStep};
+use world::{World, WorldAct, WorldStep};
 
 /// The step on a line, whose engine, client and token exist. The world is that of the engines.
 pub fn read_step(
@@ -60,10 +60,9 @@ fn push_in(alloc: Global, parts: &[Value]) -> Result<WorldStep, Refusal>
     let engine = place_in(engine)?;
     let client = place_in(client)?;
     let command = command_in(alloc, command)?;
-    Ok(WorldStep::Push {
+    Ok(WorldStep {
         engine,
-        client,
-        command,
+        act: WorldAct::Push { client, command },
     })
 }
 
@@ -78,10 +77,9 @@ fn ask_in(alloc: Global, parts: &[Value], world: &World) -> Result<WorldStep, Re
     let engine = place_in(engine)?;
     let token = place_in(token)?;
     let question = question_in(alloc, world.table(engine), question)?;
-    Ok(WorldStep::Ask {
+    Ok(WorldStep {
         engine,
-        token,
-        question,
+        act: WorldAct::Ask { token, question },
     })
 }
 
@@ -96,9 +94,8 @@ fn line_in(alloc: Global, parts: &[Value]) -> Result<WorldStep, Refusal>
     let engine = place_in(engine)?;
     let client = place_in(client)?;
     let text = Vec::from_slice(alloc, text_in(text)?.as_bytes())?;
-    Ok(WorldStep::Line {
+    Ok(WorldStep {
         engine,
-        client,
-        text,
+        act: WorldAct::Line { client, text },
     })
 }

@@ -9,7 +9,7 @@ use Rattle.semantics.specs.Engine.{Engine, Client, Cell, Given, Message, Hello, 
 use Rattle.semantics.specs.WriteSteps.{push, take_item, give, take_for, give_for, handle_all, whole_step}
 use Rattle.semantics.specs.ReadSteps.{cell_at, cell_under, poll_cell, poll, see, learn}
 use Rattle.semantics.specs.PeerSteps.{names_members, answer_hello, refusal_in, unless_refused, submit_all, receive_lines, before_stranger, stranger_fault, receive_message}
-use Rattle.semantics.specs.World.{opened_engine, World, opened, WorldStep, Push, Take, Publish, Give, Whole, Poll, Ask, Learn, SayHello, AnswerHello, Deliver, Lines, CountDropped, mover, engine_step, world_step, world_after}
+use Rattle.semantics.specs.World.{WorldAct, opened_engine, World, opened, WorldStep, Push, Take, Publish, Give, Whole, Poll, Ask, Learn, SayHello, AnswerHello, Deliver, Lines, CountDropped, engine_step, world_step, world_after}
 use Rattle.semantics.specs.WorldHistory.{IsEngineAfter, cells_of, HasAllSubmitted}
 use Rattle.semantics.proofs.SetElements.{get-set_same, get-set_other, get-set_cases}
 use Rattle.semantics.proofs.KeptSubmissions.{IsComplete, cells_in, complete_still, complete_taken, complete_published}
@@ -118,20 +118,20 @@ complete_message E c (Some (Bundle ss)) h =
 
 -- ---- each step
 
-complete_step : (ms : List Message) (w : WorldStep) (E : Engine) → IsComplete E → IsComplete (engine_step ms w E).engine
-complete_step ms (Push e c command) E h = complete_pushed E c (OfCommand command) h
-complete_step ms (Take e) E h = complete_taken E h
-complete_step ms (Publish e) E h = complete_published E h
-complete_step ms (Give e) E h = complete_given E h
-complete_step ms (Whole e) E h = complete_whole E h
-complete_step ms (Poll e c serial) E h = complete_polled E c serial h
-complete_step ms (Ask e t q) E h = complete_seen E t E.published h
-complete_step ms (Learn e t c serial) E h = complete_learnt E t c serial h
-complete_step ms (SayHello e t) E h = complete_seen E t E.published h
-complete_step ms (AnswerHello e t k) E h = complete_answered E t (length ms) (slice_get ms k) h
-complete_step ms (Deliver e c k) E h = complete_message E c (slice_get ms k) h
-complete_step ms (Lines e c ss bad) E h = complete_lines E c ss bad h
-complete_step ms (CountDropped e) E h = h
+complete_step : (ms : List Message) (w : WorldAct) (E : Engine) → IsComplete E → IsComplete (engine_step ms w E).engine
+complete_step ms (Push c command) E h = complete_pushed E c (OfCommand command) h
+complete_step ms Take E h = complete_taken E h
+complete_step ms Publish E h = complete_published E h
+complete_step ms Give E h = complete_given E h
+complete_step ms Whole E h = complete_whole E h
+complete_step ms (Poll c serial) E h = complete_polled E c serial h
+complete_step ms (Ask t q) E h = complete_seen E t E.published h
+complete_step ms (Learn t c serial) E h = complete_learnt E t c serial h
+complete_step ms (SayHello t) E h = complete_seen E t E.published h
+complete_step ms (AnswerHello t k) E h = complete_answered E t (length ms) (slice_get ms k) h
+complete_step ms (Deliver c k) E h = complete_message E c (slice_get ms k) h
+complete_step ms (Lines c ss bad) E h = complete_lines E c ss bad h
+complete_step ms CountDropped E h = h
 
 -- ---- every run
 
@@ -161,12 +161,12 @@ complete_opened (c ∷ cs) zero E h = (let is : opened_engine c ≡ E = cc in su
 complete_opened (c ∷ cs) (suc e) E h = complete_opened cs e E h
 
 world_complete : (W : World) (w : WorldStep) → AreComplete W → AreComplete (world_step W w).world
-world_complete W w h = at_engine (slice_get W.engines (mover w)) refl
+world_complete W w h = at_engine (slice_get W.engines w.engine) refl
   where
-    at_engine : (o : Option Engine) → slice_get W.engines (mover w) ≡ o → AreComplete (world_step W w).world
+    at_engine : (o : Option Engine) → slice_get W.engines w.engine ≡ o → AreComplete (world_step W w).world
     at_engine None e = rw e h
-    at_engine (Some E) e = rw e (λ d F i. elim (get-set_cases W.engines (mover w) d E (engine_step W.messages w E).engine F e i) [
-      | inl q ↦ subst IsComplete (sym q.1) (complete_step W.messages w E (h (mover w) E e))
+    at_engine (Some E) e = rw e (λ d F i. elim (get-set_cases W.engines w.engine d E (engine_step W.messages w.act E).engine F e i) [
+      | inl q ↦ subst IsComplete (sym q.1) (complete_step W.messages w.act E (h w.engine E e))
       | inr o ↦ h d F o
     ])
 

@@ -8,7 +8,7 @@ use Rattle.semantics.specs.Stamped.{Stamped}
 use Rattle.semantics.specs.Entries.{stamped_of}
 use Rattle.semantics.specs.OneWorld.{AreWithin, IsOfWorld, IsReplicaOf}
 use Rattle.semantics.specs.Engine.{Engine, Bundle}
-use Rattle.semantics.specs.World.{World, opened, WorldStep, mover, engine_step, sent_by, world_step, world_after}
+use Rattle.semantics.specs.World.{World, opened, WorldStep, engine_step, sent_by, world_step, world_after}
 use Rattle.semantics.specs.WorldHistory.{IsEngineAfter}
 use Rattle.semantics.specs.WorldExchange.{HaveOwnNumbers, is_of_lines, AreWithoutLines}
 use Rattle.semantics.proofs.SetElements.{get-set_same, get-set_other}
@@ -29,11 +29,11 @@ pub record IsFurther (Claim : List Operation → Engine → Type 0) (a : ℕ) (K
 
 -- ---- a step
 
-module _ (Claim : List Operation → Engine → Type 0) (kept : IsTracked Claim) (a : ℕ) (K : List Operation) (W : World) (w : WorldStep) (sound : IsSoundWorld W) (known : is_of_lines w ≡ false) (h : IsWorldOf K W)
+module _ (Claim : List Operation → Engine → Type 0) (kept : IsTracked Claim) (a : ℕ) (K : List Operation) (W : World) (w : WorldStep) (sound : IsSoundWorld W) (known : is_of_lines w.act ≡ false) (h : IsWorldOf K W)
     (claim : (A : Engine) → slice_get W.engines a ≡ Some A → Claim K A) where
   -- the claim, where it is on the engine that moves
   abbrev here : List Operation → Engine → Type 0
-  here L E = mover w ≡ a → Claim L E
+  here L E = w.engine ≡ a → Claim L E
 
   kept_here : IsTracked here
   kept_here = record {
@@ -43,27 +43,27 @@ module _ (Claim : List Operation → Engine → Type 0) (kept : IsTracked Claim)
     taken = λ L E F x u s i l c e. kept.taken L E F x u s i l (c e);
   }
 
-  module _ (E : Engine) (there : slice_get W.engines (mover w) ≡ Some E) where
+  module _ (E : Engine) (there : slice_get W.engines w.engine ≡ Some E) where
     abbrev moved : Engine
-    moved = (engine_step W.messages w E).engine
+    moved = (engine_step W.messages w.act E).engine
 
     abbrev engines : List Engine
-    engines = slice_set W.engines (mover w) moved
+    engines = slice_set W.engines w.engine moved
 
     gone_on : HasGoneOn here K E.replica.own moved
-    gone_on = kept_by_step (IsRequestOf K) (HasGoneOn here K E.replica.own) (kept_going here kept_here K E.replica.own) W.messages w E known (sound (mover w) E there)
+    gone_on = kept_by_step (IsRequestOf K) (HasGoneOn here K E.replica.own) (kept_going here kept_here K E.replica.own) W.messages w.act E known (sound w.engine E there)
         (λ command s e. cc) (λ k ss s is m t e. (let same : s ≡ t = cc in subst (IsOfWorld K) same (h.sent k ss s is m)))
-        (starts here K h.legal E (h.engines (mover w) E there) (λ e. claim E (sym (ap (slice_get W.engines) e) ∙ there)))
+        (starts here K h.legal E (h.engines w.engine E there) (λ e. claim E (sym (ap (slice_get W.engines) e) ∙ there)))
 
     -- the engine at an index is the one that moved, or the one that was there
-    placed : (d : ℕ) (D : Engine) → slice_get engines d ≡ Some D → ((d ≡ mover w) × (moved ≡ D)) ⊎ ((d ≡ mover w → ⊥) × (slice_get W.engines d ≡ Some D))
-    placed d D e = at_cases (cases_eq d (mover w))
+    placed : (d : ℕ) (D : Engine) → slice_get engines d ≡ Some D → ((d ≡ w.engine) × (moved ≡ D)) ⊎ ((d ≡ w.engine → ⊥) × (slice_get W.engines d ≡ Some D))
+    placed d D e = at_cases (cases_eq d w.engine)
       where
-        at_cases : ((d ≡ mover w) ⊎ (d ≡ mover w → ⊥)) → ((d ≡ mover w) × (moved ≡ D)) ⊎ ((d ≡ mover w → ⊥) × (slice_get W.engines d ≡ Some D))
+        at_cases : ((d ≡ w.engine) ⊎ (d ≡ w.engine → ⊥)) → ((d ≡ w.engine) × (moved ≡ D)) ⊎ ((d ≡ w.engine → ⊥) × (slice_get W.engines d ≡ Some D))
         at_cases (inl i) =
-            let set : slice_get engines d ≡ Some moved = ap (slice_get engines) i ∙ get-set_same W.engines (mover w) E moved there in
+            let set : slice_get engines d ≡ Some moved = ap (slice_get engines) i ∙ get-set_same W.engines w.engine E moved there in
             inl (i, cc)
-        at_cases (inr n) = inr (n, sym (get-set_other W.engines (mover w) d moved n) ∙ e)
+        at_cases (inr n) = inr (n, sym (get-set_other W.engines w.engine d moved n) ∙ e)
 
     -- it was there with the same own number
     was : (d : ℕ) (D : Engine) → slice_get engines d ≡ Some D → (X : Engine) × (slice_get W.engines d ≡ Some X) × (X.replica.own ≡ D.replica.own)
@@ -75,21 +75,21 @@ module _ (Claim : List Operation → Engine → Type 0) (kept : IsTracked Claim)
     engine_there : (d : ℕ) (D : Engine) → slice_get engines d ≡ Some D → IsEngineOf gone_on.world D
     engine_there d D e = elim (placed d D e) [
       | inl i ↦ subst (IsEngineOf gone_on.world) i.1 gone_on.engine
-      | inr n ↦ engine_beside E.replica.own K gone_on.world D (λ same. n.0 (sym (h.numbers (mover w) d E D there n.1 same))) gone_on.grown (h.engines d D n.1)
+      | inr n ↦ engine_beside E.replica.own K gone_on.world D (λ same. n.0 (sym (h.numbers w.engine d E D there n.1 same))) gone_on.grown (h.engines d D n.1)
     ]
 
-    sent_here : (k : ℕ) (ss : List Stamped) (s : Stamped) → slice_get (W.messages ++ sent_by W.messages w E) k ≡ Some (Bundle ss) → IsAmong s ss → IsOfWorld gone_on.world s
-    sent_here k ss s is m = of_grown K gone_on.world s gone_on.grown.within (elim (get-append_either W.messages (sent_by W.messages w E) k (Bundle ss) is) [
+    sent_here : (k : ℕ) (ss : List Stamped) (s : Stamped) → slice_get (W.messages ++ sent_by W.messages w.act E) k ≡ Some (Bundle ss) → IsAmong s ss → IsOfWorld gone_on.world s
+    sent_here k ss s is m = of_grown K gone_on.world s gone_on.grown.within (elim (get-append_either W.messages (sent_by W.messages w.act E) k (Bundle ss) is) [
       | inl e ↦ h.sent k ss s e m
-      | inr n ↦ (let r = (h.engines (mover w) E there).settled.world in record {
+      | inr n ↦ (let r = (h.engines w.engine E there).settled.world in record {
         history = stamped_of E.replica.entries;
         legal = entries_legal E.replica.own E.replica.entries r.running.history;
         within = r.within;
-        there = sent_there W.messages w E ss n s m;
+        there = sent_there W.messages w.act E ss n s m;
       })
     ])
 
-    further : IsFurther Claim a K (record { engines = engines; messages = W.messages ++ sent_by W.messages w E })
+    further : IsFurther Claim a K (record { engines = engines; messages = W.messages ++ sent_by W.messages w.act E })
     further = record {
       world = gone_on.world;
       within = gone_on.grown.within;
@@ -106,9 +106,9 @@ module _ (Claim : List Operation → Engine → Type 0) (kept : IsTracked Claim)
     }
 
   pub further_by_step : IsFurther Claim a K (world_step W w).world
-  further_by_step = at_engine (slice_get W.engines (mover w)) refl
+  further_by_step = at_engine (slice_get W.engines w.engine) refl
     where
-      at_engine : (o : Option Engine) → slice_get W.engines (mover w) ≡ o → IsFurther Claim a K (world_step W w).world
+      at_engine : (o : Option Engine) → slice_get W.engines w.engine ≡ o → IsFurther Claim a K (world_step W w).world
       at_engine None e = rw e (record { world = K; within = λ x m. m; is = h; claim = claim })
       at_engine (Some E) e = rw e (further E e)
 

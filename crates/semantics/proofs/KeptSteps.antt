@@ -9,7 +9,7 @@ use Rattle.semantics.specs.LegalAnswer.{Request, OfCommand, OfPeer}
 use Rattle.semantics.specs.Engine.{Engine, Client, Message, Hello, Bundle}
 use Rattle.semantics.specs.WriteSteps.{push, take_item, publish, give, take_for, give_for, handle_all, whole_step}
 use Rattle.semantics.specs.PeerSteps.{names_members, answer_hello, refusal_in, unless_refused, submit_all, receive_lines, before_stranger, stranger_fault, receive_message}
-use Rattle.semantics.specs.World.{WorldStep, Push, Take, Publish, Give, Whole, Poll, Ask, Learn, SayHello, AnswerHello, Deliver, Lines, CountDropped, engine_step}
+use Rattle.semantics.specs.World.{WorldAct, Push, Take, Publish, Give, Whole, Poll, Ask, Learn, SayHello, AnswerHello, Deliver, Lines, CountDropped, engine_step}
 use Rattle.semantics.specs.WorldExchange.{is_of_lines}
 use Rattle.semantics.proofs.SoundEngines.{IsSound}
 use Rattle.semantics.proofs.SoundSubmitting.{pushed}
@@ -82,18 +82,18 @@ module _ (P : Request → Type 0) (Claim : Engine → Type 0) (kept : IsKeptOn P
 
   -- ---- each step
 
-  pub kept_by_step : (ms : List Message) (w : WorldStep) (E : Engine) → is_of_lines w ≡ false → IsSound E → ((command : Command) → P (OfCommand command))
+  pub kept_by_step : (ms : List Message) (w : WorldAct) (E : Engine) → is_of_lines w ≡ false → IsSound E → ((command : Command) → P (OfCommand command))
       → ((k : ℕ) (ss : List Stamped) (s : Stamped) → slice_get ms k ≡ Some (Bundle ss) → IsAmong s ss → P (OfPeer s)) → Claim E → Claim (engine_step ms w E).engine
-  kept_by_step ms (Push e c command) E l s p q h = kept_by_push P Claim kept E c (OfCommand command) s (p command) h
-  kept_by_step ms (Take e) E l s p q h = kept_by_take P Claim kept E s h
-  kept_by_step ms (Publish e) E l s p q h = kept.still E (publish E).engine (published E s) (still_published E) h
-  kept_by_step ms (Give e) E l s p q h = kept.still E (give E).engine (answer_given E s) (still_given E) h
-  kept_by_step ms (Whole e) E l s p q h = kept_by_whole E s h
-  kept_by_step ms (Poll e c serial) E l s p q h = kept.still E (engine_step ms (Poll e c serial) E).engine (stepped ms (Poll e c serial) E s) (still_polled E c serial) h
-  kept_by_step ms (Ask e t x) E l s p q h = kept.still E (engine_step ms (Ask e t x) E).engine (stepped ms (Ask e t x) E s) (still_seen E t E.published) h
-  kept_by_step ms (Learn e t c serial) E l s p q h = kept.still E (engine_step ms (Learn e t c serial) E).engine (stepped ms (Learn e t c serial) E s) (still_learnt E t c serial) h
-  kept_by_step ms (SayHello e t) E l s p q h = kept.still E (engine_step ms (SayHello e t) E).engine (stepped ms (SayHello e t) E s) (still_seen E t E.published) h
-  kept_by_step ms (AnswerHello e t k) E l s p q h = kept.still E (engine_step ms (AnswerHello e t k) E).engine (stepped ms (AnswerHello e t k) E s) (still_answered E t (length ms) (slice_get ms k)) h
-  kept_by_step ms (Deliver e c k) E l s p q h = kept_by_message E c (slice_get ms k) s (λ ss x m n. q k ss x m n) h
-  kept_by_step ms (Lines e c ss bad) E l s p q h = cc
-  kept_by_step ms (CountDropped e) E l s p q h = h
+  kept_by_step ms (Push c command) E l s p q h = kept_by_push P Claim kept E c (OfCommand command) s (p command) h
+  kept_by_step ms Take E l s p q h = kept_by_take P Claim kept E s h
+  kept_by_step ms Publish E l s p q h = kept.still E (publish E).engine (published E s) (still_published E) h
+  kept_by_step ms Give E l s p q h = kept.still E (give E).engine (answer_given E s) (still_given E) h
+  kept_by_step ms Whole E l s p q h = kept_by_whole E s h
+  kept_by_step ms (Poll c serial) E l s p q h = kept.still E (engine_step ms (Poll c serial) E).engine (stepped ms (Poll c serial) E s) (still_polled E c serial) h
+  kept_by_step ms (Ask t x) E l s p q h = kept.still E (engine_step ms (Ask t x) E).engine (stepped ms (Ask t x) E s) (still_seen E t E.published) h
+  kept_by_step ms (Learn t c serial) E l s p q h = kept.still E (engine_step ms (Learn t c serial) E).engine (stepped ms (Learn t c serial) E s) (still_learnt E t c serial) h
+  kept_by_step ms (SayHello t) E l s p q h = kept.still E (engine_step ms (SayHello t) E).engine (stepped ms (SayHello t) E s) (still_seen E t E.published) h
+  kept_by_step ms (AnswerHello t k) E l s p q h = kept.still E (engine_step ms (AnswerHello t k) E).engine (stepped ms (AnswerHello t k) E s) (still_answered E t (length ms) (slice_get ms k)) h
+  kept_by_step ms (Deliver c k) E l s p q h = kept_by_message E c (slice_get ms k) s (λ ss x m n. q k ss x m n) h
+  kept_by_step ms (Lines c ss bad) E l s p q h = cc
+  kept_by_step ms CountDropped E l s p q h = h

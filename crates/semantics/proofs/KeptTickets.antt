@@ -10,7 +10,7 @@ use Rattle.semantics.specs.LegalAnswer.{Request, OfCommand, OfPeer, Submitted}
 use Rattle.semantics.specs.Engine.{Engine, Client, Ticket, Received}
 use Rattle.semantics.specs.WriteSteps.{next_item, with_cell, submit, push}
 use Rattle.semantics.specs.PeerSteps.{Receipt, unless_refused, submit_all, receive_lines}
-use Rattle.semantics.specs.World.{World, WorldStep, Push, opened, world_step, world_after}
+use Rattle.semantics.specs.World.{World, WorldStep, Push, opened, world_step, world_after, step_by}
 use Rattle.semantics.specs.WorldHistory.{IsEngineAfter, WasSubmitted}
 use Rattle.semantics.proofs.SetElements.{get-set_same}
 use Rattle.semantics.proofs.ClientCells.{newest_cell}
@@ -69,16 +69,16 @@ ticketed E c request serial h = at_client (slice_get E.clients c) refl
 -- What got a ticket at a step of a run stays under its serial in all that follows.
 pub ticket_kept : (cs : List Configuration) (steps more : List WorldStep) (e c : ℕ) (command : Command) (serial : ℕ) (E F : Engine)
     → IsEngineAfter cs steps e E → (push E c (OfCommand command)).reply ≡ Ticket serial
-    → IsEngineAfter cs (steps ++ Push e c command ∷ more) e F
+    → IsEngineAfter cs (steps ++ step_by e (Push c command) ∷ more) e F
     → (k : Client) × (slice_get E.clients c ≡ Some k) × WasSubmitted F c serial (next_item c k (OfCommand command))
 ticket_kept cs steps more e c command serial E F there ticket later =
     let W : World = world_after (opened cs) steps in
     let t = ticketed E c (OfCommand command) serial ticket in
     let G : Engine = (push E c (OfCommand command)).engine in
-    let after : slice_get (world_step W (Push e c command)).world.engines e ≡ Some G = rw there (get-set_same W.engines e E G there) in
-    let sound = sound_step W (Push e c command) (sound_after (opened cs) steps (sound_opened cs)) in
-    let grown = grown_after (world_step W (Push e c command)).world more sound e G F after
-    (subst (λ (X : World). slice_get X.engines e ≡ Some F) (after_more (opened cs) steps (Push e c command ∷ more)) later) in
+    let after : slice_get (world_step W (step_by e (Push c command))).world.engines e ≡ Some G = rw there (get-set_same W.engines e E G there) in
+    let sound = sound_step W (step_by e (Push c command)) (sound_after (opened cs) steps (sound_opened cs)) in
+    let grown = grown_after (world_step W (step_by e (Push c command))).world more sound e G F after
+    (subst (λ (X : World). slice_get X.engines e ≡ Some F) (after_more (opened cs) steps (step_by e (Push c command) ∷ more)) later) in
     (t.0, t.1, grown.submitted c serial (next_item c t.0 (OfCommand command)) t.3)
 
 -- ---- a receipt

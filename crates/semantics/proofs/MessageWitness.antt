@@ -11,7 +11,7 @@ use Rattle.semantics.specs.Engine.{Engine, Bundle, published_entries}
 use Rattle.semantics.specs.WriteSteps.{push, take_item, whole_step}
 use Rattle.semantics.specs.ReadSteps.{see_published}
 use Rattle.semantics.specs.PeerSteps.{lacked, receive_message}
-use Rattle.semantics.specs.World.{opened_engine, WorldStep, Push, Take, Whole, SayHello, AnswerHello, Deliver}
+use Rattle.semantics.specs.World.{opened_engine, WorldStep, Push, Take, Whole, SayHello, AnswerHello, Deliver, step_by}
 use Rattle.semantics.specs.WorldExchange.{HaveOwnNumbers, is_of_lines, AreWithoutLines, IsExchange, IsHandledBelow, IsAppliedUnlessFull}
 use Rattle.semantics.proofs.AmongLists.{all_pass}
 use Rattle.semantics.proofs.WholeExchanges.{messages_complete}
@@ -25,10 +25,10 @@ abbrev both : List Configuration
 both = configuration 1 ∷ configuration 2 ∷ []
 
 abbrev writes : WorldStep
-writes = Push 0 0 (assign (Get (codes "a") ∷ []) (whole 1))
+writes = step_by 0 (Push 0 (assign (Get (codes "a") ∷ []) (whole 1)))
 
 abbrev steps : List WorldStep
-steps = writes ∷ Whole 0 ∷ SayHello 1 0 ∷ AnswerHello 0 0 0 ∷ Deliver 1 0 1 ∷ Take 1 ∷ []
+steps = writes ∷ step_by 0 Whole ∷ step_by 1 (SayHello 0) ∷ step_by 0 (AnswerHello 0 0) ∷ step_by 1 (Deliver 0 1) ∷ step_by 1 Take ∷ []
 
 -- the engine that wrote, and the other one in the end
 abbrev writer : Engine
@@ -52,7 +52,7 @@ own_numbers (suc (suc d)) e b c h k f = cc
 own_numbers d (suc (suc e)) b c h k f = cc
 
 without_lines : AreWithoutLines steps
-without_lines s m = false_from_not (is_of_lines s) (all_pass (λ x. not (is_of_lines x)) steps s refl m)
+without_lines s m = false_from_not (is_of_lines s.act) (all_pass (λ x. not (is_of_lines x.act)) steps s refl m)
   where
     false_from_not : (b : Bool) → not b ≡ true → b ≡ false
     false_from_not true e = sym e
@@ -60,10 +60,10 @@ without_lines s m = false_from_not (is_of_lines s) (all_pass (λ x. not (is_of_l
 
 exchange : IsExchange both steps 1 0 0 1 2 (published_entries writer)
 exchange = record {
-  before = writes ∷ Whole 0 ∷ [];
+  before = writes ∷ step_by 0 Whole ∷ [];
   between = [];
   later = [];
-  after = Take 1 ∷ [];
+  after = step_by 1 Take ∷ [];
   t = 0;
   h = 0;
   vector = [];

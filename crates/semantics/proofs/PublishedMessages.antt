@@ -7,7 +7,7 @@ use Rattle.semantics.specs.Stamped.{Stamped}
 use Rattle.semantics.specs.Entries.{applied, stamped_of, missing}
 use Rattle.semantics.specs.Engine.{Engine, Message, Hello, Bundle, published_entries}
 use Rattle.semantics.specs.PeerSteps.{answer_sent, lacked, names_members}
-use Rattle.semantics.specs.World.{WorldStep, Push, Take, Publish, Give, Whole, Poll, Ask, Learn, SayHello, AnswerHello, Deliver, Lines, CountDropped, sent_by}
+use Rattle.semantics.specs.World.{WorldAct, Push, Take, Publish, Give, Whole, Poll, Ask, Learn, SayHello, AnswerHello, Deliver, Lines, CountDropped, sent_by}
 use Rattle.semantics.proofs.AmongLists.{in_reverse, in_filter}
 
 -- a hello of the vector of what is published, or a bundle of published operations
@@ -28,24 +28,24 @@ answer_published E (Some (Hello v)) m h = at_test (names_members E v) h
     at_test true (inr n) = absurd n
     at_test false n = absurd n
 
-sent_published : (ms : List Message) (step : WorldStep) (E : Engine) (m : Message) → IsAmong m (sent_by ms step E) → IsPublished E m
-sent_published ms (SayHello e t) E m (inl h) = subst (IsPublished E) (sym h) refl
-sent_published ms (SayHello e t) E m (inr n) = absurd n
-sent_published ms (AnswerHello e t k) E m h = answer_published E (slice_get ms k) m h
-sent_published ms (Push e c command) E m h = absurd h
-sent_published ms (Take e) E m h = absurd h
-sent_published ms (Publish e) E m h = absurd h
-sent_published ms (Give e) E m h = absurd h
-sent_published ms (Whole e) E m h = absurd h
-sent_published ms (Poll e c serial) E m h = absurd h
-sent_published ms (Ask e t q) E m h = absurd h
-sent_published ms (Learn e t c serial) E m h = absurd h
-sent_published ms (Deliver e c k) E m h = absurd h
-sent_published ms (Lines e c ss bad) E m h = absurd h
-sent_published ms (CountDropped e) E m h = absurd h
+sent_published : (ms : List Message) (act : WorldAct) (E : Engine) (m : Message) → IsAmong m (sent_by ms act E) → IsPublished E m
+sent_published ms (SayHello t) E m (inl h) = subst (IsPublished E) (sym h) refl
+sent_published ms (SayHello t) E m (inr n) = absurd n
+sent_published ms (AnswerHello t k) E m h = answer_published E (slice_get ms k) m h
+sent_published ms (Push c command) E m h = absurd h
+sent_published ms Take E m h = absurd h
+sent_published ms Publish E m h = absurd h
+sent_published ms Give E m h = absurd h
+sent_published ms Whole E m h = absurd h
+sent_published ms (Poll c serial) E m h = absurd h
+sent_published ms (Ask t q) E m h = absurd h
+sent_published ms (Learn t c serial) E m h = absurd h
+sent_published ms (Deliver c k) E m h = absurd h
+sent_published ms (Lines c ss bad) E m h = absurd h
+sent_published ms CountDropped E m h = absurd h
 
-pub hello_published : (ms : List Message) (step : WorldStep) (E : Engine) (v : Vector) → IsAmong (Hello v) (sent_by ms step E) → v ≡ vector_of (applied (published_entries E))
-hello_published ms step E v m = sent_published ms step E (Hello v) m
+pub hello_published : (ms : List Message) (act : WorldAct) (E : Engine) (v : Vector) → IsAmong (Hello v) (sent_by ms act E) → v ≡ vector_of (applied (published_entries E))
+hello_published ms act E v m = sent_published ms act E (Hello v) m
 
-pub bundle_published : (ms : List Message) (step : WorldStep) (E : Engine) (ss : List Stamped) → IsAmong (Bundle ss) (sent_by ms step E) → (s : Stamped) → IsAmong s ss → IsAmong s (stamped_of (published_entries E))
-bundle_published ms step E ss m = sent_published ms step E (Bundle ss) m
+pub bundle_published : (ms : List Message) (act : WorldAct) (E : Engine) (ss : List Stamped) → IsAmong (Bundle ss) (sent_by ms act E) → (s : Stamped) → IsAmong s ss → IsAmong s (stamped_of (published_entries E))
+bundle_published ms act E ss m = sent_published ms act E (Bundle ss) m

@@ -7,7 +7,7 @@ use Rattle.semantics.specs.Entries.{Entry, stamped_of, applied, missing}
 use Rattle.semantics.specs.OneWorld.{AreWithin}
 use Rattle.semantics.specs.Engine.{Engine, Message, Hello, Bundle, published_entries}
 use Rattle.semantics.specs.PeerSteps.{names_members, lacked, answer_sent}
-use Rattle.semantics.specs.World.{WorldStep, Push, Take, Publish, Give, Whole, Poll, Ask, Learn, SayHello, AnswerHello, Deliver, Lines, CountDropped, sent_by}
+use Rattle.semantics.specs.World.{WorldAct, Push, Take, Publish, Give, Whole, Poll, Ask, Learn, SayHello, AnswerHello, Deliver, Lines, CountDropped, sent_by}
 use Rattle.semantics.specs.WorldHistory.{BeginsWith}
 use Rattle.semantics.proofs.Beginnings.{begins_first}
 use Rattle.semantics.proofs.AmongLists.{in_reverse, in_filter}
@@ -50,21 +50,21 @@ answer_there E (Some (Hello v)) ss n s m = at_test (names_members E v) n
     at_test false k = absurd k
 
 -- An operation of a bundle stands in the history of the engine that sends it.
-pub sent_there : (ms : List Message) (w : WorldStep) (E : Engine) (ss : List Stamped) → IsAmong (Bundle ss) (sent_by ms w E) → (s : Stamped) → IsAmong s ss → IsAmong s (stamped_of E.replica.entries)
-sent_there ms (SayHello e t) E ss (inl q) s m = cc
-sent_there ms (SayHello e t) E ss (inr n) s m = absurd n
-sent_there ms (AnswerHello e t k) E ss n s m = answer_there E (slice_get ms k) ss n s m
-sent_there ms (Push e c command) E ss n s m = absurd n
-sent_there ms (Take e) E ss n s m = absurd n
-sent_there ms (Publish e) E ss n s m = absurd n
-sent_there ms (Give e) E ss n s m = absurd n
-sent_there ms (Whole e) E ss n s m = absurd n
-sent_there ms (Poll e c serial) E ss n s m = absurd n
-sent_there ms (Ask e t q) E ss n s m = absurd n
-sent_there ms (Learn e t c serial) E ss n s m = absurd n
-sent_there ms (Deliver e c k) E ss n s m = absurd n
-sent_there ms (Lines e c ts bad) E ss n s m = absurd n
-sent_there ms (CountDropped e) E ss n s m = absurd n
+pub sent_there : (ms : List Message) (w : WorldAct) (E : Engine) (ss : List Stamped) → IsAmong (Bundle ss) (sent_by ms w E) → (s : Stamped) → IsAmong s ss → IsAmong s (stamped_of E.replica.entries)
+sent_there ms (SayHello t) E ss (inl q) s m = cc
+sent_there ms (SayHello t) E ss (inr n) s m = absurd n
+sent_there ms (AnswerHello t k) E ss n s m = answer_there E (slice_get ms k) ss n s m
+sent_there ms (Push c command) E ss n s m = absurd n
+sent_there ms Take E ss n s m = absurd n
+sent_there ms Publish E ss n s m = absurd n
+sent_there ms Give E ss n s m = absurd n
+sent_there ms Whole E ss n s m = absurd n
+sent_there ms (Poll c serial) E ss n s m = absurd n
+sent_there ms (Ask t q) E ss n s m = absurd n
+sent_there ms (Learn t c serial) E ss n s m = absurd n
+sent_there ms (Deliver c k) E ss n s m = absurd n
+sent_there ms (Lines c ts bad) E ss n s m = absurd n
+sent_there ms CountDropped E ss n s m = absurd n
 
 -- a message was there before, or it was just sent
 pub get-append_either : {X : Type 0} (xs ys : List X) (k : ℕ) (x : X) → slice_get (xs ++ ys) k ≡ Some x → (slice_get xs k ≡ Some x) ⊎ IsAmong x ys

@@ -9,7 +9,7 @@ use Rattle.semantics.specs.Entries.{stamped_of}
 use Rattle.semantics.specs.LegalAnswer.{Made, OfDocument, Answered}
 use Rattle.semantics.specs.Replica.{Replica}
 use Rattle.semantics.specs.Engine.{StepReply, Ticket, Published, Unanswered, Replied, Read}
-use Rattle.semantics.specs.World.{WorldStep, Push, Whole, Poll, Ask, opened, replies_of}
+use Rattle.semantics.specs.World.{WorldStep, Push, Whole, Poll, Ask, opened, replies_of, step_by}
 use Rattle.semantics.proofs.ExampleWords.{text, assign, insert, field, sent, new, after_commands, shown, engine}
 
 abbrev pub shopping : List Step
@@ -52,22 +52,22 @@ shown_second = refl
 
 -- the world of one engine: five commands, a whole step of the writer, five polls, and what a reader reads
 abbrev reads : Question → WorldStep
-reads q = Ask 0 1 (OfDocument q)
+reads q = step_by 0 (Ask 1 (OfDocument q))
 
 abbrev steps : List WorldStep
 steps =
-    Push 0 0 (assign [] EmptyMap)
-    ∷ Push 0 0 (assign shopping EmptyList)
-    ∷ Push 0 0 (insert (nth 0) (text (codes "eggs")))
-    ∷ Push 0 0 (insert (nth 0) (text (codes "cheese")))
-    ∷ Push 0 0 (insert (nth 2) (text (codes "milk")))
-    ∷ Poll 0 0 5
-    ∷ Whole 0
-    ∷ Poll 0 0 1
-    ∷ Poll 0 0 2
-    ∷ Poll 0 0 3
-    ∷ Poll 0 0 4
-    ∷ Poll 0 0 5
+    step_by 0 (Push 0 (assign [] EmptyMap))
+    ∷ step_by 0 (Push 0 (assign shopping EmptyList))
+    ∷ step_by 0 (Push 0 (insert (nth 0) (text (codes "eggs"))))
+    ∷ step_by 0 (Push 0 (insert (nth 0) (text (codes "cheese"))))
+    ∷ step_by 0 (Push 0 (insert (nth 2) (text (codes "milk"))))
+    ∷ step_by 0 (Poll 0 5)
+    ∷ step_by 0 Whole
+    ∷ step_by 0 (Poll 0 1)
+    ∷ step_by 0 (Poll 0 2)
+    ∷ step_by 0 (Poll 0 3)
+    ∷ step_by 0 (Poll 0 4)
+    ∷ step_by 0 (Poll 0 5)
     ∷ reads (Keys [])
     ∷ reads (Items shopping)
     ∷ reads (Values (nth 1))

@@ -8,7 +8,7 @@ use Rattle.semantics.specs.Questions.{Step, Get, Values, ValuesAre}
 use Rattle.semantics.specs.Making.{Command}
 use Rattle.semantics.specs.LegalAnswer.{Made, Asked, OfDocument, Answered}
 use Rattle.semantics.specs.Engine.{StepReply, Ticket, Denied, Took, Published, Gave, Idle, Unanswered, Replied, Read}
-use Rattle.semantics.specs.World.{WorldStep, Push, Take, Publish, Give, Poll, Ask, opened, replies_of}
+use Rattle.semantics.specs.World.{WorldStep, Push, Take, Publish, Give, Poll, Ask, opened, replies_of, step_by}
 use Rattle.semantics.proofs.ExampleWords.{whole, assign}
 
 abbrev configuration : Configuration
@@ -25,23 +25,23 @@ values_of_a = OfDocument (Values a)
 
 abbrev steps : List WorldStep
 steps =
-    Push 0 0 (assign_a 1)
-    ∷ Push 0 1 (assign_a 2)
-    ∷ Take 0
-    ∷ Ask 0 0 values_of_a
-    ∷ Push 0 1 (assign_a 2)
-    ∷ Take 0
-    ∷ Give 0
-    ∷ Publish 0
-    ∷ Poll 0 0 1
-    ∷ Give 0
-    ∷ Poll 0 0 1
-    ∷ Ask 0 0 values_of_a
-    ∷ Poll 0 1 1
-    ∷ Poll 0 1 7
-    ∷ Give 0
-    ∷ Poll 0 1 1
-    ∷ Take 0
+    step_by 0 (Push 0 (assign_a 1))
+    ∷ step_by 0 (Push 1 (assign_a 2))
+    ∷ step_by 0 Take
+    ∷ step_by 0 (Ask 0 values_of_a)
+    ∷ step_by 0 (Push 1 (assign_a 2))
+    ∷ step_by 0 Take
+    ∷ step_by 0 Give
+    ∷ step_by 0 Publish
+    ∷ step_by 0 (Poll 0 1)
+    ∷ step_by 0 Give
+    ∷ step_by 0 (Poll 0 1)
+    ∷ step_by 0 (Ask 0 values_of_a)
+    ∷ step_by 0 (Poll 1 1)
+    ∷ step_by 0 (Poll 1 7)
+    ∷ step_by 0 Give
+    ∷ step_by 0 (Poll 1 1)
+    ∷ step_by 0 Take
     ∷ []
 
 -- nothing is answered before it is published, and no token sees what isn't published

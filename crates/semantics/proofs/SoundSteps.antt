@@ -3,7 +3,7 @@ use Rattle.std.proofs.Common.{ℕ, zero, suc, List, length, slice_get}
 use Rattle.semantics.specs.LegalAnswer.{OfCommand}
 use Rattle.semantics.specs.Engine.{Engine, Message}
 use Rattle.semantics.specs.WriteSteps.{take_item, give, take_for, give_for, handle_all, whole_step}
-use Rattle.semantics.specs.World.{WorldStep, Push, Take, Publish, Give, Whole, Poll, Ask, Learn, SayHello, AnswerHello, Deliver, Lines, CountDropped, engine_step}
+use Rattle.semantics.specs.World.{WorldAct, Push, Take, Publish, Give, Whole, Poll, Ask, Learn, SayHello, AnswerHello, Deliver, Lines, CountDropped, engine_step}
 use Rattle.semantics.proofs.SoundEngines.{IsSound, IsLater}
 use Rattle.semantics.proofs.SoundSeeing.{later_refl, later_trans, polled, asked, seen_all, learned}
 use Rattle.semantics.proofs.SoundSubmitting.{pushed}
@@ -34,17 +34,17 @@ whole E s =
     (later_trans (take_for E.batch E) (handle_all E) (whole_step E).engine shown all)
 
 -- Each step keeps its engine sound.
-pub stepped : (ms : List Message) (w : WorldStep) (E : Engine) → IsSound E → IsLater E (engine_step ms w E).engine
-stepped ms (Push e c command) E s = pushed E c (OfCommand command) s
-stepped ms (Take e) E s = took E s
-stepped ms (Publish e) E s = published E s
-stepped ms (Give e) E s = answer_given E s
-stepped ms (Whole e) E s = whole E s
-stepped ms (Poll e c serial) E s = polled E c serial s
-stepped ms (Ask e t q) E s = asked E t q s
-stepped ms (Learn e t c serial) E s = learned E t c serial s
-stepped ms (SayHello e t) E s = seen_all E t s
-stepped ms (AnswerHello e t k) E s = hello_answered E t (length ms) (slice_get ms k) s
-stepped ms (Deliver e c k) E s = message_received E c (slice_get ms k) s
-stepped ms (Lines e c ss bad) E s = lines_received E c ss bad s
-stepped ms (CountDropped e) E s = later_refl E s
+pub stepped : (ms : List Message) (w : WorldAct) (E : Engine) → IsSound E → IsLater E (engine_step ms w E).engine
+stepped ms (Push c command) E s = pushed E c (OfCommand command) s
+stepped ms Take E s = took E s
+stepped ms Publish E s = published E s
+stepped ms Give E s = answer_given E s
+stepped ms Whole E s = whole E s
+stepped ms (Poll c serial) E s = polled E c serial s
+stepped ms (Ask t q) E s = asked E t q s
+stepped ms (Learn t c serial) E s = learned E t c serial s
+stepped ms (SayHello t) E s = seen_all E t s
+stepped ms (AnswerHello t k) E s = hello_answered E t (length ms) (slice_get ms k) s
+stepped ms (Deliver c k) E s = message_received E c (slice_get ms k) s
+stepped ms (Lines c ss bad) E s = lines_received E c ss bad s
+stepped ms CountDropped E s = later_refl E s

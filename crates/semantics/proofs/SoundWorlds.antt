@@ -4,7 +4,7 @@ use Rattle.std.proofs.lemmas.Bool.{cases_eq}
 use Rattle.ids.specs.Configurations.{Configuration}
 use Rattle.semantics.specs.Engine.{Engine, Client, Cell}
 use Rattle.semantics.specs.ReadSteps.{cell_at}
-use Rattle.semantics.specs.World.{opened_engine, World, opened, WorldStep, mover, engine_step, world_step, world_after}
+use Rattle.semantics.specs.World.{opened_engine, World, opened, WorldStep, engine_step, world_step, world_after}
 use Rattle.semantics.specs.WorldHistory.{IsEngineAfter, HasGrown}
 use Rattle.semantics.proofs.SetElements.{get-set_same, get-set_other, get-set_cases}
 use Rattle.semantics.proofs.ClientCells.{cell_within}
@@ -57,12 +57,12 @@ sound_opened (c ∷ cs) (suc e) E h = sound_opened cs e E h
 -- ---- a step
 
 pub sound_step : (W : World) (w : WorldStep) → IsSoundWorld W → IsSoundWorld (world_step W w).world
-sound_step W w s = at_engine (slice_get W.engines (mover w)) refl
+sound_step W w s = at_engine (slice_get W.engines w.engine) refl
   where
-    at_engine : (o : Option Engine) → slice_get W.engines (mover w) ≡ o → IsSoundWorld (world_step W w).world
+    at_engine : (o : Option Engine) → slice_get W.engines w.engine ≡ o → IsSoundWorld (world_step W w).world
     at_engine None e = rw e s
-    at_engine (Some E) e = rw e (λ d F h. elim (get-set_cases W.engines (mover w) d E (engine_step W.messages w E).engine F e h) [
-      | inl q ↦ subst IsSound (sym q.1) (stepped W.messages w E (s (mover w) E e)).sound
+    at_engine (Some E) e = rw e (λ d F h. elim (get-set_cases W.engines w.engine d E (engine_step W.messages w.act E).engine F e h) [
+      | inl q ↦ subst IsSound (sym q.1) (stepped W.messages w.act E (s w.engine E e)).sound
       | inr o ↦ s d F o
     ])
 
@@ -75,21 +75,21 @@ sound_after W (w ∷ steps) s = sound_after (world_step W w).world steps (sound_
 -- an engine of a sound world is there after a step, and later
 later_step : (W : World) (w : WorldStep) → IsSoundWorld W → (e : ℕ) (E : Engine) → slice_get W.engines e ≡ Some E
     → (F : Engine) × (slice_get (world_step W w).world.engines e ≡ Some F) × IsLater E F
-later_step W w s e E h = at_engine (slice_get W.engines (mover w)) refl
+later_step W w s e E h = at_engine (slice_get W.engines w.engine) refl
   where
-    at_engine : (o : Option Engine) → slice_get W.engines (mover w) ≡ o → (F : Engine) × (slice_get (world_step W w).world.engines e ≡ Some F) × IsLater E F
+    at_engine : (o : Option Engine) → slice_get W.engines w.engine ≡ o → (F : Engine) × (slice_get (world_step W w).world.engines e ≡ Some F) × IsLater E F
     at_engine None q = rw q (E, h, later_refl E (s e E h))
-    at_engine (Some G) q = rw q (at_place (cases_eq e (mover w)))
+    at_engine (Some G) q = rw q (at_place (cases_eq e w.engine))
       where
-        at_place : ((e ≡ mover w) ⊎ (e ≡ mover w → ⊥)) → (F : Engine) × (slice_get (slice_set W.engines (mover w) (engine_step W.messages w G).engine) e ≡ Some F) × IsLater E F
+        at_place : ((e ≡ w.engine) ⊎ (e ≡ w.engine → ⊥)) → (F : Engine) × (slice_get (slice_set W.engines w.engine (engine_step W.messages w.act G).engine) e ≡ Some F) × IsLater E F
         at_place (inl i) =
             let there : slice_get W.engines e ≡ Some G = ap (slice_get W.engines) i ∙ q in
             let is : G ≡ E = cc in (
-              (engine_step W.messages w G).engine,
-              ap (slice_get (slice_set W.engines (mover w) (engine_step W.messages w G).engine)) i ∙ get-set_same W.engines (mover w) G (engine_step W.messages w G).engine q,
-              subst (λ K. IsLater K (engine_step W.messages w G).engine) is (stepped W.messages w G (s (mover w) G q)),
+              (engine_step W.messages w.act G).engine,
+              ap (slice_get (slice_set W.engines w.engine (engine_step W.messages w.act G).engine)) i ∙ get-set_same W.engines w.engine G (engine_step W.messages w.act G).engine q,
+              subst (λ K. IsLater K (engine_step W.messages w.act G).engine) is (stepped W.messages w.act G (s w.engine G q)),
             )
-        at_place (inr n) = (E, get-set_other W.engines (mover w) e (engine_step W.messages w G).engine n ∙ h, later_refl E (s e E h))
+        at_place (inr n) = (E, get-set_other W.engines w.engine e (engine_step W.messages w.act G).engine n ∙ h, later_refl E (s e E h))
 
 pub grown_after : (W : World) (steps : List WorldStep) → IsSoundWorld W → (e : ℕ) (E F : Engine) → slice_get W.engines e ≡ Some E → slice_get (world_after W steps).engines e ≡ Some F → HasGrown E F
 grown_after W [] s e E F h k = (let is : E ≡ F = cc in subst (HasGrown E) is (grown_refl E))

@@ -9,7 +9,7 @@ use Rattle.semantics.specs.Entries.{Entry, stamped_of}
 use Rattle.semantics.specs.Replica.{Replica, operations, IsRunning}
 use Rattle.semantics.specs.Delivery.{is_waiting}
 use Rattle.semantics.specs.Engine.{Engine, published_entries, SentBundle, Received}
-use Rattle.semantics.specs.World.{World, WorldStep, SayHello, AnswerHello, Deliver, opened, world_step, world_after}
+use Rattle.semantics.specs.World.{World, WorldStep, SayHello, AnswerHello, Deliver, opened, world_step, world_after, step_by}
 use Rattle.semantics.specs.WorldHistory.{IsEngineAfter}
 use Rattle.semantics.specs.WorldExchange.{HaveOwnNumbers, AreWithoutLines, IsExchange, IsHandledBelow, IsAppliedUnlessFull}
 use Rattle.semantics.proofs.Arriving.{waiting_one}
@@ -37,13 +37,13 @@ rest_known xs ys h s m = h s (among_right xs ys s m)
 module _ (cs : List Configuration) (steps : List WorldStep) (a b c first end : ℕ) (published : List Entry) (x : IsExchange cs steps a b c first end published) where
   -- the steps to the answer, from there to the receipt, and from there on
   abbrev asking : List WorldStep
-  asking = SayHello a x.t ∷ x.between
+  asking = step_by a (SayHello x.t) ∷ x.between
 
   abbrev answering : List WorldStep
-  answering = AnswerHello b x.u x.h ∷ x.later
+  answering = step_by b (AnswerHello x.u x.h) ∷ x.later
 
   abbrev receiving : List WorldStep
-  receiving = Deliver a c x.k ∷ x.after
+  receiving = step_by a (Deliver c x.k) ∷ x.after
 
   abbrev start : World
   start = world_after (opened cs) x.before
@@ -67,8 +67,8 @@ module _ (cs : List Configuration) (steps : List WorldStep) (a b c first end : �
       let through = exchanged_through world.0 start x.between x.later x.after (sound_after (opened cs) x.before (sound_opened cs)) world.2 a b c x.t x.h x.u x.k x.sent first x.count x.vector x.answerer
       (rest_known x.before asking to_second) (rest_known (x.before ++ asking) answering to_third) (rest_known (x.before ++ asking ++ answering) receiving all) x.hello
       (subst (λ (W : World). slice_get W.engines b ≡ Some x.answerer) to_answer x.there)
-      (subst (λ (W : World). (world_step W (AnswerHello b x.u x.h)).reply ≡ SentBundle x.k x.sent) to_answer x.answer)
-      (subst (λ (W : World). (world_step W (Deliver a c x.k)).reply ≡ Received first x.count None) to_receipt x.receipt)
+      (subst (λ (W : World). (world_step W (step_by b (AnswerHello x.u x.h))).reply ≡ SentBundle x.k x.sent) to_answer x.answer)
+      (subst (λ (W : World). (world_step W (step_by a (Deliver c x.k))).reply ≡ Received first x.count None) to_receipt x.receipt)
       A (subst (λ (W : World). slice_get W.engines a ≡ Some A) to_end e) (subst (IsHandledBelow A c) x.last handled) in
       subst (λ (G : List Entry). AllAre (HasArrived c first end A) (stamped_of G)) x.had (subst (λ n. AllAre (HasArrived c first n A) (stamped_of (published_entries x.answerer))) (sym x.last) through)
 

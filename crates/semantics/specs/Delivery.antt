@@ -1,9 +1,10 @@
 -- The delivery of an operation to a replica.
-use Rattle.std.specs.Prelude.{Bool, cond, ◌||◌, ◌==◌, nat_lt, List, [], ◌∷◌, length, Option, Some, None}
+use Rattle.std.specs.Prelude.{◌-◌, Bool, cond, ◌||◌, ◌==◌, nat_lt, List, [], ◌∷◌, length, Option, Some, None}
 use Rattle.std.specs.List.{list_any}
 use Rattle.semantics.specs.Ids.{OpId, is_same_id, is_smaller_id}
 use Rattle.ids.specs.declared.refusal.Refusal.{Refusal}
 use Rattle.ids.specs.declared.refusal.Refusal.TheVariants.{HistoryFull, InboxFull, OwnName}
+use Rattle.semantics.specs.Limits.{most_waiting}
 use Rattle.semantics.specs.LegalHistory.{has_id}
 use Rattle.semantics.specs.Stamped.{Stamped}
 use Rattle.semantics.specs.Faults.{alone_fault, is_ready, fault_of}
@@ -34,8 +35,8 @@ kept_unless (Some f) = NotKept f
 -- the answer to what is ready, for which one more slot is held, and to what is not
 abbrev pub room_answer : Replica → Stamped → Delivered
 room_answer r s = cond (is_ready (operations r) s)
-    (cond (nat_lt 4096 (length r.waiting)) (NotKept InboxFull) (kept_unless (fault_of (stamped_of r.entries) s)))
-    (cond (nat_lt 4095 (length r.waiting)) (NotKept InboxFull) Kept)
+    (cond (nat_lt most_waiting (length r.waiting)) (NotKept InboxFull) (kept_unless (fault_of (stamped_of r.entries) s)))
+    (cond (nat_lt (most_waiting - 1) (length r.waiting)) (NotKept InboxFull) Kept)
 
 -- the answer after the tests that need no history
 abbrev pub answer_after : Replica → Stamped → Option Refusal → Delivered

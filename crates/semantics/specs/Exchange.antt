@@ -1,6 +1,7 @@
 -- What a whole exchange needs, and what it leaves.
 use Rattle.std.specs.Prelude.{◌≡◌, ◌⊎◌, ℕ, ◌+◌, ◌≤◌, not, ◌||◌, IsTrue, List, [], length}
 use Rattle.std.specs.List.{filter}
+use Rattle.semantics.specs.Limits.{most_entries, most_waiting}
 use Rattle.semantics.specs.Ids.{OpId}
 use Rattle.semantics.specs.Operations.{Operation}
 use Rattle.semantics.specs.LegalHistory.{IsAmong, has_id}
@@ -28,7 +29,7 @@ pub record CanReceive (r : Replica) (F : List Stamped) (v : Vector) : Type 0 whe
   pub members : (s : Stamped) → IsAmong s F → IsTrue (is_of_members r.members s)
   -- the vector names no more than r has applied
   pub vector : (p : ℕ) → at v p ≤ greatest_counter (operations r) p
-  pub room : length r.entries + length (lacking (operations r) F) ≤ 1048576
+  pub room : length r.entries + length (lacking (operations r) F) ≤ most_entries
 
 -- d has what r had and the history F, and nothing waits
 pub record HasReceived (r d : Replica) (F : List Stamped) : Type 0 where
@@ -42,7 +43,7 @@ pub record HasReceived (r d : Replica) (F : List Stamped) : Type 0 where
 pub record IsSettled (K : List Operation) (p : ℕ) (r : Replica) : Type 0 where
   pub world : IsReplicaOf K p r
   pub end : IsDrained r
-  pub few : length r.waiting ≤ 4096
+  pub few : length r.waiting ≤ most_waiting
 
 -- d has all that r had, and all of F, unless it is full
 pub record HasAll (r d : Replica) (F : List Stamped) : Type 0 where

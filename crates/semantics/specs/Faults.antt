@@ -10,6 +10,7 @@ use Rattle.semantics.specs.LegalHistory.{IsFormed, has_id}
 use Rattle.semantics.specs.NamedIds.{greatest_counter}
 use Rattle.semantics.specs.Vectors.{Vector, at, greatest, covers, is_at_most}
 use Rattle.ids.specs.Members.{is_member}
+use Rattle.semantics.specs.Limits.{most_counter}
 use Rattle.semantics.specs.Stamped.{Stamped, operations_of}
 
 -- each id on the way down to e is covered
@@ -36,7 +37,7 @@ is_of_members ps s = is_member ps s.id.replica && list_all (λ a. is_member ps a
 
 -- the counter is 1 plus the greatest of the vector, and isn't past the last one
 abbrev pub has_counter : Stamped → Bool
-has_counter s = (s.id.counter == suc (greatest s.vector)) && nat_lt (greatest s.vector) 4611686018427387904
+has_counter s = (s.id.counter == suc (greatest s.vector)) && nat_lt (greatest s.vector) most_counter
 
 -- an insert stands at a head or an item
 abbrev pub is_in_list : Mutation → Place → Bool

@@ -1,4 +1,5 @@
 -- What the engine means, as definitions over plain values, in the order in which they read.
+pub mod Limits
 pub mod Ids
 pub mod Elements
 pub mod Paths

@@ -5,6 +5,7 @@ use Rattle.semantics.specs.Elements.{Doc, Field, Item, Place, At, HeadOf}
 use Rattle.semantics.specs.Operations.{Operation, Mutation, Assign, Insert, Delete}
 use Rattle.ids.specs.declared.refusal.Refusal.{Refusal}
 use Rattle.ids.specs.declared.refusal.Refusal.TheVariants.{AtHead, NotInList, HistoryFull}
+use Rattle.semantics.specs.Limits.{most_entries}
 use Rattle.semantics.specs.LegalHistory.{has_id, greatest_of}
 use Rattle.semantics.specs.Context.{doc}
 use Rattle.semantics.specs.Questions.{Step, resolve}
@@ -43,7 +44,7 @@ operation_at H p m (Ok place) = Ok (record {
 
 -- a history holds 1,048,576 operations at most
 abbrev pub is_full : {X : Type 0} → List X → Bool
-is_full H = nat_le 1048576 (length H)
+is_full H = nat_le most_entries (length H)
 
 -- what p makes of the command after H; a full history is refused first
 abbrev pub make : List Operation → ℕ → Command → Result Operation Refusal

@@ -3,6 +3,7 @@ use Rattle.std.specs.Prelude.{ℕ, zero, suc, cond, nat_le, List, [], ◌∷◌,
 use Rattle.semantics.specs.Ids.{OpId}
 use Rattle.ids.specs.declared.refusal.Refusal.{Refusal}
 use Rattle.ids.specs.declared.refusal.Refusal.TheVariants.{AtHead, PastEnd, TooDeep}
+use Rattle.semantics.specs.Limits.{most_keys}
 use Rattle.semantics.specs.Vectors.{Vector}
 use Rattle.semantics.specs.Elements.{Element, Doc, Field, Item, Place, At, HeadOf, Scalar, Tag, Name, depth}
 
@@ -25,7 +26,7 @@ enter items e (Idx (suc i)) = item_at e (slice_get (items e) i)
 -- one step: none from a head, and no path of more than 32 keys
 abbrev pub step_from : (Element → List OpId) → Place → Step → Result Place Refusal
 step_from items (HeadOf l) s = Err AtHead
-step_from items (At e) s = cond (nat_le 32 (depth e)) (Err TooDeep) (enter items e s)
+step_from items (At e) s = cond (nat_le most_keys (depth e)) (Err TooDeep) (enter items e s)
 
 -- the place that an expression leads to: its steps from the left, and the first that is refused decides
 abbrev pub walk_from : (Element → List OpId) → List Step → Result Place Refusal → Result Place Refusal

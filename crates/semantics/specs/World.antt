@@ -35,71 +35,64 @@ pub record World : Type 0 where
 abbrev pub opened : List Configuration → World
 opened cs = record { engines = map opened_engine cs; messages = [] }
 
--- a step of engine e; c is a client, t a token, k the number of a message
-pub data WorldStep : Type 0 where
-  -- client c submits a command
-  Push : ℕ → ℕ → Command → WorldStep
+-- What an engine does in a step. Clients, tokens and messages are named by their numbers.
+pub data WorldAct : Type 0 where
+  -- the client submits a command
+  Push : (client : ℕ) (command : Command) → WorldAct
   -- the writer takes one submission and handles it
-  Take : ℕ → WorldStep
+  Take : WorldAct
   -- the writer publishes what it handled
-  Publish : ℕ → WorldStep
+  Publish : WorldAct
   -- the writer sets one answer
-  Give : ℕ → WorldStep
+  Give : WorldAct
   -- the writer does all of that, for a batch
-  Whole : ℕ → WorldStep
-  -- client c polls a serial
-  Poll : ℕ → ℕ → ℕ → WorldStep
-  -- token t asks
-  Ask : ℕ → ℕ → Asked → WorldStep
-  -- token t learns of the answer to client c's serial
-  Learn : ℕ → ℕ → ℕ → ℕ → WorldStep
-  -- token t says hello
-  SayHello : ℕ → ℕ → WorldStep
-  -- token t answers a hello
-  AnswerHello : ℕ → ℕ → ℕ → WorldStep
-  -- client c receives a copy of a bundle
-  Deliver : ℕ → ℕ → ℕ → WorldStep
-  -- client c receives lines of any origin: these operations, and then a bad line, if there is one
-  Lines : ℕ → ℕ → List Stamped → Option Refusal → WorldStep
+  Whole : WorldAct
+  -- the client polls a serial
+  Poll : (client serial : ℕ) → WorldAct
+  -- the token asks
+  Ask : (token : ℕ) (asked : Asked) → WorldAct
+  -- the token learns of the answer to the client's serial
+  Learn : (token client serial : ℕ) → WorldAct
+  -- the token says hello
+  SayHello : (token : ℕ) → WorldAct
+  -- the token answers a hello, which is this message
+  AnswerHello : (token message : ℕ) → WorldAct
+  -- the client receives a copy of a bundle, which is this message
+  Deliver : (client message : ℕ) → WorldAct
+  -- the client receives lines of any origin: these operations, and then a bad line, if there is one
+  Lines : (client : ℕ) (operations : List Stamped) (stopped : Option Refusal) → WorldAct
   -- how many operations were dropped
-  CountDropped : ℕ → WorldStep
+  CountDropped : WorldAct
 
--- the engine that moves
-abbrev pub mover : WorldStep → ℕ
-mover (Push e c command) = e
-mover (Take e) = e
-mover (Publish e) = e
-mover (Give e) = e
-mover (Whole e) = e
-mover (Poll e c serial) = e
-mover (Ask e t q) = e
-mover (Learn e t c serial) = e
-mover (SayHello e t) = e
-mover (AnswerHello e t k) = e
-mover (Deliver e c k) = e
-mover (Lines e c ss bad) = e
-mover (CountDropped e) = e
+-- a step of a world: what the engine with this number does
+pub record WorldStep : Type 0 where
+  pub engine : ℕ
+  pub act : WorldAct
 
--- what the step does to its engine, after these messages
-abbrev pub engine_step : List Message → WorldStep → Engine → Turn
-engine_step ms (Push e c command) E = push E c (OfCommand command)
-engine_step ms (Take e) E = take_item E
-engine_step ms (Publish e) E = publish E
-engine_step ms (Give e) E = give E
-engine_step ms (Whole e) E = whole_step E
-engine_step ms (Poll e c serial) E = poll E c serial
-engine_step ms (Ask e t q) E = ask E t q
-engine_step ms (Learn e t c serial) E = learn E t c serial
-engine_step ms (SayHello e t) E = say_hello E t (length ms)
-engine_step ms (AnswerHello e t k) E = answer_hello E t (length ms) (slice_get ms k)
-engine_step ms (Deliver e c k) E = receive_message E c (slice_get ms k)
-engine_step ms (Lines e c ss bad) E = receive_lines E c ss bad
-engine_step ms (CountDropped e) E = record { engine = E; reply = Dropped E.replica.dropped }
+-- the step in which engine e does this
+abbrev pub step_by : ℕ → WorldAct → WorldStep
+step_by e act = record { engine = e; act = act }
 
--- what the step sends, after these messages
-abbrev pub sent_by : List Message → WorldStep → Engine → List Message
-sent_by ms (SayHello e t) E = Hello (published_vector E) ∷ []
-sent_by ms (AnswerHello e t k) E = answer_sent E (slice_get ms k)
+-- what an act does to its engine, after these messages
+abbrev pub engine_step : List Message → WorldAct → Engine → Turn
+engine_step ms (Push c command) E = push E c (OfCommand command)
+engine_step ms Take E = take_item E
+engine_step ms Publish E = publish E
+engine_step ms Give E = give E
+engine_step ms Whole E = whole_step E
+engine_step ms (Poll c serial) E = poll E c serial
+engine_step ms (Ask t q) E = ask E t q
+engine_step ms (Learn t c serial) E = learn E t c serial
+engine_step ms (SayHello t) E = say_hello E t (length ms)
+engine_step ms (AnswerHello t k) E = answer_hello E t (length ms) (slice_get ms k)
+engine_step ms (Deliver c k) E = receive_message E c (slice_get ms k)
+engine_step ms (Lines c ss bad) E = receive_lines E c ss bad
+engine_step ms CountDropped E = record { engine = E; reply = Dropped E.replica.dropped }
+
+-- what an act sends, after these messages
+abbrev pub sent_by : List Message → WorldAct → Engine → List Message
+sent_by ms (SayHello t) E = Hello (published_vector E) ∷ []
+sent_by ms (AnswerHello t k) E = answer_sent E (slice_get ms k)
 sent_by ms _ E = []
 
 -- the world after a step, and the reply
@@ -109,13 +102,13 @@ pub record WorldTurn : Type 0 where
 
 -- one step: its engine moves, and the others stay
 abbrev pub world_step : World → WorldStep → WorldTurn
-world_step W s = at_engine (slice_get W.engines (mover s))
+world_step W s = at_engine (slice_get W.engines s.engine)
   where
     at_engine : Option Engine → WorldTurn
     at_engine None = record { world = W; reply = Idle }
     at_engine (Some E) = record {
-      world = record { engines = slice_set W.engines (mover s) (engine_step W.messages s E).engine; messages = W.messages ++ sent_by W.messages s E };
-      reply = (engine_step W.messages s E).reply;
+      world = record { engines = slice_set W.engines s.engine (engine_step W.messages s.act E).engine; messages = W.messages ++ sent_by W.messages s.act E };
+      reply = (engine_step W.messages s.act E).reply;
     }
 
 -- the world after these steps

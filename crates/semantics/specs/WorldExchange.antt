@@ -11,7 +11,7 @@ use Rattle.semantics.specs.LegalAnswer.{OfPeer, Submitted, NotMade}
 use Rattle.semantics.specs.Replica.{Replica, operations}
 use Rattle.semantics.specs.Delivery.{is_waiting}
 use Rattle.semantics.specs.Engine.{Engine, published_entries, StepReply, SentHello, SentBundle, Received}
-use Rattle.semantics.specs.World.{WorldStep, Lines, SayHello, AnswerHello, Deliver, opened, world_step, world_after}
+use Rattle.semantics.specs.World.{WorldAct, WorldStep, Lines, SayHello, AnswerHello, Deliver, step_by, opened, world_step, world_after}
 use Rattle.semantics.specs.WorldHistory.{IsEngineAfter, WasSubmitted, WasReplied}
 
 -- no two engines have the same own number
@@ -19,13 +19,13 @@ abbrev pub HaveOwnNumbers : List Configuration → Type 0
 HaveOwnNumbers cs = (d e : ℕ) (b c : Configuration) → slice_get cs d ≡ Some b → slice_get cs e ≡ Some c → b.own ≡ c.own → d ≡ e
 
 -- a client receives lines of any origin
-abbrev pub is_of_lines : WorldStep → Bool
-is_of_lines (Lines e c ss bad) = true
+abbrev pub is_of_lines : WorldAct → Bool
+is_of_lines (Lines c ss bad) = true
 is_of_lines _ = false
 
 -- all that is received was sent by an engine of the world
 abbrev pub AreWithoutLines : List WorldStep → Type 0
-AreWithoutLines steps = (s : WorldStep) → IsAmong s steps → is_of_lines s ≡ false
+AreWithoutLines steps = (s : WorldStep) → IsAmong s steps → is_of_lines s.act ≡ false
 
 -- the reply to a step after these
 abbrev pub reply_after : List Configuration → List WorldStep → WorldStep → StepReply
@@ -42,20 +42,20 @@ pub record IsExchange (cs : List Configuration) (steps : List WorldStep) (a b c 
   pub t : ℕ
   pub h : ℕ
   pub vector : Vector
-  pub hello : reply_after cs before (SayHello a t) ≡ SentHello h vector
+  pub hello : reply_after cs before (step_by a (SayHello t)) ≡ SentHello h vector
   -- token u answers it in message k, with this many operations
   pub u : ℕ
   pub k : ℕ
   pub sent : ℕ
-  pub answer : reply_after cs (before ++ SayHello a t ∷ between) (AnswerHello b u h) ≡ SentBundle k sent
+  pub answer : reply_after cs (before ++ step_by a (SayHello t) ∷ between) (step_by b (AnswerHello u h)) ≡ SentBundle k sent
   pub answerer : Engine
-  pub there : IsEngineAfter cs (before ++ SayHello a t ∷ between) b answerer
+  pub there : IsEngineAfter cs (before ++ step_by a (SayHello t) ∷ between) b answerer
   pub had : published_entries answerer ≡ published
   -- the client receives it
   pub count : ℕ
-  pub receipt : reply_after cs (before ++ SayHello a t ∷ between ++ AnswerHello b u h ∷ later) (Deliver a c k) ≡ Received first count None
+  pub receipt : reply_after cs (before ++ step_by a (SayHello t) ∷ between ++ step_by b (AnswerHello u h) ∷ later) (step_by a (Deliver c k)) ≡ Received first count None
   pub last : end ≡ first + count
-  pub all : steps ≡ before ++ SayHello a t ∷ between ++ AnswerHello b u h ∷ later ++ Deliver a c k ∷ after
+  pub all : steps ≡ before ++ step_by a (SayHello t) ∷ between ++ step_by b (AnswerHello u h) ∷ later ++ step_by a (Deliver c k) ∷ after
 
 -- all that client c submitted under serials below the end is handled
 abbrev pub IsHandledBelow : Engine → ℕ → ℕ → Type 0

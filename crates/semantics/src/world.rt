@@ -17,7 +17,7 @@ ghost use Rattle.semantics.specs.Engine.{Engine, Client, Given, Message, Hello, 
 ghost use Rattle.semantics.specs.WriteSteps.{next_item, push};
 ghost use Rattle.semantics.specs.ReadSteps.{poll, ask, learn, seen_by};
 ghost use Rattle.semantics.specs.PeerSteps.{say_hello, answer_hello, receive_lines};
-ghost use Rattle.semantics.specs.World.{WorldStep, Push, sent_by};
+ghost use Rattle.semantics.specs.World.{WorldAct, WorldStep, Push, step_by, sent_by};
 ghost use Rattle.semantics.specs.WorldHistory.{IsEngineAfter, BeginsWith, WasSubmitted, WasGiven, IsNotBelow, HasGrown, HasAllSubmitted};
 
 /// Each history is an entry history of its replica. What is published is a beginning of it, and no token has seen more than that.
@@ -38,7 +38,7 @@ pub fn tickets_are_for_what_was_submitted()
         × WasSubmitted (push E c request).engine c serial (next_item c k request) }
     ensures kept { (cs : List Configuration) (steps more : List WorldStep) (e c : ℕ) (command : Command) (serial : ℕ) (E F : Engine) →
         IsEngineAfter cs steps e E → (push E c (OfCommand command)).reply ≡ Ticket serial →
-        IsEngineAfter cs (steps ++ Push e c command ∷ more) e F →
+        IsEngineAfter cs (steps ++ step_by e (Push c command) ∷ more) e F →
         (k : Client) × (slice_get E.clients c ≡ Some k) × WasSubmitted F c serial (next_item c k (OfCommand command)) }
     ensures received { (cs : List Configuration) (steps : List WorldStep) (e : ℕ) (E : Engine) → IsEngineAfter cs steps e E →
         (c first n : ℕ) (ss : List Stamped) (bad : Option Refusal) (stop : Option (ℕ × Refusal)) →
@@ -102,9 +102,9 @@ pub fn tokens_see_what_they_read()
 
 /// What is sent is published: a hello names what is, and each operation of a bundle stands in the published history.
 pub fn what_is_sent_is_published()
-    ensures hello { (ms : List Message) (step : WorldStep) (E : Engine) (v : Vector) → IsAmong (Hello v) (sent_by ms step E) →
+    ensures hello { (ms : List Message) (act : WorldAct) (E : Engine) (v : Vector) → IsAmong (Hello v) (sent_by ms act E) →
         v ≡ vector_of (applied (published_entries E)) }
-    ensures bundle { (ms : List Message) (step : WorldStep) (E : Engine) (ss : List Stamped) → IsAmong (Bundle ss) (sent_by ms step E) →
+    ensures bundle { (ms : List Message) (act : WorldAct) (E : Engine) (ss : List Stamped) → IsAmong (Bundle ss) (sent_by ms act E) →
         (s : Stamped) → IsAmong s ss → IsAmong s (stamped_of (published_entries E)) }
 {}
 

@@ -11,7 +11,7 @@ use Rattle.semantics.specs.Delivery.{answer_to, deliver}
 use Rattle.semantics.specs.Drain.{counted, drain, drain_for, receive, Drains}
 use Rattle.semantics.specs.Engine.{Engine, Handled, Message, Took, Published, Turn}
 use Rattle.semantics.specs.WriteSteps.{after_item, after_request, reply_to, take_item, take_for, publish, give, give_for, handle_all, whole_step}
-use Rattle.semantics.specs.World.{WorldStep, Push, Take, Publish, Give, Whole, Poll, Ask, Learn, SayHello, AnswerHello, Deliver, Lines, CountDropped, engine_step}
+use Rattle.semantics.specs.World.{WorldAct, Push, Take, Publish, Give, Whole, Poll, Ask, Learn, SayHello, AnswerHello, Deliver, Lines, CountDropped, engine_step}
 use Rattle.semantics.specs.WorldHistory.{BeginsWith, HasGrown}
 use Rattle.semantics.proofs.AmongLists.{among_left}
 use Rattle.semantics.proofs.Delivered.{delivered}
@@ -147,7 +147,7 @@ module _ (E : Engine) (x : Submitted) (queue : List Submitted) (s : IsSound E) (
 -- ---- the parts of a step
 
 -- nothing of it was done
-pub not_begun : (ms : List Message) (w : WorldStep) (E : Engine) → IsSound E → IsBetween E E (engine_step ms w E).engine
+pub not_begun : (ms : List Message) (w : WorldAct) (E : Engine) → IsSound E → IsBetween E E (engine_step ms w E).engine
 not_begun ms w E s = record {
   beyond = grown_refl E;
   before = (stepped ms w E s).grown;
@@ -159,11 +159,11 @@ not_begun ms w E s = record {
 pub stays_between : (E : Engine) → IsBetween E E E
 stays_between E = record { beyond = grown_refl E; before = grown_refl E; waited = λ o m. inl m; waits = λ o m. inl m }
 
-not_begun_at : (ms : List Message) (w : WorldStep) (E F : Engine) → IsSound E → F ≡ E → IsBetween E F (engine_step ms w E).engine
+not_begun_at : (ms : List Message) (w : WorldAct) (E F : Engine) → IsSound E → F ≡ E → IsBetween E F (engine_step ms w E).engine
 not_begun_at ms w E F s same = subst (λ A. IsBetween E A (engine_step ms w E).engine) (sym same) (not_begun ms w E s)
 
 took_in_part : (E F : Engine) → IsSound E → TakesInPart E F → IsBetween E F (take_item E).engine
-took_in_part E F s (inl same) = not_begun_at [] (Take 0) E F s same
+took_in_part E F s (inl same) = not_begun_at [] Take E F s same
 took_in_part E F s (inr h) =
     subst (λ A. IsBetween E A (take_item E).engine) (sym h.same)
     (between_taken E h.item h.queue s h.oldest h.free F.replica (within E h.item h.queue s h.oldest F.replica h.handled))
@@ -247,17 +247,17 @@ stepped_in_part E F s (inr h) =
 
 -- ---- each step
 
-pub begun : (ms : List Message) (w : WorldStep) (E F : Engine) → IsSound E → IsInPart ms w E F → IsBetween E F (engine_step ms w E).engine
-begun ms (Take e) E F s h = took_in_part E F s h
-begun ms (Publish e) E F s h = published_in_part E F s h
-begun ms (Whole e) E F s h = stepped_in_part E F s h
-begun ms (Deliver e c k) E F s h = h
-begun ms (Lines e c ss bad) E F s h = h
-begun ms (Push e c command) E F s h = not_begun_at ms (Push e c command) E F s h
-begun ms (Give e) E F s h = not_begun_at ms (Give e) E F s h
-begun ms (Poll e c serial) E F s h = not_begun_at ms (Poll e c serial) E F s h
-begun ms (Ask e t q) E F s h = not_begun_at ms (Ask e t q) E F s h
-begun ms (Learn e t c serial) E F s h = not_begun_at ms (Learn e t c serial) E F s h
-begun ms (SayHello e t) E F s h = not_begun_at ms (SayHello e t) E F s h
-begun ms (AnswerHello e t k) E F s h = not_begun_at ms (AnswerHello e t k) E F s h
-begun ms (CountDropped e) E F s h = not_begun_at ms (CountDropped e) E F s h
+pub begun : (ms : List Message) (w : WorldAct) (E F : Engine) → IsSound E → IsInPart ms w E F → IsBetween E F (engine_step ms w E).engine
+begun ms Take E F s h = took_in_part E F s h
+begun ms Publish E F s h = published_in_part E F s h
+begun ms Whole E F s h = stepped_in_part E F s h
+begun ms (Deliver c k) E F s h = h
+begun ms (Lines c ss bad) E F s h = h
+begun ms (Push c command) E F s h = not_begun_at ms (Push c command) E F s h
+begun ms Give E F s h = not_begun_at ms Give E F s h
+begun ms (Poll c serial) E F s h = not_begun_at ms (Poll c serial) E F s h
+begun ms (Ask t q) E F s h = not_begun_at ms (Ask t q) E F s h
+begun ms (Learn t c serial) E F s h = not_begun_at ms (Learn t c serial) E F s h
+begun ms (SayHello t) E F s h = not_begun_at ms (SayHello t) E F s h
+begun ms (AnswerHello t k) E F s h = not_begun_at ms (AnswerHello t k) E F s h
+begun ms CountDropped E F s h = not_begun_at ms CountDropped E F s h

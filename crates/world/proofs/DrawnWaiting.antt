@@ -13,7 +13,7 @@ use Rattle.semantics.specs.Engine.{Engine, Client, Message, Hello, Bundle}
 use Rattle.semantics.specs.WriteSteps.{push, after_made, after_request, after_item, take_oldest, take_item, take_for, publish, give, give_for, handle_all, whole_step}
 use Rattle.semantics.specs.ReadSteps.{see}
 use Rattle.semantics.specs.PeerSteps.{names_members, answer_hello, refusal_in, unless_refused, submit_all, receive_lines, before_stranger, stranger_fault, receive_message}
-use Rattle.semantics.specs.World.{WorldStep, Push, Take, Publish, Give, Whole, Poll, Ask, Learn, SayHello, AnswerHello, Deliver, Lines, CountDropped, engine_step}
+use Rattle.semantics.specs.World.{WorldAct, Push, Take, Publish, Give, Whole, Poll, Ask, Learn, SayHello, AnswerHello, Deliver, Lines, CountDropped, engine_step}
 use Rattle.semantics.proofs.Delivered.{delivered}
 use Rattle.semantics.proofs.Drained.{drained}
 use Rattle.semantics.proofs.EngineMoves.{IsStill, still_seen, still_polled, still_learnt, still_published, still_given}
@@ -136,20 +136,20 @@ answer_still E t k (Some (Hello v)) = at_test (names_members E v) refl
 pub waits_still : (E G : Engine) → G.replica ≡ E.replica → (s : Stamped) → IsAmong s G.replica.waiting → IsAmong s E.replica.waiting ⊎ IsQueued s E
 waits_still E G same s m = inl (subst (λ (r : Replica). IsAmong s r.waiting) same m)
 
-pub step_waits : (ms : List Message) (w : WorldStep) (E : Engine) → IsSound E → (s : Stamped) → IsAmong s (engine_step ms w E).engine.replica.waiting → IsAmong s E.replica.waiting ⊎ IsQueued s E
-step_waits ms (Push e c command) E h = waits_still E (push E c (OfCommand command)).engine (push_keeps E c (OfCommand command)).replica
-step_waits ms (Take e) E h = (take_draws E h).waits
-step_waits ms (Publish e) E h = waits_still E (publish E).engine (still_published E).0
-step_waits ms (Give e) E h = waits_still E (give E).engine (still_given E).0
-step_waits ms (Whole e) E h = (draws_both E (take_for E.batch E) (whole_step E).engine (takes_draw E.batch E h) (rest_draws (take_for E.batch E) (length (handle_all E).due))).waits
-step_waits ms (Poll e c serial) E h = waits_still E (engine_step ms (Poll e c serial) E).engine (still_polled E c serial).0
-step_waits ms (Ask e t q) E h = waits_still E (engine_step ms (Ask e t q) E).engine (still_seen E t E.published).0
-step_waits ms (Learn e t c serial) E h = waits_still E (engine_step ms (Learn e t c serial) E).engine (still_learnt E t c serial).0
-step_waits ms (SayHello e t) E h = waits_still E (engine_step ms (SayHello e t) E).engine (still_seen E t E.published).0
-step_waits ms (AnswerHello e t k) E h = waits_still E (engine_step ms (AnswerHello e t k) E).engine (answer_still E t (length ms) (slice_get ms k))
-step_waits ms (Deliver e c k) E h = waits_still E (engine_step ms (Deliver e c k) E).engine (message_still E c (slice_get ms k))
-step_waits ms (Lines e c ss bad) E h = waits_still E (engine_step ms (Lines e c ss bad) E).engine (receive_still E c ss bad)
-step_waits ms (CountDropped e) E h = waits_still E E refl
+pub step_waits : (ms : List Message) (w : WorldAct) (E : Engine) → IsSound E → (s : Stamped) → IsAmong s (engine_step ms w E).engine.replica.waiting → IsAmong s E.replica.waiting ⊎ IsQueued s E
+step_waits ms (Push c command) E h = waits_still E (push E c (OfCommand command)).engine (push_keeps E c (OfCommand command)).replica
+step_waits ms Take E h = (take_draws E h).waits
+step_waits ms Publish E h = waits_still E (publish E).engine (still_published E).0
+step_waits ms Give E h = waits_still E (give E).engine (still_given E).0
+step_waits ms Whole E h = (draws_both E (take_for E.batch E) (whole_step E).engine (takes_draw E.batch E h) (rest_draws (take_for E.batch E) (length (handle_all E).due))).waits
+step_waits ms (Poll c serial) E h = waits_still E (engine_step ms (Poll c serial) E).engine (still_polled E c serial).0
+step_waits ms (Ask t q) E h = waits_still E (engine_step ms (Ask t q) E).engine (still_seen E t E.published).0
+step_waits ms (Learn t c serial) E h = waits_still E (engine_step ms (Learn t c serial) E).engine (still_learnt E t c serial).0
+step_waits ms (SayHello t) E h = waits_still E (engine_step ms (SayHello t) E).engine (still_seen E t E.published).0
+step_waits ms (AnswerHello t k) E h = waits_still E (engine_step ms (AnswerHello t k) E).engine (answer_still E t (length ms) (slice_get ms k))
+step_waits ms (Deliver c k) E h = waits_still E (engine_step ms (Deliver c k) E).engine (message_still E c (slice_get ms k))
+step_waits ms (Lines c ss bad) E h = waits_still E (engine_step ms (Lines c ss bad) E).engine (receive_still E c ss bad)
+step_waits ms CountDropped E h = waits_still E E refl
 
 -- what a client submits leaves what waits
 pub submits_wait : (c : ℕ) (bad : Option Refusal) (n : ℕ) (E : Engine) (ss : List Stamped) (s : Stamped) → IsAmong s (submit_all c bad n E ss).engine.replica.waiting → IsAmong s E.replica.waiting ⊎ IsQueued s E

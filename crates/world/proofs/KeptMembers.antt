@@ -12,7 +12,7 @@ use Rattle.semantics.specs.Engine.{Engine, Client, Cell, Given, Message, Hello, 
 use Rattle.semantics.specs.WriteSteps.{push, after_made, after_request, after_item, take_oldest, take_item, take_for, publish, give_oldest, give, give_for, handle_all}
 use Rattle.semantics.specs.ReadSteps.{cell_at, poll, poll_cell, see, learn}
 use Rattle.semantics.specs.PeerSteps.{names_members, answer_hello, refusal_in, unless_refused, submit_all, receive_lines, before_stranger, stranger_fault, receive_message}
-use Rattle.semantics.specs.World.{WorldStep, Push, Take, Publish, Give, Whole, Poll, Ask, Learn, SayHello, AnswerHello, Deliver, Lines, CountDropped, engine_step}
+use Rattle.semantics.specs.World.{WorldAct, Push, Take, Publish, Give, Whole, Poll, Ask, Learn, SayHello, AnswerHello, Deliver, Lines, CountDropped, engine_step}
 use Rattle.semantics.proofs.ReceivedItems.{received}
 use Rattle.semantics.proofs.SoundEngines.{IsSound}
 use Rattle.semantics.proofs.SoundTaking.{took}
@@ -142,17 +142,17 @@ message_keeps E c None = refl
 message_keeps E c (Some (Hello v)) = refl
 message_keeps E c (Some (Bundle ss)) = receive_keeps E c (before_stranger E.replica.members ss) (stranger_fault E.replica.members ss)
 
-pub members_stay : (ms : List Message) (s : WorldStep) (E : Engine) → IsSound E → HasMembers E (engine_step ms s E).engine
-members_stay ms (Push e c command) E s = ap (λ (r : Replica). r.members) (push_keeps E c (OfCommand command)).replica
-members_stay ms (Take e) E s = take_keeps E s
-members_stay ms (Publish e) E s = publish_keeps E
-members_stay ms (Give e) E s = give_keeps E
-members_stay ms (Whole e) E s = gives_keep (length (handle_all E).due) (handle_all E) ∙ publish_keeps (take_for E.batch E) ∙ takes_keep E.batch E s
-members_stay ms (Poll e c serial) E s = poll_keeps E c serial
-members_stay ms (Ask e t q) E s = see_keeps E t E.published
-members_stay ms (Learn e t c serial) E s = learn_keeps E t c serial
-members_stay ms (SayHello e t) E s = see_keeps E t E.published
-members_stay ms (AnswerHello e t k) E s = answer_keeps E t (length ms) (slice_get ms k)
-members_stay ms (Deliver e c k) E s = message_keeps E c (slice_get ms k)
-members_stay ms (Lines e c ss bad) E s = receive_keeps E c ss bad
-members_stay ms (CountDropped e) E s = refl
+pub members_stay : (ms : List Message) (a : WorldAct) (E : Engine) → IsSound E → HasMembers E (engine_step ms a E).engine
+members_stay ms (Push c command) E s = ap (λ (r : Replica). r.members) (push_keeps E c (OfCommand command)).replica
+members_stay ms Take E s = take_keeps E s
+members_stay ms Publish E s = publish_keeps E
+members_stay ms Give E s = give_keeps E
+members_stay ms Whole E s = gives_keep (length (handle_all E).due) (handle_all E) ∙ publish_keeps (take_for E.batch E) ∙ takes_keep E.batch E s
+members_stay ms (Poll c serial) E s = poll_keeps E c serial
+members_stay ms (Ask t q) E s = see_keeps E t E.published
+members_stay ms (Learn t c serial) E s = learn_keeps E t c serial
+members_stay ms (SayHello t) E s = see_keeps E t E.published
+members_stay ms (AnswerHello t k) E s = answer_keeps E t (length ms) (slice_get ms k)
+members_stay ms (Deliver c k) E s = message_keeps E c (slice_get ms k)
+members_stay ms (Lines c ss bad) E s = receive_keeps E c ss bad
+members_stay ms CountDropped E s = refl

@@ -18,7 +18,7 @@ pub lines_stopped : (E F : Engine) (c : ℕ) (ss ts : List Stamped) (bad got : O
     → (got ≡ Some NoMemory) ⊎ ((ts ≡ ss) × (got ≡ bad))
     → (F ≡ E) ⊎ ((got ≢ Some NoMemory) × IsBetween E F (receive_lines E c ts got).engine)
     → IsBetween E F (receive_lines E c ss bad).engine
-lines_stopped E F c ss ts bad got sound read (inl same) = subst (λ A. IsBetween E A (receive_lines E c ss bad).engine) (sym same) (not_begun [] (Lines 0 c ss bad) E sound)
+lines_stopped E F c ss ts bad got sound read (inl same) = subst (λ A. IsBetween E A (receive_lines E c ss bad).engine) (sym same) (not_begun [] (Lines c ss bad) E sound)
 lines_stopped E F c ss ts bad got sound (inl memory) (inr part) = absurd (part.0 memory)
 lines_stopped E F c ss ts bad got sound (inr read) (inr part) = between_same (λ i. (receive_lines E c (read.0 i) (read.1 i)).engine) part.1
 

@@ -4,7 +4,7 @@ use Rattle.std.proofs.lemmas.Bool.{cases_eq}
 use Rattle.std.proofs.lemmas.List.{length-set}
 use Rattle.std.proofs.lemmas.Option.{same_Some}
 use Rattle.semantics.specs.Engine.{Engine, Message}
-use Rattle.semantics.specs.World.{World, WorldStep, mover, engine_step, world_after, world_step}
+use Rattle.semantics.specs.World.{World, WorldStep, engine_step, world_after, world_step}
 use Rattle.semantics.proofs.SetElements.{get-set_same, get-set_other}
 use Rattle.world.specs.Parts.{IsBetween}
 use Rattle.world.specs.Worlds.{IsAnother, IsBetweenSteps, IsReached, MovesInPart, StopsAfter, world}
@@ -15,33 +15,33 @@ use Rattle.world.proofs.TurnedWorlds.{after_next, world_step-there}
 -- ---- one step
 
 -- an engine that doesn't move stays
-other_stays : (W : World) (s : WorldStep) (e : ℕ) → (e ≡ mover s → ⊥) → slice_get (world_step W s).world.engines e ≡ slice_get W.engines e
-other_stays W s e other = at_engine (slice_get W.engines (mover s)) refl
+other_stays : (W : World) (s : WorldStep) (e : ℕ) → (e ≡ s.engine → ⊥) → slice_get (world_step W s).world.engines e ≡ slice_get W.engines e
+other_stays W s e other = at_engine (slice_get W.engines s.engine) refl
   where
-    at_engine : (o : Option Engine) → slice_get W.engines (mover s) ≡ o → slice_get (world_step W s).world.engines e ≡ slice_get W.engines e
+    at_engine : (o : Option Engine) → slice_get W.engines s.engine ≡ o → slice_get (world_step W s).world.engines e ≡ slice_get W.engines e
     at_engine None is = rw is refl
-    at_engine (Some E) is = rw is (get-set_other W.engines (mover s) e (engine_step W.messages s E).engine other)
+    at_engine (Some E) is = rw is (get-set_other W.engines s.engine e (engine_step W.messages s.act E).engine other)
 
 same_engine : (o : Option Engine) (E F : Engine) → o ≡ Some E → o ≡ Some F → E ≡ F
 same_engine o E F e f = same_Some E F (sym e ∙ f)
 
 -- an engine of a reached world before a step, and after it
 step_between : (W : World) (s : WorldStep) → IsReached W → (e : ℕ) (E G : Engine) → slice_get W.engines e ≡ Some E → slice_get (world_step W s).world.engines e ≡ Some G → IsBetween E E G
-step_between W s reached e E G at_E at_G = by (cases_eq e (mover s))
+step_between W s reached e E G at_E at_G = by (cases_eq e s.engine)
   where
-    by : (e ≡ mover s) ⊎ (e ≡ mover s → ⊥) → IsBetween E E G
+    by : (e ≡ s.engine) ⊎ (e ≡ s.engine → ⊥) → IsBetween E E G
     by (inl is) =
-        let there : slice_get W.engines (mover s) ≡ Some E = ap (slice_get W.engines) (sym is) ∙ at_E in
-        let moved = same_engine (slice_get (world_step W s).world.engines (mover s)) (engine_step W.messages s E).engine G (after_step W s E there) (ap (slice_get (world_step W s).world.engines) (sym is) ∙ at_G) in
-        subst (IsBetween E E) moved (not_begun W.messages s E (reached_sound E (reached_at W reached (mover s) E there)))
+        let there : slice_get W.engines s.engine ≡ Some E = ap (slice_get W.engines) (sym is) ∙ at_E in
+        let moved = same_engine (slice_get (world_step W s).world.engines s.engine) (engine_step W.messages s.act E).engine G (after_step W s E there) (ap (slice_get (world_step W s).world.engines) (sym is) ∙ at_G) in
+        subst (IsBetween E E) moved (not_begun W.messages s.act E (reached_sound E (reached_at W reached s.engine E there)))
     by (inr other) = subst (IsBetween E E) (same_engine (slice_get W.engines e) E G at_E (sym (other_stays W s e other) ∙ at_G)) (stays_between E)
 
 step_count : (W : World) (s : WorldStep) → length (world_step W s).world.engines ≡ length W.engines
-step_count W s = at_engine (slice_get W.engines (mover s)) refl
+step_count W s = at_engine (slice_get W.engines s.engine) refl
   where
-    at_engine : (o : Option Engine) → slice_get W.engines (mover s) ≡ o → length (world_step W s).world.engines ≡ length W.engines
+    at_engine : (o : Option Engine) → slice_get W.engines s.engine ≡ o → length (world_step W s).world.engines ≡ length W.engines
     at_engine None is = rw is refl
-    at_engine (Some E) is = rw is (length-set W.engines (mover s) (engine_step W.messages s E).engine)
+    at_engine (Some E) is = rw is (length-set W.engines s.engine (engine_step W.messages s.act E).engine)
 
 after_count : (W : World) (steps : List WorldStep) → length (world_after W steps).engines ≡ length W.engines
 after_count W [] = refl
@@ -103,13 +103,13 @@ stops_within W U V steps n s reached at l is messages part = record {
   within = l;
   messages = messages ∙ ap (λ (T : World). T.messages) is;
   others = λ e other. unmoved e (subst (IsAnother e) at other) ∙ ap (λ (T : World). slice_get T.engines e) is;
-  count = ap (length {A = Engine}) part.moved ∙ length-set U.engines (mover s) part.part ∙ ap (λ (T : World). length T.engines) is ∙ after_count W (take n steps);
+  count = ap (length {A = Engine}) part.moved ∙ length-set U.engines s.engine part.part ∙ ap (λ (T : World). length T.engines) is ∙ after_count W (take n steps);
   between = λ e F at_F E G at_E at_G.
-      by e F at_F E G (ap (λ (T : World). slice_get T.engines e) is ∙ at_E) (ap (λ (T : World). slice_get (world_step T s).world.engines e) is ∙ next e G at_G) (cases_eq e (mover s));
+      by e F at_F E G (ap (λ (T : World). slice_get T.engines e) is ∙ at_E) (ap (λ (T : World). slice_get (world_step T s).world.engines e) is ∙ next e G at_G) (cases_eq e s.engine);
 }
   where
-    unmoved : (e : ℕ) → (e ≡ mover s → ⊥) → slice_get V.engines e ≡ slice_get U.engines e
-    unmoved e other = ap (λ (Es : List Engine). slice_get Es e) part.moved ∙ get-set_other U.engines (mover s) e part.part other
+    unmoved : (e : ℕ) → (e ≡ s.engine → ⊥) → slice_get V.engines e ≡ slice_get U.engines e
+    unmoved e other = ap (λ (Es : List Engine). slice_get Es e) part.moved ∙ get-set_other U.engines s.engine e part.part other
 
     U_reached : IsReached U
     U_reached = reached_after W U (take n steps) reached is
@@ -118,15 +118,15 @@ stops_within W U V steps n s reached at l is messages part = record {
     next e G at_G = ap (λ (T : World). slice_get T.engines e) (sym (after_next W steps n s at)) ∙ ap (λ k. slice_get (world_after W (take k steps)).engines e) (sym (add-one n)) ∙ at_G
 
     by : (e : ℕ) (F : Engine) → slice_get V.engines e ≡ Some F → (E G : Engine) → slice_get U.engines e ≡ Some E → slice_get (world_step U s).world.engines e ≡ Some G
-        → (e ≡ mover s) ⊎ (e ≡ mover s → ⊥) → IsBetween E F G
+        → (e ≡ s.engine) ⊎ (e ≡ s.engine → ⊥) → IsBetween E F G
     by e F at_F E G at_E at_G (inl same) =
         let A : Engine = part.engine in
-        let all : Engine = (engine_step U.messages s A).engine in
-        let its_E : A ≡ E = same_engine (slice_get U.engines (mover s)) A E part.there (ap (slice_get U.engines) (sym same) ∙ at_E) in
-        let set_there : slice_get V.engines (mover s) ≡ Some part.part = ap (λ (Es : List Engine). slice_get Es (mover s)) part.moved ∙ get-set_same U.engines (mover s) A part.part part.there in
-        let its_F : part.part ≡ F = same_engine (slice_get V.engines (mover s)) part.part F set_there (ap (slice_get V.engines) (sym same) ∙ at_F) in
-        let its_G : all ≡ G = same_engine (slice_get (world_step U s).world.engines (mover s)) all G (after_step U s A part.there) (ap (slice_get (world_step U s).world.engines) (sym same) ∙ at_G) in
-        let between = begun U.messages s A part.part (reached_sound A (reached_at U U_reached (mover s) A part.there)) part.begun in
+        let all : Engine = (engine_step U.messages s.act A).engine in
+        let its_E : A ≡ E = same_engine (slice_get U.engines s.engine) A E part.there (ap (slice_get U.engines) (sym same) ∙ at_E) in
+        let set_there : slice_get V.engines s.engine ≡ Some part.part = ap (λ (Es : List Engine). slice_get Es s.engine) part.moved ∙ get-set_same U.engines s.engine A part.part part.there in
+        let its_F : part.part ≡ F = same_engine (slice_get V.engines s.engine) part.part F set_there (ap (slice_get V.engines) (sym same) ∙ at_F) in
+        let its_G : all ≡ G = same_engine (slice_get (world_step U s).world.engines s.engine) all G (after_step U s A part.there) (ap (slice_get (world_step U s).world.engines) (sym same) ∙ at_G) in
+        let between = begun U.messages s.act A part.part (reached_sound A (reached_at U U_reached s.engine A part.there)) part.begun in
         subst (λ X. IsBetween X F G) its_E (subst (λ X. IsBetween A X G) its_F (subst (IsBetween A part.part) its_G between))
     by e F at_F E G at_E at_G (inr other) =
         let its_F : E ≡ F = same_engine (slice_get U.engines e) E F at_E (sym (unmoved e other) ∙ at_F) in

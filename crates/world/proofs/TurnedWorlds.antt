@@ -2,15 +2,15 @@
 use Rattle.std.proofs.Common.{◌≡◌, ◌≢◌, ℕ, zero, suc, ◌<◌, ◌≤◌, List, [], ◌∷◌, ◌++◌, length, take, get_or, Some, None, refl, sym, ap, ◌∙◌, subst, arith, slice_get, slice_set}
 use Rattle.std.proofs.lemmas.Option.{slice_get_past}
 use Rattle.semantics.specs.Engine.{Engine, Message, Idle}
-use Rattle.semantics.specs.World.{World, WorldStep, mover, engine_step, sent_by, world_after, world_step}
+use Rattle.semantics.specs.World.{World, WorldStep, engine_step, sent_by, world_after, world_step}
 use Rattle.world.specs.Worlds.{world, tables_of, table_at}
 
-pub world_step-there : (Es : List Engine) (ms : List Message) (s : WorldStep) (E : Engine) → slice_get Es (mover s) ≡ Some E
-    → world_step (world Es ms) s ≡ record { world = world (slice_set Es (mover s) (engine_step ms s E).engine) (ms ++ sent_by ms s E); reply = (engine_step ms s E).reply }
+pub world_step-there : (Es : List Engine) (ms : List Message) (s : WorldStep) (E : Engine) → slice_get Es s.engine ≡ Some E
+    → world_step (world Es ms) s ≡ record { world = world (slice_set Es s.engine (engine_step ms s.act E).engine) (ms ++ sent_by ms s.act E); reply = (engine_step ms s.act E).reply }
 world_step-there Es ms s E e = rw e refl
 
-pub world_step-none : (Es : List Engine) (ms : List Message) (s : WorldStep) → length Es ≤ mover s → world_step (world Es ms) s ≡ record { world = world Es ms; reply = Idle }
-world_step-none Es ms s l = let none : slice_get Es (mover s) ≡ None = slice_get_past Es (mover s) l in rw none refl
+pub world_step-none : (Es : List Engine) (ms : List Message) (s : WorldStep) → length Es ≤ s.engine → world_step (world Es ms) s ≡ record { world = world Es ms; reply = Idle }
+world_step-none Es ms s l = let none : slice_get Es s.engine ≡ None = slice_get_past Es s.engine l in rw none refl
 
 -- the table of an engine that is there
 pub own_table : (Es : List Engine) (i : ℕ) (E : Engine) → slice_get Es i ≡ Some E → table_at (tables_of Es) i ≡ E.replica.members

@@ -10,57 +10,35 @@ use Rattle.document.specs.Documents.{IsBeside, asked_of, said_by}
 use Rattle.items.specs.Meanings.{answer_of}
 use Rattle.wire.specs.Bundles.{readable}
 use Rattle.world.specs.declared.step.WorldStep.{WorldStep}
-use Rattle.world.specs.declared.step.WorldStep.TheVariants as step
+use Rattle.world.specs.declared.step.WorldAct.{WorldAct}
+use Rattle.world.specs.declared.step.WorldAct.TheVariants as act
 use Rattle.world.specs.declared.step.WorldReply.{WorldReply}
 use Rattle.world.specs.declared.step.WorldReply.TheVariants as said
 
--- the number of a step's engine
-abbrev pub engine_in : WorldStep → ℕ
-engine_in (step.Push e c command) = e
-engine_in (step.Take e) = e
-engine_in (step.Publish e) = e
-engine_in (step.Give e) = e
-engine_in (step.Step e) = e
-engine_in (step.Poll e c serial) = e
-engine_in (step.Ask e t q) = e
-engine_in (step.Learn e t c serial) = e
-engine_in (step.Hello e t) = e
-engine_in (step.Bundle e t k) = e
-engine_in (step.Deliver e c k) = e
-engine_in (step.Line e c text) = e
-engine_in (step.Dropped e) = e
+-- what an engine does, where it has this table
+abbrev pub act_of : List ℕ → WorldAct → world.WorldAct
+act_of table (act.Push c command) = world.Push c (command_of command)
+act_of table act.Take = world.Take
+act_of table act.Publish = world.Publish
+act_of table act.Give = world.Give
+act_of table act.Step = world.Whole
+act_of table (act.Poll c serial) = world.Poll c serial
+act_of table (act.Ask t q) = world.Ask t (asked_of table q)
+act_of table (act.Learn t c serial) = world.Learn t c serial
+act_of table (act.Hello t) = world.SayHello t
+act_of table (act.Bundle t k) = world.AnswerHello t k
+act_of table (act.Deliver c k) = world.Deliver c k
+act_of table (act.Line c text) = world.Lines c (readable table text.items).operations (readable table text.items).stopped
+act_of table act.Dropped = world.CountDropped
 
 -- a step, where its engine has this table
 abbrev pub step_of : List ℕ → WorldStep → world.WorldStep
-step_of table (step.Push e c command) = world.Push e c (command_of command)
-step_of table (step.Take e) = world.Take e
-step_of table (step.Publish e) = world.Publish e
-step_of table (step.Give e) = world.Give e
-step_of table (step.Step e) = world.Whole e
-step_of table (step.Poll e c serial) = world.Poll e c serial
-step_of table (step.Ask e t q) = world.Ask e t (asked_of table q)
-step_of table (step.Learn e t c serial) = world.Learn e t c serial
-step_of table (step.Hello e t) = world.SayHello e t
-step_of table (step.Bundle e t k) = world.AnswerHello e t k
-step_of table (step.Deliver e c k) = world.Deliver e c k
-step_of table (step.Line e c text) = world.Lines e c (readable table text.items).operations (readable table text.items).stopped
-step_of table (step.Dropped e) = world.CountDropped e
+step_of table s = record { engine = s.engine; act = act_of table s.act }
 
--- a vector that the step asks about has a counter for each replica of the table
-abbrev pub AsksBeside : List ℕ → WorldStep → Type 0
-AsksBeside table (step.Push e c command) = ⊤
-AsksBeside table (step.Take e) = ⊤
-AsksBeside table (step.Publish e) = ⊤
-AsksBeside table (step.Give e) = ⊤
-AsksBeside table (step.Step e) = ⊤
-AsksBeside table (step.Poll e c serial) = ⊤
-AsksBeside table (step.Ask e t q) = IsBeside table q
-AsksBeside table (step.Learn e t c serial) = ⊤
-AsksBeside table (step.Hello e t) = ⊤
-AsksBeside table (step.Bundle e t k) = ⊤
-AsksBeside table (step.Deliver e c k) = ⊤
-AsksBeside table (step.Line e c text) = ⊤
-AsksBeside table (step.Dropped e) = ⊤
+-- a vector that the act asks about has a counter for each replica of the table
+abbrev pub AsksBeside : List ℕ → WorldAct → Type 0
+AsksBeside table (act.Ask t q) = IsBeside table q
+AsksBeside table _ = ⊤
 
 -- what a step replies
 abbrev pub reply_of : WorldReply → engine.StepReply

@@ -9,7 +9,7 @@ use Rattle.semantics.specs.Delivery.{deliver}
 use Rattle.semantics.specs.Drain.{counted, drain_for}
 use Rattle.semantics.specs.Engine.{Engine, Message}
 use Rattle.semantics.specs.WriteSteps.{after_item, take_for}
-use Rattle.semantics.specs.World.{WorldStep, Push, Take, Publish, Give, Whole, Poll, Ask, Learn, SayHello, AnswerHello, Deliver, Lines, CountDropped, engine_step}
+use Rattle.semantics.specs.World.{WorldAct, Take, Publish, Whole, Deliver, Lines, engine_step}
 use Rattle.semantics.specs.WorldHistory.{HasGrown}
 
 -- the operation is that of an item in the queue
@@ -55,18 +55,11 @@ pub record PublishesInPart (E F : Engine) : Type 0 where
 abbrev pub StepsInPart : Engine → Engine → Type 0
 StepsInPart E F = ((n : ℕ) × (n < E.batch) × TakesInPart (take_for n E) F) ⊎ PublishesInPart (take_for E.batch E) F
 
--- F is E after a part of the step, after these messages
-abbrev pub IsInPart : List Message → WorldStep → Engine → Engine → Type 0
-IsInPart ms (Take e) E F = TakesInPart E F
-IsInPart ms (Publish e) E F = PublishesInPart E F
-IsInPart ms (Whole e) E F = StepsInPart E F
-IsInPart ms (Deliver e c k) E F = IsBetween E F (engine_step ms (Deliver e c k) E).engine
-IsInPart ms (Lines e c ss bad) E F = IsBetween E F (engine_step ms (Lines e c ss bad) E).engine
-IsInPart ms (Push e c command) E F = F ≡ E
-IsInPart ms (Give e) E F = F ≡ E
-IsInPart ms (Poll e c serial) E F = F ≡ E
-IsInPart ms (Ask e t q) E F = F ≡ E
-IsInPart ms (Learn e t c serial) E F = F ≡ E
-IsInPart ms (SayHello e t) E F = F ≡ E
-IsInPart ms (AnswerHello e t k) E F = F ≡ E
-IsInPart ms (CountDropped e) E F = F ≡ E
+-- F is E after a part of the act, after these messages
+abbrev pub IsInPart : List Message → WorldAct → Engine → Engine → Type 0
+IsInPart ms Take E F = TakesInPart E F
+IsInPart ms Publish E F = PublishesInPart E F
+IsInPart ms Whole E F = StepsInPart E F
+IsInPart ms (Deliver c k) E F = IsBetween E F (engine_step ms (Deliver c k) E).engine
+IsInPart ms (Lines c ss bad) E F = IsBetween E F (engine_step ms (Lines c ss bad) E).engine
+IsInPart ms _ E F = F ≡ E

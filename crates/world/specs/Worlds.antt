@@ -3,9 +3,9 @@ use Rattle.std.specs.Prelude.{◌≡◌, ◌≢◌, ℕ, ◌+◌, ◌≤◌, Boo
 use Rattle.std.specs.List.{list_all}
 use Rattle.ids.specs.Configurations.{Configuration, is_within_limits}
 use Rattle.semantics.specs.Engine.{Engine, Message}
-use Rattle.semantics.specs.World.{World, WorldStep as TheStep, mover, opened, world_after}
+use Rattle.semantics.specs.World.{World, WorldStep as TheStep, opened, world_after}
 use Rattle.world.specs.declared.step.WorldStep.{WorldStep}
-use Rattle.world.specs.Meanings.{AsksBeside, engine_in, step_of}
+use Rattle.world.specs.Meanings.{AsksBeside, step_of}
 use Rattle.world.specs.Parts.{IsBetween, IsInPart}
 
 -- the engines, the messages, how many steps were done, and whether an allocation failed
@@ -33,11 +33,11 @@ table_at tables e = slice_index_or tables e []
 
 -- a step of engines with these tables
 abbrev pub step_in : List (List ℕ) → WorldStep → TheStep
-step_in tables s = step_of (table_at tables (engine_in s)) s
+step_in tables s = step_of (table_at tables s.engine) s
 
 -- a vector that the step asks about is indexed by the table of its engine
 abbrev pub IsAskedBeside : List (List ℕ) → WorldStep → Type 0
-IsAskedBeside tables s = AsksBeside (table_at tables (engine_in s)) s
+IsAskedBeside tables s = AsksBeside (table_at tables s.engine) s.act
 
 -- steps lead to the world from a new one, whose configurations are within the limits
 pub record IsReached (W : World) : Type 0 where
@@ -49,15 +49,15 @@ pub record IsReached (W : World) : Type 0 where
 -- the engine isn't the one that moves in this step, if there is one
 abbrev pub IsAnother : ℕ → Option TheStep → Type 0
 IsAnother e None = ⊤
-IsAnother e (Some s) = e ≢ mover s
+IsAnother e (Some s) = e ≢ s.engine
 
 -- Fs are the engines Es, of which the one that moves did a part of the step, after these messages
 pub record MovesInPart (ms : List Message) (s : TheStep) (Es Fs : List Engine) : Type 0 where
   pub engine : Engine
   pub part : Engine
-  pub there : slice_get Es (mover s) ≡ Some engine
-  pub moved : Fs ≡ slice_set Es (mover s) part
-  pub begun : IsInPart ms s engine part
+  pub there : slice_get Es s.engine ≡ Some engine
+  pub moved : Fs ≡ slice_set Es s.engine part
+  pub begun : IsInPart ms s.act engine part
 
 -- F is between what engine e is after n steps and after one more
 abbrev pub IsBetweenSteps : World → List TheStep → ℕ → ℕ → Engine → Type 0

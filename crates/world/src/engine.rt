@@ -6,7 +6,7 @@ ghost use Rattle.semantics.specs.World.{engine_step, opened_engine, sent_by};
 ghost use Rattle.semantics.specs.Publication.{Holds};
 ghost use Rattle.replica.specs.Replicas.{replica_of};
 ghost use Rattle.world.specs.Engines.{IsReachedEngine, client_of, message_of};
-ghost use Rattle.world.specs.Meanings.{AsksBeside, reply_of, step_of};
+ghost use Rattle.world.specs.Meanings.{AsksBeside, act_of, reply_of};
 ghost use Rattle.world.specs.Parts.{IsInPart};
 
 mod peers;
@@ -16,7 +16,7 @@ mod writer;
 use crate::client::Client;
 use crate::message::Message;
 use crate::publisher::Publisher;
-use crate::step::{WorldReply, WorldStep};
+use crate::step::{WorldAct, WorldReply};
 use document::Document;
 use handling::Handler;
 use ids::{Config, ReplicaTable};
@@ -101,57 +101,44 @@ impl Engine {
         self.handler.replica.document().table()
     }
 
-    /// Plays one step. `messages` are all that were sent before; what the step sends is appended to them.
+    /// Does what a step says. `messages` are all that were sent before; what the act sends is appended to them.
     ///
     /// # Errors
-    /// `AllocError` if allocation fails. The step may be done in part then.
+    /// `AllocError` if allocation fails. The act may be done in part then.
     pub fn turn(
         &mut self,
         alloc: Global,
         messages: &mut Vec<Message>,
-        step: &WorldStep,
+        act: &WorldAct,
     ) -> Result<WorldReply, AllocError>
         requires reached { IsReachedEngine self.old }
-        requires beside { AsksBeside self.old.replica.members step.now }
-        ensures engine { OnOk result (self.new ≡ (engine_step (map message_of messages.old.items) (step_of self.old.replica.members step.now) self.old).engine) }
-        ensures reply { IfOk result (λ r. reply_of r ≡ (engine_step (map message_of messages.old.items) (step_of self.old.replica.members step.now) self.old).reply) }
-        ensures sent { OnOk result (map message_of messages.new.items ≡ map message_of messages.old.items ++ sent_by (map message_of messages.old.items) (step_of self.old.replica.members step.now) self.old) }
+        requires beside { AsksBeside self.old.replica.members act.now }
+        ensures engine { OnOk result (self.new ≡ (engine_step (map message_of messages.old.items) (act_of self.old.replica.members act.now) self.old).engine) }
+        ensures reply { IfOk result (λ r. reply_of r ≡ (engine_step (map message_of messages.old.items) (act_of self.old.replica.members act.now) self.old).reply) }
+        ensures sent { OnOk result (map message_of messages.new.items ≡ map message_of messages.old.items ++ sent_by (map message_of messages.old.items) (act_of self.old.replica.members act.now) self.old) }
         ensures unsent { OnErr result (map message_of messages.new.items ≡ map message_of messages.old.items) }
-        ensures stopped { OnErr result (IsInPart (map message_of messages.old.items) (step_of self.old.replica.members step.now) self.old self.new) }
+        ensures stopped { OnErr result (IsInPart (map message_of messages.old.items) (act_of self.old.replica.members act.now) self.old self.new) }
     {
-        match step {
-            WorldStep::Push {
-                client,
-                command,
-                ..
-            } => self.push(*client, command),
-            WorldStep::Take { .. } => self.take(alloc),
-            WorldStep::Publish { .. } => self.publish(alloc),
-            WorldStep::Give { .. } => Ok(self.give()),
-            WorldStep::Step { .. } => self.step(alloc),
-            WorldStep::Poll { client, serial, .. } => Ok(self.poll(*client, *serial)),
-            WorldStep::Ask {
-                token,
-                question,
-                ..
-            } => self.ask(alloc, *token, question),
-            WorldStep::Learn {
+        match act {
+            WorldAct::Push { client, command } => self.push(*client, command),
+            WorldAct::Take => self.take(alloc),
+            WorldAct::Publish => self.publish(alloc),
+            WorldAct::Give => Ok(self.give()),
+            WorldAct::Step => self.step(alloc),
+            WorldAct::Poll { client, serial } => Ok(self.poll(*client, *serial)),
+            WorldAct::Ask { token, question } => self.ask(alloc, *token, question),
+            WorldAct::Learn {
                 token,
                 client,
                 serial,
-                ..
             } => Ok(self.learn(*token, *client, *serial)),
-            WorldStep::Hello { token, .. } => self.hello(messages, *token),
-            WorldStep::Bundle { token, message, .. } => {
-                self.bundle(alloc, messages, *token, *message)
-            }
-            WorldStep::Deliver {
-                client,
-                message,
-                ..
-            } => self.deliver(alloc, messages, *client, *message),
-            WorldStep::Line { client, text, .. } => self.line(alloc, *client, text),
-            WorldStep::Dropped { .. } => Ok(WorldReply::Dropped(self.handler.replica.dropped())),
+            WorldAct::Hello { token } => self.hello(messages, *token),
+            WorldAct::Bundle { token, message } => self.bundle(alloc, messages, *token, *message),
+            WorldAct::Deliver { client, message } => self.deliver(
+                alloc, messages, *client, *message,
+            ),
+            WorldAct::Line { client, text } => self.line(alloc, *client, text),
+            WorldAct::Dropped => Ok(WorldReply::Dropped(self.handler.replica.dropped())),
         }
     }
 }

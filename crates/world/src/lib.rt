@@ -10,5 +10,5 @@ mod step;
 mod world;
 
 pub use items::Reply;
-pub use step::{WorldReply, WorldStep};
+pub use step::{WorldAct, WorldReply, WorldStep};
 pub use world::World;

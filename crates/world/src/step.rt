@@ -6,106 +6,67 @@ use items::Reply;
 use operation::Command;
 use version::VersionVector;
 
-/// A step of one engine. Engines are numbered from 0, as are an engine's clients and the messages of a world; an engine's tokens
-/// are its clients', then its readers'.
+/// A step of a world: what the engine with this number does. Engines are numbered from 0.
 #[derive(Debug, Drop)]
-pub enum WorldStep {
+pub struct WorldStep {
+    pub engine: usize,
+    pub act: WorldAct,
+}
+
+/// What an engine does in a step. An engine's clients and the messages of a world are numbered from 0; an engine's tokens are its
+/// clients', then its readers'.
+#[derive(Debug, Drop)]
+pub enum WorldAct {
     /// A client submits a command.
     Push {
-        engine: usize,
         client: usize,
         command: Command,
     },
     /// The writer takes one submission and handles it.
-    Take {
-        engine: usize,
-    },
+    Take,
     /// The writer publishes what it handled.
-    Publish {
-        engine: usize,
-    },
+    Publish,
     /// The writer sets the answer to the oldest submission that is published.
-    Give {
-        engine: usize,
-    },
+    Give,
     /// The writer takes up to a batch of submissions and handles them, publishes, and then sets their answers.
-    Step {
-        engine: usize,
-    },
+    Step,
     /// A client polls one of its serials.
     Poll {
-        engine: usize,
         client: usize,
         serial: u64,
     },
     /// A token asks. A vector in the question is indexed by the table of the engine.
     Ask {
-        engine: usize,
         token: usize,
         question: Question,
     },
     /// A token learns of the answer to a client's serial.
     Learn {
-        engine: usize,
         token: usize,
         client: usize,
         serial: u64,
     },
     /// A token sends a hello: the vector of what is published.
     Hello {
-        engine: usize,
         token: usize,
     },
     /// A token answers a hello with a bundle of what the sender lacks.
     Bundle {
-        engine: usize,
         token: usize,
         message: usize,
     },
     /// A client receives a copy of a bundle.
     Deliver {
-        engine: usize,
         client: usize,
         message: usize,
     },
     /// A client receives bytes of any origin, as lines of operations.
     Line {
-        engine: usize,
         client: usize,
         text: Vec<u8>,
     },
     /// How many operations of peers the engine dropped.
-    Dropped {
-        engine: usize,
-    },
-}
-
-impl WorldStep {
-    ghost use Rattle.std.specs.Prelude.{◌≡◌, ℕ, List};
-    ghost use Rattle.semantics.specs.World.{mover};
-    ghost use Rattle.world.specs.Meanings.{engine_in, step_of};
-
-    /// The engine that does the step.
-    pub fn engine(&self) -> usize
-        ensures number { result ≡ engine_in self.now }
-        ensures mover { (table : List ℕ) → result ≡ mover (step_of table self.now) }
-    {
-        match self {
-            WorldStep::Push { engine, .. }
-            | WorldStep::Take { engine }
-            | WorldStep::Publish { engine }
-            | WorldStep::Give { engine }
-            | WorldStep::Step { engine }
-            | WorldStep::Poll { engine, .. }
-            | WorldStep::Ask { engine, .. }
-            | WorldStep::Learn { engine, .. }
-            | WorldStep::Hello { engine, .. }
-            | WorldStep::Bundle { engine, .. }
-            | WorldStep::Deliver { engine, .. }
-            | WorldStep::Line { engine, .. }
-            | WorldStep::Dropped { engine } => *engine,
-        }
-    }
+    Dropped,
 }
 
 /// The reply to a step.

@@ -4,7 +4,7 @@ ghost use Rattle.std.specs.Prelude.{◌≡◌, ◌≢◌, ◌+◌, ℕ, ◌↔�
 ghost use Rattle.std.specs.List.{All, list_all};
 ghost use Rattle.ids.specs.declared.refusal.Refusal.TheVariants.{NoMemory, BadConfig};
 ghost use Rattle.ids.specs.Configurations.{is_within_limits};
-ghost use Rattle.semantics.specs.World.{mover, opened, opened_engine, world_step, world_after, replies_of};
+ghost use Rattle.semantics.specs.World.{opened, opened_engine, world_step, world_after, replies_of};
 ghost use Rattle.world.specs.Engines.{message_of};
 ghost use Rattle.world.specs.Meanings.{reply_of};
 ghost use Rattle.world.specs.Worlds.{IsAskedBeside, IsReached, MovesInPart, StopsAfter, step_in, tables_of, world, world_of};
@@ -180,10 +180,9 @@ fn turn(
     ensures messages { OnErr result (map message_of messages.new.items ≡ map message_of messages.old.items) }
     ensures stopped { OnErr result (MovesInPart (map message_of messages.old.items) (step_in (tables_of engines.old.items) step.now) engines.old.items engines.new.items) }
 {
-    let mover = step.engine();
-    if mover >= engines.len() {
+    if step.engine >= engines.len() {
         return Ok(WorldReply::Idle);
     }
-    let engine = &mut engines[mover];
-    engine.turn(alloc, messages, step)
+    let engine = &mut engines[step.engine];
+    engine.turn(alloc, messages, &step.act)
 }

@@ -3,6 +3,7 @@
 ghost use Rattle.std.specs.Prelude.{◌≡◌, ℕ, List, length, IfOk, IfSome};
 ghost use Rattle.std.specs.List.{All};
 ghost use Rattle.document.specs.Documents.{IsBeside};
+ghost use Rattle.world.specs.Meanings.{AsksBeside};
 ghost use Rattle.world.specs.Worlds.{IsAskedBeside, tables_of};
 
 mod documents;
@@ -176,70 +177,52 @@ fn question(alloc: Global, act: Act) -> Result<Option<(usize, Question)>, Refusa
     })
 }
 
-/// The step of an act that is a phase of the writer, a poll, or of peers.
-fn other_step(alloc: Global, engine: usize, act: Act) -> Result<Option<WorldStep>, Refusal>
-    ensures { IfOk result (λ o. IfSome o (λ s. (tables : List (List ℕ)) → IsAskedBeside tables s)) }
+/// An act that is a phase of the writer, a poll, or of peers.
+fn other_act(alloc: Global, act: Act) -> Result<Option<WorldAct>, Refusal>
+    ensures { IfOk result (λ o. IfSome o (λ a. (table : List ℕ) → AsksBeside table a)) }
 {
     Ok(Some(match act {
-        Take => WorldStep::Take { engine },
-        Publish => WorldStep::Publish { engine },
-        Give => WorldStep::Give { engine },
-        Poll(client, serial) => WorldStep::Poll {
-            engine,
-            client,
-            serial,
-        },
-        Learn(token, client, serial) => WorldStep::Learn {
-            engine,
+        Take => WorldAct::Take,
+        Publish => WorldAct::Publish,
+        Give => WorldAct::Give,
+        Poll(client, serial) => WorldAct::Poll { client, serial },
+        Learn(token, client, serial) => WorldAct::Learn {
             token,
             client,
             serial,
         },
-        Hello(token) => WorldStep::Hello { engine, token },
-        Bundle(token, message) => WorldStep::Bundle {
-            engine,
-            token,
-            message,
-        },
-        Deliver(client, message) => WorldStep::Deliver {
-            engine,
-            client,
-            message,
-        },
+        Hello(token) => WorldAct::Hello { token },
+        Bundle(token, message) => WorldAct::Bundle { token, message },
+        Deliver(client, message) => WorldAct::Deliver { client, message },
         Lines(client, text) => {
             let text = text.as_bytes().to_vec(alloc)?;
-            WorldStep::Line {
-                engine,
-                client,
-                text,
-            }
+            WorldAct::Line { client, text }
         }
-        Dropped => WorldStep::Dropped { engine },
+        Dropped => WorldAct::Dropped,
         _ => return Ok(None),
     }))
+}
+
+fn act_of(alloc: Global, act: Act) -> Result<WorldAct, Refusal>
+    ensures { (table : List ℕ) → IfOk result (AsksBeside table) }
+{
+    if let Some(other) = other_act(alloc, act)? {
+        return Ok(other);
+    }
+    if let Some((client, command)) = command(alloc, act)? {
+        return Ok(WorldAct::Push { client, command });
+    }
+    if let Some((token, question)) = question(alloc, act)? {
+        return Ok(WorldAct::Ask { token, question });
+    }
+    Ok(WorldAct::Step)
 }
 
 fn step(alloc: Global, engine: usize, act: Act) -> Result<WorldStep, Refusal>
     ensures { (tables : List (List ℕ)) → IfOk result (IsAskedBeside tables) }
 {
-    if let Some(step) = other_step(alloc, engine, act)? {
-        return Ok(step);
-    }
-    if let Some((client, command)) = command(alloc, act)? {
-        return Ok(WorldStep::Push {
-            engine,
-            client,
-            command,
-        });
-    }
-    if let Some((token, question)) = question(alloc, act)? {
-        return Ok(WorldStep::Ask {
-            engine,
-            token,
-            question,
-        });
-    }
-    Ok(WorldStep::Step { engine })
+    let act = act_of(alloc, act)?;
+    Ok(WorldStep { engine, act })
 }
 
 /// The steps of these acts of an engine.
@@ -277,10 +260,10 @@ fn missing_step(
         return Err(Refusal::NoReading);
     };
     let vector = vector(alloc, table.len(), counters)?;
-    Ok(WorldStep::Ask {
+    let question = Question::Missing(vector);
+    Ok(WorldStep {
         engine: 0,
-        token,
-        question: Question::Missing(vector),
+        act: WorldAct::Ask { token, question },
     })
 }
 

@@ -2,7 +2,8 @@
 
 ghost use Rattle.std.specs.Prelude.{◌≡◌};
 ghost use Rattle.ids.specs.Members.{in_order};
-ghost use Rattle.world.specs.Worlds.{IsAskedBeside, tables_of};
+ghost use Rattle.world.specs.Meanings.{AsksBeside};
+ghost use Rattle.world.specs.Worlds.{table_at, tables_of};
 
 use super::acts::{Act, CLIENTS, Probe, REPLICAS};
 use super::peers::send_the_same;
@@ -19,7 +20,7 @@ use std::process::Abort;
 use std::sync::Wait;
 use std::test::Fail;
 use wire::write_op;
-use world::{World, WorldReply, WorldStep};
+use world::{World, WorldAct, WorldReply, WorldStep};
 
 /// An engine of replica 1 with a queue of this capacity, whose steps take a batch of this size.
 fn config(alloc: Global, queue: u32, batch: u32) -> Result<Config, Fail> {
@@ -126,10 +127,11 @@ fn is_same<N: EngineName, R: Wait>(
     }
 }
 
-/// What a step of the world's engine replies.
-pub fn reply(alloc: Global, world: &mut World, step: WorldStep) -> Result<WorldReply, Fail>
-    requires { IsAskedBeside (tables_of world.old.engines) step }
+/// What the world's engine replies to an act.
+pub fn reply(alloc: Global, world: &mut World, act: WorldAct) -> Result<WorldReply, Fail>
+    requires { AsksBeside (table_at (tables_of world.old.engines) 0) act }
 {
+    let step = WorldStep { engine: 0, act };
     let mut replies = world.run(alloc, &[step])?;
     Ok(replies.pop().ok_or("no reply")?)
 }
@@ -150,12 +152,11 @@ fn submit<N: EngineName, R: Wait>(
     command: &Command,
 ) -> Result<bool, Fail> {
     let ticket = submitted(rt, alloc, engine, client, command)?;
-    let step = WorldStep::Push {
-        engine: 0,
+    let act = WorldAct::Push {
         client,
         command: command.clone()?,
     };
-    let told = reply(alloc, world, step)?;
+    let told = reply(alloc, world, act)?;
     Ok(is_same_ticket(&told, &ticket))
 }
 
@@ -189,12 +190,11 @@ fn deliver<N: EngineName, R: Wait>(
     op: &Op,
 ) -> Result<bool, Fail> {
     let ticket = delivered(rt, alloc, engine, client, op)?;
-    let step = WorldStep::Line {
-        engine: 0,
+    let act = WorldAct::Line {
         client,
         text: line_of(alloc, world, op)?,
     };
-    let told = reply(alloc, world, step)?;
+    let told = reply(alloc, world, act)?;
     Ok(is_same_receipt(&told, &ticket))
 }
 
@@ -243,7 +243,7 @@ fn step<N: EngineName, R: Wait>(
     world: &mut World,
     engine: &mut Engine<N>,
 ) -> Result<bool, Fail> {
-    let told = reply(alloc, world, WorldStep::Step { engine: 0 })?;
+    let told = reply(alloc, world, WorldAct::Step)?;
     let stepped = engine.writer.step(rt, alloc);
     Ok(is_same_step(&told, &stepped))
 }
@@ -255,9 +255,9 @@ fn single_steps<N: EngineName, R: Wait>(
     world: &mut World,
     engine: &mut Engine<N>,
 ) -> Result<bool, Fail> {
-    let took = reply(alloc, world, WorldStep::Take { engine: 0 })?;
-    let published = reply(alloc, world, WorldStep::Publish { engine: 0 })?;
-    let gave = reply(alloc, world, WorldStep::Give { engine: 0 })?;
+    let took = reply(alloc, world, WorldAct::Take)?;
+    let published = reply(alloc, world, WorldAct::Publish)?;
+    let gave = reply(alloc, world, WorldAct::Give)?;
     let stepped = engine.writer.step(rt, alloc);
     Ok(is_idle(&took) == is_idle(&gave) && is_same_step(&published, &stepped))
 }
@@ -291,12 +291,8 @@ fn poll<N: EngineName>(
 ) -> Result<bool, Fail> {
     let ticket = ticket(client, serial)?;
     let answer = client_of(engine, client)?.poll(&ticket);
-    let step = WorldStep::Poll {
-        engine: 0,
-        client,
-        serial,
-    };
-    let told = reply(alloc, world, step)?;
+    let act = WorldAct::Poll { client, serial };
+    let told = reply(alloc, world, act)?;
     Ok(polled(&told) == Some(answer))
 }
 
@@ -324,12 +320,11 @@ fn ask<N: EngineName>(
 
 /// What the world's engine replies to a question.
 fn told(alloc: Global, world: &mut World, token: usize, probe: &Probe) -> Result<WorldReply, Fail> {
-    let step = WorldStep::Ask {
-        engine: 0,
+    let act = WorldAct::Ask {
         token,
         question: probe.question()?,
     };
-    reply(alloc, world, step)
+    reply(alloc, world, act)
 }
 
 /// Whether the world's reply is this answer, by a token that has seen this many entries.
@@ -403,13 +398,12 @@ fn learn<N: EngineName>(
 ) -> Result<bool, Fail> {
     let ticket = ticket(client, serial)?;
     let length = learnt(engine, token, &ticket)?;
-    let step = WorldStep::Learn {
-        engine: 0,
+    let act = WorldAct::Learn {
         token,
         client,
         serial,
     };
-    let told = reply(alloc, world, step)?;
+    let told = reply(alloc, world, act)?;
     Ok(is_same_lesson(&told, length))
 }
 

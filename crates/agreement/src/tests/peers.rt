@@ -1,7 +1,5 @@
 //! What both engines send to a peer: an engine of threads as bytes, a world's as values, which are written as bytes here.
 
-ghost use Rattle.world.specs.Worlds.{IsAskedBeside, tables_of};
-
 use super::acts::CLIENTS;
 use super::both::reply;
 use document::{Question, Reading};
@@ -12,7 +10,7 @@ use std::alloc::{AllocError, Global};
 use std::test::Fail;
 use version::VersionVector;
 use wire::{read_vector, write_bundle, write_vector};
-use world::{World, WorldReply, WorldStep};
+use world::{World, WorldAct, WorldReply};
 
 /// The hellos of a peer that has nothing, of one that has a little, and of one that has all that there may be.
 const HELLOS: [&[u8]; 3] = [
@@ -37,11 +35,10 @@ pub fn send_the_same<N: EngineName>(
 
 /// The line of the vector that the world's engine sends as a hello.
 fn world_hello(alloc: Global, world: &mut World) -> Result<Vec<u8>, Fail> {
-    let step = WorldStep::Hello {
-        engine: 0,
+    let act = WorldAct::Hello {
         token: CLIENTS as usize,
     };
-    match reply(alloc, world, step)? {
+    match reply(alloc, world, act)? {
         WorldReply::Hello { table, vector, .. } => Ok(line_of(alloc, &vector, &table)?),
         _ => Err("no hello".into()),
     }
@@ -60,12 +57,11 @@ fn line_of(
 /// The lines of what a hello lacks of the world's engine.
 fn world_answer(alloc: Global, world: &mut World, hello: &[u8]) -> Result<Vec<u8>, Fail> {
     let vector = read_vector(alloc, hello, world.table(0).ok_or("no engine")?)?;
-    let step = WorldStep::Ask {
-        engine: 0,
+    let act = WorldAct::Ask {
         token: CLIENTS as usize,
         question: Question::Missing(vector),
     };
-    match reply(alloc, world, step)? {
+    match reply(alloc, world, act)? {
         WorldReply::Read { table, reading, .. } => bundle_of(alloc, &reading, &table),
         _ => Err("no answer".into()),
     }

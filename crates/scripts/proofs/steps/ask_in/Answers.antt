@@ -1,7 +1,7 @@
 use Rattle.std.proofs.Common.{◌≡◌, ℕ, ◌∙◌, List, [], ◌∷◌, length, get_or, Option, Ok, refl, sym, ap, subst, arith}
 use Rattle.std.specs.Prelude.{slice_get}
 use Rattle.semantics.specs.LegalAnswer.{Asked}
-use Rattle.semantics.specs.World.{Ask}
+use Rattle.semantics.specs.World.{Ask, step_by}
 use Rattle.document.specs.Documents.{IsBeside, asked_of}
 use Rattle.world.specs.Worlds.{tables_of}
 use Rattle.serde_json.specs.declared.value.Value.{Value}
@@ -16,7 +16,7 @@ use Rattle.scripts.proofs.steps.ask_in.Goals as goal
 asked : (tables : List (List ℕ)) (xs : List Value) (x y z : Value) (e t : ℕ) (q : Asked) → length xs ≡ 3
     → x ≡ get_or xs 0 x → y ≡ get_or xs 1 y → z ≡ get_or xs 2 z
     → number_form (view x) ≡ Ok e → number_form (view y) ≡ Ok t → question_form (slice_get tables e) (view z) ≡ Ok q
-    → ask_of tables (items_view xs) ≡ Ok (Ask e t q)
+    → ask_of tables (items_view xs) ≡ Ok (step_by e (Ask t q))
 asked tables [] x y z e t q n a b d i j k = absurd (omega (arith, n))
 asked tables (x1 ∷ []) x y z e t q n a b d i j k = absurd (omega (arith, n))
 asked tables (x1 ∷ x2 ∷ []) x y z e t q n a b d i j k = absurd (omega (arith, n))

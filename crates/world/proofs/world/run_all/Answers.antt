@@ -1,7 +1,7 @@
 use Rattle.std.proofs.Common.{rules, ◌≡◌, ◌≢◌, ◌+◌, ◌≤◌, ◌∷◌, ◌++◌, [], ℕ, List, Some, Result, Ok, Err, length, map, take, drop, drop-cons, append_assoc, sym, ap, ◌∙◌, subst, add-one, arith, slice_get}
 use Rattle.std.specs.Prelude.{OnErr}
 use Rattle.std.proofs.lemmas.List.{length-map, map-append}
-use Rattle.semantics.specs.World.{World, WorldStep as TheStep, mover, replies_of, world_after, world_step}
+use Rattle.semantics.specs.World.{World, WorldStep as TheStep, replies_of, world_after, world_step}
 use Rattle.semantics.specs.Engine.{StepReply}
 use Rattle.world.specs.declared.step.WorldStep.{WorldStep}
 use Rattle.world.specs.declared.step.WorldReply.{WorldReply}

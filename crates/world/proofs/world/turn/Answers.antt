@@ -2,9 +2,9 @@ use Rattle.std.proofs.Common.{◌≡◌, ℕ, List, Result, Ok, Err, Some, lengt
 use Rattle.std.specs.Prelude.{OnErr, OnOk, IfOk}
 use Rattle.std.proofs.lemmas.Option.{slice_get_read}
 use Rattle.semantics.specs.Engine.{Engine, Message}
-use Rattle.semantics.specs.World.{WorldTurn, mover, engine_step, sent_by, world_step}
+use Rattle.semantics.specs.World.{WorldStep as TheStep, WorldTurn, engine_step, sent_by, world_step}
 use Rattle.world.specs.declared.step.WorldStep.{WorldStep}
-use Rattle.world.specs.Meanings.{AsksBeside, engine_in, step_of}
+use Rattle.world.specs.Meanings.{AsksBeside, act_of, step_of}
 use Rattle.world.specs.Parts.{IsInPart}
 use Rattle.world.specs.Worlds.{MovesInPart, step_in, table_at, tables_of, world}
 use Rattle.world.specs.Engines.{message_of}
@@ -21,32 +21,29 @@ if_ok : {X Y : Type 0} (r : Result X Y) {P Q : X → Type 0} → ((x : X) → P 
 if_ok (Ok x) f p = f x p
 if_ok (Err e) f p = tt
 
--- the world after a step of engine i, which is there as E
-module _ (Es : List Engine) (ms : List Message) (s : WorldStep) (i : ℕ) (E : Engine) (number : i ≡ engine_in s) (there : slice_get Es i ≡ Some E) where
-  its_table : table_at (tables_of Es) (engine_in s) ≡ E.replica.members
-  its_table = ap (table_at (tables_of Es)) (sym number) ∙ own_table Es i E there
+-- the world after a step of an engine that is there as E
+module _ (Es : List Engine) (ms : List Message) (s : WorldStep) (E : Engine) (there : slice_get Es s.engine ≡ Some E) where
+  its_step : step_in (tables_of Es) s ≡ step_of E.replica.members s
+  its_step = ap (λ table. step_of table s) (own_table Es s.engine E there)
 
-  turned : i ≡ mover (step_of E.replica.members s)
-      → world_step (world Es ms) (step_in (tables_of Es) s) ≡ record { world = world (set Es i (engine_step ms (step_of E.replica.members s) E).engine) (ms ++ sent_by ms (step_of E.replica.members s) E); reply = (engine_step ms (step_of E.replica.members s) E).reply }
-  turned at =
-      ap (λ table. world_step (world Es ms) (step_of table s)) its_table
-      ∙ world_step-there Es ms (step_of E.replica.members s) E (ap (slice_get Es) (sym at) ∙ there)
-      ∙ (λ t. record { world = world (set Es (sym at t) (engine_step ms (step_of E.replica.members s) E).engine) (ms ++ sent_by ms (step_of E.replica.members s) E); reply = (engine_step ms (step_of E.replica.members s) E).reply })
+  turned : world_step (world Es ms) (step_in (tables_of Es) s)
+      ≡ record { world = world (set Es s.engine (engine_step ms (act_of E.replica.members s.act) E).engine) (ms ++ sent_by ms (act_of E.replica.members s.act) E); reply = (engine_step ms (act_of E.replica.members s.act) E).reply }
+  turned = ap (world_step (world Es ms)) its_step ∙ world_step-there Es ms (step_of E.replica.members s) E there
 
 pub turn-requires-clause-reached : goal.turn-requires-clause-reached
 turn-requires-clause-reached c =
     let Es = c.args.engines.now.items in
     let E : Engine = c.index_mut-engine.result.now in
-    let there : slice_get Es c.engine-mover.result ≡ Some E = slice_get_read Es (length Es) c.engine-mover.result E refl (omega arith) c.index_mut-engine.ensures.value in
-    reached_at (world Es (map message_of c.args.messages.now.items)) c.requires.reached c.engine-mover.result E there
+    let there : slice_get Es c.args.step.now.engine ≡ Some E = slice_get_read Es (length Es) c.args.step.now.engine E refl (omega arith) c.index_mut-engine.ensures.value in
+    reached_at (world Es (map message_of c.args.messages.now.items)) c.requires.reached c.args.step.now.engine E there
 
 pub turn-requires-clause-beside : goal.turn-requires-clause-beside
 turn-requires-clause-beside c =
     let Es = c.args.engines.now.items in
-    let ms = map message_of c.args.messages.now.items in
+    let s = c.args.step.now in
     let E : Engine = c.index_mut-engine.result.now in
-    let there : slice_get Es c.engine-mover.result ≡ Some E = slice_get_read Es (length Es) c.engine-mover.result E refl (omega arith) c.index_mut-engine.ensures.value in
-    subst (λ table. AsksBeside table c.args.step.now) (its_table Es ms c.args.step.now c.engine-mover.result E c.engine-mover.ensures.number there) c.requires.beside
+    let there : slice_get Es s.engine ≡ Some E = slice_get_read Es (length Es) s.engine E refl (omega arith) c.index_mut-engine.ensures.value in
+    subst (λ table. AsksBeside table s.act) (own_table Es s.engine E there) c.requires.beside
 
 -- both parts of an answer
 both_ok : {X Y P Q R : Type 0} (r : Result X Y) → (P → Q → R) → OnOk r P → OnOk r Q → OnOk r R
@@ -58,13 +55,13 @@ returns-clause-world c =
     let Es = c.args.engines.now.items in
     let ms : List Message = map message_of c.args.messages.now.items in
     let s = c.args.step.now in
-    let i : ℕ = c.engine-mover.result in
+    let i : ℕ = s.engine in
     let E : Engine = c.index_mut-engine.result.now in
     let there : slice_get Es i ≡ Some E = slice_get_read Es (length Es) i E refl (omega arith) c.index_mut-engine.ensures.value in
     both_ok c.turn.result
-    (λ (e : c.turn.new.self ≡ (engine_step ms (step_of E.replica.members s) E).engine) (f : map message_of c.turn.new.messages.items ≡ ms ++ sent_by ms (step_of E.replica.members s) E).
+    (λ (e : c.turn.new.self ≡ (engine_step ms (act_of E.replica.members s.act) E).engine) (f : map message_of c.turn.new.messages.items ≡ ms ++ sent_by ms (act_of E.replica.members s.act) E).
     (λ t. world (set Es i (e t)) (f t))
-    ∙ sym (ap (λ (t : WorldTurn). t.world) (turned Es ms s i E c.engine-mover.ensures.number there (c.engine-mover.ensures.mover E.replica.members))))
+    ∙ sym (ap (λ (t : WorldTurn). t.world) (turned Es ms s E there)))
     c.turn.ensures.engine c.turn.ensures.sent
 
 pub returns-clause-reply : goal.returns-clause-reply
@@ -72,11 +69,11 @@ returns-clause-reply c =
     let Es = c.args.engines.now.items in
     let ms : List Message = map message_of c.args.messages.now.items in
     let s = c.args.step.now in
-    let i : ℕ = c.engine-mover.result in
+    let i : ℕ = s.engine in
     let E : Engine = c.index_mut-engine.result.now in
     let there : slice_get Es i ≡ Some E = slice_get_read Es (length Es) i E refl (omega arith) c.index_mut-engine.ensures.value in
     if_ok c.turn.result
-    (λ r e. e ∙ sym (ap (λ (t : WorldTurn). t.reply) (turned Es ms s i E c.engine-mover.ensures.number there (c.engine-mover.ensures.mover E.replica.members))))
+    (λ r e. e ∙ sym (ap (λ (t : WorldTurn). t.reply) (turned Es ms s E there)))
     c.turn.ensures.reply
 
 pub returns-clause-tables : goal.returns-clause-tables
@@ -84,13 +81,13 @@ returns-clause-tables c =
     let Es = c.args.engines.now.items in
     let ms : List Message = map message_of c.args.messages.now.items in
     let s = c.args.step.now in
-    let i : ℕ = c.engine-mover.result in
+    let i : ℕ = s.engine in
     let E : Engine = c.index_mut-engine.result.now in
     let there : slice_get Es i ≡ Some E = slice_get_read Es (length Es) i E refl (omega arith) c.index_mut-engine.ensures.value in
     let sound = reached_sound E (reached_at (world Es ms) c.requires.reached i E there) in
     then_ok c.turn.result
-    (λ (e : c.turn.new.self ≡ (engine_step ms (step_of E.replica.members s) E).engine).
-    tables_set Es i E c.turn.new.self there (ap (λ (F : Engine). F.replica.members) e ∙ members_stay ms (step_of E.replica.members s) E sound))
+    (λ (e : c.turn.new.self ≡ (engine_step ms (act_of E.replica.members s.act) E).engine).
+    tables_set Es i E c.turn.new.self there (ap (λ (F : Engine). F.replica.members) e ∙ members_stay ms (act_of E.replica.members s.act) E sound))
     c.turn.ensures.engine
 
 then_err : {X Y P Q : Type 0} (r : Result X Y) → (P → Q) → OnErr r P → OnErr r Q
@@ -102,18 +99,16 @@ returns-clause-stopped c =
     let Es : List Engine = c.args.engines.now.items in
     let ms : List Message = map message_of c.args.messages.now.items in
     let s = c.args.step.now in
-    let i : ℕ = c.engine-mover.result in
+    let i : ℕ = s.engine in
     let E : Engine = c.index_mut-engine.result.now in
     let F : Engine = c.turn.new.self in
     let there : slice_get Es i ≡ Some E = slice_get_read Es (length Es) i E refl (omega arith) c.index_mut-engine.ensures.value in
-    let same : step_in (tables_of Es) s ≡ step_of E.replica.members s = ap (λ table. step_of table s) (its_table Es ms s i E c.engine-mover.ensures.number there) in
-    let at : i ≡ mover (step_in (tables_of Es) s) = c.engine-mover.ensures.mover E.replica.members ∙ ap mover (sym same) in
     then_err c.turn.result
-    (λ (part : IsInPart ms (step_of E.replica.members s) E F). record {
+    (λ (part : IsInPart ms (act_of E.replica.members s.act) E F). record {
       engine = E;
       part = F;
-      there = ap (slice_get Es) (sym at) ∙ there;
-      moved = ap (λ k. set Es k F) at;
-      begun = subst (λ t. IsInPart ms t E F) (sym same) part;
+      there = there;
+      moved = refl;
+      begun = subst (λ (t : TheStep). IsInPart ms t.act E F) (sym (its_step Es ms s E there)) part;
     })
     c.turn.ensures.stopped
