@@ -3,6 +3,7 @@ use Rattle.std.specs.Prelude.{◌≡◌, ◌⊎◌, ℕ, suc, Bool, true, false,
 use Rattle.std.specs.Result.{result_map_both}
 use Rattle.ids.specs.declared.refusal.Refusal.{Refusal}
 use Rattle.ids.specs.declared.refusal.Refusal.TheVariants.{NoMemory, AtHead, TooDeep}
+use Rattle.semantics.specs.Limits.{most_keys}
 use Rattle.semantics.specs.Ids.{OpId}
 use Rattle.semantics.specs.Elements.{Element, Doc, Field, Item, Place, At, HeadOf, Name, depth}
 use Rattle.semantics.specs.Operations.{element_of}
@@ -39,12 +40,12 @@ place_at path true = HeadOf (down Doc path)
 
 -- the same place, unless its path has more than 32 keys
 abbrev pub place_from : List Key → Bool → Result Place Refusal
-place_from path head = if nat_lt 32 (depth_of (place_at path head)) then Err TooDeep else Ok (place_at path head)
+place_from path head = if nat_lt most_keys (depth_of (place_at path head)) then Err TooDeep else Ok (place_at path head)
 
 -- whether one more key may follow: none after a head, nor after 32 keys
 abbrev pub room_at : Place → Result ⊤ Refusal
 room_at (HeadOf l) = Err AtHead
-room_at (At e) = if nat_le 32 (depth e) then Err TooDeep else Ok tt
+room_at (At e) = if nat_le most_keys (depth e) then Err TooDeep else Ok tt
 
 -- the place one key further, where one may follow
 abbrev pub one_down : Place → (Element → Place) → Result Place Refusal

@@ -1,6 +1,7 @@
 //! Places: what an operation's cursor names.
 
 ghost use Rattle.std.specs.Prelude.{◌≡◌, ◌≤◌, ℕ, suc, true, List, [], ◌∷◌, ◌++◌, map, Some, slice_get, IfOk, MatchOption};
+ghost use Rattle.semantics.specs.Limits.{most_keys};
 ghost use Rattle.semantics.specs.Elements.{Element, Doc, At};
 ghost use Rattle.semantics.specs.Operations.{element_of};
 ghost use Rattle.semantics.specs.Paths.{child, keys_from_root};
@@ -33,6 +34,7 @@ impl Model for Place {
     ghost use Rattle.std.specs.Coded.{codes};
     ghost use Rattle.semantics.specs.Codes.{coded_element};
     ghost use Rattle.semantics.specs.Elements.{Place as ThePlace};
+    ghost use Rattle.semantics.specs.Limits.{most_keys};
     ghost use Rattle.cursor.specs.Meanings.{hop_of};
     ghost use Rattle.cursor.specs.Places.{depth_of, place_at};
 
@@ -42,7 +44,7 @@ impl Model for Place {
 
     ghost view = { λ p. place_at (map hop_of p.hops.items) p.is_head };
 
-    ghost invariant = { λ p. depth_of (place_at (map hop_of p.hops.items) p.is_head) ≤ 32 };
+    ghost invariant = { λ p. depth_of (place_at (map hop_of p.hops.items) p.is_head) ≤ most_keys };
 }
 
 /// A place that is no head. Contracts see its element.
@@ -139,7 +141,7 @@ impl Place {
     /// How many keys the path has.
     pub fn depth(&self) -> usize
         ensures keys { result ≡ depth_of self.now }
-        ensures most { result ≤ 32 }
+        ensures most { result ≤ most_keys }
     {
         count_keys(&self.hops, self.is_head)
     }

@@ -7,6 +7,9 @@ ghost use Rattle.ids.specs.declared.id.OpId.{OpId};
 use std::fmt;
 use std::marker::Model;
 
+/// The greatest counter of an id.
+pub const MOST_COUNTER: u64 = 4_611_686_018_427_387_904;
+
 /// The number of a replica, from 1 to 4,294,967,295. Contracts see the number.
 #[derive(Clone, Copy, Debug, PartialEq, Eq, PartialOrd, Ord)]
 pub struct ReplicaId {

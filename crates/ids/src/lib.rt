@@ -9,6 +9,6 @@ mod refusal;
 mod table;
 
 pub use config::Config;
-pub use id::{OpId, ReplicaId, ids_are_ordered_by_counter};
+pub use id::{MOST_COUNTER, OpId, ReplicaId, ids_are_ordered_by_counter};
 pub use refusal::Refusal;
 pub use table::ReplicaTable;

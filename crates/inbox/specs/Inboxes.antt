@@ -1,6 +1,7 @@
 -- The operations that wait in an inbox.
-use Rattle.std.specs.Prelude.{◌≡◌, ◌≤◌, ◌+◌, ℕ, Bool, true, false, ⊤, cond, nat_lt, List, [], ◌∷◌, length, map, filter_map, Some, None}
+use Rattle.std.specs.Prelude.{◌≡◌, ◌≤◌, ◌+◌, ◌-◌, ℕ, Bool, true, false, ⊤, cond, nat_lt, List, [], ◌∷◌, length, map, filter_map, Some, None}
 use Rattle.ids.specs.declared.refusal.Refusal.TheVariants.{InboxFull}
+use Rattle.semantics.specs.Limits.{most_waiting}
 use Rattle.semantics.specs.Ids.{OpId, is_smaller_id}
 use Rattle.semantics.specs.Operations.{Operation}
 use Rattle.semantics.specs.LegalHistory.{IsAmong}
@@ -50,7 +51,7 @@ AreNotReady H table ops = (o : Op) → IsAmong o ops → is_ready H (stamped_of 
 
 -- as many wait as may: one more slot is held for what is ready
 abbrev pub is_crowded : Bool → ℕ → Bool
-is_crowded ready n = nat_lt (cond ready 4096 4095) n
+is_crowded ready n = nat_lt (cond ready most_waiting (most_waiting - 1)) n
 
 -- the answer to what is put where these wait
 abbrev pub answer_to_put : Bool → List Stamped → Stamped → delivery.Delivered

@@ -3,6 +3,7 @@ use Rattle.std.specs.Prelude.{ℕ, suc, Bool, true, ◌&&◌, nat_eq, nat_lt, if
 use Rattle.ids.specs.Members.{is_member}
 use Rattle.ids.specs.declared.refusal.Refusal.{Refusal}
 use Rattle.ids.specs.declared.refusal.Refusal.TheVariants.{UnknownReplica}
+use Rattle.semantics.specs.Limits.{most_counter}
 use Rattle.semantics.specs.Vectors.{Vector, covers}
 use Rattle.semantics.specs.Paths.{Key, FieldKey, ItemKey}
 use Rattle.semantics.specs.Faults.{alone_fault}
@@ -15,7 +16,7 @@ fault_alone table o = if nat_eq (length o.deps) (length table) then alone_fault 
 
 -- the counter is the one after the greatest, and there is one
 abbrev pub is_next_counter : ℕ → ℕ → Bool
-is_next_counter greatest counter = nat_eq counter (suc greatest) && nat_lt greatest 4611686018427387904
+is_next_counter greatest counter = nat_eq counter (suc greatest) && nat_lt greatest most_counter
 
 -- the key is a field's, or that of a member's item
 abbrev pub key_of_member : List ℕ → Key → Bool

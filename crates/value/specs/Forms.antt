@@ -4,6 +4,7 @@ use Rattle.std.specs.Option.{ok_or}
 use Rattle.std.specs.Int.{w64}
 use Rattle.ids.specs.declared.refusal.Refusal.{Refusal}
 use Rattle.ids.specs.declared.refusal.Refusal.TheVariants.{TextTooLong, NotWhole, BadLine}
+use Rattle.semantics.specs.Limits.{most_text_bytes}
 use Rattle.semantics.specs.Elements.{Scalar, Null, Boolean, Whole, Text, Value, Plain, EmptyMap, EmptyList}
 use Rattle.serde_json.specs.Data.{Data, null, boolean, number, string, array, object, no_items, item, no_members, member}
 use Rattle.serde_json.specs.Find.{as_i64, of_integer}
@@ -13,7 +14,7 @@ abbrev pub value_form : Data → Result Value Refusal
 value_form null = Ok (Plain Null)
 value_form (boolean b) = Ok (Plain (Boolean b))
 value_form (number n) = ok_or (option_map (λ z. Plain (Whole z)) (as_i64 n)) NotWhole
-value_form (string s) = if nat_lt 4096 (length s) then Err TextTooLong else Ok (Plain (Text s))
+value_form (string s) = if nat_lt most_text_bytes (length s) then Err TextTooLong else Ok (Plain (Text s))
 value_form (array no_items) = Ok EmptyList
 value_form (array (item _ _)) = Err BadLine
 value_form (object no_members) = Ok EmptyMap
@@ -41,6 +42,6 @@ abbrev pub IsWithinLimits : Value → Type 0
 IsWithinLimits (Plain Null) = ⊤
 IsWithinLimits (Plain (Boolean b)) = ⊤
 IsWithinLimits (Plain (Whole z)) = FitsSigned w64 z
-IsWithinLimits (Plain (Text s)) = length s ≤ 4096
+IsWithinLimits (Plain (Text s)) = length s ≤ most_text_bytes
 IsWithinLimits EmptyMap = ⊤
 IsWithinLimits EmptyList = ⊤

@@ -4,6 +4,7 @@ ghost use Rattle.std.specs.Prelude.{◌≡◌, ◌≤◌, ◌<◌, ◌==◌, ◌
 ghost use Rattle.std.specs.Cmp.Lexicographic.{pointwise, slice_cmp, nat_list_eq_equiv, nat_list_cmp_total, texts_ties, texts_po};
 ghost use Rattle.std.specs.Cmp;
 ghost use Rattle.std.specs.Ordering.{nat_cmp};
+ghost use Rattle.semantics.specs.Limits.{most_key_bytes, most_text_bytes};
 ghost use Rattle.ids.specs.declared.refusal.Refusal.TheVariants.{NoMemory, KeyTooLong, TextTooLong};
 
 use ids::Refusal;
@@ -45,8 +46,8 @@ impl Key {
     /// # Errors
     /// `KeyTooLong` for more than 256 bytes, before any memory is taken, else `NoMemory` if allocation fails.
     pub fn new(alloc: Global, text: &str) -> Result<Key, Refusal>
-        ensures ok { IfOk result (λ k. (k ≡ text.now) × (length text.now ≤ 256)) }
-        ensures too_long { (result ≡ Err KeyTooLong) ↔ (256 < length text.now) }
+        ensures ok { IfOk result (λ k. (k ≡ text.now) × (length text.now ≤ most_key_bytes)) }
+        ensures too_long { (result ≡ Err KeyTooLong) ↔ (most_key_bytes < length text.now) }
         ensures err { IfErr result (λ why. (why ≡ NoMemory) ⊎ (why ≡ KeyTooLong)) }
     {
         BoundedText::copy_of(alloc, text, Refusal::KeyTooLong)
@@ -59,8 +60,8 @@ impl Text {
     /// # Errors
     /// `TextTooLong` for more than 4,096 bytes, before any memory is taken, else `NoMemory` if allocation fails.
     pub fn new(alloc: Global, text: &str) -> Result<Text, Refusal>
-        ensures ok { IfOk result (λ t. (t ≡ text.now) × (length text.now ≤ 4096)) }
-        ensures too_long { (result ≡ Err TextTooLong) ↔ (4096 < length text.now) }
+        ensures ok { IfOk result (λ t. (t ≡ text.now) × (length text.now ≤ most_text_bytes)) }
+        ensures too_long { (result ≡ Err TextTooLong) ↔ (most_text_bytes < length text.now) }
         ensures err { IfErr result (λ why. (why ≡ NoMemory) ⊎ (why ≡ TextTooLong)) }
     {
         BoundedText::copy_of(alloc, text, Refusal::TextTooLong)

@@ -4,6 +4,7 @@ use Rattle.ids.specs.Configurations.{is_from_one_to}
 use Rattle.ids.specs.Members.{is_member}
 use Rattle.ids.specs.declared.refusal.Refusal.{Refusal}
 use Rattle.ids.specs.declared.refusal.Refusal.TheVariants.{UnknownReplica, BadLine}
+use Rattle.semantics.specs.Limits.{most_counter, most_replica}
 use Rattle.semantics.specs.Ids.{OpId, id_at}
 use Rattle.serde_json.specs.Data.{Data, Items, no_items, item}
 use Rattle.wire.specs.Forms.{and_then, list_form, number_form}
@@ -14,11 +15,11 @@ limited_form limit d = and_then (λ n. if is_from_one_to limit n then Ok n else 
 
 -- the counter of an operation
 abbrev pub counter_form : Data → Result ℕ Refusal
-counter_form d = limited_form 4611686018427387904 d
+counter_form d = limited_form most_counter d
 
 -- the number of a replica
 abbrev pub replica_form : Data → Result ℕ Refusal
-replica_form d = limited_form 4294967295 d
+replica_form d = limited_form most_replica d
 
 -- the id, where its replica is one of the table
 abbrev pub member_of : List ℕ → OpId → Result OpId Refusal

@@ -4,6 +4,7 @@ use Rattle.std.specs.Option.{option_map_or}
 use Rattle.std.specs.Str.{bytes_eq}
 use Rattle.ids.specs.declared.refusal.Refusal.{Refusal}
 use Rattle.ids.specs.declared.refusal.Refusal.TheVariants.{TooDeep, KeyTooLong, BadLine}
+use Rattle.semantics.specs.Limits.{most_key_bytes, most_keys}
 use Rattle.semantics.specs.Elements.{Element, Doc, Field, Item, Place, At, HeadOf, Tag, AsMap, AsList}
 use Rattle.serde_json.specs.Data.{Data, Items, no_items, item}
 use Rattle.serde_json.specs.Find.{as_array, as_str}
@@ -15,7 +16,7 @@ use Rattle.wire.specs.Members.{id_of, member_of}
 
 -- the key of a field, of at most 256 bytes
 abbrev pub field_key : List ℕ → Result LastKey Refusal
-field_key name = if nat_lt 256 (length name) then Err KeyTooLong else Ok (FieldName name)
+field_key name = if nat_lt most_key_bytes (length name) then Err KeyTooLong else Ok (FieldName name)
 
 -- the id of a member's item
 abbrev pub item_key : List ℕ → Items → Result LastKey Refusal
@@ -61,7 +62,7 @@ count_parts (item part parts) = suc (count_parts parts)
 
 -- at most 32 parts
 abbrev pub path_of : List ℕ → Items → Result (List Entered) Refusal
-path_of table parts = if nat_lt 32 (count_parts parts) then Err TooDeep else parts_of table parts
+path_of table parts = if nat_lt most_keys (count_parts parts) then Err TooDeep else parts_of table parts
 
 -- a list of parts
 abbrev pub path_form : List ℕ → Data → Result (List Entered) Refusal

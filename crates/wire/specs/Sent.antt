@@ -3,6 +3,7 @@ use Rattle.std.specs.Prelude.{◌≡◌, ℕ, ◌<◌, ◌≤◌, ⊤, IsTrue, B
 use Rattle.std.specs.List.{list_all}
 use Rattle.ids.specs.Configurations.{is_from_one_to}
 use Rattle.ids.specs.Members.{is_member}
+use Rattle.semantics.specs.Limits.{most_counter, most_key_bytes, most_keys, most_replica}
 use Rattle.semantics.specs.Ids.{OpId}
 use Rattle.semantics.specs.Elements.{Place}
 use Rattle.semantics.specs.Faults.{is_of_members}
@@ -17,7 +18,7 @@ use Rattle.wire.specs.Reading.{mutation_form}
 
 -- the id of a member's operation, whose numbers are within their limits
 abbrev pub IsSentId : List ℕ → OpId → Type 0
-IsSentId table a = IsTrue (is_from_one_to 4611686018427387904 a.counter) × IsTrue (is_from_one_to 4294967295 a.replica) × IsTrue (is_member table a.replica)
+IsSentId table a = IsTrue (is_from_one_to most_counter a.counter) × IsTrue (is_from_one_to most_replica a.replica) × IsTrue (is_member table a.replica)
 
 -- such ids, whose replicas rise above p
 abbrev pub IsSentVector : List ℕ → ℕ → Vector → Type 0
@@ -26,7 +27,7 @@ IsSentVector table p (a ∷ v) = (p < a.replica) × IsSentId table a × IsSentVe
 
 -- a field's key of at most 256 bytes, or the id of a member's item
 abbrev pub IsSentKey : List ℕ → Key → Type 0
-IsSentKey table (FieldKey n) = length n ≤ 256
+IsSentKey table (FieldKey n) = length n ≤ most_key_bytes
 IsSentKey table (ItemKey a) = IsSentId table a
 
 -- such keys
@@ -45,14 +46,14 @@ pub record IsSent (table : List ℕ) (s : Stamped) : Type 0 where
   pub id : IsSentId table s.id
   pub vector : IsSentVector table 0 s.vector
   pub keys : AreSentKeys table (keys_from_root (element_of s.place))
-  pub few : depth_of s.place ≤ 32
+  pub few : depth_of s.place ≤ most_keys
   pub mutation : IsSentMutation s.mutation
 
 -- ---- what a caller answers for, and what types keep
 
 -- the counter is one of those on the wire
 abbrev pub is_counter : ℕ → Bool
-is_counter c = is_from_one_to 4611686018427387904 c
+is_counter c = is_from_one_to most_counter c
 
 -- the counter of each id is
 abbrev pub are_counters : Vector → Bool
@@ -72,7 +73,7 @@ pub record CanBeSent (table : List ℕ) (s : Stamped) : Type 0 where
 
 -- the number of a replica, from 1 to the greatest of 32 bits
 abbrev pub IsReplica : ℕ → Type 0
-IsReplica p = IsTrue (is_from_one_to 4294967295 p)
+IsReplica p = IsTrue (is_from_one_to most_replica p)
 
 -- the replica of each id has such a number
 abbrev pub AreReplicas : Vector → Type 0
@@ -81,7 +82,7 @@ AreReplicas (a ∷ v) = IsReplica a.replica × AreReplicas v
 
 -- what the type of a key keeps: at most 256 bytes of a name, or the number of a replica
 abbrev pub IsTypedKey : Key → Type 0
-IsTypedKey (FieldKey n) = length n ≤ 256
+IsTypedKey (FieldKey n) = length n ≤ most_key_bytes
 IsTypedKey (ItemKey a) = IsReplica a.replica
 
 -- such keys
@@ -92,7 +93,7 @@ AreTypedKeys (k ∷ ks) = IsTypedKey k × AreTypedKeys ks
 -- what the types of a place keep
 pub record IsTypedPlace (p : Place) : Type 0 where
   pub keys : AreTypedKeys (keys_from_root (element_of p))
-  pub few : depth_of p ≤ 32
+  pub few : depth_of p ≤ most_keys
 
 -- what the types of an operation keep: of its ids, its place, and the value that it writes
 pub record IsTyped (s : Stamped) : Type 0 where

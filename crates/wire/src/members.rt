@@ -6,11 +6,8 @@ ghost use Rattle.serde_json.specs.View.{view, items_view};
 ghost use Rattle.wire.specs.Members.{counter_form, id_of, limited_form, member_form, member_of, replica_form};
 
 use crate::forms::{list_in, number_in};
-use ids::{OpId, Refusal, ReplicaId, ReplicaTable};
+use ids::{MOST_COUNTER, OpId, Refusal, ReplicaId, ReplicaTable};
 use serde_json::Value;
-
-/// The greatest counter of an id.
-const MOST_COUNTER: u64 = 4_611_686_018_427_387_904;
 
 /// The greatest number of a replica.
 const MOST_REPLICA: u64 = 4_294_967_295;

@@ -3,6 +3,7 @@
 
 ghost use Rattle.std.specs.Prelude.{◌≡◌, ◌≤◌, ◌+◌, ℕ, None, IfOk, MatchResult, length, map};
 ghost use Rattle.serde_json.specs.View.{view, items_view};
+ghost use Rattle.semantics.specs.Limits.{most_keys};
 ghost use Rattle.semantics.specs.Elements.{Doc};
 ghost use Rattle.semantics.specs.Paths.{down};
 ghost use Rattle.cursor.specs.Meanings.{hop_of, tag_of};
@@ -130,7 +131,7 @@ fn numbered_key(number: u64) -> Result<WrittenKey, Refusal>
 
 /// The place that the parts, which begin with the root, and a last key lead to.
 fn place_of(alloc: Global, parts: Vec<Part>, last: WrittenKey) -> Result<Place, Refusal>
-    requires { length parts.items ≤ 32 }
+    requires { length parts.items ≤ most_keys }
     ensures { IsUnlessMemory result (place_below Doc None (map part_meant parts.items) (key_meant last)) }
 {
     let mut hops = Vec::new(alloc);
@@ -164,7 +165,7 @@ fn place_at_last(
     entered: Option<Tag>,
     last: WrittenKey,
 ) -> Result<Place, Refusal>
-    requires { length hops.items + keys_ahead entered ≤ 32 }
+    requires { length hops.items + keys_ahead entered ≤ most_keys }
     ensures { IsUnlessMemory result (place_at_last (down Doc (map hop_of hops.items)) (entered_as entered) (key_meant last)) }
 {
     if is_list_head(entered, &last) {
