@@ -1,0 +1,2 @@
+-- What the tests rest on.
+pub mod KeptClients
