@@ -217,7 +217,7 @@ room_parts a b room = (omega (arith, room), omega (arith, room))
 pub same_run : (runs : List Run) (k : ℕ) (r q : Run) → slice_get runs k ≡ Some r → slice_get runs k ≡ Some q → r ≡ q
 same_run runs k r q is at = some_is r q (sym is ∙ at)
 
--- all that `place` does
+-- all that `insert_after` does
 pub record IsPlaced (runs : List Run) (homes : List (OpId × ℕ)) (prev : Option OpId) (a : OpId) (k : ℕ) (r q : Run) : Type 0 where
   pub items : joined (set runs k q) ≡ insert_after prev a (joined runs)
   pub shown : joined_shown (set runs k q) ≡ joined_shown runs

@@ -1,4 +1,4 @@
--- Places among keys, and entries in columns.
+-- Positions among keys, and entries in columns.
 pub mod Ranks
 pub mod Puts
 pub mod Zipped

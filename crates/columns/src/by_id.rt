@@ -73,14 +73,14 @@ impl<T> ById<T> {
     }
 
     /// The id at a position, and its value.
-    pub fn at(&self, place: usize) -> (OpId, &T)
-        requires { place < length self.now.entries }
-        ensures { slice_get self.now.entries place ≡ Some (result.0, result.1.now) }
+    pub fn at(&self, position: usize) -> (OpId, &T)
+        requires { position < length self.now.entries }
+        ensures { slice_get self.now.entries position ≡ Some (result.0, result.1.now) }
     {
         match &self.held {
             Held::Empty => unreachable!(),
             Held::Single(entry) => (entry.id, &entry.value),
-            Held::Columns(columns) => columns.at(place),
+            Held::Columns(columns) => columns.at(position),
         }
     }
 }
@@ -124,7 +124,7 @@ impl<T: Drop> ById<T> {
     /// Removes the entries whose ids the vector covers. Takes no memory. In columns it straightens the rings, looks at each entry once,
     /// and moves the entries that stay to the front.
     pub fn clear(&mut self, vector: &VersionVector)
-        requires { All (λ place. place < length vector.now) self.old.indices }
+        requires { All (λ index. index < length vector.now) self.old.indices }
         ensures kept { zip self.new.entries self.new.indices ≡ filter (λ e. is_uncovered vector.now (e.0.0.counter, e.1)) (zip self.old.entries self.old.indices) }
         ensures without { (table : List ℕ) → AreDistinct table → length table ≡ length vector.now → StandBeside table self.old.entries self.old.indices → self.new.entries ≡ without (covers (by_table table vector.now)) self.old.entries }
         ensures beside { (table : List ℕ) → StandBeside table self.old.entries self.old.indices → StandBeside table self.new.entries self.new.indices }

@@ -60,13 +60,13 @@ impl<T> EntryColumns<T> {
     }
 
     /// The id at a position, and its value.
-    pub fn at(&self, place: usize) -> (OpId, &T)
-        requires { place < length self.now.entries }
-        ensures { slice_get self.now.entries place ≡ Some (result.0, result.1.now) }
+    pub fn at(&self, position: usize) -> (OpId, &T)
+        requires { position < length self.now.entries }
+        ensures { slice_get self.now.entries position ≡ Some (result.0, result.1.now) }
     {
         (
-            id_at(&self.ids, &self.beside, place),
-            &self.beside.get(place).1,
+            id_at(&self.ids, &self.beside, position),
+            &self.beside.get(position).1,
         )
     }
 
@@ -86,13 +86,13 @@ impl<T> EntryColumns<T> {
 }
 
 /// The id at a position.
-fn id_at<T>(ids: &IdColumns, beside: &Rings<(ReplicaId, T)>, place: usize) -> OpId
+fn id_at<T>(ids: &IdColumns, beside: &Rings<(ReplicaId, T)>, position: usize) -> OpId
     requires long { length beside.now.items ≡ length ids.now.ids }
-    requires within { place < length beside.now.items }
-    ensures { (d : TheId) → slice_index_or (keys_of (entries_of ids.now.ids beside.now.items)) place d ≡ result }
+    requires within { position < length beside.now.items }
+    ensures { (d : TheId) → slice_index_or (keys_of (entries_of ids.now.ids beside.now.items)) position d ≡ result }
 {
-    let (counter, _) = ids.at(place);
-    let replica = beside.get(place).0;
+    let (counter, _) = ids.at(position);
+    let replica = beside.get(position).0;
     OpId { counter, replica }
 }
 
@@ -147,7 +147,7 @@ impl<T: Drop> EntryColumns<T> {
     /// Removes the entries whose ids the vector covers. Takes no memory, straightens the rings, looks at each entry once, and moves
     /// the entries that stay to the front.
     pub fn clear(&mut self, vector: &VersionVector)
-        requires { All (λ place. place < length vector.now) self.old.indices }
+        requires { All (λ index. index < length vector.now) self.old.indices }
         ensures kept { zip self.new.entries self.new.indices ≡ filter (λ e. is_uncovered vector.now (e.0.0.counter, e.1)) (zip self.old.entries self.old.indices) }
         ensures without { (table : List ℕ) → AreDistinct table → length table ≡ length vector.now → StandBeside table self.old.entries self.old.indices → self.new.entries ≡ without (covers (by_table table vector.now)) self.old.entries }
         ensures beside { (table : List ℕ) → StandBeside table self.old.entries self.old.indices → StandBeside table self.new.entries self.new.indices }
@@ -176,12 +176,12 @@ fn put_in<T: Drop>(
 {
     let OpId { counter, replica } = id;
     match find_id(ids, beside, id) {
-        Ok(place) => {
-            let _ = beside.replace(place, (replica, value));
+        Ok(position) => {
+            let _ = beside.replace(position, (replica, value));
         }
-        Err(place) => {
-            ids.insert(place, counter, index);
-            beside.insert(place, (replica, value));
+        Err(position) => {
+            ids.insert(position, counter, index);
+            beside.insert(position, (replica, value));
         }
     }
 }

@@ -52,11 +52,14 @@ impl FieldColumns {
     }
 
     /// The key at a position in byte order, and its number.
-    pub fn at(&self, place: usize) -> (&Key, usize)
-        requires { place < length self.now.entries }
-        ensures { slice_get self.now.entries place ≡ Some (result.0.now, result.1) }
+    pub fn at(&self, position: usize) -> (&Key, usize)
+        requires { position < length self.now.entries }
+        ensures { slice_get self.now.entries position ≡ Some (result.0.now, result.1) }
     {
-        (self.keys.at(place), self.numbers[self.keys.number(place)])
+        (
+            self.keys.at(position),
+            self.numbers[self.keys.number(position)],
+        )
     }
 
     /// The number of a key. Binary search.
@@ -65,7 +68,7 @@ impl FieldColumns {
     {
         let mut probes = 0;
         match self.keys.find(key, &mut probes) {
-            Ok(place) => Some(self.numbers[self.keys.number(place)]),
+            Ok(position) => Some(self.numbers[self.keys.number(position)]),
             Err(_) => None,
         }
     }
@@ -91,10 +94,10 @@ impl FieldColumns {
         ensures room { self.old.room ≤ self.new.room + 1 }
     {
         let mut probes = 0;
-        let Err(place) = self.keys.find(&key, &mut probes) else {
+        let Err(position) = self.keys.find(&key, &mut probes) else {
             unreachable!()
         };
-        self.keys.put(place, key);
+        self.keys.put(position, key);
         self.numbers.push_reserved(number);
     }
 }

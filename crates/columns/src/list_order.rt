@@ -4,7 +4,7 @@ ghost use Rattle.std.specs.Prelude.{◌≡◌, ◌≤◌, ◌<◌, ◌+◌, Bool
 ghost use Rattle.std.specs.List.{filter};
 ghost use Rattle.semantics.specs.Ids.{OpId as TheId, is_same_id};
 ghost use Rattle.semantics.specs.Context.{insert_after};
-ghost use Rattle.columns.specs.Orders.{has_item, has_place};
+ghost use Rattle.columns.specs.Orders.{has_item, has_position};
 
 use crate::order_blocks::OrderBlocks;
 use ids::OpId;
@@ -70,8 +70,8 @@ impl ListOrder {
     ///
     /// Takes no memory. Finds `prev` by a binary search, a look at each block and a walk in one, and goes past a block of greater items
     /// by a look at one id. Moves the items behind the new one in its block.
-    pub fn place(&mut self, prev: Option<OpId>, id: OpId)
-        requires prev { IsTrue (has_place prev self.old.items) }
+    pub fn insert_after(&mut self, prev: Option<OpId>, id: OpId)
+        requires prev { IsTrue (has_position prev self.old.items) }
         requires id { IsFalse (has_item id self.old.items) }
         requires room { 0 < self.old.room }
         ensures items { self.new.items ≡ insert_after prev id self.old.items }
@@ -80,7 +80,7 @@ impl ListOrder {
     {
         match &mut self.blocks {
             None => unreachable!(),
-            Some(blocks) => blocks.place(prev, id),
+            Some(blocks) => blocks.insert_after(prev, id),
         }
     }
 

@@ -56,20 +56,20 @@ impl SortedKeys {
     }
 
     /// The key at a position in byte order.
-    pub fn at(&self, place: usize) -> &Key
-        requires { place < length self.now.keys }
-        ensures { slice_get self.now.keys place ≡ Some result.now }
+    pub fn at(&self, position: usize) -> &Key
+        requires { position < length self.now.keys }
+        ensures { slice_get self.now.keys position ≡ Some result.now }
     {
-        key_at(&self.keys, &self.order, place)
+        key_at(&self.keys, &self.order, position)
     }
 
     /// How many keys were put before the one at a position.
-    pub fn number(&self, place: usize) -> usize
-        requires { place < length self.now.keys }
-        ensures number { slice_get self.now.numbers place ≡ Some result }
+    pub fn number(&self, position: usize) -> usize
+        requires { position < length self.now.keys }
+        ensures number { slice_get self.now.numbers position ≡ Some result }
         ensures numbers { AreNumbers (length self.now.keys) self.now.numbers }
     {
-        *self.order.get(place)
+        *self.order.get(position)
     }
 
     /// Makes room for one more key.
@@ -90,7 +90,7 @@ impl SortedKeys {
     /// as many others as their number has binary digits: at most k of fewer than 2 to the k. Each comparison adds 1 to `probes`.
     pub fn find(&self, key: &Key, probes: &mut u64) -> Result<usize, usize>
         requires { probes.old ≤ 18446744073709551551 }
-        ensures place { MatchResult result (λ place. (slice_get self.now.keys place ≡ Some key.now) × (place ≡ rank name_cmp key.now self.now.keys)) (GoesTo name_cmp key.now self.now.keys) }
+        ensures position { MatchResult result (λ position. (slice_get self.now.keys position ≡ Some key.now) × (position ≡ rank name_cmp key.now self.now.keys)) (GoesTo name_cmp key.now self.now.keys) }
         ensures few_probes { (k : ℕ) → length self.now.keys < 2 ^ k → probes.new ≤ probes.old + k }
         ensures any_probe { 0 < length self.now.keys → probes.old < probes.new }
         ensures counted { probes.old ≤ probes.new }
@@ -99,26 +99,26 @@ impl SortedKeys {
     }
 
     /// Puts a key that isn't there yet at the position that `find` gives for it. Takes no memory. One insert into `Rings`.
-    pub fn put(&mut self, place: usize, key: Key)
-        requires place { GoesTo name_cmp key self.old.keys place }
+    pub fn put(&mut self, position: usize, key: Key)
+        requires position { GoesTo name_cmp key self.old.keys position }
         requires room { 0 < self.old.room }
-        ensures keys { self.new.keys ≡ insert self.old.keys place key }
+        ensures keys { self.new.keys ≡ insert self.old.keys position key }
         ensures set { as_set self.new.keys ≡ put name_cmp key tt (as_set self.old.keys) }
-        ensures numbers { self.new.numbers ≡ insert self.old.numbers place (length self.old.keys) }
+        ensures numbers { self.new.numbers ≡ insert self.old.numbers position (length self.old.keys) }
         ensures room { self.old.room ≤ self.new.room + 1 }
     {
-        self.order.insert(place, self.keys.len());
+        self.order.insert(position, self.keys.len());
         self.keys.push_reserved(key);
     }
 }
 
 /// The key at a position in byte order.
-fn key_at<'a>(keys: &'a [Key], order: &Rings<usize>, place: usize) -> &'a Key
+fn key_at<'a>(keys: &'a [Key], order: &Rings<usize>, position: usize) -> &'a Key
     requires numbers { AreNumbers (length keys.now) order.now.items }
-    requires within { place < length order.now.items }
-    ensures { (d : Name) → slice_index_or (numbered [] keys.now order.now.items) place d ≡ result.now }
+    requires within { position < length order.now.items }
+    ensures { (d : Name) → slice_index_or (numbered [] keys.now order.now.items) position d ≡ result.now }
 {
-    &keys[*order.get(place)]
+    &keys[*order.get(position)]
 }
 
 /// The position of a key, or `Err` with the one where it would be inserted. Binary search.
@@ -126,8 +126,8 @@ fn find_in(keys: &[Key], order: &Rings<usize>, key: &Key, probes: &mut u64) -> R
     requires ordered { AreOrdered keys.now order.now.items }
     requires fits { length order.now.items < 2 ^ 64 }
     requires probes { probes.old ≤ 18446744073709551551 }
-    ensures place { let sorted = numbered [] keys.now order.now.items in
-        MatchResult result (λ place. (slice_get sorted place ≡ Some key.now) × (place ≡ rank name_cmp key.now sorted)) (GoesTo name_cmp key.now sorted) }
+    ensures position { let sorted = numbered [] keys.now order.now.items in
+        MatchResult result (λ position. (slice_get sorted position ≡ Some key.now) × (position ≡ rank name_cmp key.now sorted)) (GoesTo name_cmp key.now sorted) }
     ensures few_probes { (k : ℕ) → length order.now.items < 2 ^ k → probes.new ≤ probes.old + k }
     ensures any_probe { 0 < length order.now.items → probes.old < probes.new }
     ensures counted { probes.old ≤ probes.new }

@@ -1,7 +1,7 @@
 //! Walks over the blocks of a list.
 
 ghost use Rattle.std.specs.Prelude.{◌≡◌, ◌<◌, ◌≤◌, ℕ, length, Some, true, false, slice_get, IfOk, MatchOption};
-ghost use Rattle.columns.specs.Orders.{has_item, has_place};
+ghost use Rattle.columns.specs.Orders.{has_item, has_position};
 ghost use Rattle.columns.specs.Blocks.{AreHomes, GoesIn, IsBehind, IsFound, Run, items_at, joined, joined_shown};
 
 use crate::block::Block;
@@ -35,7 +35,7 @@ pub(crate) fn find(blocks: &[Block], home: usize, id: &OpId) -> Option<Position>
 /// The position behind an item, or behind the head, where what goes in after it comes in.
 pub(crate) fn behind(blocks: &[Block], homes: &Numbers, item: Option<OpId>) -> Option<Position>
     requires { AreHomes blocks.now homes.now.entries }
-    ensures { MatchOption result (has_place item (joined blocks.now) ≡ false) (λ at. IsBehind blocks.now item at.block at.index) }
+    ensures { MatchOption result (has_position item (joined blocks.now) ≡ false) (λ at. IsBehind blocks.now item at.block at.index) }
 {
     let Some(id) = item else {
         return Some(Position { block: 0, index: 0 });

@@ -1,5 +1,6 @@
 -- What a document holds at first and after one more entry, and what its column is.
-use Rattle.std.proofs.Common.{◌≡◌, ℕ, ◌≤◌, max, cond, ◌==◌, true, List, [], ◌∷◌, length, replicate, Bool, false, Option, Some, None, refl, sym, ap, ◌∙◌, subst, arith}
+use Rattle.std.proofs.Common.{◌≡◌, ℕ, ◌≤◌, max, cond, ◌==◌, true, List, [], ◌∷◌, length, replicate, Bool, false, Option, Some, None, refl}
+use Rattle.std.proofs.Common.{sym, ap, ◌∙◌, subst, arith}
 use Rattle.std.proofs.lemmas.List.{length-replicate}
 use Rattle.ids.specs.Members.{AreDistinct}
 use Rattle.semantics.specs.Ids.{OpId}
@@ -26,12 +27,13 @@ use Rattle.semantics.proofs.DocumentIsView.{document_is_view}
 use Rattle.semantics.proofs.LegalFacts.{among_from}
 use Rattle.semantics.proofs.LooseApply.{apply_loose}
 use Rattle.semantics.proofs.PlacedItems.{has, has_prev, item_among, prev_there}
-use Rattle.columns.specs.Orders.{has_place}
+use Rattle.columns.specs.Orders.{has_position}
 use Rattle.tree.specs.Trees.{FitsIn, IsPlaced, Planted, document}
 use Rattle.document.specs.Documents.{IsKept, MayFollowEntries}
 use Rattle.version.proofs.TableColumns.{component-zeros}
 
-pub kept_first : (table : List ℕ) (n : ℕ) (t : Planted) → AreDistinct table → n ≡ length table → t.table ≡ table → document t ≡ empty → IsKept table (replicate n 0) [] t
+pub kept_first : (table : List ℕ) (n : ℕ) (t : Planted) → AreDistinct table → n ≡ length table → t.table ≡ table → document t ≡ empty
+    → IsKept table (replicate n 0) [] t
 kept_first table n t distinct width beside content = record {
   distinct = distinct;
   width = length-replicate n 0 ∙ width;
@@ -56,29 +58,37 @@ kept_next table column next G e a t u same h may kept applied_to width raised = 
   greatest = λ p.
       raised p
       ∙ ap (λ n. cond (a.replica == p) (max a.counter n) n) (h.greatest p)
-      ∙ ap (λ (b : OpId). cond (b.replica == p) (max b.counter (greatest_of (λ c. c.replica == p) (applied G))) (greatest_of (λ c. c.replica == p) (applied G))) (sym same);
+      ∙ ap
+      (λ (b : OpId). cond (b.replica == p) (max b.counter (greatest_of (λ c. c.replica == p) (applied G)))
+      (greatest_of (λ c. c.replica == p) (applied G)))
+      (sym same);
   legal = (h.legal, may);
   beside = kept ∙ h.beside;
   content = applied_to ∙ ap (λ C. apply C (loose_operation (stamped_in e))) h.content ∙ sym (apply_loose (applied G) (stamped_in e));
 }
 
 -- an operation that may follow fits into the tree
-pub fits : (table column : List ℕ) (G : List Entry) (t : Planted) (s : Stamped) → IsKept table column G t → MayFollow (applied G) s → IsPlaced (document t) s
-fits table column G t s h may = subst (λ C. FitsIn C s.id (slot_of s.mutation s.place)) (sym h.content) (by (slot_of s.mutation s.place) refl) where
-  by : (o : Option (Element × Option OpId)) → slot_of s.mutation s.place ≡ o → FitsIn (doc (applied G)) s.id o
-  by None is = tt
-  by (Some slot) is = (
-    before slot.1 ((doc (applied G)).order slot.0) (prev_there (applied G) (operation_after (applied G) s) (legal (stamped_of G) h.legal) may.1 slot.0 slot.1 is),
-    fresh (has s.id ((doc (applied G)).order slot.0)) refl (item_among (applied G) slot.0 s.id),
-  )
-    where
-      before : (p : Option OpId) (bs : List OpId) → has_prev p bs ≡ true → IsTrue (has_place p bs)
-      before None bs yes' = refl
-      before (Some p) bs yes' = yes'
+pub fits : (table column : List ℕ) (G : List Entry) (t : Planted) (s : Stamped) → IsKept table column G t → MayFollow (applied G) s
+    → IsPlaced (document t) s
+fits table column G t s h may = subst (λ C. FitsIn C s.id (slot_of s.mutation s.place)) (sym h.content)
+    (by (slot_of s.mutation s.place) refl) where
+      by : (o : Option (Element × Option OpId)) → slot_of s.mutation s.place ≡ o → FitsIn (doc (applied G)) s.id o
+      by None is = tt
+      by (Some slot) is = (
+        before slot.1 ((doc (applied G)).order slot.0)
+            (prev_there (applied G) (operation_after (applied G) s) (legal (stamped_of G) h.legal) may.1 slot.0 slot.1 is),
+        fresh (has s.id ((doc (applied G)).order slot.0)) refl (item_among (applied G) slot.0 s.id),
+      )
+        where
+          before : (p : Option OpId) (bs : List OpId) → has_prev p bs ≡ true → IsTrue (has_position p bs)
+          before None bs yes' = refl
+          before (Some p) bs yes' = yes'
 
-      fresh : (there : Bool) → has s.id ((doc (applied G)).order slot.0) ≡ there → (has s.id ((doc (applied G)).order slot.0) ≡ true → has_id (applied G) s.id ≡ true) → IsFalse (has s.id ((doc (applied G)).order slot.0))
-      fresh false is among = is
-      fresh true is among = let x = among_from (applied G) s.id (among is) in absurd (may.1.new_id x.0 x.1 x.2)
+          fresh : (there : Bool) → has s.id ((doc (applied G)).order slot.0) ≡ there
+              → (has s.id ((doc (applied G)).order slot.0) ≡ true → has_id (applied G) s.id ≡ true)
+              → IsFalse (has s.id ((doc (applied G)).order slot.0))
+          fresh false is among = is
+          fresh true is among = let x = among_from (applied G) s.id (among is) in absurd (may.1.new_id x.0 x.1 x.2)
 
 module _ (table column : List ℕ) (G : List Entry) (t : Planted) (h : IsKept table column G t) where
   pub column_is_vector : by_table table column ≡ vector_of (applied G)

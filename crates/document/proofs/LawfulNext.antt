@@ -26,19 +26,23 @@ use Rattle.document.specs.Lawful.{is_lawful}
 not_full : (G : List TheEntry) → is_full G ≡ false → length G < 1048576
 not_full G h = leb-false 1048576 (length G) h
 
-none_alone : (ps : List ℕ) (G : List TheEntry) (o : Op) → IsLegalStamped (stamped_entries G) → is_full G ≡ false → AreOfMembers ps G → is_member ps o.id.replica ≡ true → length o.deps ≡ length ps → MayFollow (applied G) (stamped_of ps o) → fault_alone ps o ≡ None
+none_alone : (ps : List ℕ) (G : List TheEntry) (o : Op) → IsLegalStamped (stamped_entries G) → is_full G ≡ false → AreOfMembers ps G
+    → is_member ps o.id.replica ≡ true → length o.deps ≡ length ps → MayFollow (applied G) (stamped_of ps o) → fault_alone ps o ≡ None
 none_alone ps G o l room all own width may =
     let n : length (applied G) < 1048576 = let few = not_full G room in let same = length-applied G in omega arith in
     ap (λ b. cond b (alone_fault ps (stamped_of ps o)) (Some UnknownReplica)) (eq-eqb (length o.deps) (length ps) width)
     ∙ no_fault_alone ps (applied G) (stamped_of ps o) (legal (stamped_entries G) l) n may (known_members ps G o all own may)
 
 -- what follows an entry history of members is lawful there
-pub lawful_next : (own : ℕ) (ps : List ℕ) (G : List TheEntry) (e : Entry) → IsEntryHistory own (entry_of ps e ∷ G) → IsFalse (is_full G) → AreOfMembers ps G → IsTrue (is_member ps (stamped_in (entry_of ps e)).id.replica) → length (op_in e).deps ≡ length ps → is_lawful ps G (op_in e) ≡ true
+pub lawful_next : (own : ℕ) (ps : List ℕ) (G : List TheEntry) (e : Entry) → IsEntryHistory own (entry_of ps e ∷ G) → IsFalse (is_full G)
+    → AreOfMembers ps G → IsTrue (is_member ps (stamped_in (entry_of ps e)).id.replica) → length (op_in e).deps ≡ length ps
+    → is_lawful ps G (op_in e) ≡ true
 lawful_next own ps G e h room all member width =
     let s : Stamped = stamped_of ps (op_in e) in
     let l = entries_legal own (entry_of ps e ∷ G) h in
     let may : MayFollow (applied G) s = subst (λ (t : Stamped). MayFollow (applied G) t) (stamped_same ps e) l.1 in
-    let mine : is_member ps (op_in e).id.replica ≡ true = subst (λ (t : Stamped). is_member ps t.id.replica ≡ true) (stamped_same ps e) member in
+    let mine : is_member ps (op_in e).id.replica
+    ≡ true = subst (λ (t : Stamped). is_member ps t.id.replica ≡ true) (stamped_same ps e) member in
     and_from (is_none (fault_alone ps (op_in e)) && is_ready (applied G) s) (is_none (fault_of (stamped_entries G) s))
     (and_from (is_none (fault_alone ps (op_in e))) (is_ready (applied G) s)
     (ap (λ (f : Option Refusal). is_none f) (none_alone ps G (op_in e) l.0 room all mine width may))

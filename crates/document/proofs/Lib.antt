@@ -2,6 +2,6 @@
 pub mod KeptFacts
 pub mod MissingOps
 pub mod NamedOfColumns
-pub mod PlacesOfIds
+pub mod PositionsOfIds
 pub mod ReceivedFaults
 pub mod LawfulNext

@@ -1,11 +1,11 @@
--- What the tests of a received operation look at, by columns and places.
+-- What the tests of a received operation look at, by columns and positions.
 use Rattle.std.specs.Prelude.{ℕ, Bool, false, cond, not, ◌==◌, List, Option, Some, None, option_map, slice_get, slice_index}
 use Rattle.semantics.specs.Ids.{OpId, id_at}
 use Rattle.semantics.specs.Operations.{Operation}
 use Rattle.semantics.specs.LegalHistory.{has_id}
 use Rattle.semantics.specs.Vectors.{Vector, is_at_most}
 use Rattle.semantics.specs.Entries.{Entry as TheEntry, entry_at, stamped_in}
-use Rattle.oplog.specs.Logs.{place_of}
+use Rattle.oplog.specs.Logs.{position_of}
 
 -- the id that a column names at an index of the table, unless its counter is 0
 abbrev pub named_at : List ℕ → List ℕ → ℕ → Option OpId
@@ -29,4 +29,4 @@ entry_there (Some n) G = entry_at n G
 -- the operation with this id has a vector that isn't at most v
 abbrev pub opens : List TheEntry → Vector → Option OpId → Bool
 opens G v None = false
-opens G v (Some a) = is_beyond v (entry_there (place_of a G) G)
+opens G v (Some a) = is_beyond v (entry_there (position_of a G) G)

@@ -33,7 +33,8 @@ pub fn answer(
     requires kept { IsKept log.now.table applied.now log.now.entries tree.now }
     requires beside { IsBeside log.now.table question.now }
     ensures answer { IfOk result (λ r. said_by log.now.table r ≡ reading_of log.now.entries (asked_of log.now.table question.now)) }
-    ensures err { IfErr result (λ why. (why ≡ NoMemory) ⊎ (reading_of log.now.entries (asked_of log.now.table question.now) ≡ Answered (Refused why))) }
+    ensures err { IfErr result
+        (λ why. (why ≡ NoMemory) ⊎ (reading_of log.now.entries (asked_of log.now.table question.now) ≡ Answered (Refused why))) }
 {
     match question {
         Question::Values(expression) => {
@@ -63,7 +64,9 @@ pub fn answer(
 /// Those of `resolve`, and `AtHead` where it leads to a head.
 fn find(alloc: Global, tree: &Tree, expression: &Expr) -> Result<ElementPlace, Refusal>
     ensures ok { IfOk result (λ e. resolve (visible_items (document tree.now)) expression.now ≡ Ok (At e)) }
-    ensures err { IfErr result (λ why. (why ≡ NoMemory) ⊎ ((f : Element → Answer) → answer_at f (resolve (visible_items (document tree.now)) expression.now) ≡ Refused why)) }
+    ensures err { IfErr result
+        (λ why. (why ≡ NoMemory)
+        ⊎ ((f : Element → Answer) → answer_at f (resolve (visible_items (document tree.now)) expression.now) ≡ Refused why)) }
 {
     let place = tree.resolve(alloc, expression)?;
     place.into_element().ok_or(Refusal::AtHead)
@@ -72,23 +75,27 @@ fn find(alloc: Global, tree: &Tree, expression: &Expr) -> Result<ElementPlace, R
 /// Copies of the operations that the vector doesn't cover, the oldest first.
 pub fn missing(alloc: Global, log: &Log, vector: &VersionVector) -> Result<Vec<Op>, AllocError>
     requires { length vector.now ≡ length log.now.table }
-    ensures ok { IfOk result (λ ops. reverse (map (stamped_of log.now.table) ops.items) ≡ missing (by_table log.now.table vector.now) (stamped_entries log.now.entries)) }
+    ensures ok { IfOk result
+        (λ ops. reverse (map (stamped_of log.now.table) ops.items)
+        ≡ missing (by_table log.now.table vector.now) (stamped_entries log.now.entries)) }
     ensures width { IfOk result (λ ops. All (λ o. length o.deps ≡ length log.now.table) ops.items) }
 {
-    let places = log.missing(alloc, vector)?;
-    let mut ops = Vec::with_capacity(alloc, places.len())?;
-    for place in &places {
-        push_copy(&mut ops, log, *place)?;
+    let positions = log.missing(alloc, vector)?;
+    let mut ops = Vec::with_capacity(alloc, positions.len())?;
+    for position in &positions {
+        push_copy(&mut ops, log, *position)?;
     }
     Ok(ops)
 }
 
 /// Appends a copy of the operation at a position, if there is one.
-fn push_copy(ops: &mut Vec<Op>, log: &Log, place: usize) -> Result<(), AllocError>
-    ensures op { OnOk result (map (stamped_of log.now.table) ops.new.items ≡ map (stamped_of log.now.table) ops.old.items ++ cons_option (option_map stamped_in (entry_at place log.now.entries)) []) }
-    ensures width { OnOk result (All (λ o. length o.deps ≡ length log.now.table) ops.old.items → All (λ o. length o.deps ≡ length log.now.table) ops.new.items) }
+fn push_copy(ops: &mut Vec<Op>, log: &Log, position: usize) -> Result<(), AllocError>
+    ensures op { OnOk result (map (stamped_of log.now.table) ops.new.items
+        ≡ map (stamped_of log.now.table) ops.old.items ++ cons_option (option_map stamped_in (entry_at position log.now.entries)) []) }
+    ensures width { OnOk result (All (λ o. length o.deps ≡ length log.now.table) ops.old.items
+        → All (λ o. length o.deps ≡ length log.now.table) ops.new.items) }
 {
-    if let Some(entry) = log.get(place) {
+    if let Some(entry) = log.get(position) {
         let op = entry.op().clone()?;
         ops.push(op)?;
     }

@@ -104,10 +104,10 @@ fn opens(log: &Log, vector: &VersionVector, index: usize) -> bool
     let Some(id) = named(log, vector, index) else {
         return false;
     };
-    let Some(place) = log.find(id) else {
+    let Some(position) = log.find(id) else {
         return false;
     };
-    match log.get(place) {
+    match log.get(position) {
         Some(entry) => !entry.op().deps.le(vector),
         None => false,
     }

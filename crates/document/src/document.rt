@@ -1,6 +1,7 @@
 //! A replica's history and its document, kept together.
 
-ghost use Rattle.std.specs.Prelude.{◌≡◌, ◌≤◌, ◌⊎◌, ◌↔◌, ◌∷◌, [], Ok, None, Some, true, IsTrue, IsFalse, IsOk, MatchResult, length, map, reverse, option_map, IfOk, IfSome, OnOk, IfErr, Err};
+ghost use Rattle.std.specs.Prelude.{◌≡◌, ◌≤◌, ◌⊎◌, ◌↔◌, ◌∷◌, [], Ok, None, Some, true, IsTrue, IsFalse, IsOk, MatchResult, length, map};
+ghost use Rattle.std.specs.Prelude.{reverse, option_map, IfOk, IfSome, OnOk, IfErr, Err};
 ghost use Rattle.std.specs.List.{All};
 ghost use Rattle.ids.specs.declared.refusal.Refusal.TheVariants.{NoMemory, BadConfig};
 ghost use Rattle.ids.specs.Members.{in_order, is_member};
@@ -91,11 +92,11 @@ impl Document {
     }
 
     /// The entry at this position, where the oldest is at 0, or `None` past the end.
-    pub fn entry(&self, place: usize) -> Option<&Entry>
-        ensures entry { option_map (λ e. entry_of self.now.table e.now) result ≡ entry_at place self.now.entries }
+    pub fn entry(&self, position: usize) -> Option<&Entry>
+        ensures entry { option_map (λ e. entry_of self.now.table e.now) result ≡ entry_at position self.now.entries }
         ensures width { IfSome result (λ e. length (op_in e.now).deps ≡ length self.now.table) }
     {
-        self.log.get(place)
+        self.log.get(position)
     }
 
     /// The vector of all that was applied: the greatest counter of each replica, indexed by the table.
@@ -135,7 +136,8 @@ impl Document {
         requires width { length op.now.deps ≡ length self.now.table }
         ensures fault { let fault = fault_of (stamped_entries self.now.entries) (stamped_of self.now.table op.now) in
             MatchResult result (λ _. fault ≡ None) (λ why. fault ≡ Some why) }
-        ensures lawful { fault_alone self.now.table op.now ≡ None → IsOk result ↔ MayFollow (applied self.now.entries) (stamped_of self.now.table op.now) }
+        ensures lawful { fault_alone self.now.table op.now ≡ None
+            → IsOk result ↔ MayFollow (applied self.now.entries) (stamped_of self.now.table op.now) }
     {
         check(&self.log, &self.applied, &self.tree, op)
     }
@@ -147,7 +149,8 @@ impl Document {
     /// the first step that fails decides. `NoMemory` if allocation fails.
     pub fn resolve(&self, alloc: Global, expression: &Expr) -> Result<Place, Refusal>
         ensures ok { IfOk result (λ p. resolve (visible_items (doc (applied self.now.entries))) expression.now ≡ Ok p) }
-        ensures err { IfErr result (λ why. (why ≡ NoMemory) ⊎ (resolve (visible_items (doc (applied self.now.entries))) expression.now ≡ Err why)) }
+        ensures err { IfErr result
+            (λ why. (why ≡ NoMemory) ⊎ (resolve (visible_items (doc (applied self.now.entries))) expression.now ≡ Err why)) }
     {
         self.tree.resolve(alloc, expression)
     }
@@ -193,9 +196,15 @@ impl Document {
     pub fn ask(&self, alloc: Global, question: &Question) -> Result<Reading, Refusal>
         requires { IsBeside self.now.table question.now }
         ensures answer { IfOk result (λ r. said_by self.now.table r ≡ reading_of self.now.entries (asked_of self.now.table question.now)) }
-        ensures view { IfOk result (λ r. (q : TheQuestion) → asked_of self.now.table question.now ≡ OfDocument q → said_by self.now.table r ≡ Answered (view (applied self.now.entries) q)) }
-        ensures err { IfErr result (λ why. (why ≡ NoMemory) ⊎ (reading_of self.now.entries (asked_of self.now.table question.now) ≡ Answered (Refused why))) }
-        ensures view_refuses { IfErr result (λ why. (why ≡ NoMemory) ⊎ ((q : TheQuestion) → asked_of self.now.table question.now ≡ OfDocument q → view (applied self.now.entries) q ≡ Refused why)) }
+        ensures view { IfOk result
+            (λ r. (q : TheQuestion) → asked_of self.now.table question.now ≡ OfDocument q
+            → said_by self.now.table r ≡ Answered (view (applied self.now.entries) q)) }
+        ensures err { IfErr result
+            (λ why. (why ≡ NoMemory) ⊎ (reading_of self.now.entries (asked_of self.now.table question.now) ≡ Answered (Refused why))) }
+        ensures view_refuses { IfErr result
+            (λ why. (why ≡ NoMemory)
+            ⊎ ((q : TheQuestion) → asked_of self.now.table question.now ≡ OfDocument q
+            → view (applied self.now.entries) q ≡ Refused why)) }
     {
         answer(alloc, &self.log, &self.applied, &self.tree, question)
     }
@@ -206,7 +215,9 @@ impl Document {
     /// `AllocError` if allocation fails.
     pub fn missing(&self, alloc: Global, vector: &VersionVector) -> Result<Vec<Op>, AllocError>
         requires { length vector.now ≡ length self.now.table }
-        ensures ops { IfOk result (λ ops. reverse (map (stamped_of self.now.table) ops.items) ≡ missing (by_table self.now.table vector.now) (stamped_entries self.now.entries)) }
+        ensures ops { IfOk result
+            (λ ops. reverse (map (stamped_of self.now.table) ops.items)
+            ≡ missing (by_table self.now.table vector.now) (stamped_entries self.now.entries)) }
         ensures width { IfOk result (λ ops. All (λ o. length o.deps ≡ length self.now.table) ops.items) }
     {
         missing(alloc, &self.log, vector)

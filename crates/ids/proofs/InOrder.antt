@@ -48,22 +48,22 @@ insert_first_greater p (r ∷ ps) = by_test (cases_Bool (ltb p r)) (insert_first
     by_test (inl e) h = rw e refl
     by_test (inr e) h = rw (e, one-add) (ap (λ x. r ∷ x) h)
 
--- the place of the first number that is greater, or the end
-abbrev pub place_for : ℕ → List ℕ → ℕ
-place_for p ps = unwrap_or (position (λ q. ltb p q) ps) (length ps)
+-- the position of the first number that is greater, or the end
+abbrev pub position_for : ℕ → List ℕ → ℕ
+position_for p ps = unwrap_or (position (λ q. ltb p q) ps) (length ps)
 
-place_for-position_or_len : (p : ℕ) (ps : List ℕ) → place_for p ps ≡ position_or_len (λ q. ltb p q) ps
-place_for-position_or_len p ps = by_test (cases_Bool (ltb (position_or_len (λ q. ltb p q) ps) (length ps)))
+position_for-position_or_len : (p : ℕ) (ps : List ℕ) → position_for p ps ≡ position_or_len (λ q. ltb p q) ps
+position_for-position_or_len p ps = by_test (cases_Bool (ltb (position_or_len (λ q. ltb p q) ps) (length ps)))
   where
-    by_test : (ltb (position_or_len (λ q. ltb p q) ps) (length ps) ≡ true) ⊎ (ltb (position_or_len (λ q. ltb p q) ps) (length ps) ≡ false) → place_for p ps ≡ position_or_len (λ q. ltb p q) ps
+    by_test : (ltb (position_or_len (λ q. ltb p q) ps) (length ps) ≡ true) ⊎ (ltb (position_or_len (λ q. ltb p q) ps) (length ps) ≡ false) → position_for p ps ≡ position_or_len (λ q. ltb p q) ps
     by_test (inl e) = rw e refl
     by_test (inr e) = rw e (omega (arith, ltb-false _ _ e, prefix_len-le-length (λ q. not (ltb p q)) ps))
 
-pub place_for-le-length : (p : ℕ) (ps : List ℕ) → place_for p ps ≤ length ps
-place_for-le-length p ps = omega (arith, place_for-position_or_len p ps, prefix_len-le-length (λ q. not (ltb p q)) ps)
+pub position_for-le-length : (p : ℕ) (ps : List ℕ) → position_for p ps ≤ length ps
+position_for-le-length p ps = omega (arith, position_for-position_or_len p ps, prefix_len-le-length (λ q. not (ltb p q)) ps)
 
-pub put_number-insert : (p : ℕ) (ps : List ℕ) → put_number p ps ≡ insert ps (place_for p ps) p
-put_number-insert p ps = rw (place_for-position_or_len p ps) (insert_first_greater p ps)
+pub put_number-insert : (p : ℕ) (ps : List ℕ) → put_number p ps ≡ insert ps (position_for p ps) p
+put_number-insert p ps = rw (position_for-position_or_len p ps) (insert_first_greater p ps)
 
 -- ---- rising numbers
 

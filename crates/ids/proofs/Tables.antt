@@ -29,7 +29,7 @@ members_make_a_table ps h =
       few = omega (arith, length-in_order ps, leb-true (length ps) 64 count.1);
     }
 
--- ---- places in a table
+-- ---- indices in a table
 
 pub all_above : (p : ℕ) (ps : List ℕ) → IsBelowAll p ps → (k : ℕ) → k < length ps → p < get_or ps k 0
 all_above p [] h k l = absurd (omega arith)
@@ -41,11 +41,11 @@ least_first : (p : ℕ) (ps : List ℕ) → IsBelowAll p ps → (k : ℕ) → k 
 least_first p ps h zero l = omega arith
 least_first p ps h (suc k) l = let m : p < get_or ps k 0 = all_above p ps h k (omega arith) in omega arith
 
-pub rising_places : (ps : List ℕ) → AreRising ps → (j k : ℕ) → j ≤ k → k < length ps → get_or ps j 0 ≤ get_or ps k 0
-rising_places [] h j k l m = absurd (omega arith)
-rising_places (p ∷ ps) h zero k l m = least_first p ps h.0 k m
-rising_places (p ∷ ps) h (suc j) zero l m = absurd (omega arith)
-rising_places (p ∷ ps) h (suc j) (suc k) l m = rising_places ps h.1 j k (omega arith) (omega arith)
+pub rising_indices : (ps : List ℕ) → AreRising ps → (j k : ℕ) → j ≤ k → k < length ps → get_or ps j 0 ≤ get_or ps k 0
+rising_indices [] h j k l m = absurd (omega arith)
+rising_indices (p ∷ ps) h zero k l m = least_first p ps h.0 k m
+rising_indices (p ∷ ps) h (suc j) zero l m = absurd (omega arith)
+rising_indices (p ∷ ps) h (suc j) (suc k) l m = rising_indices ps h.1 j k (omega arith) (omega arith)
 
 pub member_at : (ps : List ℕ) (p k : ℕ) → k < length ps → get_or ps k 0 ≡ p → IsTrue (is_member ps p)
 member_at [] p k l e = absurd (omega arith)
@@ -58,7 +58,7 @@ no_member_at (q ∷ ps) p h = or_from (eqb q p) (is_member ps p) (ne_eqb q p (h 
 
 -- a search finds a number exactly where it is a member
 pub search_decides : (ps : List ℕ) (p : ℕ) (r : Result ℕ ℕ) → AreRising ps → IsBinarySearchResult (λ q. nat_cmp q p) ps r → IsNone (result_ok r) ↔ IsFalse (is_member ps p)
-search_decides ps p r h found = by_result r (searched ps p r found (rising_places ps h))
+search_decides ps p r h found = by_result r (searched ps p r found (rising_indices ps h))
   where
     by_result : (s : Result ℕ ℕ) → MatchResult s (λ k. (k < length ps) × (get_or ps k 0 ≡ p)) (λ k. (k ≤ length ps) × ((j : ℕ) → j < k → get_or ps j 0 < p) × ((j : ℕ) → k ≤ j → j < length ps → p < get_or ps j 0)) → IsNone (result_ok s) ↔ IsFalse (is_member ps p)
     by_result (Ok k) m = (λ e. absurd (both_ways true e refl), λ e. absurd (both_ways (is_member ps p) e (member_at ps p k m.0 m.1)))

@@ -1,6 +1,7 @@
 //! The table of an engine's replicas.
 
 ghost use Rattle.std.specs.Prelude.{◌≡◌, ◌≤◌, ◌↔◌, ◌⊎◌, ℕ, nat_lt, length, slice_get, Some, Err, IsTrue, IsFalse, IfOk, OnOk, IfErr, IfSome, IsNone};
+ghost use Rattle.std.specs.Arc.{arc_value};
 ghost use Rattle.std.specs.List.{position};
 ghost use Rattle.ids.specs.Members.{AreDistinct, is_member, in_order, put_number};
 ghost use Rattle.ids.specs.Configurations.{are_members};
@@ -10,11 +11,13 @@ use crate::members::are_members;
 use crate::{Refusal, ReplicaId};
 use std::alloc::{AllocError, AllocFailed, Global};
 use std::marker::Model;
+use std::sync::Arc;
 
-/// The replicas of an engine: 1 to 64 distinct numbers, rising. Contracts see the list of the numbers.
+/// The replicas of an engine: 1 to 64 distinct numbers, rising. Contracts see the list of the numbers. A clone shares them, and
+/// takes no memory.
 #[derive(Debug, Drop)]
 pub struct ReplicaTable {
-    numbers: Vec<u32>,
+    numbers: Arc<Vec<u32>>,
 }
 
 impl Model for ReplicaTable {
@@ -22,11 +25,12 @@ impl Model for ReplicaTable {
 
     ghost Value = { List ℕ };
 
+    ghost use Rattle.std.specs.Arc.{arc_value};
     ghost use Rattle.ids.specs.Tables.{IsTable};
 
-    ghost view = { λ t. t.numbers.items };
+    ghost view = { λ t. (arc_value t.numbers).items };
 
-    ghost invariant = { λ t. IsTable t.numbers.items };
+    ghost invariant = { λ t. IsTable (arc_value t.numbers).items };
 }
 
 impl ReplicaTable {
@@ -50,7 +54,8 @@ impl ReplicaTable {
         for &member in members {
             put_number(&mut numbers, member)?;
         }
-        Ok(ReplicaTable { numbers })
+        let shared = Arc::new(alloc, numbers)?;
+        Ok(ReplicaTable { numbers: shared })
     }
 
     /// The index of a replica, or `None` if it isn't a member. Binary search: compares at most 7 numbers.
@@ -86,7 +91,7 @@ impl Clone for ReplicaTable {
 
     fn clone(&self) -> Result<ReplicaTable, AllocError> {
         Ok(ReplicaTable {
-            numbers: self.numbers.clone()?,
+            numbers: Arc::try_clone(&self.numbers)?,
         })
     }
 }
@@ -95,8 +100,8 @@ impl Clone for ReplicaTable {
 fn put_number(numbers: &mut Vec<u32>, number: u32) -> Result<(), AllocFailed<u32>>
     ensures { OnOk result (numbers.new.items ≡ put_number number numbers.old.items) }
 {
-    let place = first_greater(numbers, number).unwrap_or(numbers.len());
-    numbers.insert(place, number)
+    let position = first_greater(numbers, number).unwrap_or(numbers.len());
+    numbers.insert(position, number)
 }
 
 /// The index of the first greater number.

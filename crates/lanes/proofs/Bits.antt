@@ -152,14 +152,14 @@ bit_at-word_at bits w j h = bit_mask_l (chunk (64 * w) 64 bits) j ∙ ap (λ b. 
 
 -- a packed list has the bits that were packed
 pub is_set-packed : (bits : List Bool) (i : ℕ) → is_set (packed bits) i ≡ get_or bits i false
-is_set-packed bits i = by_place (cases_lt (i / 64) (div_ceil (length bits) 64))
+is_set-packed bits i = by_word (cases_lt (i / 64) (div_ceil (length bits) 64))
   where
-    by_place : (i / 64 < div_ceil (length bits) 64) ⊎ (div_ceil (length bits) 64 ≤ i / 64) → is_set (packed bits) i ≡ get_or bits i false
-    by_place (inl h) =
+    by_word : (i / 64 < div_ceil (length bits) 64) ⊎ (div_ceil (length bits) 64 ≤ i / 64) → is_set (packed bits) i ≡ get_or bits i false
+    by_word (inl h) =
         ap (λ m. eqb (bit_at m (i % 64)) 1) (get_or-packed bits (i / 64) h)
         ∙ ap (λ m. eqb m 1) (bit_at-word_at bits (i / 64) (i % 64) (omega arith))
         ∙ bit_is _ ∙ ap (λ m. get_or bits m false) (omega arith)
-    by_place (inr h) =
+    by_word (inr h) =
         ap (λ m. eqb (bit_at m (i % 64)) 1) (get_or_past (packed bits) (i / 64) 0 (omega (arith, length-map-range_with_len (word_at bits) 0 (div_ceil (length bits) 64))))
         ∙ ap (λ m. eqb m 1) (bit_at-zero (i % 64))
         ∙ sym (get_or_past bits i false (omega arith))

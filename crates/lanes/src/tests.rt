@@ -41,8 +41,8 @@ fn numbers(alloc: Global, width: usize, seed: u64) -> Result<Vec<u64>, Fail> {
 /// This many zeros, but 1 at the end.
 fn one_at_end(alloc: Global, width: usize) -> Result<Vec<u64>, Fail> {
     let mut numbers = Vec::new(alloc);
-    for place in 1..=width {
-        numbers.push(u64::from(place == width))?;
+    for index in 1..=width {
+        numbers.push(u64::from(index == width))?;
     }
     Ok(numbers)
 }
@@ -87,7 +87,7 @@ fn assert_last(rt: &impl Abort, one: &[u64], zeros: &[u64])
 }
 
 #[test]
-fn the_last_place_counts(rt: HostRuntime) -> Result<(), Fail> {
+fn the_last_number_counts(rt: HostRuntime) -> Result<(), Fail> {
     for width in WIDTHS {
         let zeros = vec![in rt.alloc(); 0; width]?;
         let one = one_at_end(rt.alloc(), width)?;

@@ -3,7 +3,7 @@ pub mod Oldest
 pub mod Rising
 pub mod Missing
 pub mod Found
-pub mod Places
+pub mod Positions
 pub mod Room
 pub mod KnownMembers
 pub mod LongerHistories

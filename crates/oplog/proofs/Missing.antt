@@ -20,23 +20,23 @@ use Rattle.semantics.specs.Entries.{Entry as TheEntry, entry_at, missing, stampe
 use Rattle.semantics.proofs.TableVectors.{at-by_table}
 use Rattle.version.proofs.TableColumns.{component-get}
 use Rattle.columns.specs.Numbered.{Numbered}
-use Rattle.oplog.specs.Logs.{AreOfMembers, HaveOwnIds, missing_places, numbers_above, numbers_of, place_of, places_by}
-use Rattle.oplog.proofs.Places.{all_others, places_by-find, places_by-other, places_by-own}
+use Rattle.oplog.specs.Logs.{AreOfMembers, HaveOwnIds, missing_positions, numbers_above, numbers_of, position_of, positions_by}
+use Rattle.oplog.proofs.Positions.{all_others, positions_by-find, positions_by-other, positions_by-own}
 use Rattle.oplog.proofs.Rising.{AreTo, Rises, count, count-append, count-permutation, rises-last, rises-sorted, same_rising}
 
 above-not : (x c : ℕ) → nat_lt x c ≡ not (nat_le c x)
 above-not x c = grind (arith, nat_tests)
 
 -- a column is what a function gives of each replica of the table
-by_places : (f : ℕ → ℕ) (ps cs : List ℕ) → length cs ≡ length ps → ((i : ℕ) → i < length ps → f (get_or ps i 0) ≡ get_or cs i 0) → map f ps ≡ cs
-by_places f [] [] long at_place = refl
-by_places f [] (c ∷ cs) long at_place = absurd (omega arith)
-by_places f (p ∷ ps) [] long at_place = absurd (omega arith)
-by_places f (p ∷ ps) (c ∷ cs) long at_place = (λ t. at_place 0 (omega arith) t ∷ by_places f ps cs (omega arith) (λ i lt. at_place (suc i) (omega arith)) t)
+by_indices : (f : ℕ → ℕ) (ps cs : List ℕ) → length cs ≡ length ps → ((i : ℕ) → i < length ps → f (get_or ps i 0) ≡ get_or cs i 0) → map f ps ≡ cs
+by_indices f [] [] long at_index = refl
+by_indices f [] (c ∷ cs) long at_index = absurd (omega arith)
+by_indices f (p ∷ ps) [] long at_index = absurd (omega arith)
+by_indices f (p ∷ ps) (c ∷ cs) long at_index = (λ t. at_index 0 (omega arith) t ∷ by_indices f ps cs (omega arith) (λ i lt. at_index (suc i) (omega arith)) t)
 
 -- counters that are indexed by a table are those that their vector names
 pub counters-are : (ps cs : List ℕ) → AreDistinct ps → length cs ≡ length ps → map (at (by_table ps cs)) ps ≡ cs
-counters-are ps cs distinct long = by_places (at (by_table ps cs)) ps cs long (λ i lt. at-by_table ps cs distinct (get_or ps i 0) ∙ component-get ps cs i distinct lt long)
+counters-are ps cs distinct long = by_indices (at (by_table ps cs)) ps cs long (λ i lt. at-by_table ps cs distinct (get_or ps i 0) ∙ component-get ps cs i distinct lt long)
 
 -- the numbers of the ids above a counter
 abbrev pub above : ℕ → List (OpId × ℕ) → List ℕ
@@ -78,9 +78,9 @@ count-put n c v a (e ∷ es) absent =
     ] absent
 
 -- one more entry, whose id is new and whose replica is in the table
-count-more : (n : ℕ) (f : ℕ → ℕ) (G : List TheEntry) (x : TheEntry) (ps : List ℕ) → AreDistinct ps → IsTrue (is_member ps (stamped_in x).id.replica) → place_of (stamped_in x).id G ≡ None
-    → count n (numbers_above (map f ps) (map (λ p. places_by p (x ∷ G)) ps))
-    ≡ counted n (f (stamped_in x).id.replica) (stamped_in x).id (length G) + count n (numbers_above (map f ps) (map (λ p. places_by p G) ps))
+count-more : (n : ℕ) (f : ℕ → ℕ) (G : List TheEntry) (x : TheEntry) (ps : List ℕ) → AreDistinct ps → IsTrue (is_member ps (stamped_in x).id.replica) → position_of (stamped_in x).id G ≡ None
+    → count n (numbers_above (map f ps) (map (λ p. positions_by p (x ∷ G)) ps))
+    ≡ counted n (f (stamped_in x).id.replica) (stamped_in x).id (length G) + count n (numbers_above (map f ps) (map (λ p. positions_by p G) ps))
 count-more n f G x [] distinct member new = cc
 count-more n f G x (p ∷ ps) distinct member new = at_test (p == (stamped_in x).id.replica) refl member (λ m. count-more n f G x ps distinct.1 m new)
   where
@@ -88,49 +88,49 @@ count-more n f G x (p ∷ ps) distinct member new = at_test (p == (stamped_in x)
     id = (stamped_in x).id
 
     with_x : List ℕ
-    with_x = numbers_above (map f ps) (map (λ q. places_by q (x ∷ G)) ps)
+    with_x = numbers_above (map f ps) (map (λ q. positions_by q (x ∷ G)) ps)
 
     without_x : List ℕ
-    without_x = numbers_above (map f ps) (map (λ q. places_by q G) ps)
+    without_x = numbers_above (map f ps) (map (λ q. positions_by q G) ps)
 
-    split_x : count n (above (f p) (places_by p (x ∷ G)) ++ with_x) ≡ count n (above (f p) (places_by p (x ∷ G))) + count n with_x
-    split_x = count-append n (above (f p) (places_by p (x ∷ G))) with_x
+    split_x : count n (above (f p) (positions_by p (x ∷ G)) ++ with_x) ≡ count n (above (f p) (positions_by p (x ∷ G))) + count n with_x
+    split_x = count-append n (above (f p) (positions_by p (x ∷ G))) with_x
 
-    split : count n (above (f p) (places_by p G) ++ without_x) ≡ count n (above (f p) (places_by p G)) + count n without_x
-    split = count-append n (above (f p) (places_by p G)) without_x
+    split : count n (above (f p) (positions_by p G) ++ without_x) ≡ count n (above (f p) (positions_by p G)) + count n without_x
+    split = count-append n (above (f p) (positions_by p G)) without_x
 
     Claim : Type 0
-    Claim = count n (above (f p) (places_by p (x ∷ G)) ++ with_x) ≡ counted n (f id.replica) id (length G) + count n (above (f p) (places_by p G) ++ without_x)
+    Claim = count n (above (f p) (positions_by p (x ∷ G)) ++ with_x) ≡ counted n (f id.replica) id (length G) + count n (above (f p) (positions_by p G) ++ without_x)
 
     at_test : (b : Bool) → (p == id.replica) ≡ b → (b || is_member ps id.replica) ≡ true → (IsTrue (is_member ps id.replica) → count n with_x ≡ counted n (f id.replica) id (length G) + count n without_x) → Claim
     at_test true e m rest =
         let own : p ≡ id.replica = eqb-true p id.replica e in
-        let here : count n (above (f p) (places_by p (x ∷ G))) ≡ counted n (f id.replica) id (length G) + count n (above (f p) (places_by p G)) =
-        ap (λ es. count n (above (f p) es)) (places_by-own p G x (sym own))
-        ∙ count-put n (f p) (length G) id (places_by p G) (places_by-find p G id (sym own) ∙ new)
-        ∙ ap (λ q. counted n (f q) id (length G) + count n (above (f p) (places_by p G))) own in
+        let here : count n (above (f p) (positions_by p (x ∷ G))) ≡ counted n (f id.replica) id (length G) + count n (above (f p) (positions_by p G)) =
+        ap (λ es. count n (above (f p) es)) (positions_by-own p G x (sym own))
+        ∙ count-put n (f p) (length G) id (positions_by p G) (positions_by-find p G id (sym own) ∙ new)
+        ∙ ap (λ q. counted n (f q) id (length G) + count n (above (f p) (positions_by p G))) own in
         let others : count n with_x ≡ count n without_x = ap (λ ms. count n (numbers_above (map f ps) ms)) (all_others G x ps (λ m. distinct.0 (ap (is_member ps) own ∙ m))) in
         omega (arith, split_x, split, here, others)
     at_test false e m rest =
-        let here : count n (above (f p) (places_by p (x ∷ G))) ≡ count n (above (f p) (places_by p G)) =
-        ap (λ es. count n (above (f p) es)) (places_by-other p G x (λ same. eqb-false p id.replica e (sym same))) in
+        let here : count n (above (f p) (positions_by p (x ∷ G))) ≡ count n (above (f p) (positions_by p G)) =
+        ap (λ es. count n (above (f p) es)) (positions_by-other p G x (λ same. eqb-false p id.replica e (sym same))) in
         let others = rest m in
         omega (arith, split_x, split, here, others)
 
 -- no entry, nothing above
-count-none : (n : ℕ) (f : ℕ → ℕ) (ps : List ℕ) → count n (numbers_above (map f ps) (map (λ p. places_by p []) ps)) ≡ 0
+count-none : (n : ℕ) (f : ℕ → ℕ) (ps : List ℕ) → count n (numbers_above (map f ps) (map (λ p. positions_by p []) ps)) ≡ 0
 count-none n f [] = refl
 count-none n f (p ∷ ps) = count-none n f ps
 
 -- each position is missing as often as its id is above the counter of its replica
 count-missing : (n : ℕ) (v : Vector) (G : List TheEntry) (ps : List ℕ) → AreDistinct ps → AreOfMembers ps G → HaveOwnIds G
-    → count n (numbers_above (map (at v) ps) (map (λ p. places_by p G) ps)) ≡ count n (missing_places v G)
+    → count n (numbers_above (map (at v) ps) (map (λ p. positions_by p G) ps)) ≡ count n (missing_positions v G)
 count-missing n v [] ps distinct members own = count-none n (at v) ps
 count-missing n v (x ∷ G) ps distinct members own =
     let id = (stamped_in x).id in
     let more = count-more n (at v) G x ps distinct members.1 own.1 in
     let rest = count-missing n v G ps distinct members.0 own.0 in
-    let last = count-append n (missing_places v G) (cond (covers v id) [] (length G ∷ [])) in
+    let last = count-append n (missing_positions v G) (cond (covers v id) [] (length G ∷ [])) in
     let same : counted n (at v id.replica) id (length G) ≡ count n (cond (covers v id) [] (length G ∷ [])) =
     ap (λ b. cond b (cond (n == length G) 1 0) 0) (above-not (at v id.replica) id.counter) ∙ at_test (covers v id) in
     omega (arith, more, rest, last, same)
@@ -140,9 +140,9 @@ count-missing n v (x ∷ G) ps distinct members own =
     at_test false = omega arith
 
 -- missing positions are below the length
-missing-to : (v : Vector) (m : ℕ) (G : List TheEntry) → length G ≤ m → AreTo m (missing_places v G)
+missing-to : (v : Vector) (m : ℕ) (G : List TheEntry) → length G ≤ m → AreTo m (missing_positions v G)
 missing-to v m [] le = tt
-missing-to v m (x ∷ G) le = at_test (covers v (stamped_in x).id) (missing_places v G) (missing-to v m G (omega arith))
+missing-to v m (x ∷ G) le = at_test (covers v (stamped_in x).id) (missing_positions v G) (missing-to v m G (omega arith))
   where
     to-last : (k : ℕ) (xs : List ℕ) → AreTo m xs → k ≤ m → AreTo m (xs ++ k ∷ [])
     to-last k [] to at_most = (at_most, tt)
@@ -152,9 +152,9 @@ missing-to v m (x ∷ G) le = at_test (covers v (stamped_in x).id) (missing_plac
     at_test true xs to = subst (AreTo m) (sym (append-nil xs)) to
     at_test false xs to = to-last (length G) xs to (omega (arith, le))
 
-missing-rises : (v : Vector) (G : List TheEntry) → Rises (missing_places v G)
+missing-rises : (v : Vector) (G : List TheEntry) → Rises (missing_positions v G)
 missing-rises v [] = tt
-missing-rises v (x ∷ G) = at_test (covers v (stamped_in x).id) (missing_places v G) (missing-rises v G) (missing-to v (length G) G (omega arith))
+missing-rises v (x ∷ G) = at_test (covers v (stamped_in x).id) (missing_positions v G) (missing-rises v G) (missing-to v (length G) G (omega arith))
   where
     at_test : (b : Bool) (xs : List ℕ) → Rises xs → AreTo (length G) xs → Rises (xs ++ cond b [] (length G ∷ []))
     at_test true xs rises to = subst Rises (sym (append-nil xs)) rises
@@ -162,20 +162,20 @@ missing-rises v (x ∷ G) = at_test (covers v (stamped_in x).id) (missing_places
 
 -- the positions above the counters, sorted, are those that are missing
 pub sorted-missing : (ps cs : List ℕ) (G : List TheEntry) (xs : List ℕ) → AreDistinct ps → length cs ≡ length ps → AreOfMembers ps G → HaveOwnIds G
-    → IsPermutation (numbers_above cs (map (λ p. places_by p G) ps)) xs → IsSorted nat_cmp xs → xs ≡ missing_places (by_table ps cs) G
+    → IsPermutation (numbers_above cs (map (λ p. positions_by p G) ps)) xs → IsSorted nat_cmp xs → xs ≡ missing_positions (by_table ps cs) G
 sorted-missing ps cs G xs distinct long members own moved sorted =
     let v = by_table ps cs in
-    same_rising xs (missing_places v G) (rises-sorted xs sorted) (missing-rises v G)
-    (λ n. count-permutation n (numbers_above cs (map (λ p. places_by p G) ps)) xs moved
-    ∙ ap (λ ds. count n (numbers_above ds (map (λ p. places_by p G) ps))) (sym (counters-are ps cs distinct long))
+    same_rising xs (missing_positions v G) (rises-sorted xs sorted) (missing-rises v G)
+    (λ n. count-permutation n (numbers_above cs (map (λ p. positions_by p G) ps)) xs moved
+    ∙ ap (λ ds. count n (numbers_above ds (map (λ p. positions_by p G) ps))) (sym (counters-are ps cs distinct long))
     ∙ count-missing n v G ps distinct members own)
 
 -- what reads the positions of a history reads at the missing ones what is missing
 read_missing : (v : Vector) (G : List TheEntry) (h : ℕ → Option Stamped) → ((n : ℕ) → n < length G → h n ≡ option_map stamped_in (entry_at n G))
-    → map h (missing_places v G) ≡ map Some (reverse (missing v (stamped_of G)))
+    → map h (missing_positions v G) ≡ map Some (reverse (missing v (stamped_of G)))
 read_missing v [] h reads = refl
 read_missing v (e ∷ G) h reads =
-    map-append h (missing_places v G) _
+    map-append h (missing_positions v G) _
     ∙ ap (λ l. l ++ map h (cond (covers v (stamped_in e).id) [] (length G ∷ []))) (read_missing v G h before)
     ∙ at_test (covers v (stamped_in e).id)
   where
@@ -199,5 +199,5 @@ read_missing v (e ∷ G) h reads =
         ∙ sym (map-append Some (reverse rest) (stamped_in e ∷ []))
         ∙ ap (map Some) (sym (reverse-append (stamped_in e ∷ []) rest))
 
-pub places-read : (v : Vector) (G : List TheEntry) → map (λ n. option_map stamped_in (entry_at n G)) (missing_places v G) ≡ map Some (reverse (missing v (stamped_of G)))
-places-read v G = read_missing v G (λ n. option_map stamped_in (entry_at n G)) (λ n lt. refl)
+pub positions-read : (v : Vector) (G : List TheEntry) → map (λ n. option_map stamped_in (entry_at n G)) (missing_positions v G) ≡ map Some (reverse (missing v (stamped_of G)))
+positions-read v G = read_missing v G (λ n. option_map stamped_in (entry_at n G)) (λ n lt. refl)

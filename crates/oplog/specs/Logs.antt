@@ -28,19 +28,19 @@ id_in (Own client serial command op) = op.id
 id_in (Peer op) = op.id
 
 -- the position of the operation with this id, where the oldest is at 0; the newest where there are several
-abbrev pub place_of : OpId → List TheEntry → Option ℕ
-place_of a [] = None
-place_of a (e ∷ G) = if is_same_id (stamped_in e).id a then Some (length G) else place_of a G
+abbrev pub position_of : OpId → List TheEntry → Option ℕ
+position_of a [] = None
+position_of a (e ∷ G) = if is_same_id (stamped_in e).id a then Some (length G) else position_of a G
 
 -- the positions of the operations of replica p by their ids
-abbrev pub places_by : ℕ → List TheEntry → List (OpId × ℕ)
-places_by p [] = []
-places_by p (e ∷ G) = if (stamped_in e).id.replica == p then put id_cmp (stamped_in e).id (length G) (places_by p G) else places_by p G
+abbrev pub positions_by : ℕ → List TheEntry → List (OpId × ℕ)
+positions_by p [] = []
+positions_by p (e ∷ G) = if (stamped_in e).id.replica == p then put id_cmp (stamped_in e).id (length G) (positions_by p G) else positions_by p G
 
 -- no two operations have one id
 abbrev pub HaveOwnIds : List TheEntry → Type 0
 HaveOwnIds [] = ⊤
-HaveOwnIds (e ∷ G) = HaveOwnIds G × (place_of (stamped_in e).id G ≡ None)
+HaveOwnIds (e ∷ G) = HaveOwnIds G × (position_of (stamped_in e).id G ≡ None)
 
 -- what each of these columns holds, whatever its room
 abbrev pub numbers_of : List (Numbered OpId) → List (List (OpId × ℕ))
@@ -52,9 +52,9 @@ AreOfMembers table [] = ⊤
 AreOfMembers table (e ∷ G) = AreOfMembers table G × IsTrue (is_member table (stamped_in e).id.replica)
 
 -- for each replica of the table the positions of its operations; the operations are of these replicas, and have ids of their own; each vector has the table's width
-pub record IsIndexed (table : List ℕ) (places : List (Numbered OpId)) (entries : List Entry) : Type 0 where
+pub record IsIndexed (table : List ℕ) (positions : List (Numbered OpId)) (entries : List Entry) : Type 0 where
   pub distinct : AreDistinct table
-  pub places_are : numbers_of places ≡ map (λ p. places_by p (history table entries)) table
+  pub positions_are : numbers_of positions ≡ map (λ p. positions_by p (history table entries)) table
   pub members : AreOfMembers table (history table entries)
   pub own_ids : HaveOwnIds (history table entries)
   pub wide : All (λ e. length (op_in e).deps ≡ length table) entries
@@ -66,9 +66,9 @@ numbers_above [] (m ∷ ms) = []
 numbers_above (c ∷ cs) (m ∷ ms) = map (λ e. e.1) (filter (λ e. nat_lt c e.0.counter) m) ++ numbers_above cs ms
 
 -- the positions of the operations that the vector doesn't cover, rising
-abbrev pub missing_places : Vector → List TheEntry → List ℕ
-missing_places v [] = []
-missing_places v (e ∷ G) = missing_places v G ++ (if covers v (stamped_in e).id then [] else length G ∷ [])
+abbrev pub missing_positions : Vector → List TheEntry → List ℕ
+missing_positions v [] = []
+missing_positions v (e ∷ G) = missing_positions v G ++ (if covers v (stamped_in e).id then [] else length G ∷ [])
 
 -- the least of n and of the room in each of these columns
 abbrev pub least_room : ℕ → List (Numbered OpId) → ℕ

@@ -5,4 +5,4 @@ mod log;
 #[cfg(test)]
 mod tests;
 
-pub use log::{Log, places_name_what_is_missing, what_may_follow_is_new};
+pub use log::{Log, positions_name_what_is_missing, what_may_follow_is_new};

@@ -11,7 +11,7 @@ ghost use Rattle.semantics.specs.LegalHistory.{has_id};
 ghost use Rattle.semantics.specs.Stamped.{MayFollow, Stamped};
 ghost use Rattle.semantics.specs.Entries.{Entry as TheEntry, applied, entry_at, missing, stamped_in, stamped_of};
 ghost use Rattle.operation.specs.Meanings.{entry_of, op_in};
-ghost use Rattle.oplog.specs.Logs.{history, least_room, missing_places, numbers_above, numbers_of, place_of};
+ghost use Rattle.oplog.specs.Logs.{history, least_room, missing_positions, numbers_above, numbers_of, position_of};
 
 use columns::Numbers;
 use ids::{OpId, ReplicaTable};
@@ -27,7 +27,7 @@ pub struct Log {
     table: ReplicaTable,
     entries: Vec<Entry>,
     /// For each replica of the table the positions of its operations, by their ids.
-    places: Vec<Numbers>,
+    positions: Vec<Numbers>,
 }
 
 impl Model for Log {
@@ -40,9 +40,9 @@ impl Model for Log {
 
     ghost coded = { Prim.hlevel (codes, coded_element) };
 
-    ghost view = { λ l. record { table = l.table; entries = history l.table l.entries.items; room = least_room (vec_capacity l.entries - vec_len l.entries) l.places.items } };
+    ghost view = { λ l. record { table = l.table; entries = history l.table l.entries.items; room = least_room (vec_capacity l.entries - vec_len l.entries) l.positions.items } };
 
-    ghost invariant = { λ l. IsIndexed l.table l.places.items l.entries.items };
+    ghost invariant = { λ l. IsIndexed l.table l.positions.items l.entries.items };
 }
 
 impl Log {
@@ -55,11 +55,11 @@ impl Log {
         ensures table { IfOk result (λ l. l.table ≡ table) }
         ensures entries { IfOk result (λ l. l.entries ≡ []) }
     {
-        let places = no_places(alloc, table.len())?;
+        let positions = no_positions(alloc, table.len())?;
         Ok(Log {
             table,
             entries: Vec::new(alloc),
-            places,
+            positions,
         })
     }
 
@@ -77,19 +77,19 @@ impl Log {
     }
 
     /// The entry at this position, where the oldest is at 0, or `None` past the end.
-    pub fn get(&self, place: usize) -> Option<&Entry>
-        ensures entry { option_map (λ e. entry_of self.now.table e.now) result ≡ entry_at place self.now.entries }
+    pub fn get(&self, position: usize) -> Option<&Entry>
+        ensures entry { option_map (λ e. entry_of self.now.table e.now) result ≡ entry_at position self.now.entries }
         ensures width { IfSome result (λ e. length (op_in e.now).deps ≡ length self.now.table) }
     {
-        self.entries.get(place)
+        self.entries.get(position)
     }
 
     /// The position of the operation with this id, if there is one. A binary search among those of its replica.
     pub fn find(&self, id: OpId) -> Option<usize>
-        ensures { result ≡ place_of id self.now.entries }
+        ensures { result ≡ position_of id self.now.entries }
     {
         let index = self.table.index_of(id.replica)?;
-        self.places[index].get(&id)
+        self.positions[index].get(&id)
     }
 
     /// The positions of the operations that the vector doesn't cover, rising. A binary search for each replica, and a sort of what
@@ -99,11 +99,11 @@ impl Log {
     /// `AllocError` if allocation fails.
     pub fn missing(&self, alloc: Global, vector: &VersionVector) -> Result<Vec<usize>, AllocError>
         requires { length vector.now ≡ length self.now.table }
-        ensures { IfOk result (λ places. places.items ≡ missing_places (by_table self.now.table vector.now) self.now.entries) }
+        ensures { IfOk result (λ positions. positions.items ≡ missing_positions (by_table self.now.table vector.now) self.now.entries) }
     {
-        let mut places = places_above(alloc, &self.places, vector)?;
-        places.sort_unstable();
-        Ok(places)
+        let mut positions = positions_above(alloc, &self.positions, vector)?;
+        positions.sort_unstable();
+        Ok(positions)
     }
 
     /// Makes room for one more entry, of any replica. Looks at the room for each replica's positions.
@@ -117,7 +117,7 @@ impl Log {
         ensures kept { self.old.room ≤ self.new.room }
     {
         self.entries.reserve(1)?;
-        reserve_places(&mut self.places)
+        reserve_positions(&mut self.positions)
     }
 
     /// Appends an entry, for which there is room. Takes no memory. Moves the positions of its replica's greater ids, of which a
@@ -139,8 +139,8 @@ impl Log {
             unreachable!()
         };
         let id = OpId { counter, replica };
-        let place = self.entries.len();
-        put_place(&mut self.places, index, id, place);
+        let position = self.entries.len();
+        put_position(&mut self.positions, index, id, position);
         self.entries.push_reserved(entry);
     }
 
@@ -153,51 +153,51 @@ impl Log {
 }
 
 /// Empty columns of positions, one for each replica.
-fn no_places(alloc: Global, count: usize) -> Result<Vec<Numbers>, AllocError>
+fn no_positions(alloc: Global, count: usize) -> Result<Vec<Numbers>, AllocError>
     ensures { IfOk result (λ v. numbers_of v.items ≡ replicate count []) }
 {
-    let mut places = Vec::with_capacity(alloc, count)?;
+    let mut positions = Vec::with_capacity(alloc, count)?;
     for _ in 0..count {
-        places.push(Numbers::new(alloc))?;
+        positions.push(Numbers::new(alloc))?;
     }
-    Ok(places)
+    Ok(positions)
 }
 
 /// Makes room for one more position of each replica.
-fn reserve_places(places: &mut Vec<Numbers>) -> Result<(), AllocError>
-    ensures same { numbers_of places.new.items ≡ numbers_of places.old.items }
-    ensures room { (n : ℕ) → 0 < n → OnOk result (0 < least_room n places.new.items) }
-    ensures kept { (n : ℕ) → least_room n places.old.items ≤ least_room n places.new.items }
+fn reserve_positions(positions: &mut Vec<Numbers>) -> Result<(), AllocError>
+    ensures same { numbers_of positions.new.items ≡ numbers_of positions.old.items }
+    ensures room { (n : ℕ) → 0 < n → OnOk result (0 < least_room n positions.new.items) }
+    ensures kept { (n : ℕ) → least_room n positions.old.items ≤ least_room n positions.new.items }
 {
-    for index in 0..places.len() {
-        let numbers = &mut places[index];
+    for index in 0..positions.len() {
+        let numbers = &mut positions[index];
         numbers.reserve_one()?;
     }
     Ok(())
 }
 
 /// Puts the position of an operation among those of its replica. Moves none if its id is the greatest of them.
-fn put_place(places: &mut Vec<Numbers>, index: usize, id: OpId, place: usize)
-    requires inside { index < length places.old.items }
-    requires room { 0 < least_room 1 places.old.items }
-    ensures numbers { numbers_of places.new.items ≡ set (numbers_of places.old.items) index (put id_cmp id place (slice_index_or (numbers_of places.old.items) index [])) }
-    ensures room { (n : ℕ) → least_room (n + 1) places.old.items ≤ least_room n places.new.items + 1 }
+fn put_position(positions: &mut Vec<Numbers>, index: usize, id: OpId, position: usize)
+    requires inside { index < length positions.old.items }
+    requires room { 0 < least_room 1 positions.old.items }
+    ensures numbers { numbers_of positions.new.items ≡ set (numbers_of positions.old.items) index (put id_cmp id position (slice_index_or (numbers_of positions.old.items) index [])) }
+    ensures room { (n : ℕ) → least_room (n + 1) positions.old.items ≤ least_room n positions.new.items + 1 }
 {
-    let numbers = &mut places[index];
-    numbers.put(id, place);
+    let numbers = &mut positions[index];
+    numbers.put(id, position);
 }
 
 /// The positions of the ids that the vector doesn't cover, replica by replica.
-fn places_above(
+fn positions_above(
     alloc: Global,
-    places: &[Numbers],
+    positions: &[Numbers],
     vector: &VersionVector,
 ) -> Result<Vec<usize>, AllocError>
-    requires { length vector.now ≡ length places.now }
-    ensures { IfOk result (λ v. v.items ≡ numbers_above vector.now (numbers_of places.now)) }
+    requires { length vector.now ≡ length positions.now }
+    ensures { IfOk result (λ v. v.items ≡ numbers_above vector.now (numbers_of positions.now)) }
 {
     let mut above = Vec::new(alloc);
-    for (index, numbers) in places.iter().enumerate() {
+    for (index, numbers) in positions.iter().enumerate() {
         push_numbers(&mut above, numbers, vector.get(index))?;
     }
     Ok(above)
@@ -210,8 +210,8 @@ fn push_numbers(numbers: &mut Vec<usize>, from: &Numbers, counter: u64) -> Resul
     let first = from.first_above(counter);
     let count = from.len();
     numbers.reserve(count - first)?;
-    for place in first..count {
-        numbers.push_reserved(from.at(place).1);
+    for position in first..count {
+        numbers.push_reserved(from.at(position).1);
     }
     Ok(())
 }
@@ -222,7 +222,7 @@ pub fn what_may_follow_is_new()
 {}
 
 /// The operations at the missing positions are those that the rules call missing, the oldest first.
-pub fn places_name_what_is_missing()
+pub fn positions_name_what_is_missing()
     ensures { (v : Vector) (G : List TheEntry) →
-        map (λ n. option_map stamped_in (entry_at n G)) (missing_places v G) ≡ map Some (reverse (missing v (stamped_of G))) }
+        map (λ n. option_map stamped_in (entry_at n G)) (missing_positions v G) ≡ map Some (reverse (missing v (stamped_of G))) }
 {}

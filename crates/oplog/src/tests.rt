@@ -123,8 +123,8 @@ fn log(alloc: Global) -> Result<Log, Fail> {
 }
 
 /// The id at a position.
-fn id_at(log: &Log, place: usize) -> Option<Pair> {
-    let id = log.get(place)?.op().id;
+fn id_at(log: &Log, position: usize) -> Option<Pair> {
+    let id = log.get(position)?.op().id;
     Some((id.counter, id.replica.number()))
 }
 
@@ -138,9 +138,9 @@ fn assert_found(rt: &impl Abort, log: &Log, pair: Pair, want: Option<usize>) -> 
 /// Asserts that just these ids are in the log, in this order.
 fn assert_ids(rt: &impl Abort, log: &Log, want: &[Pair]) -> Result<(), Fail> {
     assert_eq!(rt; log.len(), want.len());
-    for (place, pair) in want.iter().enumerate() {
-        assert_eq!(rt; id_at(log, place), Some(*pair), "at {place}");
-        assert_found(rt, log, *pair, Some(place))?;
+    for (position, pair) in want.iter().enumerate() {
+        assert_eq!(rt; id_at(log, position), Some(*pair), "at {position}");
+        assert_found(rt, log, *pair, Some(position))?;
     }
     Ok(())
 }
@@ -219,7 +219,7 @@ const NOWHERE: &[Pair] = &[
 ];
 
 #[test]
-fn each_replica_has_its_places(rt: HostRuntime) -> Result<(), Fail> {
+fn each_replica_has_its_positions(rt: HostRuntime) -> Result<(), Fail> {
     let log = interleaved(rt.alloc())?;
     assert_ids(&rt, &log, INTERLEAVED)?;
     assert_absent(&rt, &log, NOWHERE)
@@ -293,17 +293,17 @@ fn log_of(alloc: Global, count: u64) -> Result<Log, Fail> {
 }
 
 /// The positions from this one to the last.
-fn places_from(alloc: Global, first: usize, count: usize) -> Result<Vec<usize>, Fail> {
-    let mut places = Vec::new(alloc);
-    for place in first..count {
-        places.push(place)?;
+fn positions_from(alloc: Global, first: usize, count: usize) -> Result<Vec<usize>, Fail> {
+    let mut positions = Vec::new(alloc);
+    for position in first..count {
+        positions.push(position)?;
     }
-    Ok(places)
+    Ok(positions)
 }
 
 /// Asserts what a vector lacks that knows this many of 130.
 fn assert_rest(rt: &impl Abort, alloc: Global, log: &Log, known: u64) -> Result<(), Fail> {
-    let want = places_from(alloc, known as usize, 130)?;
+    let want = positions_from(alloc, known as usize, 130)?;
     assert_missing(rt, alloc, log, &([0, known, 0], want.as_slice()))
 }
 

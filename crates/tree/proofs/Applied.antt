@@ -29,11 +29,11 @@ end_is p path q = ap end_of q ∙ down-keys_from_root (element_of p)
 -- an assign and a delete stand at an element
 at_element : (v : Value) (p : Place) → IsFormed (Assign v) p → At (element_of p) ≡ p
 at_element v (At e) f = refl
-at_element v (HeadOf l) f = absurd f
+at_element v (HeadOf l) f = cc
 
 delete_at_element : (p : Place) → IsFormed Delete p → At (element_of p) ≡ p
 delete_at_element (At e) f = refl
-delete_at_element (HeadOf l) f = absurd f
+delete_at_element (HeadOf l) f = cc
 
 -- an operation, and a stamp that is made of it
 module _ (o : Op) (s : Stamp) (same_id : s.id ≡ o.id) (same_vector : s.vector.now ≡ o.deps) (formed : IsFormed (mutation_of o.mutation) o.place) (C D : Context) where
@@ -91,6 +91,6 @@ module _ (o : Op) (t : Planted) (ready : IsReady t (stamped_of t.table o)) (v : 
         room = write.0;
         register = register_ready (Item l o.id) write;
         order = subst (RoomToLink t.nodes) slot ready.link;
-        place = fits.0;
+        position = fits.0;
         fresh = fits.1;
       })

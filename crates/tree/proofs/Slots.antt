@@ -28,8 +28,8 @@ one_slot o a b p q = ap (λ o. unwrap_or o a) (sym p ∙ q)
 pub formed_slot : (v : Value) (p : Place) → IsFormed (Insert v) p → (l : Element) × (prev : Option OpId) × (slot_of (Insert EmptyMap) p ≡ Some (l, prev)) × (after_place prev l ≡ p)
 formed_slot v (HeadOf l) f = (l, None, refl, refl)
 formed_slot v (At (Item l b)) f = (l, Some b, refl, refl)
-formed_slot v (At Doc) f = absurd f
-formed_slot v (At (Field e n)) f = absurd f
+formed_slot v (At Doc) f = cc
+formed_slot v (At (Field e n)) f = cc
 
 -- the slot doesn't depend on the value
 pub slot_of_any : (v : Value) (p : Place) → slot_of (Insert v) p ≡ slot_of (Insert EmptyMap) p

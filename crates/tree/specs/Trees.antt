@@ -9,7 +9,7 @@ use Rattle.semantics.specs.Context.{Context}
 use Rattle.semantics.specs.Stamped.{Stamped}
 use Rattle.value.specs.declared.value.Scalar.{Scalar}
 use Rattle.value.specs.Meanings.{scalar_of}
-use Rattle.columns.specs.Orders.{has_item, has_place}
+use Rattle.columns.specs.Orders.{has_item, has_position}
 use Rattle.tree.specs.declared.node.Node.{Node}
 use Rattle.tree.specs.Nodes.{AreBeside, IsTree, context, node_at, order_room, register_room}
 use Rattle.tree.specs.Shown.{AreShown}
@@ -56,7 +56,7 @@ pub record IsReady (t : Planted) (s : Stamped) : Type 0 where
 -- what an insert goes after is in its list, and its own id isn't
 abbrev pub FitsIn : Context → OpId → Option (Element × Option OpId) → Type 0
 FitsIn C a None = Unit {0}
-FitsIn C a (Some slot) = IsTrue (has_place slot.1 (C.order slot.0)) × IsFalse (has_item a (C.order slot.0))
+FitsIn C a (Some slot) = IsTrue (has_position slot.1 (C.order slot.0)) × IsFalse (has_item a (C.order slot.0))
 
 -- the same of an operation
 abbrev pub IsPlaced : Context → Stamped → Type 0
@@ -67,7 +67,7 @@ pub record CanInsert (ns : List Node) (l : Element) (p : Option OpId) (a : OpId)
   pub room : RoomTo ns (Item l a)
   pub register : IsSome s → 0 < register_room (node_at ns (Item l a))
   pub order : 0 < order_room (node_at ns l)
-  pub place : IsTrue (has_place p ((context ns).order l))
+  pub position : IsTrue (has_position p ((context ns).order l))
   pub fresh : IsFalse (has_item a ((context ns).order l))
 
 -- the slot of the program is that of the definitions

@@ -81,8 +81,8 @@ fn copy_values(register: &Register, alloc: Global) -> Result<Vec<(OpId, Scalar)>
     ensures { IfOk result (λ v. v.items ≡ register.now.entries) }
 {
     let mut values = Vec::with_capacity(alloc, register.len())?;
-    for place in 0..register.len() {
-        let (id, scalar) = register.at(place);
+    for position in 0..register.len() {
+        let (id, scalar) = register.at(position);
         values.push((id, scalar.clone()?))?;
     }
     Ok(values)
@@ -93,8 +93,8 @@ fn copy_tags(presence: &Presence, alloc: Global) -> Result<Vec<(OpId, Tag)>, All
     ensures { IfOk result (λ v. v.items ≡ presence.now.entries) }
 {
     let mut tags = Vec::with_capacity(alloc, presence.len())?;
-    for place in 0..presence.len() {
-        let (id, tag) = presence.at(place);
+    for position in 0..presence.len() {
+        let (id, tag) = presence.at(position);
         tags.push((id, *tag))?;
     }
     Ok(tags)
@@ -108,9 +108,9 @@ fn keys_at(nodes: &[Node], at: NodeNumber, alloc: Global) -> Result<Vec<Key>, Al
     ensures { IfOk result (λ v. (e : Element) → number nodes.now e ≡ Some at → v.items ≡ visible_names (context nodes.now) e) }
 {
     let mut keys = Vec::new(alloc);
-    for place in 0..count_fields(nodes, at) {
-        if is_field(nodes, field_at(nodes, at, place)) {
-            let (key, _) = node_at(nodes, at).fields.at(place);
+    for position in 0..count_fields(nodes, at) {
+        if is_field(nodes, field_at(nodes, at, position)) {
+            let (key, _) = node_at(nodes, at).fields.at(position);
             let key = key.clone()?;
             keys.push(key)?;
         }
@@ -147,11 +147,11 @@ fn items_at(nodes: &[Node], at: NodeNumber, alloc: Global) -> Result<Vec<OpId>, 
 
 /// The item of the list at which something stands, by its index among these. Asks the list's order, which looks at how many
 /// items each of its blocks shows, and at no node.
-pub fn item_at(nodes: &[Node], at: NodeNumber, place: u64) -> Option<OpId>
+pub fn item_at(nodes: &[Node], at: NodeNumber, index: u64) -> Option<OpId>
     requires tree { IsTree nodes.now }
     requires inside { at < length nodes.now }
     requires shown { AreShown nodes.now }
-    ensures { (e : Element) → number nodes.now e ≡ Some at → result ≡ slice_get (visible_items (context nodes.now) e) place }
+    ensures { (e : Element) → number nodes.now e ≡ Some at → result ≡ slice_get (visible_items (context nodes.now) e) index }
 {
-    node_at(nodes, at).order.nth_visible(place as usize)
+    node_at(nodes, at).order.nth_visible(index as usize)
 }

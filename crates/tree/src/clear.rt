@@ -41,13 +41,13 @@ pub fn clear_below(nodes: &mut [Node], at: NodeNumber, stamp: &Stamp)
 {
     clear_node(nodes, at, stamp);
     let fields = count_fields(nodes, at);
-    'fields: for place in 0..fields {
-        let child = field_at(nodes, at, place);
+    'fields: for position in 0..fields {
+        let child = field_at(nodes, at, position);
         clear_below(nodes, child, stamp);
     }
     let items = count_items(nodes, at);
-    'items: for place in 0..items {
-        let child = item_at(nodes, at, place);
+    'items: for position in 0..items {
+        let child = item_at(nodes, at, position);
         clear_below(nodes, child, stamp);
     }
 }

@@ -5,7 +5,7 @@ ghost use Rattle.semantics.specs.Elements.{Element, Item, EmptyMap};
 ghost use Rattle.semantics.specs.Operations.{Insert, slot_of};
 ghost use Rattle.value.specs.Meanings.{scalar_of};
 ghost use Rattle.cursor.specs.Meanings.{hop_of, tag_of};
-ghost use Rattle.columns.specs.Orders.{has_item, has_place};
+ghost use Rattle.columns.specs.Orders.{has_item, has_position};
 ghost use Rattle.tree.specs.Nodes.{AreBeside, IsTree, MoreRoom, SameLinks, context, node_at, number, order_of, order_room};
 ghost use Rattle.tree.specs.Writes.{IsStamp, assigned, deps_of, end_of, linked};
 ghost use Rattle.tree.specs.Trees.{CanInsert, SlotIs};
@@ -50,7 +50,7 @@ pub fn slot_of(place: &Place) -> Option<Slot<'_>>
 fn link_order(nodes: &mut [Node], at: NodeNumber, prev: Option<OpId>, id: &OpId)
     requires tree { IsTree nodes.old }
     requires inside { at < length nodes.old }
-    requires place { IsTrue (has_place prev (order_of (slice_get nodes.old at))) }
+    requires position { IsTrue (has_position prev (order_of (slice_get nodes.old at))) }
     requires fresh { IsFalse (has_item id.now (order_of (slice_get nodes.old at))) }
     requires room { 0 < order_room (slice_get nodes.old at) }
     ensures links { SameLinks nodes.old nodes.new }
@@ -59,14 +59,14 @@ fn link_order(nodes: &mut [Node], at: NodeNumber, prev: Option<OpId>, id: &OpId)
     ensures linked { (e : Element) → number nodes.old e ≡ Some at → context nodes.new ≡ linked (context nodes.old) e prev id.now }
 {
     let node = node_at_mut(nodes, at);
-    node.order.place(prev, *id);
+    node.order.insert_after(prev, *id);
 }
 
 /// Puts an id into the order of the list at the end of a path, and returns the number of its node.
 fn link_list(nodes: &mut [Node], slot: &Slot<'_>, id: &OpId) -> NodeNumber
     requires tree { IsTree nodes.old }
     requires there { IsSome (number nodes.old (Item (end_of (map hop_of slot.now.list.now)) id.now)) }
-    requires place { IsTrue (has_place slot.now.prev ((context nodes.old).order (end_of (map hop_of slot.now.list.now)))) }
+    requires position { IsTrue (has_position slot.now.prev ((context nodes.old).order (end_of (map hop_of slot.now.list.now)))) }
     requires fresh { IsFalse (has_item id.now ((context nodes.old).order (end_of (map hop_of slot.now.list.now)))) }
     requires room { 0 < order_room (node_at nodes.old (end_of (map hop_of slot.now.list.now))) }
     ensures links { SameLinks nodes.old nodes.new }

@@ -91,13 +91,13 @@ impl Walker {
     }
 
     /// The visible item here with this index among the visible ones.
-    fn item(&self, nodes: &[Node], place: u64) -> Option<OpId>
+    fn item(&self, nodes: &[Node], index: u64) -> Option<OpId>
         requires tree { IsTree nodes.now }
         requires shown { AreShown nodes.now }
         requires walking { IsWalking nodes.now self.now }
-        ensures { result ≡ slice_get (visible_items (context nodes.now) (end_of (map hop_of self.now.hops.items))) place }
+        ensures { result ≡ slice_get (visible_items (context nodes.now) (end_of (map hop_of self.now.hops.items))) index }
     {
-        item_at(nodes, self.node?, place)
+        item_at(nodes, self.node?, index)
     }
 
     /// Goes one hop down.

@@ -45,17 +45,17 @@ fn show_item(nodes: &mut [Node], at: NodeNumber, id: &OpId, item: NodeNumber)
 }
 
 /// The same for the item with this index among those that have a node. Returns the node's number.
-fn show_child(nodes: &mut [Node], at: NodeNumber, place: usize) -> NodeNumber
+fn show_child(nodes: &mut [Node], at: NodeNumber, position: usize) -> NodeNumber
     requires tree { IsTree nodes.old }
     requires inside { at < length nodes.old }
-    requires place { place < length (links nodes.old at).1 }
+    requires within { position < length (links nodes.old at).1 }
     ensures above { at < result }
     ensures within { result < length nodes.old }
     ensures same { SameButFlags nodes.old nodes.new }
-    ensures number { (e : Element) (d : TheId × ℕ) → number nodes.old e ≡ Some at → number nodes.old (Item e (slice_index_or (links nodes.old at).1 place d).0) ≡ Some result }
-    ensures shown { (e : Element) (off : Element → TheId → Bool) (d : TheId × ℕ) → number nodes.old e ≡ Some at → ShownBut nodes.old (λ l a. is_same (Item l a) (Item e (slice_index_or (links nodes.old at).1 place d).0) || off l a) → ShownBut nodes.new off }
+    ensures number { (e : Element) (d : TheId × ℕ) → number nodes.old e ≡ Some at → number nodes.old (Item e (slice_index_or (links nodes.old at).1 position d).0) ≡ Some result }
+    ensures shown { (e : Element) (off : Element → TheId → Bool) (d : TheId × ℕ) → number nodes.old e ≡ Some at → ShownBut nodes.old (λ l a. is_same (Item l a) (Item e (slice_index_or (links nodes.old at).1 position d).0) || off l a) → ShownBut nodes.new off }
 {
-    let (id, item) = node_at(nodes, at).items.at(place);
+    let (id, item) = node_at(nodes, at).items.at(position);
     let item = NodeNumber::new(item);
     show_item(nodes, at, &id, item);
     item
@@ -69,13 +69,13 @@ fn show_below(nodes: &mut [Node], at: NodeNumber)
     ensures shown { (e : Element) (off : Element → TheId → Bool) → number nodes.old e ≡ Some at → ShownBut nodes.old (λ l a. is_under l e || off l a) → ShownBut nodes.new off }
 {
     let fields = count_fields(nodes, at);
-    'fields: for place in 0..fields {
-        let child = field_at(nodes, at, place);
+    'fields: for position in 0..fields {
+        let child = field_at(nodes, at, position);
         show_below(nodes, child);
     }
     let items = count_items(nodes, at);
-    'items: for place in 0..items {
-        let child = show_child(nodes, at, place);
+    'items: for position in 0..items {
+        let child = show_child(nodes, at, position);
         show_below(nodes, child);
     }
 }

@@ -29,27 +29,27 @@ pub fn count_items(nodes: &[Node], at: NodeNumber) -> usize
 }
 
 /// The number of a field's node, by the field's index.
-pub fn field_at(nodes: &[Node], at: NodeNumber, place: usize) -> NodeNumber
+pub fn field_at(nodes: &[Node], at: NodeNumber, position: usize) -> NodeNumber
     requires tree { IsTree nodes.now }
     requires inside { at < length nodes.now }
-    requires place { place < length (links nodes.now at).0 }
+    requires within { position < length (links nodes.now at).0 }
     ensures above { at < result }
     ensures within { result < length nodes.now }
-    ensures number { (e : Element) (d : Name × ℕ) → number nodes.now e ≡ Some at → number nodes.now (Field e (slice_index_or (links nodes.now at).0 place d).0) ≡ Some result }
+    ensures number { (e : Element) (d : Name × ℕ) → number nodes.now e ≡ Some at → number nodes.now (Field e (slice_index_or (links nodes.now at).0 position d).0) ≡ Some result }
 {
-    NodeNumber::new(node_at(nodes, at).fields.at(place).1)
+    NodeNumber::new(node_at(nodes, at).fields.at(position).1)
 }
 
 /// The number of an item's node, by the item's index.
-pub fn item_at(nodes: &[Node], at: NodeNumber, place: usize) -> NodeNumber
+pub fn item_at(nodes: &[Node], at: NodeNumber, position: usize) -> NodeNumber
     requires tree { IsTree nodes.now }
     requires inside { at < length nodes.now }
-    requires place { place < length (links nodes.now at).1 }
+    requires within { position < length (links nodes.now at).1 }
     ensures above { at < result }
     ensures within { result < length nodes.now }
-    ensures number { (e : Element) (d : TheId × ℕ) → number nodes.now e ≡ Some at → number nodes.now (Item e (slice_index_or (links nodes.now at).1 place d).0) ≡ Some result }
+    ensures number { (e : Element) (d : TheId × ℕ) → number nodes.now e ≡ Some at → number nodes.now (Item e (slice_index_or (links nodes.now at).1 position d).0) ≡ Some result }
 {
-    NodeNumber::new(node_at(nodes, at).items.at(place).1)
+    NodeNumber::new(node_at(nodes, at).items.at(position).1)
 }
 
 /// The number of the node one hop down, if there is one. Binary search.

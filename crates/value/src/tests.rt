@@ -73,17 +73,17 @@ fn assert_compared(
 }
 
 /// Asserts how the key at an index compares with each one.
-fn assert_place(rt: &impl Abort, alloc: Global, place: usize, key: &str) -> Result<(), Fail> {
+fn assert_index(rt: &impl Abort, alloc: Global, index: usize, key: &str) -> Result<(), Fail> {
     for (other, text) in RISING.iter().enumerate() {
-        assert_compared(rt, alloc, key, text, place.cmp(&other))?;
+        assert_compared(rt, alloc, key, text, index.cmp(&other))?;
     }
     Ok(())
 }
 
 #[test]
 fn keys_rise_by_bytes(rt: HostRuntime) -> Result<(), Fail> {
-    for (place, key) in RISING.iter().enumerate() {
-        assert_place(&rt, rt.alloc(), place, key)?;
+    for (index, key) in RISING.iter().enumerate() {
+        assert_index(&rt, rt.alloc(), index, key)?;
     }
     Ok(())
 }

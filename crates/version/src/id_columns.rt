@@ -55,11 +55,11 @@ impl IdColumns {
     }
 
     /// The counter of the id at a position, and the index of its replica.
-    pub fn at(&self, place: usize) -> (u64, usize)
-        requires { place < length self.now.ids }
-        ensures { slice_get self.now.ids place ≡ Some result }
+    pub fn at(&self, position: usize) -> (u64, usize)
+        requires { position < length self.now.ids }
+        ensures { slice_get self.now.ids position ≡ Some result }
     {
-        (*self.counters.get(place), *self.indices.get(place))
+        (*self.counters.get(position), *self.indices.get(position))
     }
 
     /// Makes room for one more id.
@@ -78,14 +78,14 @@ impl IdColumns {
     }
 
     /// Inserts an id at a position. Takes no memory. Costs what an insert into `Rings` does, so at the end it is one push.
-    pub fn insert(&mut self, place: usize, counter: u64, index: usize)
-        requires within { place ≤ length self.old.ids }
+    pub fn insert(&mut self, position: usize, counter: u64, index: usize)
+        requires within { position ≤ length self.old.ids }
         requires room { 0 < self.old.room }
-        ensures ids { self.new.ids ≡ insert self.old.ids place (counter, index) }
+        ensures ids { self.new.ids ≡ insert self.old.ids position (counter, index) }
         ensures room { self.old.room ≤ self.new.room + 1 }
     {
-        self.counters.insert(place, counter);
-        self.indices.insert(place, index);
+        self.counters.insert(position, counter);
+        self.indices.insert(position, index);
         self.bounds.push_reserved(0);
         if self.mask.len() < self.counters.len().div_ceil(64) {
             self.mask.push_reserved(0);
@@ -162,8 +162,8 @@ fn mark_uncovered(
     ensures capacity_of_bounds { vec_capacity bounds.new ≡ vec_capacity bounds.old }
     ensures capacity_of_mask { vec_capacity mask.new ≡ vec_capacity mask.old }
 {
-    for (place, index) in indices.iter().enumerate() {
-        bounds[place] = vector.get(*index);
+    for (position, index) in indices.iter().enumerate() {
+        bounds[position] = vector.get(*index);
     }
     lanes::mask_over(counters, bounds, mask);
 }

@@ -1,6 +1,6 @@
 use Rattle.std.proofs.Common.{◌≡◌, ◌∙◌, ◌<◌, ◌+◌, ap, sym, refl, slice_get, Some, subst, length, arith}
 use Rattle.std.proofs.lemmas.Option.{slice_get_read, slice_get_within}
-use Rattle.columns.specs.Orders.{has_place}
+use Rattle.columns.specs.Orders.{has_position}
 use Rattle.columns.specs.Blocks.{IsBehind, IsFound, joined}
 use Rattle.columns.proofs.Runs.{items_here}
 use Rattle.columns.proofs.Walked.{behind_head, behind_item, homeless, none_left, run_at}
@@ -12,7 +12,7 @@ returns-in_default c = subst (λ o. IsBehind c.args.blocks.now o 0 0) (sym (none
 pub returns-in_err-home : goal.returns-in_err-home
 returns-in_err-home c =
     let absent = homeless c.args.blocks.now c.args.homes.now.entries c.in-Some.id c.requires (sym c.get.ensures ∙ c.in_err-home.was) in
-    rw c.from_residual.ensures (ap (λ o. has_place o (joined c.args.blocks.now)) c.in-Some.is ∙ absent)
+    rw c.from_residual.ensures (ap (λ o. has_position o (joined c.args.blocks.now)) c.in-Some.is ∙ absent)
 
 pub prove-unreachable-requires : goal.prove-unreachable-requires
 prove-unreachable-requires c =

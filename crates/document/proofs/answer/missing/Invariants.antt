@@ -5,8 +5,9 @@ use Rattle.operation.specs.Meanings.{stamped_of}
 use Rattle.document.proofs.MissingOps.{found}
 use Rattle.document.proofs.answer.missing.Given as goal
 
-abbrev pub invariant-loop-place : goal.invariant-loop-place
-invariant-loop-place l = record {
-  found : map (stamped_of l.log.table) l.ops.items ++ found l.log.entries (drop l.place-index l.place-items) ≡ found l.log.entries l.place-items;
+abbrev pub invariant-loop-position : goal.invariant-loop-position
+invariant-loop-position l = record {
+  found : map (stamped_of l.log.table) l.ops.items ++ found l.log.entries (drop l.position-index l.position-items)
+      ≡ found l.log.entries l.position-items;
   wide : All (λ (o : Op). length o.deps ≡ length l.log.table) l.ops.items;
 }

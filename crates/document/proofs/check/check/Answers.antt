@@ -28,7 +28,9 @@ returns-then-not-has_items c =
     (sym c.breaks_chain.ensures ∙ c.if-breaks_chain.false)
     (sym (c.names_nothing.ensures s refl) ∙ c.if-names_nothing.false)
     (sym c.is_open.ensures ∙ c.if-is_open.false)
-    (items-tested c.args.log.now.entries c.args.tree.now (element_of c.args.op.now.place) false c.requires.kept.legal c.requires.kept.content (sym c.has_items.ensures ∙ c.if-not-has_items.true))
+    (items-tested c.args.log.now.entries c.args.tree.now
+    (element_of c.args.op.now.place) false c.requires.kept.legal c.requires.kept.content
+    (sym c.has_items.ensures ∙ c.if-not-has_items.true))
 
 pub returns : goal.returns
 returns c =
@@ -37,4 +39,5 @@ returns c =
     (sym c.breaks_chain.ensures ∙ c.if-breaks_chain.false)
     (sym (c.names_nothing.ensures s refl) ∙ c.if-names_nothing.false)
     (sym c.is_open.ensures ∙ c.if-is_open.false)
-    (items-tested c.args.log.now.entries c.args.tree.now (element_of c.args.op.now.place) true c.requires.kept.legal c.requires.kept.content (sym c.has_items.ensures ∙ c.if-not-has_items.false))
+    (items-tested c.args.log.now.entries c.args.tree.now (element_of c.args.op.now.place) true c.requires.kept.legal c.requires.kept.content
+    (sym c.has_items.ensures ∙ c.if-not-has_items.false))

@@ -8,12 +8,14 @@ use Rattle.document.proofs.check.names_nothing.Goals as goal
 pub returns-then-is_missing : goal.returns-then-is_missing
 returns-then-is_missing c = λ s is.
     let H = applied c.args.log.now.entries in
-    sym (unknown_there c.args.log.now.table c.args.vector.now c.requires.distinct c.requires.width H c.loop-index.index (sym c.is_missing.ensures ∙ c.if-is_missing.true))
+    sym (unknown_there c.args.log.now.table c.args.vector.now c.requires.distinct c.requires.width H c.loop-index.index
+    (sym c.is_missing.ensures ∙ c.if-is_missing.true))
     ∙ ap (λ v. list_any (λ a. is_missing H v a.replica) v) (sym is)
 
 pub returns : goal.returns
 returns c = λ s is.
     let H = applied c.args.log.now.entries in
     sym (all_known c.args.log.now.table c.args.vector.now c.requires.distinct c.requires.width H
-    (λ i h. c.loop-index.invariant i (let e = c.width-index-end.ensures in let w = c.requires.width in let t = c.loop-index-test.false in omega arith)))
+    (λ i h. c.loop-index.invariant i
+    (let e = c.width-index-end.ensures in let w = c.requires.width in let t = c.loop-index-test.false in omega arith)))
     ∙ ap (λ v. list_any (λ a. is_missing H v a.replica) v) (sym is)

@@ -11,7 +11,10 @@ returns-in-Some-get c =
     let table = c.args.log.now.table in
     let G = c.args.log.now.entries in
     let v = by_table table c.args.vector.now in
-    ap not (c.le.ensures ∙ sym (at_most-by_table table c.op.result.now.deps c.args.vector.now c.requires.distinct (ap (λ o. length o.deps) c.op.ensures.op ∙ c.in-Some-get.ensures.width) c.requires.width))
+    ap not
+    (c.le.ensures ∙ sym
+    (at_most-by_table table c.op.result.now.deps c.args.vector.now c.requires.distinct
+    (ap (λ o. length o.deps) c.op.ensures.op ∙ c.in-Some-get.ensures.width) c.requires.width))
     ∙ ap (λ (s : Stamped). not (is_at_most s.vector v)) (c.op.ensures.stamped table)
     ∙ ap (is_beyond v) c.in-Some-get.ensures.entry
     ∙ ap (λ o. is_beyond v (entry_there o G)) c.in-Some-find.ensures

@@ -12,16 +12,16 @@ first_of es i e read =
     ap (map (λ e. e.1)) (drop-cons es i e (slice_get_within es i e read))
     ∙ (λ t. (get_or_from_slice_get es i e e read t).1 ∷ numbers_from (sym (add-one i) t) es)
 
-pub loop-place-preserved : goal.loop-place-preserved
-loop-place-preserved c =
+pub loop-position-preserved : goal.loop-position-preserved
+loop-position-preserved c =
     let es = c.args.from.now.entries in
-    let i = c.loop-place.place in
-    let before = c.loop-place.numbers.items in
+    let i = c.loop-position.position in
+    let before = c.loop-position.numbers.items in
     record {
       pushed =
           ap (λ xs. xs ++ numbers_from (i + 1) es) c.push_reserved.ensures.items
           ∙ append_assoc before (c.at.result.1 ∷ []) (numbers_from (i + 1) es)
           ∙ ap (λ ns. before ++ ns) (sym (first_of es i c.at.result c.at.ensures))
-          ∙ c.loop-place.invariant.pushed;
+          ∙ c.loop-position.invariant.pushed;
       room = omega arith;
     }

@@ -1,5 +1,5 @@
 use Rattle.std.proofs.Common.{◌≡◌, take}
 use Rattle.tree.proofs.answer.copy_tags.Given as goal
 
-abbrev pub invariant-loop-place : goal.invariant-loop-place
-invariant-loop-place l = l.tags.items ≡ take l.place l.presence.entries
+abbrev pub invariant-loop-position : goal.invariant-loop-position
+invariant-loop-position l = l.tags.items ≡ take l.position l.presence.entries

@@ -1,5 +1,5 @@
 use Rattle.std.proofs.Common.{◌≡◌, take}
 use Rattle.tree.proofs.answer.copy_values.Given as goal
 
-abbrev pub invariant-loop-place : goal.invariant-loop-place
-invariant-loop-place l = l.values.items ≡ take l.place l.register.entries
+abbrev pub invariant-loop-position : goal.invariant-loop-position
+invariant-loop-position l = l.values.items ≡ take l.position l.register.entries

@@ -5,6 +5,6 @@ use Rattle.semantics.specs.DocumentAnswer.{is_any}
 use Rattle.tree.specs.Nodes.{number, context, links, names_in}
 use Rattle.tree.proofs.answer.keys_at.Given as goal
 
-abbrev pub invariant-loop-place : goal.invariant-loop-place
-invariant-loop-place l = (e : Element) → number l.fn.nodes e ≡ Some l.fn.at →
-    l.keys.items ≡ filter (λ n. is_any ((context l.fn.nodes).presence (Field e n))) (map (λ x. x.0) (names_in l.fn.nodes (take l.place (links l.fn.nodes l.fn.at).0)))
+abbrev pub invariant-loop-position : goal.invariant-loop-position
+invariant-loop-position l = (e : Element) → number l.fn.nodes e ≡ Some l.fn.at →
+    l.keys.items ≡ filter (λ n. is_any ((context l.fn.nodes).presence (Field e n))) (map (λ x. x.0) (names_in l.fn.nodes (take l.position (links l.fn.nodes l.fn.at).0)))

@@ -13,7 +13,7 @@ invariant-fields l = record {
   room : MoreRoom l.fn.nodes l.nodes;
   beside : AreBeside l.stamp.table.now l.nodes;
   rest : (e : Element) → number l.fn.nodes e ≡ Some l.at →
-      clear_each (context l.nodes) (fields_of e (drop l.place (links l.fn.nodes l.at).0)) (deps_of l.stamp)
+      clear_each (context l.nodes) (fields_of e (drop l.position (links l.fn.nodes l.at).0)) (deps_of l.stamp)
       ≡ clear_each (clear_own (context l.fn.nodes) e (deps_of l.stamp)) (fields_of e (links l.fn.nodes l.at).0) (deps_of l.stamp);
 }
 
@@ -23,6 +23,6 @@ invariant-items l = record {
   room : MoreRoom l.fn.nodes l.nodes;
   beside : AreBeside l.stamp.table.now l.nodes;
   rest : (e : Element) → number l.fn.nodes e ≡ Some l.at →
-      clear_each (context l.nodes) (items_of e (drop l.place (links l.fn.nodes l.at).1)) (deps_of l.stamp)
+      clear_each (context l.nodes) (items_of e (drop l.position (links l.fn.nodes l.at).1)) (deps_of l.stamp)
       ≡ clear_each (clear_each (clear_own (context l.fn.nodes) e (deps_of l.stamp)) (fields_of e (links l.fn.nodes l.at).0) (deps_of l.stamp)) (items_of e (links l.fn.nodes l.at).1) (deps_of l.stamp);
 }

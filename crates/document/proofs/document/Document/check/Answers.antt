@@ -6,4 +6,6 @@ use Rattle.document.proofs.document.Document.check.Goals as goal
 pub returns-clause-lawful : goal.returns-clause-lawful
 returns-clause-lawful c =
     let d = c.self.inside in
-    rw (← c.self.view_is) (λ passed. lawful d.log.entries (stamped_of d.log.table c.args.op.now) c.self.invariant.legal c.check.result c.check.ensures (passed_alone d.log.table c.args.op.now passed))
+    rw (← c.self.view_is)
+    (λ passed. lawful d.log.entries (stamped_of d.log.table c.args.op.now) c.self.invariant.legal c.check.result c.check.ensures
+    (passed_alone d.log.table c.args.op.now passed))

@@ -14,7 +14,8 @@ use Rattle.document.proofs.KeptFacts.{fits, kept_next}
 use Rattle.document.proofs.document.Document.commit.Goals as goal
 
 -- what may follow what contracts see may follow the log's entries
-lawful : (k l : Kept) (e : Entry) → k ≡ l → MayFollowEntries l.entries (entry_of l.table e) → MayFollowEntries k.entries (entry_of k.table e)
+lawful : (k l : Kept) (e : Entry) → k ≡ l → MayFollowEntries l.entries (entry_of l.table e)
+    → MayFollowEntries k.entries (entry_of k.table e)
 lawful k l e is may = subst (λ (k : Kept). MayFollowEntries k.entries (entry_of k.table e)) (sym is) may
 
 pub apply-requires-clause-placed : goal.apply-requires-clause-placed
@@ -22,7 +23,8 @@ apply-requires-clause-placed c =
     let d = c.self.inside in
     let same = ap (λ table. stamped_of table c.op-op.result.now) c.self.invariant.beside ∙ c.op-op.ensures.stamped d.log.table in
     subst (IsPlaced (document d.tree)) (sym same)
-    (fits d.log.table d.applied d.log.entries d.tree (stamped_in (entry_of d.log.table c.args.entry)) c.self.invariant (lawful _ _ c.args.entry c.self.view_is c.requires.lawful))
+    (fits d.log.table d.applied d.log.entries d.tree (stamped_in (entry_of d.log.table c.args.entry)) c.self.invariant
+    (lawful _ _ c.args.entry c.self.view_is c.requires.lawful))
 
 pub push-requires-clause-new : goal.push-requires-clause-new
 push-requires-clause-new c =
@@ -32,7 +34,9 @@ push-requires-clause-new c =
 pub raise-requires : goal.raise-requires
 raise-requires c =
     let table = c.self.inside.log.table in
-    let found : slice_get table c.in-Some.index ≡ Some c.op-op.result.now.id.replica = ap (λ ps. slice_get ps c.in-Some.index) (sym c.table.ensures) ∙ c.in-Some.ensures.found in
+    let found : slice_get table c.in-Some.index
+    ≡ Some c.op-op.result.now.id.replica = ap (λ ps. slice_get ps c.in-Some.index) (sym c.table.ensures)
+    ∙ c.in-Some.ensures.found in
     let i = slice_get_within table c.in-Some.index c.op-op.result.now.id.replica found in
     let w = c.self.invariant.width in
     omega arith
@@ -43,11 +47,13 @@ invariant_of-self c =
     let table = d.log.table in
     let id = c.op-op.result.now.id in
     let same = ap (λ table. stamped_of table c.op-op.result.now) c.self.invariant.beside ∙ c.op-op.ensures.stamped table in
-    let found : slice_get table c.in-Some.index ≡ Some id.replica = ap (λ ps. slice_get ps c.in-Some.index) (sym c.table.ensures) ∙ c.in-Some.ensures.found in
+    let found : slice_get table c.in-Some.index ≡ Some id.replica = ap (λ ps. slice_get ps c.in-Some.index) (sym c.table.ensures)
+    ∙ c.in-Some.ensures.found in
     let within : c.in-Some.index < length table = slice_get_within table c.in-Some.index id.replica found in
     let there : get_or table c.in-Some.index 0 ≡ id.replica = get_or_from_slice_get table c.in-Some.index id.replica 0 found in
     rw (c.push.ensures.table, c.push.ensures.entries)
-    (kept_next table d.applied c.raise.new.self d.log.entries (entry_of table c.args.entry) id d.tree c.apply.new.self (sym (ap (λ (s : Stamped). s.id) (c.op-op.ensures.stamped table))) c.self.invariant
+    (kept_next table d.applied c.raise.new.self d.log.entries (entry_of table c.args.entry) id d.tree c.apply.new.self
+    (sym (ap (λ (s : Stamped). s.id) (c.op-op.ensures.stamped table))) c.self.invariant
     (lawful _ _ c.args.entry c.self.view_is c.requires.lawful)
     c.apply.ensures.table
     (c.apply.ensures.applied ∙ ap (λ (s : Stamped). apply (document d.tree) (loose_operation s)) same)

@@ -11,5 +11,7 @@ returns c =
     let table = d.log.table in
     rw (← c.self.view_is)
     (c.le.ensures
-    ∙ sym (ready-by_table (applied d.log.entries) table c.args.op.now.deps d.applied (stamped_of table c.args.op.now) refl c.self.invariant.distinct
+    ∙ sym
+    (ready-by_table (applied d.log.entries) table c.args.op.now.deps d.applied
+    (stamped_of table c.args.op.now) refl c.self.invariant.distinct
     (c.requires.width ∙ ap (λ (k : Kept). length k.table) (sym c.self.view_is)) c.self.invariant.width c.self.invariant.greatest))

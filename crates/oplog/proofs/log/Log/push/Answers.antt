@@ -8,29 +8,29 @@ use Rattle.semantics.specs.Stamped.{Stamped}
 use Rattle.semantics.specs.LegalHistory.{has_id}
 use Rattle.semantics.specs.Entries.{applied, stamped_in}
 use Rattle.operation.specs.Meanings.{entry_of, op_in}
-use Rattle.oplog.specs.Logs.{AreOfMembers, HaveOwnIds, Logged, history, numbers_of, places_by}
+use Rattle.oplog.specs.Logs.{AreOfMembers, HaveOwnIds, Logged, history, numbers_of, positions_by}
 use Rattle.oplog.proofs.Oldest.{history-length, history-more}
 use Rattle.oplog.proofs.PlacedIds.{unplaced}
-use Rattle.oplog.proofs.Places.{all_more, places_inside}
+use Rattle.oplog.proofs.Positions.{all_more, positions_inside}
 use Rattle.oplog.proofs.Room.{least_room-any, least_room-beside}
 use Rattle.oplog.proofs.log.Log.push.Goals as goal
 
-pub put_place-requires-clause-inside : goal.put_place-requires-clause-inside
-put_place-requires-clause-inside c =
+pub put_position-requires-clause-inside : goal.put_position-requires-clause-inside
+put_position-requires-clause-inside c =
     let d = c.self.inside in
-    places_inside (history d.table d.entries.items) d.table d.places.items c.in-Some.index c.op.result.now.id.replica c.in-Some.ensures.found c.self.invariant.places_are
+    positions_inside (history d.table d.entries.items) d.table d.positions.items c.in-Some.index c.op.result.now.id.replica c.in-Some.ensures.found c.self.invariant.positions_are
 
-pub put_place-requires-clause-room : goal.put_place-requires-clause-room
-put_place-requires-clause-room c =
+pub put_position-requires-clause-room : goal.put_position-requires-clause-room
+put_position-requires-clause-room c =
     let d = c.self.inside in
     let room = ap (λ (l : Logged). l.room) c.self.view_is in
-    least_room-any (vec_capacity d.entries - vec_len d.entries) 1 d.places.items (omega arith) (omega arith)
+    least_room-any (vec_capacity d.entries - vec_len d.entries) 1 d.positions.items (omega arith) (omega arith)
 
 pub push_reserved-requires : goal.push_reserved-requires
 push_reserved-requires c =
     let d = c.self.inside in
     let room = ap (λ (l : Logged). l.room) c.self.view_is in
-    let least = least_room-beside (vec_capacity d.entries - vec_len d.entries) d.places.items in
+    let least = least_room-beside (vec_capacity d.entries - vec_len d.entries) d.positions.items in
     omega arith
 
 pub invariant_of-self : goal.invariant_of-self
@@ -41,16 +41,16 @@ invariant_of-self c =
     let x = entry_of d.table e in
     let i = c.in-Some.index in
     let own : c.op.result.now.id ≡ (stamped_in x).id = ap (λ (s : Stamped). s.id) (c.op.ensures.stamped d.table) in
-    let place : c.len-place.result ≡ length G = let count = history-length d.table d.entries.items in omega arith in
-    let columns = numbers_of d.places.items in
+    let position : c.len-position.result ≡ length G = let count = history-length d.table d.entries.items in omega arith in
+    let columns = numbers_of d.positions.items in
     let more : history d.table c.push_reserved.new.self.items ≡ x ∷ G = ap (history d.table) c.push_reserved.ensures.items ∙ history-more d.table d.entries.items e in
     record {
       distinct = c.self.invariant.distinct;
-      places_are =
-          c.put_place.ensures.numbers
-          ∙ (λ t. set (c.self.invariant.places_are t) i (put id_cmp (own t) (place t) (get_or (c.self.invariant.places_are t) i [])))
+      positions_are =
+          c.put_position.ensures.numbers
+          ∙ (λ t. set (c.self.invariant.positions_are t) i (put id_cmp (own t) (position t) (get_or (c.self.invariant.positions_are t) i [])))
           ∙ all_more G x d.table i c.self.invariant.distinct (c.in-Some.ensures.found ∙ ap (λ (a : OpId). Some a.replica) own)
-          ∙ ap (λ H. map (λ p. places_by p H) d.table) (sym more);
+          ∙ ap (λ H. map (λ p. positions_by p H) d.table) (sym more);
       members =
           subst (AreOfMembers d.table) (sym more)
           (c.self.invariant.members, subst (λ (l : Logged). IsTrue (is_member l.table (stamped_in (entry_of l.table e)).id.replica)) (sym c.self.view_is) c.requires.member);

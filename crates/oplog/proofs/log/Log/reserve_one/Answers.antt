@@ -8,7 +8,7 @@ pub returns-clause-room : goal.returns-clause-room
 returns-clause-room c =
     let entries = c.in_ok-reserve.ensures.ok in
     let n : ℕ = vec_capacity c.reserve.new.self - vec_len c.reserve.new.self in
-    on_ok_weaker c.reserve_places.result (λ h. omega (arith, h)) (c.reserve_places.ensures.room n (omega arith))
+    on_ok_weaker c.reserve_positions.result (λ h. omega (arith, h)) (c.reserve_positions.ensures.room n (omega arith))
 
 pub returns-clause-kept : goal.returns-clause-kept
 returns-clause-kept c =
@@ -16,6 +16,6 @@ returns-clause-kept c =
     let room = ap (λ (l : Logged). l.room) c.self.view_is in
     let before : ℕ = vec_capacity d.entries - vec_len d.entries in
     let after : ℕ = vec_capacity c.reserve.new.self - vec_len c.reserve.new.self in
-    let wider = least_room-wider before after d.places.items (omega arith) in
-    let kept = c.reserve_places.ensures.kept after in
+    let wider = least_room-wider before after d.positions.items (omega arith) in
+    let kept = c.reserve_positions.ensures.kept after in
     omega arith

@@ -9,7 +9,7 @@ use Rattle.tree.proofs.tree.Tree.new.Goals as goal
 pub invariant_of-result : goal.invariant_of-result
 invariant_of-result c =
     let table = c.in_ok-table.table in
-    let distinct : AreDistinct table = subst AreDistinct c.table.view_is (distinct_from_rising c.table.inside.numbers.items c.table.invariant.rising) in
+    let distinct : AreDistinct table = subst AreDistinct c.table.view_is (distinct_from_rising _ c.table.invariant.rising) in
     let one : c.push.new.self.items ≡ c.new.result ∷ [] = c.in_ok-push.ensures.items ∙ ap (λ ns. ns ++ c.new.result ∷ []) c.new-nodes.ensures.items in
     subst (λ ns. IsPlanted (record { table = table; nodes = ns; scalar = None })) (sym one) (root_planted c.new.result c.new.ensures table None distinct)
 

@@ -5,7 +5,7 @@ use Rattle.columns.specs.Orders.{Order, has_item}
 use Rattle.columns.specs.Blocks.{GoesIn, IsBehind, Run, items_at, joined, room_at}
 use Rattle.columns.proofs.Runs.{items_here}
 use Rattle.columns.proofs.Changed.{placed, room_parts, roomy, same_run}
-use Rattle.columns.proofs.order_blocks.OrderBlocks.place.Goals as goal
+use Rattle.columns.proofs.order_blocks.OrderBlocks.insert_after.Goals as goal
 
 pub put-requires-2-clause-within : goal.put-requires-2-clause-within
 put-requires-2-clause-within c =

@@ -5,27 +5,27 @@ use Rattle.semantics.specs.Ids.{OpId, id_cmp}
 use Rattle.columns.specs.Numbered.{Numbered}
 use Rattle.oplog.specs.Logs.{numbers_of}
 use Rattle.oplog.proofs.Room.{least_room-at, least_room-used}
-use Rattle.oplog.proofs.log.put_place.Goals as goal
+use Rattle.oplog.proofs.log.put_position.Goals as goal
 
 pub put-requires : goal.put-requires
 put-requires c =
     let numbers = c.index_mut-numbers.result.now in
     let read = ap (λ (n : Numbered OpId). n.room) c.index_mut-numbers.ensures.value in
-    let least = least_room-at 1 c.args.places.now.items c.args.index numbers c.requires.inside in
+    let least = least_room-at 1 c.args.positions.now.items c.args.index numbers c.requires.inside in
     omega arith
 
 pub returns-clause-numbers : goal.returns-clause-numbers
 returns-clause-numbers c =
-    let ns = c.args.places.now.items in
+    let ns = c.args.positions.now.items in
     let numbers = c.index_mut-numbers.result.now in
     let f = λ (n : Numbered OpId). n.entries in
     map-set f ns c.args.index c.put.new.self
     ∙ ap (set (numbers_of ns) c.args.index) (c.put.ensures.entries
-    ∙ ap (put id_cmp c.args.id c.args.place) (ap f c.index_mut-numbers.ensures.value ∙ sym (get_or-map f ns c.args.index numbers [] c.requires.inside)))
+    ∙ ap (put id_cmp c.args.id c.args.position) (ap f c.index_mut-numbers.ensures.value ∙ sym (get_or-map f ns c.args.index numbers [] c.requires.inside)))
 
 pub returns-clause-room : goal.returns-clause-room
 returns-clause-room c = λ n.
-    let ns = c.args.places.now.items in
+    let ns = c.args.positions.now.items in
     let numbers = c.index_mut-numbers.result.now in
     let read = ap (λ (m : Numbered OpId). m.room) c.index_mut-numbers.ensures.value in
     least_room-used n ns c.args.index c.put.new.self numbers c.requires.inside (omega arith)

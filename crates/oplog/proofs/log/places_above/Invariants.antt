@@ -1,6 +1,0 @@
-use Rattle.std.proofs.Common.{◌≡◌, ◌++◌, drop}
-use Rattle.oplog.specs.Logs.{numbers_above, numbers_of}
-use Rattle.oplog.proofs.log.places_above.Given as goal
-
-abbrev pub invariant-loop-index : goal.invariant-loop-index
-invariant-loop-index l = l.above.items ++ numbers_above (drop l.index l.vector) (numbers_of (drop l.index l.places)) ≡ numbers_above l.vector (numbers_of l.places)
