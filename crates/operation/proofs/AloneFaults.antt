@@ -1,15 +1,15 @@
 -- The faults of an operation alone, by the counters of its vector.
-use Rattle.std.proofs.Common.{◌≡◌, refl, ap, ◌∙◌, ℕ, Bool, true, false, ◌&&◌, ◌==◌, cond, nat_lt, max, List, [], ◌∷◌, length, Some, arith}
+use Rattle.std.proofs.Common.{◌≡◌, refl, ap, ◌∙◌, ℕ, Bool, true, false, ◌&&◌, ◌==◌, cond, nat_lt, max, List, [], ◌∷◌, length, Option, Some, arith}
 use Rattle.std.specs.List.{list_all}
 use Rattle.std.proofs.lemmas.Bool.{or_left, or_right, eq-eqb, and_parts, and_from}
 use Rattle.std.proofs.Math.Bool.{and-true}
 use Rattle.ids.specs.declared.refusal.Refusal.TheVariants.{UnknownReplica}
 use Rattle.ids.specs.Members.{is_member}
 use Rattle.semantics.specs.Ids.{OpId, id_at}
-use Rattle.semantics.specs.Operations.{element_of}
+use Rattle.semantics.specs.Operations.{Misplaced, element_of, misplaced}
 use Rattle.semantics.specs.Vectors.{Vector, raise}
 use Rattle.semantics.specs.Tables.{by_table, greatest_in}
-use Rattle.semantics.specs.Faults.{first_failed, alone_fault, is_of_members, has_counter, is_in_list, is_at_element, items_covered, items_of_members}
+use Rattle.semantics.specs.Faults.{first_failed, alone_fault, is_of_members, has_counter, items_covered, items_of_members}
 use Rattle.semantics.proofs.TableVectors.{greatest-by_table}
 use Rattle.operation.specs.declared.op.Op.{Op}
 use Rattle.operation.specs.Alone.{fault_alone, is_next_counter}
@@ -61,11 +61,11 @@ next_counter : (ps : List ℕ) (o : Op) → length o.deps ≡ length ps → has_
 next_counter ps o width = ap (λ g. is_next_counter g o.id.counter) (greatest-by_table ps o.deps (omega (arith, width)))
 
 -- the first fault of an operation whose vector has the table's width, by what its tests answer
-pub fault-alone : (ps : List ℕ) (o : Op) → length o.deps ≡ length ps → (a b c d : Bool)
+pub fault-alone : (ps : List ℕ) (o : Op) → length o.deps ≡ length ps → (a b : Bool) (c : Option Misplaced) (d : Bool)
     → (is_member ps o.id.replica && items_of_members ps (element_of o.place)) ≡ a
     → is_next_counter (greatest_in o.deps) o.id.counter ≡ b
-    → is_in_list (mutation_of o.mutation) o.place ≡ c
-    → (is_at_element (mutation_of o.mutation) o.place && items_covered (by_table ps o.deps) (element_of o.place)) ≡ d
+    → misplaced (mutation_of o.mutation) o.place ≡ c
+    → items_covered (by_table ps o.deps) (element_of o.place) ≡ d
     → fault_alone ps o ≡ first_failed a b c d
 fault-alone ps o width a b c d names next inside stands =
     ap (λ e. cond e (alone_fault ps (stamped_of ps o)) (Some UnknownReplica)) (eq-eqb (length o.deps) (length ps) width)

@@ -1,13 +1,11 @@
 -- What holds of an operation that shows no fault alone.
-use Rattle.std.proofs.Common.{◌≡◌, ℕ, Bool, true, false, ◌&&◌, cond, nat_eq, List, length, Some, None, eqb-true, refl}
+use Rattle.std.proofs.Common.{◌≡◌, ℕ, Bool, true, false, ◌&&◌, List, Option, None, refl}
 use Rattle.std.specs.List.{list_all}
 use Rattle.std.proofs.lemmas.Bool.{and_parts}
-use Rattle.ids.specs.declared.refusal.Refusal.TheVariants.{UnknownReplica}
 use Rattle.ids.specs.Members.{is_member}
 use Rattle.semantics.specs.Stamped.{Stamped}
-use Rattle.semantics.specs.Operations.{element_of}
-use Rattle.semantics.specs.Faults.{StandsAlone, alone_fault, first_failed, is_of_members, items_of_members}
-use Rattle.semantics.proofs.AloneTests.{stands_alone}
+use Rattle.semantics.specs.Operations.{Misplaced, element_of}
+use Rattle.semantics.specs.Faults.{first_failed, is_of_members, items_of_members}
 use Rattle.semantics.specs.Entries.{stamped_in}
 use Rattle.operation.specs.declared.command.Entry.{Entry}
 use Rattle.operation.specs.declared.command.Entry.TheVariants.{Own, Peer}
@@ -21,7 +19,7 @@ pub stamped_same : (table : List ℕ) (e : Entry) → stamped_in (entry_of table
 stamped_same table (Own client serial c o) = refl
 stamped_same table (Peer o) = refl
 
-first_true : (a b c d : Bool) → first_failed a b c d ≡ None → a ≡ true
+first_true : (a b : Bool) (c : Option Misplaced) (d : Bool) → first_failed a b c d ≡ None → a ≡ true
 first_true false b c d h = cc
 first_true true b c d h = refl
 

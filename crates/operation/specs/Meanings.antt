@@ -1,11 +1,14 @@
 -- Commands, operations and entries of the program as those of the definitions.
 use Rattle.std.specs.Prelude.{ℕ, List}
-use Rattle.semantics.specs.Operations.{Mutation as TheMutation, Assign as Assigning, Insert as Inserting, Delete as Deleting}
+use Rattle.semantics.specs.Operations.{Misplaced as WhyMisplaced, Mutation as TheMutation, Assign as Assigning, Insert as Inserting, Delete as Deleting}
+use Rattle.semantics.specs.Operations as operations
 use Rattle.semantics.specs.Tables.{by_table}
 use Rattle.semantics.specs.Stamped.{Stamped}
 use Rattle.semantics.specs.Making.{Command as TheCommand}
 use Rattle.semantics.specs.Entries.{Entry as TheEntry, Own as TheOwn, Peer as ThePeer}
 use Rattle.value.specs.Meanings.{value_of}
+use Rattle.operation.specs.declared.misplaced.Misplaced.{Misplaced}
+use Rattle.operation.specs.declared.misplaced.Misplaced.TheVariants.{OutsideList, OnHead}
 use Rattle.operation.specs.declared.op.Mutation.{Mutation}
 use Rattle.operation.specs.declared.op.Mutation.TheVariants as mutation
 use Rattle.operation.specs.declared.op.Op.{Op}
@@ -19,6 +22,11 @@ abbrev pub mutation_of : Mutation → TheMutation
 mutation_of (mutation.Assign v) = Assigning (value_of v)
 mutation_of (mutation.Insert v) = Inserting (value_of v)
 mutation_of mutation.Delete = Deleting
+
+-- why a mutation can't stand at a place
+abbrev pub misplaced_of : Misplaced → WhyMisplaced
+misplaced_of OutsideList = operations.OutsideList
+misplaced_of OnHead = operations.OnHead
 
 -- a command
 abbrev pub command_of : Command → TheCommand

@@ -3,15 +3,15 @@
 ghost use Rattle.std.specs.Prelude.{◌≡◌, ◌&&◌, None, Some, MatchResult, length};
 ghost use Rattle.ids.specs.Members.{AreDistinct, is_member};
 ghost use Rattle.semantics.specs.Operations.{element_of};
-ghost use Rattle.semantics.specs.Faults.{is_in_list, is_at_element, items_covered, items_of_members};
+ghost use Rattle.semantics.specs.Faults.{items_covered, items_of_members};
 ghost use Rattle.semantics.specs.Tables.{by_table, greatest_in};
 ghost use Rattle.semantics.specs.Vectors.{at};
 ghost use Rattle.cursor.specs.Meanings.{hop_of};
 ghost use Rattle.operation.specs.Alone.{fault_alone, is_next_counter, key_covered, key_of_member};
-ghost use Rattle.operation.specs.Meanings.{mutation_of};
 
-use crate::op::{Mutation, Op};
-use cursor::{Hop, Last, Place};
+use crate::misplaced::Misplaced;
+use crate::op::Op;
+use cursor::{Hop, Place};
 use ids::{Refusal, ReplicaId, ReplicaTable};
 use version::VersionVector;
 
@@ -31,10 +31,12 @@ pub fn check_alone(op: &Op, table: &ReplicaTable) -> Result<(), Refusal>
     if !has_counter(op) {
         return Err(Refusal::BadCounter);
     }
-    if !is_in_list(&op.mutation, &op.place) {
-        return Err(Refusal::NotInList);
+    match op.mutation.misplaced_at(&op.place) {
+        Some(Misplaced::OutsideList) => return Err(Refusal::NotInList),
+        Some(Misplaced::OnHead) => return Err(Refusal::BadPlace),
+        None => {}
     }
-    if !is_at_element(&op.mutation, &op.place) || !covers_items(&op.deps, &op.place, table) {
+    if !covers_items(&op.deps, &op.place, table) {
         return Err(Refusal::BadPlace);
     }
     Ok(())
@@ -50,8 +52,8 @@ fn has_counter(op: &Op) -> bool
     }
 }
 
-/// Whether the id and the items of the place name members.
-fn names_members(op: &Op, table: &ReplicaTable) -> bool
+/// Whether the id and the items of the place name members. A binary search for each.
+pub fn names_members(op: &Op, table: &ReplicaTable) -> bool
     ensures { result ≡ (is_member table.now op.now.id.replica && items_of_members table.now (element_of op.now.place)) }
 {
     table.index_of(op.id.replica).is_some()
@@ -102,21 +104,4 @@ fn named_of(replica: ReplicaId, vector: &VersionVector, table: &ReplicaTable) ->
         Some(index) => vector.get(index),
         None => 0,
     }
-}
-
-/// An insert has to stand at a head or an item.
-fn is_in_list(mutation: &Mutation, place: &Place) -> bool
-    ensures { result ≡ is_in_list (mutation_of mutation.now) place.now }
-{
-    match place.last() {
-        Last::Doc | Last::Key(_) => !mutation.is_insert(),
-        Last::Elem(_) | Last::Head => true,
-    }
-}
-
-/// An assign or a delete must not stand at a head.
-fn is_at_element(mutation: &Mutation, place: &Place) -> bool
-    ensures { result ≡ is_at_element (mutation_of mutation.now) place.now }
-{
-    mutation.is_insert() || !place.is_head()
 }

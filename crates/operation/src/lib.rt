@@ -3,10 +3,12 @@
 
 mod alone;
 mod command;
+mod misplaced;
 mod op;
 #[cfg(test)]
 mod tests;
 
-pub use alone::check_alone;
+pub use alone::{check_alone, names_members};
 pub use command::{Command, Delivered, Entry};
+pub use misplaced::Misplaced;
 pub use op::{Mutation, Op};

@@ -8,11 +8,11 @@ use Rattle.semantics.specs.WriteSteps.{with_answer}
 use Rattle.semantics.specs.ReadSteps.{cell_at}
 use Rattle.semantics.proofs.SetElements.{get-set_same, get-set_other, get-append, get-append_last, get-append_cases}
 
--- serials count from 1, places from 0
+-- serials count from 1, indices from 0
 pub cell_at-suc : (cells : List Cell) (n : ℕ) → cell_at cells (suc n) ≡ slice_get cells n
 cell_at-suc cells n =
-    let place : suc n - 1 ≡ n = omega arith in
-    ap (λ b. cond b None (slice_get cells (suc n - 1))) (ne_eqb (suc n) 0 (λ e. absurd (omega arith))) ∙ ap (slice_get cells) place
+    let index : suc n - 1 ≡ n = omega arith in
+    ap (λ b. cond b None (slice_get cells (suc n - 1))) (ne_eqb (suc n) 0 (λ e. absurd (omega arith))) ∙ ap (slice_get cells) index
 
 -- no serial is above the number of cells
 pub cell_within : (cells : List Cell) (serial : ℕ) (cell : Cell) → cell_at cells serial ≡ Some cell → serial ≤ length cells
@@ -45,9 +45,9 @@ newest_cases cells new (suc n) cell h =
 pub answered_cells : (k : Client) (n : ℕ) (g : Given) (cell : Cell) → cell_at k.cells (suc n) ≡ Some cell
     → (with_answer k (suc n) g).cells ≡ slice_set k.cells n (record cell { answer = Some g })
 answered_cells k n g cell h =
-    let place : suc n - 1 ≡ n = omega arith in
+    let index : suc n - 1 ≡ n = omega arith in
     let there : slice_get k.cells n ≡ Some cell = sym (cell_at-suc k.cells n) ∙ h in
-    rw (place, there, place)
+    rw (index, there, index)
 
 pub answered_there : (k : Client) (serial : ℕ) (g : Given) (cell : Cell) → cell_at k.cells serial ≡ Some cell
     → cell_at (with_answer k serial g).cells serial ≡ Some (record cell { answer = Some g })

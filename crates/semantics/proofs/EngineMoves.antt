@@ -90,7 +90,7 @@ module _ (P : Request → Type 0) (Claim : Engine → Type 0) (kept : IsKeptOn P
   pub kept_by_push : (E : Engine) (c : ℕ) (request : Request) → IsSound E → P request → Claim E → Claim (push E c request).engine
   kept_by_push E c request s p h = at_client (slice_get E.clients c) refl
     where
-      at_room : (k : Client) → slice_get E.clients c ≡ Some k → IsLater E (submit E c k (next_item c k request)).engine → (a b : Bool) → nat_le E.serials (length k.cells) ≡ a → nat_le E.places (length E.queue) ≡ b
+      at_room : (k : Client) → slice_get E.clients c ≡ Some k → IsLater E (submit E c k (next_item c k request)).engine → (a b : Bool) → nat_le E.serials (length k.cells) ≡ a → nat_le E.capacity (length E.queue) ≡ b
           → Claim (submit E c k (next_item c k request)).engine
       at_room k is l true b e f = rw e h
       at_room k is l false true e f = rw (e, f) h
@@ -100,7 +100,7 @@ module _ (P : Request → Type 0) (Claim : Engine → Type 0) (kept : IsKeptOn P
 
       at_client : (o : Option Client) → slice_get E.clients c ≡ o → Claim (push E c request).engine
       at_client None e = rw e h
-      at_client (Some k) e = rw e (at_room k e (rw e at (pushed E c request s)) (nat_le E.serials (length k.cells)) (nat_le E.places (length E.queue)) refl refl)
+      at_client (Some k) e = rw e (at_room k e (rw e at (pushed E c request s)) (nat_le E.serials (length k.cells)) (nat_le E.capacity (length E.queue)) refl refl)
 
   pub kept_by_take : (E : Engine) → IsSound E → Claim E → Claim (take_item E).engine
   kept_by_take E s h = at_queue E.queue refl

@@ -1,13 +1,12 @@
 -- What handling an item keeps, whether an allocation fails or not.
-use Rattle.std.proofs.Common.{◌≡◌, ◌⊎◌, inl, inr, ℕ, suc, ◌+◌, ◌<◌, ◌≤◌, Bool, true, false, nat_lt, List, [], ◌∷◌, ◌++◌, length, Option, Some, None, Result, Ok, Err, refl, sym, ap, ◌∙◌, subst, arith}
+use Rattle.std.proofs.Common.{◌≡◌, inl, inr, ℕ, ◌<◌, ◌≤◌, Bool, true, false, nat_lt, List, [], ◌∷◌, ◌++◌, length, Option, Some, None, Result, Ok, Err, refl, sym, ap, ◌∙◌, subst, arith}
 use Rattle.std.proofs.lemmas.Bool.{ltb-true, ltb-false}
 use Rattle.ids.specs.declared.refusal.Refusal.{Refusal}
 use Rattle.ids.specs.declared.refusal.Refusal.TheVariants.{NoMemory, BadFloor}
-use Rattle.semantics.specs.Ids.{OpId}
 use Rattle.semantics.specs.Operations.{Operation}
 use Rattle.semantics.specs.Stamped.{Stamped}
 use Rattle.semantics.specs.Making.{Command, make}
-use Rattle.semantics.specs.Entries.{Entry, Own, Peer, applied, first_entries, IsAbove}
+use Rattle.semantics.specs.Entries.{Entry, Own, Peer, first_entries, IsAbove}
 use Rattle.semantics.specs.LegalAnswer.{Request, OfCommand, OfPeer, Submitted, Reply, Made, NotMade, KeptAt, KnownAt, LacksSerial, IsLegalAnswer}
 use Rattle.semantics.specs.Replica.{Replica, operations, IsRunning}
 use Rattle.semantics.specs.Delivery.{Delivered, Kept, Known, NotKept, answer_after, answer_to, deliver}
@@ -22,8 +21,8 @@ use Rattle.semantics.proofs.HandledItems.{as_stamped}
 use Rattle.semantics.proofs.OwnReplies.{own_made, own_refused, all_first}
 use Rattle.semantics.proofs.ReceivedItems.{same_own, same_members, same_entries, running_counted}
 use Rattle.semantics.proofs.Replies.{made_stays, refused_stays}
-use Rattle.semantics.specs.Receipts.{answer_with, WasAnswered, IsReceipt, IsFromFloor, IsAnswer}
-use Rattle.semantics.specs.Handling.{Handler, DrainsTo, IsWhole, IsTurnedAway, IsCutShort, Handles, AreFor, IsAfter}
+use Rattle.semantics.specs.Receipts.{answer_with, WasAnswered, IsReceipt, IsAnswer}
+use Rattle.semantics.specs.Handling.{Handler, DrainsTo, Handles, AreFor, IsAfter}
 
 -- ---- drains
 

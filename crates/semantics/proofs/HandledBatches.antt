@@ -1,19 +1,19 @@
 -- A batch of handled items, which grows at its end.
-use Rattle.std.proofs.Common.{◌≡◌, ◌==◌, ℕ, zero, suc, ◌+◌, ◌-◌, ◌<◌, ◌≤◌, Bool, true, false, cond, List, [], ◌∷◌, ◌++◌, length, map, Some, slice_get, refl, sym, ap, ◌∙◌, subst, arith, append_assoc, eqb-true, eq-eqb}
-use Rattle.std.proofs.lemmas.List.{append-nil, length-append}
+use Rattle.std.proofs.Common.{◌≡◌, ◌==◌, ℕ, zero, suc, ◌+◌, ◌-◌, ◌<◌, Bool, true, false, cond, List, [], ◌∷◌, ◌++◌, length, Some, slice_get, refl, sym, ap, ◌∙◌, subst, arith, append_assoc, eq-eqb}
+use Rattle.std.proofs.lemmas.List.{append-nil}
 use Rattle.std.proofs.lemmas.Option.{slice_get_within}
 use Rattle.semantics.specs.Operations.{Delete}
 use Rattle.semantics.specs.Making.{Command}
 use Rattle.semantics.specs.Entries.{Entry, Own, Peer, IsAbove}
-use Rattle.semantics.specs.LegalAnswer.{OfCommand, Submitted, Reply}
-use Rattle.semantics.specs.Replica.{Replica, IsRunning}
+use Rattle.semantics.specs.LegalAnswer.{OfCommand, Submitted}
+use Rattle.semantics.specs.Replica.{IsRunning}
 use Rattle.semantics.specs.Drain.{with_peers}
 use Rattle.semantics.specs.Engine.{Handled}
 use Rattle.semantics.specs.WorldHistory.{BeginsWith, of_client}
 use Rattle.semantics.specs.Receipts.{IsAnswer}
-use Rattle.semantics.specs.Handling.{Handler, DrainsTo, Resumes, ResumesIf, Handles, Runs, AreFor, IsAfter}
+use Rattle.semantics.specs.Handling.{Handler, DrainsTo, Resumes, ResumesIf, Handles, Runs, AreFor}
 use Rattle.semantics.specs.Batches.{AsksFor, ComeFrom, AreAnswers, items_of, IsBatch, IsResumed}
-use Rattle.semantics.proofs.HandledAnswers.{IsPart, part_to, peers_before, peers_for, handled, answer_stays}
+use Rattle.semantics.proofs.HandledAnswers.{part_to, peers_before, peers_for, handled, answer_stays}
 
 -- ---- serials
 

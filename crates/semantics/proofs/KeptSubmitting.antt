@@ -71,11 +71,11 @@ pub complete_pushed : (E : Engine) (c : ℕ) (request : Request) → IsComplete 
 complete_pushed E c request h = at_client (slice_get E.clients c) refl
   where
     at_room : (k : Client) → slice_get E.clients c ≡ Some k → (a b : Bool) → nat_le E.serials (length k.cells) ≡ a
-        → nat_le E.places (length E.queue) ≡ b → IsComplete (submit E c k (next_item c k request)).engine
+        → nat_le E.capacity (length E.queue) ≡ b → IsComplete (submit E c k (next_item c k request)).engine
     at_room k there true b e f = rw e h
     at_room k there false true e f = rw (e, f) h
     at_room k there false false e f = rw (e, f) (submitted E h c k request there)
 
     at_client : (o : Option Client) → slice_get E.clients c ≡ o → IsComplete (push E c request).engine
     at_client None e = rw e h
-    at_client (Some k) e = rw e (at_room k e (nat_le E.serials (length k.cells)) (nat_le E.places (length E.queue)) refl refl)
+    at_client (Some k) e = rw e (at_room k e (nat_le E.serials (length k.cells)) (nat_le E.capacity (length E.queue)) refl refl)

@@ -46,7 +46,7 @@ pub ticketed : (E : Engine) (c : ℕ) (request : Request) (serial : ℕ) → (pu
 ticketed E c request serial h = at_client (slice_get E.clients c) refl
   where
     at_room : (k : Client) → slice_get E.clients c ≡ Some k → (a b : Bool) → nat_le E.serials (length k.cells) ≡ a
-        → nat_le E.places (length E.queue) ≡ b
+        → nat_le E.capacity (length E.queue) ≡ b
         → (submit E c k (next_item c k request)).reply ≡ Ticket serial
         → IsTicketed k c request serial (submit E c k (next_item c k request)).engine
     at_room k there true b e f r = (let z = rw e at r in cc)
@@ -58,7 +58,7 @@ ticketed E c request serial h = at_client (slice_get E.clients c) refl
         rw (e, f) (sym is, now)
 
     at_found : (k : Client) → slice_get E.clients c ≡ Some k → IsTicketed k c request serial (push E c request).engine
-    at_found k e = rw e (at_room k e (nat_le E.serials (length k.cells)) (nat_le E.places (length E.queue)) refl refl (rw e at h))
+    at_found k e = rw e (at_room k e (nat_le E.serials (length k.cells)) (nat_le E.capacity (length E.queue)) refl refl (rw e at h))
 
     at_client : (o : Option Client) → slice_get E.clients c ≡ o
         → (k : Client) × (slice_get E.clients c ≡ Some k) × (serial ≡ suc (length k.cells))

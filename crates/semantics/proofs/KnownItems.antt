@@ -1,5 +1,5 @@
 -- The items on the way down to an element that stands in a history are of operations of that history.
-use Rattle.std.proofs.Common.{◌≡◌, ℕ, true, ◌&&◌, List, refl, subst}
+use Rattle.std.proofs.Common.{◌≡◌, ℕ, true, List, refl, subst}
 use Rattle.std.proofs.lemmas.Bool.{and_from}
 use Rattle.ids.specs.Members.{is_member}
 use Rattle.semantics.specs.Ids.{OpId, IdSet}

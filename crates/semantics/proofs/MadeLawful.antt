@@ -2,14 +2,14 @@
 use Rattle.std.proofs.Common.{◌≡◌, inl, inr, ℕ, zero, suc, ◌≤◌, le_antisymm, true, false, cond, nat_le, List, [], ◌∷◌, Result, Ok, Err, refl, ap, subst, arith, slice_get}
 use Rattle.semantics.specs.Ids.{OpId, id_at}
 use Rattle.semantics.specs.Elements.{Element, Doc, Field, Item, Place, At, HeadOf, depth}
-use Rattle.semantics.specs.Operations.{Operation, Mutation, Assign, Insert, Delete, element_of}
+use Rattle.semantics.specs.Operations.{Operation, Mutation, Assign, Insert, Delete, misplaced, element_of}
 use Rattle.semantics.specs.LegalHistory.{IsLegal, Follows, has_id, greatest_of, ItemsStand, IsFormed}
 use Rattle.semantics.specs.Context.{doc}
 use Rattle.ids.specs.declared.refusal.Refusal.{Refusal}
 use Rattle.ids.specs.declared.refusal.Refusal.TheVariants.{TooDeep, HistoryFull}
 use Rattle.semantics.specs.Questions.{Step, Get, Idx, resolve, walk_from, step_from, enter, item_at}
 use Rattle.semantics.specs.DocumentAnswer.{visible_items, is_any}
-use Rattle.semantics.specs.Making.{Command, make, place_for, then_place, operation_at, is_full}
+use Rattle.semantics.specs.Making.{Command, make, place_unless, then_place, operation_at, is_full}
 use Rattle.semantics.proofs.AbsentIds.{has_id-among}
 use Rattle.semantics.proofs.LegalFacts.{counted, greatest_cases, deps_there}
 use Rattle.semantics.proofs.ListedItems.{AllInserted, inserted_filter, order_inserted}
@@ -74,14 +74,14 @@ module _ (H : List Operation) where
   MakesLawful p (Err r) = Unit {0}
   MakesLawful p (Ok o) = IsLawful p o
 
-  placed : IsLegal H → (p : ℕ) (m : Mutation) (place : Place) → ItemsStand H (has_id H) (element_of place) → MakesLawful p (operation_at H p m (place_for m place))
-  placed legal p (Insert v) (HeadOf l) st = (made_follows legal p (Insert v) (HeadOf l) tt st, refl, λ a. refl)
-  placed legal p (Insert v) (At (Item l a)) st = (made_follows legal p (Insert v) (At (Item l a)) tt st, refl, λ a. refl)
+  placed : IsLegal H → (p : ℕ) (m : Mutation) (place : Place) → ItemsStand H (has_id H) (element_of place) → MakesLawful p (operation_at H p m (place_unless (misplaced m place) place))
+  placed legal p (Insert v) (HeadOf l) st = (made_follows legal p (Insert v) (HeadOf l) refl st, refl, λ a. refl)
+  placed legal p (Insert v) (At (Item l a)) st = (made_follows legal p (Insert v) (At (Item l a)) refl st, refl, λ a. refl)
   placed legal p (Insert v) (At Doc) st = tt
   placed legal p (Insert v) (At (Field e n)) st = tt
-  placed legal p (Assign v) (At e) st = (made_follows legal p (Assign v) (At e) tt st, refl, λ a. refl)
+  placed legal p (Assign v) (At e) st = (made_follows legal p (Assign v) (At e) refl st, refl, λ a. refl)
   placed legal p (Assign v) (HeadOf l) st = tt
-  placed legal p Delete (At e) st = (made_follows legal p Delete (At e) tt st, refl, λ a. refl)
+  placed legal p Delete (At e) st = (made_follows legal p Delete (At e) refl st, refl, λ a. refl)
   placed legal p Delete (HeadOf l) st = tt
 
   resolved : IsLegal H → (p : ℕ) (m : Mutation) (r : Result Place Refusal) → Stands r → MakesLawful p (operation_at H p m (then_place m r))

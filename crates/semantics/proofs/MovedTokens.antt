@@ -66,8 +66,8 @@ grown_by_client E queue due c k j h m still = record {
         omega (arith, before, after, m.seen)
     seen_now t (inr n) =
         let by_client : seen_by (with_client E queue due c j) t ≡ seen_at E.readers (t - length (slice_set E.clients c j)) (slice_get E.clients t) = ap (seen_at E.readers (t - length (slice_set E.clients c j))) (other t n) in
-        let by_place : seen_at E.readers (t - length (slice_set E.clients c j)) (slice_get E.clients t) ≡ seen_by E t = ap (λ i. seen_at E.readers (t - i) (slice_get E.clients t)) (length-set E.clients c j) in
-        omega (arith, by_client, by_place)
+        let by_index : seen_at E.readers (t - length (slice_set E.clients c j)) (slice_get E.clients t) ≡ seen_by E t = ap (λ i. seen_at E.readers (t - i) (slice_get E.clients t)) (length-set E.clients c j) in
+        omega (arith, by_client, by_index)
 
     submitted_now : (d serial : ℕ) (x : Submitted) → WasSubmitted E d serial x → ((d ≡ c) ⊎ (d ≡ c → ⊥)) → WasSubmitted (with_client E queue due c j) d serial x
     submitted_now d serial x w (inl e) =

@@ -1,26 +1,26 @@
 -- What the rules refuse is never refused because an allocation failed or for its floor, so such items change nothing.
-use Rattle.std.proofs.Common.{◌≡◌, ◌≢◌, ◌⊎◌, inl, inr, ℕ, zero, suc, ◌<◌, ◌≤◌, Bool, true, false, cond, ◌||◌, ◌==◌, nat_lt, nat_le, not, List, [], ◌∷◌, length, Option, Some, None, Result, Ok, Err, refl, sym, ap, ◌∙◌, subst, arith, true≢false, slice_get}
+use Rattle.std.proofs.Common.{◌≡◌, inl, inr, ℕ, zero, suc, ◌<◌, Bool, true, false, cond, ◌||◌, ◌==◌, nat_lt, nat_le, List, [], ◌∷◌, length, Option, Some, None, Result, Ok, Err, refl, sym, ap, ◌∙◌, subst, arith, true≢false, slice_get}
 use Rattle.std.specs.Bool.{⊤}
-use Rattle.std.proofs.lemmas.Bool.{ltb-true, ltb-false, lt-ltb}
+use Rattle.std.proofs.lemmas.Bool.{ltb-true, ltb-false}
 use Rattle.ids.specs.declared.refusal.Refusal.{Refusal}
-use Rattle.ids.specs.declared.refusal.Refusal.TheVariants.{NoMemory, BadFloor, OwnName, HistoryFull, InboxFull, AtHead, NotInList, TooDeep, PastEnd}
+use Rattle.ids.specs.declared.refusal.Refusal.TheVariants.{NoMemory, BadFloor, OwnName, HistoryFull, InboxFull, TooDeep}
 use Rattle.semantics.specs.Ids.{OpId}
 use Rattle.semantics.specs.Elements.{Element, Doc, Field, Item, Place, At, HeadOf, depth}
-use Rattle.semantics.specs.Operations.{Operation, Mutation, Assign, Insert, Delete}
+use Rattle.semantics.specs.Operations.{Operation, Mutation, Assign, Insert, Delete, Misplaced, OutsideList, OnHead, misplaced}
 use Rattle.semantics.specs.Questions.{Step, Get, Idx, item_at, enter, step_from, walk_from, resolve}
 use Rattle.semantics.specs.Context.{doc}
 use Rattle.semantics.specs.DocumentAnswer.{visible_items}
 use Rattle.semantics.specs.LegalHistory.{has_id}
 use Rattle.semantics.specs.Stamped.{Stamped}
 use Rattle.semantics.specs.Faults.{first_failed, first_fault, alone_fault, fault_of, is_ready}
-use Rattle.semantics.specs.Making.{Command, is_full, place_for, then_place, operation_at, make}
+use Rattle.semantics.specs.Making.{Command, is_full, place_unless, then_place, operation_at, make}
 use Rattle.semantics.specs.Entries.{stamped_of}
 use Rattle.semantics.specs.LegalAnswer.{Request, OfCommand, OfPeer, Submitted, Reply, Made, NotMade, KeptAt, KnownAt}
 use Rattle.semantics.specs.Replica.{Replica, operations}
 use Rattle.semantics.specs.Delivery.{Delivered, Kept, Known, NotKept, is_waiting, kept_unless, room_answer, answer_after, answer_to}
 use Rattle.semantics.specs.Drain.{receive}
 use Rattle.semantics.specs.WriteSteps.{reply_made, reply_delivered, reply_requested, reply_to, after_request, after_item}
-use Rattle.semantics.specs.Handling.{Handler, still_behind, is_outside_rules, IsWhole, IsTurnedAway, IsCutShort, Handles}
+use Rattle.semantics.specs.Handling.{Handler, still_behind, is_outside_rules, Handles}
 
 abbrev FineFault : Option Refusal → Type 0
 FineFault None = ⊤
@@ -35,12 +35,13 @@ abbrev FineResult : {X : Type 0} → Result X Refusal → Type 0
 FineResult (Ok x) = ⊤
 FineResult (Err f) = is_outside_rules f ≡ false
 
-alone_fine : (a b c d : Bool) → FineFault (first_failed a b c d)
+alone_fine : (a b : Bool) (c : Option Misplaced) (d : Bool) → FineFault (first_failed a b c d)
 alone_fine false b c d = refl
 alone_fine true false c d = refl
-alone_fine true true false d = refl
-alone_fine true true true false = refl
-alone_fine true true true true = tt
+alone_fine true true (Some OutsideList) d = refl
+alone_fine true true (Some OnHead) d = refl
+alone_fine true true None false = refl
+alone_fine true true None true = tt
 
 fault_fine : (a b c d : Bool) → FineFault (first_fault a b c d)
 fault_fine true b c d = refl
@@ -98,7 +99,7 @@ walk_fine items (s ∷ steps) (Err e) f = f
 walk_fine items [] (Ok p) f = tt
 walk_fine items (s ∷ steps) (Ok p) f = walk_fine items steps (step_from items p s) (step_fine items p s)
 
-place_fine : (m : Mutation) (p : Place) → FineResult (place_for m p)
+place_fine : (m : Mutation) (p : Place) → FineResult (place_unless (misplaced m p) p)
 place_fine (Insert v) (HeadOf l) = tt
 place_fine (Insert v) (At (Item l a)) = tt
 place_fine (Insert v) (At Doc) = refl

@@ -42,19 +42,19 @@ insert_keeps (Some p) a b (x ∷ xs) h = by (is_same_id p x) (keeps_first a x xs
   by false j k = k
 
 -- a new item is there, where what it goes after is
-skip_places : (b : OpId) (xs : List OpId) → has b (skip b xs) ≡ true
-skip_places b [] = or_left (is_same_id b b) false (id_itself b)
-skip_places b (x ∷ xs) = by (is_smaller_id x b) (skip_places b xs) where
+skip_has : (b : OpId) (xs : List OpId) → has b (skip b xs) ≡ true
+skip_has b [] = or_left (is_same_id b b) false (id_itself b)
+skip_has b (x ∷ xs) = by (is_smaller_id x b) (skip_has b xs) where
   by : (s : Bool) → has b (skip b xs) ≡ true → has b (cond s (b ∷ x ∷ xs) (x ∷ skip b xs)) ≡ true
   by true k = or_left (is_same_id b b) (has b (x ∷ xs)) (id_itself b)
   by false k = or_right (is_same_id b x) (has b (skip b xs)) k
 
-insert_places : (p : Option OpId) (b : OpId) (xs : List OpId) → has_prev p xs ≡ true → has b (insert_after p b xs) ≡ true
-insert_places None b xs h = skip_places b xs
-insert_places (Some p) b [] h = absurd (true≢false (sym h))
-insert_places (Some p) b (x ∷ xs) h = by (is_same_id p x) refl (insert_places (Some p) b xs) where
+insert_has : (p : Option OpId) (b : OpId) (xs : List OpId) → has_prev p xs ≡ true → has b (insert_after p b xs) ≡ true
+insert_has None b xs h = skip_has b xs
+insert_has (Some p) b [] h = absurd (true≢false (sym h))
+insert_has (Some p) b (x ∷ xs) h = by (is_same_id p x) refl (insert_has (Some p) b xs) where
   by : (s : Bool) → is_same_id p x ≡ s → (has p xs ≡ true → has b (insert_after (Some p) b xs) ≡ true) → has b (cond s (x ∷ skip b xs) (x ∷ insert_after (Some p) b xs)) ≡ true
-  by true e k = or_right (is_same_id b x) (has b (skip b xs)) (skip_places b xs)
+  by true e k = or_right (is_same_id b x) (has b (skip b xs)) (skip_has b xs)
   by false e k = or_right (is_same_id b x) (has b (insert_after (Some p) b xs)) (k (ap (λ s. s || has p xs) (sym e) ∙ h))
 
 -- and no other is
@@ -123,7 +123,7 @@ items_there (o ∷ H) legal l a (x, inl same, id, (after, slot)) =
     let goes : inserted_after o l ≡ Some after = ap (after_in l) here ∙ ap (λ b. cond b (Some after) None) (element_itself l) in
     ap (λ b. has b ((doc (o ∷ H)).order l)) (sym id ∙ ap (λ (y : Operation). y.id) same)
     ∙ ap (λ g. has o.id (insert_some g o.id ((doc H).order l))) goes
-    ∙ insert_places after o.id ((doc H).order l) (prev_in H o.deps (items_there H legal.0) o.mutation o.place l after legal.1.items here)
+    ∙ insert_has after o.id ((doc H).order l) (prev_in H o.deps (items_there H legal.0) o.mutation o.place l after legal.1.items here)
 items_there (o ∷ H) legal l a (x, inr among, id, slot) = by (inserted_after o l) (items_there H legal.0 l a (x, among, id, slot)) where
   by : (g : Option (Option OpId)) → has a ((doc H).order l) ≡ true → has a (insert_some g o.id ((doc H).order l)) ≡ true
   by None h = h

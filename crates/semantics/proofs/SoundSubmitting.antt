@@ -79,11 +79,11 @@ module _ (E : Engine) (c : ℕ) (k : Client) (request : Request) (s : IsSound E)
 pub pushed : (E : Engine) (c : ℕ) (request : Request) → IsSound E → IsLater E (push E c request).engine
 pushed E c request s = at_client (slice_get E.clients c) refl
   where
-    at_room : (k : Client) → slice_get E.clients c ≡ Some k → (a b : Bool) → nat_le E.serials (length k.cells) ≡ a → nat_le E.places (length E.queue) ≡ b → IsLater E (submit E c k (next_item c k request)).engine
+    at_room : (k : Client) → slice_get E.clients c ≡ Some k → (a b : Bool) → nat_le E.serials (length k.cells) ≡ a → nat_le E.capacity (length E.queue) ≡ b → IsLater E (submit E c k (next_item c k request)).engine
     at_room k h true b e f = rw e (later_refl E s)
     at_room k h false true e f = rw (e, f) (later_refl E s)
     at_room k h false false e f = rw (e, f) (submitted E c k request s h)
 
     at_client : (o : Option Client) → slice_get E.clients c ≡ o → IsLater E (push E c request).engine
     at_client None e = rw e (later_refl E s)
-    at_client (Some k) e = rw e (at_room k e (nat_le E.serials (length k.cells)) (nat_le E.places (length E.queue)) refl refl)
+    at_client (Some k) e = rw e (at_room k e (nat_le E.serials (length k.cells)) (nat_le E.capacity (length E.queue)) refl refl)

@@ -79,17 +79,17 @@ later_step W w s e E h = at_engine (slice_get W.engines w.engine) refl
   where
     at_engine : (o : Option Engine) → slice_get W.engines w.engine ≡ o → (F : Engine) × (slice_get (world_step W w).world.engines e ≡ Some F) × IsLater E F
     at_engine None q = rw q (E, h, later_refl E (s e E h))
-    at_engine (Some G) q = rw q (at_place (cases_eq e w.engine))
+    at_engine (Some G) q = rw q (at_index (cases_eq e w.engine))
       where
-        at_place : ((e ≡ w.engine) ⊎ (e ≡ w.engine → ⊥)) → (F : Engine) × (slice_get (slice_set W.engines w.engine (engine_step W.messages w.act G).engine) e ≡ Some F) × IsLater E F
-        at_place (inl i) =
+        at_index : ((e ≡ w.engine) ⊎ (e ≡ w.engine → ⊥)) → (F : Engine) × (slice_get (slice_set W.engines w.engine (engine_step W.messages w.act G).engine) e ≡ Some F) × IsLater E F
+        at_index (inl i) =
             let there : slice_get W.engines e ≡ Some G = ap (slice_get W.engines) i ∙ q in
             let is : G ≡ E = cc in (
               (engine_step W.messages w.act G).engine,
               ap (slice_get (slice_set W.engines w.engine (engine_step W.messages w.act G).engine)) i ∙ get-set_same W.engines w.engine G (engine_step W.messages w.act G).engine q,
               subst (λ K. IsLater K (engine_step W.messages w.act G).engine) is (stepped W.messages w.act G (s w.engine G q)),
             )
-        at_place (inr n) = (E, get-set_other W.engines w.engine e (engine_step W.messages w.act G).engine n ∙ h, later_refl E (s e E h))
+        at_index (inr n) = (E, get-set_other W.engines w.engine e (engine_step W.messages w.act G).engine n ∙ h, later_refl E (s e E h))
 
 pub grown_after : (W : World) (steps : List WorldStep) → IsSoundWorld W → (e : ℕ) (E F : Engine) → slice_get W.engines e ≡ Some E → slice_get (world_after W steps).engines e ≡ Some F → HasGrown E F
 grown_after W [] s e E F h k = (let is : E ≡ F = cc in subst (HasGrown E) is (grown_refl E))

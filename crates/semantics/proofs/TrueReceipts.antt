@@ -1,6 +1,6 @@
 -- What an answer to a delivery says of the operation and of the history.
-use Rattle.std.proofs.Common.{◌≡◌, ◌⊎◌, inl, inr, ℕ, ◌<◌, ◌≤◌, Bool, true, false, cond, ◌||◌, ◌==◌, nat_lt, List, [], ◌∷◌, ◌++◌, length, Option, Some, None, refl, sym, ap, ◌∙◌, subst, arith, true≢false, eqb-true}
-use Rattle.std.proofs.lemmas.Bool.{or_left, or_right}
+use Rattle.std.proofs.Common.{◌≡◌, inl, inr, ℕ, ◌≤◌, Bool, true, false, cond, ◌||◌, ◌==◌, nat_lt, List, [], ◌∷◌, ◌++◌, length, Option, Some, None, refl, sym, ap, ◌∙◌, true≢false, eqb-true}
+use Rattle.std.proofs.lemmas.Bool.{or_right}
 use Rattle.ids.specs.declared.refusal.Refusal.{Refusal}
 use Rattle.ids.specs.declared.refusal.Refusal.TheVariants.{HistoryFull, InboxFull, OwnName}
 use Rattle.semantics.specs.Ids.{OpId, is_same_id}
@@ -13,7 +13,7 @@ use Rattle.semantics.specs.Replica.{Replica, operations}
 use Rattle.semantics.specs.Delivery.{Delivered, Kept, Known, NotKept, is_waiting, kept_unless, room_answer, answer_after, answer_to}
 use Rattle.semantics.specs.WorldHistory.{BeginsWith}
 use Rattle.semantics.proofs.Beginnings.{first_begins_first}
-use Rattle.semantics.specs.Receipts.{answer_with, WasAnswered, IsTrueOf}
+use Rattle.semantics.specs.Receipts.{WasAnswered, IsTrueOf}
 
 same_cause : (e f : Refusal) → NotKept f ≡ NotKept e → f ≡ e
 same_cause e f is = cc

@@ -21,9 +21,9 @@ IsPushed E c k s t = ((why : Refusal) × (refusal_in t.reply ≡ Some why)) ⊎ 
 
 -- a push is refused, or the item stands in the queue
 pub pushed_cases : (E : Engine) (c : ℕ) (k : Client) (s : Stamped) → slice_get E.clients c ≡ Some k → IsPushed E c k s (push E c (OfPeer s))
-pushed_cases E c k s h = rw h (at_room (nat_le E.serials (length k.cells)) (nat_le E.places (length E.queue)) refl refl)
+pushed_cases E c k s h = rw h (at_room (nat_le E.serials (length k.cells)) (nat_le E.capacity (length E.queue)) refl refl)
   where
-    at_room : (a b : Bool) → nat_le E.serials (length k.cells) ≡ a → nat_le E.places (length E.queue) ≡ b → IsPushed E c k s (submit E c k (next_item c k (OfPeer s)))
+    at_room : (a b : Bool) → nat_le E.serials (length k.cells) ≡ a → nat_le E.capacity (length E.queue) ≡ b → IsPushed E c k s (submit E c k (next_item c k (OfPeer s)))
     at_room true b e f = rw e (inl (_, refl))
     at_room false true e f = rw (e, f) (inl (_, refl))
     at_room false false e f = rw (e, f) (inr (refl, refl))

@@ -1,16 +1,16 @@
 -- What holds of a batch of submissions that a writer handled, and of all that it has taken.
-use Rattle.std.specs.Prelude.{◌≡◌, ◌-◌, ◌<◌, ℕ, ⊤, Some, List, [], ◌∷◌, ◌++◌, length, map, slice_get}
+use Rattle.std.specs.Prelude.{◌≡◌, ◌-◌, ◌<◌, ℕ, ⊤, Some, List, [], ◌∷◌, ◌++◌, map, slice_get}
 use Rattle.semantics.specs.Making.{Command}
 use Rattle.semantics.specs.Entries.{Entry, Own, Peer}
 use Rattle.semantics.specs.LegalAnswer.{OfCommand, Submitted}
-use Rattle.semantics.specs.Replica.{Replica, IsRunning}
+use Rattle.semantics.specs.Replica.{IsRunning}
 use Rattle.semantics.specs.Engine.{Handled}
 use Rattle.semantics.specs.WorldHistory.{BeginsWith, of_client}
 use Rattle.semantics.specs.Receipts.{IsAnswer}
 use Rattle.semantics.specs.Handling.{Handler, Runs}
 
 -- of one client's submissions, numbered from serial 1 on, the one with that serial asks for the command
-abbrev pub AsksFor : List Submitted → ℕ → Command → Type 0
+abbrev pub AsksFor : List Submitted → (serial : ℕ) → Command → Type 0
 AsksFor xs serial c = (x : Submitted) × (0 < serial) × (slice_get xs (serial - 1) ≡ Some x) × (x.request ≡ OfCommand c)
 
 -- each own entry is of a command that was taken, under its client and serial
@@ -20,7 +20,7 @@ ComeFrom took (Own client serial c s ∷ G) = AsksFor (of_client client took) se
 ComeFrom took (Peer s ∷ G) = ComeFrom took G
 
 -- each reply is a legal answer in the history
-abbrev pub AreAnswers : ℕ → List ℕ → List Entry → List Handled → Type 0
+abbrev pub AreAnswers : (own : ℕ) (members : List ℕ) → List Entry → List Handled → Type 0
 AreAnswers p ps G [] = ⊤
 AreAnswers p ps G (h ∷ hs) = IsAnswer p ps G h.submitted h.reply × AreAnswers p ps G hs
 

@@ -30,7 +30,7 @@ pub record Handled : Type 0 where
 -- An engine. Its history is that of its replica, and the first entries of it are published.
 pub record Engine : Type 0 where
   -- the capacity of the queue, how many items go into a batch, and the last serial of a client
-  pub places : ℕ
+  pub capacity : ℕ
   pub batch : ℕ
   pub serials : ℕ
   pub replica : Replica
@@ -58,15 +58,15 @@ pub data Message : Type 0 where
 -- what a step replies
 pub data StepReply : Type 0 where
   -- a command was submitted under this serial
-  Ticket : ℕ → StepReply
+  Ticket : (serial : ℕ) → StepReply
   -- a command wasn't taken, a serial isn't the client's, or a hello names a replica that isn't a member
   Denied : Refusal → StepReply
   -- a submission was taken and handled
   Took : StepReply
   -- this many submissions were published, or answered by a whole step
-  Published : ℕ → StepReply
+  Published : (submissions : ℕ) → StepReply
   -- the answer to this client's serial was set
-  Gave : ℕ → ℕ → StepReply
+  Gave : (client serial : ℕ) → StepReply
   -- there was nothing to do
   Idle : StepReply
   -- there is no answer yet
@@ -74,19 +74,19 @@ pub data StepReply : Type 0 where
   -- the answer to what was submitted
   Replied : Reply → StepReply
   -- the token has seen this many entries, and this is what they answer
-  Read : ℕ → Reading → StepReply
+  Read : (seen : ℕ) (reading : Reading) → StepReply
   -- the token has seen this many entries
-  Seen : ℕ → StepReply
+  Seen : (seen : ℕ) → StepReply
   -- a hello was sent under this number, with this vector
-  SentHello : ℕ → Vector → StepReply
+  SentHello : (message : ℕ) (vector : Vector) → StepReply
   -- a bundle was sent under this number, with this many operations
-  SentBundle : ℕ → ℕ → StepReply
+  SentBundle : (message operations : ℕ) → StepReply
   -- there is no message of that kind under the number
   NoMessage : StepReply
   -- the first serial, 0 where there is none, how many operations were submitted, and the line where that stopped, with its refusal
-  Received : ℕ → ℕ → Option (ℕ × Refusal) → StepReply
+  Received : (serial submitted : ℕ) (stopped : Option (ℕ × Refusal)) → StepReply
   -- this many operations were dropped so far
-  Dropped : ℕ → StepReply
+  Dropped : (operations : ℕ) → StepReply
 
 -- the engine after a step, and the reply
 pub record Turn : Type 0 where

@@ -9,7 +9,7 @@ use Rattle.semantics.specs.Making.{Command, make}
 
 -- an own operation with the client, serial and command that it was made of, or one that a peer sent
 pub data Entry : Type 0 where
-  Own : ℕ → ℕ → Command → Stamped → Entry
+  Own : (client serial : ℕ) (command : Command) (operation : Stamped) → Entry
   Peer : Stamped → Entry
 
 -- the operation of an entry
@@ -27,7 +27,7 @@ abbrev pub applied : List Entry → List Operation
 applied G = operations_of (stamped_of G)
 
 -- the serial is above each that the client had
-abbrev pub IsAbove : ℕ → ℕ → List Entry → Type 0
+abbrev pub IsAbove : (client serial : ℕ) → List Entry → Type 0
 IsAbove client serial [] = ⊤
 IsAbove client serial (Own k n c s ∷ G) = (k ≡ client → n < serial) × IsAbove client serial G
 IsAbove client serial (Peer s ∷ G) = IsAbove client serial G

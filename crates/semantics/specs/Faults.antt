@@ -2,8 +2,8 @@
 use Rattle.std.specs.Prelude.{◌≡◌, ℕ, suc, Bool, true, false, not, ◌&&◌, ◌==◌, nat_le, nat_lt, IsTrue, List, Option, Some, None, is_some}
 use Rattle.std.specs.List.{list_all, list_any}
 use Rattle.semantics.specs.Ids.{OpId, id_at, is_same_id}
-use Rattle.semantics.specs.Elements.{Element, Doc, Field, Item, Place, At, HeadOf}
-use Rattle.semantics.specs.Operations.{Operation, Mutation, Assign, Insert, Delete, element_of, inserted_after}
+use Rattle.semantics.specs.Elements.{Element, Doc, Field, Item}
+use Rattle.semantics.specs.Operations.{Operation, Misplaced, OutsideList, OnHead, element_of, inserted_after, misplaced}
 use Rattle.ids.specs.declared.refusal.Refusal.{Refusal}
 use Rattle.ids.specs.declared.refusal.Refusal.TheVariants.{NotInList, UnknownReplica, BadCounter, BrokenChain, NamesNothing, NotClosed, BadPlace}
 use Rattle.semantics.specs.LegalHistory.{IsFormed, has_id}
@@ -39,34 +39,18 @@ is_of_members ps s = is_member ps s.id.replica && list_all (λ a. is_member ps a
 abbrev pub has_counter : Stamped → Bool
 has_counter s = (s.id.counter == suc (greatest s.vector)) && nat_lt (greatest s.vector) most_counter
 
--- an insert stands at a head or an item
-abbrev pub is_in_list : Mutation → Place → Bool
-is_in_list (Insert v) (At (Item l a)) = true
-is_in_list (Insert v) (At Doc) = false
-is_in_list (Insert v) (At (Field e n)) = false
-is_in_list (Insert v) (HeadOf l) = true
-is_in_list (Assign v) p = true
-is_in_list Delete p = true
-
--- an assign or delete stands at no head
-abbrev pub is_at_element : Mutation → Place → Bool
-is_at_element (Insert v) p = true
-is_at_element (Assign v) (At e) = true
-is_at_element (Assign v) (HeadOf l) = false
-is_at_element Delete (At e) = true
-is_at_element Delete (HeadOf l) = false
-
--- the first of these tests that fails
-abbrev pub first_failed : Bool → Bool → Bool → Bool → Option Refusal
+-- the first of these tests that fails: the names, the counter, what may stand at the place, and the ids on the way to it
+abbrev pub first_failed : Bool → Bool → Option Misplaced → Bool → Option Refusal
 first_failed false b c d = Some UnknownReplica
 first_failed true false c d = Some BadCounter
-first_failed true true false d = Some NotInList
-first_failed true true true false = Some BadPlace
-first_failed true true true true = None
+first_failed true true (Some OutsideList) d = Some NotInList
+first_failed true true (Some OnHead) d = Some BadPlace
+first_failed true true None false = Some BadPlace
+first_failed true true None true = None
 
 -- the first fault that can be seen of s alone
 abbrev pub alone_fault : List ℕ → Stamped → Option Refusal
-alone_fault ps s = first_failed (is_of_members ps s) (has_counter s) (is_in_list s.mutation s.place) (is_at_element s.mutation s.place && items_covered s.vector (element_of s.place))
+alone_fault ps s = first_failed (is_of_members ps s) (has_counter s) (misplaced s.mutation s.place) (items_covered s.vector (element_of s.place))
 
 -- all that the vector names is at most what was applied
 abbrev pub is_ready : List Operation → Stamped → Bool

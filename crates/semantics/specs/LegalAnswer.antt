@@ -25,18 +25,18 @@ pub record Submitted : Type 0 where
 -- the operation with this id stands at entry n, or the request was refused at length m, or a peer's operation was kept, or known already, and the history has length m then
 pub data Reply : Type 0 where
   Made : OpId → ℕ → Reply
-  NotMade : Refusal → ℕ → Reply
-  KeptAt : ℕ → Reply
-  KnownAt : ℕ → Reply
+  NotMade : (why : Refusal) (length : ℕ) → Reply
+  KeptAt : (length : ℕ) → Reply
+  KnownAt : (length : ℕ) → Reply
 
 -- no entry has this client and serial
-abbrev pub LacksSerial : ℕ → ℕ → List Entry → Type 0
+abbrev pub LacksSerial : (client serial : ℕ) → List Entry → Type 0
 LacksSerial client serial [] = ⊤
 LacksSerial client serial (Own k n c s ∷ G) = (k ≡ client → n ≡ serial → ⊥) × LacksSerial client serial G
 LacksSerial client serial (Peer s ∷ G) = LacksSerial client serial G
 
 -- the refusal of the command is true of the first m entries of replica p: it is that of its rules, or NoMemory, or m is below the floor
-abbrev pub IsCause : ℕ → List Entry → Submitted → Command → ℕ → Refusal → Type 0
+abbrev pub IsCause : (own : ℕ) → List Entry → Submitted → Command → (length : ℕ) → Refusal → Type 0
 IsCause p G x c m e = (make (applied (first_entries m G)) p c ≡ Err e) ⊎ (e ≡ NoMemory) ⊎ ((e ≡ BadFloor) × (m < x.floor))
 
 -- the reply to a submitted command that an entry history of replica p allows: the command stands at entry n, or no entry has it at length m, where it is refused

@@ -1,8 +1,8 @@
 -- The operation that a replica makes of a command.
-use Rattle.std.specs.Prelude.{ℕ, suc, Bool, true, cond, nat_le, List, length, Result, Ok, Err}
+use Rattle.std.specs.Prelude.{ℕ, suc, Bool, true, cond, nat_le, List, length, Option, Some, None, Result, Ok, Err}
 use Rattle.semantics.specs.Ids.{id_at}
-use Rattle.semantics.specs.Elements.{Doc, Field, Item, Place, At, HeadOf}
-use Rattle.semantics.specs.Operations.{Operation, Mutation, Assign, Insert, Delete}
+use Rattle.semantics.specs.Elements.{Place}
+use Rattle.semantics.specs.Operations.{Operation, Mutation, Misplaced, OutsideList, OnHead, misplaced}
 use Rattle.ids.specs.declared.refusal.Refusal.{Refusal}
 use Rattle.ids.specs.declared.refusal.Refusal.TheVariants.{AtHead, NotInList, HistoryFull}
 use Rattle.semantics.specs.Limits.{most_entries}
@@ -16,21 +16,16 @@ pub record Command : Type 0 where
   pub expression : List Step
   pub mutation : Mutation
 
--- an assign or a delete at a head is refused, and an insert at neither a head nor an item
-abbrev pub place_for : Mutation → Place → Result Place Refusal
-place_for (Insert v) (HeadOf l) = Ok (HeadOf l)
-place_for (Insert v) (At (Item l a)) = Ok (At (Item l a))
-place_for (Insert v) (At Doc) = Err NotInList
-place_for (Insert v) (At (Field e n)) = Err NotInList
-place_for (Assign v) (At e) = Ok (At e)
-place_for (Assign v) (HeadOf l) = Err AtHead
-place_for Delete (At e) = Ok (At e)
-place_for Delete (HeadOf l) = Err AtHead
+-- the place, unless the mutation of a command can't stand there
+abbrev pub place_unless : Option Misplaced → Place → Result Place Refusal
+place_unless None p = Ok p
+place_unless (Some OutsideList) p = Err NotInList
+place_unless (Some OnHead) p = Err AtHead
 
 -- the place, unless the expression or the mutation there is refused
 abbrev pub then_place : Mutation → Result Place Refusal → Result Place Refusal
 then_place m (Err r) = Err r
-then_place m (Ok p) = place_for m p
+then_place m (Ok p) = place_unless (misplaced m p) p
 
 -- p's operation at a place: its counter is the next, and it depends on all that was applied
 abbrev pub operation_at : List Operation → ℕ → Mutation → Result Place Refusal → Result Operation Refusal

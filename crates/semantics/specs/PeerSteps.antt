@@ -29,11 +29,11 @@ abbrev pub names_members : Engine → Vector → Bool
 names_members e v = list_all (λ a. is_member e.replica.members a.replica) v
 
 -- a token says hello, in message k; it then has seen all that is published
-abbrev pub say_hello : Engine → ℕ → ℕ → Turn
+abbrev pub say_hello : Engine → (token message : ℕ) → Turn
 say_hello e t k = record { engine = see_published e t; reply = SentHello k (published_vector e) }
 
 -- a token answers a hello, in message k; where the hello names a replica that isn't a member, nothing is sent or seen
-abbrev pub answer_hello : Engine → ℕ → ℕ → Option Message → Turn
+abbrev pub answer_hello : Engine → (token message : ℕ) → Option Message → Turn
 answer_hello e t k (Some (Hello v)) =
     cond (names_members e v)
     (record { engine = see_published e t; reply = SentBundle k (length (lacked e v)) })
@@ -61,17 +61,17 @@ refusal_in (Denied why) = Some why
 refusal_in _ = None
 
 -- it stops at the line after n where that is refused, else it goes on
-abbrev pub unless_refused : Engine → ℕ → Option Refusal → Receipt → Receipt
+abbrev pub unless_refused : Engine → (submitted : ℕ) → Option Refusal → Receipt → Receipt
 unless_refused e n None rest = rest
 unless_refused e n (Some why) rest = record { engine = e; submitted = n; stopped = Some (suc n, why) }
 
 -- client c submits the operations after n others, up to the first that is refused; behind the last may stand a bad line
-abbrev pub submit_all : ℕ → Option Refusal → ℕ → Engine → List Stamped → Receipt
+abbrev pub submit_all : (client : ℕ) → Option Refusal → (submitted : ℕ) → Engine → List Stamped → Receipt
 submit_all c bad n e [] = record { engine = e; submitted = n; stopped = option_map (λ why. (suc n, why)) bad }
 submit_all c bad n e (s ∷ ss) = unless_refused e n (refusal_in (push e c (OfPeer s)).reply) (submit_all c bad (suc n) (push e c (OfPeer s)).engine ss)
 
 -- what is replied, where the client's next serial was this
-abbrev pub as_received : ℕ → Receipt → Turn
+abbrev pub as_received : (serial : ℕ) → Receipt → Turn
 as_received serial r = record { engine = r.engine; reply = Received (cond (r.submitted == 0) 0 serial) r.submitted r.stopped }
 
 -- a client receives lines: these operations, and then a bad line, if there is one

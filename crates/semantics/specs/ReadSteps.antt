@@ -5,11 +5,11 @@ use Rattle.semantics.specs.LegalAnswer.{Asked, reading_of}
 use Rattle.semantics.specs.Engine.{Given, Cell, Client, Engine, published_entries, Denied, Idle, Unanswered, Replied, Read, Seen, Turn}
 
 -- the cell of a serial; none has the serial 0
-abbrev pub cell_at : List Cell → ℕ → Option Cell
+abbrev pub cell_at : List Cell → (serial : ℕ) → Option Cell
 cell_at cells serial = cond (serial == 0) None (slice_get cells (serial - 1))
 
 -- the cell of a client's serial
-abbrev pub cell_under : Engine → ℕ → ℕ → Option Cell
+abbrev pub cell_under : Engine → (client serial : ℕ) → Option Cell
 cell_under E c serial = of_client (slice_get E.clients c)
   where
     of_client : Option Client → Option Cell
@@ -17,7 +17,7 @@ cell_under E c serial = of_client (slice_get E.clients c)
     of_client (Some k) = cell_at k.cells serial
 
 -- how many entries token t has seen; the tokens are the clients', then the readers'
-abbrev pub seen_by : Engine → ℕ → ℕ
+abbrev pub seen_by : Engine → (token : ℕ) → ℕ
 seen_by E t = of_client (slice_get E.clients t)
   where
     of_client : Option Client → ℕ
@@ -27,7 +27,7 @@ seen_by E t = of_client (slice_get E.clients t)
 -- ---- polling
 
 -- a client polls: it then has seen what was published with the answer
-abbrev pub poll_cell : Engine → ℕ → Client → Option Cell → Turn
+abbrev pub poll_cell : Engine → (client : ℕ) → Client → Option Cell → Turn
 poll_cell e c k None = record { engine = e; reply = Denied Foreign }
 poll_cell e c k (Some cell) = at_answer cell.answer
   where
@@ -35,7 +35,7 @@ poll_cell e c k (Some cell) = at_answer cell.answer
     at_answer None = record { engine = e; reply = Unanswered }
     at_answer (Some g) = record { engine = record e { clients = slice_set e.clients c (record k { seen = max k.seen g.published }) }; reply = Replied g.reply }
 
-abbrev pub poll : Engine → ℕ → ℕ → Turn
+abbrev pub poll : Engine → (client serial : ℕ) → Turn
 poll e c serial = at_client (slice_get e.clients c)
   where
     at_client : Option Client → Turn
@@ -45,7 +45,7 @@ poll e c serial = at_client (slice_get e.clients c)
 -- ---- asking
 
 -- the engine after token t has seen the first m entries
-abbrev pub see : Engine → ℕ → ℕ → Engine
+abbrev pub see : Engine → (token length : ℕ) → Engine
 see e t m = at_client (slice_get e.clients t)
   where
     at_client : Option Client → Engine
@@ -53,17 +53,17 @@ see e t m = at_client (slice_get e.clients t)
     at_client None = record e { readers = slice_set e.readers (t - length e.clients) m }
 
 -- the engine after token t has seen all that is published
-abbrev pub see_published : Engine → ℕ → Engine
+abbrev pub see_published : Engine → (token : ℕ) → Engine
 see_published e t = see e t e.published
 
 -- a token asks: it sees all that is published
-abbrev pub ask : Engine → ℕ → Asked → Turn
+abbrev pub ask : Engine → (token : ℕ) → Asked → Turn
 ask e t q = record { engine = see_published e t; reply = Read e.published (reading_of (published_entries e) q) }
 
 -- ---- learning
 
 -- a token learns of an answer: it then has seen at least what was published with it
-abbrev pub learn : Engine → ℕ → ℕ → ℕ → Turn
+abbrev pub learn : Engine → (token client serial : ℕ) → Turn
 learn e t c serial = at_cell (cell_under e c serial)
   where
     at_answer : Option Given → Turn

@@ -11,7 +11,7 @@ use Rattle.semantics.specs.LegalAnswer.{Request, OfCommand, OfPeer, Submitted, R
 use Rattle.semantics.specs.Delivery.{Delivered, Kept, Known, NotKept, answer_to}
 
 -- the answer to a delivery of s to replica p, with these members and entries, where W waits
-abbrev pub answer_with : ℕ → List ℕ → List Entry → List Stamped → Stamped → Delivered
+abbrev pub answer_with : (own : ℕ) (members : List ℕ) → List Entry → List Stamped → Stamped → Delivered
 answer_with p ps G W s = answer_to (record { own = p; members = ps; entries = G; waiting = W; dropped = 0 }) s
 
 -- d was the answer after the first k entries of G, for some k from the floor to m, whatever waited then
@@ -24,7 +24,7 @@ pub record WasAnswered (p : ℕ) (ps : List ℕ) (G : List Entry) (s : Stamped) 
   pub answer : answer_with p ps (first_entries k G) waiting s ≡ d
 
 -- the reply to a peer's operation: the delivery's answer, or an allocation failed, or m is below the floor
-abbrev pub IsReceipt : ℕ → List ℕ → List Entry → Submitted → Stamped → Reply → Type 0
+abbrev pub IsReceipt : (own : ℕ) (members : List ℕ) → List Entry → Submitted → Stamped → Reply → Type 0
 IsReceipt p ps G x s (Made a n) = ⊥
 IsReceipt p ps G x s (KeptAt m) = WasAnswered p ps G s x.floor m Kept
 IsReceipt p ps G x s (KnownAt m) = WasAnswered p ps G s x.floor m Known
@@ -34,14 +34,14 @@ IsReceipt p ps G x s (NotMade e m) =
     ⊎ ((e ≡ BadFloor) × (m < x.floor) × (m ≤ length G))
 
 -- the position or the length that a reply to a command names isn't below the floor, unless it is refused for that
-abbrev pub IsFromFloor : ℕ → Reply → Type 0
+abbrev pub IsFromFloor : (floor : ℕ) → Reply → Type 0
 IsFromFloor floor (Made a n) = floor ≤ n
 IsFromFloor floor (NotMade e m) = (floor ≤ m) ⊎ (e ≡ BadFloor)
 IsFromFloor floor (KeptAt m) = floor ≤ m
 IsFromFloor floor (KnownAt m) = floor ≤ m
 
 -- y is a reply to what was submitted that the history G of replica p, with these members, allows
-abbrev pub IsAnswer : ℕ → List ℕ → List Entry → Submitted → Reply → Type 0
+abbrev pub IsAnswer : (own : ℕ) (members : List ℕ) → List Entry → Submitted → Reply → Type 0
 IsAnswer p ps G x y = of_request x.request
   where
     of_request : Request → Type 0
@@ -49,7 +49,7 @@ IsAnswer p ps G x y = of_request x.request
     of_request (OfPeer s) = IsReceipt p ps G x s y
 
 -- the refusal is true of the operation and of these entries of replica p, or the inbox had no room
-abbrev pub IsTrueOf : ℕ → List ℕ → List Entry → Stamped → Refusal → Type 0
+abbrev pub IsTrueOf : (own : ℕ) (members : List ℕ) → List Entry → Stamped → Refusal → Type 0
 IsTrueOf p ps G s e =
     (alone_fault ps s ≡ Some e)
     ⊎ ((e ≡ OwnName) × (s.id.replica ≡ p) × (has_id (applied G) s.id ≡ false))

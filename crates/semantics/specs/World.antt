@@ -14,7 +14,7 @@ use Rattle.semantics.specs.PeerSteps.{published_vector, say_hello, answer_hello,
 -- a new engine
 abbrev pub opened_engine : Configuration → Engine
 opened_engine c = record {
-  places = c.queue;
+  capacity = c.queue;
   batch = c.batch;
   serials = c.serials;
   replica = record { own = c.own; members = in_order c.members; entries = []; waiting = []; dropped = 0 };
@@ -70,7 +70,7 @@ pub record WorldStep : Type 0 where
   pub act : WorldAct
 
 -- the step in which engine e does this
-abbrev pub step_by : ℕ → WorldAct → WorldStep
+abbrev pub step_by : (engine : ℕ) → WorldAct → WorldStep
 step_by e act = record { engine = e; act = act }
 
 -- what an act does to its engine, after these messages

@@ -58,7 +58,7 @@ pub record IsExchange (cs : List Configuration) (steps : List WorldStep) (a b c 
   pub all : steps ≡ before ++ step_by a (SayHello t) ∷ between ++ step_by b (AnswerHello u h) ∷ later ++ step_by a (Deliver c k) ∷ after
 
 -- all that client c submitted under serials below the end is handled
-abbrev pub IsHandledBelow : Engine → ℕ → ℕ → Type 0
+abbrev pub IsHandledBelow : Engine → (client end : ℕ) → Type 0
 IsHandledBelow E c end = (x : Submitted) → IsAmong x E.queue → x.client ≡ c → end ≤ x.serial
 
 -- the operation is applied, and doesn't wait
@@ -77,7 +77,7 @@ pub record WasRefusedFull (E : Engine) (c first end : ℕ) (s : Stamped) : Type 
   pub reply : WasReplied E c serial (NotMade HistoryFull length)
 
 -- the operation is applied; or the history is full, and the operation waits, or was refused for that
-abbrev pub IsAppliedUnlessFull : Engine → ℕ → ℕ → ℕ → Stamped → Type 0
+abbrev pub IsAppliedUnlessFull : Engine → (client first end : ℕ) → Stamped → Type 0
 IsAppliedUnlessFull E c first end s =
     HasApplied E.replica s
     ⊎ (IsTrue (is_full E.replica.entries) × (IsTrue (is_waiting E.replica.waiting s.id) ⊎ WasRefusedFull E c first end s))

@@ -9,7 +9,7 @@ use Rattle.semantics.specs.ReadSteps.{cell_under, seen_by}
 use Rattle.semantics.specs.World.{WorldStep, opened, world_after}
 
 -- E is engine e of the world after these steps
-abbrev pub IsEngineAfter : List Configuration → List WorldStep → ℕ → Engine → Type 0
+abbrev pub IsEngineAfter : List Configuration → List WorldStep → (engine : ℕ) → Engine → Type 0
 IsEngineAfter cs steps e E = slice_get (world_after (opened cs) steps).engines e ≡ Some E
 
 -- G begins with F; both have the newest first
@@ -17,21 +17,21 @@ abbrev pub BeginsWith : List Entry → List Entry → Type 0
 BeginsWith G F = (more : List Entry) × (G ≡ more ++ F)
 
 -- x is what client c submitted under the serial
-abbrev pub WasSubmitted : Engine → ℕ → ℕ → Submitted → Type 0
+abbrev pub WasSubmitted : Engine → (client serial : ℕ) → Submitted → Type 0
 WasSubmitted E c serial x = (cell : Cell) × (cell_under E c serial ≡ Some cell) × (cell.submitted ≡ x)
 
 -- g is the answer to client c's serial
-abbrev pub WasGiven : Engine → ℕ → ℕ → Given → Type 0
+abbrev pub WasGiven : Engine → (client serial : ℕ) → Given → Type 0
 WasGiven E c serial g = (cell : Cell) × (cell_under E c serial ≡ Some cell) × (cell.answer ≡ Some g)
 
 -- r is what the writer replied to client c's serial: its answer, or the reply of a handled submission that isn't answered yet
-abbrev pub WasReplied : Engine → ℕ → ℕ → Reply → Type 0
+abbrev pub WasReplied : Engine → (client serial : ℕ) → Reply → Type 0
 WasReplied E c serial r =
     ((g : Given) × WasGiven E c serial g × (g.reply ≡ r))
     ⊎ ((h : Handled) × IsAmong h (E.due ++ E.handled) × (h.submitted.client ≡ c) × (h.submitted.serial ≡ serial) × (h.reply ≡ r))
 
 -- the position or the length that a reply names isn't below the floor
-abbrev pub IsNotBelow : ℕ → Reply → Type 0
+abbrev pub IsNotBelow : (floor : ℕ) → Reply → Type 0
 IsNotBelow floor (Made a n) = floor ≤ n
 IsNotBelow floor (NotMade why m) = floor ≤ m
 IsNotBelow floor (KeptAt m) = floor ≤ m
@@ -51,7 +51,7 @@ pub record HasGrown (E F : Engine) : Type 0 where
 -- ---- all that was submitted
 
 -- the submissions of one client, in order
-abbrev pub of_client : ℕ → List Submitted → List Submitted
+abbrev pub of_client : (client : ℕ) → List Submitted → List Submitted
 of_client c [] = []
 of_client c (x ∷ xs) = cond (x.client == c) (x ∷ of_client c xs) (of_client c xs)
 
@@ -60,7 +60,7 @@ abbrev pub unanswered : Engine → List Submitted
 unanswered E = map (λ h. h.submitted) E.due ++ (map (λ h. h.submitted) E.handled ++ E.queue)
 
 -- the cells of client c, none where there is no such client
-abbrev pub cells_of : Engine → ℕ → List Cell
+abbrev pub cells_of : Engine → (client : ℕ) → List Cell
 cells_of E c = in_client (slice_get E.clients c)
   where
     in_client : Option Client → List Cell

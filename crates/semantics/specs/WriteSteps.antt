@@ -16,7 +16,7 @@ use Rattle.semantics.specs.Engine.{Given, Cell, Client, Handled, Engine, StepRep
 -- ---- submitting
 
 -- what is submitted next
-abbrev pub next_item : ℕ → Client → Request → Submitted
+abbrev pub next_item : (client : ℕ) → Client → Request → Submitted
 next_item c k request = record { client = c; serial = suc (length k.cells); request = request; floor = k.seen }
 
 -- the client with one more cell
@@ -24,14 +24,14 @@ abbrev pub with_cell : Client → Submitted → Client
 with_cell k x = record k { cells = k.cells ++ (record { submitted = x; answer = None }) ∷ [] }
 
 -- the client's submission goes to the queue, unless its serials are used up or the queue is full
-abbrev pub submit : Engine → ℕ → Client → Submitted → Turn
+abbrev pub submit : Engine → (client : ℕ) → Client → Submitted → Turn
 submit e c k x =
     cond (nat_le e.serials (length k.cells)) (record { engine = e; reply = Denied SerialEnd })
-    (cond (nat_le e.places (length e.queue)) (record { engine = e; reply = Denied QueueFull })
+    (cond (nat_le e.capacity (length e.queue)) (record { engine = e; reply = Denied QueueFull })
     (record { engine = record e { queue = e.queue ++ x ∷ []; clients = slice_set e.clients c (with_cell k x) }; reply = Ticket x.serial }))
 
 -- a client submits a request; its floor is what the client's token has seen
-abbrev pub push : Engine → ℕ → Request → Turn
+abbrev pub push : Engine → (client : ℕ) → Request → Turn
 push e c request = at_client (slice_get e.clients c)
   where
     at_client : Option Client → Turn
@@ -55,7 +55,7 @@ reply_made r (Err why) = NotMade why (length r.entries)
 reply_made r (Ok o) = Made o.id (length r.entries)
 
 -- the reply to a delivery, after which the history has length m
-abbrev pub reply_delivered : ℕ → Delivered → Reply
+abbrev pub reply_delivered : (length : ℕ) → Delivered → Reply
 reply_delivered m Kept = KeptAt m
 reply_delivered m Known = KnownAt m
 reply_delivered m (NotKept why) = NotMade why m
@@ -97,7 +97,7 @@ publish e =
 -- ---- answering
 
 -- with the answer in the cell of the serial
-abbrev pub with_answer : Client → ℕ → Given → Client
+abbrev pub with_answer : Client → (serial : ℕ) → Given → Client
 with_answer k serial g = record k { cells = answered (slice_get k.cells (serial - 1)) }
   where
     answered : Option Cell → List Cell
@@ -105,7 +105,7 @@ with_answer k serial g = record k { cells = answered (slice_get k.cells (serial 
     answered (Some cell) = slice_set k.cells (serial - 1) (record cell { answer = Some g })
 
 -- the clients after the answer to client c's serial is set
-abbrev pub give_to : List Client → ℕ → ℕ → Given → List Client
+abbrev pub give_to : List Client → (client serial : ℕ) → Given → List Client
 give_to clients c serial g = at_client (slice_get clients c)
   where
     at_client : Option Client → List Client

@@ -33,7 +33,7 @@ pub fn own_operations_keep_replicas()
 {}
 
 /// At most 4,096 operations wait after a delivery and its drain, so there is a slot for each ready one.
-pub fn a_place_is_kept_for_the_ready()
+pub fn a_slot_is_kept_for_the_ready()
     ensures { (r : Replica) (s : Stamped) → IsRunning r → length r.waiting ≤ 4096 →
         length (receive r s).waiting ≤ 4096 }
 {}
