@@ -44,8 +44,10 @@ module _ (r : Replica) (h0 h : Publication) (q : Replica) (least : ℕ) (w : IsU
     may_follow k =
         let run = running k in
         let among = (ready_first (operations q) q.waiting run.rising s (next_some q s next).1).0 in
-        let here : IsEntryHistory q.own (Peer s ∷ q.entries) = subst (λ (t : Replica). IsEntryHistory t.own t.entries) (ap (taken_with q s) faultless) (taken_running q s run among).history in
-        subst (λ p. IsEntryHistory p (Peer s ∷ h.appended)) (sym w.holds.own) (subst (λ G. IsEntryHistory q.own (Peer s ∷ G)) (sym w.holds.appended) here)
+        let here : IsEntryHistory q.own (Peer s ∷ q.entries) = subst (λ (t : Replica). IsEntryHistory t.own t.entries)
+        (ap (taken_with q s) faultless) (taken_running q s run among).history in
+        subst (λ p. IsEntryHistory p (Peer s ∷ h.appended)) (sym w.holds.own)
+        (subst (λ G. IsEntryHistory q.own (Peer s ∷ G)) (sym w.holds.appended) here)
 
     pub has_room : is_full h.appended ≡ false
     has_room = ap (is_full {X = Entry}) w.holds.appended ∙ (next_some q s next).0
@@ -60,7 +62,8 @@ module _ (r : Replica) (h0 h : Publication) (q : Replica) (least : ℕ) (w : IsU
           holds = record {
             own = ap (λ (x : Publication). x.own) is ∙ w.holds.own ∙ sym (ap (λ (x : Replica). x.own) one);
             members = ap (λ (x : Publication). x.members) is ∙ w.holds.members ∙ sym (ap (λ (x : Replica). x.members) one);
-            appended = ap (λ (x : Publication). x.appended) is ∙ ap (λ G. Peer s ∷ G) w.holds.appended ∙ sym (ap (λ (x : Replica). x.entries) one);
+            appended = ap (λ (x : Publication). x.appended) is ∙ ap (λ G. Peer s ∷ G) w.holds.appended
+                ∙ sym (ap (λ (x : Replica). x.entries) one);
           };
           published = ap (λ (x : Publication). x.published) is ∙ w.published;
         }

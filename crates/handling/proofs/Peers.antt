@@ -15,10 +15,13 @@ within_floor : (r : Replica) (x : Submitted) (q : Request) → nat_lt (length r.
     → (after_item r x ≡ after_request r x q) × (reply_to r x ≡ reply_requested r q)
 within_floor r x q e f = rw (e, f) (refl, refl)
 
-not_behind : (w : Handler) (x : Submitted) (s : Stamped) → nat_lt (length w.replica.entries) x.floor ≡ false → x.request ≡ OfPeer s → still_behind w x ≡ false
+not_behind : (w : Handler) (x : Submitted) (s : Stamped) → nat_lt (length w.replica.entries) x.floor ≡ false → x.request ≡ OfPeer s
+    → still_behind w x ≡ false
 not_behind w x s e f = rw (e, f) refl
 
-module _ (w : Handler) (x : Submitted) (s : Stamped) (a : Delivered) (m q : Replica) (y : Reply) (is : x.request ≡ OfPeer s) (floor : x.floor ≤ length w.replica.entries) (answer : answer_to w.replica s ≡ a) (kept : m ≡ deliver w.replica s) (reply : y ≡ reply_delivered (length q.entries) a) where
+module _ (w : Handler) (x : Submitted) (s : Stamped) (a : Delivered) (m q : Replica) (y : Reply) (is : x.request ≡ OfPeer s)
+    (floor : x.floor ≤ length w.replica.entries) (answer : answer_to w.replica s ≡ a) (kept : m ≡ deliver w.replica s)
+    (reply : y ≡ reply_delivered (length q.entries) a) where
   test : nat_lt (length w.replica.entries) x.floor ≡ false
   test = le-ltb (length w.replica.entries) x.floor floor
 
@@ -27,7 +30,8 @@ module _ (w : Handler) (x : Submitted) (s : Stamped) (a : Delivered) (m q : Repl
       let f = within_floor w.replica x (OfPeer s) test is in
       let whole : q ≡ counted (drain (deliver w.replica s)) = e ∙ ap (λ (r : Replica). counted (drain r)) kept in
       inl (record {
-        reply = reply ∙ ap (λ (r : Replica). reply_delivered (length r.entries) a) whole ∙ ap (reply_delivered (length (drain (deliver w.replica s)).entries)) (sym answer) ∙ sym f.1;
+        reply = reply ∙ ap (λ (r : Replica). reply_delivered (length r.entries) a) whole
+            ∙ ap (reply_delivered (length (drain (deliver w.replica s)).entries)) (sym answer) ∙ sym f.1;
         replica = whole ∙ sym f.0;
         behind = l ∙ sym (not_behind w x s test is);
       })
@@ -42,6 +46,7 @@ module _ (w : Handler) (x : Submitted) (s : Stamped) (a : Delivered) (m q : Repl
     behind = l;
   }))
 
-  pub handled_peer : {X : Type 0} (d : Result X Refusal) → OnOk d (q ≡ counted (drain m)) → ((n : ℕ) × (q ≡ counted (drain_for n m))) → (late : Bool) → late ≡ is_err d → Handles w x y (record { replica = q; behind = late })
+  pub handled_peer : {X : Type 0} (d : Result X Refusal) → OnOk d (q ≡ counted (drain m)) → ((n : ℕ) × (q ≡ counted (drain_for n m)))
+      → (late : Bool) → late ≡ is_err d → Handles w x y (record { replica = q; behind = late })
   handled_peer (Ok u) drained partly late l = done drained late l
   handled_peer (Err why) drained partly late l = cut partly.0 partly.1 late l

@@ -64,7 +64,8 @@ impl Handler {
         requires holds { Holds (P.publication publisher.old) (replica_of self.old.replica) }
         requires running { IsRunning (replica_of self.old.replica) }
         requires above { IsAbove item.now.client item.now.serial self.old.replica.document.entries }
-        ensures handled { Handles (handler_of self.old) (submitted_of self.old.replica.document.table item.now) (answer_of result) (handler_of self.new) }
+        ensures handled { Handles (handler_of self.old) (submitted_of self.old.replica.document.table item.now) (answer_of result)
+            (handler_of self.new) }
         ensures holds { Holds (P.publication publisher.new) (replica_of self.new.replica) }
         ensures published { (P.publication publisher.new).published ≡ (P.publication publisher.old).published }
     {
@@ -92,7 +93,8 @@ impl Handler {
         requires holds { Holds (P.publication publisher.old) (replica_of self.old.replica) }
         requires running { IsRunning (replica_of self.old.replica) }
         requires above { IsAbove client serial self.old.replica.document.entries }
-        ensures handled { (x : Submitted) → x.client ≡ client → x.serial ≡ serial → x.request ≡ OfCommand (command_of command.now) → x.floor ≤ length self.old.replica.document.entries →
+        ensures handled { (x : Submitted) → x.client ≡ client → x.serial ≡ serial → x.request ≡ OfCommand (command_of command.now)
+            → x.floor ≤ length self.old.replica.document.entries →
             Handles (handler_of self.old) x (answer_of result) (handler_of self.new) }
         ensures holds { Holds (P.publication publisher.new) (replica_of self.new.replica) }
         ensures published { (P.publication publisher.new).published ≡ (P.publication publisher.old).published }
@@ -113,7 +115,8 @@ impl Handler {
     fn receive<P: Publish>(&mut self, alloc: Global, publisher: &mut P, op: &Op) -> Reply
         requires holds { Holds (P.publication publisher.old) (replica_of self.old.replica) }
         requires running { IsRunning (replica_of self.old.replica) }
-        ensures handled { (x : Submitted) → x.request ≡ OfPeer (received_of self.old.replica.document.table op.now) → x.floor ≤ length self.old.replica.document.entries →
+        ensures handled { (x : Submitted) → x.request ≡ OfPeer (received_of self.old.replica.document.table op.now)
+            → x.floor ≤ length self.old.replica.document.entries →
             Handles (handler_of self.old) x (answer_of result) (handler_of self.new) }
         ensures holds { Holds (P.publication publisher.new) (replica_of self.new.replica) }
         ensures published { (P.publication publisher.new).published ≡ (P.publication publisher.old).published }
@@ -133,7 +136,8 @@ impl Handler {
 /// The refusal that the rules have, or `NoMemory` if allocation fails; then nothing has changed.
 fn deliver(replica: &mut Replica, op: &Op) -> Result<Delivered, Refusal>
     ensures delivered { let s = received_of replica.old.document.table op.now in
-        result ≢ Err NoMemory → (answer_to (replica_of replica.old) s ≡ outcome_of result) × (replica_of replica.new ≡ deliver (replica_of replica.old) s) }
+        result ≢ Err NoMemory
+        → (answer_to (replica_of replica.old) s ≡ outcome_of result) × (replica_of replica.new ≡ deliver (replica_of replica.old) s) }
     ensures same { result ≡ Err NoMemory → replica_of replica.new ≡ replica_of replica.old }
 {
     replica.deliver(op.clone()?)
@@ -165,11 +169,13 @@ fn append_own<P: Publish>(
     requires holds { Holds (P.publication publisher.old) (replica_of replica.old) }
     requires running { IsRunning (replica_of replica.old) }
     requires above { IsAbove client serial replica.old.document.entries }
-    requires made { IsMade replica.old.document.entries replica.old.own (command_of command.now) (stamped_of replica.old.document.table op) }
+    requires made { IsMade replica.old.document.entries replica.old.own (command_of command.now)
+        (stamped_of replica.old.document.table op) }
     requires width { length op.deps ≡ length replica.old.document.table }
     requires member { IsTrue (is_member replica.old.document.table op.id.replica) }
     requires room { HasRoomFor replica.old.document (stamped_of replica.old.document.table op) }
-    ensures replica { OnOk result (replica_of replica.new ≡ commit_own (replica_of replica.old) client serial (command_of command.now) (stamped_of replica.old.document.table op)) }
+    ensures replica { OnOk result (replica_of replica.new
+        ≡ commit_own (replica_of replica.old) client serial (command_of command.now) (stamped_of replica.old.document.table op)) }
     ensures same { OnErr result (replica_of replica.new ≡ replica_of replica.old) }
     ensures holds { Holds (P.publication publisher.new) (replica_of replica.new) }
     ensures published { (P.publication publisher.new).published ≡ (P.publication publisher.old).published }
@@ -205,8 +211,9 @@ fn drain<P: Publish>(alloc: Global, replica: &mut Replica, publisher: &mut P) ->
         let Some(op) = replica.next_ready(alloc)? else {
             return Ok(());
         };
+        let next = op.id;
         publisher.add(Entry::Peer(op))?;
-        replica.commit_peer();
+        replica.commit_peer(next);
     }
     Ok(())
 }

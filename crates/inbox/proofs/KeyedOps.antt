@@ -1,5 +1,6 @@
 -- Operations at keys: those of a slab, by a map from ids to its keys.
-use Rattle.std.proofs.Common.{◌≡◌, ◌⊎◌, inl, inr, ℕ, suc, Bool, true, false, not, cond, ◌||◌, List, [], ◌∷◌, length, Some, None, is_some, refl, sym, ap, ◌∙◌, true≢false}
+use Rattle.std.proofs.Common.{◌≡◌, ◌⊎◌, inl, inr, ℕ, suc, Bool, true, false, not, cond, ◌||◌, List, [], ◌∷◌, length, Some, None, is_some}
+use Rattle.std.proofs.Common.{refl, sym, ap, ◌∙◌, true≢false}
 use Rattle.std.specs.Prelude.{Option}
 use Rattle.std.specs.List.{filter, cons_option}
 use Rattle.std.specs.declared.cmp.Ordering.{Ordering}
@@ -50,7 +51,8 @@ either_found true k b x h = refl
 either_found false k b x h = h
 
 -- an id waits where the map has a key of it
-pub waiting-found : (table : List ℕ) (s : Slab Op) (es : List (OpId × ℕ)) (a : OpId) → AreAtKeys s es → is_waiting (waiting_in table (ops_at s es)) a ≡ is_some (find id_cmp a es)
+pub waiting-found : (table : List ℕ) (s : Slab Op) (es : List (OpId × ℕ)) (a : OpId) → AreAtKeys s es
+    → is_waiting (waiting_in table (ops_at s es)) a ≡ is_some (find id_cmp a es)
 waiting-found table s [] a h = refl
 waiting-found table s (e ∷ es) a h =
     ap (λ ops. is_waiting (waiting_in table ops) a) (ops_at-first s e es h.0.0 h.0.1)
@@ -58,7 +60,8 @@ waiting-found table s (e ∷ es) a h =
     ∙ either_found (is_same_id a e.0) e.1 _ (find id_cmp a es) (waiting-found table s es a h.1)
 
 -- an id that doesn't wait has no key
-pub absent : (table : List ℕ) (s : Slab Op) (es : List (OpId × ℕ)) (a : OpId) → AreAtKeys s es → is_waiting (waiting_in table (ops_at s es)) a ≡ false → find id_cmp a es ≡ None
+pub absent : (table : List ℕ) (s : Slab Op) (es : List (OpId × ℕ)) (a : OpId) → AreAtKeys s es
+    → is_waiting (waiting_in table (ops_at s es)) a ≡ false → find id_cmp a es ≡ None
 absent table s es a h n = no_some (find id_cmp a es) (sym (waiting-found table s es a h) ∙ n)
   where
     no_some : (o : Option ℕ) → is_some o ≡ false → o ≡ None
@@ -73,14 +76,17 @@ pub record IsFound (s : Slab Op) (ops : List Op) (a : OpId) (k : ℕ) : Type 0 w
   pub among : IsAmong op ops
 
 -- at the key that the map has for an id stands the operation with that id
-pub found : (s : Slab Op) (es : List (OpId × ℕ)) (a : OpId) (k : ℕ) → AreAtKeys s es → find id_cmp a es ≡ Some k → IsFound s (ops_at s es) a k
+pub found : (s : Slab Op) (es : List (OpId × ℕ)) (a : OpId) (k : ℕ) → AreAtKeys s es → find id_cmp a es ≡ Some k
+    → IsFound s (ops_at s es) a k
 found s [] a k h f = cc
 found s (e ∷ es) a k h f = at_test (λ g. found s es a k h.1 g) (is_same_id a e.0) refl f
   where
-    at_test : (find id_cmp a es ≡ Some k → IsFound s (ops_at s es) a k) → (t : Bool) → is_same_id a e.0 ≡ t → cond t (Some e.1) (find id_cmp a es) ≡ Some k → IsFound s (ops_at s (e ∷ es)) a k
+    at_test : (find id_cmp a es ≡ Some k → IsFound s (ops_at s es) a k) → (t : Bool) → is_same_id a e.0 ≡ t
+        → cond t (Some e.1) (find id_cmp a es) ≡ Some k → IsFound s (ops_at s (e ∷ es)) a k
     at_test rest true same g =
         let key : e.1 ≡ k = cc in
-        rw (ops_at-first s e es h.0.0 h.0.1) (record { op = h.0.0; at_key = ap (get s) (sym key) ∙ h.0.1; id = h.0.2 ∙ sym (ids_from_test a e.0 same); among = inl refl })
+        rw (ops_at-first s e es h.0.0 h.0.1)
+        (record { op = h.0.0; at_key = ap (get s) (sym key) ∙ h.0.1; id = h.0.2 ∙ sym (ids_from_test a e.0 same); among = inl refl })
     at_test rest false other g =
         let r = rest g in
         rw (ops_at-first s e es h.0.0 h.0.1) (record { op = r.op; at_key = r.at_key; id = r.id; among = inr r.among })
@@ -113,23 +119,28 @@ left-at_keys s t (e ∷ es) a keeps h = at_test (left-at_keys s t es a keeps h.1
     at_test rest true same = rest
     at_test rest false differs = ((h.0.0, keeps e.1 h.0.0 h.0.1 (ap (is_same_id a) h.0.2 ∙ differs) ∙ h.0.1, h.0.2), rest)
 
-pub left-ops_at : (s t : Slab Op) (es : List (OpId × ℕ)) (a : OpId) → KeepsOthers a s t → AreAtKeys s es → ops_at t (others a es) ≡ ops_without a (ops_at s es)
+pub left-ops_at : (s t : Slab Op) (es : List (OpId × ℕ)) (a : OpId) → KeepsOthers a s t → AreAtKeys s es
+    → ops_at t (others a es) ≡ ops_without a (ops_at s es)
 left-ops_at s t [] a keeps h = refl
 left-ops_at s t (e ∷ es) a keeps h =
     at_test (left-ops_at s t es a keeps h.1) (is_same_id a e.0) refl
-    ∙ ap (λ b. cond (not b) (h.0.0 ∷ ops_without a (ops_at s es)) (ops_without a (ops_at s es))) (same_back a e.0 ∙ ap (λ b. is_same_id b a) (sym h.0.2))
+    ∙ ap (λ b. cond (not b) (h.0.0 ∷ ops_without a (ops_at s es)) (ops_without a (ops_at s es)))
+    (same_back a e.0 ∙ ap (λ b. is_same_id b a) (sym h.0.2))
     ∙ ap (ops_without a) (sym (ops_at-first s e es h.0.0 h.0.1))
   where
     at_test : ops_at t (others a es) ≡ ops_without a (ops_at s es) → (b : Bool) → is_same_id a e.0 ≡ b
-        → ops_at t (cond (not b) (e ∷ others a es) (others a es)) ≡ cond (not b) (h.0.0 ∷ ops_without a (ops_at s es)) (ops_without a (ops_at s es))
+        → ops_at t (cond (not b) (e ∷ others a es) (others a es))
+        ≡ cond (not b) (h.0.0 ∷ ops_without a (ops_at s es)) (ops_without a (ops_at s es))
     at_test rest true same = rest
     at_test rest false differs = λ i. cons_option ((keeps e.1 h.0.0 h.0.1 (ap (is_same_id a) h.0.2 ∙ differs) ∙ h.0.1) i) (rest i)
 
-map_cond : (table : List ℕ) (b : Bool) (o : Op) (ops : List Op) → waiting_in table (cond b (o ∷ ops) ops) ≡ cond b (stamped_of table o ∷ waiting_in table ops) (waiting_in table ops)
+map_cond : (table : List ℕ) (b : Bool) (o : Op) (ops : List Op)
+    → waiting_in table (cond b (o ∷ ops) ops) ≡ cond b (stamped_of table o ∷ waiting_in table ops) (waiting_in table ops)
 map_cond table true o ops = refl
 map_cond table false o ops = refl
 
-pub waiting-without : (table : List ℕ) (a : OpId) (ops : List Op) → waiting_in table (ops_without a ops) ≡ without_waiting a (waiting_in table ops)
+pub waiting-without : (table : List ℕ) (a : OpId) (ops : List Op)
+    → waiting_in table (ops_without a ops) ≡ without_waiting a (waiting_in table ops)
 waiting-without table a [] = refl
 waiting-without table a (o ∷ ops) =
     map_cond table (not (is_same_id o.id a)) o (ops_without a ops)
@@ -139,7 +150,8 @@ pub in_without : (a : OpId) (ops : List Op) (o : Op) → IsAmong o (ops_without 
 in_without a [] o m = m
 in_without a (x ∷ ops) o m = at_test (λ n. in_without a ops o n) (is_same_id x.id a) m
   where
-    at_test : (IsAmong o (ops_without a ops) → IsAmong o ops) → (b : Bool) → IsAmong o (cond (not b) (x ∷ ops_without a ops) (ops_without a ops)) → IsAmong o (x ∷ ops)
+    at_test : (IsAmong o (ops_without a ops) → IsAmong o ops) → (b : Bool)
+        → IsAmong o (cond (not b) (x ∷ ops_without a ops) (ops_without a ops)) → IsAmong o (x ∷ ops)
     at_test rest true m = inr (rest m)
     at_test rest false (inl e) = inl e
     at_test rest false (inr m) = inr (rest m)
@@ -155,27 +167,34 @@ put_op p (o ∷ ops) = cond (is_smaller_id p.id o.id) (p ∷ o ∷ ops) (o ∷ p
 other_key : (s t : Slab Op) (k n : ℕ) (p o : Op) → get s k ≡ None → Updates s t k (Some p) → get s n ≡ Some o → get t n ≡ Some o
 other_key s t k n p o vacant u h = u.others n (λ same. let e : get s n ≡ get s k = ap (get s) same in cc) ∙ h
 
-put-others : (s t : Slab Op) (es : List (OpId × ℕ)) (k : ℕ) (p : Op) → get s k ≡ None → Updates s t k (Some p) → AreAtKeys s es → AreAtKeys t es × (ops_at t es ≡ ops_at s es)
+put-others : (s t : Slab Op) (es : List (OpId × ℕ)) (k : ℕ) (p : Op) → get s k ≡ None → Updates s t k (Some p) → AreAtKeys s es
+    → AreAtKeys t es × (ops_at t es ≡ ops_at s es)
 put-others s t [] k p vacant u h = (tt, refl)
 put-others s t (e ∷ es) k p vacant u h =
     let rest = put-others s t es k p vacant u h.1 in
-    let here = other_key s t k e.1 p h.0.0 vacant u h.0.1 in
-    (((h.0.0, here, h.0.2), rest.0), ops_at-first t e es h.0.0 here ∙ ap (λ ops. h.0.0 ∷ ops) rest.1 ∙ sym (ops_at-first s e es h.0.0 h.0.1))
+    let here = other_key s t k e.1 p h.0.0 vacant u h.0.1 in (
+      ((h.0.0, here, h.0.2), rest.0),
+      ops_at-first t e es h.0.0 here ∙ ap (λ ops. h.0.0 ∷ ops) rest.1
+          ∙ sym (ops_at-first s e es h.0.0 h.0.1),
+    )
 
-pub put-at_keys : (s t : Slab Op) (es : List (OpId × ℕ)) (k : ℕ) (p : Op) → get s k ≡ None → Updates s t k (Some p) → find id_cmp p.id es ≡ None → AreAtKeys s es → AreAtKeys t (put id_cmp p.id k es)
+pub put-at_keys : (s t : Slab Op) (es : List (OpId × ℕ)) (k : ℕ) (p : Op) → get s k ≡ None → Updates s t k (Some p)
+    → find id_cmp p.id es ≡ None → AreAtKeys s es → AreAtKeys t (put id_cmp p.id k es)
 put-at_keys s t [] k p vacant u none h = ((p, u.changed, refl), tt)
 put-at_keys s t (e ∷ es) k p vacant u none h = at_order (λ n. put-at_keys s t es k p vacant u n h.1) (id_cmp p.id e.0) none
   where
     all : AreAtKeys t (e ∷ es)
     all = (put-others s t (e ∷ es) k p vacant u h).0
 
-    at_order : (find id_cmp p.id es ≡ None → AreAtKeys t (put id_cmp p.id k es)) → (r : Ordering) → cond (is_eq r) (Some e.1) (find id_cmp p.id es) ≡ None
+    at_order : (find id_cmp p.id es ≡ None → AreAtKeys t (put id_cmp p.id k es)) → (r : Ordering)
+        → cond (is_eq r) (Some e.1) (find id_cmp p.id es) ≡ None
         → AreAtKeys t (by_order r ((p.id, k) ∷ e ∷ es) ((e.0, k) ∷ es) (e ∷ put id_cmp p.id k es))
     at_order rest Less n = ((p, u.changed, refl), all)
     at_order rest Equal n = cc
     at_order rest Greater n = (all.0, rest n)
 
-pub put-ops_at : (s t : Slab Op) (es : List (OpId × ℕ)) (k : ℕ) (p : Op) → get s k ≡ None → Updates s t k (Some p) → find id_cmp p.id es ≡ None → AreAtKeys s es → ops_at t (put id_cmp p.id k es) ≡ put_op p (ops_at s es)
+pub put-ops_at : (s t : Slab Op) (es : List (OpId × ℕ)) (k : ℕ) (p : Op) → get s k ≡ None → Updates s t k (Some p)
+    → find id_cmp p.id es ≡ None → AreAtKeys s es → ops_at t (put id_cmp p.id k es) ≡ put_op p (ops_at s es)
 put-ops_at s t [] k p vacant u none h = ops_at-first t (p.id, k) [] p u.changed
 put-ops_at s t (e ∷ es) k p vacant u none h =
     at_order (λ n. put-ops_at s t es k p vacant u n h.1) (id_cmp p.id e.0) refl none
@@ -188,28 +207,35 @@ put-ops_at s t (e ∷ es) k p vacant u none h =
     all : ops_at t (e ∷ es) ≡ h.0.0 ∷ ops_at s es
     all = (put-others s t (e ∷ es) k p vacant u h).1 ∙ ops_at-first s e es h.0.0 h.0.1
 
-    at_order : (find id_cmp p.id es ≡ None → ops_at t (put id_cmp p.id k es) ≡ put_op p (ops_at s es)) → (r : Ordering) → id_cmp p.id e.0 ≡ r → cond (is_eq r) (Some e.1) (find id_cmp p.id es) ≡ None
-        → ops_at t (by_order r ((p.id, k) ∷ e ∷ es) ((e.0, k) ∷ es) (e ∷ put id_cmp p.id k es)) ≡ cond (is_lt r) (p ∷ h.0.0 ∷ ops_at s es) (h.0.0 ∷ put_op p (ops_at s es))
+    at_order : (find id_cmp p.id es ≡ None → ops_at t (put id_cmp p.id k es) ≡ put_op p (ops_at s es)) → (r : Ordering)
+        → id_cmp p.id e.0 ≡ r → cond (is_eq r) (Some e.1) (find id_cmp p.id es) ≡ None
+        → ops_at t (by_order r ((p.id, k) ∷ e ∷ es) ((e.0, k) ∷ es) (e ∷ put id_cmp p.id k es))
+        ≡ cond (is_lt r) (p ∷ h.0.0 ∷ ops_at s es) (h.0.0 ∷ put_op p (ops_at s es))
     at_order rest Less r n = ops_at-first t (p.id, k) (e ∷ es) p u.changed ∙ ap (λ ops. p ∷ ops) all
     at_order rest Equal r n = cc
     at_order rest Greater r n = ops_at-first t e (put id_cmp p.id k es) h.0.0 here ∙ ap (λ ops. h.0.0 ∷ ops) (rest n)
 
-map_put : (table : List ℕ) (b : Bool) (p o : Op) (ops put : List Op) → waiting_in table (cond b (p ∷ o ∷ ops) (o ∷ put)) ≡ cond b (stamped_of table p ∷ stamped_of table o ∷ waiting_in table ops) (stamped_of table o ∷ waiting_in table put)
+map_put : (table : List ℕ) (b : Bool) (p o : Op) (ops put : List Op)
+    → waiting_in table (cond b (p ∷ o ∷ ops) (o ∷ put))
+    ≡ cond b (stamped_of table p ∷ stamped_of table o ∷ waiting_in table ops) (stamped_of table o ∷ waiting_in table put)
 map_put table true p o ops put = refl
 map_put table false p o ops put = refl
 
-pub waiting-put : (table : List ℕ) (p : Op) (ops : List Op) → waiting_in table (put_op p ops) ≡ put_waiting (stamped_of table p) (waiting_in table ops)
+pub waiting-put : (table : List ℕ) (p : Op) (ops : List Op)
+    → waiting_in table (put_op p ops) ≡ put_waiting (stamped_of table p) (waiting_in table ops)
 waiting-put table p [] = refl
 waiting-put table p (o ∷ ops) =
     map_put table (is_smaller_id p.id o.id) p o ops (put_op p ops)
-    ∙ ap (λ W. cond (is_smaller_id p.id o.id) (stamped_of table p ∷ stamped_of table o ∷ waiting_in table ops) (stamped_of table o ∷ W)) (waiting-put table p ops)
+    ∙ ap (λ W. cond (is_smaller_id p.id o.id) (stamped_of table p ∷ stamped_of table o ∷ waiting_in table ops) (stamped_of table o ∷ W))
+    (waiting-put table p ops)
 
 pub in_put : (p : Op) (ops : List Op) (o : Op) → IsAmong o (put_op p ops) → (o ≡ p) ⊎ IsAmong o ops
 in_put p [] o (inl e) = inl e
 in_put p [] o (inr m) = absurd m
 in_put p (x ∷ ops) o m = at_test (λ n. in_put p ops o n) (is_smaller_id p.id x.id) m
   where
-    at_test : (IsAmong o (put_op p ops) → (o ≡ p) ⊎ IsAmong o ops) → (b : Bool) → IsAmong o (cond b (p ∷ x ∷ ops) (x ∷ put_op p ops)) → (o ≡ p) ⊎ IsAmong o (x ∷ ops)
+    at_test : (IsAmong o (put_op p ops) → (o ≡ p) ⊎ IsAmong o ops) → (b : Bool) → IsAmong o (cond b (p ∷ x ∷ ops) (x ∷ put_op p ops))
+        → (o ≡ p) ⊎ IsAmong o (x ∷ ops)
     at_test rest true (inl e) = inl e
     at_test rest true (inr n) = inr n
     at_test rest false (inl e) = inr (inl e)

@@ -1,5 +1,6 @@
 -- The first of what waits that is ready.
-use Rattle.std.proofs.Common.{◌≡◌, ◌⊎◌, inl, inr, ℕ, suc, ◌+◌, ◌<◌, ◌≤◌, Bool, true, false, cond, ◌==◌, IsTrue, List, [], ◌∷◌, length, drop, Some, None, refl, sym, ap, ◌∙◌, subst, arith, true≢false, get_or, nat_lt, nat_cmp, slice_get}
+use Rattle.std.proofs.Common.{◌≡◌, ◌⊎◌, inl, inr, ℕ, suc, ◌+◌, ◌<◌, ◌≤◌, Bool, true, false, cond, ◌==◌, IsTrue, List, [], ◌∷◌, length, drop}
+use Rattle.std.proofs.Common.{Some, None, refl, sym, ap, ◌∙◌, subst, arith, true≢false, get_or, nat_lt, nat_cmp, slice_get}
 use Rattle.std.specs.declared.cmp.Ordering.TheVariants.{Less, Equal, Greater}
 use Rattle.std.specs.Ordering.{is_lt, ordering_then}
 use Rattle.std.specs.FinMap.{is_sorted}
@@ -50,7 +51,8 @@ ready_within H s ready =
     ]
 
 -- what is ready has a counter at most this much above the greatest that was applied
-pub too_far : (H : List Operation) (table : List ℕ) (o : Op) (lead : ℕ) → length o.deps ≡ length table → o.id.counter ≤ greatest_in o.deps + lead → greatest_of (λ a. true) H + lead < o.id.counter
+pub too_far : (H : List Operation) (table : List ℕ) (o : Op) (lead : ℕ) → length o.deps ≡ length table
+    → o.id.counter ≤ greatest_in o.deps + lead → greatest_of (λ a. true) H + lead < o.id.counter
     → is_ready H (stamped_of table o) ≡ false
 too_far H table o lead width near far = false_from_ne_true (is_ready H (stamped_of table o)) (λ ready.
     let within = ready_within H (stamped_of table o) ready in
@@ -62,19 +64,22 @@ too_far H table o lead width near far = false_from_ne_true (is_ready H (stamped_
 counter_rises : (a b : OpId) → is_smaller_id a b ≡ true → a.counter ≤ b.counter
 counter_rises a b h = at_tests (nat_lt a.counter b.counter) (a.counter == b.counter) refl refl h
   where
-    at_tests : (x y : Bool) → nat_lt a.counter b.counter ≡ x → (a.counter == b.counter) ≡ y → is_lt (ordering_then (cond x Less (cond y Equal Greater)) (nat_cmp a.replica b.replica)) ≡ true → a.counter ≤ b.counter
+    at_tests : (x y : Bool) → nat_lt a.counter b.counter ≡ x → (a.counter == b.counter) ≡ y
+        → is_lt (ordering_then (cond x Less (cond y Equal Greater)) (nat_cmp a.replica b.replica)) ≡ true → a.counter ≤ b.counter
     at_tests true y e f k = (let lt = ltb-true a.counter b.counter e in omega arith)
     at_tests false true e f k = (let eq = eqb-true a.counter b.counter f in omega arith)
     at_tests false false e f k = absurd (true≢false (sym k))
 
-pub none_ready : (H : List Operation) (table : List ℕ) (ops : List Op) → ((o : Op) → IsAmong o ops → is_ready H (stamped_of table o) ≡ false) → first_ready H (waiting_in table ops) ≡ None
+pub none_ready : (H : List Operation) (table : List ℕ) (ops : List Op)
+    → ((o : Op) → IsAmong o ops → is_ready H (stamped_of table o) ≡ false) → first_ready H (waiting_in table ops) ≡ None
 none_ready H table [] h = refl
 none_ready H table (o ∷ ops) h =
     ap (λ b. cond b (Some (stamped_of table o)) (first_ready H (waiting_in table ops))) (h o (inl refl))
     ∙ none_ready H table ops (λ x m. h x (inr m))
 
 -- each operation behind an id has at least its counter
-counters_above : (s : Slab Op) (a : OpId) (es : List (OpId × ℕ)) → below_all id_cmp a es ≡ true → AreAtKeys s es → (o : Op) → IsAmong o (ops_at s es) → a.counter ≤ o.id.counter
+counters_above : (s : Slab Op) (a : OpId) (es : List (OpId × ℕ)) → below_all id_cmp a es ≡ true → AreAtKeys s es → (o : Op)
+    → IsAmong o (ops_at s es) → a.counter ≤ o.id.counter
 counters_above s a [] below h o m = absurd m
 counters_above s a (e ∷ es) below h o m =
     let parts = and_parts (is_lt (id_cmp a e.0)) (below_all id_cmp a es) below in
@@ -95,7 +100,8 @@ pub record IsLeft (H : List Operation) (table : List ℕ) (s : Slab Op) (es rest
   pub at_keys : AreAtKeys s rest
   pub rising : IsTrue (is_sorted id_cmp rest)
 
-pub all_left : (H : List Operation) (table : List ℕ) (s : Slab Op) (es : List (OpId × ℕ)) → AreAtKeys s es → IsTrue (is_sorted id_cmp es) → IsLeft H table s es es
+pub all_left : (H : List Operation) (table : List ℕ) (s : Slab Op) (es : List (OpId × ℕ)) → AreAtKeys s es → IsTrue (is_sorted id_cmp es)
+    → IsLeft H table s es es
 all_left H table s es h rising = record { first = refl; among = λ o m. m; at_keys = h; rising = rising }
 
 pub drop_at : (es : List (OpId × ℕ)) (i : ℕ) (e : OpId × ℕ) → slice_get es i ≡ Some e → drop i es ≡ e ∷ drop (i + 1) es
@@ -105,32 +111,38 @@ drop_at es i e h =
     drop-cons es i e (slice_get_within es i e h) ∙ (λ j. first j ∷ drop (next j) es)
 
 -- what stands at the first key that is left is one of all
-pub next_among : (H : List Operation) (table : List ℕ) (s : Slab Op) (es rest : List (OpId × ℕ)) (e : OpId × ℕ) (o : Op) → IsLeft H table s es (e ∷ rest) → get s e.1 ≡ Some o → IsAmong o (ops_at s es)
+pub next_among : (H : List Operation) (table : List ℕ) (s : Slab Op) (es rest : List (OpId × ℕ)) (e : OpId × ℕ) (o : Op)
+    → IsLeft H table s es (e ∷ rest) → get s e.1 ≡ Some o → IsAmong o (ops_at s es)
 next_among H table s es rest e o l at_key = l.among o (subst (IsAmong o) (sym (ops_at-first s e rest o at_key)) (inl refl))
 
-pub found_ready : (H : List Operation) (table : List ℕ) (s : Slab Op) (es rest : List (OpId × ℕ)) (e : OpId × ℕ) (o : Op) → IsLeft H table s es (e ∷ rest) → get s e.1 ≡ Some o → is_ready H (stamped_of table o) ≡ true
+pub found_ready : (H : List Operation) (table : List ℕ) (s : Slab Op) (es rest : List (OpId × ℕ)) (e : OpId × ℕ) (o : Op)
+    → IsLeft H table s es (e ∷ rest) → get s e.1 ≡ Some o → is_ready H (stamped_of table o) ≡ true
     → first_ready H (waiting_in table (ops_at s es)) ≡ Some (stamped_of table o)
 found_ready H table s es rest e o l at_key ready =
     l.first
     ∙ ap (λ ops. first_ready H (waiting_in table ops)) (ops_at-first s e rest o at_key)
     ∙ ap (λ b. cond b (Some (stamped_of table o)) (first_ready H (waiting_in table (ops_at s rest)))) ready
 
-pub one_less : (H : List Operation) (table : List ℕ) (s : Slab Op) (es rest : List (OpId × ℕ)) (e : OpId × ℕ) (o : Op) → IsLeft H table s es (e ∷ rest) → get s e.1 ≡ Some o → is_ready H (stamped_of table o) ≡ false
+pub one_less : (H : List Operation) (table : List ℕ) (s : Slab Op) (es rest : List (OpId × ℕ)) (e : OpId × ℕ) (o : Op)
+    → IsLeft H table s es (e ∷ rest) → get s e.1 ≡ Some o → is_ready H (stamped_of table o) ≡ false
     → IsLeft H table s es rest
 one_less H table s es rest e o l at_key ready =
     let head = ops_at-first s e rest o at_key in
     record {
-      first = l.first ∙ ap (λ ops. first_ready H (waiting_in table ops)) head ∙ ap (λ b. cond b (Some (stamped_of table o)) (first_ready H (waiting_in table (ops_at s rest)))) ready;
+      first = l.first ∙ ap (λ ops. first_ready H (waiting_in table ops)) head
+          ∙ ap (λ b. cond b (Some (stamped_of table o)) (first_ready H (waiting_in table (ops_at s rest)))) ready;
       among = λ x m. l.among x (subst (IsAmong x) (sym head) (inr m));
       at_keys = l.at_keys.1;
       rising = (and_parts (below_all id_cmp e.0 rest) (is_sorted id_cmp rest) l.rising).1;
     }
 
 -- where the first that is left is too far ahead, none is ready
-pub none_left : (H : List Operation) (table : List ℕ) (s : Slab Op) (es rest : List (OpId × ℕ)) (e : OpId × ℕ) (lead : ℕ) → IsLeft H table s es (e ∷ rest) → AreAsWide table (ops_at s es) → AreWithin lead (ops_at s es)
+pub none_left : (H : List Operation) (table : List ℕ) (s : Slab Op) (es rest : List (OpId × ℕ)) (e : OpId × ℕ) (lead : ℕ)
+    → IsLeft H table s es (e ∷ rest) → AreAsWide table (ops_at s es) → AreWithin lead (ops_at s es)
     → greatest_of (λ a. true) H + lead < e.0.counter → first_ready H (waiting_in table (ops_at s es)) ≡ None
 none_left H table s es rest e lead l wide within far =
-    l.first ∙ none_ready H table (ops_at s (e ∷ rest)) (λ o m. too_far H table o lead (wide o (l.among o m)) (within o (l.among o m)) (above o m))
+    l.first ∙ none_ready H table (ops_at s (e ∷ rest))
+    (λ o m. too_far H table o lead (wide o (l.among o m)) (within o (l.among o m)) (above o m))
   where
     above : (o : Op) → IsAmong o (ops_at s (e ∷ rest)) → greatest_of (λ a. true) H + lead < o.id.counter
     above o m =
@@ -140,7 +152,8 @@ none_left H table s es rest e lead l wide within far =
               let same : o.id.counter ≡ e.0.counter = ap (λ (x : Op). x.id.counter) is ∙ ap (λ (x : OpId). x.counter) here.2 in
               omega arith
           | inr there ↦
-              let behind = counters_above s e.0 rest (and_parts (below_all id_cmp e.0 rest) (is_sorted id_cmp rest) l.rising).0 l.at_keys.1 o there in
+              let behind = counters_above s e.0 rest
+              (and_parts (below_all id_cmp e.0 rest) (is_sorted id_cmp rest) l.rising).0 l.at_keys.1 o there in
               omega arith
         ]
 
@@ -153,11 +166,17 @@ among_stamped table (x ∷ ops) o (inl e) = inl (ap (stamped_of table) e)
 among_stamped table (x ∷ ops) o (inr m) = inr (among_stamped table ops o m)
 
 -- the first ready one is the least
-pub first_is_least : (H : List Operation) (table : List ℕ) (ops : List Op) (o : Op) → AreRising ops → IsAmong o ops → first_ready H (waiting_in table ops) ≡ Some (stamped_of table o) → IsLeastReady H table ops o
-first_is_least H table ops o rising among first = record { waits = among; ready = it.1; least = λ p m ready. least p (it.2 (stamped_of table p) (among_stamped table ops p m) ready) }
+pub first_is_least : (H : List Operation) (table : List ℕ) (ops : List Op) (o : Op) → AreRising ops → IsAmong o ops
+    → first_ready H (waiting_in table ops) ≡ Some (stamped_of table o) → IsLeastReady H table ops o
+first_is_least H table ops o rising among first = record {
+  waits = among;
+  ready = it.1;
+  least = λ p m ready. least p (it.2 (stamped_of table p) (among_stamped table ops p m) ready);
+}
   where
     it : IsAmong (stamped_of table o) (waiting_in table ops) × (is_ready H (stamped_of table o) ≡ true)
-        × ((x : Stamped) → IsAmong x (waiting_in table ops) → is_ready H x ≡ true → (x ≡ stamped_of table o) ⊎ (is_smaller_id o.id x.id ≡ true))
+        × ((x : Stamped) → IsAmong x (waiting_in table ops) → is_ready H x ≡ true
+        → (x ≡ stamped_of table o) ⊎ (is_smaller_id o.id x.id ≡ true))
     it = ready_first H (waiting_in table ops) (rising table) (stamped_of table o) first
 
     least : (p : Op) → (stamped_of table p ≡ stamped_of table o) ⊎ (is_smaller_id o.id p.id ≡ true) → is_smaller_id p.id o.id ≡ false
@@ -165,5 +184,6 @@ first_is_least H table ops o rising among first = record { waits = among; ready 
     least p (inr smaller) = not_back o.id p.id smaller
 
 -- where there is none, none is ready
-pub none_is_ready : (H : List Operation) (table : List ℕ) (ops : List Op) → first_ready H (waiting_in table ops) ≡ None → AreNotReady H table ops
+pub none_is_ready : (H : List Operation) (table : List ℕ) (ops : List Op) → first_ready H (waiting_in table ops) ≡ None
+    → AreNotReady H table ops
 none_is_ready H table ops none o m = none_waits H (waiting_in table ops) none (stamped_of table o) (among_stamped table ops o m)

@@ -55,7 +55,8 @@ is_crowded ready n = nat_lt (cond ready most_waiting (most_waiting - 1)) n
 
 -- the answer to what is put where these wait
 abbrev pub answer_to_put : Bool → List Stamped → Stamped → delivery.Delivered
-answer_to_put ready W s = cond (is_waiting W s.id) delivery.Known (cond (is_crowded ready (length W)) (delivery.NotKept InboxFull) delivery.Kept)
+answer_to_put ready W s = cond (is_waiting W s.id) delivery.Known
+    (cond (is_crowded ready (length W)) (delivery.NotKept InboxFull) delivery.Kept)
 
 -- the operations at the keys, by rising id
 abbrev pub ops_at : Slab Op → List (OpId × ℕ) → List Op

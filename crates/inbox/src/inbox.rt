@@ -76,6 +76,15 @@ impl Inbox {
         self.keys.get(&id).is_some()
     }
 
+    /// The operation with this id, if it waits. Binary search.
+    pub fn get(&self, id: OpId) -> Option<&Op>
+        ensures some { IfSome result (λ o. (o.now.id ≡ id) × IsAmong o.now self.now) }
+        ensures none { (table : List ℕ) → IfNone result (is_waiting (waiting_in table self.now) id ≡ false) }
+    {
+        let key = self.keys.get(&id)?;
+        self.ops.get(key)
+    }
+
     /// Whether one more may wait: 4,096 at most, and one more that is ready.
     pub fn has_room(&self, ready: bool) -> bool
         ensures { result ≡ not (is_crowded ready (length self.now)) }
@@ -96,9 +105,11 @@ impl Inbox {
     pub fn put(&mut self, op: Op, document: &Document) -> Result<Delivered, Refusal>
         requires width { length op.deps ≡ length document.now.table }
         ensures answer { let table = document.now.table in
-            let answer = answer_to_put (is_ready (applied document.now.entries) (stamped_of table op)) (waiting_in table self.old) (stamped_of table op) in
+            let answer = answer_to_put (is_ready (applied document.now.entries) (stamped_of table op)) (waiting_in table self.old)
+            (stamped_of table op) in
             MatchResult result (λ d. delivered_of d ≡ answer) (λ why. ((why ≡ NoMemory) × (answer ≡ ToBeKept)) ⊎ (answer ≡ NotKept why)) }
-        ensures kept { (table : List ℕ) → result ≡ Ok Kept → waiting_in table self.new ≡ put_waiting (stamped_of table op) (waiting_in table self.old) }
+        ensures kept { (table : List ℕ) → result ≡ Ok Kept
+            → waiting_in table self.new ≡ put_waiting (stamped_of table op) (waiting_in table self.old) }
         ensures among { (o : AnOp) → IsAmong o self.new → (o ≡ op) ⊎ IsAmong o self.old }
         ensures same { result ≢ Ok Kept → self.new ≡ self.old }
     {
@@ -126,11 +137,13 @@ impl Inbox {
         requires width { AreAsWide document.now.table self.now }
         ensures some { IfSome result (λ o. IsLeastReady (applied document.now.entries) document.now.table self.now o.now) }
         ensures none { IfNone result (AreNotReady (applied document.now.entries) document.now.table self.now) }
-        ensures first { option_map (λ o. stamped_of document.now.table o.now) result ≡ first_ready (applied document.now.entries) (waiting_in document.now.table self.now) }
+        ensures first { option_map
+            (λ o. stamped_of document.now.table o.now) result
+            ≡ first_ready (applied document.now.entries) (waiting_in document.now.table self.now) }
     {
         let greatest = document.applied().greatest();
-        for place in 0..self.keys.len() {
-            let (id, key) = self.keys.at(place);
+        for position in 0..self.keys.len() {
+            let (id, key) = self.keys.at(position);
             if id.counter.saturating_sub(self.lead) > greatest {
                 return None;
             }

@@ -17,7 +17,8 @@ use Rattle.inbox.specs.Inboxes.{waiting_in}
 use Rattle.replica.specs.Replicas.{Running, IsReplica, answer_to_new, replica_of}
 
 -- an operation that passed all tests is kept
-passed : (r : Replica) (s : Stamped) → alone_fault r.members s ≡ None → has_id (operations r) s.id ≡ false → is_waiting r.waiting s.id ≡ false → answer_to_new r s ≡ IsKept → deliver r s ≡ record r { waiting = put_waiting s r.waiting }
+passed : (r : Replica) (s : Stamped) → alone_fault r.members s ≡ None → has_id (operations r) s.id ≡ false
+    → is_waiting r.waiting s.id ≡ false → answer_to_new r s ≡ IsKept → deliver r s ≡ record r { waiting = put_waiting s r.waiting }
 passed r s none unapplied unknown new =
     ap (kept_by r s)
     (ap (answer_after r s) none
@@ -27,9 +28,11 @@ passed r s none unapplied unknown new =
 
 -- a replica after an operation that passed all tests was put, or not
 pub after_put : (r : Running) (o : Op) (next : List Op) (result : Result Delivered Refusal) → IsReplica r
-    → fault_alone r.document.table o ≡ None → has_id (operations (replica_of r)) o.id ≡ false → is_waiting (waiting_in r.document.table r.waiting) o.id ≡ false
+    → fault_alone r.document.table o ≡ None → has_id (operations (replica_of r)) o.id ≡ false
+    → is_waiting (waiting_in r.document.table r.waiting) o.id ≡ false
     → answer_to_new (replica_of r) (stamped_of r.document.table o) ≡ IsKept
-    → (result ≡ Ok answer.Kept → waiting_in r.document.table next ≡ put_waiting (stamped_of r.document.table o) (waiting_in r.document.table r.waiting))
+    → (result ≡ Ok answer.Kept
+    → waiting_in r.document.table next ≡ put_waiting (stamped_of r.document.table o) (waiting_in r.document.table r.waiting))
     → ((p : Op) → IsAmong p next → (p ≡ o) ⊎ IsAmong p r.waiting)
     → (result ≢ Ok answer.Kept → next ≡ r.waiting)
     → IsReplica (record r { waiting = next })

@@ -16,7 +16,8 @@ use Rattle.document.specs.Documents.{Kept}
 use Rattle.replica.specs.Replicas.{Running, IsMade, IsReplica, replica_of}
 use Rattle.inbox.specs.Inboxes.{waiting_in}
 
-module _ (p client serial : ℕ) (c : Command) (G : List Entry) (s : Stamped) (h : IsEntryHistory p G) (above : IsAbove client serial G) (made : IsMade G p c s) where
+module _ (p client serial : ℕ) (c : Command) (G : List Entry) (s : Stamped) (h : IsEntryHistory p G) (above : IsAbove client serial G)
+    (made : IsMade G p c s) where
   -- what was made of a command is what the definitions make, with the vector of all that was applied
   made_as_stamped : NamesAll (applied G) s.vector × (make (applied G) p c ≡ Ok (operation_after (applied G) s))
   made_as_stamped =
@@ -30,14 +31,24 @@ module _ (p client serial : ℕ) (c : Command) (G : List Entry) (s : Stamped) (h
 
   -- and is of the replica that made it
   pub made_by : s.id.replica ≡ p
-  made_by = ap (λ (t : Stamped). t.id.replica) made.2 ∙ (made_lawful (applied G) (legal (stamped_of G) (entries_legal p G h)) p c made.0 made.1).1
+  made_by = ap (λ (t : Stamped). t.id.replica) made.2
+      ∙ (made_lawful (applied G) (legal (stamped_of G) (entries_legal p G h)) p c made.0 made.1).1
 
 -- the replica after its document got an own entry
-pub own_appended : (r : Running) (d : Kept) (client serial : ℕ) (c : Command) (s : Stamped) → IsReplica r → IsMade r.document.entries r.own c s → IsAbove client serial r.document.entries
+pub own_appended : (r : Running) (d : Kept) (client serial : ℕ) (c : Command) (s : Stamped) → IsReplica r
+    → IsMade r.document.entries r.own c s → IsAbove client serial r.document.entries
     → d.table ≡ r.document.table → d.entries ≡ Own client serial c s ∷ r.document.entries → IsReplica (record r { document = d })
 own_appended r d client serial c s h made above table entries =
     let stamped = made_as_stamped r.own client serial c r.document.entries s h.running.history above made in
-    let next : replica_of (record r { document = d }) ≡ commit_own (replica_of r) client serial c s = λ i. record { own = r.own; members = table i; entries = entries i; waiting = waiting_in (table i) r.waiting; dropped = r.dropped } in
+    let next : replica_of (record r { document = d })
+    ≡ commit_own
+    (replica_of r) client serial c s = λ i. record {
+      own = r.own;
+      members = table i;
+      entries = entries i;
+      waiting = waiting_in (table i) r.waiting;
+      dropped = r.dropped;
+    } in
     record {
       running = subst IsRunning (sym next) (own_committed (replica_of r) client serial c s h.running stamped.0 stamped.1 above);
       member = ap (λ ps. is_member ps r.own) table ∙ h.member;

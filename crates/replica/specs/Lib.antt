@@ -1,2 +1,3 @@
 -- What contracts see of a replica.
 pub mod Replicas
+pub mod Turns

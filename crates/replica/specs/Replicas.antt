@@ -26,9 +26,16 @@ pub record Running : Type 0 where
 
 -- the replica of the definitions
 abbrev pub replica_of : Running → TheReplica
-replica_of r = record { own = r.own; members = r.document.table; entries = r.document.entries; waiting = waiting_in r.document.table r.waiting; dropped = r.dropped }
+replica_of r = record {
+  own = r.own;
+  members = r.document.table;
+  entries = r.document.entries;
+  waiting = waiting_in r.document.table r.waiting;
+  dropped = r.dropped;
+}
 
--- what holds of a replica between its calls: what the definitions want, its own number is a member's, what waits passed the tests that need no history, and the count is a u64's
+-- what holds of a replica between its calls: what the definitions want, its own number is a member's, what waits passed the tests
+-- that need no history, and the count is a u64's
 pub record IsReplica (r : Running) : Type 0 where
   pub running : IsRunning (replica_of r)
   pub member : IsTrue (is_member r.document.table r.own)

@@ -2,17 +2,16 @@
 
 ghost use Rattle.std.specs.Prelude.{◌≡◌, ◌⊎◌, length, IfOk, IfErr, MatchResult, Ok, Err};
 ghost use Rattle.ids.specs.declared.refusal.Refusal.TheVariants.{NoMemory};
-ghost use Rattle.semantics.specs.Elements.{Value};
-ghost use Rattle.semantics.specs.Operations.{Assign, Insert, Delete};
+ghost use Rattle.semantics.specs.Operations.{misplaced};
 ghost use Rattle.semantics.specs.Entries.{applied};
-ghost use Rattle.semantics.specs.Making.{is_full, make, place_for};
+ghost use Rattle.semantics.specs.Making.{is_full, make, place_unless};
 ghost use Rattle.operation.specs.Meanings.{command_of, stamped_of};
 ghost use Rattle.replica.specs.Replicas.{IsMade};
 
-use cursor::{Last, Place};
+use cursor::Place;
 use document::Document;
 use ids::{OpId, Refusal, ReplicaId};
-use operation::{Command, Op};
+use operation::{Command, Misplaced, Op};
 use std::alloc::Global;
 
 /// The most operations that a history holds.
@@ -63,38 +62,12 @@ pub fn make(
 /// Tests whether what the command does may stand at this place.
 fn check_place(command: &Command, place: &Place) -> Result<(), Refusal>
     ensures { MatchResult result
-        (λ _. place_for (command_of command.now).mutation place.now ≡ Ok place.now)
-        (λ why. place_for (command_of command.now).mutation place.now ≡ Err why) }
+        (λ _. place_unless (misplaced (command_of command.now).mutation place.now) place.now ≡ Ok place.now)
+        (λ why. place_unless (misplaced (command_of command.now).mutation place.now) place.now ≡ Err why) }
 {
-    match command {
-        Command::InsertAfter(..) => check_in_list(place),
-        Command::Assign(..) | Command::Delete(..) => check_element(place),
+    match command.misplaced_at(place) {
+        None => Ok(()),
+        Some(Misplaced::OutsideList) => Err(Refusal::NotInList),
+        Some(Misplaced::OnHead) => Err(Refusal::AtHead),
     }
-}
-
-/// An insert has to stand at a head or at an item.
-fn check_in_list(place: &Place) -> Result<(), Refusal>
-    ensures { (v : Value) → MatchResult result
-        (λ _. place_for (Insert v) place.now ≡ Ok place.now)
-        (λ why. place_for (Insert v) place.now ≡ Err why) }
-{
-    match place.last() {
-        Last::Doc | Last::Key(_) => Err(Refusal::NotInList),
-        Last::Elem(_) | Last::Head => Ok(()),
-    }
-}
-
-/// Any other command has to stand at an element.
-fn check_element(place: &Place) -> Result<(), Refusal>
-    ensures assign { (v : Value) → MatchResult result
-        (λ _. place_for (Assign v) place.now ≡ Ok place.now)
-        (λ why. place_for (Assign v) place.now ≡ Err why) }
-    ensures delete { MatchResult result
-        (λ _. place_for Delete place.now ≡ Ok place.now)
-        (λ why. place_for Delete place.now ≡ Err why) }
-{
-    if place.is_head() {
-        return Err(Refusal::AtHead);
-    }
-    Ok(())
 }

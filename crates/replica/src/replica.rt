@@ -1,6 +1,7 @@
 //! A replica: its own operations, those of peers, and what can be asked of it.
 
-ghost use Rattle.std.specs.Prelude.{◌≡◌, ◌⊎◌, ◌↔◌, ◌&&◌, ℕ, [], true, false, Ok, Err, Some, None, IsTrue, IsFalse, length, option_map, IfOk, IfErr, IfSome, MatchResult, OnErr, OnOk};
+ghost use Rattle.std.specs.Prelude.{◌≡◌, ◌⊎◌, ◌↔◌, ◌&&◌, ℕ, [], true, false, Ok, Err, Some, None, IsTrue, IsFalse, length, option_map};
+ghost use Rattle.std.specs.Prelude.{IfOk, IfErr, IfSome, MatchResult, OnErr, OnOk};
 ghost use Rattle.ids.specs.declared.refusal.Refusal.TheVariants.{NoMemory, BadConfig};
 ghost use Rattle.ids.specs.Members.{in_order, is_member};
 ghost use Rattle.ids.specs.Configurations.{are_members};
@@ -18,9 +19,9 @@ ghost use Rattle.document.specs.Documents.{HasRoomFor};
 ghost use Rattle.inbox.specs.Inboxes.{delivered_of};
 
 use crate::make::make;
-use crate::waiting::{check_wanted, next, next_faulty, reserve_next};
+use crate::waiting::{Turn, check_wanted, next_turn};
 use document::Document;
-use ids::{Refusal, ReplicaId};
+use ids::{OpId, Refusal, ReplicaId};
 use inbox::Inbox;
 use operation::{Command, Delivered, Entry, Op, check_alone};
 use std::alloc::{AllocError, Global};
@@ -59,7 +60,8 @@ impl Replica {
     /// `BadConfig` if the members aren't 1 to 64 distinct numbers above 0, or the own number isn't one of them, else `NoMemory` if
     /// allocation fails.
     pub fn new(alloc: Global, own: u32, members: &[u32]) -> Result<Replica, Refusal>
-        ensures new { IfOk result (λ r. replica_of r ≡ record { own = own; members = in_order members.now; entries = []; waiting = []; dropped = 0 }) }
+        ensures new { IfOk result
+            (λ r. replica_of r ≡ record { own = own; members = in_order members.now; entries = []; waiting = []; dropped = 0 }) }
         ensures bad_config { (result ≡ Err BadConfig) ↔ IsFalse (are_members members.now && is_member members.now own) }
         ensures err { IfErr result (λ why. (why ≡ BadConfig) ⊎ (why ≡ NoMemory)) }
     {
@@ -110,11 +112,13 @@ impl Replica {
     /// nor at an item, `AtHead` for another command at a head. Or `NoMemory` if allocation fails.
     pub fn make(&mut self, alloc: Global, command: &Command) -> Result<Op, Refusal>
         ensures same { replica_of self.new ≡ replica_of self.old }
-        ensures made { IfOk result (λ op. IsMade self.old.document.entries self.old.own (command_of command.now) (stamped_of self.old.document.table op)) }
+        ensures made { IfOk result
+            (λ op. IsMade self.old.document.entries self.old.own (command_of command.now) (stamped_of self.old.document.table op)) }
         ensures width { IfOk result (λ op. length op.deps ≡ length self.old.document.table) }
         ensures member { IfOk result (λ op. IsTrue (is_member self.old.document.table op.id.replica)) }
         ensures room { IfOk result (λ op. HasRoomFor self.new.document (stamped_of self.new.document.table op)) }
-        ensures err { IfErr result (λ why. (why ≡ NoMemory) ⊎ (make (applied self.old.document.entries) self.old.own (command_of command.now) ≡ Err why)) }
+        ensures err { IfErr result
+            (λ why. (why ≡ NoMemory) ⊎ (make (applied self.old.document.entries) self.old.own (command_of command.now) ≡ Err why)) }
     {
         let op = make(alloc, self.own, &self.document, command)?;
         self.document.reserve(alloc, &op)?;
@@ -127,7 +131,8 @@ impl Replica {
         requires width { length op.deps ≡ length self.old.document.table }
         requires room { HasRoomFor self.old.document (stamped_of self.old.document.table op) }
         requires above { IsAbove client serial self.old.document.entries }
-        ensures { replica_of self.new ≡ commit_own (replica_of self.old) client serial (command_of command) (stamped_of self.old.document.table op) }
+        ensures { replica_of self.new
+            ≡ commit_own (replica_of self.old) client serial (command_of command) (stamped_of self.old.document.table op) }
     {
         self.document.commit(Entry::Own {
             client,
@@ -149,7 +154,8 @@ impl Replica {
     pub fn deliver(&mut self, op: Op) -> Result<Delivered, Refusal>
         ensures answer { MatchResult result
             (λ d. answer_to (replica_of self.old) op ≡ delivered_of d)
-            (λ why. ((why ≡ NoMemory) × (answer_to (replica_of self.old) op ≡ ToBeKept)) ⊎ (answer_to (replica_of self.old) op ≡ NotKept why)) }
+            (λ why. ((why ≡ NoMemory) × (answer_to (replica_of self.old) op ≡ ToBeKept))
+            ⊎ (answer_to (replica_of self.old) op ≡ NotKept why)) }
         ensures delivered { OnOk result (replica_of self.new ≡ deliver (replica_of self.old) (stamped_of self.old.document.table op)) }
         ensures same { OnErr result (replica_of self.new ≡ replica_of self.old) }
     {
@@ -167,29 +173,26 @@ impl Replica {
     /// # Errors
     /// `AllocError` if allocation fails. What was dropped stays dropped then, and nothing else has changed.
     pub fn next_ready(&mut self, alloc: Global) -> Result<Option<Op>, AllocError>
-        ensures dropped { (n : ℕ) × (replica_of self.new ≡ counted (drain_for n (replica_of self.old))) × (self.new.document.entries ≡ self.old.document.entries) }
+        ensures dropped { (n : ℕ) × (replica_of self.new ≡ counted (drain_for n (replica_of self.old)))
+            × (self.new.document.entries ≡ self.old.document.entries) }
         ensures next { IfOk result (λ o. option_map (stamped_of self.new.document.table) o ≡ next_of (replica_of self.new)) }
         ensures alone { IfOk result (λ o. IfSome o (λ op. fault_alone self.new.document.table op ≡ None)) }
         ensures ready { IfOk result (λ o. IfSome o (λ op. IsNextReady self.new (stamped_of self.new.document.table op))) }
     {
-        if !self.prepare(alloc)? {
+        let Some(id) = self.prepare(alloc)? else {
             return Ok(None);
-        }
-        match next(&self.document, &self.inbox) {
-            Some(op) => Ok(Some(op.clone()?)),
-            None => Ok(None),
-        }
-    }
-
-    /// Appends what the last `next_ready` returned a copy of. Takes no memory.
-    pub fn commit_peer(&mut self)
-        requires { (s : Stamped) × IsNextReady self.old s }
-        ensures { replica_of self.new ≡ drain_for 1 (replica_of self.old) }
-    {
-        let Some(op) = next(&self.document, &self.inbox) else {
+        };
+        let Some(op) = self.inbox.get(id) else {
             unreachable!()
         };
-        let id = op.id;
+        Ok(Some(op.clone()?))
+    }
+
+    /// Appends what the last `next_ready` returned a copy of, which has this id. A binary search in the inbox. Takes no memory.
+    pub fn commit_peer(&mut self, id: OpId)
+        requires { (s : Stamped) × (s.id ≡ id) × IsNextReady self.old s }
+        ensures { replica_of self.new ≡ drain_for 1 (replica_of self.old) }
+    {
         let Some(op) = self.inbox.take(id) else {
             unreachable!()
         };
@@ -206,34 +209,32 @@ impl Replica {
         ensures partly { (n : ℕ) × (replica_of self.new ≡ counted (drain_for n (replica_of self.old))) }
     {
         for _ in 0..self.inbox.len() {
-            if !self.prepare(alloc)? {
+            let Some(id) = self.prepare(alloc)? else {
                 return Ok(());
-            }
-            self.commit_peer();
+            };
+            self.commit_peer(id);
         }
         Ok(())
     }
 
     /// Drops what is ready and unlawful until the next one is lawful, and reserves all that committing that one needs. Returns
-    /// whether there is one.
-    fn prepare(&mut self, alloc: Global) -> Result<bool, AllocError>
-        ensures dropped { (n : ℕ) × (replica_of self.new ≡ counted (drain_for n (replica_of self.old))) × (self.new.document.entries ≡ self.old.document.entries) }
-        ensures none { result ≡ Ok false → next_of (replica_of self.new) ≡ None }
-        ensures next { result ≡ Ok true → (s : Stamped) × IsNextReady self.new s }
+    /// its id, or `None` if there is none.
+    fn prepare(&mut self, alloc: Global) -> Result<Option<OpId>, AllocError>
+        ensures dropped { (n : ℕ) × (replica_of self.new ≡ counted (drain_for n (replica_of self.old)))
+            × (self.new.document.entries ≡ self.old.document.entries) }
+        ensures none { result ≡ Ok None → next_of (replica_of self.new) ≡ None }
+        ensures next { (a : OpId) → result ≡ Ok (Some a) → (s : Stamped) × (s.id ≡ a) × IsNextReady self.new s }
     {
-        self.drop_faulty();
-        reserve_next(alloc, &mut self.document, &self.inbox)
-    }
-
-    /// Drops the smallest ready one as long as it is unlawful.
-    fn drop_faulty(&mut self)
-        ensures dropped { (n : ℕ) × (replica_of self.new ≡ counted (drain_for n (replica_of self.old))) × (self.new.document ≡ self.old.document) }
-        ensures faultless { (s : Stamped) → next_of (replica_of self.new) ≡ Some s → fault_of (stamped_entries self.new.document.entries) s ≡ None }
-    {
-        while let Some(id) = next_faulty(&self.document, &self.inbox) {
-            self.inbox.take(id);
-            self.dropped = self.dropped.saturating_add(1);
+        while let Some(turn) = next_turn(alloc, &mut self.document, &self.inbox)? {
+            match turn {
+                Turn::Append(id) => return Ok(Some(id)),
+                Turn::Drop(id) => {
+                    self.inbox.take(id);
+                    self.dropped = self.dropped.saturating_add(1);
+                }
+            }
         }
+        Ok(None)
     }
 
     /// The entries of the history, the oldest first. Takes no memory. What waits is dropped.
@@ -246,7 +247,8 @@ impl Replica {
 
 /// The own number, if it is one of the members.
 fn own_among(own: u32, members: &[u32]) -> Result<ReplicaId, Refusal>
-    ensures { MatchResult result (λ p. (p ≡ own) × IsTrue (is_member members.now own)) (λ why. (why ≡ BadConfig) × ((own ≡ 0) ⊎ IsFalse (is_member members.now own))) }
+    ensures { MatchResult result (λ p. (p ≡ own) × IsTrue (is_member members.now own))
+        (λ why. (why ≡ BadConfig) × ((own ≡ 0) ⊎ IsFalse (is_member members.now own))) }
 {
     if !members.contains(&own) {
         return Err(Refusal::BadConfig);

@@ -1,16 +1,13 @@
 //! The tests of an operation that is to wait, and of the next one that leaves the inbox.
 
-ghost use Rattle.std.specs.Prelude.{◌≡◌, true, false, Ok, Some, None, length, option_map, IfNone, IfSome, MatchResult};
-ghost use Rattle.ids.specs.declared.refusal.Refusal.{Refusal as ARefusal};
-ghost use Rattle.semantics.specs.LegalHistory.{IsAmong};
-ghost use Rattle.semantics.specs.Stamped.{Stamped};
+ghost use Rattle.std.specs.Prelude.{◌≡◌, Some, None, length, IfOk, MatchResult};
 ghost use Rattle.semantics.specs.Entries.{stamped_of as stamped_entries};
 ghost use Rattle.semantics.specs.Faults.{fault_of};
 ghost use Rattle.semantics.specs.Delivery.{Kept as IsKept, NotKept};
 ghost use Rattle.operation.specs.Meanings.{stamped_of};
-ghost use Rattle.document.specs.Documents.{HasRoomFor};
 ghost use Rattle.inbox.specs.Inboxes.{StandAlone};
-ghost use Rattle.replica.specs.Replicas.{answer_to_new, next_in, replica_with};
+ghost use Rattle.replica.specs.Replicas.{answer_to_new, replica_with};
+ghost use Rattle.replica.specs.Turns.{IsNextTurn};
 
 use crate::make::is_full;
 use document::Document;
@@ -55,46 +52,40 @@ fn check_ready(document: &Document, op: &Op) -> Result<(), Refusal>
     document.check(op)
 }
 
-/// The next operation that leaves: the smallest ready one, unless the history is full.
-pub fn next<'a>(document: &Document, inbox: &'a Inbox) -> Option<&'a Op>
-    requires { StandAlone document.now.table inbox.now }
-    ensures next { option_map (λ o. stamped_of document.now.table o.now) result ≡ next_in document.now inbox.now }
-    ensures among { IfSome result (λ o. IsAmong o.now inbox.now) }
-{
-    if is_full(document) {
-        return None;
-    }
-    inbox.smallest_ready(document)
+/// What the next turn of a drain does with the smallest ready operation.
+#[derive(Clone, Copy, Debug, PartialEq, Eq)]
+pub enum Turn {
+    /// It is lawful and appended. All that committing it needs is reserved.
+    Append(OpId),
+    /// It is unlawful and dropped.
+    Drop(OpId),
 }
 
-/// The id of the next one, if it is unlawful.
-pub fn next_faulty(document: &Document, inbox: &Inbox) -> Option<OpId>
-    requires { StandAlone document.now.table inbox.now }
-    ensures some { IfSome result (λ a. (s : Stamped) × (next_in document.now inbox.now ≡ Some s) × (s.id ≡ a) × ((why : ARefusal) × (fault_of (stamped_entries document.now.entries) s ≡ Some why))) }
-    ensures none { IfNone result ((s : Stamped) → next_in document.now inbox.now ≡ Some s → fault_of (stamped_entries document.now.entries) s ≡ None) }
-{
-    let op = next(document, inbox)?;
-    match check_ready(document, op) {
-        Ok(()) => None,
-        Err(_) => Some(op.id),
-    }
-}
-
-/// Reserves all that committing the next one needs. Returns whether there is one.
-pub fn reserve_next(
+/// What the next turn does, or `None` if nothing is ready or the history is full. The one search of a turn in the inbox.
+///
+/// # Errors
+/// `AllocError` if allocation fails.
+pub fn next_turn(
     alloc: Global,
     document: &mut Document,
     inbox: &Inbox,
-) -> Result<bool, AllocError>
+) -> Result<Option<Turn>, AllocError>
     requires { StandAlone document.old.table inbox.now }
     ensures table { document.new.table ≡ document.old.table }
     ensures entries { document.new.entries ≡ document.old.entries }
-    ensures none { result ≡ Ok false → next_in document.new inbox.now ≡ None }
-    ensures some { result ≡ Ok true → (s : Stamped) × (next_in document.new inbox.now ≡ Some s) × HasRoomFor document.new s }
+    ensures turn { IfOk result (λ t. IsNextTurn document.new inbox.now t) }
 {
-    let Some(op) = next(document, inbox) else {
-        return Ok(false);
+    if is_full(document) {
+        return Ok(None);
+    }
+    let Some(op) = inbox.smallest_ready(document) else {
+        return Ok(None);
     };
-    document.reserve(alloc, op)?;
-    Ok(true)
+    match check_ready(document, op) {
+        Ok(()) => {
+            document.reserve(alloc, op)?;
+            Ok(Some(Turn::Append(op.id)))
+        }
+        Err(_) => Ok(Some(Turn::Drop(op.id))),
+    }
 }

@@ -189,8 +189,8 @@ fn fill(
     requires alone { AreAsWide document.now.table inbox.old }
     ensures { AreAsWide document.now.table inbox.new }
 {
-    for place in 0..stuck {
-        let op = op(alloc, (place + 2, 2), [0, 0, place + 1], Writes::Map)?;
+    for index in 0..stuck {
+        let op = op(alloc, (index + 2, 2), [0, 0, index + 1], Writes::Map)?;
         answers(rt, inbox, op, document, KEPT)?;
     }
     Ok(())

@@ -48,7 +48,8 @@ add-requires-clause-lawful g c =
     let new = c.next_ready.new.self in
     let h = g.P.Publish.publication c.loop.publisher in
     let s = stamped_of new.document.table c.in-Some.op in
-    let n : IsNextReady new s = subst (λ (o : Option Op). IfSome o (λ op. IsNextReady new (stamped_of new.document.table op))) c.in-Some.is c.in_ok-op.ensures.ready in
+    let n : IsNextReady new s = subst
+    (λ (o : Option Op). IfSome o (λ op. IsNextReady new (stamped_of new.document.table op))) c.in-Some.is c.in_ok-op.ensures.ready in
     subst (λ ps. IsEntryHistory h.own (Peer (stamped_of ps c.in-Some.op) ∷ h.appended)) (sym w.holds.members)
     (may_follow _ _ _ _ _ w s n.next n.faultless c.requires.running)
 
@@ -58,7 +59,8 @@ add-requires-clause-room g c =
     let w = dropping_on _ _ _ _ _ c.loop.invariant (replica_of c.next_ready.new.self) d.0 c.requires.running d.1 d.2 in
     let new = c.next_ready.new.self in
     let s = stamped_of new.document.table c.in-Some.op in
-    let n : IsNextReady new s = subst (λ (o : Option Op). IfSome o (λ op. IsNextReady new (stamped_of new.document.table op))) c.in-Some.is c.in_ok-op.ensures.ready in
+    let n : IsNextReady new s = subst
+    (λ (o : Option Op). IfSome o (λ op. IsNextReady new (stamped_of new.document.table op))) c.in-Some.is c.in_ok-op.ensures.ready in
     has_room _ _ _ _ _ w s n.next n.faultless
 
 pub add-requires-clause-member : goal.add-requires-clause-member
@@ -66,7 +68,9 @@ add-requires-clause-member g c =
     let d = c.next_ready.ensures.dropped in
     let w = dropping_on _ _ _ _ _ c.loop.invariant (replica_of c.next_ready.new.self) d.0 c.requires.running d.1 d.2 in
     let new = c.next_ready.new.self in
-    let alone : fault_alone new.document.table c.in-Some.op ≡ None = subst (λ (o : Option Op). IfSome o (λ op. fault_alone new.document.table op ≡ None)) c.in-Some.is c.in_ok-op.ensures.alone in
+    let alone : fault_alone new.document.table c.in-Some.op
+    ≡ None = subst
+    (λ (o : Option Op). IfSome o (λ op. fault_alone new.document.table op ≡ None)) c.in-Some.is c.in_ok-op.ensures.alone in
     subst (λ ps. IsTrue (is_member ps c.in-Some.op.id.replica)) (sym w.holds.members) (member_alone new.document.table c.in-Some.op alone)
 
 pub add-requires-clause-width : goal.add-requires-clause-width
@@ -74,7 +78,9 @@ add-requires-clause-width g c =
     let d = c.next_ready.ensures.dropped in
     let w = dropping_on _ _ _ _ _ c.loop.invariant (replica_of c.next_ready.new.self) d.0 c.requires.running d.1 d.2 in
     let new = c.next_ready.new.self in
-    let alone : fault_alone new.document.table c.in-Some.op ≡ None = subst (λ (o : Option Op). IfSome o (λ op. fault_alone new.document.table op ≡ None)) c.in-Some.is c.in_ok-op.ensures.alone in
+    let alone : fault_alone new.document.table c.in-Some.op
+    ≡ None = subst
+    (λ (o : Option Op). IfSome o (λ op. fault_alone new.document.table op ≡ None)) c.in-Some.is c.in_ok-op.ensures.alone in
     width_alone new.document.table c.in-Some.op alone ∙ ap length (sym w.holds.members)
 
 pub returns-in_err-add-clause-partly : goal.returns-in_err-add-clause-partly
@@ -95,11 +101,13 @@ loop-preserved g c =
     let new = c.next_ready.new.self in
     let h = g.P.Publish.publication c.loop.publisher in
     let s = stamped_of new.document.table c.in-Some.op in
-    let n : IsNextReady new s = subst (λ (o : Option Op). IfSome o (λ op. IsNextReady new (stamped_of new.document.table op))) c.in-Some.is c.in_ok-op.ensures.ready in
+    let n : IsNextReady new s = subst
+    (λ (o : Option Op). IfSome o (λ op. IsNextReady new (stamped_of new.document.table op))) c.in-Some.is c.in_ok-op.ensures.ready in
     appending_on _ _ _ _ _ w s n.next n.faultless (g.P.Publish.publication c.add.new.self) (replica_of c.commit_peer.new.self)
     (c.in_ok-add.ensures ∙ ap (λ ps. with_entry h (Peer (stamped_of ps c.in-Some.op))) w.holds.members) c.commit_peer.ensures
 
 pub returns-clause-drained : goal.returns-clause-drained
 returns-clause-drained g c =
     let long = length-map c.args.replica.now.waiting (stamped_of c.args.replica.now.document.table) in
-    whole_by_count _ _ _ _ _ c.loop.invariant c.requires.running (let e = c.waiting_len-end.ensures.length in omega (arith, long, e, c.loop-test.false))
+    whole_by_count _ _ _ _ _ c.loop.invariant c.requires.running
+    (let e = c.waiting_len-end.ensures.length in omega (arith, long, e, c.loop-test.false))

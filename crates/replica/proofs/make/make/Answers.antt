@@ -1,4 +1,5 @@
-use Rattle.std.proofs.Common.{◌≡◌, Bool, List, false, nat_le, suc, inl, inr, ◌+◌, true, Result, Ok, Err, subst, length, sym, ap, ◌∙◌, add-one}
+use Rattle.std.proofs.Common.{◌≡◌, Bool, List, false, nat_le, suc, inl, inr, ◌+◌, true, Result, Ok, Err, subst, length, sym, ap, ◌∙◌}
+use Rattle.std.proofs.Common.{add-one}
 use Rattle.std.specs.Prelude.{IfErr, IsErrAnd}
 use Rattle.semantics.specs.LegalHistory.{greatest_of}
 use Rattle.semantics.specs.NamedIds.{vector_of}
@@ -34,7 +35,10 @@ returns-in_err-place-clause-err c =
     passed c.from_residual.result c.in_err-place.field-0.0 _ c.from_residual.ensures.1
     (elim c.in_err-place.ensures.err [
       | inl none ↦ inl none
-      | inr e ↦ inr (make-resolved (applied G) c.args.own command (Err c.in_err-place.field-0.0) (full G false (sym c.is_full.ensures ∙ c.if-is_full.false)) (ap (resolve (visible_items (doc (applied G)))) (sym c.expression.ensures) ∙ e))
+      | inr e ↦ inr
+          (make-resolved (applied G) c.args.own command (Err c.in_err-place.field-0.0)
+          (full G false (sym c.is_full.ensures ∙ c.if-is_full.false))
+          (ap (resolve (visible_items (doc (applied G)))) (sym c.expression.ensures) ∙ e))
     ])
 
 pub returns-in_err-check_place-clause-err : goal.returns-in_err-check_place-clause-err
@@ -42,7 +46,10 @@ returns-in_err-check_place-clause-err c =
     let G = c.args.document.now.entries in
     let command = command_of c.args.command.now in
     passed c.from_residual-in_err-check_place.result c.in_err-check_place.field-0.0 _ c.from_residual-in_err-check_place.ensures.1
-    (inr (make-placed (applied G) c.args.own command c.in_ok-place.place (Err c.in_err-check_place.field-0.0) (full G false (sym c.is_full.ensures ∙ c.if-is_full.false)) (ap (resolve (visible_items (doc (applied G)))) (sym c.expression.ensures) ∙ c.in_ok-place.ensures.ok) c.in_err-check_place.ensures))
+    (inr (make-placed (applied G) c.args.own command c.in_ok-place.place (Err c.in_err-check_place.field-0.0)
+    (full G false (sym c.is_full.ensures ∙ c.if-is_full.false))
+    (ap (resolve (visible_items (doc (applied G)))) (sym c.expression.ensures)
+    ∙ c.in_ok-place.ensures.ok) c.in_err-check_place.ensures))
 
 pub returns-clause-made : goal.returns-clause-made
 returns-clause-made c =
@@ -55,6 +62,13 @@ returns-clause-made c =
     add-one c.greatest-counter.result ∙ ap suc (c.greatest-counter.ensures ∙ c.applied-applied.ensures.greatest) in
     let vector : by_table table c.in_ok-deps.deps ≡ vector_of (applied G) = ap (by_table table) same_deps ∙ c.applied-applied.ensures.all in (
       made_at (applied G) c.args.own command c.in_ok-place.place,
-      make-placed (applied G) c.args.own command c.in_ok-place.place (Ok c.in_ok-place.place) room (ap (resolve (visible_items (doc (applied G)))) (sym c.expression.ensures) ∙ c.in_ok-place.ensures.ok) c.in_ok-check_place.ensures,
-      λ i. record { id = record { counter = counter i; replica = c.args.own }; vector = vector i; place = c.in_ok-place.place; mutation = c.in_ok-mutation.ensures i },
+      make-placed (applied G) c.args.own command c.in_ok-place.place (Ok c.in_ok-place.place) room
+          (ap (resolve (visible_items (doc (applied G)))) (sym c.expression.ensures)
+          ∙ c.in_ok-place.ensures.ok) c.in_ok-check_place.ensures,
+      λ i. record {
+        id = record { counter = counter i; replica = c.args.own };
+        vector = vector i;
+        place = c.in_ok-place.place;
+        mutation = c.in_ok-mutation.ensures i;
+      },
     )

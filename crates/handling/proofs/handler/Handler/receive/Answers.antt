@@ -22,6 +22,7 @@ returns-clause-handled g c x is floor =
     let s = received_of r.members c.args.op.now in
     let other : c.deliver-answer.result ≢ Err NoMemory = search rules in
     let d = c.deliver-answer.ensures.delivered other in
-    handled_peer (handler_of c.args.self.now) x s (outcome_of c.deliver-answer.result) (replica_of c.deliver-answer.new.replica) (replica_of c.drain.new.replica) (answer_of c.reply_to.result) is floor d.0 d.1
+    handled_peer (handler_of c.args.self.now) x s (outcome_of c.deliver-answer.result) (replica_of c.deliver-answer.new.replica)
+    (replica_of c.drain.new.replica) (answer_of c.reply_to.result) is floor d.0 d.1
     (c.reply_to.ensures ∙ ap (λ n. reply_delivered n (outcome_of c.deliver-answer.result)) c.history_len-2.ensures)
     c.drain.result c.drain.ensures.drained c.drain.ensures.partly c.is_err-self.result c.is_err-self.ensures.value

@@ -17,12 +17,15 @@ use Rattle.inbox.proofs.inbox.Inbox.put.Goals as goal
 pub invariant_of-self-in_default : goal.invariant_of-self-in_default
 invariant_of-self-in_default c =
     let d = c.self.inside in
-    kept_same d.ops c.insert.new.self d.keys.entries _ d.lead c.reserve_one.ensures.same (λ k. ap (λ (s : Slab Op). get s k) c.in_default.ensures.err) c.self.invariant
+    kept_same d.ops c.insert.new.self d.keys.entries _ d.lead c.reserve_one.ensures.same
+    (λ k. ap (λ (s : Slab Op). get s k) c.in_default.ensures.err) c.self.invariant
 
 pub returns-in_default-clause-among : goal.returns-in_default-clause-among
 returns-in_default-clause-among c o m =
     let d = c.self.inside in
-    let same = ap (ops_at c.insert.new.self) c.reserve_one.ensures.same ∙ same-ops_at d.ops c.insert.new.self d.keys.entries (λ k. ap (λ (s : Slab Op). get s k) c.in_default.ensures.err) ∙ c.self.view_is in
+    let same = ap (ops_at c.insert.new.self) c.reserve_one.ensures.same
+    ∙ same-ops_at d.ops c.insert.new.self d.keys.entries (λ k. ap (λ (s : Slab Op). get s k) c.in_default.ensures.err)
+    ∙ c.self.view_is in
     inr (subst (IsAmong o) same m)
 
 -- ---- the operation is kept
@@ -30,8 +33,11 @@ returns-in_default-clause-among c o m =
 pub invariant_of-self-2 : goal.invariant_of-self-2
 invariant_of-self-2 c =
     let d = c.self.inside in
-    let none = absent c.args.document.now.table d.ops d.keys.entries c.args.op.id c.self.invariant.at_keys (ap (λ ops. is_waiting (waiting_in c.args.document.now.table ops) c.args.op.id) c.self.view_is ∙ sym (c.contains.ensures c.args.document.now.table) ∙ c.if-contains.false) in
-    let lead : c.args.op.id.counter ≤ greatest_in c.args.op.deps + c.max-self-inside.result = omega (arith, c.greatest.ensures, c.saturating_sub-lead.ensures, c.max-self-inside.ensures) in
+    let none = absent c.args.document.now.table d.ops d.keys.entries c.args.op.id c.self.invariant.at_keys
+    (ap (λ ops. is_waiting (waiting_in c.args.document.now.table ops) c.args.op.id) c.self.view_is
+    ∙ sym (c.contains.ensures c.args.document.now.table) ∙ c.if-contains.false) in
+    let lead : c.args.op.id.counter ≤ greatest_in c.args.op.deps + c.max-self-inside.result = omega
+    (arith, c.greatest.ensures, c.saturating_sub-lead.ensures, c.max-self-inside.ensures) in
     let more : d.lead ≤ c.max-self-inside.result = omega (arith, c.max-self-inside.ensures) in
     kept_put d.ops c.insert.new.self d.keys.entries _ c.in-Ok.key c.args.op d.lead c.max-self-inside.result
     (c.put.ensures.entries ∙ ap (put id_cmp c.args.op.id c.in-Ok.key) c.reserve_one.ensures.same)
@@ -40,9 +46,13 @@ invariant_of-self-2 c =
 pub returns-clause-kept : goal.returns-clause-kept
 returns-clause-kept c table kept =
     let d = c.self.inside in
-    let none = absent table d.ops d.keys.entries c.args.op.id c.self.invariant.at_keys (ap (λ ops. is_waiting (waiting_in table ops) c.args.op.id) c.self.view_is ∙ sym (c.contains.ensures table) ∙ c.if-contains.false) in
-    ap (λ es. waiting_in table (ops_at c.insert.new.self es)) (c.put.ensures.entries ∙ ap (put id_cmp c.args.op.id c.in-Ok.key) c.reserve_one.ensures.same)
-    ∙ ap (waiting_in table) (put-ops_at d.ops c.insert.new.self d.keys.entries c.in-Ok.key c.args.op c.in-Ok.ensures.was_vacant c.in-Ok.ensures.updates none c.self.invariant.at_keys)
+    let none = absent table d.ops d.keys.entries c.args.op.id c.self.invariant.at_keys
+    (ap (λ ops. is_waiting (waiting_in table ops) c.args.op.id) c.self.view_is ∙ sym (c.contains.ensures table)
+    ∙ c.if-contains.false) in
+    ap (λ es. waiting_in table (ops_at c.insert.new.self es))
+    (c.put.ensures.entries ∙ ap (put id_cmp c.args.op.id c.in-Ok.key) c.reserve_one.ensures.same)
+    ∙ ap (waiting_in table)
+    (put-ops_at d.ops c.insert.new.self d.keys.entries c.in-Ok.key c.args.op c.in-Ok.ensures.was_vacant c.in-Ok.ensures.updates none c.self.invariant.at_keys)
     ∙ waiting-put table c.args.op (ops_at d.ops d.keys.entries)
     ∙ ap (λ ops. put_waiting (stamped_of table c.args.op) (waiting_in table ops)) c.self.view_is
 
@@ -50,7 +60,10 @@ pub returns-clause-among : goal.returns-clause-among
 returns-clause-among c o m =
     let d = c.self.inside in
     let table = c.args.document.now.table in
-    let none = absent table d.ops d.keys.entries c.args.op.id c.self.invariant.at_keys (ap (λ ops. is_waiting (waiting_in table ops) c.args.op.id) c.self.view_is ∙ sym (c.contains.ensures table) ∙ c.if-contains.false) in
+    let none = absent table d.ops d.keys.entries c.args.op.id c.self.invariant.at_keys
+    (ap (λ ops. is_waiting (waiting_in table ops) c.args.op.id) c.self.view_is ∙ sym (c.contains.ensures table)
+    ∙ c.if-contains.false) in
     let now = ap (ops_at c.insert.new.self) (c.put.ensures.entries ∙ ap (put id_cmp c.args.op.id c.in-Ok.key) c.reserve_one.ensures.same)
     ∙ put-ops_at d.ops c.insert.new.self d.keys.entries c.in-Ok.key c.args.op c.in-Ok.ensures.was_vacant c.in-Ok.ensures.updates none c.self.invariant.at_keys in
-    subst (λ ops. (o ≡ c.args.op) ⊎ IsAmong o ops) c.self.view_is (in_put c.args.op (ops_at d.ops d.keys.entries) o (subst (IsAmong o) now m))
+    subst (λ ops. (o ≡ c.args.op) ⊎ IsAmong o ops) c.self.view_is
+    (in_put c.args.op (ops_at d.ops d.keys.entries) o (subst (IsAmong o) now m))

@@ -12,20 +12,24 @@ use Rattle.inbox.proofs.inbox.Inbox.smallest_ready.Goals as goal
 
 -- ---- the next one is too far ahead
 
-none_first : (c : goal.Then-saturating_sub-greatest) → None ≡ first_ready (applied c.args.document.now.entries) (waiting_in c.args.document.now.table c.args.self.now)
+none_first : (c : goal.Then-saturating_sub-greatest)
+    → None ≡ first_ready (applied c.args.document.now.entries) (waiting_in c.args.document.now.table c.args.self.now)
 none_first c =
     let d = c.self.inside in
     let H = applied c.args.document.now.entries in
     let table = c.args.document.now.table in
     let es = d.keys.entries in
-    let left = subst (IsLeft H table d.ops es) (drop_at es c.loop-place.place c.at-id.result c.at-id.ensures) c.loop-place.invariant in
+    let left = subst (IsLeft H table d.ops es)
+    (drop_at es c.loop-position.position c.at-id.result c.at-id.ensures) c.loop-position.invariant in
     let greatest : c.greatest-greatest.result ≡ greatest_of (λ a. true) H = c.greatest-greatest.ensures ∙ c.applied.ensures.greatest in
     let far : greatest_of (λ a. true) H + d.lead < c.at-id.result.0.counter = omega arith in
-    sym (none_left H table d.ops es (drop (c.loop-place.place + 1) es) c.at-id.result d.lead left (subst (AreAsWide table) (sym c.self.view_is) c.requires.width) c.self.invariant.within far)
+    sym (none_left H table d.ops es (drop (c.loop-position.position + 1) es) c.at-id.result d.lead left
+    (subst (AreAsWide table) (sym c.self.view_is) c.requires.width) c.self.invariant.within far)
     ∙ ap (λ ops. first_ready H (waiting_in table ops)) c.self.view_is
 
 pub returns-then-saturating_sub-greatest-clause-none : goal.returns-then-saturating_sub-greatest-clause-none
-returns-then-saturating_sub-greatest-clause-none c = none_is_ready (applied c.args.document.now.entries) c.args.document.now.table c.args.self.now (sym (none_first c))
+returns-then-saturating_sub-greatest-clause-none c = none_is_ready
+    (applied c.args.document.now.entries) c.args.document.now.table c.args.self.now (sym (none_first c))
 
 pub returns-then-saturating_sub-greatest-clause-first : goal.returns-then-saturating_sub-greatest-clause-first
 returns-then-saturating_sub-greatest-clause-first c = none_first c
@@ -36,7 +40,8 @@ pub unreachable-requires : goal.unreachable-requires
 unreachable-requires c =
     let d = c.self.inside in
     let es = d.keys.entries in
-    let left = subst (IsLeft (applied c.args.document.now.entries) c.args.document.now.table d.ops es) (drop_at es c.loop-place.place c.at-id.result c.at-id.ensures) c.loop-place.invariant in
+    let left = subst (IsLeft (applied c.args.document.now.entries) c.args.document.now.table d.ops es)
+    (drop_at es c.loop-position.position c.at-id.result c.at-id.ensures) c.loop-position.invariant in
     let here = left.at_keys.0.1 in
     cc (c.in_default.ensures)
 
@@ -44,25 +49,31 @@ pub ready-requires : goal.ready-requires
 ready-requires c =
     let d = c.self.inside in
     let es = d.keys.entries in
-    let left = subst (IsLeft (applied c.args.document.now.entries) c.args.document.now.table d.ops es) (drop_at es c.loop-place.place c.at-id.result c.at-id.ensures) c.loop-place.invariant in
+    let left = subst (IsLeft (applied c.args.document.now.entries) c.args.document.now.table d.ops es)
+    (drop_at es c.loop-position.position c.at-id.result c.at-id.ensures) c.loop-position.invariant in
     let among = next_among _ c.args.document.now.table d.ops es _ c.at-id.result c.in-Some.op.now left (sym c.in-Some.ensures) in
     record { width = c.requires.width c.in-Some.op.now (subst (IsAmong c.in-Some.op.now) c.self.view_is among) }
 
-found : (c : goal.Then-ready) → Some (stamped_of c.args.document.now.table c.in-Some.op.now) ≡ first_ready (applied c.args.document.now.entries) (waiting_in c.args.document.now.table c.args.self.now)
+found : (c : goal.Then-ready)
+    → Some (stamped_of c.args.document.now.table c.in-Some.op.now)
+    ≡ first_ready (applied c.args.document.now.entries) (waiting_in c.args.document.now.table c.args.self.now)
 found c =
     let d = c.self.inside in
     let H = applied c.args.document.now.entries in
     let table = c.args.document.now.table in
     let es = d.keys.entries in
-    let left = subst (IsLeft H table d.ops es) (drop_at es c.loop-place.place c.at-id.result c.at-id.ensures) c.loop-place.invariant in
-    sym (found_ready H table d.ops es _ c.at-id.result c.in-Some.op.now left (sym c.in-Some.ensures) (sym c.ready.ensures ∙ c.if-ready.true))
+    let left = subst (IsLeft H table d.ops es)
+    (drop_at es c.loop-position.position c.at-id.result c.at-id.ensures) c.loop-position.invariant in
+    sym (found_ready H table d.ops es _ c.at-id.result c.in-Some.op.now left (sym c.in-Some.ensures)
+    (sym c.ready.ensures ∙ c.if-ready.true))
     ∙ ap (λ ops. first_ready H (waiting_in table ops)) c.self.view_is
 
 pub returns-then-ready-clause-some : goal.returns-then-ready-clause-some
 returns-then-ready-clause-some c =
     let d = c.self.inside in
     let es = d.keys.entries in
-    let left = subst (IsLeft (applied c.args.document.now.entries) c.args.document.now.table d.ops es) (drop_at es c.loop-place.place c.at-id.result c.at-id.ensures) c.loop-place.invariant in
+    let left = subst (IsLeft (applied c.args.document.now.entries) c.args.document.now.table d.ops es)
+    (drop_at es c.loop-position.position c.at-id.result c.at-id.ensures) c.loop-position.invariant in
     let among = next_among _ c.args.document.now.table d.ops es _ c.at-id.result c.in-Some.op.now left (sym c.in-Some.ensures) in
     first_is_least (applied c.args.document.now.entries) c.args.document.now.table c.args.self.now c.in-Some.op.now
     (subst AreRising c.self.view_is c.self.invariant.rising) (subst (IsAmong c.in-Some.op.now) c.self.view_is among) (sym (found c))
@@ -70,13 +81,14 @@ returns-then-ready-clause-some c =
 pub returns-then-ready-clause-first : goal.returns-then-ready-clause-first
 returns-then-ready-clause-first c = found c
 
-pub loop-place-preserved : goal.loop-place-preserved
-loop-place-preserved c =
+pub loop-position-preserved : goal.loop-position-preserved
+loop-position-preserved c =
     let d = c.self.inside in
     let H = applied c.args.document.now.entries in
     let table = c.args.document.now.table in
     let es = d.keys.entries in
-    let left = subst (IsLeft H table d.ops es) (drop_at es c.loop-place.place c.at-id.result c.at-id.ensures) c.loop-place.invariant in
+    let left = subst (IsLeft H table d.ops es)
+    (drop_at es c.loop-position.position c.at-id.result c.at-id.ensures) c.loop-position.invariant in
     one_less H table d.ops es _ c.at-id.result c.in-Some.op.now left (sym c.in-Some.ensures) (sym c.ready.ensures ∙ c.if-ready.false)
 
 -- ---- none is left
@@ -87,6 +99,8 @@ returns-clause-none c =
     let H = applied c.args.document.now.entries in
     let table = c.args.document.now.table in
     let es = d.keys.entries in
-    let ended : drop c.loop-place.place es ≡ [] = drop_all c.loop-place.place es (omega (arith, c.len-place-end.ensures.length, c.loop-place-test.false)) in
-    let none : first_ready H (waiting_in table (ops_at d.ops es)) ≡ None = c.loop-place.invariant.first ∙ ap (λ (rest : List (OpId × ℕ)). first_ready H (waiting_in table (ops_at d.ops rest))) ended in
+    let ended : drop c.loop-position.position es
+    ≡ [] = drop_all c.loop-position.position es (omega (arith, c.len-position-end.ensures.length, c.loop-position-test.false)) in
+    let none : first_ready H (waiting_in table (ops_at d.ops es)) ≡ None = c.loop-position.invariant.first
+    ∙ ap (λ (rest : List (OpId × ℕ)). first_ready H (waiting_in table (ops_at d.ops rest))) ended in
     none_is_ready H table c.args.self.now (subst (λ (ops : List Op). first_ready H (waiting_in table ops) ≡ None) c.self.view_is none)

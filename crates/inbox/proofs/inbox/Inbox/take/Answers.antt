@@ -38,7 +38,8 @@ returns-in_err-key-clause-left c table =
 pub returns-in_err-key-clause-among : goal.returns-in_err-key-clause-among
 returns-in_err-key-clause-among c o m =
     let d = c.self.inside in
-    let left = ap (ops_at d.ops) c.remove.ensures.entries ∙ left-ops_at d.ops d.ops d.keys.entries c.args.id (λ k o at differs. refl) c.self.invariant.at_keys in
+    let left = ap (ops_at d.ops) c.remove.ensures.entries
+    ∙ left-ops_at d.ops d.ops d.keys.entries c.args.id (λ k o at differs. refl) c.self.invariant.at_keys in
     subst (IsAmong o) c.self.view_is (in_without c.args.id (ops_at d.ops d.keys.entries) o (subst (IsAmong o) left m))
 
 -- ---- an operation was found
@@ -47,7 +48,8 @@ pub invariant_of-self-2 : goal.invariant_of-self-2
 invariant_of-self-2 c =
     let d = c.self.inside in
     let f = found d.ops d.keys.entries c.args.id c.in_ok-key.key c.self.invariant.at_keys (sym c.in_ok-key.ensures.number) in
-    let keeps = keeps_others d.ops c.try_remove.new.self (ops_at d.ops d.keys.entries) c.args.id c.in_ok-key.key f c.try_remove.ensures.updates in
+    let keeps = keeps_others d.ops c.try_remove.new.self
+    (ops_at d.ops d.keys.entries) c.args.id c.in_ok-key.key f c.try_remove.ensures.updates in
     kept_left d.ops c.try_remove.new.self d.keys.entries _ c.args.id d.lead c.remove.ensures.entries keeps c.self.invariant
 
 pub returns-clause-some : goal.returns-clause-some
@@ -66,7 +68,8 @@ pub returns-clause-left : goal.returns-clause-left
 returns-clause-left c table =
     let d = c.self.inside in
     let f = found d.ops d.keys.entries c.args.id c.in_ok-key.key c.self.invariant.at_keys (sym c.in_ok-key.ensures.number) in
-    let keeps = keeps_others d.ops c.try_remove.new.self (ops_at d.ops d.keys.entries) c.args.id c.in_ok-key.key f c.try_remove.ensures.updates in
+    let keeps = keeps_others d.ops c.try_remove.new.self
+    (ops_at d.ops d.keys.entries) c.args.id c.in_ok-key.key f c.try_remove.ensures.updates in
     ap (λ es. waiting_in table (ops_at c.try_remove.new.self es)) c.remove.ensures.entries
     ∙ ap (waiting_in table) (left-ops_at d.ops c.try_remove.new.self d.keys.entries c.args.id keeps c.self.invariant.at_keys)
     ∙ waiting-without table c.args.id (ops_at d.ops d.keys.entries)
@@ -76,6 +79,8 @@ pub returns-clause-among : goal.returns-clause-among
 returns-clause-among c o m =
     let d = c.self.inside in
     let f = found d.ops d.keys.entries c.args.id c.in_ok-key.key c.self.invariant.at_keys (sym c.in_ok-key.ensures.number) in
-    let keeps = keeps_others d.ops c.try_remove.new.self (ops_at d.ops d.keys.entries) c.args.id c.in_ok-key.key f c.try_remove.ensures.updates in
-    let left = ap (ops_at c.try_remove.new.self) c.remove.ensures.entries ∙ left-ops_at d.ops c.try_remove.new.self d.keys.entries c.args.id keeps c.self.invariant.at_keys in
+    let keeps = keeps_others d.ops c.try_remove.new.self
+    (ops_at d.ops d.keys.entries) c.args.id c.in_ok-key.key f c.try_remove.ensures.updates in
+    let left = ap (ops_at c.try_remove.new.self) c.remove.ensures.entries
+    ∙ left-ops_at d.ops c.try_remove.new.self d.keys.entries c.args.id keeps c.self.invariant.at_keys in
     subst (IsAmong o) c.self.view_is (in_without c.args.id (ops_at d.ops d.keys.entries) o (subst (IsAmong o) left m))

@@ -8,15 +8,18 @@ use Rattle.replica.proofs.replica.Replica.commit_own.Goals as goal
 pub commit-requires-clause-lawful : goal.commit-requires-clause-lawful
 commit-requires-clause-lawful c =
     let d = c.self.inside.document in
-    may_append c.self.inside.own c.args.client c.args.serial (command_of c.args.command) d.entries (stamped_of d.table c.args.op) c.self.invariant.running.history
+    may_append c.self.inside.own c.args.client c.args.serial (command_of c.args.command) d.entries
+    (stamped_of d.table c.args.op) c.self.invariant.running.history
     (subst (λ (r : Running). IsAbove c.args.client c.args.serial r.document.entries) (sym c.self.view_is) c.requires.above)
-    (subst (λ (r : Running). IsMade r.document.entries r.own (command_of c.args.command) (stamped_of r.document.table c.args.op)) (sym c.self.view_is) c.requires.made)
+    (subst (λ (r : Running). IsMade r.document.entries r.own (command_of c.args.command) (stamped_of r.document.table c.args.op))
+    (sym c.self.view_is) c.requires.made)
 
 pub invariant_of-self : goal.invariant_of-self
 invariant_of-self c =
     let d = c.self.inside.document in
     own_appended _ c.commit.new.self c.args.client c.args.serial (command_of c.args.command) (stamped_of d.table c.args.op) c.self.invariant
-    (subst (λ (r : Running). IsMade r.document.entries r.own (command_of c.args.command) (stamped_of r.document.table c.args.op)) (sym c.self.view_is) c.requires.made)
+    (subst (λ (r : Running). IsMade r.document.entries r.own (command_of c.args.command) (stamped_of r.document.table c.args.op))
+    (sym c.self.view_is) c.requires.made)
     (subst (λ (r : Running). IsAbove c.args.client c.args.serial r.document.entries) (sym c.self.view_is) c.requires.above)
     c.commit.ensures.table
     c.commit.ensures.entries

@@ -10,4 +10,5 @@ returns-in_err-own-clause-bad_config c = (λ e. none_opened c.args.members.now c
 pub invariant_of-result : goal.invariant_of-result
 invariant_of-result c =
     opened _ c.in_ok-document.ensures.new.1 c.new-2.ensures refl
-    (ap (λ ps. is_member ps c.in_ok-own.own) c.in_ok-document.ensures.new.0 ∙ is_member-in_order c.args.members.now c.in_ok-own.own ∙ ap (is_member c.args.members.now) c.in_ok-own.ensures.0 ∙ c.in_ok-own.ensures.1)
+    (ap (λ ps. is_member ps c.in_ok-own.own) c.in_ok-document.ensures.new.0 ∙ is_member-in_order c.args.members.now c.in_ok-own.own
+    ∙ ap (is_member c.args.members.now) c.in_ok-own.ensures.0 ∙ c.in_ok-own.ensures.1)

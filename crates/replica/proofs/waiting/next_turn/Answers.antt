@@ -1,0 +1,20 @@
+use Rattle.std.proofs.Common.{◌≡◌, Bool, false, cond, Option, Some, None, refl, sym, ap, ◌∙◌}
+use Rattle.semantics.specs.Making.{is_full}
+use Rattle.semantics.specs.Stamped.{Stamped}
+use Rattle.operation.specs.Meanings.{stamped_of}
+use Rattle.replica.proofs.waiting.next_turn.Goals as goal
+
+-- where the history has room, the first ready one is next
+with_room : (full : Bool) (first : Option Stamped) (s : Stamped) → full ≡ false → Some s ≡ first → cond full None first ≡ Some s
+with_room full first s room e = ap (λ b. cond b None first) room ∙ sym e
+
+pub returns-in-Err-clause-turn : goal.returns-in-Err-clause-turn
+returns-in-Err-clause-turn c =
+    let d = c.args.document.now in
+    record {
+      next = stamped_of d.table c.in-Some.op.now;
+      is_next = with_room (is_full d.entries) _ _ (sym c.is_full.ensures ∙ c.if-is_full.false) c.in-Some.ensures.first;
+      id = refl;
+      why = c.in-Err.field-0;
+      fault = c.in-Err.ensures;
+    }

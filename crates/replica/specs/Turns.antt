@@ -1,0 +1,34 @@
+-- What the next turn of a drain does.
+use Rattle.std.specs.Prelude.{◌≡◌, Option, Some, None, List}
+use Rattle.ids.specs.declared.refusal.Refusal.{Refusal}
+use Rattle.semantics.specs.Ids.{OpId}
+use Rattle.semantics.specs.Stamped.{Stamped}
+use Rattle.semantics.specs.Faults.{fault_of}
+use Rattle.semantics.specs.Entries.{stamped_of}
+use Rattle.operation.specs.declared.op.Op.{Op}
+use Rattle.document.specs.Documents.{HasRoomFor, Kept}
+use Rattle.replica.specs.Replicas.{next_in}
+use Rattle.replica.specs.declared.waiting.Turn.{Turn}
+use Rattle.replica.specs.declared.waiting.Turn.TheVariants.{Append, Drop}
+
+-- the next one that leaves has this id and no fault, and can be appended with no memory taken
+pub record IsAppended (d : Kept) (ws : List Op) (a : OpId) : Type 0 where
+  pub next : Stamped
+  pub is_next : next_in d ws ≡ Some next
+  pub id : next.id ≡ a
+  pub faultless : fault_of (stamped_of d.entries) next ≡ None
+  pub room : HasRoomFor d next
+
+-- the next one that leaves has this id and a fault
+pub record IsDropped (d : Kept) (ws : List Op) (a : OpId) : Type 0 where
+  pub next : Stamped
+  pub is_next : next_in d ws ≡ Some next
+  pub id : next.id ≡ a
+  pub why : Refusal
+  pub fault : fault_of (stamped_of d.entries) next ≡ Some why
+
+-- what a turn does where these wait beside the document
+abbrev pub IsNextTurn : Kept → List Op → Option Turn → Type 0
+IsNextTurn d ws None = next_in d ws ≡ None
+IsNextTurn d ws (Some (Append a)) = IsAppended d ws a
+IsNextTurn d ws (Some (Drop a)) = IsDropped d ws a
