@@ -3,7 +3,8 @@ use Rattle.std.proofs.Common.{◌≡◌, reverse, ℕ, Option, Some, None, false
 use Rattle.ids.specs.declared.refusal.Refusal.{Refusal}
 use Rattle.semantics.specs.Questions.{ValuesAre, KeysAre, ItemsAre, ConflictsAre, VectorIs, Refused}
 use Rattle.semantics.specs.LegalAnswer.{Reply, Made, NotMade, KeptAt, KnownAt, Reading, Answered, MissingAre}
-use Rattle.semantics.specs.Engine.{StepReply, Ticket, Denied, Took, Published, Gave, Idle, Unanswered, Replied, Read, Seen, SentHello, SentBundle, NoMessage, Received, Dropped}
+use Rattle.semantics.specs.Engine.{StepReply, Ticket, Denied, Took, Published, Gave, Idle, Unanswered, Replied, Read, Seen, SentHello}
+use Rattle.semantics.specs.Engine.{SentBundle, NoMessage, Received, Dropped}
 use Rattle.serde_json.specs.Data.{string}
 use Rattle.serde_json.specs.Written.{has_float}
 use Rattle.wire.specs.Operations.{id_json, operation_json}
@@ -20,12 +21,13 @@ has_float-reading_json seen (Answered (Refused why)) = refl
 has_float-reading_json seen (MissingAre ss) = rw (no_float_in operation_json has_float-operation_json (reverse ss)) refl
 
 has_float-reply_json : (r : Reply) → has_float (reply_json r) ≡ false
-has_float-reply_json (Made id place) = refl
+has_float-reply_json (Made id position) = refl
 has_float-reply_json (NotMade why length) = refl
 has_float-reply_json (KeptAt length) = refl
 has_float-reply_json (KnownAt length) = refl
 
-has_float-received_json : (first operations : ℕ) (stopped : Option (ℕ × Refusal)) → has_float (received_json first operations stopped) ≡ false
+has_float-received_json : (first operations : ℕ) (stopped : Option (ℕ × Refusal))
+    → has_float (received_json first operations stopped) ≡ false
 has_float-received_json first operations None = refl
 has_float-received_json first operations (Some bad) = refl
 

@@ -4,7 +4,7 @@ use Rattle.ids.specs.Configurations.{Configuration}
 use Rattle.ids.specs.declared.refusal.Refusal.{Refusal}
 use Rattle.ids.specs.declared.refusal.Refusal.TheVariants.{BadLine}
 use Rattle.semantics.specs.World.{WorldStep}
-use Rattle.wire.specs.Lines.{Bad, HasNoEnd, IsFirstLine, unless_bad}
+use Rattle.json_lines.specs.Lines.{Bad, HasNoEnd, IsFirstLine, unless_bad}
 use Rattle.scripts.specs.Steps.{step_line}
 use Rattle.scripts.specs.Engines.{engines_line}
 use Rattle.scripts.specs.Scripts.{script_form, steps_left}
@@ -14,7 +14,8 @@ use Rattle.wire.proofs.CutLines.{cut-first_line, cut-no_end}
 abbrev pub after : List WorldStep → Result (List WorldStep) Bad → Result (List WorldStep) Bad
 after steps = unless_bad (λ ss. Ok (steps ++ ss))
 
-after-one : (steps : List WorldStep) (s : WorldStep) (r : Result (List WorldStep) Bad) → after steps (unless_bad (λ ss. Ok (s ∷ ss)) r) ≡ after (steps ++ s ∷ []) r
+after-one : (steps : List WorldStep) (s : WorldStep) (r : Result (List WorldStep) Bad)
+    → after steps (unless_bad (λ ss. Ok (s ∷ ss)) r) ≡ after (steps ++ s ∷ []) r
 after-one steps s (Ok ss) = simp append_assoc
 after-one steps s (Err bad) = refl
 

@@ -39,7 +39,8 @@ delete_of-wrong_length [] h = refl
 delete_of-wrong_length (a ∷ []) h = absurd (h refl)
 delete_of-wrong_length (a ∷ b ∷ xs) h = refl
 
-pub asking_of-wrong_length : (what : List Step → Question) → (xs : List Value) → length xs ≢ 1 → asking_of what (items_view xs) ≡ Err BadLine
+pub asking_of-wrong_length : (what : List Step → Question) → (xs : List Value) → length xs ≢ 1
+    → asking_of what (items_view xs) ≡ Err BadLine
 asking_of-wrong_length what [] h = refl
 asking_of-wrong_length what (a ∷ []) h = absurd (h refl)
 asking_of-wrong_length what (a ∷ b ∷ xs) h = refl

@@ -4,7 +4,7 @@ use Rattle.ids.specs.declared.refusal.Refusal.{Refusal}
 use Rattle.ids.specs.declared.refusal.Refusal.TheVariants.{NoMemory}
 use Rattle.scripts.specs.declared.error.ScriptError.{ScriptError}
 use Rattle.scripts.specs.declared.error.ScriptError.TheVariants as error
-use Rattle.wire.specs.Lines.{Bad}
+use Rattle.json_lines.specs.Lines.{Bad}
 
 -- a failed allocation is no line's fault
 abbrev pub error_of : ℕ → Refusal → ScriptError

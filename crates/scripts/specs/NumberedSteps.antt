@@ -5,7 +5,7 @@ use Rattle.ids.specs.declared.refusal.Refusal.{Refusal}
 use Rattle.ids.specs.declared.refusal.Refusal.TheVariants.{BadLine}
 use Rattle.semantics.specs.World.{WorldStep, Take, Publish, Give, Whole, Poll, Learn, SayHello, AnswerHello, Deliver, CountDropped, step_by}
 use Rattle.serde_json.specs.Data.{Items}
-use Rattle.wire.specs.Forms.{and_then}
+use Rattle.json_lines.specs.Forms.{and_then}
 use Rattle.scripts.specs.Numbers.{one_number, two_numbers, three_numbers, four_numbers}
 
 -- a step that has an engine alone
@@ -20,9 +20,11 @@ engine_step_of p = if bytes_eq p.0 (codes "take") then and_then (λ e. Ok (step_
 abbrev pub message_step_of : List ℕ × Items → Result WorldStep Refusal
 message_step_of p = if bytes_eq p.0 (codes "hello") then and_then (λ n. Ok (step_by n.0 (SayHello n.1))) (two_numbers p.1)
     else (if bytes_eq p.0 (codes "bundle") then and_then (λ n. Ok (step_by n.0 (AnswerHello n.1 n.2))) (three_numbers p.1)
-    else (if bytes_eq p.0 (codes "deliver") then and_then (λ n. Ok (step_by n.0 (Deliver n.1 n.2))) (three_numbers p.1) else engine_step_of p))
+    else (if bytes_eq p.0 (codes "deliver") then and_then
+    (λ n. Ok (step_by n.0 (Deliver n.1 n.2))) (three_numbers p.1) else engine_step_of p))
 
 -- a step with a serial: a client that polls it, a token that learns of a client's; or another one of numbers
 abbrev pub numbered_step_of : List ℕ × Items → Result WorldStep Refusal
 numbered_step_of p = if bytes_eq p.0 (codes "poll") then and_then (λ n. Ok (step_by n.0 (Poll n.1 n.2))) (three_numbers p.1)
-    else (if bytes_eq p.0 (codes "learn") then and_then (λ n. Ok (step_by n.0 (Learn n.1 n.2 n.3))) (four_numbers p.1) else message_step_of p)
+    else (if bytes_eq p.0 (codes "learn") then and_then
+    (λ n. Ok (step_by n.0 (Learn n.1 n.2 n.3))) (four_numbers p.1) else message_step_of p)

@@ -3,7 +3,7 @@ use Rattle.std.specs.Prelude.{ℕ, Result, Ok, Err}
 use Rattle.ids.specs.declared.refusal.Refusal.{Refusal}
 use Rattle.ids.specs.declared.refusal.Refusal.TheVariants.{BadLine}
 use Rattle.serde_json.specs.Data.{Items, no_items, item}
-use Rattle.wire.specs.Forms.{and_then, number_form}
+use Rattle.json_lines.specs.Forms.{and_then, number_form}
 
 abbrev pub one_number : Items → Result ℕ Refusal
 one_number (item x no_items) = number_form x
@@ -20,5 +20,7 @@ three_numbers _ = Err BadLine
 
 abbrev pub four_numbers : Items → Result (ℕ × ℕ × ℕ × ℕ) Refusal
 four_numbers (item w (item x (item y (item z no_items)))) =
-    and_then (λ k. and_then (λ m. and_then (λ n. and_then (λ o. Ok (k, m, n, o)) (number_form z)) (number_form y)) (number_form x)) (number_form w)
+    and_then
+    (λ k. and_then
+    (λ m. and_then (λ n. and_then (λ o. Ok (k, m, n, o)) (number_form z)) (number_form y)) (number_form x)) (number_form w)
 four_numbers _ = Err BadLine

@@ -52,7 +52,7 @@ reading_json seen (MissingAre ss) = phrase (codes "reading") (count seen ∷ arr
 
 -- the answer to what was submitted
 abbrev pub reply_json : Reply → Data
-reply_json (Made id place) = phrase (codes "made") (id_json id ∷ count place ∷ [])
+reply_json (Made id position) = phrase (codes "made") (id_json id ∷ count position ∷ [])
 reply_json (NotMade why length) = phrase (codes "refused") (string (refusal_name why) ∷ count length ∷ [])
 reply_json (KeptAt length) = phrase (codes "kept") (count length ∷ [])
 reply_json (KnownAt length) = phrase (codes "known") (count length ∷ [])
@@ -60,7 +60,8 @@ reply_json (KnownAt length) = phrase (codes "known") (count length ∷ [])
 -- the first serial and how many operations were submitted, and the line where that stopped
 abbrev pub received_json : ℕ → ℕ → Option (ℕ × Refusal) → Data
 received_json first operations None = phrase (codes "received") (count first ∷ count operations ∷ [])
-received_json first operations (Some bad) = phrase (codes "received") (count first ∷ count operations ∷ count bad.0 ∷ string (refusal_name bad.1) ∷ [])
+received_json first operations (Some bad) = phrase (codes "received")
+    (count first ∷ count operations ∷ count bad.0 ∷ string (refusal_name bad.1) ∷ [])
 
 -- what a step replies
 abbrev pub step_reply_json : StepReply → Data

@@ -8,7 +8,7 @@ use Rattle.ids.specs.declared.refusal.Refusal.TheVariants.{BadLine}
 use Rattle.semantics.specs.World.{WorldStep, Push, Ask, Lines, step_by}
 use Rattle.serde_json.specs.Data.{Data, Items, no_items, item}
 use Rattle.wire.specs.Bundles.{Readable, readable}
-use Rattle.wire.specs.Forms.{and_then, json_form, number_form, phrase_form, text_form}
+use Rattle.json_lines.specs.Forms.{and_then, json_form, number_form, phrase_form, text_form}
 use Rattle.world.specs.Worlds.{table_at}
 use Rattle.scripts.specs.NumberedSteps.{numbered_step_of}
 use Rattle.scripts.specs.Presence.{if_there}
@@ -17,13 +17,17 @@ use Rattle.scripts.specs.Requests.{command_form, question_form}
 -- an engine, a client and a command
 abbrev pub push_of : Items → Result WorldStep Refusal
 push_of (item engine (item client (item command no_items))) =
-    and_then (λ e. and_then (λ c. and_then (λ k. Ok (step_by e (Push c k))) (command_form command)) (number_form client)) (number_form engine)
+    and_then
+    (λ e. and_then (λ c. and_then (λ k. Ok (step_by e (Push c k))) (command_form command)) (number_form client)) (number_form engine)
 push_of _ = Err BadLine
 
 -- an engine, a token and a question, where the engines have these tables
 abbrev pub ask_of : List (List ℕ) → Items → Result WorldStep Refusal
 ask_of tables (item engine (item token (item question no_items))) =
-    and_then (λ e. and_then (λ t. and_then (λ q. Ok (step_by e (Ask t q))) (question_form (slice_get tables e) question)) (number_form token)) (number_form engine)
+    and_then
+    (λ e. and_then
+    (λ t. and_then
+    (λ q. Ok (step_by e (Ask t q))) (question_form (slice_get tables e) question)) (number_form token)) (number_form engine)
 ask_of tables _ = Err BadLine
 
 -- a client receives what can be read of lines
@@ -33,7 +37,11 @@ lines_step e c r = step_by e (Lines c r.operations r.stopped)
 -- an engine, a client and a text of any lines
 abbrev pub line_of : List (List ℕ) → Items → Result WorldStep Refusal
 line_of tables (item engine (item client (item text no_items))) =
-    and_then (λ e. and_then (λ c. and_then (λ bytes. Ok (lines_step e c (readable (table_at tables e) bytes))) (text_form text)) (number_form client)) (number_form engine)
+    and_then
+    (λ e. and_then
+    (λ c. and_then
+    (λ bytes. Ok (lines_step e c (readable (table_at tables e) bytes))) (text_form text)) (number_form client))
+    (number_form engine)
 line_of tables _ = Err BadLine
 
 -- by its word

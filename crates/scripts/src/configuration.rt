@@ -5,14 +5,14 @@ ghost use Rattle.std.specs.Prelude.{◌≡◌, ◌⊎◌, Ok, Err, IfOk, IfErr, 
 ghost use Rattle.std.specs.List.{list_all};
 ghost use Rattle.ids.specs.declared.refusal.Refusal.TheVariants.{NoMemory, BadConfig};
 ghost use Rattle.serde_json.specs.View.{view, items_view};
-ghost use Rattle.wire.specs.Forms.{IsRead, IsUnlessMemory};
+ghost use Rattle.json_lines.specs.Forms.{IsRead, IsUnlessMemory};
 ghost use Rattle.scripts.specs.Engines.{all_fit, engine_form, engines_of, fits, numbers_of, only_engines, said_engines, world_form};
 
 use ids::{Config, Refusal};
+use json_lines::{json_of, list_in, number_in, phrase_in};
 use serde_json::Value;
 use std::alloc::Global;
 use std::marker::Model;
-use wire::{json_of, list_in, number_in, phrase_in};
 
 /// An engine as a script has it, with numbers of any size. Contracts see the configuration.
 #[derive(Debug, Drop)]
@@ -31,7 +31,15 @@ impl Model for Engine {
 
     ghost Value = { Configuration };
 
-    ghost view = { λ e. record { own = e.own; members = e.members.items; clients = e.clients; readers = e.readers; queue = e.queue; batch = e.batch; serials = e.serials } };
+    ghost view = { λ e. record {
+      own = e.own;
+      members = e.members.items;
+      clients = e.clients;
+      readers = e.readers;
+      queue = e.queue;
+      batch = e.batch;
+      serials = e.serials;
+    } };
 }
 
 /// The engines that a script's first line opens, from 1 to 16 of them. Whether they are within the limits is for the world to test.
@@ -95,7 +103,8 @@ fn engine_in(alloc: Global, value: &Value) -> Result<Engine, Refusal>
 }
 
 fn numbers_in(alloc: Global, parts: &[Value]) -> Result<Vec<u64>, Refusal>
-    ensures { MatchResult result (λ v. numbers_of (items_view parts.now) ≡ Ok v.items) (λ why. IsUnlessMemory (Err why) (numbers_of (items_view parts.now))) }
+    ensures { MatchResult result (λ v. numbers_of (items_view parts.now) ≡ Ok v.items)
+        (λ why. IsUnlessMemory (Err why) (numbers_of (items_view parts.now))) }
 {
     let mut numbers = Vec::new(alloc);
     for part in parts {

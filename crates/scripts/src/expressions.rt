@@ -4,14 +4,14 @@ ghost use Rattle.std.specs.Prelude.{map};
 ghost use Rattle.cursor.specs.Meanings.{step_of};
 ghost use Rattle.serde_json.specs.View.{view, items_view};
 ghost use Rattle.scripts.specs.Expressions.{expression_form, path_step_form, path_steps_of};
-ghost use Rattle.wire.specs.Forms.{IsRead, IsUnlessMemory};
+ghost use Rattle.json_lines.specs.Forms.{IsRead, IsUnlessMemory};
 
 use cursor::{Expr, Step};
 use ids::Refusal;
+use json_lines::{list_in, number_in};
 use serde_json::Value;
 use std::alloc::Global;
 use value::Key;
-use wire::{list_in, number_in};
 
 /// An expression: a list of keys and of indices in lists.
 pub fn expression_in(alloc: Global, value: &Value) -> Result<Expr, Refusal>

@@ -3,7 +3,7 @@
 ghost use Rattle.std.specs.Prelude.{List, ℕ, IfOk};
 ghost use Rattle.serde_json.specs.View.{items_view};
 ghost use Rattle.world.specs.Worlds.{IsAskedBeside, step_in as step_meant};
-ghost use Rattle.wire.specs.Forms.{IsRead};
+ghost use Rattle.json_lines.specs.Forms.{IsRead};
 ghost use Rattle.scripts.specs.NumberedSteps.{engine_step_of, message_step_of, numbered_step_of};
 
 use crate::numbers::{four_in, one_in, three_in, two_in};

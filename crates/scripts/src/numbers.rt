@@ -3,15 +3,15 @@
 
 ghost use Rattle.std.specs.Prelude.{◌≡◌};
 ghost use Rattle.serde_json.specs.View.{view, items_view};
-ghost use Rattle.wire.specs.Forms.{number_form};
+ghost use Rattle.json_lines.specs.Forms.{number_form};
 ghost use Rattle.scripts.specs.Numbers.{one_number, two_numbers, three_numbers, four_numbers};
 
 use ids::Refusal;
+use json_lines::number_in;
 use serde_json::Value;
-use wire::number_in;
 
 /// The number of an engine, a client or a token.
-pub fn place_in(value: &Value) -> Result<usize, Refusal>
+pub fn index_in(value: &Value) -> Result<usize, Refusal>
     ensures { result ≡ number_form (view value.now) }
 {
     Ok(number_in(value)? as usize)
@@ -24,7 +24,7 @@ pub fn one_in(parts: &[Value]) -> Result<usize, Refusal>
     let [engine] = parts else {
         return Err(Refusal::BadLine);
     };
-    place_in(engine)
+    index_in(engine)
 }
 
 /// An engine and a token.
@@ -34,17 +34,17 @@ pub fn two_in(parts: &[Value]) -> Result<(usize, usize), Refusal>
     let [engine, token] = parts else {
         return Err(Refusal::BadLine);
     };
-    Ok((place_in(engine)?, place_in(token)?))
+    Ok((index_in(engine)?, index_in(token)?))
 }
 
 /// An engine, a client or a token, and a serial or a message.
 pub fn three_in(parts: &[Value]) -> Result<(usize, usize, u64), Refusal>
     ensures { result ≡ three_numbers (items_view parts.now) }
 {
-    let [engine, place, number] = parts else {
+    let [engine, index, number] = parts else {
         return Err(Refusal::BadLine);
     };
-    Ok((place_in(engine)?, place_in(place)?, number_in(number)?))
+    Ok((index_in(engine)?, index_in(index)?, number_in(number)?))
 }
 
 /// An engine, a token, a client and a serial.
@@ -55,9 +55,9 @@ pub fn four_in(parts: &[Value]) -> Result<(usize, usize, usize, u64), Refusal>
         return Err(Refusal::BadLine);
     };
     Ok((
-        place_in(engine)?,
-        place_in(token)?,
-        place_in(client)?,
+        index_in(engine)?,
+        index_in(token)?,
+        index_in(client)?,
         number_in(serial)?,
     ))
 }

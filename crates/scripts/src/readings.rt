@@ -34,7 +34,8 @@ pub fn reading_value(
 }
 
 fn answer_value(alloc: Global, table: &ReplicaTable, reading: &Reading) -> Result<Value, AllocError>
-    ensures { IfOk result (λ v. (seen : ℕ) → reading_json seen (said_by table.now reading.now) ≡ phrase (codes "reading") (count seen ∷ view v ∷ [])) }
+    ensures { IfOk result
+        (λ v. (seen : ℕ) → reading_json seen (said_by table.now reading.now) ≡ phrase (codes "reading") (count seen ∷ view v ∷ [])) }
 {
     match reading {
         Reading::Values(values) => values_value(alloc, values),

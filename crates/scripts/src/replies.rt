@@ -82,7 +82,7 @@ fn request_reply(alloc: Global, reply: Reply) -> Result<Value, AllocError>
     ensures { IfOk result (λ v. view v ≡ reply_json (answer_of reply)) }
 {
     match reply {
-        Reply::Made(id, place) => made(alloc, id, place),
+        Reply::Made(id, position) => made(alloc, id, position),
         Reply::Kept(length) => one(alloc, "kept", length),
         Reply::Known(length) => one(alloc, "known", length),
         Reply::Refused(why, length) => refused(alloc, why, length),
@@ -111,11 +111,11 @@ fn two(alloc: Global, word: &str, first: u64, second: u64) -> Result<Value, Allo
 }
 
 /// An operation's id and its position in the history.
-fn made(alloc: Global, id: OpId, place: u64) -> Result<Value, AllocError>
-    ensures { IfOk result (λ v. view v ≡ reply_json (Made id place)) }
+fn made(alloc: Global, id: OpId, position: u64) -> Result<Value, AllocError>
+    ensures { IfOk result (λ v. view v ≡ reply_json (Made id position)) }
 {
     let id = id_value(alloc, id)?;
-    json!(in alloc; ["made", id, place])
+    json!(in alloc; ["made", id, position])
 }
 
 /// Why nothing was submitted.

@@ -13,8 +13,9 @@ ghost use Rattle.semantics.specs.Tables.{by_table};
 ghost use Rattle.value.specs.Meanings.{value_of};
 ghost use Rattle.operation.specs.Meanings.{command_of};
 ghost use Rattle.document.specs.Documents.{IsBeside, asked_of};
-ghost use Rattle.wire.specs.Forms.{IsRead, and_then, json_form};
-ghost use Rattle.scripts.specs.Requests.{applied_of, asking_of, command_form, delete_of, missing_of, question_form, script_vector, table_in, writing_of};
+ghost use Rattle.json_lines.specs.Forms.{IsRead, and_then, json_form};
+ghost use Rattle.scripts.specs.Requests.{applied_of, asking_of, command_form, delete_of, missing_of, question_form, script_vector};
+ghost use Rattle.scripts.specs.Requests.{table_in, writing_of};
 ghost use Rattle.scripts.specs.Steps.{step_form};
 ghost use Rattle.scripts.specs.Written.{ask_json, command_json, push_json, question_json};
 
@@ -22,12 +23,13 @@ use crate::expressions::expression_in;
 use cursor::Expr;
 use document::Question;
 use ids::{Refusal, ReplicaTable};
+use json_lines::phrase_in;
 use operation::Command;
 use serde_json::Value;
 use std::alloc::Global;
 use value::Val;
 use version::VersionVector;
-use wire::{phrase_in, vector_in};
+use wire::vector_in;
 
 pub fn command_in(alloc: Global, value: &Value) -> Result<Command, Refusal>
     ensures { IsRead command_of result (command_form (view value.now)) }
@@ -49,7 +51,8 @@ pub fn command_in(alloc: Global, value: &Value) -> Result<Command, Refusal>
 
 /// An expression, and a value that is written there.
 fn writing_in(alloc: Global, parts: &[Value]) -> Result<(Expr, Val), Refusal>
-    ensures { (how : TheValue → TheMutation) → IsRead (λ p. record { expression = p.0; mutation = how (value_of p.1) }) result (writing_of how (items_view parts.now)) }
+    ensures { (how : TheValue → TheMutation)
+        → IsRead (λ p. record { expression = p.0; mutation = how (value_of p.1) }) result (writing_of how (items_view parts.now)) }
 {
     let [expression, written] = parts else {
         return Err(Refusal::BadLine);
@@ -73,7 +76,8 @@ pub fn question_in(
     table: Option<&ReplicaTable>,
     value: &Value,
 ) -> Result<Question, Refusal>
-    ensures read { IsRead (asked_of (table_in (option_map (λ t. t.now) table.entry))) result (question_form (option_map (λ t. t.now) table.entry) (view value.now)) }
+    ensures read { IsRead (asked_of (table_in (option_map (λ t. t.now) table.entry))) result (question_form (option_map
+        (λ t. t.now) table.entry) (view value.now)) }
     ensures beside { IfOk result (IsBeside (table_in (option_map (λ t. t.now) table.entry))) }
 {
     let (word, parts) = phrase_in(value)?;
@@ -106,7 +110,8 @@ fn missing_in(
     table: Option<&ReplicaTable>,
     parts: &[Value],
 ) -> Result<Question, Refusal>
-    ensures read { IsRead (asked_of (table_in (option_map (λ t. t.now) table.entry))) result (missing_of (option_map (λ t. t.now) table.entry) (items_view parts.now)) }
+    ensures read { IsRead (asked_of (table_in (option_map (λ t. t.now) table.entry))) result (missing_of (option_map
+        (λ t. t.now) table.entry) (items_view parts.now)) }
     ensures beside { IfOk result (IsBeside (table_in (option_map (λ t. t.now) table.entry))) }
 {
     let Some(table) = table else {
@@ -147,8 +152,12 @@ fn check_none(parts: &[Value]) -> Result<(), Refusal>
 /// A line that is read as a command or a question, or as a step that holds one, has the JSON that writing it gives, whatever its
 /// spaces and escapes.
 pub fn what_is_read_is_written_alike()
-    ensures command { (text : List ℕ) (c : TheCommand) → and_then command_form (json_form text) ≡ Ok c → json_form text ≡ Ok (command_json c) }
-    ensures question { (table : Option (List ℕ)) (text : List ℕ) (q : Asked) → and_then (question_form table) (json_form text) ≡ Ok q → json_form text ≡ Ok (question_json q) }
-    ensures push { (tables : List (List ℕ)) (text : List ℕ) (e c : ℕ) (k : TheCommand) → and_then (step_form tables) (json_form text) ≡ Ok (step_by e (Push c k)) → json_form text ≡ Ok (push_json e c k) }
-    ensures ask { (tables : List (List ℕ)) (text : List ℕ) (e t : ℕ) (q : Asked) → and_then (step_form tables) (json_form text) ≡ Ok (step_by e (Ask t q)) → json_form text ≡ Ok (ask_json e t q) }
+    ensures command { (text : List ℕ) (c : TheCommand) → and_then command_form (json_form text) ≡ Ok c
+        → json_form text ≡ Ok (command_json c) }
+    ensures question { (table : Option (List ℕ)) (text : List ℕ) (q : Asked) → and_then (question_form table) (json_form text) ≡ Ok q
+        → json_form text ≡ Ok (question_json q) }
+    ensures push { (tables : List (List ℕ)) (text : List ℕ) (e c : ℕ) (k : TheCommand)
+        → and_then (step_form tables) (json_form text) ≡ Ok (step_by e (Push c k)) → json_form text ≡ Ok (push_json e c k) }
+    ensures ask { (tables : List (List ℕ)) (text : List ℕ) (e t : ℕ) (q : Asked)
+        → and_then (step_form tables) (json_form text) ≡ Ok (step_by e (Ask t q)) → json_form text ≡ Ok (ask_json e t q) }
 {}

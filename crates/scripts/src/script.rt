@@ -8,15 +8,15 @@ ghost use Rattle.world.specs.Worlds.{IsAskedBeside, step_in, tables_of, world_of
 ghost use Rattle.scripts.specs.Engines.{if_within_limits};
 ghost use Rattle.scripts.specs.Errors.{IsErrorOf};
 ghost use Rattle.scripts.specs.Steps.{tables_for};
-ghost use Rattle.wire.specs.Lines.{on_line, unless_bad};
+ghost use Rattle.json_lines.specs.Lines.{on_line, unless_bad};
 ghost use Rattle.scripts.specs.Scripts.{script_form, steps_left};
 
 use crate::configuration::read_engines;
 use crate::error::ScriptError;
 use crate::steps::read_step;
 use ids::{Config, Refusal};
+use json_lines::Lines;
 use std::alloc::Global;
-use wire::Lines;
 use world::{World, WorldStep};
 
 /// A script that was read.
@@ -33,7 +33,9 @@ pub struct Script {
 /// # Errors
 /// `BadLine` of the first bad line, else `NoMemory` if allocation fails.
 pub fn read_script(alloc: Global, bytes: &[u8]) -> Result<Script, ScriptError>
-    ensures ok { IfOk result (λ s. (gs : List Configuration) × (script_form bytes.now ≡ Ok (gs, map (step_in (tables_of s.world.engines)) s.steps.items)) × (world_of s.world ≡ opened gs)) }
+    ensures ok { IfOk result
+        (λ s. (gs : List Configuration) × (script_form bytes.now ≡ Ok (gs, map (step_in (tables_of s.world.engines)) s.steps.items))
+        × (world_of s.world ≡ opened gs)) }
     ensures beside { IfOk result (λ s. All (IsAskedBeside (tables_of s.world.engines)) s.steps.items) }
     ensures err { IfErr result (IsErrorOf (script_form bytes.now)) }
 {
@@ -51,9 +53,11 @@ pub fn read_script(alloc: Global, bytes: &[u8]) -> Result<Script, ScriptError>
 fn open(alloc: Global, engines: &[Config], lines: &mut Lines<'_>) -> Result<Script, ScriptError>
     ensures allowed { IfOk result (λ s. list_all is_within_limits engines.now ≡ true) }
     ensures world { IfOk result (λ s. world_of s.world ≡ opened engines.now) }
-    ensures steps { IfOk result (λ s. steps_left engines.now lines.old.taken lines.old.rest.now ≡ Ok (map (step_in (tables_of s.world.engines)) s.steps.items)) }
+    ensures steps { IfOk result
+        (λ s. steps_left engines.now lines.old.taken lines.old.rest.now ≡ Ok (map (step_in (tables_of s.world.engines)) s.steps.items)) }
     ensures beside { IfOk result (λ s. All (IsAskedBeside (tables_of s.world.engines)) s.steps.items) }
-    ensures err { IfErr result (IsErrorOf (unless_bad (λ gs. steps_left gs lines.old.taken lines.old.rest.now) (on_line 1 (if_within_limits engines.now)))) }
+    ensures err { IfErr result (IsErrorOf (unless_bad
+        (λ gs. steps_left gs lines.old.taken lines.old.rest.now) (on_line 1 (if_within_limits engines.now)))) }
 {
     match World::new(alloc, engines) {
         Ok(world) => with_steps(alloc, world, engines, lines),
@@ -69,7 +73,10 @@ fn with_steps(
 ) -> Result<Script, ScriptError>
     requires { tables_of world.engines ≡ tables_for engines.now }
     ensures world { IfOk result (λ s. s.world ≡ world) }
-    ensures steps { MatchResult result (λ s. steps_left engines.now lines.old.taken lines.old.rest.now ≡ Ok (map (step_in (tables_of world.engines)) s.steps.items)) (IsErrorOf (steps_left engines.now lines.old.taken lines.old.rest.now)) }
+    ensures steps { MatchResult result
+        (λ s. steps_left engines.now lines.old.taken lines.old.rest.now
+        ≡ Ok (map (step_in (tables_of world.engines)) s.steps.items))
+        (IsErrorOf (steps_left engines.now lines.old.taken lines.old.rest.now)) }
     ensures beside { IfOk result (λ s. All (IsAskedBeside (tables_of world.engines)) s.steps.items) }
 {
     let steps = read_steps(alloc, lines, engines, &world)?;
@@ -84,7 +91,10 @@ fn read_steps(
     world: &World,
 ) -> Result<Vec<WorldStep>, ScriptError>
     requires { tables_of world.now.engines ≡ tables_for engines.now }
-    ensures steps { MatchResult result (λ v. steps_left engines.now lines.old.taken lines.old.rest.now ≡ Ok (map (step_in (tables_of world.now.engines)) v.items)) (IsErrorOf (steps_left engines.now lines.old.taken lines.old.rest.now)) }
+    ensures steps { MatchResult result
+        (λ v. steps_left engines.now lines.old.taken lines.old.rest.now
+        ≡ Ok (map (step_in (tables_of world.now.engines)) v.items))
+        (IsErrorOf (steps_left engines.now lines.old.taken lines.old.rest.now)) }
     ensures beside { IfOk result (λ v. All (IsAskedBeside (tables_of world.now.engines)) v.items) }
 {
     let mut steps = Vec::new(alloc);

@@ -4,17 +4,17 @@
 ghost use Rattle.std.specs.Prelude.{◌≡◌, ℕ, List, IfOk};
 ghost use Rattle.serde_json.specs.View.{view, items_view};
 ghost use Rattle.world.specs.Worlds.{IsAskedBeside, step_in as step_meant, tables_of};
-ghost use Rattle.wire.specs.Forms.{IsRead};
+ghost use Rattle.json_lines.specs.Forms.{IsRead};
 ghost use Rattle.scripts.specs.Steps.{ask_of, line_of, push_of, step_form, step_line, tables_for};
 
 use crate::numbered_steps::numbered_step_in;
-use crate::numbers::place_in;
+use crate::numbers::index_in;
 use crate::presence::is_there;
 use crate::requests::{command_in, question_in};
 use ids::{Config, Refusal};
+use json_lines::{json_of, phrase_in, text_in};
 use serde_json::Value;
 use std::alloc::Global;
-use wire::{json_of, phrase_in, text_in};
 use world::{World, WorldAct, WorldStep};
 
 /// The step on a line, whose engine, client and token exist. The world is that of the engines.
@@ -57,8 +57,8 @@ fn push_in(alloc: Global, parts: &[Value]) -> Result<WorldStep, Refusal>
     let [engine, client, command] = parts else {
         return Err(Refusal::BadLine);
     };
-    let engine = place_in(engine)?;
-    let client = place_in(client)?;
+    let engine = index_in(engine)?;
+    let client = index_in(client)?;
     let command = command_in(alloc, command)?;
     Ok(WorldStep {
         engine,
@@ -74,8 +74,8 @@ fn ask_in(alloc: Global, parts: &[Value], world: &World) -> Result<WorldStep, Re
     let [engine, token, question] = parts else {
         return Err(Refusal::BadLine);
     };
-    let engine = place_in(engine)?;
-    let token = place_in(token)?;
+    let engine = index_in(engine)?;
+    let token = index_in(token)?;
     let question = question_in(alloc, world.table(engine), question)?;
     Ok(WorldStep {
         engine,
@@ -91,8 +91,8 @@ fn line_in(alloc: Global, parts: &[Value]) -> Result<WorldStep, Refusal>
     let [engine, client, text] = parts else {
         return Err(Refusal::BadLine);
     };
-    let engine = place_in(engine)?;
-    let client = place_in(client)?;
+    let engine = index_in(engine)?;
+    let client = index_in(client)?;
     let text = Vec::from_slice(alloc, text_in(text)?.as_bytes())?;
     Ok(WorldStep {
         engine,

@@ -4,7 +4,7 @@ use Rattle.ids.specs.declared.refusal.Refusal.{Refusal}
 use Rattle.ids.specs.declared.refusal.Refusal.TheVariants.{BadLine}
 use Rattle.semantics.specs.Stamped.{Stamped}
 use Rattle.wire.specs.Bundles.{Readable, readable}
-use Rattle.wire.specs.Lines.{HasNoEnd, IsFirstLine}
+use Rattle.json_lines.specs.Lines.{HasNoEnd, IsFirstLine}
 use Rattle.wire.specs.Reading.{op_form}
 use Rattle.wire.proofs.CutLines.{cut-first_line, cut-no_end}
 
@@ -16,10 +16,15 @@ after ops r = record { operations = ops ++ r.operations; stopped = r.stopped }
 pub after-op : (table text line rest : List ℕ) (ops : List Stamped) (s : Stamped) → IsFirstLine text line rest → op_form table line ≡ Ok s
     → after ops (readable table text) ≡ after (ops ++ s ∷ []) (readable table rest)
 after-op table text line rest ops s first e =
-    rw (cut-first_line text line rest first, e) (λ i. record { operations = sym (append_assoc ops (s ∷ []) (readable table rest).operations) i; stopped = (readable table rest).stopped })
+    rw (cut-first_line text line rest first, e)
+    (λ i. record {
+      operations = sym (append_assoc ops (s ∷ []) (readable table rest).operations) i;
+      stopped = (readable table rest).stopped;
+    })
 
 -- a line that is none
-pub after-bad : (table text line rest : List ℕ) (ops : List Stamped) (why : Refusal) → IsFirstLine text line rest → op_form table line ≡ Err why
+pub after-bad : (table text line rest : List ℕ) (ops : List Stamped) (why : Refusal) → IsFirstLine text line rest
+    → op_form table line ≡ Err why
     → after ops (readable table text) ≡ record { operations = ops; stopped = Some why }
 after-bad table text line rest ops why first e =
     rw (cut-first_line text line rest first, e) (λ i. record { operations = append-nil ops i; stopped = Some why })
@@ -32,5 +37,6 @@ after-cut table (b ∷ text) ops h some =
     rw (cut-no_end (b ∷ text) h) (λ i. record { operations = append-nil ops i; stopped = Some BadLine })
 
 -- no byte
-pub after-none : (table text : List ℕ) (ops : List Stamped) → text ≡ [] → after ops (readable table text) ≡ record { operations = ops; stopped = None }
+pub after-none : (table text : List ℕ) (ops : List Stamped) → text ≡ []
+    → after ops (readable table text) ≡ record { operations = ops; stopped = None }
 after-none table text ops e = rw e (λ i. record { operations = append-nil ops i; stopped = None })

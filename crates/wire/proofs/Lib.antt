@@ -1,4 +1,3 @@
-pub mod UnlessMemory
 pub mod ReadVectors
 pub mod ListedVectors
 pub mod NoFloats
@@ -11,7 +10,6 @@ pub mod NormalNumbers
 pub mod WrittenBack
 pub mod WrittenLines
 pub mod ShallowForms
-pub mod JsonTexts
 pub mod LineEnds
 pub mod BundleBack
 pub mod WholeTexts

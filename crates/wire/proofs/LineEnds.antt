@@ -1,14 +1,16 @@
 -- No line feed stands in compact JSON.
-use Rattle.std.proofs.Common.{◌≡◌, ◌≢◌, ◌≤◌, ◌<◌, ◌/◌, ◌%◌, ℕ, zero, suc, Bool, true, false, cond, ◌==◌, ◌&&◌, not, List, [], ◌∷◌, ◌++◌, inl, inr, refl, sym, subst, arith}
+use Rattle.std.proofs.Common.{◌≡◌, ◌≢◌, ◌≤◌, ◌<◌, ◌/◌, ◌%◌, ℕ, zero, suc, Bool, true, false, cond, ◌==◌, ◌&&◌, not, List, [], ◌∷◌, ◌++◌}
+use Rattle.std.proofs.Common.{inl, inr, refl, sym, subst, arith}
 use Rattle.std.specs.Prelude.{decimal, pos, negsuc}
 use Rattle.std.specs.Fmt.{digits, digits_onto, digit_glyph}
 use Rattle.std.proofs.lemmas.Bool.{and_parts, cases_lt}
 use Rattle.std.proofs.lemmas.List.Elements.{All-append, All-cons, All-nil}
 use Rattle.json.specs.Print.{escape, escape_byte, quoted}
 use Rattle.json.proofs.Printed.Strings.{escape_byte_plain}
-use Rattle.serde_json.specs.Data.{Num, unsigned, negative, float, Data, null, boolean, number, string, array, object, Items, no_items, item, Members, no_members, member}
+use Rattle.serde_json.specs.Data.{Num, unsigned, negative, float, Data, null, boolean, number, string, array, object, Items, no_items, item}
+use Rattle.serde_json.specs.Data.{Members, no_members, member}
 use Rattle.serde_json.specs.Written.{comma_if, compact_text, items_text, members_text, number_text}
-use Rattle.wire.specs.Lines.{HasNoEnd}
+use Rattle.json_lines.specs.Lines.{HasNoEnd}
 
 -- ---- bytes that are given
 
@@ -78,7 +80,8 @@ all_below = refl
 escape_byte_no_end : (x : ℕ) → HasNoEnd (escape_byte x)
 escape_byte_no_end x = elim (cases_lt x 93) [
   | inl l ↦ HasNoEnd-from_test (escape_byte x) (below 93 all_below x l)
-  | inr l ↦ subst HasNoEnd (sym (escape_byte_plain x (λ e. omega (arith, l, e)) (λ e. omega (arith, l, e)) (omega (arith, l)))) (led x [] (λ e. absurd (omega (arith, l, e))) (HasNoEnd-from_test [] refl))
+  | inr l ↦ subst HasNoEnd (sym (escape_byte_plain x (λ e. omega (arith, l, e)) (λ e. omega (arith, l, e)) (omega (arith, l))))
+      (led x [] (λ e. absurd (omega (arith, l, e))) (HasNoEnd-from_test [] refl))
 ]
 
 escape_no_end : (s : List ℕ) → HasNoEnd (escape s)
@@ -86,7 +89,8 @@ escape_no_end [] = HasNoEnd-from_test [] refl
 escape_no_end (x ∷ s) = joined (escape_byte x) (escape s) (escape_byte_no_end x) (escape_no_end s)
 
 quoted_no_end : (s : List ℕ) → HasNoEnd (quoted s)
-quoted_no_end s = led 34 _ (λ e. absurd (omega (arith, e))) (joined (escape s) (34 ∷ []) (escape_no_end s) (HasNoEnd-from_test (34 ∷ []) refl))
+quoted_no_end s = led 34 _ (λ e. absurd (omega (arith, e)))
+    (joined (escape s) (34 ∷ []) (escape_no_end s) (HasNoEnd-from_test (34 ∷ []) refl))
 
 -- ---- values
 
@@ -109,10 +113,13 @@ mutual
 
   items_no_end : (later : Bool) (ds : Items) → HasNoEnd (items_text later ds)
   items_no_end later no_items = HasNoEnd-from_test (93 ∷ []) refl
-  items_no_end later (item d ds) = joined (comma_if later) _ (comma_no_end later) (joined (compact_text d) (items_text true ds) (compact_no_end d) (items_no_end true ds))
+  items_no_end later (item d ds) = joined (comma_if later) _ (comma_no_end later)
+      (joined (compact_text d) (items_text true ds) (compact_no_end d) (items_no_end true ds))
 
   members_no_end : (later : Bool) (ms : Members) → HasNoEnd (members_text later ms)
   members_no_end later no_members = HasNoEnd-from_test (125 ∷ []) refl
   members_no_end later (member k d ms) =
       joined (comma_if later) _ (comma_no_end later)
-      (joined (quoted k) _ (quoted_no_end k) (led 58 _ (λ e. absurd (omega (arith, e))) (joined (compact_text d) (members_text true ms) (compact_no_end d) (members_no_end true ms))))
+      (joined (quoted k) _ (quoted_no_end k)
+      (led 58 _ (λ e. absurd (omega (arith, e)))
+      (joined (compact_text d) (members_text true ms) (compact_no_end d) (members_no_end true ms))))

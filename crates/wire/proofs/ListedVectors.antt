@@ -1,5 +1,6 @@
 -- The pairs of a column indexed by a table whose numbers rise, one index after the other.
-use Rattle.std.proofs.Common.{◌≡◌, ◌<◌, ℕ, zero, suc, Bool, true, false, nat_lt, cond, ◌==◌, max, List, [], ◌∷◌, length, get_or, drop, Some, None, refl, ap, ◌∙◌, arith, slice_get}
+use Rattle.std.proofs.Common.{◌≡◌, ◌<◌, ℕ, zero, suc, Bool, true, false, nat_lt, cond, ◌==◌, max, List, [], ◌∷◌, length, get_or, drop, Some}
+use Rattle.std.proofs.Common.{None, refl, ap, ◌∙◌, arith, slice_get}
 use Rattle.std.proofs.lemmas.Bool.{lt-ltb, ne_eqb}
 use Rattle.ids.specs.Tables.{AreRising, IsBelowAll}
 use Rattle.semantics.specs.Ids.{OpId, id_at}
@@ -15,7 +16,8 @@ above_raise : (p : ℕ) (a : OpId) (v : Vector) → p < a.replica → AreAbove p
 above_raise p a [] l h = (l, tt)
 above_raise p a (b ∷ v) l h = at_tests (nat_lt a.replica b.replica) (a.replica == b.replica) (above_raise p a v l h.1)
   where
-    at_tests : (t e : Bool) → AreAbove p (raise a v) → AreAbove p (cond t (a ∷ b ∷ v) (cond e (id_at (max a.counter b.counter) b.replica ∷ v) (b ∷ raise a v)))
+    at_tests : (t e : Bool) → AreAbove p (raise a v)
+        → AreAbove p (cond t (a ∷ b ∷ v) (cond e (id_at (max a.counter b.counter) b.replica ∷ v) (b ∷ raise a v)))
     at_tests true e rest = (l, h)
     at_tests false true rest = h
     at_tests false false rest = (h.0, rest)
@@ -53,7 +55,8 @@ listed_some (q ∷ ps) (d ∷ cs) zero c p r there l e some =
 listed_some (q ∷ ps) (d ∷ cs) (suc i) c p r there l e some = listed_some ps cs i c p r.1 there (omega arith) e some
 
 -- where it is 0, none does
-pub listed_zero : (ps cs : List ℕ) (i : ℕ) → i < length cs → get_or cs i 0 ≡ 0 → by_table (drop i ps) (drop i cs) ≡ by_table (drop (suc i) ps) (drop (suc i) cs)
+pub listed_zero : (ps cs : List ℕ) (i : ℕ) → i < length cs → get_or cs i 0 ≡ 0
+    → by_table (drop i ps) (drop i cs) ≡ by_table (drop (suc i) ps) (drop (suc i) cs)
 listed_zero [] cs zero l e = refl
 listed_zero [] cs (suc i) l e = refl
 listed_zero (q ∷ ps) [] i l e = absurd (omega arith)

@@ -10,12 +10,14 @@ use Rattle.serde_json.specs.Data.{Data}
 use Rattle.serde_json.specs.View.{items_of}
 use Rattle.serde_json.specs.Written.{has_float, items_have_float}
 use Rattle.value.specs.Forms.{json_of, scalar_json}
-use Rattle.wire.specs.Operations.{entered_json, key_json, last_from, last_json, mutation_json, operation_json, parts_from, parts_of, root_json}
+use Rattle.wire.specs.Operations.{entered_json, key_json, last_from, last_json, mutation_json, operation_json, parts_from, parts_of}
+use Rattle.wire.specs.Operations.{root_json}
 use Rattle.wire.specs.Messages.{hello_json}
 use Rattle.wire.specs.Vectors.{pair_json, vector_json}
 
 -- a list whose parts have none
-pub no_float_in : {X : Type 0} (f : X → Data) → ((x : X) → has_float (f x) ≡ false) → (xs : List X) → items_have_float (items_of (map f xs)) ≡ false
+pub no_float_in : {X : Type 0} (f : X → Data) → ((x : X) → has_float (f x) ≡ false) → (xs : List X)
+    → items_have_float (items_of (map f xs)) ≡ false
 no_float_in f h [] = refl
 no_float_in f h (x ∷ xs) = rw (h x, no_float_in f h xs) refl
 
@@ -41,15 +43,18 @@ has_float-entered_json : (before : Data) (k : Key) → has_float before ≡ fals
 has_float-entered_json before (FieldKey n) h = rw h refl
 has_float-entered_json before (ItemKey a) h = rw h refl
 
-has_float-parts_from : (before : Data) (ks : List Key) → has_float before ≡ false → items_have_float (items_of (parts_from before ks)) ≡ false
+has_float-parts_from : (before : Data) (ks : List Key) → has_float before ≡ false
+    → items_have_float (items_of (parts_from before ks)) ≡ false
 has_float-parts_from before [] h = refl
-has_float-parts_from before (k ∷ ks) h = rw (has_float-entered_json before k h, has_float-parts_from (key_json k) ks (has_float-key_json k)) refl
+has_float-parts_from before (k ∷ ks) h = rw
+    (has_float-entered_json before k h, has_float-parts_from (key_json k) ks (has_float-key_json k)) refl
 
 has_float-last_from : (before : Data) (ks : List Key) → has_float before ≡ false → has_float (last_from before ks) ≡ false
 has_float-last_from before [] h = h
 has_float-last_from before (k ∷ ks) h = has_float-last_from (key_json k) ks (has_float-key_json k)
 
-has_float-append : (xs : List Data) (x : Data) → items_have_float (items_of xs) ≡ false → has_float x ≡ false → items_have_float (items_of (xs ++ x ∷ [])) ≡ false
+has_float-append : (xs : List Data) (x : Data) → items_have_float (items_of xs) ≡ false → has_float x ≡ false
+    → items_have_float (items_of (xs ++ x ∷ [])) ≡ false
 has_float-append [] x h k = rw k refl
 has_float-append (y ∷ xs) x h k = at_first (has_float y) refl h (λ g. has_float-append xs x g k)
   where
@@ -62,7 +67,8 @@ has_float-append (y ∷ xs) x h k = at_first (has_float y) refl h (λ g. has_flo
 has_float-parts_of : (p : Place) → items_have_float (items_of (parts_of p)) ≡ false
 has_float-parts_of (At e) = has_float-parts_from root_json (keys_from_root e) refl
 has_float-parts_of (HeadOf l) =
-    has_float-append (parts_from root_json (keys_from_root l)) _ (has_float-parts_from root_json (keys_from_root l) refl) (rw (has_float-last_from root_json (keys_from_root l) refl) refl)
+    has_float-append (parts_from root_json (keys_from_root l)) _ (has_float-parts_from root_json (keys_from_root l) refl)
+    (rw (has_float-last_from root_json (keys_from_root l) refl) refl)
 
 has_float-last_json : (p : Place) → has_float (last_json p) ≡ false
 has_float-last_json (At e) = has_float-last_from root_json (keys_from_root e) refl
@@ -77,7 +83,8 @@ pub has_float-vector_json : (v : Vector) → has_float (vector_json v) ≡ false
 has_float-vector_json v = no_float_in pair_json (λ a. refl) v
 
 pub has_float-operation_json : (s : Stamped) → has_float (operation_json s) ≡ false
-has_float-operation_json s = rw (has_float-vector_json s.vector, has_float-parts_of s.place, has_float-last_json s.place, has_float-mutation_json s.mutation) refl
+has_float-operation_json s = rw
+    (has_float-vector_json s.vector, has_float-parts_of s.place, has_float-last_json s.place, has_float-mutation_json s.mutation) refl
 
 pub has_float-hello_json : (v : Vector) → has_float (hello_json v) ≡ false
 has_float-hello_json v = rw (has_float-vector_json v) refl

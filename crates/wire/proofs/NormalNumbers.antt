@@ -1,11 +1,13 @@
 -- What is read of a text has each number below 0 as such a number.
-use Rattle.std.proofs.Common.{◌≡◌, ◌<◌, ◌^◌, ◌&&◌, ◌==◌, ℕ, zero, suc, Bool, true, false, cond, nat_lt, nat_le, List, Option, Some, None, refl, arith}
+use Rattle.std.proofs.Common.{◌≡◌, ◌<◌, ◌^◌, ◌&&◌, ◌==◌, ℕ, zero, suc, Bool, true, false, cond, nat_lt, nat_le, List, Option, Some, None}
+use Rattle.std.proofs.Common.{refl, arith}
 use Rattle.std.specs.Prelude.{⊤, pos, negsuc, option_map, option_and_then, slice_index, drop}
 use Rattle.std.specs.Float.{binary64, float_is_finite}
 use Rattle.std.proofs.lemmas.Bool.{and_parts, ltb-true}
 use Rattle.fast_float.specs.Text.{Parts, digits_of, minus, nearest, scan, with_sign}
 use Rattle.json.specs.Json as json
-use Rattle.serde_json.specs.Data.{Num, unsigned, negative, float, Data, null, boolean, number, string, array, object, Items, no_items, item, no_members}
+use Rattle.serde_json.specs.Data.{Num, unsigned, negative, float, Data, null, boolean, number, string, array, object, Items, no_items, item}
+use Rattle.serde_json.specs.Data.{no_members}
 use Rattle.serde_json.specs.Read.{float_of, is_integer, max_depth, number_from, number_of, of_items, of_json, of_members, read}
 use Rattle.json.specs.Lex.{tokens}
 
@@ -32,7 +34,8 @@ abbrev mutual
 
 -- ---- what an optional answer was made of
 
-pub and_then_some : {A B : Type 0} (f : A → Option B) (o : Option A) (y : B) → option_and_then f o ≡ Some y → (x : A) × (o ≡ Some x) × (f x ≡ Some y)
+pub and_then_some : {A B : Type 0} (f : A → Option B) (o : Option A) (y : B) → option_and_then f o ≡ Some y
+    → (x : A) × (o ≡ Some x) × (f x ≡ Some y)
 and_then_some f (Some x) y h = (x, refl, h)
 and_then_some f None y h = absurd (cc)
 
@@ -61,7 +64,8 @@ normal_from false p n h = at_test (is_integer p && nat_lt (digits_of p) (2 ^ 64)
     at_test false e = normal_float false p n e
 normal_from true p n h = at_test (is_integer p && nat_lt 0 (digits_of p) && nat_le (digits_of p) (2 ^ 63)) refl h
   where
-    at_test : (t : Bool) → (is_integer p && nat_lt 0 (digits_of p) && nat_le (digits_of p) (2 ^ 63)) ≡ t → cond t (Some (negative (with_sign true (digits_of p)))) (float_of true p) ≡ Some n → IsNormalNumber n
+    at_test : (t : Bool) → (is_integer p && nat_lt 0 (digits_of p) && nat_le (digits_of p) (2 ^ 63)) ≡ t
+        → cond t (Some (negative (with_sign true (digits_of p)))) (float_of true p) ≡ Some n → IsNormalNumber n
     at_test true test e =
         let parts = and_parts (is_integer p && nat_lt 0 (digits_of p)) (nat_le (digits_of p) (2 ^ 63)) test in
         let some = and_parts (is_integer p) (nat_lt 0 (digits_of p)) parts.0 in

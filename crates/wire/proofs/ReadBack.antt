@@ -1,5 +1,6 @@
 -- What is written of an operation is read as that operation.
-use Rattle.std.proofs.Common.{◌≡◌, ◌≤◌, ◌&&◌, ℕ, suc, true, false, nat_le, sym, List, [], ◌∷◌, ◌++◌, length, map, Option, Some, None, Ok, refl, ap, ◌∙◌, arith}
+use Rattle.std.proofs.Common.{◌≡◌, ◌≤◌, ◌&&◌, ℕ, suc, true, false, nat_le, sym, List, [], ◌∷◌, ◌++◌, length, map, Option, Some, None, Ok}
+use Rattle.std.proofs.Common.{refl, ap, ◌∙◌, arith}
 use Rattle.std.specs.Prelude.{codes, pos, negsuc}
 use Rattle.std.specs.List.{list_all}
 use Rattle.std.proofs.lemmas.Bool.{and_parts, leb-true, lt-ltb, le-ltb}
@@ -8,7 +9,8 @@ use Rattle.ids.specs.Members.{is_member}
 use Rattle.semantics.specs.Ids.{OpId}
 use Rattle.semantics.specs.Faults.{items_of_members}
 use Rattle.semantics.specs.Tables.{by_table}
-use Rattle.semantics.specs.Elements.{Element, Doc, Field, Item, Place, At, HeadOf, Tag, AsMap, AsList, Value, Plain, EmptyMap, EmptyList, Null, Boolean, Whole, Text, depth}
+use Rattle.semantics.specs.Elements.{Element, Doc, Field, Item, Place, At, HeadOf, Tag, AsMap, AsList, Value, Plain, EmptyMap, EmptyList}
+use Rattle.semantics.specs.Elements.{Null, Boolean, Whole, Text, depth}
 use Rattle.semantics.specs.Operations.{Mutation, Assign, Insert, Delete, element_of}
 use Rattle.semantics.specs.Paths.{Key, FieldKey, ItemKey, child, down, keys_from_root}
 use Rattle.semantics.specs.Stamped.{Stamped}
@@ -24,13 +26,15 @@ use Rattle.serde_json.specs.Data.{Data}
 use Rattle.serde_json.specs.View.{items_of}
 use Rattle.cursor.specs.Places.{LastKey, DocKey, FieldName, ItemId, HeadKey, depth_of}
 use Rattle.value.specs.Forms.{IsWithinLimits, json_of, value_form}
-use Rattle.wire.specs.Forms.{and_then, phrase_form}
+use Rattle.json_lines.specs.Forms.{and_then, phrase_form}
 use Rattle.wire.specs.Members.{member_form}
 use Rattle.wire.specs.Messages.{hello_json, hello_of}
-use Rattle.wire.specs.Operations.{entered_json, id_json, key_json, last_from, last_json, mutation_json, operation_json, parts_from, path_json, phrase, root_json}
+use Rattle.wire.specs.Operations.{entered_json, id_json, key_json, last_from, last_json, mutation_json, operation_json, parts_from}
+use Rattle.wire.specs.Operations.{path_json, phrase, root_json}
 use Rattle.wire.specs.Places.{Entered, count_parts, element_at, entered_of, is_list_head, key_form, parts_of, place_below, place_form}
 use Rattle.wire.specs.Reading.{mutation_form, operation_form}
-use Rattle.wire.specs.Sent.{AreReplicas, AreSentKeys, AreTypedKeys, CanBeSent, IsSent, IsSentId, IsSentKey, IsSentMutation, IsSentVector, IsTyped, are_counters, is_counter, key_counted}
+use Rattle.wire.specs.Sent.{AreReplicas, AreSentKeys, AreTypedKeys, CanBeSent, IsSent, IsSentId, IsSentKey, IsSentMutation, IsSentVector}
+use Rattle.wire.specs.Sent.{IsTyped, are_counters, is_counter, key_counted}
 use Rattle.wire.specs.Vectors.{pair_json, pairs_above}
 
 -- ---- ids and vectors
@@ -76,7 +80,8 @@ part_back table d before (ItemKey a) e = rw e refl
 parts_back : (table : List ℕ) (d : Data) (before : LastKey) (ks : List Key) → key_form table d ≡ Ok before → AreSentKeys table ks
     → parts_of table (items_of (parts_from d ks)) ≡ Ok (path_parts before ks)
 parts_back table d before [] e h = refl
-parts_back table d before (k ∷ ks) e h = rw (part_back table d before k e, parts_back table (key_json k) (written_key k) ks (key_back table k h.0) h.1) refl
+parts_back table d before (k ∷ ks) e h = rw
+    (part_back table d before k e, parts_back table (key_json k) (written_key k) ks (key_back table k h.0) h.1) refl
 
 last_back : (table : List ℕ) (d : Data) (before : LastKey) (ks : List Key) → key_form table d ≡ Ok before → AreSentKeys table ks
     → key_form table (last_from d ks) ≡ Ok (path_last before ks)
@@ -84,9 +89,11 @@ last_back table d before [] e h = e
 last_back table d before (k ∷ ks) e h = last_back table (key_json k) (written_key k) ks (key_back table k h.0) h.1
 
 head_back : (table : List ℕ) (d : Data) (before : LastKey) (ks : List Key) → key_form table d ≡ Ok before → AreSentKeys table ks
-    → parts_of table (items_of (parts_from d ks ++ phrase (codes "l") (last_from d ks ∷ []) ∷ [])) ≡ Ok (path_parts before ks ++ record { key = path_last before ks; tag = AsList } ∷ [])
+    → parts_of table (items_of (parts_from d ks ++ phrase (codes "l") (last_from d ks ∷ []) ∷ []))
+    ≡ Ok (path_parts before ks ++ record { key = path_last before ks; tag = AsList } ∷ [])
 head_back table d before [] e h = rw e refl
-head_back table d before (k ∷ ks) e h = rw (part_back table d before k e, head_back table (key_json k) (written_key k) ks (key_back table k h.0) h.1) refl
+head_back table d before (k ∷ ks) e h = rw
+    (part_back table d before k e, head_back table (key_json k) (written_key k) ks (key_back table k h.0) h.1) refl
 
 entry_back : (e : Element) (k : Key) → element_at e (Some (tag_before k)) (written_key k) ≡ Ok (child e k)
 entry_back e (FieldKey n) = refl
@@ -97,7 +104,8 @@ no_head (FieldKey n) k = refl
 no_head (ItemKey a) (FieldKey m) = refl
 no_head (ItemKey a) (ItemKey b) = refl
 
-walk_back : (e f : Element) (t : Option Tag) (before : LastKey) (ks : List Key) → element_at e t before ≡ Ok f → is_list_head t before ≡ false
+walk_back : (e f : Element) (t : Option Tag) (before : LastKey) (ks : List Key) → element_at e t before ≡ Ok f
+    → is_list_head t before ≡ false
     → place_below e t (path_parts before ks) (path_last before ks) ≡ Ok (At (down f ks))
 walk_back e f t before [] there other = rw (other, there) refl
 walk_back e f t before (k ∷ ks) there other =
@@ -121,16 +129,24 @@ length_keys Doc = refl
 length_keys (Field e n) = omega (arith, length-append (keys_from_root e) (FieldKey n ∷ []), length_keys e)
 length_keys (Item e a) = omega (arith, length-append (keys_from_root e) (ItemKey a ∷ []), length_keys e)
 
-place_back : (table : List ℕ) (p : Place) → AreSentKeys table (keys_from_root (element_of p)) → depth_of p ≤ 32 → place_form table (path_json p) (last_json p) ≡ Ok p
+place_back : (table : List ℕ) (p : Place) → AreSentKeys table (keys_from_root (element_of p)) → depth_of p ≤ 32
+    → place_form table (path_json p) (last_json p) ≡ Ok p
 place_back table (At e) h few =
     let ks = keys_from_root e in
     let short : count_parts (items_of (parts_from root_json ks)) ≤ 32 = omega (arith, count_back root_json ks, length_keys e, few) in
-    rw (le-ltb 32 (count_parts (items_of (parts_from root_json ks))) short, parts_back table root_json DocKey ks refl h, last_back table root_json DocKey ks refl h)
+    rw (
+      le-ltb 32
+          (count_parts (items_of
+          (parts_from root_json ks))) short,
+      parts_back table root_json DocKey ks refl h,
+      last_back table root_json DocKey ks refl h,
+    )
     (walk_back Doc Doc None DocKey ks refl refl ∙ ap (λ (d : Element). Ok (At d)) (down-keys_from_root e))
 place_back table (HeadOf e) h few =
     let ks = keys_from_root e in
     let x = phrase (codes "l") (last_from root_json ks ∷ []) in
-    let short : count_parts (items_of (parts_from root_json ks ++ x ∷ [])) ≤ 32 = omega (arith, count_head root_json x ks, length_keys e, few) in
+    let short : count_parts (items_of (parts_from root_json ks ++ x ∷ [])) ≤ 32 = omega
+    (arith, count_head root_json x ks, length_keys e, few) in
     rw (le-ltb 32 (count_parts (items_of (parts_from root_json ks ++ x ∷ []))) short, head_back table root_json DocKey ks refl h)
     (walk_to_head Doc Doc None DocKey ks refl ∙ ap (λ (d : Element). Ok (HeadOf d)) (down-keys_from_root e))
 
@@ -161,7 +177,8 @@ hello_back table v h = rw (pairs_back table 0 v h) refl
 
 -- ---- what types keep, beside what a caller answers for
 
-sent_vector : (table : List ℕ) (p : ℕ) (v : Vector) → IsCanonical v → AreAbove p v → AreReplicas v → list_all (λ a. is_member table a.replica) v ≡ true → are_counters v ≡ true → IsSentVector table p v
+sent_vector : (table : List ℕ) (p : ℕ) (v : Vector) → IsCanonical v → AreAbove p v → AreReplicas v
+    → list_all (λ a. is_member table a.replica) v ≡ true → are_counters v ≡ true → IsSentVector table p v
 sent_vector table p [] rising above typed members counters = tt
 sent_vector table p (a ∷ v) rising above typed members counters =
     let m = and_parts (is_member table a.replica) (list_all (λ (b : OpId). is_member table b.replica) v) members in
@@ -170,15 +187,19 @@ sent_vector table p (a ∷ v) rising above typed members counters =
 
 above_zero : (v : Vector) → AreReplicas v → AreAbove 0 v
 above_zero [] h = tt
-above_zero (a ∷ v) h = let some = and_parts (nat_le 1 a.replica) (nat_le a.replica 4294967295) h.0 in let above : 1 ≤ a.replica = leb-true 1 a.replica some.0 in (omega (arith, above), above_zero v h.1)
+above_zero (a ∷ v) h =
+    let some = and_parts (nat_le 1 a.replica) (nat_le a.replica 4294967295) h.0 in
+    let above : 1 ≤ a.replica = leb-true 1 a.replica some.0 in (omega (arith, above), above_zero v h.1)
 
 -- the vector of a column, where its counters are those of the wire
-pub sent_column : (table column : List ℕ) → AreReplicas (by_table table column) → are_counters (by_table table column) ≡ true → IsSentVector table 0 (by_table table column)
+pub sent_column : (table column : List ℕ) → AreReplicas (by_table table column) → are_counters (by_table table column) ≡ true
+    → IsSentVector table 0 (by_table table column)
 sent_column table column typed counters =
     sent_vector table 0 (by_table table column) (canonical-by_table table column) (above_zero (by_table table column) typed) typed
     (all-by_table (is_member table) table column (members_all table)) counters
 
-sent_keys : (table : List ℕ) (ks : List Key) → AreTypedKeys ks → list_all (key_of_member table) ks ≡ true → list_all key_counted ks ≡ true → AreSentKeys table ks
+sent_keys : (table : List ℕ) (ks : List Key) → AreTypedKeys ks → list_all (key_of_member table) ks ≡ true → list_all key_counted ks ≡ true
+    → AreSentKeys table ks
 sent_keys table [] typed members counters = tt
 sent_keys table (FieldKey n ∷ ks) typed members counters = (typed.0, sent_keys table ks typed.1 members counters)
 sent_keys table (ItemKey a ∷ ks) typed members counters =
@@ -186,11 +207,21 @@ sent_keys table (ItemKey a ∷ ks) typed members counters =
     let n = and_parts (is_counter a.counter) (list_all key_counted ks) counters in
     ((n.0, typed.0, m.0), sent_keys table ks typed.1 m.1 n.1)
 
-pub typed_back : (table : List ℕ) (o : Op) → IsTyped (stamped_of table o) → CanBeSent table (stamped_of table o) → operation_form table (operation_json (stamped_of table o)) ≡ Ok (stamped_of table o)
+pub typed_back : (table : List ℕ) (o : Op) → IsTyped (stamped_of table o) → CanBeSent table (stamped_of table o)
+    → operation_form table (operation_json (stamped_of table o)) ≡ Ok (stamped_of table o)
 typed_back table o typed sent =
     let s : Stamped = stamped_of table o in
-    let parts = and_parts (is_member table s.id.replica && list_all (λ (a : OpId). is_member table a.replica) s.vector) (items_of_members table (element_of s.place)) sent.members in
+    let parts = and_parts (is_member table s.id.replica && list_all (λ (a : OpId). is_member table a.replica) s.vector)
+    (items_of_members table (element_of s.place)) sent.members in
     let own = and_parts (is_member table s.id.replica) (list_all (λ (a : OpId). is_member table a.replica) s.vector) parts.0 in
     let id : IsSentId table s.id = (sent.id, typed.id, own.0) in
-    let keys : AreSentKeys table (keys_from_root (element_of s.place)) = sent_keys table (keys_from_root (element_of s.place)) typed.place.keys (sym (items_of_members-keys table (element_of s.place)) ∙ parts.1) sent.items in
-    rw (id_back table s.id id, pairs_back table 0 s.vector (sent_column table o.deps typed.vector sent.vector), place_back table s.place keys typed.place.few, typed.mutation) refl
+    let keys : AreSentKeys table (keys_from_root (element_of s.place)) = sent_keys table
+    (keys_from_root (element_of s.place)) typed.place.keys
+    (sym (items_of_members-keys table (element_of s.place)) ∙ parts.1) sent.items in
+    rw (
+      id_back table s.id id,
+      pairs_back table 0 s.vector
+          (sent_column table o.deps typed.vector sent.vector),
+      place_back table s.place keys typed.place.few,
+      typed.mutation,
+    ) refl

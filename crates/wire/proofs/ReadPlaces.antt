@@ -1,5 +1,6 @@
 -- Places that are read key by key.
-use Rattle.std.proofs.Common.{◌≡◌, ◌≤◌, ◌<◌, ◌+◌, ℕ, suc, true, false, true≢false, List, [], ◌∷◌, ◌++◌, map, length, Option, Some, None, Result, Ok, Err, inl, inr, refl, sym, ap, ◌∙◌, subst, arith}
+use Rattle.std.proofs.Common.{◌≡◌, ◌≤◌, ◌<◌, ◌+◌, ℕ, suc, true, false, true≢false, List, [], ◌∷◌, ◌++◌, map, length, Option, Some, None}
+use Rattle.std.proofs.Common.{Result, Ok, Err, inl, inr, refl, sym, ap, ◌∙◌, subst, arith}
 use Rattle.std.specs.Result.{IsErrAnd}
 use Rattle.std.proofs.lemmas.Bool.{lt-ltb, le-ltb}
 use Rattle.std.proofs.lemmas.List.{map-append}
@@ -17,7 +18,7 @@ use Rattle.cursor.specs.Places.{LastKey, place_from}
 use Rattle.cursor.proofs.RootPaths.{depth-hops}
 use Rattle.wire.specs.Meanings.{entered_as, keys_ahead}
 use Rattle.wire.specs.Places.{Entered, count_parts, element_at, is_list_head, parts_of, path_of, place_below}
-use Rattle.wire.specs.Forms.{IsUnlessMemory}
+use Rattle.json_lines.specs.Forms.{IsUnlessMemory}
 
 -- ---- paths
 
@@ -60,6 +61,7 @@ nothing_left [] h = refl
 nothing_left (x ∷ xs) h = absurd (omega arith)
 
 -- a refusal that is passed on
-pub passed_on : {T : Type 0} (r : Result T Refusal) (why : Refusal) (wanted : Result T Refusal) → IsErrAnd r (λ y. y ≡ why) → IsUnlessMemory {T = T} (Err why) wanted → IsUnlessMemory r wanted
+pub passed_on : {T : Type 0} (r : Result T Refusal) (why : Refusal) (wanted : Result T Refusal) → IsErrAnd r (λ y. y ≡ why)
+    → IsUnlessMemory {T = T} (Err why) wanted → IsUnlessMemory r wanted
 passed_on (Ok x) why wanted e h = absurd e
 passed_on {T = T} (Err y) why wanted e h = subst (λ z. IsUnlessMemory {T = T} (Err z) wanted) (sym e) h

@@ -1,5 +1,6 @@
 -- A vector that is read pair by pair, each of a greater replica.
-use Rattle.std.proofs.Common.{◌≡◌, ◌≢◌, ℕ, nat_lt, zero, suc, max, ◌<◌, Bool, true, false, cond, ◌==◌, List, [], ◌∷◌, ◌++◌, replicate, refl, sym, ap, ◌∙◌, arith}
+use Rattle.std.proofs.Common.{◌≡◌, ◌≢◌, ℕ, nat_lt, zero, suc, max, ◌<◌, Bool, true, false, cond, ◌==◌, List, [], ◌∷◌, ◌++◌, replicate, refl}
+use Rattle.std.proofs.Common.{sym, ap, ◌∙◌, arith}
 use Rattle.std.proofs.lemmas.Bool.{eq-eqb, eqb-true, ltb-true, ltb-false}
 use Rattle.ids.specs.Members.{AreDistinct}
 use Rattle.semantics.specs.Ids.{OpId}
@@ -32,7 +33,8 @@ AreAbove-more p [] a h l = (l, tt)
 AreAbove-more p (b ∷ v) a h l = (h.0, AreAbove-more p v a h.1 l)
 
 -- a pair of a replica above all that are named
-canonical-more : (v : Vector) (a : OpId) (last : ℕ) → IsCanonical v → ((p : ℕ) → last < p → at v p ≡ 0) → last < a.replica → a.counter ≢ 0 → IsCanonical (v ++ a ∷ [])
+canonical-more : (v : Vector) (a : OpId) (last : ℕ) → IsCanonical v → ((p : ℕ) → last < p → at v p ≡ 0) → last < a.replica → a.counter ≢ 0
+    → IsCanonical (v ++ a ∷ [])
 canonical-more [] a last h none l some = (some, tt, tt)
 canonical-more (b ∷ v) a last h none l some = (
   h.0,

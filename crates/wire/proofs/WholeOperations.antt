@@ -12,13 +12,14 @@ use Rattle.semantics.specs.Vectors.{Vector}
 use Rattle.serde_json.specs.Data.{Data, depth}
 use Rattle.serde_json.specs.View.{items_of}
 use Rattle.value.specs.Forms.{IsWithinLimits, json_of}
-use Rattle.wire.specs.Forms.{and_then}
+use Rattle.json_lines.specs.Forms.{and_then}
 use Rattle.wire.specs.Messages.{op_line}
-use Rattle.wire.specs.Operations.{entered_json, id_json, key_json, last_from, last_json, mutation_json, operation_json, parts_from, parts_of, phrase, root_json}
+use Rattle.wire.specs.Operations.{entered_json, id_json, key_json, last_from, last_json, mutation_json, operation_json, parts_from}
+use Rattle.wire.specs.Operations.{parts_of, phrase, root_json}
 use Rattle.wire.specs.Reading.{op_form, operation_form}
 use Rattle.wire.specs.Sent.{AreSentKeys, IsSent, IsSentId, IsSentKey, IsSentMutation, IsSentVector}
 use Rattle.wire.specs.Vectors.{pair_json}
-use Rattle.wire.proofs.JsonTexts.{json_form-read}
+use Rattle.json_lines.proofs.JsonTexts.{json_form-read}
 use Rattle.wire.proofs.ReadBack.{operation_back}
 use Rattle.wire.proofs.ShallowForms.{depth-operation_json}
 use Rattle.wire.proofs.WholeTexts.{HasWhole, ItemsHaveWhole, read-compact_text}
@@ -44,7 +45,8 @@ part : (before : Data) (k : Key) → HasWhole before → HasWhole (entered_json 
 part before (FieldKey n) h = (tt, (h, tt))
 part before (ItemKey a) h = (tt, (h, tt))
 
-parts : (table : List ℕ) (before : Data) (ks : List Key) → HasWhole before → AreSentKeys table ks → ItemsHaveWhole (items_of (parts_from before ks))
+parts : (table : List ℕ) (before : Data) (ks : List Key) → HasWhole before → AreSentKeys table ks
+    → ItemsHaveWhole (items_of (parts_from before ks))
 parts table before [] h sent = tt
 parts table before (k ∷ ks) h sent = (part before k h, parts table (key_json k) ks (key table k sent.0) sent.1)
 
@@ -86,8 +88,16 @@ mutation Delete h = (tt, tt)
 
 operation : (table : List ℕ) (s : Stamped) → IsSent table s → HasWhole (operation_json s)
 operation table s h =
-    let id : HasWhole (id_json s.id) = (counter table s.id h.id, (replica table s.id h.id, tt)) in
-    (tt, (id, (pairs table 0 s.vector h.vector, (place table s.place h.keys, (last_key table s.place h.keys, (mutation s.mutation h.mutation, tt))))))
+    let id : HasWhole (id_json s.id) = (counter table s.id h.id, (replica table s.id h.id, tt)) in (
+      tt,
+      (
+        id,
+        (
+          pairs table 0 s.vector h.vector,
+          (place table s.place h.keys, (last_key table s.place h.keys, (mutation s.mutation h.mutation, tt))),
+        ),
+      ),
+    )
 
 pub op_form-op_line : (table : List ℕ) (s : Stamped) → IsSent table s → IsUtf8 (op_line s) → op_form table (op_line s) ≡ Ok s
 op_form-op_line table s sent utf8 =

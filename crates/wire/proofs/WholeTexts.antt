@@ -12,7 +12,8 @@ use Rattle.json.specs.Tree as tree
 use Rattle.json.proofs.Printed.Decimals.{IsNumber-decimal, IsNumber-signed_decimal}
 use Rattle.json.proofs.Printed.Tokens.{tokens-print}
 use Rattle.json.proofs.Printed.Trees.{ArePrintable-json_tokens, value-json_tokens}
-use Rattle.serde_json.specs.Data.{Num, unsigned, negative, float, Data, null, boolean, number, string, array, object, Items, no_items, item, no_members, member, depth, items_depth}
+use Rattle.serde_json.specs.Data.{Num, unsigned, negative, float, Data, null, boolean, number, string, array, object, Items, no_items, item}
+use Rattle.serde_json.specs.Data.{no_members, member, depth, items_depth}
 use Rattle.serde_json.specs.Read.{max_depth, number_of, of_json, of_items, read}
 use Rattle.serde_json.specs.Written.{compact_text, items_outline, number_text, outline}
 use Rattle.serde_json.proofs.Numbers.{number_of-decimal, number_of-negative}
@@ -121,7 +122,8 @@ pub read-compact_text : (d : Data) → HasWhole d → depth d ≤ 127 → read (
 read-compact_text d h shallow =
     let j = outline d in
     let ts = tree.json_tokens j in
-    let same : tokens (compact_text d) ≡ ts = ap tokens (sym (print-outline d)) ∙ tokens-print ts (ArePrintable-json_tokens j (numbers d h)) in
+    let same : tokens (compact_text d) ≡ ts = ap tokens (sym (print-outline d))
+    ∙ tokens-print ts (ArePrintable-json_tokens j (numbers d h)) in
     let parsed : json.value max_depth (tokens (compact_text d)) ≡ Some (j, []) =
     ap (json.value max_depth) (same ∙ sym (append-nil ts)) ∙ value-json_tokens j max_depth [] (omega (arith, as_deep d h, shallow)) in
     of_tokens d (json.value max_depth (tokens (compact_text d))) j parsed (back d h)

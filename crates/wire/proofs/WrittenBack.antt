@@ -1,5 +1,6 @@
 -- What is read as an operation or a vector is the JSON that writing it gives.
-use Rattle.std.proofs.Common.{◌≡◌, ◌⊎◌, ◌^◌, inl, inr, ◌==◌, ℕ, nat_lt, length, Bool, true, false, cond, List, [], ◌∷◌, ◌++◌, map, Some, None, Result, Ok, Err, refl, sym, ap, ◌∙◌, subst}
+use Rattle.std.proofs.Common.{◌≡◌, ◌⊎◌, ◌^◌, inl, inr, ◌==◌, ℕ, nat_lt, length, Bool, true, false, cond, List, [], ◌∷◌, ◌++◌, map, Some}
+use Rattle.std.proofs.Common.{None, Result, Ok, Err, refl, sym, ap, ◌∙◌, subst}
 use Rattle.std.specs.Prelude.{codes, pos, negsuc, option_map}
 use Rattle.std.specs.Option.{ok_or}
 use Rattle.std.proofs.lemmas.Bool.{eqb-true}
@@ -10,22 +11,27 @@ use Rattle.ids.specs.declared.refusal.Refusal.TheVariants.{BadLine, KeyTooLong, 
 use Rattle.ids.specs.Configurations.{is_from_one_to}
 use Rattle.ids.specs.Members.{is_member}
 use Rattle.semantics.specs.Ids.{OpId, id_at}
-use Rattle.semantics.specs.Elements.{Element, Doc, Field, Item, Place, At, HeadOf, Tag, AsMap, AsList, AsRegister, Value, Plain, EmptyMap, EmptyList, Null, Boolean, Whole, Text}
+use Rattle.semantics.specs.Elements.{Element, Doc, Field, Item, Place, At, HeadOf, Tag, AsMap, AsList, AsRegister, Value, Plain, EmptyMap}
+use Rattle.semantics.specs.Elements.{EmptyList, Null, Boolean, Whole, Text}
 use Rattle.semantics.specs.Operations.{Mutation, Assign, Insert, Delete}
 use Rattle.semantics.specs.Paths.{Key, FieldKey, ItemKey, down, keys_from_root}
 use Rattle.semantics.specs.Stamped.{Stamped}
 use Rattle.semantics.specs.Vectors.{Vector}
-use Rattle.serde_json.specs.Data.{Data, null, boolean, number, string, array, object, unsigned, negative, float, Items, no_items, item, no_members, member}
+use Rattle.serde_json.specs.Data.{Data, null, boolean, number, string, array, object, unsigned, negative, float, Items, no_items, item}
+use Rattle.serde_json.specs.Data.{no_members, member}
 use Rattle.serde_json.specs.View.{items_of}
 use Rattle.cursor.specs.Places.{LastKey, DocKey, FieldName, ItemId, HeadKey}
 use Rattle.cursor.proofs.RootPaths.{keys_from_root-down}
 use Rattle.value.specs.Forms.{json_of, value_form}
-use Rattle.wire.specs.Forms.{and_then, list_form, number_form, phrase_form, phrase_of, text_form, with_parts}
+use Rattle.json_lines.specs.Forms.{and_then, list_form, number_form, phrase_form, phrase_of, text_form, with_parts}
 use Rattle.wire.specs.Members.{counter_form, id_of, limited_form, member_form, member_of, replica_form}
 use Rattle.wire.specs.Messages.{hello_json, hello_of, only_vector}
-use Rattle.wire.specs.Operations.{head_json, id_json, last_from, last_json, mutation_json, operation_json, parts_from, path_json, phrase, root_json}
-use Rattle.wire.specs.Places.{Entered, count_parts, element_at, entered_of, key_form, numbered_key, only_key, path_form, path_of, parts_of, place_at_last, place_below, place_form, tag_form}
-use Rattle.wire.specs.Reading.{Fields, fields_form, fields_of, five_parts, mutation_form, mutation_of, nothing_more, only_value, operation_form, parts_after}
+use Rattle.wire.specs.Operations.{head_json, id_json, last_from, last_json, mutation_json, operation_json, parts_from, path_json, phrase}
+use Rattle.wire.specs.Operations.{root_json}
+use Rattle.wire.specs.Places.{Entered, count_parts, element_at, entered_of, key_form, numbered_key, only_key, path_form, path_of, parts_of}
+use Rattle.wire.specs.Places.{place_at_last, place_below, place_form, tag_form}
+use Rattle.wire.specs.Reading.{Fields, fields_form, fields_of, five_parts, mutation_form, mutation_of, nothing_more, only_value}
+use Rattle.wire.specs.Reading.{operation_form, parts_after}
 use Rattle.wire.specs.Vectors.{count, next_of, pair_form, pair_json, pair_of, pairs_above, vector_form, vector_json}
 use Rattle.wire.proofs.NormalNumbers.{AreNormal, IsNormal}
 
@@ -34,7 +40,8 @@ use Rattle.wire.proofs.NormalNumbers.{AreNormal, IsNormal}
 pub same_ok : {A : Type 0} (x y : A) → ◌≡◌ {A = Result A Refusal} (Ok x) (Ok y) → x ≡ y
 same_ok x y h = cc
 
-pub made_of : {A B : Type 0} (f : A → Result B Refusal) (r : Result A Refusal) (y : B) → and_then f r ≡ Ok y → (x : A) × (r ≡ Ok x) × (f x ≡ Ok y)
+pub made_of : {A B : Type 0} (f : A → Result B Refusal) (r : Result A Refusal) (y : B) → and_then f r ≡ Ok y
+    → (x : A) × (r ≡ Ok x) × (f x ≡ Ok y)
 made_of f (Ok x) y h = (x, refl, h)
 made_of f (Err why) y h = absurd (cc)
 
@@ -80,7 +87,9 @@ pub word_is : (word want : List ℕ) → bytes_eq word want ≡ true → word �
 word_is word want h = (bytes_eq-Decides word want).0 h
 
 limited_in : (limit : ℕ) (d : Data) (n : ℕ) → limited_form limit d ≡ Ok n → d ≡ count n
-limited_in limit d n h = let m = made_of (λ k. cond (is_from_one_to limit k) (Ok k) (Err BadLine)) (number_form d) n h in number_in d m.0 m.1 ∙ ap count (within (is_from_one_to limit m.0) m.0 m.2)
+limited_in limit d n h =
+    let m = made_of (λ k. cond (is_from_one_to limit k) (Ok k) (Err BadLine)) (number_form d) n h in
+    number_in d m.0 m.1 ∙ ap count (within (is_from_one_to limit m.0) m.0 m.2)
   where
     within : (t : Bool) (m : ℕ) → cond t (Ok m) (Err BadLine) ≡ Ok n → m ≡ n
     within true m e = same_ok m n e
@@ -95,7 +104,8 @@ id_in (item c (item r (item x xs))) a h = absurd (cc)
 id_in (item c (item r no_items)) a h =
     let n = made_of (λ n. and_then (λ p. Ok (id_at n p)) (replica_form r)) (counter_form c) a h in
     let p = made_of (λ p. Ok (id_at n.0 p)) (replica_form r) a n.2 in
-    (λ i. array (item (limited_in 4611686018427387904 c n.0 n.1 i) (item (limited_in 4294967295 r p.0 p.1 i) no_items))) ∙ ap id_json (same_ok (id_at n.0 p.0) a p.2)
+    (λ i. array (item (limited_in 4611686018427387904 c n.0 n.1 i) (item (limited_in 4294967295 r p.0 p.1 i) no_items)))
+    ∙ ap id_json (same_ok (id_at n.0 p.0) a p.2)
 
 member_is : (table : List ℕ) (a b : OpId) → member_of table a ≡ Ok b → a ≡ b
 member_is table a b h = by (is_member table a.replica) h
@@ -120,7 +130,8 @@ pair_in d a h = let xs = made_of pair_of (list_form d) a h in list_in d xs.0 xs.
     of (item r (item c no_items)) h =
         let p = made_of (λ p. and_then (λ c. Ok (id_at c p)) (counter_form c)) (replica_form r) a h in
         let n = made_of (λ c. Ok (id_at c p.0)) (counter_form c) a p.2 in
-        (λ i. array (item (limited_in 4294967295 r p.0 p.1 i) (item (limited_in 4611686018427387904 c n.0 n.1 i) no_items))) ∙ ap pair_json (same_ok (id_at n.0 p.0) a n.2)
+        (λ i. array (item (limited_in 4294967295 r p.0 p.1 i) (item (limited_in 4611686018427387904 c n.0 n.1 i) no_items)))
+        ∙ ap pair_json (same_ok (id_at n.0 p.0) a n.2)
 
 next_is : (table : List ℕ) (p : ℕ) (a b : OpId) → next_of table p a ≡ Ok b → a ≡ b
 next_is table p a b h = by (nat_lt p a.replica) h
@@ -132,24 +143,29 @@ next_is table p a b h = by (nat_lt p a.replica) h
 pairs_in : (table : List ℕ) (p : ℕ) (xs : Items) (v : Vector) → pairs_above table p xs ≡ Ok v → xs ≡ items_of (map pair_json v)
 pairs_in table p no_items v h = ap (λ (w : Vector). items_of (map pair_json w)) (same_ok [] v h)
 pairs_in table p (item d ds) v h =
-    let a = made_of (λ (a : OpId). and_then (λ w. Ok (a ∷ w)) (pairs_above table a.replica ds)) (and_then (next_of table p) (pair_form d)) v h in
+    let a = made_of (λ (a : OpId). and_then (λ w. Ok (a ∷ w)) (pairs_above table a.replica ds))
+    (and_then (next_of table p) (pair_form d)) v h in
     let b = made_of (next_of table p) (pair_form d) a.0 a.1 in
     let w = made_of (λ w. Ok (a.0 ∷ w)) (pairs_above table a.0.replica ds) v a.2 in
     let first : d ≡ pair_json a.0 = pair_in d b.0 b.1 ∙ ap pair_json (next_is table p b.0 a.0 b.2) in
-    (λ i. item (first i) (pairs_in table a.0.replica ds w.0 w.1 i)) ∙ ap (λ (u : Vector). items_of (map pair_json u)) (same_ok (a.0 ∷ w.0) v w.2)
+    (λ i. item (first i) (pairs_in table a.0.replica ds w.0 w.1 i))
+    ∙ ap (λ (u : Vector). items_of (map pair_json u)) (same_ok (a.0 ∷ w.0) v w.2)
 
 pub vector_in : (table : List ℕ) (d : Data) (v : Vector) → vector_form table d ≡ Ok v → d ≡ vector_json v
-vector_in table d v h = let xs = made_of (pairs_above table 0) (list_form d) v h in list_in d xs.0 xs.1 ∙ ap array (pairs_in table 0 xs.0 v xs.2)
+vector_in table d v h =
+    let xs = made_of (pairs_above table 0) (list_form d) v h in list_in d xs.0 xs.1 ∙ ap array (pairs_in table 0 xs.0 v xs.2)
 
 pub hello_in : (table : List ℕ) (d : Data) (v : Vector) → and_then (hello_of table) (phrase_form d) ≡ Ok v → d ≡ hello_json v
-hello_in table d v h = let p = made_of (hello_of table) (phrase_form d) v h in phrase_in d p.0 p.1 ∙ by (bytes_eq p.0.0 (codes "hello")) p.0.0 p.0.1 refl p.2
+hello_in table d v h =
+    let p = made_of (hello_of table) (phrase_form d) v h in phrase_in d p.0 p.1 ∙ by (bytes_eq p.0.0 (codes "hello")) p.0.0 p.0.1 refl p.2
   where
     only : (xs : Items) → only_vector table xs ≡ Ok v → xs ≡ item (vector_json v) no_items
     only no_items h = absurd (cc)
     only (item x (item y ys)) h = absurd (cc)
     only (item x no_items) h = ap (λ d. item d no_items) (vector_in table x v h)
 
-    by : (t : Bool) (word : List ℕ) (xs : Items) → bytes_eq word (codes "hello") ≡ t → cond t (only_vector table xs) (Err BadLine) ≡ Ok v → array (item (string word) xs) ≡ hello_json v
+    by : (t : Bool) (word : List ℕ) (xs : Items) → bytes_eq word (codes "hello") ≡ t → cond t (only_vector table xs) (Err BadLine) ≡ Ok v
+        → array (item (string word) xs) ≡ hello_json v
     by true word xs is e = λ i. array (item (string (word_is word (codes "hello") is i)) (only xs e i))
     by false word xs is e = absurd (cc)
 
@@ -192,7 +208,8 @@ key_in table (array xs) k h =
     let a = made_of (λ a. Ok (ItemId a)) (and_then (member_of table) (id_of xs)) k h in
     let b = made_of (member_of table) (id_of xs) a.0 a.1 in
     id_in xs b.0 b.1 ∙ ap id_json (member_is table b.0 a.0 b.2) ∙ ap key_data (same_ok (ItemId a.0) k a.2)
-key_in table (number n) k h = let m = made_of numbered_key (number_form (number n)) k h in number_in (number n) m.0 m.1 ∙ numbered_in table m.0 k m.2
+key_in table (number n) k h =
+    let m = made_of numbered_key (number_form (number n)) k h in number_in (number n) m.0 m.1 ∙ numbered_in table m.0 k m.2
 key_in table null k h = absurd (cc)
 key_in table (boolean b) k h = absurd (cc)
 key_in table (object ms) k h = absurd (cc)
@@ -200,7 +217,8 @@ key_in table (object ms) k h = absurd (cc)
 tag_in : (word : List ℕ) (t : Tag) → tag_form word ≡ Ok t → word ≡ tag_word t
 tag_in word t h = by (bytes_eq word (codes "m")) (bytes_eq word (codes "l")) refl refl h
   where
-    by : (m l : Bool) → bytes_eq word (codes "m") ≡ m → bytes_eq word (codes "l") ≡ l → cond m (Ok AsMap) (cond l (Ok AsList) (Err BadLine)) ≡ Ok t → word ≡ tag_word t
+    by : (m l : Bool) → bytes_eq word (codes "m") ≡ m → bytes_eq word (codes "l") ≡ l
+        → cond m (Ok AsMap) (cond l (Ok AsList) (Err BadLine)) ≡ Ok t → word ≡ tag_word t
     by true l is_m is_l e = word_is word (codes "m") is_m ∙ ap tag_word (same_ok AsMap t e)
     by false true is_m is_l e = word_is word (codes "l") is_l ∙ ap tag_word (same_ok AsList t e)
     by false false is_m is_l e = absurd (cc)
@@ -210,7 +228,8 @@ only_key_in table no_items k h = absurd (cc)
 only_key_in table (item x (item y ys)) k h = absurd (cc)
 only_key_in table (item x no_items) k h = ap (λ d. item d no_items) (key_in table x k h)
 
-part_in : (table : List ℕ) (d : Data) (x : Entered) → and_then (entered_of table) (phrase_form d) ≡ Ok x → d ≡ part_data (key_data x.key) x.tag
+part_in : (table : List ℕ) (d : Data) (x : Entered) → and_then (entered_of table) (phrase_form d) ≡ Ok x
+    → d ≡ part_data (key_data x.key) x.tag
 part_in table d x h =
     let p = made_of (entered_of table) (phrase_form d) x h in
     let t = made_of (λ t. and_then (λ k. Ok (record { key = k; tag = t })) (only_key table p.0.1)) (tag_form p.0.0) x p.2 in
@@ -225,10 +244,12 @@ parts_in table no_items xs h = ap (λ (ys : List Entered). items_of (parts_data 
 parts_in table (item d ds) xs h =
     let x = made_of (λ x. and_then (λ ys. Ok (x ∷ ys)) (parts_of table ds)) (and_then (entered_of table) (phrase_form d)) xs h in
     let ys = made_of (λ ys. Ok (x.0 ∷ ys)) (parts_of table ds) xs x.2 in
-    (λ i. item (part_in table d x.0 x.1 i) (parts_in table ds ys.0 ys.1 i)) ∙ ap (λ (zs : List Entered). items_of (parts_data zs)) (same_ok (x.0 ∷ ys.0) xs ys.2)
+    (λ i. item (part_in table d x.0 x.1 i) (parts_in table ds ys.0 ys.1 i))
+    ∙ ap (λ (zs : List Entered). items_of (parts_data zs)) (same_ok (x.0 ∷ ys.0) xs ys.2)
 
 path_in : (table : List ℕ) (d : Data) (xs : List Entered) → path_form table d ≡ Ok xs → d ≡ array (items_of (parts_data xs))
-path_in table d xs h = let ds = made_of (path_of table) (list_form d) xs h in list_in d ds.0 ds.1 ∙ ap array (short ds.0 (nat_lt 32 (count_parts ds.0)) ds.2)
+path_in table d xs h =
+    let ds = made_of (path_of table) (list_form d) xs h in list_in d ds.0 ds.1 ∙ ap array (short ds.0 (nat_lt 32 (count_parts ds.0)) ds.2)
   where
     short : (ds : Items) (t : Bool) → cond t (Err TooDeep) (parts_of table ds) ≡ Ok xs → ds ≡ items_of (parts_data xs)
     short ds true e = absurd (cc)
@@ -240,18 +261,22 @@ path_in table d xs h = let ds = made_of (path_of table) (list_form d) xs h in li
 abbrev LeadTo : Element → Data → List Data → Data → Place → Type 0
 LeadTo f before ds last p =
     ((ks : List Key) × (p ≡ At (down f ks)) × (ds ≡ parts_from before ks) × (last ≡ last_from before ks))
-    ⊎ ((ks : List Key) × (p ≡ HeadOf (down f ks)) × (ds ≡ parts_from before ks ++ phrase (codes "l") (last_from before ks ∷ []) ∷ []) × (last ≡ head_json))
+    ⊎ ((ks : List Key) × (p ≡ HeadOf (down f ks)) × (ds ≡ parts_from before ks ++ phrase (codes "l") (last_from before ks ∷ []) ∷ [])
+    × (last ≡ head_json))
 
 -- one key more in front
-one_field : (f : Element) (before : Data) (n : List ℕ) (ds : List Data) (last : Data) (p : Place) → LeadTo (Field f n) (string n) ds last p → LeadTo f before (part_data before AsMap ∷ ds) last p
+one_field : (f : Element) (before : Data) (n : List ℕ) (ds : List Data) (last : Data) (p : Place) → LeadTo (Field f n) (string n) ds last p
+    → LeadTo f before (part_data before AsMap ∷ ds) last p
 one_field f before n ds last p (inl l) = inl (FieldKey n ∷ l.0, l.1, ap (λ es. part_data before AsMap ∷ es) l.2, l.3)
 one_field f before n ds last p (inr l) = inr (FieldKey n ∷ l.0, l.1, ap (λ es. part_data before AsMap ∷ es) l.2, l.3)
 
-one_item : (f : Element) (before : Data) (a : OpId) (ds : List Data) (last : Data) (p : Place) → LeadTo (Item f a) (id_json a) ds last p → LeadTo f before (part_data before AsList ∷ ds) last p
+one_item : (f : Element) (before : Data) (a : OpId) (ds : List Data) (last : Data) (p : Place) → LeadTo (Item f a) (id_json a) ds last p
+    → LeadTo f before (part_data before AsList ∷ ds) last p
 one_item f before a ds last p (inl l) = inl (ItemKey a ∷ l.0, l.1, ap (λ es. part_data before AsList ∷ es) l.2, l.3)
 one_item f before a ds last p (inr l) = inr (ItemKey a ∷ l.0, l.1, ap (λ es. part_data before AsList ∷ es) l.2, l.3)
 
-at_last : (f : Element) (before : Data) (t : Tag) (last : LastKey) (p : Place) → place_at_last f (Some t) last ≡ Ok p → LeadTo f before (part_data before t ∷ []) (key_data last) p
+at_last : (f : Element) (before : Data) (t : Tag) (last : LastKey) (p : Place) → place_at_last f (Some t) last ≡ Ok p
+    → LeadTo f before (part_data before t ∷ []) (key_data last) p
 at_last f before AsList HeadKey p h = inr ([], sym (same_ok (HeadOf f) p h), refl, refl)
 at_last f before AsList (ItemId a) p h = inl (ItemKey a ∷ [], sym (same_ok (At (Item f a)) p h), refl, refl)
 at_last f before AsMap (FieldName n) p h = inl (FieldKey n ∷ [], sym (same_ok (At (Field f n)) p h), refl, refl)
@@ -265,22 +290,29 @@ at_last f before AsRegister (FieldName n) p h = absurd (cc)
 at_last f before AsRegister (ItemId a) p h = absurd (cc)
 at_last f before AsRegister HeadKey p h = absurd (cc)
 
-below : (f : Element) (before : Data) (t : Tag) (xs : List Entered) (last : LastKey) (p : Place) → place_below f (Some t) xs last ≡ Ok p → LeadTo f before (part_data before t ∷ parts_data xs) (key_data last) p
+below : (f : Element) (before : Data) (t : Tag) (xs : List Entered) (last : LastKey) (p : Place) → place_below f (Some t) xs last ≡ Ok p
+    → LeadTo f before (part_data before t ∷ parts_data xs) (key_data last) p
 below f before t [] last p h = at_last f before t last p h
-below f before t (x ∷ xs) last p h = by t x.key refl (λ e d there. below e d x.tag xs last p there) (made_of (λ g. place_below g (Some x.tag) xs last) (element_at f (Some t) x.key) p h)
+below f before t (x ∷ xs) last p h = by t x.key refl (λ e d there. below e d x.tag xs last p there)
+    (made_of (λ g. place_below g (Some x.tag) xs last) (element_at f (Some t) x.key) p h)
   where
     by : (t : Tag) (k : LastKey) → key_data x.key ≡ key_data k
-        → ((e : Element) (d : Data) → place_below e (Some x.tag) xs last ≡ Ok p → LeadTo e d (part_data d x.tag ∷ parts_data xs) (key_data last) p)
+        → ((e : Element) (d : Data) → place_below e (Some x.tag) xs last ≡ Ok p
+        → LeadTo e d (part_data d x.tag ∷ parts_data xs) (key_data last) p)
         → (g : Element) × (element_at f (Some t) k ≡ Ok g) × (place_below g (Some x.tag) xs last ≡ Ok p)
         → LeadTo f before (part_data before t ∷ part_data (key_data x.key) x.tag ∷ parts_data xs) (key_data last) p
     by AsMap (FieldName n) same rest g =
-        let there : place_below (Field f n) (Some x.tag) xs last ≡ Ok p = subst (λ e. place_below e (Some x.tag) xs last ≡ Ok p) (sym (same_ok (Field f n) g.0 g.1)) g.2 in
+        let there : place_below (Field f n) (Some x.tag) xs last
+        ≡ Ok p = subst (λ e. place_below e (Some x.tag) xs last ≡ Ok p) (sym (same_ok (Field f n) g.0 g.1)) g.2 in
         one_field f before n (part_data (key_data x.key) x.tag ∷ parts_data xs) (key_data last) p
-        (subst (λ d. LeadTo (Field f n) (string n) (part_data d x.tag ∷ parts_data xs) (key_data last) p) (sym same) (rest (Field f n) (string n) there))
+        (subst (λ d. LeadTo (Field f n) (string n) (part_data d x.tag ∷ parts_data xs) (key_data last) p) (sym same)
+        (rest (Field f n) (string n) there))
     by AsList (ItemId a) same rest g =
-        let there : place_below (Item f a) (Some x.tag) xs last ≡ Ok p = subst (λ e. place_below e (Some x.tag) xs last ≡ Ok p) (sym (same_ok (Item f a) g.0 g.1)) g.2 in
+        let there : place_below (Item f a) (Some x.tag) xs last
+        ≡ Ok p = subst (λ e. place_below e (Some x.tag) xs last ≡ Ok p) (sym (same_ok (Item f a) g.0 g.1)) g.2 in
         one_item f before a (part_data (key_data x.key) x.tag ∷ parts_data xs) (key_data last) p
-        (subst (λ d. LeadTo (Item f a) (id_json a) (part_data d x.tag ∷ parts_data xs) (key_data last) p) (sym same) (rest (Item f a) (id_json a) there))
+        (subst (λ d. LeadTo (Item f a) (id_json a) (part_data d x.tag ∷ parts_data xs) (key_data last) p) (sym same)
+        (rest (Item f a) (id_json a) there))
     by AsMap DocKey same rest g = absurd (let e = g.1 in cc)
     by AsMap (ItemId a) same rest g = absurd (let e = g.1 in cc)
     by AsMap HeadKey same rest g = absurd (let e = g.1 in cc)
@@ -293,7 +325,8 @@ below f before t (x ∷ xs) last p h = by t x.key refl (λ e d there. below e d 
     by AsRegister HeadKey same rest g = absurd (let e = g.1 in cc)
 
 -- what leads from the root to a place is that place, as it is written
-led : (ds : List Data) (last : Data) (p : Place) → LeadTo Doc root_json ds last p → (array (items_of ds) ≡ path_json p) × (last ≡ last_json p)
+led : (ds : List Data) (last : Data) (p : Place) → LeadTo Doc root_json ds last p
+    → (array (items_of ds) ≡ path_json p) × (last ≡ last_json p)
 led ds last p (inl l) =
     let keys : l.0 ≡ keys_from_root (down Doc l.0) = sym (keys_from_root-down l.0) in (
       ap (λ (es : List Data). array (items_of es)) (l.2 ∙ ap (parts_from root_json) keys) ∙ ap path_json (sym l.1),
@@ -301,21 +334,27 @@ led ds last p (inl l) =
     )
 led ds last p (inr l) =
     let keys : l.0 ≡ keys_from_root (down Doc l.0) = sym (keys_from_root-down l.0) in (
-      ap (λ (es : List Data). array (items_of es)) (l.2 ∙ ap (λ ks. parts_from root_json ks ++ phrase (codes "l") (last_from root_json ks ∷ []) ∷ []) keys) ∙ ap path_json (sym l.1),
+      ap (λ (es : List Data). array (items_of es))
+          (l.2 ∙ ap (λ ks. parts_from root_json ks ++ phrase (codes "l") (last_from root_json ks ∷ []) ∷ []) keys)
+          ∙ ap path_json (sym l.1),
       l.3 ∙ ap last_json (sym l.1),
     )
 
-from_root : (xs : List Entered) (last : LastKey) (p : Place) → place_below Doc None xs last ≡ Ok p → LeadTo Doc root_json (parts_data xs) (key_data last) p
+from_root : (xs : List Entered) (last : LastKey) (p : Place) → place_below Doc None xs last ≡ Ok p
+    → LeadTo Doc root_json (parts_data xs) (key_data last) p
 from_root [] DocKey p h = inl ([], sym (same_ok (At Doc) p h), refl, refl)
 from_root [] (FieldName n) p h = absurd (cc)
 from_root [] (ItemId a) p h = absurd (cc)
 from_root [] HeadKey p h = absurd (cc)
 from_root (x ∷ xs) last p h = by x.key refl (made_of (λ g. place_below g (Some x.tag) xs last) (element_at Doc None x.key) p h)
   where
-    by : (k : LastKey) → x.key ≡ k → (g : Element) × (element_at Doc None k ≡ Ok g) × (place_below g (Some x.tag) xs last ≡ Ok p) → LeadTo Doc root_json (part_data (key_data x.key) x.tag ∷ parts_data xs) (key_data last) p
+    by : (k : LastKey) → x.key ≡ k → (g : Element) × (element_at Doc None k ≡ Ok g) × (place_below g (Some x.tag) xs last ≡ Ok p)
+        → LeadTo Doc root_json (part_data (key_data x.key) x.tag ∷ parts_data xs) (key_data last) p
     by DocKey same g =
-        let there : place_below Doc (Some x.tag) xs last ≡ Ok p = subst (λ e. place_below e (Some x.tag) xs last ≡ Ok p) (sym (same_ok Doc g.0 g.1)) g.2 in
-        subst (λ k. LeadTo Doc root_json (part_data (key_data k) x.tag ∷ parts_data xs) (key_data last) p) (sym same) (below Doc root_json x.tag xs last p there)
+        let there : place_below Doc (Some x.tag) xs last
+        ≡ Ok p = subst (λ e. place_below e (Some x.tag) xs last ≡ Ok p) (sym (same_ok Doc g.0 g.1)) g.2 in
+        subst (λ k. LeadTo Doc root_json (part_data (key_data k) x.tag ∷ parts_data xs) (key_data last) p) (sym same)
+        (below Doc root_json x.tag xs last p there)
     by (FieldName n) same g = absurd (let e = g.1 in cc)
     by (ItemId a) same g = absurd (let e = g.1 in cc)
     by HeadKey same g = absurd (let e = g.1 in cc)
@@ -332,7 +371,8 @@ place_in table path last p h =
 whole_in : (m : ℕ) (v : Value) → value_form (number (unsigned m)) ≡ Ok v → number (unsigned m) ≡ json_of v
 whole_in m v h = by (nat_lt m (2 ^ 63)) h
   where
-    by : (t : Bool) → ok_or (option_map (λ z. Plain (Whole z)) (cond t (Some (pos m)) None)) NotWhole ≡ Ok v → number (unsigned m) ≡ json_of v
+    by : (t : Bool) → ok_or (option_map (λ z. Plain (Whole z)) (cond t (Some (pos m)) None)) NotWhole ≡ Ok v
+        → number (unsigned m) ≡ json_of v
     by true e = ap json_of (same_ok (Plain (Whole (pos m))) v e)
     by false e = absurd (cc)
 
@@ -369,18 +409,25 @@ mutation_in : (d : Data) (m : Mutation) → IsNormal d → mutation_form d ≡ O
 mutation_in d m normal h =
     let p = made_of mutation_of (phrase_form d) m h in
     let is = phrase_in d p.0 p.1 in
-    is ∙ by p.0.0 p.0.1 (bytes_eq p.0.0 (codes "a")) (bytes_eq p.0.0 (codes "i")) (bytes_eq p.0.0 (codes "d")) refl refl refl ((subst IsNormal is normal).1) p.2
+    is ∙ by p.0.0 p.0.1 (bytes_eq p.0.0 (codes "a")) (bytes_eq p.0.0 (codes "i")) (bytes_eq p.0.0 (codes "d")) refl refl refl
+    ((subst IsNormal is normal).1) p.2
   where
-    by : (word : List ℕ) (xs : Items) (a i d : Bool) → bytes_eq word (codes "a") ≡ a → bytes_eq word (codes "i") ≡ i → bytes_eq word (codes "d") ≡ d → AreNormal xs
-        → cond a (and_then (λ v. Ok (Assign v)) (only_value xs)) (cond i (and_then (λ v. Ok (Insert v)) (only_value xs)) (cond d (nothing_more xs) (Err BadLine))) ≡ Ok m
+    by : (word : List ℕ) (xs : Items) (a i d : Bool) → bytes_eq word (codes "a") ≡ a → bytes_eq word (codes "i") ≡ i
+        → bytes_eq word (codes "d") ≡ d → AreNormal xs
+        → cond a (and_then (λ v. Ok (Assign v)) (only_value xs))
+        (cond i (and_then (λ v. Ok (Insert v)) (only_value xs)) (cond d (nothing_more xs) (Err BadLine)))
+        ≡ Ok m
         → array (item (string word) xs) ≡ mutation_json m
     by word xs true i d is_a is_i is_d n e =
         let v = made_of (λ v. Ok (Assign v)) (only_value xs) m e in
-        (λ j. array (item (string (word_is word (codes "a") is_a j)) (only_value_in xs v.0 n v.1 j))) ∙ ap mutation_json (same_ok (Assign v.0) m v.2)
+        (λ j. array (item (string (word_is word (codes "a") is_a j)) (only_value_in xs v.0 n v.1 j)))
+        ∙ ap mutation_json (same_ok (Assign v.0) m v.2)
     by word xs false true d is_a is_i is_d n e =
         let v = made_of (λ v. Ok (Insert v)) (only_value xs) m e in
-        (λ j. array (item (string (word_is word (codes "i") is_i j)) (only_value_in xs v.0 n v.1 j))) ∙ ap mutation_json (same_ok (Insert v.0) m v.2)
-    by word xs false false true is_a is_i is_d n e = ap (λ w. array (item (string w) xs)) (word_is word (codes "d") is_d) ∙ nothing_in xs m e
+        (λ j. array (item (string (word_is word (codes "i") is_i j)) (only_value_in xs v.0 n v.1 j)))
+        ∙ ap mutation_json (same_ok (Insert v.0) m v.2)
+    by word xs false false true is_a is_i is_d n e = ap (λ w. array (item (string w) xs)) (word_is word (codes "d") is_d)
+        ∙ nothing_in xs m e
     by word xs false false false is_a is_i is_d n e = absurd (cc)
 
 -- ---- operations
@@ -390,7 +437,8 @@ abbrev fields_data : Fields → Items
 fields_data f = item f.id (item f.vector (item f.path (item f.last (item f.mutation no_items))))
 
 five_in : (xs : Items) (f : Fields) → five_parts xs ≡ Ok f → xs ≡ fields_data f
-five_in (item a (item b (item c (item d (item e no_items))))) f h = ap fields_data (same_ok (record { id = a; vector = b; path = c; last = d; mutation = e }) f h)
+five_in (item a (item b (item c (item d (item e no_items))))) f h = ap fields_data
+    (same_ok (record { id = a; vector = b; path = c; last = d; mutation = e }) f h)
 five_in no_items f h = absurd (cc)
 five_in (item a no_items) f h = absurd (cc)
 five_in (item a (item b no_items)) f h = absurd (cc)
@@ -399,9 +447,11 @@ five_in (item a (item b (item c (item d no_items)))) f h = absurd (cc)
 five_in (item a (item b (item c (item d (item e (item x xs)))))) f h = absurd (cc)
 
 fields_in : (d : Data) (f : Fields) → fields_form d ≡ Ok f → d ≡ array (item (string (codes "op")) (fields_data f))
-fields_in d f h = let p = made_of parts_after (phrase_form d) f h in phrase_in d p.0 p.1 ∙ by p.0.0 p.0.1 (bytes_eq p.0.0 (codes "op")) refl p.2
+fields_in d f h =
+    let p = made_of parts_after (phrase_form d) f h in phrase_in d p.0 p.1 ∙ by p.0.0 p.0.1 (bytes_eq p.0.0 (codes "op")) refl p.2
   where
-    by : (word : List ℕ) (xs : Items) (t : Bool) → bytes_eq word (codes "op") ≡ t → cond t (five_parts xs) (Err BadLine) ≡ Ok f → array (item (string word) xs) ≡ array (item (string (codes "op")) (fields_data f))
+    by : (word : List ℕ) (xs : Items) (t : Bool) → bytes_eq word (codes "op") ≡ t → cond t (five_parts xs) (Err BadLine) ≡ Ok f
+        → array (item (string word) xs) ≡ array (item (string (codes "op")) (fields_data f))
     by word xs true is e = λ i. array (item (string (word_is word (codes "op") is i)) (five_in xs f e i))
     by word xs false is e = absurd (cc)
 
@@ -410,12 +460,25 @@ operation_in table d s normal h =
     let f = made_of (fields_of table) (fields_form d) s h in
     let is = fields_in d f.0 f.1 in
     let n = subst IsNormal is normal in
-    let a = made_of (λ a. and_then (λ v. and_then (λ p. and_then (λ m. Ok (record { id = a; vector = v; place = p; mutation = m })) (mutation_form f.0.mutation)) (place_form table f.0.path f.0.last)) (vector_form table f.0.vector)) (member_form table f.0.id) s f.2 in
-    let v = made_of (λ v. and_then (λ p. and_then (λ m. Ok (record { id = a.0; vector = v; place = p; mutation = m })) (mutation_form f.0.mutation)) (place_form table f.0.path f.0.last)) (vector_form table f.0.vector) s a.2 in
-    let p = made_of (λ p. and_then (λ m. Ok (record { id = a.0; vector = v.0; place = p; mutation = m })) (mutation_form f.0.mutation)) (place_form table f.0.path f.0.last) s v.2 in
+    let a = made_of
+    (λ a. and_then
+    (λ v. and_then (λ p. and_then (λ m. Ok (record { id = a; vector = v; place = p; mutation = m })) (mutation_form f.0.mutation))
+    (place_form table f.0.path f.0.last))
+    (vector_form table f.0.vector))
+    (member_form table f.0.id) s f.2 in
+    let v = made_of
+    (λ v. and_then (λ p. and_then (λ m. Ok (record { id = a.0; vector = v; place = p; mutation = m })) (mutation_form f.0.mutation))
+    (place_form table f.0.path f.0.last))
+    (vector_form table f.0.vector) s a.2 in
+    let p = made_of (λ p. and_then (λ m. Ok (record { id = a.0; vector = v.0; place = p; mutation = m })) (mutation_form f.0.mutation))
+    (place_form table f.0.path f.0.last) s v.2 in
     let m = made_of (λ m. Ok (record { id = a.0; vector = v.0; place = p.0; mutation = m })) (mutation_form f.0.mutation) s p.2 in
     let it : Stamped = record { id = a.0; vector = v.0; place = p.0; mutation = m.0 } in
     let place = place_in table f.0.path f.0.last p.0 p.1 in
     is
-    ∙ (λ i. array (item (string (codes "op")) (item (member_in table f.0.id a.0 a.1 i) (item (vector_in table f.0.vector v.0 v.1 i) (item (place.0 i) (item (place.1 i) (item (mutation_in f.0.mutation m.0 n.1.1.1.1.1.0 m.1 i) no_items)))))))
+    ∙ (λ i. array
+    (item (string (codes "op"))
+    (item (member_in table f.0.id a.0 a.1 i)
+    (item (vector_in table f.0.vector v.0 v.1 i)
+    (item (place.0 i) (item (place.1 i) (item (mutation_in f.0.mutation m.0 n.1.1.1.1.1.0 m.1 i) no_items)))))))
     ∙ ap operation_json (same_ok it s m.2)

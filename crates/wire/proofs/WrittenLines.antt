@@ -1,5 +1,6 @@
 -- What is read of a line, or of a text of lines, is what was written there.
-use Rattle.std.proofs.Common.{◌≡◌, ℕ, Bool, true, false, cond, ◌+◌, length, List, [], ◌∷◌, map, Option, Some, None, Result, Ok, Err, refl, ap, ◌∙◌}
+use Rattle.std.proofs.Common.{◌≡◌, ℕ, Bool, true, false, cond, ◌+◌, length, List, [], ◌∷◌, map, Option, Some, None, Result, Ok, Err, refl}
+use Rattle.std.proofs.Common.{ap, ◌∙◌}
 use Rattle.std.specs.Option.{ok_or, option_map_or}
 use Rattle.std.specs.Str.{is_utf8}
 use Rattle.ids.specs.declared.refusal.Refusal.{Refusal}
@@ -9,8 +10,8 @@ use Rattle.semantics.specs.Vectors.{Vector}
 use Rattle.serde_json.specs.Data.{Data}
 use Rattle.serde_json.specs.Read.{read}
 use Rattle.wire.specs.Bundles.{Readable, all_or_bad, bundle_form, line_readable, lines_readable, tail_readable}
-use Rattle.wire.specs.Forms.{and_then, json_form, phrase_form}
-use Rattle.wire.specs.Lines.{Bad, cut}
+use Rattle.json_lines.specs.Forms.{and_then, json_form, phrase_form}
+use Rattle.json_lines.specs.Lines.{Bad, cut}
 use Rattle.wire.specs.Messages.{hello_form, hello_json, hello_of}
 use Rattle.wire.specs.Operations.{operation_json}
 use Rattle.wire.specs.Reading.{op_form, operation_form}
@@ -26,7 +27,8 @@ json_normal text d h = by (is_utf8 text) (read text) refl h
     by false o is e = absurd (cc)
 
 pub op_line_in : (table text : List ℕ) (s : Stamped) → op_form table text ≡ Ok s → json_form text ≡ Ok (operation_json s)
-op_line_in table text s h = let d = made_of (operation_form table) (json_form text) s h in d.1 ∙ ap Ok (operation_in table d.0 s (json_normal text d.0 d.1) d.2)
+op_line_in table text s h =
+    let d = made_of (operation_form table) (json_form text) s h in d.1 ∙ ap Ok (operation_in table d.0 s (json_normal text d.0 d.1) d.2)
 
 pub hello_line_in : (table text : List ℕ) (v : Vector) → hello_form table text ≡ Ok v → json_form text ≡ Ok (hello_json v)
 hello_line_in table text v h =
@@ -42,7 +44,9 @@ pub record IsWhole (r : Readable) (ss : List Stamped) : Type 0 where
 whole : (r : Readable) (ss : List Stamped) → all_or_bad r ≡ Ok ss → IsWhole r ss
 whole r ss h = by r.stopped refl h
   where
-    by : (o : Option Refusal) → r.stopped ≡ o → option_map_or {U = Result (List Stamped) Bad} (λ why. Err (length r.operations + 1, why)) o (Ok r.operations) ≡ Ok ss → IsWhole r ss
+    by : (o : Option Refusal) → r.stopped ≡ o
+        → option_map_or {U = Result (List Stamped) Bad} (λ why. Err (length r.operations + 1, why)) o (Ok r.operations) ≡ Ok ss
+        → IsWhole r ss
     by None is e = record { operations = (let same : r.operations ≡ ss = cc in same); unstopped = is }
     by (Some why) is e = absurd (cc)
 
@@ -57,13 +61,16 @@ lines_in table [] (b ∷ tail) h = absurd (cc)
 lines_in table (l ∷ ls) tail h = by (op_form table l) refl (λ e. lines_in table ls tail e) h
   where
     by : (r : Result Stamped Refusal) → op_form table l ≡ r
-        → ((lines_readable table ls tail).stopped ≡ None → (map json_form ls ≡ map (λ s. Ok (operation_json s)) (lines_readable table ls tail).operations) × (tail ≡ []))
+        → ((lines_readable table ls tail).stopped ≡ None
+        → (map json_form ls ≡ map (λ s. Ok (operation_json s)) (lines_readable table ls tail).operations) × (tail ≡ []))
         → (line_readable (lines_readable table ls tail) r).stopped ≡ None
-        → (map json_form (l ∷ ls) ≡ map (λ s. Ok (operation_json s)) (line_readable (lines_readable table ls tail) r).operations) × (tail ≡ [])
+        → (map json_form (l ∷ ls) ≡ map (λ s. Ok (operation_json s)) (line_readable (lines_readable table ls tail) r).operations)
+        × (tail ≡ [])
     by (Ok s) is rest e = (let more = rest e in ((λ i. op_line_in table l s is i ∷ more.0 i), more.1))
     by (Err why) is rest e = absurd (cc)
 
-pub bundle_in : (table text : List ℕ) (ss : List Stamped) → bundle_form table text ≡ Ok ss → (map json_form (cut text).lines ≡ map (λ s. Ok (operation_json s)) ss) × ((cut text).tail ≡ [])
+pub bundle_in : (table text : List ℕ) (ss : List Stamped) → bundle_form table text ≡ Ok ss
+    → (map json_form (cut text).lines ≡ map (λ s. Ok (operation_json s)) ss) × ((cut text).tail ≡ [])
 bundle_in table text ss h =
     let r = lines_readable table (cut text).lines (cut text).tail in
     let all = whole r ss h in

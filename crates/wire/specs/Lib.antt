@@ -1,5 +1,4 @@
 -- What operations, vectors and their parts are, as JSON.
-pub mod Forms
 pub mod Members
 pub mod Vectors
 pub mod Places
@@ -7,6 +6,5 @@ pub mod Operations
 pub mod Reading
 pub mod Meanings
 pub mod Sent
-pub mod Lines
 pub mod Messages
 pub mod Bundles

@@ -35,4 +35,10 @@ keys_ahead (Some t) = 1
 
 -- the fields of an operation
 abbrev pub fields_meant : OperationFields → Fields
-fields_meant f = record { id = view f.id.now; vector = view f.vector.now; path = view f.path.now; last = view f.last.now; mutation = view f.mutation.now }
+fields_meant f = record {
+  id = view f.id.now;
+  vector = view f.vector.now;
+  path = view f.path.now;
+  last = view f.last.now;
+  mutation = view f.mutation.now;
+}

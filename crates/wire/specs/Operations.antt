@@ -68,4 +68,5 @@ mutation_json Delete = phrase (codes "d") []
 
 -- an operation: its id, what it depends on, where it stands, and what it does
 abbrev pub operation_json : Stamped → Data
-operation_json s = phrase (codes "op") (id_json s.id ∷ vector_json s.vector ∷ path_json s.place ∷ last_json s.place ∷ mutation_json s.mutation ∷ [])
+operation_json s = phrase (codes "op")
+    (id_json s.id ∷ vector_json s.vector ∷ path_json s.place ∷ last_json s.place ∷ mutation_json s.mutation ∷ [])

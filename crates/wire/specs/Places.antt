@@ -9,7 +9,7 @@ use Rattle.semantics.specs.Elements.{Element, Doc, Field, Item, Place, At, HeadO
 use Rattle.serde_json.specs.Data.{Data, Items, no_items, item}
 use Rattle.serde_json.specs.Find.{as_array, as_str}
 use Rattle.cursor.specs.Places.{LastKey, DocKey, FieldName, ItemId, HeadKey}
-use Rattle.wire.specs.Forms.{and_then, list_form, number_form, phrase_form}
+use Rattle.json_lines.specs.Forms.{and_then, list_form, number_form, phrase_form}
 use Rattle.wire.specs.Members.{id_of, member_of}
 
 -- ---- keys
@@ -53,7 +53,8 @@ entered_of table p = and_then (λ t. and_then (λ k. Ok (record { key = k; tag =
 -- each part in its turn
 abbrev pub parts_of : List ℕ → Items → Result (List Entered) Refusal
 parts_of table no_items = Ok []
-parts_of table (item part parts) = and_then (λ x. and_then (λ xs. Ok (x ∷ xs)) (parts_of table parts)) (and_then (entered_of table) (phrase_form part))
+parts_of table (item part parts) = and_then
+    (λ x. and_then (λ xs. Ok (x ∷ xs)) (parts_of table parts)) (and_then (entered_of table) (phrase_form part))
 
 -- how many parts there are
 abbrev pub count_parts : Items → ℕ

@@ -18,7 +18,8 @@ use Rattle.wire.specs.Reading.{mutation_form}
 
 -- the id of a member's operation, whose numbers are within their limits
 abbrev pub IsSentId : List ℕ → OpId → Type 0
-IsSentId table a = IsTrue (is_from_one_to most_counter a.counter) × IsTrue (is_from_one_to most_replica a.replica) × IsTrue (is_member table a.replica)
+IsSentId table a = IsTrue (is_from_one_to most_counter a.counter) × IsTrue (is_from_one_to most_replica a.replica)
+    × IsTrue (is_member table a.replica)
 
 -- such ids, whose replicas rise above p
 abbrev pub IsSentVector : List ℕ → ℕ → Vector → Type 0

@@ -6,16 +6,16 @@ ghost use Rattle.ids.specs.declared.refusal.Refusal.TheVariants.{NoMemory};
 ghost use Rattle.semantics.specs.Stamped.{Stamped};
 ghost use Rattle.operation.specs.Meanings.{stamped_of};
 ghost use Rattle.wire.specs.Bundles.{IsBadOf, bundle_form, bundle_text, readable};
-ghost use Rattle.wire.specs.Forms.{json_form};
-ghost use Rattle.wire.specs.Lines.{cut};
+ghost use Rattle.json_lines.specs.Forms.{json_form};
+ghost use Rattle.json_lines.specs.Lines.{cut};
 ghost use Rattle.wire.specs.Messages.{op_line};
 ghost use Rattle.wire.specs.Operations.{operation_json};
 ghost use Rattle.wire.specs.Reading.{op_form};
 ghost use Rattle.wire.specs.Sent.{CanBeSent};
 
-use crate::lines::{LINE_END, Lines};
 use crate::messages::{read_op, write_op};
 use ids::{Refusal, ReplicaTable};
+use json_lines::{LINE_END, Lines};
 use operation::Op;
 use std::alloc::{AllocError, Global};
 
@@ -26,7 +26,9 @@ use std::alloc::{AllocError, Global};
 /// `AllocError` if allocation fails.
 pub fn write_bundle(alloc: Global, ops: &[Op], table: &ReplicaTable) -> Result<Vec<u8>, AllocError>
     ensures text { IfOk result (λ text. text.items ≡ bundle_text (map (stamped_of table.now) ops.now)) }
-    ensures reads_back { IfOk result (λ text. All (λ o. CanBeSent table.now (stamped_of table.now o)) ops.now → bundle_form table.now text.items ≡ Ok (map (stamped_of table.now) ops.now)) }
+    ensures reads_back { IfOk result
+        (λ text. All (λ o. CanBeSent table.now (stamped_of table.now o)) ops.now
+        → bundle_form table.now text.items ≡ Ok (map (stamped_of table.now) ops.now)) }
 {
     let mut text = Vec::new(alloc);
     for op in ops {
@@ -51,7 +53,9 @@ pub struct LinesRead {
 /// Reading stops at the first bad line, with the refusal of `read_op`; bytes after the last line feed are a bad line, `BadLine`. It
 /// also stops with `NoMemory` if allocation fails: what was read until then is kept.
 pub fn read_lines(alloc: Global, text: &[u8], table: &ReplicaTable) -> LinesRead
-    ensures read { (result.stopped ≡ Some NoMemory) ⊎ ((map (stamped_of table.now) result.ops.items ≡ (readable table.now text.now).operations) × (result.stopped ≡ (readable table.now text.now).stopped)) }
+    ensures read { (result.stopped ≡ Some NoMemory)
+        ⊎ ((map (stamped_of table.now) result.ops.items ≡ (readable table.now text.now).operations)
+        × (result.stopped ≡ (readable table.now text.now).stopped)) }
     ensures first { map (stamped_of table.now) result.ops.items ≡ take (length result.ops.items) (readable table.now text.now).operations }
     ensures width { All (λ o. length o.deps ≡ length table.now) result.ops.items }
 {
@@ -92,7 +96,8 @@ pub fn read_bundle(
     text: &[u8],
     table: &ReplicaTable,
 ) -> Result<Vec<Op>, (u64, Refusal)>
-    ensures read { MatchResult result (λ ops. bundle_form table.now text.now ≡ Ok (map (stamped_of table.now) ops.items)) (IsBadOf (bundle_form table.now text.now)) }
+    ensures read { MatchResult result
+        (λ ops. bundle_form table.now text.now ≡ Ok (map (stamped_of table.now) ops.items)) (IsBadOf (bundle_form table.now text.now)) }
     ensures width { IfOk result (λ ops. All (λ o. length o.deps ≡ length table.now) ops.items) }
 {
     let LinesRead { ops, stopped } = read_lines(alloc, text, table);
@@ -104,13 +109,17 @@ pub fn read_bundle(
 
 /// If the line of each operation is read as that operation, a bundle is read as its operations, also where more follows it.
 pub fn bundles_are_read_back()
-    ensures bundle { (table : List ℕ) (ss : List Stamped) → All (λ s. op_form table (op_line s) ≡ Ok s) ss → bundle_form table (bundle_text ss) ≡ Ok ss }
-    ensures operations { (table : List ℕ) (ss : List Stamped) (rest : List ℕ) → All (λ s. op_form table (op_line s) ≡ Ok s) ss → (readable table (bundle_text ss ++ rest)).operations ≡ ss ++ (readable table rest).operations }
-    ensures stopped { (table : List ℕ) (ss : List Stamped) (rest : List ℕ) → All (λ s. op_form table (op_line s) ≡ Ok s) ss → (readable table (bundle_text ss ++ rest)).stopped ≡ (readable table rest).stopped }
+    ensures bundle { (table : List ℕ) (ss : List Stamped) → All (λ s. op_form table (op_line s) ≡ Ok s) ss
+        → bundle_form table (bundle_text ss) ≡ Ok ss }
+    ensures operations { (table : List ℕ) (ss : List Stamped) (rest : List ℕ) → All (λ s. op_form table (op_line s) ≡ Ok s) ss
+        → (readable table (bundle_text ss ++ rest)).operations ≡ ss ++ (readable table rest).operations }
+    ensures stopped { (table : List ℕ) (ss : List Stamped) (rest : List ℕ) → All (λ s. op_form table (op_line s) ≡ Ok s) ss
+        → (readable table (bundle_text ss ++ rest)).stopped ≡ (readable table rest).stopped }
 {}
 
 /// A text that is read as a bundle is whole lines, each with the JSON that writing its operation gives.
 pub fn bundles_are_written_alike()
-    ensures lines { (table text : List ℕ) (ss : List Stamped) → bundle_form table text ≡ Ok ss → map json_form (cut text).lines ≡ map (λ s. Ok (operation_json s)) ss }
+    ensures lines { (table text : List ℕ) (ss : List Stamped) → bundle_form table text ≡ Ok ss
+        → map json_form (cut text).lines ≡ map (λ s. Ok (operation_json s)) ss }
     ensures tail { (table text : List ℕ) (ss : List Stamped) → bundle_form table text ≡ Ok ss → (cut text).tail ≡ [] }
 {}

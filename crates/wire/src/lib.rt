@@ -2,8 +2,6 @@
 #![tactic(auto)]
 
 mod bundles;
-mod forms;
-mod lines;
 mod members;
 mod messages;
 mod operations;
@@ -15,8 +13,6 @@ pub use bundles::{
     LinesRead, bundles_are_read_back, bundles_are_written_alike, read_bundle, read_lines,
     write_bundle,
 };
-pub use forms::{json_of, list_in, number_in, phrase_in, text_in};
-pub use lines::{Line, Lines};
 pub use messages::{
     lines_are_read_back, operations_are_read_back, read_op, read_vector,
     what_is_read_is_written_alike, write_op, write_vector,

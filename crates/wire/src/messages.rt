@@ -5,7 +5,7 @@ ghost use Rattle.std.specs.Prelude.{◌≡◌, ℕ, List, Ok, IfOk, IsTrue, IsUt
 ghost use Rattle.semantics.specs.Tables.{by_table};
 ghost use Rattle.serde_json.specs.View.{view, items_view};
 ghost use Rattle.operation.specs.Meanings.{stamped_of};
-ghost use Rattle.wire.specs.Forms.{IsRead, json_form};
+ghost use Rattle.json_lines.specs.Forms.{IsRead, json_form};
 ghost use Rattle.wire.specs.Messages.{hello_form, hello_json, only_vector, op_line, vector_line};
 ghost use Rattle.semantics.specs.Stamped.{Stamped};
 ghost use Rattle.semantics.specs.Vectors.{Vector};
@@ -13,11 +13,11 @@ ghost use Rattle.wire.specs.Operations.{operation_json};
 ghost use Rattle.wire.specs.Reading.{op_form, operation_form};
 ghost use Rattle.wire.specs.Sent.{AreReplicas, CanBeSent, IsSent, are_counters};
 
-use crate::forms::{json_of, phrase_in};
 use crate::operations::operation_value;
 use crate::reading::operation_in;
 use crate::vectors::{vector_in, vector_value};
 use ids::{Refusal, ReplicaTable};
+use json_lines::{json_of, phrase_in};
 use operation::Op;
 use serde_json::{Value, json};
 use std::alloc::{AllocError, Global};
@@ -30,7 +30,8 @@ use version::VersionVector;
 /// `AllocError` if allocation fails.
 pub fn write_op(alloc: Global, op: &Op, table: &ReplicaTable) -> Result<Vec<u8>, AllocError>
     ensures line { IfOk result (λ text. text.items ≡ op_line (stamped_of table.now op.now)) }
-    ensures reads_back { IfOk result (λ text. CanBeSent table.now (stamped_of table.now op.now) → op_form table.now text.items ≡ Ok (stamped_of table.now op.now)) }
+    ensures reads_back { IfOk result
+        (λ text. CanBeSent table.now (stamped_of table.now op.now) → op_form table.now text.items ≡ Ok (stamped_of table.now op.now)) }
 {
     Ok(operation_value(alloc, table, op)?.to_vec(alloc)?)
 }
@@ -45,7 +46,9 @@ pub fn write_vector(
     table: &ReplicaTable,
 ) -> Result<Vec<u8>, AllocError>
     ensures line { IfOk result (λ text. text.items ≡ vector_line (by_table table.now vector.now)) }
-    ensures reads_back { IfOk result (λ text. IsTrue (are_counters (by_table table.now vector.now)) → hello_form table.now text.items ≡ Ok (by_table table.now vector.now)) }
+    ensures reads_back { IfOk result
+        (λ text. IsTrue (are_counters (by_table table.now vector.now))
+        → hello_form table.now text.items ≡ Ok (by_table table.now vector.now)) }
 {
     Ok(hello_value(alloc, table, vector)?.to_vec(alloc)?)
 }

@@ -4,7 +4,8 @@ ghost use Rattle.std.specs.Prelude.{◌≡◌, map, IfOk, Ok};
 ghost use Rattle.serde_json.specs.View.{view};
 ghost use Rattle.cursor.specs.Meanings.{hop_of};
 ghost use Rattle.operation.specs.Meanings.{mutation_of, stamped_of};
-ghost use Rattle.wire.specs.Operations.{entered_json, head_json, id_json, key_json, last_from, last_json, mutation_json, operation_json, parts_from, path_json, root_json};
+ghost use Rattle.wire.specs.Operations.{entered_json, head_json, id_json, key_json, last_from, last_json, mutation_json, operation_json};
+ghost use Rattle.wire.specs.Operations.{parts_from, path_json, root_json};
 ghost use Rattle.wire.specs.Reading.{mutation_form};
 ghost use Rattle.wire.specs.Sent.{AreTypedKeys, IsTyped, IsTypedKey, IsTypedPlace};
 
@@ -52,7 +53,8 @@ fn place_values(alloc: Global, place: &Place) -> Result<(Value, Value), AllocErr
 
 /// The path of these hops, each key with its tag, and the key of the last hop.
 fn path_parts(alloc: Global, hops: &[Hop]) -> Result<(Vec<Value>, Value), AllocError>
-    ensures json { IfOk result (λ p. (map view p.0.items ≡ parts_from root_json (map hop_of hops.now)) × (view p.1 ≡ last_from root_json (map hop_of hops.now))) }
+    ensures json { IfOk result
+        (λ p. (map view p.0.items ≡ parts_from root_json (map hop_of hops.now)) × (view p.1 ≡ last_from root_json (map hop_of hops.now))) }
     ensures typed { IfOk result (λ _. AreTypedKeys (map hop_of hops.now)) }
 {
     let mut parts = Vec::new(alloc);

@@ -7,14 +7,15 @@ ghost use Rattle.semantics.specs.Limits.{most_keys};
 ghost use Rattle.semantics.specs.Elements.{Doc};
 ghost use Rattle.semantics.specs.Paths.{down};
 ghost use Rattle.cursor.specs.Meanings.{hop_of, tag_of};
-ghost use Rattle.wire.specs.Forms.{IsRead, IsUnlessMemory, and_then, phrase_form};
+ghost use Rattle.json_lines.specs.Forms.{IsRead, IsUnlessMemory, and_then, phrase_form};
 ghost use Rattle.wire.specs.Meanings.{entered_as, key_meant, keys_ahead, part_meant};
-ghost use Rattle.wire.specs.Places.{element_at, entered_of, is_list_head, key_form, numbered_key, only_key, parts_of, path_form, place_at_last, place_below, place_form, tag_form};
+ghost use Rattle.wire.specs.Places.{element_at, entered_of, is_list_head, key_form, numbered_key, only_key, parts_of, path_form};
+ghost use Rattle.wire.specs.Places.{place_at_last, place_below, place_form, tag_form};
 
-use crate::forms::{list_in, number_in, phrase_in};
 use crate::members::{id_of, member_of};
 use cursor::{Hop, MOST_KEYS, Place, Tag};
 use ids::{OpId, Refusal, ReplicaTable};
+use json_lines::{list_in, number_in, phrase_in};
 use serde_json::Value;
 use std::alloc::Global;
 use value::Key;
@@ -146,7 +147,8 @@ fn place_of(alloc: Global, parts: Vec<Part>, last: WrittenKey) -> Result<Place, 
 /// Appends the hop to a key of the map or the list here. The root, where nothing is entered, is no hop.
 fn enter(hops: &mut Vec<Hop>, entered: Option<Tag>, key: WrittenKey) -> Result<(), Refusal>
     ensures element { MatchResult result
-        (λ _. element_at (down Doc (map hop_of hops.old.items)) (entered_as entered) (key_meant key) ≡ Ok (down Doc (map hop_of hops.new.items)))
+        (λ _. element_at (down Doc (map hop_of hops.old.items)) (entered_as entered) (key_meant key)
+        ≡ Ok (down Doc (map hop_of hops.new.items)))
         (λ why. IsUnlessMemory (Err why) (element_at (down Doc (map hop_of hops.old.items)) (entered_as entered) (key_meant key))) }
     ensures length { length hops.new.items ≤ length hops.old.items + keys_ahead entered }
 {

@@ -7,19 +7,19 @@ ghost use Rattle.semantics.specs.Operations.{Delete};
 ghost use Rattle.semantics.specs.Tables.{by_table};
 ghost use Rattle.value.specs.Meanings.{value_of};
 ghost use Rattle.operation.specs.Meanings.{mutation_of, stamped_of};
-ghost use Rattle.wire.specs.Forms.{IsRead, IsUnlessMemory};
+ghost use Rattle.json_lines.specs.Forms.{IsRead, IsUnlessMemory};
 ghost use Rattle.wire.specs.Meanings.{fields_meant};
 ghost use Rattle.wire.specs.Members.{member_form};
 ghost use Rattle.wire.specs.Places.{place_form};
 ghost use Rattle.wire.specs.Reading.{fields_form, five_parts, mutation_form, nothing_more, only_value, operation_form};
 ghost use Rattle.wire.specs.Vectors.{vector_form};
 
-use crate::forms::phrase_in;
 use crate::members::member_in;
 use crate::places::place_in;
 use crate::vectors::vector_in;
 use cursor::Place;
 use ids::{OpId, Refusal, ReplicaTable};
+use json_lines::phrase_in;
 use operation::{Mutation, Op};
 use serde_json::Value;
 use std::alloc::Global;
@@ -62,7 +62,8 @@ struct OperationFields<'a> {
 impl<'a> OperationFields<'a> {
     /// The parts after the word `op`.
     fn of(value: &'a Value) -> Result<OperationFields<'a>, Refusal>
-        ensures { MatchResult result (λ f. fields_form (view value.entry.now) ≡ Ok (fields_meant f)) (λ why. fields_form (view value.entry.now) ≡ Err why) }
+        ensures { MatchResult result (λ f. fields_form (view value.entry.now) ≡ Ok (fields_meant f))
+            (λ why. fields_form (view value.entry.now) ≡ Err why) }
     {
         let (word, parts) = phrase_in(value)?;
         match word {
@@ -72,7 +73,8 @@ impl<'a> OperationFields<'a> {
     }
 
     fn of_parts(parts: &'a [Value]) -> Result<OperationFields<'a>, Refusal>
-        ensures { MatchResult result (λ f. five_parts (items_view parts.entry.now) ≡ Ok (fields_meant f)) (λ why. five_parts (items_view parts.entry.now) ≡ Err why) }
+        ensures { MatchResult result (λ f. five_parts (items_view parts.entry.now) ≡ Ok (fields_meant f))
+            (λ why. five_parts (items_view parts.entry.now) ≡ Err why) }
     {
         let [id, vector, path, last, mutation] = parts else {
             return Err(Refusal::BadLine);

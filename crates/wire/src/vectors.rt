@@ -4,13 +4,13 @@
 ghost use Rattle.std.specs.Prelude.{◌≡◌, ◌≤◌, IfOk, length};
 ghost use Rattle.semantics.specs.Tables.{by_table};
 ghost use Rattle.serde_json.specs.View.{view, items_view};
-ghost use Rattle.wire.specs.Forms.{IsRead};
+ghost use Rattle.json_lines.specs.Forms.{IsRead};
 ghost use Rattle.wire.specs.Sent.{AreReplicas, IsReplica};
 ghost use Rattle.wire.specs.Vectors.{pair_form, pair_json, pairs_above, vector_form, vector_json};
 
-use crate::forms::list_in;
 use crate::members::{counter_in, replica_in};
 use ids::{OpId, Refusal, ReplicaTable};
+use json_lines::list_in;
 use serde_json::{Value, json};
 use std::alloc::{AllocError, Global};
 use version::VersionVector;

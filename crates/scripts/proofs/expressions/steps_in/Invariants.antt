@@ -2,10 +2,11 @@
 use Rattle.std.proofs.Common.{◌≡◌, ◌++◌, drop, map, Ok}
 use Rattle.cursor.specs.Meanings.{step_of}
 use Rattle.serde_json.specs.View.{items_view}
-use Rattle.wire.specs.Forms.{and_then}
+use Rattle.json_lines.specs.Forms.{and_then}
 use Rattle.scripts.specs.Expressions.{path_steps_of}
 use Rattle.scripts.proofs.expressions.steps_in.Given as goal
 
 abbrev pub invariant-loop-part : goal.invariant-loop-part
 invariant-loop-part l =
-    and_then (λ ss. Ok (map step_of l.steps.items ++ ss)) (path_steps_of (items_view (drop l.part-index l.parts))) ≡ path_steps_of (items_view l.parts)
+    and_then (λ ss. Ok (map step_of l.steps.items ++ ss)) (path_steps_of (items_view (drop l.part-index l.parts)))
+    ≡ path_steps_of (items_view l.parts)

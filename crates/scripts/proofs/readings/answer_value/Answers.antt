@@ -19,8 +19,10 @@ mapped f g [] = refl
 mapped f g (x ∷ xs) = ap (λ ys. f (g x) ∷ ys) (mapped f g xs)
 
 -- the JSON of a list is what is read
-listed : {E : Type 0} (r : Result Value E) (xs : List Data) (wanted : ℕ → Data) → ((seen : ℕ) → wanted seen ≡ phrase (codes "reading") (count seen ∷ array (items_of xs) ∷ []))
-    → IfOk r (λ v. view v ≡ array (items_of xs)) → IfOk r (λ v. (seen : ℕ) → wanted seen ≡ phrase (codes "reading") (count seen ∷ view v ∷ []))
+listed : {E : Type 0} (r : Result Value E) (xs : List Data) (wanted : ℕ → Data)
+    → ((seen : ℕ) → wanted seen ≡ phrase (codes "reading") (count seen ∷ array (items_of xs) ∷ []))
+    → IfOk r (λ v. view v ≡ array (items_of xs))
+    → IfOk r (λ v. (seen : ℕ) → wanted seen ≡ phrase (codes "reading") (count seen ∷ view v ∷ []))
 listed (Ok v) xs wanted h e = λ seen. h seen ∙ ap (λ (d : Data). phrase (codes "reading") (count seen ∷ d ∷ [])) (sym e)
 listed (Err why) xs wanted h e = tt
 
@@ -29,7 +31,8 @@ list_json seen xs = phrase (codes "reading") (count seen ∷ array (items_of xs)
 
 pub returns-in-Values : goal.returns-in-Values
 returns-in-Values c =
-    listed c.values_value.result (map (λ p. row_json (p.0, scalar_of p.1)) c.deref.result.now) (λ seen. reading_json seen (said_by c.args.table.now c.args.reading.now))
+    listed c.values_value.result (map (λ p. row_json (p.0, scalar_of p.1)) c.deref.result.now)
+    (λ seen. reading_json seen (said_by c.args.table.now c.args.reading.now))
     (λ seen. ap (λ r. reading_json seen (said_by c.args.table.now r)) c.in-Values.is
     ∙ ap (list_json seen) (sym (mapped row_json (λ p. (p.0, scalar_of p.1)) c.in-Values.values.items))
     ∙ ap (λ xs. list_json seen (map (λ p. row_json (p.0, scalar_of p.1)) xs)) (sym c.deref.ensures.value))
@@ -37,7 +40,8 @@ returns-in-Values c =
 
 pub returns-in-Conflicts : goal.returns-in-Conflicts
 returns-in-Conflicts c =
-    listed c.conflicts_value.result (map (λ p. conflict_json (p.0, tag_of p.1)) c.deref-in-Conflicts.result.now) (λ seen. reading_json seen (said_by c.args.table.now c.args.reading.now))
+    listed c.conflicts_value.result (map (λ p. conflict_json (p.0, tag_of p.1)) c.deref-in-Conflicts.result.now)
+    (λ seen. reading_json seen (said_by c.args.table.now c.args.reading.now))
     (λ seen. ap (λ r. reading_json seen (said_by c.args.table.now r)) c.in-Conflicts.is
     ∙ ap (list_json seen) (sym (mapped conflict_json (λ p. (p.0, tag_of p.1)) c.in-Conflicts.pairs.items))
     ∙ ap (λ xs. list_json seen (map (λ p. conflict_json (p.0, tag_of p.1)) xs)) (sym c.deref-in-Conflicts.ensures.value))
@@ -46,7 +50,8 @@ returns-in-Conflicts c =
 pub returns-in-Missing : goal.returns-in-Missing
 returns-in-Missing c =
     let table = c.args.table.now in
-    listed c.operations_value.result (map (λ o. operation_json (stamped_of table o)) c.deref-in-Missing.result.now) (λ seen. reading_json seen (said_by table c.args.reading.now))
+    listed c.operations_value.result (map (λ o. operation_json (stamped_of table o)) c.deref-in-Missing.result.now)
+    (λ seen. reading_json seen (said_by table c.args.reading.now))
     (λ seen. ap (λ r. reading_json seen (said_by table r)) c.in-Missing.is
     ∙ ap (λ (ss : List Stamped). list_json seen (map operation_json ss)) (reverse-reverse (map (stamped_of table) c.in-Missing.ops.items))
     ∙ ap (list_json seen) (sym (mapped operation_json (stamped_of table) c.in-Missing.ops.items))

@@ -5,4 +5,5 @@ use Rattle.scripts.specs.Replies.{reply_text}
 use Rattle.scripts.proofs.replies.reply_lines.Given as goal
 
 abbrev pub invariant-loop-reply : goal.invariant-loop-reply
-invariant-loop-reply l = string_bytes l.lines ++ reply_text (map reply_of (drop l.reply-index l.replies)) ≡ reply_text (map reply_of l.replies)
+invariant-loop-reply l = string_bytes l.lines ++ reply_text (map reply_of (drop l.reply-index l.replies))
+    ≡ reply_text (map reply_of l.replies)

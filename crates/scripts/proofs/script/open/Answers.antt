@@ -8,7 +8,7 @@ use Rattle.world.specs.Worlds.{tables_of}
 use Rattle.scripts.specs.declared.error.ScriptError.{ScriptError}
 use Rattle.scripts.specs.Engines.{if_within_limits}
 use Rattle.scripts.specs.Errors.{IsErrorOf, error_of}
-use Rattle.wire.specs.Lines.{Bad, on_line, unless_bad}
+use Rattle.json_lines.specs.Lines.{Bad, on_line, unless_bad}
 use Rattle.scripts.specs.Scripts.{steps_left}
 use Rattle.scripts.proofs.AskedTables.{opened_tables}
 use Rattle.scripts.proofs.script.open.Goals as goal
@@ -25,6 +25,7 @@ with_steps-requires c = ap (λ (W : World). tables_of W.engines) c.in-Ok.ensures
 
 pub returns-in-Err-clause-err : goal.returns-in-Err-clause-err
 returns-in-Err-clause-err c =
-    refused c.args.engines.now c.in-Err.why c.of_line.result (λ gs. steps_left gs c.args.lines.now.taken c.args.lines.now.rest.now) c.in-Err.ensures.err
+    refused c.args.engines.now c.in-Err.why c.of_line.result
+    (λ gs. steps_left gs c.args.lines.now.taken c.args.lines.now.rest.now) c.in-Err.ensures.err
     (λ bad. c.new.ensures.bad_config.0 (c.in-Err.is ∙ ap Err bad))
     c.of_line.ensures

@@ -9,10 +9,10 @@ use Rattle.scripts.specs.Engines.{engines_line}
 use Rattle.ids.specs.Configurations.{is_within_limits}
 use Rattle.scripts.specs.Engines.{if_within_limits, said_engines}
 use Rattle.scripts.specs.Errors.{IsErrorOf, error_of}
-use Rattle.wire.specs.Lines.{Bad, IsFirstLine, on_line, unless_bad}
+use Rattle.json_lines.specs.Lines.{Bad, IsFirstLine, on_line, unless_bad}
 use Rattle.scripts.specs.Scripts.{script_form, steps_left}
 use Rattle.scripts.proofs.StepsLeft.{script_form-bad, script_form-engines, script_form-none}
-use Rattle.wire.proofs.UnlessMemory.{IsUnlessMemory-Err}
+use Rattle.json_lines.proofs.UnlessMemory.{IsUnlessMemory-Err}
 use Rattle.scripts.proofs.script.read_script.Goals as goal
 
 both : {T E : Type 0} (r : Result T E) (P Q : T → Type 0) → IfOk r P → IfOk r Q → IfOk r (λ x. P x × Q x)
@@ -20,7 +20,8 @@ both (Ok x) P Q p q = (p, q)
 both (Err e) P Q p q = p
 
 -- engines within the limits are those of their line
-allowed : (line : List ℕ) (gs : List Configuration) → said_engines line ≡ Ok gs → list_all is_within_limits gs ≡ true → engines_line line ≡ Ok gs
+allowed : (line : List ℕ) (gs : List Configuration) → said_engines line ≡ Ok gs → list_all is_within_limits gs ≡ true
+    → engines_line line ≡ Ok gs
 allowed line gs e within = rw (e, within) refl
 
 -- a fault of the limits, or of the further lines, is the script's
@@ -50,7 +51,8 @@ returns-in-Err-clause-err c =
 pub returns-in-Ok-clause-ok : goal.returns-in-Ok-clause-ok
 returns-in-Ok-clause-ok c =
     let first = rw c.new-lines.ensures.all_left at c.in-Some.ensures.line in
-    let one : c.take_line.new.self.taken ≡ 1 = omega (arith, c.in-Some.ensures.number.0, c.in-Some.ensures.number.1, c.new-lines.ensures.none_taken) in
+    let one : c.take_line.new.self.taken
+    ≡ 1 = omega (arith, c.in-Some.ensures.number.0, c.in-Some.ensures.number.1, c.new-lines.ensures.none_taken) in
     let gs = c.as_slice.result.now in
     let said : said_engines c.in-Some.first.text.now ≡ Ok gs = c.in-Ok.ensures ∙ ap Ok (sym c.as_slice.ensures.value) in
     IfOk-weaker c.open.result _ _
@@ -60,7 +62,8 @@ returns-in-Ok-clause-ok c =
 pub returns-in-Ok-clause-err : goal.returns-in-Ok-clause-err
 returns-in-Ok-clause-err c =
     let first = rw c.new-lines.ensures.all_left at c.in-Some.ensures.line in
-    let one : c.take_line.new.self.taken ≡ 1 = omega (arith, c.in-Some.ensures.number.0, c.in-Some.ensures.number.1, c.new-lines.ensures.none_taken) in
+    let one : c.take_line.new.self.taken
+    ≡ 1 = omega (arith, c.in-Some.ensures.number.0, c.in-Some.ensures.number.1, c.new-lines.ensures.none_taken) in
     let gs = c.as_slice.result.now in
     let said : said_engines c.in-Some.first.text.now ≡ Ok gs = c.in-Ok.ensures ∙ ap Ok (sym c.as_slice.ensures.value) in
     IfErr-weaker c.open.result _ _ (λ f why. further _ _ _ _ f first said _ refl (rw one at why)) c.open.ensures.err

@@ -9,7 +9,7 @@ use Rattle.world.specs.Worlds.{IsAskedBeside, step_in, tables_of}
 use Rattle.scripts.specs.Errors.{error_of}
 use Rattle.scripts.specs.Scripts.{steps_left}
 use Rattle.scripts.proofs.StepsLeft.{after, after-step, after-bad, after-cut}
-use Rattle.wire.proofs.UnlessMemory.{IsUnlessMemory-Err}
+use Rattle.json_lines.proofs.UnlessMemory.{IsUnlessMemory-Err}
 use Rattle.scripts.proofs.script.read_steps.Goals as goal
 
 pub loop-line-preserved : goal.loop-line-preserved
@@ -18,12 +18,16 @@ loop-line-preserved c =
     let old : List WorldStep = c.loop-line.steps.items in
     let x = c.in-Ok.step in
     let engines = c.args.engines.now in
-    let step = after-step engines c.loop-line.lines.taken _ _ _ (map (step_in tables) old) (step_in tables x) c.in-Some.ensures.line c.in-Ok.ensures.read in
-    let more : map (step_in tables) (old ++ x ∷ []) ≡ map (step_in tables) old ++ step_in tables x ∷ [] = map-append (step_in tables) old (x ∷ []) in
+    let step = after-step engines c.loop-line.lines.taken _ _ _ (map (step_in tables) old)
+    (step_in tables x) c.in-Some.ensures.line c.in-Ok.ensures.read in
+    let more : map (step_in tables) (old ++ x ∷ [])
+    ≡ map (step_in tables) old ++ step_in tables x ∷ [] = map-append (step_in tables) old (x ∷ []) in
     record {
       left = rw (c.in_ok-push-in-Ok.ensures.items, c.in-Some.ensures.number.1, c.in-Some.ensures.number.0)
-          (ap (λ (ss : List TheStep). after ss (steps_left engines (c.loop-line.lines.taken + 1) c.take_line.new.self.rest.now)) more ∙ sym step ∙ c.loop-line.invariant.left);
-      beside = subst (All (IsAskedBeside tables)) (sym c.in_ok-push-in-Ok.ensures.items) (All-push (IsAskedBeside tables) old x c.loop-line.invariant.beside c.in-Ok.ensures.beside);
+          (ap (λ (ss : List TheStep). after ss (steps_left engines (c.loop-line.lines.taken + 1) c.take_line.new.self.rest.now)) more
+          ∙ sym step ∙ c.loop-line.invariant.left);
+      beside = subst (All (IsAskedBeside tables)) (sym c.in_ok-push-in-Ok.ensures.items)
+          (All-push (IsAskedBeside tables) old x c.loop-line.invariant.beside c.in-Ok.ensures.beside);
     }
 
 pub returns-in-Err-clause-steps : goal.returns-in-Err-clause-steps
@@ -33,7 +37,8 @@ returns-in-Err-clause-steps c =
       | inl e ↦ inl (c.of_line.ensures ∙ ap (error_of c.in-Some.line.number) e)
       | inr e ↦ inr (
         (c.loop-line.lines.taken + 1, c.in-Err.why),
-        sym c.loop-line.invariant.left ∙ after-bad c.args.engines.now c.loop-line.lines.taken _ _ _ ss c.in-Err.why c.in-Some.ensures.line e,
+        sym c.loop-line.invariant.left
+            ∙ after-bad c.args.engines.now c.loop-line.lines.taken _ _ _ ss c.in-Err.why c.in-Some.ensures.line e,
         rw (← c.in-Some.ensures.number.0) c.of_line.ensures,
       )
     ]

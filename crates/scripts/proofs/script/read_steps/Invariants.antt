@@ -2,7 +2,7 @@
 use Rattle.std.proofs.Common.{◌≡◌, ◌++◌, map, length, Ok}
 use Rattle.std.specs.List.{All}
 use Rattle.world.specs.Worlds.{IsAskedBeside, step_in, tables_of}
-use Rattle.wire.specs.Lines.{unless_bad}
+use Rattle.json_lines.specs.Lines.{unless_bad}
 use Rattle.scripts.specs.Scripts.{steps_left}
 use Rattle.scripts.proofs.script.read_steps.Given as goal
 
@@ -11,6 +11,8 @@ decreases-loop-line l = length l.lines.rest.now
 
 abbrev pub invariant-loop-line : goal.invariant-loop-line
 invariant-loop-line l = record {
-  left : unless_bad (λ ss. Ok (map (step_in (tables_of l.world.engines)) l.steps.items ++ ss)) (steps_left l.engines l.lines.taken l.lines.rest.now) ≡ steps_left l.engines l.fn.lines.taken l.fn.lines.rest.now;
+  left : unless_bad (λ ss. Ok (map (step_in (tables_of l.world.engines)) l.steps.items ++ ss))
+      (steps_left l.engines l.lines.taken l.lines.rest.now)
+      ≡ steps_left l.engines l.fn.lines.taken l.fn.lines.rest.now;
   beside : All (IsAskedBeside (tables_of l.world.engines)) l.steps.items;
 }

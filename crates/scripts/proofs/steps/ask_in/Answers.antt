@@ -6,7 +6,7 @@ use Rattle.document.specs.Documents.{IsBeside, asked_of}
 use Rattle.world.specs.Worlds.{tables_of}
 use Rattle.serde_json.specs.declared.value.Value.{Value}
 use Rattle.serde_json.specs.View.{view, items_view}
-use Rattle.wire.specs.Forms.{number_form}
+use Rattle.json_lines.specs.Forms.{number_form}
 use Rattle.scripts.specs.Requests.{question_form, table_in}
 use Rattle.scripts.specs.Steps.{ask_of}
 use Rattle.scripts.proofs.AskedTables.{same_table}
@@ -26,7 +26,8 @@ asked tables (x1 ∷ x2 ∷ x3 ∷ x4 ∷ xs) x y z e t q n a b d i j k = absurd
 pub returns-clause-beside : goal.returns-clause-beside
 returns-clause-beside c =
     let tables = tables_of c.args.world.now.engines in
-    subst (λ table. IsBeside table c.in_ok-question.question) (ap table_in c.table.ensures ∙ same_table tables c.in_ok-engine.engine) c.in_ok-question.ensures.beside
+    subst (λ table. IsBeside table c.in_ok-question.question)
+    (ap table_in c.table.ensures ∙ same_table tables c.in_ok-engine.engine) c.in_ok-question.ensures.beside
 
 pub returns-clause-read : goal.returns-clause-read
 returns-clause-read c =
@@ -34,8 +35,10 @@ returns-clause-read c =
     let q = c.in_ok-question.question in
     let z : Value = c.question-item.result in
     let three : length c.args.parts.now ≡ 3 = omega (arith, c.in-len3.len_at_least, c.in-len3.len_below) in
-    let read : question_form (slice_get tables c.in_ok-engine.engine) (view z) ≡ Ok (asked_of (table_in (slice_get tables c.in_ok-engine.engine)) q) =
-    subst (λ (o : Option (List ℕ)). question_form o (view z) ≡ Ok (asked_of (table_in o) q)) c.table.ensures c.in_ok-question.ensures.read in
+    let read : question_form (slice_get tables c.in_ok-engine.engine) (view z)
+    ≡ Ok (asked_of (table_in (slice_get tables c.in_ok-engine.engine)) q) =
+    subst (λ (o : Option (List ℕ)). question_form o (view z)
+    ≡ Ok (asked_of (table_in o) q)) c.table.ensures c.in_ok-question.ensures.read in
     asked tables c.args.parts.now c.engine-item.result c.token-item.result z c.in_ok-engine.engine c.in_ok-token.token _ three c.engine-item.is c.token-item.is c.question-item.is
     (sym c.in_ok-engine.ensures) (sym c.in_ok-token.ensures)
     (read ∙ ap (λ table. Ok (asked_of table q)) (same_table tables c.in_ok-engine.engine))

@@ -7,7 +7,7 @@ use Rattle.operation.specs.declared.op.Op.{Op}
 use Rattle.operation.specs.Meanings.{stamped_of}
 use Rattle.wire.specs.Bundles.{Readable, readable}
 use Rattle.wire.proofs.BundleLines.{after, after-bad, after-cut, after-none, after-op}
-use Rattle.wire.proofs.UnlessMemory.{IsUnlessMemory-Err}
+use Rattle.json_lines.proofs.UnlessMemory.{IsUnlessMemory-Err}
 use Rattle.wire.proofs.bundles.read_lines.Goals as goal
 use Rattle.wire.proofs.bundles.read_lines.Goals.{in-Some-cut_line, in-None}
 
@@ -18,10 +18,14 @@ loop-line-preserved c =
     let x = c.in-Ok.op in
     let pushed : c.push.new.self.items ≡ old ++ x ∷ [] = search rules in
     let step = after-op table _ _ _ (map (stamped_of table) old) (stamped_of table x) c.in-Some.ensures.line c.in-Ok.ensures.read in
-    let more : map (stamped_of table) (old ++ x ∷ []) ≡ map (stamped_of table) old ++ stamped_of table x ∷ [] = map-append (stamped_of table) old (x ∷ []) in
+    let more : map (stamped_of table) (old ++ x ∷ [])
+    ≡ map (stamped_of table) old ++ stamped_of table x ∷ [] = map-append (stamped_of table) old (x ∷ []) in
     record {
-      left = rw pushed (ap (λ (ss : List Stamped). after ss (readable table c.take_line.new.self.rest.now)) more ∙ sym step ∙ c.loop-line.invariant.left);
-      width = subst (All (λ (o : Op). length o.deps ≡ length table)) (sym pushed) (All-push (λ (o : Op). length o.deps ≡ length table) old x c.loop-line.invariant.width c.in-Ok.ensures.width);
+      left = rw pushed
+          (ap (λ (ss : List Stamped). after ss (readable table c.take_line.new.self.rest.now)) more ∙ sym step
+          ∙ c.loop-line.invariant.left);
+      width = subst (All (λ (o : Op). length o.deps ≡ length table)) (sym pushed)
+          (All-push (λ (o : Op). length o.deps ≡ length table) old x c.loop-line.invariant.width c.in-Ok.ensures.width);
     }
 
 pub returns-in-Err-clause-read : goal.returns-in-Err-clause-read

@@ -1,4 +1,5 @@
-use Rattle.std.proofs.Common.{◌≡◌, ◌+◌, ◌++◌, ℕ, [], ◌∷◌, List, map, drop, drop-cons, add-one, sym, ap, ◌∙◌, subst, append_assoc, append-nil}
+use Rattle.std.proofs.Common.{◌≡◌, ◌+◌, ◌++◌, ℕ, [], ◌∷◌, List, map, drop, drop-cons, add-one, sym, ap, ◌∙◌, subst, append_assoc}
+use Rattle.std.proofs.Common.{append-nil}
 use Rattle.std.specs.List.{All}
 use Rattle.std.proofs.lemmas.List.{drop_all, take_all}
 use Rattle.std.proofs.lemmas.List.Elements.{All-map, All-more}
@@ -21,8 +22,10 @@ loop-op-preserved c =
     let before = c.loop-op.text.items in
     let line : c.in_ok-line.line.items ≡ op_line (f o) = c.in_ok-line.ensures.line in
     let rest : List ℕ = bundle_text (map f (drop (i + 1) ops)) in
-    let pushed : c.push.new.self.items ≡ (before ++ op_line (f o)) ++ 10 ∷ [] = c.in_ok-push.ensures.items ∙ ap (λ bs. bs ++ 10 ∷ []) (c.in_ok-extend_from_slice.ensures.items ∙ ap (λ bs. before ++ bs) (c.as_slice.ensures.value ∙ line)) in
-    let next : drop i ops ≡ o ∷ drop (i + 1) ops = drop-cons ops i o c.loop-op-test.true ∙ (λ j. sym c.op-item.is j ∷ drop (sym (add-one i) j) ops) in
+    let pushed : c.push.new.self.items ≡ (before ++ op_line (f o)) ++ 10 ∷ [] = c.in_ok-push.ensures.items
+    ∙ ap (λ bs. bs ++ 10 ∷ []) (c.in_ok-extend_from_slice.ensures.items ∙ ap (λ bs. before ++ bs) (c.as_slice.ensures.value ∙ line)) in
+    let next : drop i ops ≡ o ∷ drop (i + 1) ops = drop-cons ops i o c.loop-op-test.true
+    ∙ (λ j. sym c.op-item.is j ∷ drop (sym (add-one i) j) ops) in
     record {
       left =
           ap (λ bs. bs ++ rest) pushed
@@ -31,7 +34,8 @@ loop-op-preserved c =
           ∙ ap (λ (xs : List Op). before ++ bundle_text (map f xs)) (sym next)
           ∙ c.loop-op.invariant.left;
       back = All-more (λ (x : Op). IsBackIfSent table (f x)) ops i o c.loop-op-test.true c.loop-op.invariant.back
-          (subst (λ (x : Op). IsBackIfSent table (f x)) c.op-item.is (record { back = λ sent. rw (← line) (c.in_ok-line.ensures.reads_back sent) }));
+          (subst (λ (x : Op). IsBackIfSent table (f x)) c.op-item.is
+          (record { back = λ sent. rw (← line) (c.in_ok-line.ensures.reads_back sent) }));
     }
 
 pub returns-clause-reads_back : goal.returns-clause-reads_back
@@ -41,6 +45,9 @@ returns-clause-reads_back c sent =
     let ops = c.args.ops.now in
     let ended : drop c.loop-op.op-index ops ≡ [] = drop_all c.loop-op.op-index ops c.loop-op-test.false in
     let text : c.loop-op.text.items ≡ bundle_text (map f ops) =
-    sym (append-nil c.loop-op.text.items) ∙ ap (λ (xs : List Op). c.loop-op.text.items ++ bundle_text (map f xs)) (sym ended) ∙ c.loop-op.invariant.left in
-    let back = subst (All (λ (x : Op). IsBackIfSent table (f x))) (take_all c.loop-op.op-index ops c.loop-op-test.false) c.loop-op.invariant.back in
-    ap (bundle_form table) text ∙ sent_bundle_back table (map f ops) (All-map (CanBeSent table) f ops sent) (All-map (IsBackIfSent table) f ops back)
+    sym (append-nil c.loop-op.text.items) ∙ ap (λ (xs : List Op). c.loop-op.text.items ++ bundle_text (map f xs)) (sym ended)
+    ∙ c.loop-op.invariant.left in
+    let back = subst (All (λ (x : Op). IsBackIfSent table (f x)))
+    (take_all c.loop-op.op-index ops c.loop-op-test.false) c.loop-op.invariant.back in
+    ap (bundle_form table) text
+    ∙ sent_bundle_back table (map f ops) (All-map (CanBeSent table) f ops sent) (All-map (IsBackIfSent table) f ops back)

@@ -8,7 +8,8 @@ use Rattle.wire.proofs.operations.path_parts.Given as goal
 
 abbrev pub invariant-loop-hop : goal.invariant-loop-hop
 invariant-loop-hop l = record {
-  parts : map view l.parts.items ++ parts_from (view l.last) (map hop_of (drop l.hop-index l.hops)) ≡ parts_from root_json (map hop_of l.hops);
+  parts : map view l.parts.items ++ parts_from (view l.last) (map hop_of (drop l.hop-index l.hops))
+      ≡ parts_from root_json (map hop_of l.hops);
   last : last_from (view l.last) (map hop_of (drop l.hop-index l.hops)) ≡ last_from root_json (map hop_of l.hops);
   typed : AreTypedKeys (map hop_of (drop l.hop-index l.hops)) → AreTypedKeys (map hop_of l.hops);
 }

@@ -13,6 +13,7 @@ invariant-loop-part l = record {
   kept : l.last ≡ l.fn.last;
   whole : into_iter_len l.part-iterator ≡ length (into_iter_items l.part-iterator);
   few : (length l.hops.items + keys_ahead l.entered) + length (into_iter_items l.part-iterator) ≤ 32;
-  left : place_below (down Doc (map hop_of l.hops.items)) (entered_as l.entered) (map part_meant (into_iter_items l.part-iterator)) (key_meant l.fn.last)
+  left : place_below (down Doc (map hop_of l.hops.items)) (entered_as l.entered) (map part_meant (into_iter_items l.part-iterator))
+      (key_meant l.fn.last)
       ≡ place_below Doc None (map part_meant l.fn.parts.items) (key_meant l.fn.last);
 }

@@ -1,4 +1,5 @@
-use Rattle.std.proofs.Common.{◌≡◌, ◌≢◌, ◌<◌, ◌+◌, ℕ, max, cond, ◌==◌, List, [], ◌∷◌, ◌++◌, length, length-set, drop, drop-cons, get_or, Result, Ok, Err, refl, sym, ap, ◌∙◌, subst, append_assoc, add-one, arith}
+use Rattle.std.proofs.Common.{◌≡◌, ◌≢◌, ◌<◌, ◌+◌, ℕ, max, cond, ◌==◌, List, [], ◌∷◌, ◌++◌, length, length-set, drop, drop-cons, get_or}
+use Rattle.std.proofs.Common.{Result, Ok, Err, refl, sym, ap, ◌∙◌, subst, append_assoc, add-one, arith}
 use Rattle.std.proofs.lemmas.List.{length-replicate}
 use Rattle.std.proofs.lemmas.Bool.{lt-ltb}
 use Rattle.std.proofs.lemmas.Option.{slice_get_within, get_or_from_slice_get}
@@ -10,7 +11,7 @@ use Rattle.semantics.specs.Tables.{by_table, component}
 use Rattle.serde_json.specs.declared.value.Value.{Value}
 use Rattle.serde_json.specs.View.{view, items_view}
 use Rattle.version.proofs.TableColumns.{component-raised, component-zeros}
-use Rattle.wire.specs.Forms.{and_then}
+use Rattle.json_lines.specs.Forms.{and_then}
 use Rattle.wire.specs.Vectors.{next_of, pair_form, pairs_above}
 use Rattle.wire.proofs.ReadVectors.{by_table-more, by_table-zeros, none_above}
 use Rattle.wire.proofs.vectors.pairs_in.Goals as goal
@@ -21,11 +22,14 @@ none_before (Ok v) = refl
 none_before (Err why) = refl
 
 -- one pair more
-after_pair : (done : Vector) (a : OpId) (table : List ℕ) (last : ℕ) (x : Value) (xs : List Value) → pair_form (view x) ≡ Ok a → next_of table last a ≡ Ok a
-    → and_then (λ v. Ok (done ++ v)) (pairs_above table last (items_view (x ∷ xs))) ≡ and_then (λ v. Ok ((done ++ a ∷ []) ++ v)) (pairs_above table a.replica (items_view xs))
+after_pair : (done : Vector) (a : OpId) (table : List ℕ) (last : ℕ) (x : Value) (xs : List Value) → pair_form (view x) ≡ Ok a
+    → next_of table last a ≡ Ok a
+    → and_then (λ v. Ok (done ++ v)) (pairs_above table last (items_view (x ∷ xs)))
+    ≡ and_then (λ v. Ok ((done ++ a ∷ []) ++ v)) (pairs_above table a.replica (items_view xs))
 after_pair done a table last x xs e n = rw (e, n) (joined (pairs_above table a.replica (items_view xs)))
   where
-    joined : (r : Result Vector Refusal) → and_then (λ v. Ok (done ++ v)) (and_then (λ v. Ok (a ∷ v)) r) ≡ and_then (λ v. Ok ((done ++ a ∷ []) ++ v)) r
+    joined : (r : Result Vector Refusal)
+        → and_then (λ v. Ok (done ++ v)) (and_then (λ v. Ok (a ∷ v)) r) ≡ and_then (λ v. Ok ((done ++ a ∷ []) ++ v)) r
     joined (Ok v) = simp append_assoc
     joined (Err why) = refl
 
@@ -37,7 +41,8 @@ loop-pair-init c =
     record {
       width = ap length zeros ∙ length-replicate c.len.result 0 ∙ c.len.ensures.length;
       none_above = λ p q. ap (λ cs. component ps cs p) zeros ∙ component-zeros ps c.len.result p;
-      left = ap (λ (done : Vector). and_then (λ v. Ok (done ++ v)) (pairs_above ps 0 (items_view c.args.pairs.now))) none ∙ none_before (pairs_above ps 0 (items_view c.args.pairs.now));
+      left = ap (λ (done : Vector). and_then (λ v. Ok (done ++ v)) (pairs_above ps 0 (items_view c.args.pairs.now))) none
+          ∙ none_before (pairs_above ps 0 (items_view c.args.pairs.now));
     }
 
 pub raise-requires : goal.raise-requires
@@ -59,15 +64,19 @@ loop-pair-preserved c =
     let above : last < id.replica = omega (arith, c.if-replica-last.false, c.number-replica.ensures.number) in
     let next : next_of ps last id ≡ Ok id = rw (lt-ltb last id.replica above, member_at ps id.replica c.in-Some.index within there) refl in
     let raised : (p : ℕ) → component ps ds p ≡ cond (id.replica == p) (max id.counter (component ps cs p)) (component ps cs p) =
-    (λ p. ap (λ ks. component ps ks p) c.raise.ensures ∙ component-raised ps cs c.in-Some.index id.counter p id.replica c.len.ensures.distinct within c.loop-pair.invariant.width there) in
+    (λ p. ap (λ ks. component ps ks p) c.raise.ensures
+    ∙ component-raised ps cs c.in-Some.index id.counter p id.replica c.len.ensures.distinct within c.loop-pair.invariant.width there) in
     let some : id.counter ≢ 0 = (λ e. absurd (omega (arith, e, c.in_ok-id.ensures.counted))) in
     let same : c.number-replica.result ≡ id.replica = c.number-replica.ensures.number in
-    let rest : drop n xs ≡ c.pair-item.result ∷ drop (n + 1) xs = drop-cons xs n c.pair-item.result c.loop-pair-test.true ∙ (λ i. sym c.pair-item.is i ∷ drop (sym (add-one n) i) xs) in
+    let rest : drop n xs ≡ c.pair-item.result ∷ drop (n + 1) xs = drop-cons xs n c.pair-item.result c.loop-pair-test.true
+    ∙ (λ i. sym c.pair-item.is i ∷ drop (sym (add-one n) i) xs) in
     record {
       width = ap length c.raise.ensures ∙ length-set cs c.in-Some.index _ ∙ c.loop-pair.invariant.width;
       none_above = λ p q. none_above ps cs ds id last raised c.loop-pair.invariant.none_above above p (subst (λ r. r < p) same q);
       left =
-          (λ i. and_then (λ v. Ok (by_table-more ps cs ds id last c.len.ensures.distinct raised c.loop-pair.invariant.none_above above some i ++ v)) (pairs_above ps (same i) (items_view (drop (n + 1) xs))))
+          (λ i. and_then
+          (λ v. Ok (by_table-more ps cs ds id last c.len.ensures.distinct raised c.loop-pair.invariant.none_above above some i ++ v))
+          (pairs_above ps (same i) (items_view (drop (n + 1) xs))))
           ∙ sym (after_pair (by_table ps cs) id ps last c.pair-item.result (drop (n + 1) xs) (sym c.in_ok-id.ensures.form) next)
           ∙ ap (λ ys. and_then (λ v. Ok (by_table ps cs ++ v)) (pairs_above ps last (items_view ys))) (sym rest)
           ∙ c.loop-pair.invariant.left;

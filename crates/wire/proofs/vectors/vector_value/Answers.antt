@@ -1,4 +1,5 @@
-use Rattle.std.proofs.Common.{◌≡◌, ◌<◌, ◌≤◌, ◌++◌, ◌∷◌, [], ℕ, zero, suc, min, Vec, List, length, map, drop, refl, sym, ap, ◌∙◌, append_assoc, append-nil, add-one, subst, arith}
+use Rattle.std.proofs.Common.{◌≡◌, ◌<◌, ◌≤◌, ◌++◌, ◌∷◌, [], ℕ, zero, suc, min, Vec, List, length, map, drop, refl, sym, ap, ◌∙◌}
+use Rattle.std.proofs.Common.{append_assoc, append-nil, add-one, subst, arith}
 use Rattle.std.proofs.lemmas.List.{map-append}
 use Rattle.std.specs.declared.alloc.Global.{Global}
 use Rattle.semantics.specs.Ids.{OpId, id_at}
@@ -11,7 +12,8 @@ use Rattle.wire.specs.Sent.{AreReplicas}
 use Rattle.wire.specs.Vectors.{pair_json}
 use Rattle.wire.proofs.ListedVectors.{by_table-nil, listed_none, listed_some, listed_zero}
 use Rattle.wire.proofs.vectors.vector_value.Goals as goal
-use Rattle.wire.proofs.vectors.vector_value.Goals.{then-counter-gt0+in-Some+in_ok-pair_value+in_ok-push, then-counter-gt0+in_default, else-counter-gt0}
+use Rattle.wire.proofs.vectors.vector_value.Goals.{then-counter-gt0+in-Some+in_ok-pair_value+in_ok-push, then-counter-gt0+in_default}
+use Rattle.wire.proofs.vectors.vector_value.Goals.{else-counter-gt0}
 
 pub loop-index-preserved : goal.loop-index-preserved
 loop-index-preserved c =
@@ -25,12 +27,15 @@ loop-index-preserved c =
     rw (add-one i)
     (elim c.if-counter-gt0.branch [
       | then-counter-gt0+in-Some+in_ok-pair_value+in_ok-push w ↦
-          let next : here ≡ id_at c.get-counter.result w.in-Some.replica ∷ left = listed_some ps cs i c.get-counter.result w.in-Some.replica c.len.ensures.rising (sym w.in-Some.ensures) within (sym c.get-counter.ensures) w.if-counter-gt0.true in
+          let next : here
+          ≡ id_at c.get-counter.result w.in-Some.replica ∷ left = listed_some ps cs i c.get-counter.result w.in-Some.replica c.len.ensures.rising
+          (sym w.in-Some.ensures) within (sym c.get-counter.ensures) w.if-counter-gt0.true in
           record {
             json =
                 ap (λ (v : Vec Value Global). map view v.items ++ map pair_json left) w.pairs-is
                 ∙ ap (λ (vs : List Value). map view vs ++ map pair_json left) w.in_ok-push.ensures.items
-                ∙ ap (λ (ds : List Data). ds ++ map pair_json left) (map-append view c.loop-index.pairs.items (w.in_ok-pair_value.field-0 ∷ []))
+                ∙ ap (λ (ds : List Data). ds ++ map pair_json left)
+                (map-append view c.loop-index.pairs.items (w.in_ok-pair_value.field-0 ∷ []))
                 ∙ append_assoc before (view w.in_ok-pair_value.field-0 ∷ []) (map pair_json left)
                 ∙ ap (λ (d : Data). before ++ d ∷ map pair_json left) w.in_ok-pair_value.ensures.json
                 ∙ ap (λ (ids : List OpId). before ++ map pair_json ids) (sym next)
@@ -71,7 +76,8 @@ returns-clause-json c =
     let ps = c.args.table.now in
     let cs = c.args.vector.now in
     let i : ℕ = c.loop-index.index in
-    let ended : by_table (drop i ps) (drop i cs) ≡ [] = past ps cs i (omega (arith, c.loop-index-test.false, c.min-count.ensures, c.width.ensures, c.len.ensures.length)) in
+    let ended : by_table (drop i ps) (drop i cs)
+    ≡ [] = past ps cs i (omega (arith, c.loop-index-test.false, c.min-count.ensures, c.width.ensures, c.len.ensures.length)) in
     let all : map view c.loop-index.pairs.items ≡ map pair_json (by_table ps cs) =
     sym (append-nil (map view c.loop-index.pairs.items))
     ∙ ap (λ (ids : List OpId). map view c.loop-index.pairs.items ++ map pair_json ids) (sym ended)
@@ -83,5 +89,6 @@ returns-clause-typed c =
     let ps = c.args.table.now in
     let cs = c.args.vector.now in
     let i : ℕ = c.loop-index.index in
-    let ended : by_table (drop i ps) (drop i cs) ≡ [] = past ps cs i (omega (arith, c.loop-index-test.false, c.min-count.ensures, c.width.ensures, c.len.ensures.length)) in
+    let ended : by_table (drop i ps) (drop i cs)
+    ≡ [] = past ps cs i (omega (arith, c.loop-index-test.false, c.min-count.ensures, c.width.ensures, c.len.ensures.length)) in
     c.loop-index.invariant.typed (subst AreReplicas (sym ended) tt)

@@ -8,6 +8,7 @@ use Rattle.wire.proofs.vectors.vector_value.Given as goal
 
 abbrev pub invariant-loop-index : goal.invariant-loop-index
 invariant-loop-index l = record {
-  json : map view l.pairs.items ++ map pair_json (by_table (drop l.index l.table) (drop l.index l.vector)) ≡ map pair_json (by_table l.table l.vector);
+  json : map view l.pairs.items ++ map pair_json (by_table (drop l.index l.table) (drop l.index l.vector))
+      ≡ map pair_json (by_table l.table l.vector);
   typed : AreReplicas (by_table (drop l.index l.table) (drop l.index l.vector)) → AreReplicas (by_table l.table l.vector);
 }

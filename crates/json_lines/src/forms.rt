@@ -3,7 +3,7 @@
 ghost use Rattle.std.specs.Prelude.{◌≡◌, Ok, Err, MatchResult};
 ghost use Rattle.ids.specs.declared.refusal.Refusal.TheVariants.{BadLine};
 ghost use Rattle.serde_json.specs.View.{view, items_view};
-ghost use Rattle.wire.specs.Forms.{IsUnlessMemory, json_form, list_form, number_form, phrase_form, text_form};
+ghost use Rattle.json_lines.specs.Forms.{IsUnlessMemory, json_form, list_form, number_form, phrase_form, text_form};
 
 use ids::Refusal;
 use serde_json::Value;

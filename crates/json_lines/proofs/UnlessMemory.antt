@@ -2,7 +2,7 @@
 use Rattle.std.proofs.Common.{◌≡◌, ◌⊎◌, Result, Ok, Err, inl, inr, sym}
 use Rattle.ids.specs.declared.refusal.Refusal.{Refusal}
 use Rattle.ids.specs.declared.refusal.Refusal.TheVariants.{NoMemory}
-use Rattle.wire.specs.Forms.{IsUnlessMemory}
+use Rattle.json_lines.specs.Forms.{IsUnlessMemory}
 
 pub IsUnlessMemory-Ok : {T : Type 0} (wanted : Result T Refusal) (x : T) → IsUnlessMemory (Ok x) wanted → wanted ≡ Ok x
 IsUnlessMemory-Ok wanted x (inl e) = sym e

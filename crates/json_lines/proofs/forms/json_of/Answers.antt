@@ -1,7 +1,7 @@
 -- The JSON that a line has, from what the reader of JSON says of its text.
 use Rattle.std.proofs.Common.{◌≡◌, true, false, inl, sym}
-use Rattle.wire.proofs.JsonTexts.{json_form-read, json_form-unread}
-use Rattle.wire.proofs.forms.json_of.Goals as goal
+use Rattle.json_lines.proofs.JsonTexts.{json_form-read, json_form-unread}
+use Rattle.json_lines.proofs.forms.json_of.Goals as goal
 
 pub returns-in-Ok : goal.returns-in-Ok
 returns-in-Ok c = json_form-read _ _ c.in-Ok.ensures.ok.0 c.in-Ok.ensures.ok.1

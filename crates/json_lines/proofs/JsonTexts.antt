@@ -6,7 +6,7 @@ use Rattle.std.proofs.lemmas.Str.{IsUtf8-from_is_utf8, is_utf8-from_IsUtf8}
 use Rattle.ids.specs.declared.refusal.Refusal.TheVariants.{BadLine}
 use Rattle.serde_json.specs.Data.{Data}
 use Rattle.serde_json.specs.Read.{read}
-use Rattle.wire.specs.Forms.{json_form}
+use Rattle.json_lines.specs.Forms.{json_form}
 
 pub json_form-read : (text : List ℕ) (d : Data) → IsUtf8 text → read text ≡ Some d → json_form text ≡ Ok d
 json_form-read text d u e = rw (is_utf8-from_IsUtf8 text u, e) refl

@@ -1,10 +1,10 @@
 //! The lines of a text.
 
 ghost use Rattle.std.specs.Prelude.{◌≡◌, ◌≢◌, ◌+◌, ◌<◌, ◌^◌, [], length, IfNone, IfSome, MatchOption};
-ghost use Rattle.wire.specs.Lines.{HasNoEnd, IsFirstLine};
+ghost use Rattle.json_lines.specs.Lines.{HasNoEnd, IsFirstLine};
 
 /// The byte that ends each line.
-pub(crate) const LINE_END: u8 = b'\n';
+pub const LINE_END: u8 = b'\n';
 
 /// A line of a text.
 #[derive(Clone, Copy, Debug)]

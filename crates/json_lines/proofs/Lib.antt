@@ -1,0 +1,2 @@
+pub mod UnlessMemory
+pub mod JsonTexts
