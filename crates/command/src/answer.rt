@@ -1,12 +1,14 @@
 //! Answers: by its type each is legal for the item that it names, in the history of its notice.
 
 ghost use Rattle.std.specs.Prelude.{◌≡◌, Some, None, MatchOption};
+ghost use Rattle.std.specs.Arc.{arc_value};
 ghost use Rattle.semantics.specs.Receipts.{IsAnswer};
 ghost use Rattle.items.specs.Meanings.{answer_of, submitted_of};
 
 use items::{Item, Reply};
 use published::{EngineName, Notice};
 use std::marker::Model;
+use std::sync::Arc;
 
 /// A reply, with a notice of the history in which it is legal.
 #[derive(Drop)]
@@ -16,15 +18,16 @@ pub struct Given<N: EngineName> {
 }
 
 /// What a client submitted and, once it is filled in, what it is answered. Contracts see the item, the reply and the
-/// history; an answer that isn't legal for its item can't be made.
+/// history; an answer that isn't legal for its item can't be made. The item is shared with the client that waits for the answer.
 #[derive(Drop)]
 pub struct Answer<N: EngineName> {
-    item: Item,
+    item: Arc<Item>,
     given: Option<Given<N>>,
 }
 
 impl<N: EngineName> Model for Answer<N> {
     ghost use Rattle.std.specs.Prelude.{IfSome, option_map};
+    ghost use Rattle.std.specs.Arc.{arc_value};
     ghost use Rattle.std.specs.Coded.{codes};
     ghost use Rattle.semantics.specs.Codes.{coded_element};
     ghost use Rattle.semantics.specs.Receipts.{IsAnswer};
@@ -35,15 +38,20 @@ impl<N: EngineName> Model for Answer<N> {
 
     ghost coded = { Prim.hlevel (codes, coded_element) };
 
-    ghost view = { λ a. record { item = a.item; given = option_map (λ g. record { reply = g.reply; history = g.notice }) a.given } };
+    ghost view = { λ a. record {
+      item = arc_value a.item;
+      given = option_map
+          (λ g. record { reply = g.reply; history = g.notice }) a.given;
+    } };
 
-    ghost invariant = { λ a. IfSome a.given (λ g. IsAnswer N.own N.table g.notice (submitted_of N.table a.item) (answer_of g.reply)) };
+    ghost invariant = { λ a. IfSome a.given
+        (λ g. IsAnswer N.own N.table g.notice (submitted_of N.table (arc_value a.item)) (answer_of g.reply)) };
 }
 
 impl<N: EngineName> Answer<N> {
     /// The answer to an item, not filled in yet.
-    pub fn blank(item: Item) -> Answer<N>
-        ensures { (result.item ≡ item) × (result.given ≡ None) }
+    pub fn blank(item: Arc<Item>) -> Answer<N>
+        ensures { (result.item ≡ arc_value item) × (result.given ≡ None) }
     {
         Answer { item, given: None }
     }
@@ -66,7 +74,8 @@ impl<N: EngineName> Answer<N> {
     /// The reply and its notice, once they are filled in.
     pub fn given(&self) -> Option<&Given<N>>
         ensures { MatchOption result (self.now.given ≡ None)
-            (λ g. (self.now.given ≡ Some (record { reply = g.now.reply; history = g.now.notice })) × IsAnswer N.own N.table g.now.notice (submitted_of N.table self.now.item) (answer_of g.now.reply)) }
+            (λ g. (self.now.given ≡ Some (record { reply = g.now.reply; history = g.now.notice }))
+            × IsAnswer N.own N.table g.now.notice (submitted_of N.table self.now.item) (answer_of g.now.reply)) }
     {
         self.given.as_ref()
     }

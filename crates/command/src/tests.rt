@@ -19,7 +19,7 @@ use std::test::Fail;
 use std::thread::{Threads, join, yield_now};
 
 #[test]
-fn a_queue_has_from_one_to_65536_places(rt: HostRuntime) -> Result<(), Fail> {
+fn a_queue_has_from_one_to_65536_slots(rt: HostRuntime) -> Result<(), Fail> {
     let alloc = rt.alloc();
     assert!(rt; matches!(Queue::new::<Brand>(alloc, 0), Err(Refusal::BadConfig)));
     assert!(rt; matches!(Queue::new::<Brand>(alloc, 65_537), Err(Refusal::BadConfig)));
@@ -47,7 +47,7 @@ fn fill_and_empty<N: EngineName, R: Wait + Abort>(
     assert!(rt; taker.take(rt).is_none());
     assert!(rt; sender.send(rt, envelope(alloc, 1)?).is_ok());
     let Err((why, back)) = sender.send(rt, envelope(alloc, 2)?) else {
-        return Err(Fail::from("the queue has one place"));
+        return Err(Fail::from("the queue has one slot"));
     };
     assert!(rt; why == Refusal::QueueFull && back.answer.item().serial == 2);
     assert!(rt; serial_taken(rt, taker) == Some(1));
@@ -141,7 +141,7 @@ fn envelope<N: EngineName>(alloc: Global, serial: u64) -> Result<Envelope<N>, Re
         request: Request::Command(Command::Delete(Expr::new(Vec::new(alloc)))),
     };
     Ok(Envelope {
-        answer: Box::new(alloc, Answer::blank(item))?,
+        answer: Box::new(alloc, Answer::blank(Arc::new(alloc, item)?))?,
         cell: Arc::new(alloc, OnceBox::new(alloc))?,
     })
 }

@@ -1,5 +1,6 @@
 -- A batch that is being filled.
-use Rattle.std.proofs.Common.{◌≡◌, ◌==◌, ℕ, ◌+◌, Bool, true, false, cond, List, [], ◌∷◌, ◌++◌, length, reverse, refl, sym, ap, ◌∙◌, subst, arith, append_assoc}
+use Rattle.std.proofs.Common.{◌≡◌, ◌==◌, ℕ, ◌+◌, Bool, true, false, cond, List, [], ◌∷◌, ◌++◌, length, reverse, refl, sym, ap, ◌∙◌, subst}
+use Rattle.std.proofs.Common.{arith, append_assoc}
 use Rattle.std.proofs.lemmas.List.{append-nil, map-append, reverse-append}
 use Rattle.semantics.specs.Entries.{Entry, IsAbove}
 use Rattle.semantics.specs.LegalAnswer.{Submitted}
@@ -22,8 +23,14 @@ pub record IsFilling (table : List ℕ) (w : Handler) (before : List Item) (hs :
   pub took : got ≡ before ++ items
   pub same : items_of hs ≡ submitted_in table items
 
-pub filling_none : (table : List ℕ) (w : Handler) (before : List Item) (hs : List Handled) → length hs ≡ 0 → IsRunning w.replica → ComeFrom (submitted_in table before) w.replica.entries → IsFilling table w before hs w before
-filling_none table w before [] e run st = record { batch = no_batch w (submitted_in table before) run st; items = []; took = sym (append-nil before); same = refl }
+pub filling_none : (table : List ℕ) (w : Handler) (before : List Item) (hs : List Handled) → length hs ≡ 0 → IsRunning w.replica
+    → ComeFrom (submitted_in table before) w.replica.entries → IsFilling table w before hs w before
+filling_none table w before [] e run st = record {
+  batch = no_batch w (submitted_in table before) run st;
+  items = [];
+  took = sym (append-nil before);
+  same = refl;
+}
 filling_none table w before (h ∷ hs) e run st = absurd (omega (arith, e))
 
 of_length : (table : List ℕ) (c : ℕ) (xs : List Item) → length (of_client c (submitted_in table xs)) ≡ length (of c xs)
@@ -31,23 +38,28 @@ of_length table c [] = refl
 of_length table c (x ∷ xs) = by (x.client == c) (of_length table c xs)
   where
     by : (b : Bool) → length (of_client c (submitted_in table xs)) ≡ length (of c xs)
-        → length (cond b (submitted_of table x ∷ of_client c (submitted_in table xs)) (of_client c (submitted_in table xs))) ≡ length (cond b (x ∷ of c xs) (of c xs))
+        → length (cond b (submitted_of table x ∷ of_client c (submitted_in table xs)) (of_client c (submitted_in table xs)))
+        ≡ length (cond b (x ∷ of c xs) (of c xs))
     by true e = omega (arith, e)
     by false e = e
 
-module _ (table : List ℕ) (w : Handler) (before : List Item) (hs : List Handled) (v : Handler) (got : List Item) (f : IsFilling table w before hs v got) (x : Item) (number : x.serial ≡ length (of x.client got) + 1) where
+module _ (table : List ℕ) (w : Handler) (before : List Item) (hs : List Handled) (v : Handler) (got : List Item)
+    (f : IsFilling table w before hs v got) (x : Item) (number : x.serial ≡ length (of x.client got) + 1) where
   all : submitted_in table got ≡ submitted_in table before ++ items_of hs
-  all = ap (submitted_in table) f.took ∙ map-append (submitted_of table) before f.items ∙ ap (λ (l : List Submitted). submitted_in table before ++ l) (sym f.same)
+  all = ap (submitted_in table) f.took ∙ map-append (submitted_of table) before f.items
+      ∙ ap (λ (l : List Submitted). submitted_in table before ++ l) (sym f.same)
 
   numbered : x.serial ≡ length (of_client x.client (submitted_in table got)) + 1
   numbered = omega (arith, number, of_length table x.client got)
 
   -- its serial is above those of its client in the history
   pub is_above : IsAbove x.client x.serial v.replica.entries
-  is_above = next_above (submitted_of table x) (submitted_in table got) v.replica.entries (subst (λ (l : List Submitted). ComeFrom l v.replica.entries) (sym all) f.batch.come_from) numbered
+  is_above = next_above (submitted_of table x) (submitted_in table got) v.replica.entries
+      (subst (λ (l : List Submitted). ComeFrom l v.replica.entries) (sym all) f.batch.come_from) numbered
 
   -- it is handled next
-  pub filling_next : (h : Handled) (u : Handler) (next : List Item) (more : List Handled) → next ≡ got ++ x ∷ [] → more ≡ hs ++ h ∷ [] → h.submitted ≡ submitted_of table x → Handles v (submitted_of table x) h.reply u
+  pub filling_next : (h : Handled) (u : Handler) (next : List Item) (more : List Handled) → next ≡ got ++ x ∷ [] → more ≡ hs ++ h ∷ []
+      → h.submitted ≡ submitted_of table x → Handles v (submitted_of table x) h.reply u
       → IsFilling table w before more u next
   filling_next h u next more taken grown is k =
       let whole : IsBatch w (submitted_in table before) (hs ++ h ∷ []) u =
@@ -57,7 +69,8 @@ module _ (table : List ℕ) (w : Handler) (before : List Item) (hs : List Handle
         batch = subst (λ (l : List Handled). IsBatch w (submitted_in table before) l u) (sym grown) whole;
         items = f.items ++ x ∷ [];
         took = taken ∙ ap (λ (l : List Item). l ++ x ∷ []) f.took ∙ append_assoc before f.items (x ∷ []);
-        same = ap items_of grown ∙ items-snoc hs h ∙ ap (λ (l : List Submitted). l ++ h.submitted ∷ []) f.same ∙ ap (λ (s : Submitted). submitted_in table f.items ++ s ∷ []) is ∙ sym (map-append (submitted_of table) f.items (x ∷ []));
+        same = ap items_of grown ∙ items-snoc hs h ∙ ap (λ (l : List Submitted). l ++ h.submitted ∷ []) f.same
+            ∙ ap (λ (s : Submitted). submitted_in table f.items ++ s ∷ []) is ∙ sym (map-append (submitted_of table) f.items (x ∷ []));
       }
     where
       items-snoc : (gs : List Handled) (g : Handled) → items_of (gs ++ g ∷ []) ≡ items_of gs ++ g.submitted ∷ []
@@ -65,22 +78,28 @@ module _ (table : List ℕ) (w : Handler) (before : List Item) (hs : List Handle
 
 -- ---- giving
 
-answers_front : (p : ℕ) (ps : List ℕ) (G : List Entry) (hs : List Handled) (h : Handled) → AreAnswers p ps G (hs ++ h ∷ []) → AreAnswers p ps G hs
+answers_front : (p : ℕ) (ps : List ℕ) (G : List Entry) (hs : List Handled) (h : Handled) → AreAnswers p ps G (hs ++ h ∷ [])
+    → AreAnswers p ps G hs
 answers_front p ps G [] h a = tt
 answers_front p ps G (g ∷ hs) h a = (a.0, answers_front p ps G hs h a.1)
 
-answers_last : (p : ℕ) (ps : List ℕ) (G : List Entry) (hs : List Handled) (h : Handled) → AreAnswers p ps G (hs ++ h ∷ []) → IsAnswer p ps G h.submitted h.reply
+answers_last : (p : ℕ) (ps : List ℕ) (G : List Entry) (hs : List Handled) (h : Handled) → AreAnswers p ps G (hs ++ h ∷ [])
+    → IsAnswer p ps G h.submitted h.reply
 answers_last p ps G [] h a = a.0
 answers_last p ps G (g ∷ hs) h a = answers_last p ps G hs h a.1
 
-pub answers_pop : (p : ℕ) (ps : List ℕ) (G : List Entry) (whole rest : List Handled) (h : Handled) → whole ≡ rest ++ h ∷ [] → AreAnswers p ps G whole → AreAnswers p ps G rest × IsAnswer p ps G h.submitted h.reply
-answers_pop p ps G whole rest h is a = let k = subst (λ (l : List Handled). AreAnswers p ps G l) is a in (answers_front p ps G rest h k, answers_last p ps G rest h k)
+pub answers_pop : (p : ℕ) (ps : List ℕ) (G : List Entry) (whole rest : List Handled) (h : Handled) → whole ≡ rest ++ h ∷ []
+    → AreAnswers p ps G whole → AreAnswers p ps G rest × IsAnswer p ps G h.submitted h.reply
+answers_pop p ps G whole rest h is a =
+    let k = subst (λ (l : List Handled). AreAnswers p ps G l) is a in (answers_front p ps G rest h k, answers_last p ps G rest h k)
 
-answers_snoc : (p : ℕ) (ps : List ℕ) (G : List Entry) (hs : List Handled) (h : Handled) → AreAnswers p ps G hs → IsAnswer p ps G h.submitted h.reply → AreAnswers p ps G (hs ++ h ∷ [])
+answers_snoc : (p : ℕ) (ps : List ℕ) (G : List Entry) (hs : List Handled) (h : Handled) → AreAnswers p ps G hs
+    → IsAnswer p ps G h.submitted h.reply → AreAnswers p ps G (hs ++ h ∷ [])
 answers_snoc p ps G [] h a k = (k, tt)
 answers_snoc p ps G (g ∷ hs) h a k = (a.0, answers_snoc p ps G hs h a.1 k)
 
 -- in the other order they are answers too
 pub answers_reversed : (p : ℕ) (ps : List ℕ) (G : List Entry) (hs : List Handled) → AreAnswers p ps G hs → AreAnswers p ps G (reverse hs)
 answers_reversed p ps G [] a = tt
-answers_reversed p ps G (h ∷ hs) a = subst (λ (l : List Handled). AreAnswers p ps G l) (sym (reverse-append (h ∷ []) hs)) (answers_snoc p ps G (reverse hs) h (answers_reversed p ps G hs a.1) a.0)
+answers_reversed p ps G (h ∷ hs) a = subst (λ (l : List Handled). AreAnswers p ps G l) (sym (reverse-append (h ∷ []) hs))
+    (answers_snoc p ps G (reverse hs) h (answers_reversed p ps G hs a.1) a.0)

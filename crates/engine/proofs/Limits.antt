@@ -1,5 +1,6 @@
 -- What a configuration within its limits says of the queue.
-use Rattle.std.proofs.Common.{◌≡◌, ◌↔◌, ◌⊎◌, inl, inr, ℕ, ◌<◌, ◌≤◌, Bool, true, false, ◌&&◌, nat_le, Result, Ok, Err, refl, sym, ap, arith, true≢false}
+use Rattle.std.proofs.Common.{◌≡◌, ◌↔◌, ◌⊎◌, inl, inr, ℕ, ◌<◌, ◌≤◌, Bool, true, false, ◌&&◌, nat_le, Result, Ok, Err, refl, sym, ap, arith}
+use Rattle.std.proofs.Common.{true≢false}
 use Rattle.std.specs.Prelude.{IfErr}
 use Rattle.std.specs.List.{list_all}
 use Rattle.std.proofs.Common.{eqb, ◌||◌, ◌+◌, subst, List, [], ◌∷◌, length}
@@ -22,7 +23,8 @@ queue_fits c h =
     let low = leb-true 1 c.queue w.0 in
     (omega (arith, low), leb-true c.queue 65536 w.1)
 
-pub no_memory_alone : {X : Type 0} (r : Result X Refusal) (n : ℕ) → 0 < n → n ≤ 65536 → (r ≡ Err BadConfig) ↔ ((n ≡ 0) ⊎ (65536 < n)) → IfErr r (λ why. (why ≡ BadConfig) ⊎ (why ≡ NoMemory)) → IfErr r (λ why. why ≡ NoMemory)
+pub no_memory_alone : {X : Type 0} (r : Result X Refusal) (n : ℕ) → 0 < n → n ≤ 65536 → (r ≡ Err BadConfig) ↔ ((n ≡ 0) ⊎ (65536 < n))
+    → IfErr r (λ why. (why ≡ BadConfig) ⊎ (why ≡ NoMemory)) → IfErr r (λ why. why ≡ NoMemory)
 no_memory_alone (Ok x) n low high iff e = e
 no_memory_alone (Err why) n low high iff (inl bad) = absurd (past (iff.0 (ap Err bad)))
   where

@@ -1,5 +1,6 @@
 -- What stands in the history of a closed engine was submitted by its client.
-use Rattle.std.proofs.Common.{◌≡◌, ◌==◌, ℕ, zero, suc, ◌-◌, Bool, true, false, cond, Some, List, [], ◌∷◌, ◌++◌, length, slice_get, refl, sym, ap, ◌∙◌, subst}
+use Rattle.std.proofs.Common.{◌≡◌, ◌==◌, ℕ, zero, suc, ◌-◌, Bool, true, false, cond, Some, List, [], ◌∷◌, ◌++◌, length, slice_get, refl}
+use Rattle.std.proofs.Common.{sym, ap, ◌∙◌, subst}
 use Rattle.std.proofs.lemmas.List.{map-append}
 use Rattle.semantics.specs.Making.{Command}
 use Rattle.semantics.specs.Stamped.{Stamped}
@@ -20,7 +21,8 @@ submitted_of_client table c [] = refl
 submitted_of_client table c (x ∷ xs) = by (x.client == c) (submitted_of_client table c xs)
   where
     by : (b : Bool) → of_client c (submitted_in table xs) ≡ submitted_in table (of c xs)
-        → cond b (submitted_of table x ∷ of_client c (submitted_in table xs)) (of_client c (submitted_in table xs)) ≡ submitted_in table (cond b (x ∷ of c xs) (of c xs))
+        → cond b (submitted_of table x ∷ of_client c (submitted_in table xs)) (of_client c (submitted_in table xs))
+        ≡ submitted_in table (cond b (x ∷ of c xs) (of c xs))
     by true e = ap (λ (l : List Submitted). submitted_of table x ∷ l) e
     by false e = e
 
@@ -30,7 +32,8 @@ get_longer (y ∷ xs) ys zero x h = h
 get_longer (y ∷ xs) ys (suc n) x h = get_longer xs ys n x h
 
 -- an own entry of the history is of a command that was taken
-asked_at : (took : List Submitted) (G : List Entry) (n k serial : ℕ) (c : Command) (s : Stamped) → ComeFrom took G → entry_at n G ≡ Some (Own k serial c s) → AsksFor (of_client k took) serial c
+asked_at : (took : List Submitted) (G : List Entry) (n k serial : ℕ) (c : Command) (s : Stamped) → ComeFrom took G
+    → entry_at n G ≡ Some (Own k serial c s) → AsksFor (of_client k took) serial c
 asked_at took [] n k serial c s h at = absurd cc
 asked_at took (e ∷ G) n k serial c s h at = by (length G == n) (λ is. asked_at took G n k serial c s (of_rest e h) is) at
   where
@@ -41,15 +44,27 @@ asked_at took (e ∷ G) n k serial c s h at = by (length G == n) (λ is. asked_a
     of_rest (Own i m d t) h = h.1
     of_rest (Peer t) h = h
 
-    by : (b : Bool) → (entry_at n G ≡ Some (Own k serial c s) → AsksFor (of_client k took) serial c) → cond b (Some e) (entry_at n G) ≡ Some (Own k serial c s) → AsksFor (of_client k took) serial c
+    by : (b : Bool) → (entry_at n G ≡ Some (Own k serial c s) → AsksFor (of_client k took) serial c)
+        → cond b (Some e) (entry_at n G) ≡ Some (Own k serial c s) → AsksFor (of_client k took) serial c
     by true rest is = of_newest e h cc
     by false rest is = rest is
 
 -- what was taken of the client, and what is still queued, is all that it submitted
-pub own_submitted : (table : List ℕ) (took queued mine : List Item) (P A : List Entry) (n k serial : ℕ) (c : Command) (s : Stamped) → ComeFrom (submitted_in table took) A → BeginsWith A P → of k (took ++ queued) ≡ mine
+pub own_submitted : (table : List ℕ) (took queued mine : List Item) (P A : List Entry) (n k serial : ℕ) (c : Command) (s : Stamped)
+    → ComeFrom (submitted_in table took) A → BeginsWith A P → of k (took ++ queued) ≡ mine
     → entry_at n P ≡ Some (Own k serial c s) → AsksFor (submitted_in table mine) serial c
 own_submitted table took queued mine P A n k serial c s from begins all at =
-    let asked = asked_at (submitted_in table took) A n k serial c s from (subst (λ (G : List Entry). entry_at n G ≡ Some (Own k serial c s)) (sym begins.1) (entry_in_longer n begins.0 P (Own k serial c s) at)) in
+    let asked = asked_at (submitted_in table took) A n k serial c s from
+    (subst (λ (G : List Entry). entry_at n G ≡ Some (Own k serial c s)) (sym begins.1)
+    (entry_in_longer n begins.0 P (Own k serial c s) at)) in
     let whole : of_client k (submitted_in table took) ++ of_client k (submitted_in table queued) ≡ submitted_in table mine =
-    sym (of-append k (submitted_in table took) (submitted_in table queued)) ∙ ap (of_client k) (sym (map-append (submitted_of table) took queued)) ∙ submitted_of_client table k (took ++ queued) ∙ ap (submitted_in table) all in
-    subst (λ (l : List Submitted). AsksFor l serial c) whole (asked.0, asked.1, get_longer (of_client k (submitted_in table took)) (of_client k (submitted_in table queued)) (serial - 1) asked.0 asked.2, asked.3)
+    sym (of-append k (submitted_in table took) (submitted_in table queued))
+    ∙ ap (of_client k) (sym (map-append (submitted_of table) took queued)) ∙ submitted_of_client table k (took ++ queued)
+    ∙ ap (submitted_in table) all in
+    subst (λ (l : List Submitted). AsksFor l serial c) whole (
+      asked.0,
+      asked.1,
+      get_longer (of_client k (submitted_in table took)) (of_client k (submitted_in table queued))
+          (serial - 1) asked.0 asked.2,
+      asked.3,
+    )

@@ -6,12 +6,19 @@ use Rattle.engine.specs.Turns.{Writer, IsTurn, Ends, Shows, WasEmpty}
 use Rattle.engine.specs.declared.writer.Step.{Step}
 use Rattle.engine.specs.declared.writer.Step.TheVariants.{Idle, Published, Held}
 
-module _ (table : List ℕ) (w m : Writer) (t : IsTurn table w m.held m) (published : m.published ≡ w.published) (batch : m.batch ≡ w.batch) (early : length m.held < m.batch → WasEmpty m.took) where
+module _ (table : List ℕ) (w m : Writer) (t : IsTurn table w m.held m) (published : m.published ≡ w.published) (batch : m.batch ≡ w.batch)
+    (early : length m.held < m.batch → WasEmpty m.took) where
   -- nothing was done that is to be shown
-  pub idle : m.held ≡ [] → m.published ≡ m.handler.replica.entries → 0 < m.batch → (hs : List Handled) × IsTurn table w hs m × Ends w hs Idle m
-  idle none whole positive = (m.held, t, (none, none, published, whole, early (let e = ap (length {A = Handled}) none in omega (arith, e, positive))))
+  pub idle : m.held ≡ [] → m.published ≡ m.handler.replica.entries → 0 < m.batch
+      → (hs : List Handled) × IsTurn table w hs m × Ends w hs Idle m
+  idle none whole positive = (
+    m.held,
+    t,
+    (none, none, published, whole, early (let e = ap (length {A = Handled}) none in omega (arith, e, positive))),
+  )
 
-  pub shown : (length m.held ≡ 0 → length m.published < length m.handler.replica.entries) → (r : Step) (v : Writer) → Shows m r v → (hs : List Handled) × IsTurn table w hs v × Ends w hs r v
+  pub shown : (length m.held ≡ 0 → length m.published < length m.handler.replica.entries) → (r : Step) (v : Writer) → Shows m r v
+      → (hs : List Handled) × IsTurn table w hs v × Ends w hs r v
   shown more Idle v s = absurd s
   shown more (Published n) v s =
       subst (λ (u : Writer). (hs : List Handled) × IsTurn table w hs u × Ends w hs (Published n) u) (sym s.1) (

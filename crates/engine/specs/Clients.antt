@@ -1,11 +1,12 @@
 -- What contracts see of a client.
-use Rattle.std.specs.Prelude.{ℕ, ◌≡◌, ◌+◌, ◌<◌, ◌≤◌, ⊤, cond, Option, Some, None, IfSome, List, [], ◌∷◌, length, map, option_map, slice_get, slice_set}
+use Rattle.std.specs.Prelude.{ℕ, ◌≡◌, ◌+◌, ◌<◌, ◌≤◌, ⊤, cond, Option, Some, None, IfSome, List, [], ◌∷◌, ◌++◌, length, map, option_map, slice_get, slice_set}
 use Rattle.atomic_table.specs.Seated.{TableId}
 use Rattle.ids.specs.Configurations.{Configuration}
 use Rattle.semantics.specs.Entries.{Entry}
 use Rattle.semantics.specs.WorldHistory.{BeginsWith}
 use Rattle.items.specs.declared.item.Item.{Item}
 use Rattle.items.specs.declared.item.Reply.{Reply}
+use Rattle.items.specs.declared.item.Request.{Request}
 use Rattle.items.specs.Same.{is_same_item}
 use Rattle.command.specs.Answers.{Answered, Given}
 use Rattle.command.specs.declared.ticket.Ticket.{Ticket}
@@ -15,7 +16,8 @@ pub record Keeps : Type 0 where
   pub item : Item
   pub known : Option Answered
 
--- a client: the engine's replica number and its own, how many serials it has, its queue with its capacity, what its token has seen and what it read last, and what it keeps of each serial
+-- a client: the engine's replica number and its own, how many serials it has, its queue with its capacity, what its token has
+-- seen and what it read last, and what it keeps of each serial
 pub record Client : Type 0 where
   pub replica : ℕ
   pub number : ℕ
@@ -25,6 +27,16 @@ pub record Client : Type 0 where
   pub seen : List Entry
   pub read : List Entry
   pub kept : List Keeps
+
+-- the client after it submitted a request, under its next serial and the floor of what it has seen
+abbrev pub with_request : Client → Request → Client
+with_request c request = record c {
+  kept = c.kept
+      ++ (record {
+        item = record { client = c.number; serial = length c.kept + 1; floor = length c.seen; request = request };
+        known = None;
+      }) ∷ [];
+}
 
 -- what a client submitted, in order
 abbrev pub items_by : Client → List Item

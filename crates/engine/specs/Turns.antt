@@ -15,7 +15,8 @@ use Rattle.command.specs.Fifo.{taker_hand, Moment}
 use Rattle.engine.specs.declared.writer.Step.{Step}
 use Rattle.engine.specs.declared.writer.Step.TheVariants.{Idle, Published, Held}
 
--- a writer: its queue and batch, the replica that it works on, what is published of that, all that it took so far, and what is handled and not answered
+-- a writer: its queue and batch, the replica that it works on, what is published of that, all that it took so far, and what is
+-- handled and not answered
 pub record Writer : Type 0 where
   pub queue : TableId
   pub batch : ℕ
@@ -33,7 +34,8 @@ abbrev pub submitted_in : List ℕ → List Item → List Submitted
 submitted_in table items = map (submitted_of table) items
 
 -- what holds of a writer between its calls
-pub record IsWriter (own : ℕ) (table : List ℕ) (publication : Publication) (handler : Handler) (hand : Hand) (held : List Handled) (batch room : ℕ) : Type 0 where
+pub record IsWriter (own : ℕ) (table : List ℕ) (publication : Publication) (handler : Handler) (hand : Hand) (held : List Handled)
+    (batch room : ℕ) : Type 0 where
   pub holds : Holds (publication_of own table publication) handler.replica
   pub running : IsRunning handler.replica
   pub come_from : ComeFrom (submitted_in table hand.got) handler.replica.entries
@@ -46,7 +48,8 @@ pub record IsWriter (own : ℕ) (table : List ℕ) (publication : Publication) (
 abbrev pub WasEmpty : List Item → Type 0
 WasEmpty took = (made : ℕ) × (known : List (List Item)) × Moment (taker_hand took made known) []
 
--- a step that began with nothing held went on with a drain that had ended early, and then took these items, which it handled one after another, none skipped
+-- a step that began with nothing held went on with a drain that had ended early, and then took these items, which it handled one
+-- after another, none skipped
 pub record IsTurn (table : List ℕ) (w : Writer) (hs : List Handled) (v : Writer) : Type 0 where
   pub rested : Handler
   pub resumes : Resumes w.handler rested
@@ -58,7 +61,8 @@ pub record IsTurn (table : List ℕ) (w : Writer) (hs : List Handled) (v : Write
 -- how such a step ends
 abbrev pub Ends : Writer → List Handled → Step → Writer → Type 0
 Ends w hs Idle v = (hs ≡ []) × (v.held ≡ []) × (v.published ≡ w.published) × (v.published ≡ v.handler.replica.entries) × WasEmpty v.took
-Ends w hs (Published n) v = (n ≡ length hs) × (v.held ≡ []) × (v.published ≡ v.handler.replica.entries) × (n < w.batch → WasEmpty v.took) × (n ≡ 0 → length w.published < length v.published)
+Ends w hs (Published n) v = (n ≡ length hs) × (v.held ≡ []) × (v.published ≡ v.handler.replica.entries) × (n < w.batch → WasEmpty v.took)
+    × (n ≡ 0 → length w.published < length v.published)
 Ends w hs Held v = (v.held ≡ hs) × (v.published ≡ w.published) × (length hs ≡ 0 → length v.published < length v.handler.replica.entries)
 
 -- a publish of what is held, and the answers after it; if allocation fails, nothing

@@ -1,6 +1,7 @@
 //! Clients: they submit commands and operations of peers, poll for the answers, and ask.
 
-ghost use Rattle.std.specs.Prelude.{◌≡◌, ◌+◌, ◌-◌, ◌<◌, ◌≤◌, ◌⊎◌, ◌++◌, ◌∷◌, ◌↔◌, [], List, length, Option, Some, None, Ok, Err, IfOk, IfErr, IfSome, MatchBool, MatchResult, slice_get, slice_set};
+ghost use Rattle.std.specs.Prelude.{◌≡◌, ◌+◌, ◌-◌, ◌<◌, ◌≤◌, ◌⊎◌, ◌++◌, ◌∷◌, ◌↔◌, [], List, length, Option, Some, None, Ok, Err, IfOk};
+ghost use Rattle.std.specs.Prelude.{IfErr, IfSome, MatchBool, MatchResult, slice_get, slice_set};
 ghost use Rattle.std.specs.Arc.{arc_value};
 ghost use Rattle.crossbeam_queue.specs.Passes.{ruled_capacity, view as pass_view};
 ghost use Rattle.ids.specs.declared.refusal.Refusal.TheVariants.{Foreign, NoMemory, NoReading, QueueFull, SerialEnd};
@@ -17,7 +18,7 @@ ghost use Rattle.items.specs.declared.item.Request.TheVariants.{Command as OfCom
 ghost use Rattle.items.specs.Meanings.{answer_of as reply_of, submitted_of};
 ghost use Rattle.command.specs.Fifo.{Moment, sender_hand};
 ghost use Rattle.command.specs.Answers.{Given};
-ghost use Rattle.engine.specs.Clients.{IsMine, Polls, items_by};
+ghost use Rattle.engine.specs.Clients.{IsMine, Polls, items_by, with_request};
 
 use crate::kept::Kept;
 use command::{Answer, Envelope, Sender, Taker, Ticket};
@@ -55,9 +56,19 @@ impl<N: EngineName> Model for Client<N> {
 
     ghost coded = { Prim.hlevel (codes, coded_element) };
 
-    ghost view = { λ c. record { replica = c.replica; number = c.number; serials = c.serials; queue = c.sender.pass.table_id; capacity = ruled_capacity (arc_value c.sender.queue); seen = c.seat.seen; read = c.seat.read; kept = c.kept.items } };
+    ghost view = { λ c. record {
+      replica = c.replica;
+      number = c.number;
+      serials = c.serials;
+      queue = c.sender.pass.table_id;
+      capacity = ruled_capacity (arc_value c.sender.queue);
+      seen = c.seat.seen;
+      read = c.seat.read;
+      kept = c.kept.items;
+    } };
 
-    ghost invariant = { λ c. ((pass_view c.sender.pass).from ≡ c.number) × ((pass_view c.sender.pass).put ≡ map (λ k. k.item) c.kept.items) };
+    ghost invariant = { λ c. ((pass_view c.sender.pass).from ≡ c.number)
+        × ((pass_view c.sender.pass).put ≡ map (λ k. k.item) c.kept.items) };
 }
 
 impl<N: EngineName> Client<N> {
@@ -70,7 +81,8 @@ impl<N: EngineName> Client<N> {
         sender: Sender<N>,
     ) -> Client<N>
         requires { ((pass_view sender.pass).from ≡ number) × ((pass_view sender.pass).put ≡ []) }
-        ensures { (result.replica ≡ replica) × (result.number ≡ number) × (result.serials ≡ serials) × (result.queue ≡ sender.pass.table_id) × (result.capacity ≡ ruled_capacity (arc_value sender.queue)) × (result.kept ≡ []) × (result.seen ≡ seat.seen) }
+        ensures { (result.replica ≡ replica) × (result.number ≡ number) × (result.serials ≡ serials) × (result.queue ≡ sender.pass.table_id)
+            × (result.capacity ≡ ruled_capacity (arc_value sender.queue)) × (result.kept ≡ []) × (result.seen ≡ seat.seen) }
     {
         Client {
             replica,
@@ -82,8 +94,8 @@ impl<N: EngineName> Client<N> {
         }
     }
 
-    /// Submits a command to the writer. The floor is what the client has seen: no answer names a length below it. Clones the
-    /// command once, which stays with the client, as the item stays with the answer. Waits for the queue.
+    /// Submits a command to the writer. The floor is what the client has seen: no answer names a length below it. The command
+    /// isn't cloned: the client and the answer share the item, for as long as the client lives. Waits for the queue.
     ///
     /// # Errors
     /// `SerialEnd` if all serials are used, else `NoMemory` if allocation fails, else `QueueFull` if the queue was full at one
@@ -94,11 +106,11 @@ impl<N: EngineName> Client<N> {
         alloc: Global,
         command: Command,
     ) -> Result<Ticket, Refusal>
-        ensures ticket { IfOk result (λ t. t ≡ record { replica = self.old.replica; client = self.old.number; serial = length self.old.kept + 1 }) }
-        ensures kept { MatchResult result
-            (λ _. self.new ≡ record self.old { kept = self.old.kept ++ (record { item = record { client = self.old.number; serial = length self.old.kept + 1; floor = length self.old.seen; request = OfCommand command }; known = None }) ∷ [] })
-            (λ _. self.new ≡ self.old) }
-        ensures full { result ≡ Err QueueFull → (items : List AnItem) × (length items ≡ self.old.capacity) × Moment (sender_hand self.old.number (items_by self.old)) items }
+        ensures ticket { IfOk result
+            (λ t. t ≡ record { replica = self.old.replica; client = self.old.number; serial = length self.old.kept + 1 }) }
+        ensures kept { MatchResult result (λ _. self.new ≡ with_request self.old (OfCommand command)) (λ _. self.new ≡ self.old) }
+        ensures full { result ≡ Err QueueFull
+            → (items : List AnItem) × (length items ≡ self.old.capacity) × Moment (sender_hand self.old.number (items_by self.old)) items }
         ensures end { (result ≡ Err SerialEnd) ↔ (self.old.serials ≤ length self.old.kept) }
         ensures err { IfErr result (λ why. (why ≡ SerialEnd) ⊎ (why ≡ NoMemory) ⊎ (why ≡ QueueFull)) }
     {
@@ -110,11 +122,11 @@ impl<N: EngineName> Client<N> {
     /// # Errors
     /// As `submit`.
     pub fn deliver(&mut self, rt: &impl Wait, alloc: Global, op: Op) -> Result<Ticket, Refusal>
-        ensures ticket { IfOk result (λ t. t ≡ record { replica = self.old.replica; client = self.old.number; serial = length self.old.kept + 1 }) }
-        ensures kept { MatchResult result
-            (λ _. self.new ≡ record self.old { kept = self.old.kept ++ (record { item = record { client = self.old.number; serial = length self.old.kept + 1; floor = length self.old.seen; request = OfPeer op }; known = None }) ∷ [] })
-            (λ _. self.new ≡ self.old) }
-        ensures full { result ≡ Err QueueFull → (items : List AnItem) × (length items ≡ self.old.capacity) × Moment (sender_hand self.old.number (items_by self.old)) items }
+        ensures ticket { IfOk result
+            (λ t. t ≡ record { replica = self.old.replica; client = self.old.number; serial = length self.old.kept + 1 }) }
+        ensures kept { MatchResult result (λ _. self.new ≡ with_request self.old (OfPeer op)) (λ _. self.new ≡ self.old) }
+        ensures full { result ≡ Err QueueFull
+            → (items : List AnItem) × (length items ≡ self.old.capacity) × Moment (sender_hand self.old.number (items_by self.old)) items }
         ensures end { (result ≡ Err SerialEnd) ↔ (self.old.serials ≤ length self.old.kept) }
         ensures err { IfErr result (λ why. (why ≡ SerialEnd) ⊎ (why ≡ NoMemory) ⊎ (why ≡ QueueFull)) }
     {
@@ -123,11 +135,11 @@ impl<N: EngineName> Client<N> {
 
     /// Submits a request under the next serial.
     fn send(&mut self, rt: &impl Wait, alloc: Global, request: Request) -> Result<Ticket, Refusal>
-        ensures ticket { IfOk result (λ t. t ≡ record { replica = self.old.replica; client = self.old.number; serial = length self.old.kept + 1 }) }
-        ensures kept { MatchResult result
-            (λ _. self.new ≡ record self.old { kept = self.old.kept ++ (record { item = record { client = self.old.number; serial = length self.old.kept + 1; floor = length self.old.seen; request = request }; known = None }) ∷ [] })
-            (λ _. self.new ≡ self.old) }
-        ensures full { result ≡ Err QueueFull → (items : List AnItem) × (length items ≡ self.old.capacity) × Moment (sender_hand self.old.number (items_by self.old)) items }
+        ensures ticket { IfOk result
+            (λ t. t ≡ record { replica = self.old.replica; client = self.old.number; serial = length self.old.kept + 1 }) }
+        ensures kept { MatchResult result (λ _. self.new ≡ with_request self.old request) (λ _. self.new ≡ self.old) }
+        ensures full { result ≡ Err QueueFull
+            → (items : List AnItem) × (length items ≡ self.old.capacity) × Moment (sender_hand self.old.number (items_by self.old)) items }
         ensures end { (result ≡ Err SerialEnd) ↔ (self.old.serials ≤ length self.old.kept) }
         ensures err { IfErr result (λ why. (why ≡ SerialEnd) ⊎ (why ≡ NoMemory) ⊎ (why ≡ QueueFull)) }
     {
@@ -164,7 +176,9 @@ impl<N: EngineName> Client<N> {
     pub(crate) fn end(self, rt: &impl Wait, taker: &mut Taker<N>, notice: &Notice<N>)
         requires queue { self.queue ≡ taker.old.pass.table_id }
         requires number { self.number ≡ length (pass_view taker.old.pass).known }
-        ensures taker { (taker.new.pass.table_id ≡ taker.old.pass.table_id) × ((pass_view taker.new.pass).got ≡ (pass_view taker.old.pass).got) × ((pass_view taker.new.pass).known ≡ (pass_view taker.old.pass).known ++ items_by self ∷ []) }
+        ensures taker { (taker.new.pass.table_id ≡ taker.old.pass.table_id)
+            × ((pass_view taker.new.pass).got ≡ (pass_view taker.old.pass).got)
+            × ((pass_view taker.new.pass).known ≡ (pass_view taker.old.pass).known ++ items_by self ∷ []) }
         ensures seen { BeginsWith notice.now self.seen }
     {
         let Client { seat, sender, .. } = self;
@@ -182,12 +196,16 @@ impl<N: EngineName> Client<N> {
     /// # Errors
     /// `Foreign` if the ticket is of another replica number or another client, or of a serial that wasn't taken.
     pub fn poll(&mut self, ticket: &Ticket) -> Result<Option<Reply>, Refusal>
-        ensures mine { MatchResult result (λ _. IsMine self.old ticket.now) (λ e. (e ≡ Foreign) × (IsMine self.old ticket.now → ⊥) × (self.new ≡ self.old)) }
+        ensures mine { MatchResult result (λ _. IsMine self.old ticket.now)
+            (λ e. (e ≡ Foreign) × (IsMine self.old ticket.now → ⊥) × (self.new ≡ self.old)) }
         ensures grows { BeginsWith self.new.seen self.old.seen }
         ensures same { self.new ≡ record self.old { seen = self.new.seen; kept = self.new.kept } }
         ensures items { items_by self.new ≡ items_by self.old }
         ensures polls { IfOk result (λ o. Polls self.old self.new (ticket.now.serial - 1) o) }
-        ensures legal { IfOk result (λ o. IfSome o (λ r. (x : AnItem) × (slice_get (items_by self.old) (ticket.now.serial - 1) ≡ Some x) × IsAnswer N.own N.table self.new.seen (submitted_of N.table x) (reply_of r))) }
+        ensures legal { IfOk result
+            (λ o. IfSome o
+            (λ r. (x : AnItem) × (slice_get (items_by self.old) (ticket.now.serial - 1) ≡ Some x)
+            × IsAnswer N.own N.table self.new.seen (submitted_of N.table x) (reply_of r))) }
     {
         if !self.is_mine(ticket) {
             return Err(Refusal::Foreign);
@@ -206,7 +224,10 @@ impl<N: EngineName> Client<N> {
     /// `Foreign`, as `poll`.
     pub fn notice_of(&self, ticket: &Ticket) -> Result<Option<&Notice<N>>, Refusal>
         ensures mine { MatchResult result (λ _. IsMine self.now ticket.now) (λ e. (e ≡ Foreign) × (IsMine self.now ticket.now → ⊥)) }
-        ensures legal { IfOk result (λ o. IfSome o (λ n. (x : AnItem) × (g : Given) × (slice_get (items_by self.now) (ticket.now.serial - 1) ≡ Some x) × (n.now ≡ g.history) × IsAnswer N.own N.table g.history (submitted_of N.table x) (reply_of g.reply))) }
+        ensures legal { IfOk result
+            (λ o. IfSome o
+            (λ n. (x : AnItem) × (g : Given) × (slice_get (items_by self.now) (ticket.now.serial - 1) ≡ Some x) × (n.now ≡ g.history)
+            × IsAnswer N.own N.table g.history (submitted_of N.table x) (reply_of g.reply))) }
     {
         if !self.is_mine(ticket) {
             return Err(Refusal::Foreign);
@@ -258,17 +279,24 @@ impl<N: EngineName> Client<N> {
         ensures grows { BeginsWith self.new.seen self.old.seen }
         ensures legal { IsEntryHistory N.own self.new.seen }
         ensures answer { IfOk result (λ r. said_by N.table r ≡ reading_of self.new.seen (asked_of N.table question.now)) }
-        ensures view { IfOk result (λ r. (q : TheQuestion) → asked_of N.table question.now ≡ OfDocument q → said_by N.table r ≡ Answered (view (applied self.new.seen) q)) }
-        ensures err { IfErr result (λ why. (why ≡ NoMemory) ⊎ (why ≡ NoReading) ⊎ (reading_of self.new.seen (asked_of N.table question.now) ≡ Answered (Refused why))) }
-        ensures view_refuses { IfErr result (λ why. (why ≡ NoMemory) ⊎ (why ≡ NoReading) ⊎ ((q : TheQuestion) → asked_of N.table question.now ≡ OfDocument q → view (applied self.new.seen) q ≡ Refused why)) }
-        ensures published { MatchResult result (λ _. self.new.read ≡ self.new.seen) (λ why. (why ≡ NoMemory) ⊎ (why ≡ NoReading) ⊎ (self.new.read ≡ self.new.seen)) }
+        ensures view { IfOk result
+            (λ r. (q : TheQuestion) → asked_of N.table question.now ≡ OfDocument q
+            → said_by N.table r ≡ Answered (view (applied self.new.seen) q)) }
+        ensures err { IfErr result
+            (λ why. (why ≡ NoMemory) ⊎ (why ≡ NoReading)
+            ⊎ (reading_of self.new.seen (asked_of N.table question.now) ≡ Answered (Refused why))) }
+        ensures view_refuses { IfErr result
+            (λ why. (why ≡ NoMemory) ⊎ (why ≡ NoReading)
+            ⊎ ((q : TheQuestion) → asked_of N.table question.now ≡ OfDocument q → view (applied self.new.seen) q ≡ Refused why)) }
+        ensures published { MatchResult result (λ _. self.new.read ≡ self.new.seen)
+            (λ why. (why ≡ NoMemory) ⊎ (why ≡ NoReading) ⊎ (self.new.read ≡ self.new.seen)) }
         ensures same { self.new ≡ record self.old { seen = self.new.seen; read = self.new.read } }
     {
         self.seat.ask(alloc, question)
     }
 }
 
-/// The envelope of an item, with a blank answer and an empty cell, and what the client keeps of it. Clones the item once.
+/// The envelope of an item, with a blank answer and an empty cell, and what the client keeps of it. Both share the item.
 ///
 /// # Errors
 /// `NoMemory` if allocation fails.
@@ -276,13 +304,13 @@ fn envelope_for<N: EngineName>(alloc: Global, item: Item) -> Result<(Envelope<N>
     ensures item { IfOk result (λ r. (r.0.answer.value.item ≡ item) × (r.1.item ≡ item) × (r.1.known ≡ None)) }
     ensures err { IfErr result (λ why. why ≡ NoMemory) }
 {
-    let copy = item.clone()?;
-    let answer = Box::new(alloc, Answer::blank(item))?;
+    let item = Arc::new(alloc, item)?;
+    let answer = Box::new(alloc, Answer::blank(Arc::try_clone(&item)?))?;
     let cell = Arc::new(alloc, OnceBox::new(alloc))?;
     let again = Arc::try_clone(&cell)?;
     let envelope = Envelope {
         answer,
         cell: again,
     };
-    Ok((envelope, Kept::new(copy, cell)))
+    Ok((envelope, Kept::new(item, cell)))
 }

@@ -26,8 +26,8 @@ pub struct Final {
 }
 
 /// Closes the engine of this writer and these clients, which are all that it has, in the order of their numbers. Waits for
-/// readers that still read. Takes no memory, and copies nothing. If a client had seen more than is published it would wait for
-/// good; nothing lets that happen, but no rule says so.
+/// readers that still read. Takes no memory, and copies nothing. If a client had seen more than is published, this would wait
+/// for good. Nothing lets that happen: each notice is of what was published. But no contract says so yet.
 pub fn close<N: EngineName>(rt: &impl Wait, writer: Writer<N>, clients: Vec<Client<N>>) -> Final
     requires { AreClients writer.queue 0 clients.items }
     ensures history { (history N.table result.history.items ≡ writer.published) × IsEntryHistory N.own writer.published }

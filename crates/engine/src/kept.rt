@@ -1,6 +1,7 @@
 //! What a client keeps for a serial.
 
 ghost use Rattle.std.specs.Prelude.{◌≡◌, Some, None, MatchOption, IfSome};
+ghost use Rattle.std.specs.Arc.{arc_value};
 ghost use Rattle.items.specs.Meanings.{answer_of as reply_of, submitted_of};
 ghost use Rattle.semantics.specs.Receipts.{IsAnswer};
 ghost use Rattle.command.specs.Answers.{Given as TheGiven};
@@ -16,7 +17,7 @@ use std::sync::Arc;
 /// What was submitted under a serial, and the cell of its answer. Contracts see the item, and what the cell is known to hold.
 #[derive(Drop)]
 pub struct Kept<N: EngineName> {
-    item: Item,
+    item: Arc<Item>,
     cell: Arc<OnceBox<Answer<N>>>,
     note: Note<Answer<N>>,
 }
@@ -33,15 +34,15 @@ impl<N: EngineName> Model for Kept<N> {
 
     ghost coded = { Prim.hlevel (codes, coded_element) };
 
-    ghost view = { λ k. record { item = k.item; known = k.note.known } };
+    ghost view = { λ k. record { item = arc_value k.item; known = k.note.known } };
 
     ghost invariant = { λ k. k.note.cell ≡ cell_name (arc_value k.cell) };
 }
 
 impl<N: EngineName> Kept<N> {
     /// Keeps an item whose answer the cell will hold.
-    pub fn new(item: Item, cell: Arc<OnceBox<Answer<N>>>) -> Kept<N>
-        ensures { (result.item ≡ item) × (result.known ≡ None) }
+    pub fn new(item: Arc<Item>, cell: Arc<OnceBox<Answer<N>>>) -> Kept<N>
+        ensures { (result.item ≡ arc_value item) × (result.known ≡ None) }
     {
         let note = cell.note();
         Kept { item, cell, note }
@@ -52,7 +53,8 @@ impl<N: EngineName> Kept<N> {
         ensures item { self.new.item ≡ self.old.item }
         ensures known { IfSome self.old.known (λ a. self.new.known ≡ Some a) }
         ensures answer { MatchOption result (answer_of self.new ≡ None)
-            (λ r. (answer_of self.new ≡ Some (record { reply = r.0; history = r.1 })) × IsAnswer N.own N.table r.1 (submitted_of N.table self.old.item) (reply_of r.0)) }
+            (λ r. (answer_of self.new ≡ Some (record { reply = r.0; history = r.1 }))
+            × IsAnswer N.own N.table r.1 (submitted_of N.table self.old.item) (reply_of r.0)) }
     {
         let answer = self.cell.get_as(&mut self.note)?;
         let given = given_to(answer, &self.item)?;
@@ -61,7 +63,9 @@ impl<N: EngineName> Kept<N> {
 
     /// The notice of the answer once it is there. Never waits.
     pub fn notice(&self) -> Option<&Notice<N>>
-        ensures { IfSome result (λ n. (g : TheGiven) × (n.now ≡ g.history) × IsAnswer N.own N.table g.history (submitted_of N.table self.now.item) (reply_of g.reply)) }
+        ensures { IfSome result
+            (λ n. (g : TheGiven) × (n.now ≡ g.history)
+            × IsAnswer N.own N.table g.history (submitted_of N.table self.now.item) (reply_of g.reply)) }
     {
         let given = given_to(self.cell.get()?, &self.item)?;
         Some(&given.notice)
@@ -71,7 +75,8 @@ impl<N: EngineName> Kept<N> {
 /// What an answer gives to the item, `None` if it is another item's answer.
 fn given_to<'a, N: EngineName>(answer: &'a Answer<N>, item: &Item) -> Option<&'a Given<N>>
     ensures { MatchOption result (answer_in item.now (Some answer.now) ≡ None)
-        (λ g. (answer_in item.now (Some answer.now) ≡ Some (record { reply = g.now.reply; history = g.now.notice })) × IsAnswer N.own N.table g.now.notice (submitted_of N.table item.now) (reply_of g.now.reply)) }
+        (λ g. (answer_in item.now (Some answer.now) ≡ Some (record { reply = g.now.reply; history = g.now.notice }))
+        × IsAnswer N.own N.table g.now.notice (submitted_of N.table item.now) (reply_of g.now.reply)) }
 {
     if !answer.item().is_same(item) {
         return None;

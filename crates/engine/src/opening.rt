@@ -33,8 +33,10 @@ pub struct Parts {
     second: Document,
     pub ghost good: { is_within_limits config ≡ true },
     pub ghost numbered: { (own ≡ config.own) × (replica.own ≡ config.own) },
-    pub ghost members: { (replica.document.table ≡ in_order config.members) × (first.table ≡ in_order config.members) × (second.table ≡ in_order config.members) },
-    pub ghost empty: { (replica.document.entries ≡ []) × (first.entries ≡ []) × (second.entries ≡ []) } by { Prim.hlevel (codes, coded_element) },
+    pub ghost members: { (replica.document.table ≡ in_order config.members) × (first.table ≡ in_order config.members)
+        × (second.table ≡ in_order config.members) },
+    pub ghost empty: { (replica.document.entries ≡ []) × (first.entries ≡ [])
+        × (second.entries ≡ []) } by { Prim.hlevel (codes, coded_element) },
 }
 
 /// Makes the parts of an engine with this configuration: an empty replica, and two empty documents for its readers.
@@ -101,8 +103,11 @@ pub fn open<N: EngineName>(
     requires book { parts.opened.seen.book ≡ N.book }
     requires own { parts.config.own ≡ N.own }
     requires table { in_order parts.config.members ≡ N.table }
-    ensures writer { IfOk result (λ r. (r.0.handler.replica.entries ≡ []) × (r.0.published ≡ []) × (r.0.took ≡ []) × (r.0.held ≡ []) × (r.0.batch ≡ parts.config.batch)) }
-    ensures clients { IfOk result (λ r. AreClients r.0.queue 0 r.1.items × (length r.1.items ≡ parts.config.clients) × All (IsNewClient parts.config) r.1.items) }
+    ensures writer { IfOk result
+        (λ r. (r.0.handler.replica.entries ≡ []) × (r.0.published ≡ []) × (r.0.took ≡ []) × (r.0.held ≡ [])
+        × (r.0.batch ≡ parts.config.batch)) }
+    ensures clients { IfOk result
+        (λ r. AreClients r.0.queue 0 r.1.items × (length r.1.items ≡ parts.config.clients) × All (IsNewClient parts.config) r.1.items) }
     ensures readers { IfOk result (λ r. (length r.2.items ≡ parts.config.readers) × All (λ s. s.seen ≡ []) r.2.items) }
     ensures err { IfErr result (λ why. (why ≡ NoMemory) ⊎ (why ≡ NoReaderPlace)) }
 {
@@ -142,7 +147,8 @@ fn new_ends<N: EngineName>(
     requires unseen { All (λ s. s.seen ≡ []) seats.old.items }
     ensures taker { IfOk result (λ r. ((view r.0.pass).got ≡ []) × ((view r.0.pass).known ≡ [])) }
     ensures held { IfOk result (λ r. (r.1.items ≡ []) × (config.now.batch ≤ vec_capacity r.1)) }
-    ensures clients { IfOk result (λ r. AreClients r.0.pass.table_id 0 r.2.items × (length r.2.items ≡ config.now.clients) × All (IsNewClient config.now) r.2.items) }
+    ensures clients { IfOk result
+        (λ r. AreClients r.0.pass.table_id 0 r.2.items × (length r.2.items ≡ config.now.clients) × All (IsNewClient config.now) r.2.items) }
     ensures readers { IfOk result (λ r. (length seats.new.items ≡ config.now.readers) × All (λ s. s.seen ≡ []) seats.new.items) }
     ensures err { IfErr result (λ why. why ≡ NoMemory) }
 {

@@ -80,9 +80,17 @@ impl<N: EngineName> Model for Writer<N> {
 
     ghost coded = { Prim.hlevel (codes, coded_element) };
 
-    ghost view = { λ w. record { queue = w.taker.pass.table_id; batch = w.batch; handler = handler_of w.handler; published = w.publisher.published; took = (view_of w.taker.pass).got; held = w.held.items } };
+    ghost view = { λ w. record {
+      queue = w.taker.pass.table_id;
+      batch = w.batch;
+      handler = handler_of w.handler;
+      published = w.publisher.published;
+      took = (view_of w.taker.pass).got;
+      held = w.held.items;
+    } };
 
-    ghost invariant = { λ w. IsWriter N.own N.table w.publisher (handler_of w.handler) (view_of w.taker.pass) w.held.items w.batch (vec_capacity w.held) };
+    ghost invariant = { λ w. IsWriter N.own N.table w.publisher (handler_of w.handler) (view_of w.taker.pass) w.held.items w.batch
+        (vec_capacity w.held) };
 }
 
 impl<N: EngineName> Writer<N> {
@@ -95,9 +103,11 @@ impl<N: EngineName> Writer<N> {
         batch: usize,
     ) -> Writer<N>
         requires name { (replica.own ≡ N.own) × (replica.document.table ≡ N.table) }
-        requires none { (publisher.appended ≡ []) × (replica.document.entries ≡ []) × ((view taker.pass).got ≡ []) × ((view taker.pass).known ≡ []) × (held.items ≡ []) }
+        requires none { (publisher.appended ≡ []) × (replica.document.entries ≡ []) × ((view taker.pass).got ≡ [])
+            × ((view taker.pass).known ≡ []) × (held.items ≡ []) }
         requires batch { (0 < batch) × (batch ≤ vec_capacity held) }
-        ensures { (result.queue ≡ taker.pass.table_id) × (result.batch ≡ batch) × (result.handler.replica ≡ replica_of replica) × (result.published ≡ publisher.published) × (result.took ≡ []) × (result.held ≡ []) }
+        ensures { (result.queue ≡ taker.pass.table_id) × (result.batch ≡ batch) × (result.handler.replica ≡ replica_of replica)
+            × (result.published ≡ publisher.published) × (result.took ≡ []) × (result.held ≡ []) }
     {
         let _ = replica.document();
         Writer {
@@ -128,7 +138,8 @@ impl<N: EngineName> Writer<N> {
     /// nothing else. Waits for the queue and for readers of the copy that is brought up to date.
     pub fn step(&mut self, rt: &impl Wait, alloc: Global) -> Step
         ensures same { (self.new.queue ≡ self.old.queue) × (self.new.batch ≡ self.old.batch) × (0 < self.new.batch) }
-        ensures fresh { length self.old.held ≡ 0 → (hs : List TheHandled) × IsTurn N.table self.old hs self.new × Ends self.old hs result self.new }
+        ensures fresh { length self.old.held ≡ 0
+            → (hs : List TheHandled) × IsTurn N.table self.old hs self.new × Ends self.old hs result self.new }
         ensures again { 0 < length self.old.held → Shows self.old result self.new }
     {
         if self.held.is_empty() {
@@ -154,7 +165,8 @@ impl<N: EngineName> Writer<N> {
     /// Goes on with a drain that ended early, and then handles up to a batch of items.
     fn take_all(&mut self, rt: &impl Wait, alloc: Global)
         requires { length self.old.held ≡ 0 }
-        ensures same { (self.new.queue ≡ self.old.queue) × (self.new.batch ≡ self.old.batch) × (self.new.published ≡ self.old.published) × (0 < self.new.batch) }
+        ensures same { (self.new.queue ≡ self.old.queue) × (self.new.batch ≡ self.old.batch) × (self.new.published ≡ self.old.published)
+            × (0 < self.new.batch) }
         ensures turn { IsTurn N.table self.old self.new.held self.new }
         ensures early { length self.new.held < self.new.batch → WasEmpty self.new.took }
     {
@@ -197,7 +209,8 @@ impl<N: EngineName> Writer<N> {
 
     /// Publishes all entries. `NoMemory` if allocation fails, and then nothing changes.
     fn publish_all(&mut self, rt: &impl Wait) -> Result<(), Refusal>
-        ensures publishes { MatchResult result (λ _. self.new ≡ record self.old { published = self.old.handler.replica.entries }) (λ _. self.new ≡ self.old) }
+        ensures publishes { MatchResult result (λ _. self.new ≡ record self.old { published = self.old.handler.replica.entries })
+            (λ _. self.new ≡ self.old) }
         ensures positive { 0 < self.new.batch }
     {
         self.publisher.publish(rt)
@@ -217,7 +230,8 @@ impl<N: EngineName> Writer<N> {
 /// Whether all entries are published.
 fn is_all_published<N: EngineName>(publisher: &Publisher<N>, handler: &Handler) -> bool
     requires { publisher.now.appended ≡ handler.now.replica.document.entries }
-    ensures { MatchBool result (publisher.now.published ≡ handler.now.replica.document.entries) (length publisher.now.published < length handler.now.replica.document.entries) }
+    ensures { MatchBool result (publisher.now.published
+        ≡ handler.now.replica.document.entries) (length publisher.now.published < length handler.now.replica.document.entries) }
 {
     publisher.notice().len() >= handler.replica.history_len()
 }
@@ -237,8 +251,10 @@ fn fill<N: EngineName>(
     requires holds { Holds (publication_of N.own N.table publisher.old) (replica_of handler.old.replica) }
     requires running { IsRunning (replica_of handler.old.replica) }
     requires come_from { ComeFrom (submitted_in N.table (view taker.old.pass).got) handler.old.replica.document.entries }
-    ensures batch { IsBatch (handler_of handler.old) (submitted_in N.table (view taker.old.pass).got) held.new.items (handler_of handler.new) }
-    ensures took { (items : List AnItem) × ((view taker.new.pass).got ≡ (view taker.old.pass).got ++ items) × (items_of held.new.items ≡ submitted_in N.table items) }
+    ensures batch { IsBatch (handler_of handler.old) (submitted_in N.table (view taker.old.pass).got) held.new.items
+        (handler_of handler.new) }
+    ensures took { (items : List AnItem) × ((view taker.new.pass).got ≡ (view taker.old.pass).got ++ items)
+        × (items_of held.new.items ≡ submitted_in N.table items) }
     ensures taker { (taker.new.pass.table_id ≡ taker.old.pass.table_id) × ((view taker.new.pass).known ≡ (view taker.old.pass).known) }
     ensures holds { Holds (publication_of N.own N.table publisher.new) (replica_of handler.new.replica) }
     ensures published { publisher.new.published ≡ publisher.old.published }
@@ -265,7 +281,8 @@ fn handle_one<N: EngineName>(
     requires running { IsRunning (replica_of handler.old.replica) }
     requires above { IsAbove envelope.answer.value.item.client envelope.answer.value.item.serial handler.old.replica.document.entries }
     ensures item { result.submitted ≡ submitted_of N.table envelope.answer.value.item }
-    ensures handled { Handles (handler_of handler.old) (submitted_of N.table envelope.answer.value.item) result.reply (handler_of handler.new) }
+    ensures handled { Handles (handler_of handler.old) (submitted_of N.table envelope.answer.value.item) result.reply
+        (handler_of handler.new) }
     ensures holds { Holds (publication_of N.own N.table publisher.new) (replica_of handler.new.replica) }
     ensures published { publisher.new.published ≡ publisher.old.published }
 {

@@ -20,14 +20,17 @@ filter_passes : {X : Type 0} (test : X → Bool) (xs : List X) (x : X) → IsAmo
 filter_passes test [] x m = absurd m
 filter_passes test (y ∷ xs) x m = at_test (filter_passes test xs x) (test y) refl m
   where
-    at_test : (IsAmong x (filter test xs) → test x ≡ true) → (b : Bool) → test y ≡ b → IsAmong x (cond b (y ∷ filter test xs) (filter test xs)) → test x ≡ true
+    at_test : (IsAmong x (filter test xs) → test x ≡ true) → (b : Bool) → test y ≡ b
+        → IsAmong x (cond b (y ∷ filter test xs) (filter test xs)) → test x ≡ true
     at_test rest true e (inl i) = ap test i ∙ e
     at_test rest true e (inr n) = rest n
     at_test rest false e n = rest n
 
 -- what is missing in one history, and stands in the other, is missing there
-missing_there : (v : Vector) (G F : List Stamped) (s : Stamped) → (IsAmong s G → IsAmong s F) → IsAmong s (missing v G) → IsAmong s (missing v F)
-missing_there v G F s here a = into_filter (λ t. not (covers v t.id)) F s (here (in_filter (λ t. not (covers v t.id)) G s a)) (filter_passes (λ t. not (covers v t.id)) G s a)
+missing_there : (v : Vector) (G F : List Stamped) (s : Stamped) → (IsAmong s G → IsAmong s F) → IsAmong s (missing v G)
+    → IsAmong s (missing v F)
+missing_there v G F s here a = into_filter (λ t. not (covers v t.id)) F s (here (in_filter (λ t. not (covers v t.id)) G s a))
+    (filter_passes (λ t. not (covers v t.id)) G s a)
 
 pub missing_alike : (v : Vector) (G F : List Stamped) → HaveSameStamped G F → HaveSameStamped (missing v G) (missing v F)
 missing_alike v G F same s = (missing_there v G F s (same s).0, missing_there v F G s (same s).1)

@@ -13,4 +13,5 @@ without_end-ended (b ∷ c ∷ bs) = ap (λ (l : List ℕ). b ∷ l) (without_en
 pub without_end-whole : (bs : List ℕ) → ((front : List ℕ) → bs ≢ front ++ 10 ∷ []) → bs ≡ without_end bs
 without_end-whole [] h = refl
 without_end-whole (b ∷ []) h = rw (other_byte b (λ e. h [] (ap (λ (x : ℕ). x ∷ []) e))) refl
-without_end-whole (b ∷ c ∷ bs) h = ap (λ (l : List ℕ). b ∷ l) (without_end-whole (c ∷ bs) (λ front e. h (b ∷ front) (ap (λ (l : List ℕ). b ∷ l) e)))
+without_end-whole (b ∷ c ∷ bs) h = ap (λ (l : List ℕ). b ∷ l)
+    (without_end-whole (c ∷ bs) (λ front e. h (b ∷ front) (ap (λ (l : List ℕ). b ∷ l) e)))

@@ -1,5 +1,6 @@
 -- What a client has submitted of a text, and why it stops.
-use Rattle.std.proofs.Common.{◌≡◌, ◌≢◌, ◌⊎◌, inl, inr, ℕ, zero, suc, ◌+◌, ◌==◌, cond, Option, Some, None, MatchOption, Ok, Err, List, [], ◌∷◌, ◌++◌, length, map, take, false, refl, sym, ap, ◌∙◌, subst, arith, add-one}
+use Rattle.std.proofs.Common.{◌≡◌, ◌≢◌, ◌⊎◌, inl, inr, ℕ, zero, suc, ◌+◌, ◌==◌, cond, Option, Some, None, MatchOption, Ok, Err, List, []}
+use Rattle.std.proofs.Common.{◌∷◌, ◌++◌, length, map, take, false, refl, sym, ap, ◌∙◌, subst, arith, add-one}
 use Rattle.std.specs.List.{All}
 use Rattle.std.proofs.lemmas.List.{length-append, length-map, map-append, take_at}
 use Rattle.std.proofs.lemmas.List.Elements.{All-push}
@@ -11,7 +12,7 @@ use Rattle.operation.specs.Meanings.{stamped_of}
 use Rattle.items.specs.declared.item.Request.TheVariants.{Peer}
 use Rattle.engine.specs.Clients.{Client}
 use Rattle.wire.specs.Bundles.{Readable, readable}
-use Rattle.wire.specs.Lines.{HasNoEnd, IsFirstLine}
+use Rattle.json_lines.specs.Lines.{HasNoEnd, IsFirstLine}
 use Rattle.wire.specs.Reading.{op_form}
 use Rattle.wire.proofs.BundleLines.{after, after-bad, after-cut, after-none, after-op}
 use Rattle.peer_sync.specs.Receiving.{EndsAfter, IsDenied, StopsAfter, all_submitted, submitted}
@@ -25,7 +26,11 @@ kept_count : (c : Client) (ops : List Op) → length (all_submitted c ops).kept 
 kept_count c [] = omega arith
 kept_count c (o ∷ ops) =
     let more = kept_count (submitted c o) ops in
-    let one = length-append c.kept (record { item = record { client = c.number; serial = length c.kept + 1; floor = length c.seen; request = Peer o }; known = None } ∷ []) in
+    let one = length-append c.kept
+    (record {
+      item = record { client = c.number; serial = length c.kept + 1; floor = length c.seen; request = Peer o };
+      known = None;
+    } ∷ []) in
     omega (arith, more, one)
 
 -- client d is c after it submitted the first n operations of the text, of which the rest isn't read yet
@@ -41,8 +46,10 @@ module _ (table : List ℕ) (c : Client) (text : List ℕ) where
   submitted-none = record { ops = []; count = refl; client = refl; read = refl; wide = λ k d lt. absurd (omega (arith, lt)) }
 
   -- the next line is an operation, which is submitted
-  pub submitted-more : (d e : Client) (rest line left : List ℕ) (n : ℕ) (op : Op) → HasSubmitted table c text d rest n → IsFirstLine rest line left
-      → op_form table line ≡ Ok (stamped_of table op) → length op.deps ≡ length table → e ≡ submitted d op → HasSubmitted table c text e left (n + 1)
+  pub submitted-more : (d e : Client) (rest line left : List ℕ) (n : ℕ) (op : Op) → HasSubmitted table c text d rest n
+      → IsFirstLine rest line left
+      → op_form table line ≡ Ok (stamped_of table op) → length op.deps ≡ length table → e ≡ submitted d op
+      → HasSubmitted table c text e left (n + 1)
   submitted-more d e rest line left n op h first form wide is = record {
     ops = h.ops ++ op ∷ [];
     count = (let l = length-append h.ops (op ∷ []) in omega (arith, l, h.count));
@@ -55,7 +62,8 @@ module _ (table : List ℕ) (c : Client) (text : List ℕ) where
   }
 
   -- what was submitted are the first operations of the text
-  pub first_operations : (d : Client) (rest : List ℕ) (n : ℕ) (h : HasSubmitted table c text d rest n) → map (stamped_of table) h.ops ≡ take n (readable table text).operations
+  pub first_operations : (d : Client) (rest : List ℕ) (n : ℕ) (h : HasSubmitted table c text d rest n)
+      → map (stamped_of table) h.ops ≡ take n (readable table text).operations
   first_operations d rest n h =
       sym (take_at (map (stamped_of table) h.ops) (readable table rest).operations n (length-map h.ops (stamped_of table) ∙ h.count))
       ∙ ap (λ (r : Readable). take n r.operations) h.read
@@ -64,7 +72,8 @@ module _ (table : List ℕ) (c : Client) (text : List ℕ) where
   kept_after d rest n h = ap (λ (k : Client). length k.kept) h.client ∙ kept_count c h.ops ∙ ap (λ m. length c.kept + m) h.count
 
   -- a line that is bad
-  stops-bad : (d : Client) (rest line left : List ℕ) (n : ℕ) (why : Refusal) → HasSubmitted table c text d rest n → IsFirstLine rest line left
+  stops-bad : (d : Client) (rest line left : List ℕ) (n : ℕ) (why : Refusal) → HasSubmitted table c text d rest n
+      → IsFirstLine rest line left
       → op_form table line ≡ Err why → StopsAfter (readable table text) n d why
   stops-bad d rest line left n why h first form =
       let all = sym (after-bad table rest line left (map (stamped_of table) h.ops) why first form) ∙ h.read in
@@ -73,7 +82,8 @@ module _ (table : List ℕ) (c : Client) (text : List ℕ) where
       inr (inl (omega (arith, count, mapped, h.count), sym (ap (λ (r : Readable). r.stopped) all)))
 
   -- a line whose operation the client doesn't submit
-  stops-denied : (d : Client) (rest line left : List ℕ) (n : ℕ) (why : Refusal) (op : Op) → HasSubmitted table c text d rest n → IsFirstLine rest line left
+  stops-denied : (d : Client) (rest line left : List ℕ) (n : ℕ) (why : Refusal) (op : Op) → HasSubmitted table c text d rest n
+      → IsFirstLine rest line left
       → op_form table line ≡ Ok (stamped_of table op) → IsDenied d why → StopsAfter (readable table text) n d why
   stops-denied d rest line left n why op h first form denied =
       let all = sym (after-op table rest line left (map (stamped_of table) h.ops) (stamped_of table op) first form) ∙ h.read in
@@ -84,14 +94,17 @@ module _ (table : List ℕ) (c : Client) (text : List ℕ) where
       inr (inr (omega (arith, count, more, one, mapped, h.count), denied))
 
   -- a line that isn't submitted
-  pub stops : (d : Client) (rest line left : List ℕ) (n : ℕ) (why : Refusal) → HasSubmitted table c text d rest n → IsFirstLine rest line left
-      → (why ≡ NoMemory) ⊎ (op_form table line ≡ Err why) ⊎ ((op : Op) × (op_form table line ≡ Ok (stamped_of table op)) × IsDenied d why) → StopsAfter (readable table text) n d why
+  pub stops : (d : Client) (rest line left : List ℕ) (n : ℕ) (why : Refusal) → HasSubmitted table c text d rest n
+      → IsFirstLine rest line left
+      → (why ≡ NoMemory) ⊎ (op_form table line ≡ Err why) ⊎ ((op : Op) × (op_form table line ≡ Ok (stamped_of table op)) × IsDenied d why)
+      → StopsAfter (readable table text) n d why
   stops d rest line left n why h first (inl memory) = inl memory
   stops d rest line left n why h first (inr (inl bad)) = stops-bad d rest line left n why h first bad
   stops d rest line left n why h first (inr (inr denied)) = stops-denied d rest line left n why denied.0 h first denied.1 denied.2
 
   -- bytes that no line feed ends
-  stops-cut : (d : Client) (rest : List ℕ) (n : ℕ) → HasSubmitted table c text d rest n → HasNoEnd rest → rest ≢ [] → StopsAfter (readable table text) n d BadLine
+  stops-cut : (d : Client) (rest : List ℕ) (n : ℕ) → HasSubmitted table c text d rest n → HasNoEnd rest → rest ≢ []
+      → StopsAfter (readable table text) n d BadLine
   stops-cut d rest n h whole some =
       let all = sym (after-cut table rest (map (stamped_of table) h.ops) whole some) ∙ h.read in
       let count = ap (λ (r : Readable). length r.operations) all in
@@ -108,11 +121,15 @@ module _ (table : List ℕ) (c : Client) (text : List ℕ) where
 
   -- the end of the lines: all was read, or bytes are left that no line feed ends
   pub stops-end : (d : Client) (rest left : List ℕ) (n taken later : ℕ) (stop : Option (ℕ × Refusal)) → HasSubmitted table c text d rest n
-      → taken ≡ n → HasNoEnd rest → left ≡ rest → later ≡ taken → MatchOption stop (left ≡ []) (λ s. (s.0 ≡ later + 1) × (s.1 ≡ BadLine) × (left ≢ []))
+      → taken ≡ n → HasNoEnd rest → left ≡ rest → later ≡ taken
+      → MatchOption stop (left ≡ []) (λ s. (s.0 ≡ later + 1) × (s.1 ≡ BadLine) × (left ≢ []))
       → MatchOption stop (EndsAfter (readable table text) n) (λ s. (s.0 ≡ n + 1) × StopsAfter (readable table text) n d s.1)
   stops-end d rest left n taken later None h same whole still count none = ends d rest n h (sym still ∙ none)
-  stops-end d rest left n taken later (Some s) h same whole still count cut =
-      (omega (arith, cut.0, same, count), subst (λ (why : Refusal). StopsAfter (readable table text) n d why) (sym cut.1) (stops-cut d rest n h whole (λ e. cut.2 (still ∙ e))))
+  stops-end d rest left n taken later (Some s) h same whole still count cut = (
+    omega (arith, cut.0, same, count),
+    subst (λ (why : Refusal). StopsAfter (readable table text) n d why) (sym cut.1)
+        (stops-cut d rest n h whole (λ e. cut.2 (still ∙ e))),
+  )
 
 other_than_zero : (n : ℕ) → n ≢ 0 → (n == 0) ≡ false
 other_than_zero n h = grind (arith)

@@ -6,12 +6,12 @@ use Rattle.operation.specs.declared.op.Op.{Op}
 use Rattle.items.specs.declared.item.Item.{Item}
 use Rattle.items.specs.declared.item.Request.TheVariants.{Peer}
 use Rattle.command.specs.Fifo.{Moment, sender_hand}
-use Rattle.engine.specs.Clients.{Client, items_by}
+use Rattle.engine.specs.Clients.{Client, items_by, with_request}
 use Rattle.wire.specs.Bundles.{Readable}
 
 -- the client after it submitted a peer's operation: under its next serial, with what it has seen as the floor
 abbrev pub submitted : Client → Op → Client
-submitted c op = record c { kept = c.kept ++ (record { item = record { client = c.number; serial = length c.kept + 1; floor = length c.seen; request = Peer op }; known = None }) ∷ [] }
+submitted c op = with_request c (Peer op)
 
 -- the client after it submitted these, one after another
 abbrev pub all_submitted : Client → List Op → Client
@@ -22,9 +22,11 @@ all_submitted c (op ∷ ops) = all_submitted (submitted c op) ops
 abbrev pub IsDenied : Client → Refusal → Type 0
 IsDenied c why =
     ((why ≡ SerialEnd) × (c.serials ≤ length c.kept))
-    ⊎ ((why ≡ QueueFull) × (length c.kept < c.serials) × ((items : List Item) × (length items ≡ c.capacity) × Moment (sender_hand c.number (items_by c)) items))
+    ⊎ ((why ≡ QueueFull) × (length c.kept < c.serials)
+    × ((items : List Item) × (length items ≡ c.capacity) × Moment (sender_hand c.number (items_by c)) items))
 
--- why the line after n operations isn't submitted by client c: allocation failed; or it is the bad line; or it is an operation that the client doesn't submit
+-- why the line after n operations isn't submitted by client c: allocation failed; or it is the bad line; or it is an operation
+-- that the client doesn't submit
 abbrev pub StopsAfter : Readable → ℕ → Client → Refusal → Type 0
 StopsAfter r n c why =
     (why ≡ NoMemory)

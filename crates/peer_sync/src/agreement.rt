@@ -11,7 +11,8 @@ ghost use Rattle.semantics.specs.Vectors.{Vector};
 /// `ReaderToken::ask` and `Client::ask` a token that has read the history G answers `reading_of G`, refusals included: that is
 /// one answer for both engines to each question to the document; and both have the same operations to send to a peer.
 pub fn tokens_answer_alike()
-    ensures document { (p q : ℕ) (G F : List Entry) → IsEntryHistory p G → IsEntryHistory q F → HaveSameStamped (stamped_of G) (stamped_of F) →
+    ensures document { (p q : ℕ) (G F : List Entry) → IsEntryHistory p G → IsEntryHistory q F
+        → HaveSameStamped (stamped_of G) (stamped_of F) →
         (x : Question) → reading_of G (OfDocument x) ≡ reading_of F (OfDocument x) }
     ensures missing { (G F : List Entry) → HaveSameStamped (stamped_of G) (stamped_of F) →
         (v : Vector) → HaveSameStamped (missing v (stamped_of G)) (missing v (stamped_of F)) }

@@ -1,6 +1,7 @@
 //! What a client receives from a peer.
 
-ghost use Rattle.std.specs.Prelude.{◌≡◌, ◌≢◌, ◌⊎◌, ◌+◌, ◌<◌, ◌≤◌, ◌^◌, ◌==◌, cond, [], List, Ok, Err, IfOk, IfErr, MatchOption, length, map, take};
+ghost use Rattle.std.specs.Prelude.{◌≡◌, ◌≢◌, ◌⊎◌, ◌+◌, ◌<◌, ◌≤◌, ◌^◌, ◌==◌, cond, [], List, Ok, Err, IfOk, IfErr, MatchOption, length};
+ghost use Rattle.std.specs.Prelude.{map, take};
 ghost use Rattle.std.specs.List.{All};
 ghost use Rattle.ids.specs.declared.refusal.Refusal.TheVariants.{BadLine, NoMemory};
 ghost use Rattle.operation.specs.declared.op.Op.{Op};
@@ -11,9 +12,10 @@ ghost use Rattle.peer_sync.specs.Receiving.{EndsAfter, IsDenied, StopsAfter, all
 
 use engine::{Client, EngineName, Ticket};
 use ids::Refusal;
+use json_lines::Lines;
 use std::alloc::Global;
 use std::sync::Wait;
-use wire::{Lines, read_op};
+use wire::read_op;
 
 /// The result of a receipt.
 #[derive(Clone, Copy, Debug, PartialEq, Eq)]
@@ -66,7 +68,8 @@ pub fn receive<N: EngineName>(
 
 /// The stop at bytes after the last line feed, if there are any.
 fn cut_stop(lines: &Lines) -> Option<(u64, Refusal)>
-    ensures { MatchOption result (lines.now.rest.now ≡ []) (λ stop. (stop.0 ≡ lines.now.taken + 1) × (stop.1 ≡ BadLine) × (lines.now.rest.now ≢ [])) }
+    ensures { MatchOption result (lines.now.rest.now ≡ [])
+        (λ stop. (stop.0 ≡ lines.now.taken + 1) × (stop.1 ≡ BadLine) × (lines.now.rest.now ≢ [])) }
 {
     let number = lines.cut_line()?;
     Some((number, Refusal::BadLine))
@@ -82,9 +85,14 @@ fn submit_line<N: EngineName>(
     client: &mut Client<N>,
     line: &[u8],
 ) -> Result<Ticket, Refusal>
-    ensures ok { IfOk result (λ ticket. (op : Op) × (op_form N.table line.now ≡ Ok (stamped_of N.table op)) × (length op.deps ≡ length N.table)
-        × (client.new ≡ submitted client.old op) × (ticket.serial ≡ length client.old.kept + 1) × (length client.new.kept ≤ client.new.serials)) }
-    ensures err { IfErr result (λ why. (client.new ≡ client.old) × ((why ≡ NoMemory) ⊎ (op_form N.table line.now ≡ Err why) ⊎ ((op : Op) × (op_form N.table line.now ≡ Ok (stamped_of N.table op)) × IsDenied client.old why))) }
+    ensures ok { IfOk result
+        (λ ticket. (op : Op) × (op_form N.table line.now ≡ Ok (stamped_of N.table op)) × (length op.deps ≡ length N.table)
+        × (client.new ≡ submitted client.old op) × (ticket.serial ≡ length client.old.kept + 1)
+        × (length client.new.kept ≤ client.new.serials)) }
+    ensures err { IfErr result
+        (λ why. (client.new ≡ client.old)
+        × ((why ≡ NoMemory) ⊎ (op_form N.table line.now ≡ Err why)
+        ⊎ ((op : Op) × (op_form N.table line.now ≡ Ok (stamped_of N.table op)) × IsDenied client.old why))) }
 {
     let op = read_op(alloc, line, client.table())?;
     client.deliver(rt, alloc, op)
@@ -94,7 +102,11 @@ impl Received {
     /// Counts an operation that was submitted under this serial.
     fn count(&mut self, serial: u64)
         requires { self.old.submitted + 1 < 2 ^ 64 }
-        ensures { self.new ≡ record self.old { first_serial = cond (self.old.submitted == 0) serial self.old.first_serial; submitted = self.old.submitted + 1 } }
+        ensures { self.new
+            ≡ record self.old {
+              first_serial = cond (self.old.submitted == 0) serial self.old.first_serial;
+              submitted = self.old.submitted + 1;
+            } }
     {
         if self.submitted == 0 {
             self.first_serial = serial;

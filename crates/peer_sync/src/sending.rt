@@ -32,7 +32,9 @@ pub fn hello<N: EngineName>(alloc: Global, token: &mut ReaderToken<N>) -> Result
     ensures grows { BeginsWith token.new.seen token.old.seen }
     ensures legal { IsEntryHistory N.own token.new.seen }
     ensures line { IfOk result (λ text. text.items ≡ hello_text token.new.seen) }
-    ensures reads_back { IfOk result (λ text. IsTrue (are_counters (vector_of (applied token.new.seen))) → hello_form N.table (without_end text.items) ≡ Ok (vector_of (applied token.new.seen))) }
+    ensures reads_back { IfOk result
+        (λ text. IsTrue (are_counters (vector_of (applied token.new.seen)))
+        → hello_form N.table (without_end text.items) ≡ Ok (vector_of (applied token.new.seen))) }
     ensures published { IfOk result (λ _. token.new.read ≡ token.new.seen) }
     ensures err { IfErr result (λ why. (why ≡ NoMemory) ⊎ (why ≡ NoReading)) }
 {
@@ -77,12 +79,16 @@ pub fn answer<N: EngineName>(
 ) -> Result<Vec<u8>, Refusal>
     ensures grows { BeginsWith token.new.seen token.old.seen }
     ensures legal { IsEntryHistory N.own token.new.seen }
-    ensures lines { IfOk result (λ text. (v : Vector) × (hello_form N.table (without_end hello.now) ≡ Ok v) × (text.items ≡ bundle_text (lacked token.new.seen v))) }
-    ensures reads_back { IfOk result (λ text. (v : Vector) → hello_form N.table (without_end hello.now) ≡ Ok v → All (CanBeSent N.table) (lacked token.new.seen v)
+    ensures lines { IfOk result
+        (λ text. (v : Vector) × (hello_form N.table (without_end hello.now) ≡ Ok v)
+        × (text.items ≡ bundle_text (lacked token.new.seen v))) }
+    ensures reads_back { IfOk result
+        (λ text. (v : Vector) → hello_form N.table (without_end hello.now) ≡ Ok v → All (CanBeSent N.table) (lacked token.new.seen v)
         → bundle_form N.table text.items ≡ Ok (lacked token.new.seen v)) }
     ensures published { IfOk result (λ _. token.new.read ≡ token.new.seen) }
     ensures err { IfErr result (λ why. (why ≡ NoMemory) ⊎ (why ≡ NoReading) ⊎ (hello_form N.table (without_end hello.now) ≡ Err why)) }
-    ensures bad { IfErr (hello_form N.table (without_end hello.now)) (λ why. ((result ≡ Err why) ⊎ (result ≡ Err NoMemory)) × (token.new ≡ token.old)) }
+    ensures bad { IfErr (hello_form N.table (without_end hello.now))
+        (λ why. ((result ≡ Err why) ⊎ (result ≡ Err NoMemory)) × (token.new ≡ token.old)) }
 {
     // What a token has seen is an entry history, also where the hello is refused.
     prove!(token.seen_len() <= usize::MAX);

@@ -26,6 +26,8 @@ prefix_whole (x ∷ xs) (y ∷ ys) p le =
     let rest = prefix_whole xs ys (p.0, cc (p.1)) (omega arith) in cc (p.1, rest)
 
 -- what was seen, and what has become longer
-pub grown : (table : List ℕ) (xs ys zs : List Entry) (G : List TheEntry) → IsPrefix xs ys → zs ≡ ys → history table xs ≡ G → BeginsWith (history table zs) G
+pub grown : (table : List ℕ) (xs ys zs : List Entry) (G : List TheEntry) → IsPrefix xs ys → zs ≡ ys → history table xs ≡ G
+    → BeginsWith (history table zs) G
 grown table xs ys zs G p same is =
-    subst (λ (F : List TheEntry). BeginsWith (history table zs) F) is (subst (λ (l : List Entry). BeginsWith (history table l) (history table xs)) (sym same) (begins_of table xs ys p))
+    subst (λ (F : List TheEntry). BeginsWith (history table zs) F) is
+    (subst (λ (l : List Entry). BeginsWith (history table l) (history table xs)) (sym same) (begins_of table xs ys p))

@@ -1,5 +1,6 @@
 -- A step that only adds entries to what is shown keeps the rule of the copies.
-use Rattle.std.proofs.Common.{Option, None, Some, option_to_list, ◌≡◌, ◌≢◌, ℕ, Bool, true, false, cond, List, [], ◌∷◌, ◌++◌, fold, refl, sym, ap, ◌∙◌, subst, ⊎_elim}
+use Rattle.std.proofs.Common.{Option, None, Some, option_to_list, ◌≡◌, ◌≢◌, ℕ, Bool, true, false, cond, List, [], ◌∷◌, ◌++◌, fold, refl}
+use Rattle.std.proofs.Common.{sym, ap, ◌∙◌, subst, ⊎_elim}
 use Rattle.std.specs.Prelude.{IsTrue, IsFalse, length}
 use Rattle.std.proofs.lemmas.List.{append-nil}
 use mathlib.Core.Option.{some}
@@ -32,29 +33,48 @@ module _ (book : Book) (own : ℕ) (table : List ℕ) where
 
   -- a new seat, which has read nothing
   pub admits : Admits (HoldsOfCopies book own table) (reader_of [])
-  admits x views h = (h.0, λ seat v at. ⊎_elim (h.1 seat v) (λ (e : reader_of [] ≡ v). subst (λ (z : View). BeginsWith x.entries (history table z.read)) e (from_none x.entries)) (at_snoc views (reader_of []) v seat at))
+  admits x views h = (
+    h.0,
+    λ seat v at. ⊎_elim (h.1 seat v)
+        (λ (e : reader_of [] ≡ v). subst (λ (z : View). BeginsWith x.entries (history table z.read)) e (from_none x.entries))
+        (at_snoc views (reader_of []) v seat at),
+  )
 
   -- new copies
   pub begins : (x : Snapshot) → x ≡ snapshot book table [] → HoldsOfCopies book own table x (reader_of [] ∷ [])
   begins x is = (
-    (is ∙ ap (λ (s : Snapshot). snapshot book table s.log) (sym is), subst (λ (s : Snapshot). IsEntryHistory own (history table s.log)) (sym is) tt),
-    λ seat v at. ⊎_elim (λ (e : get_elem? {A = View} [] seat ≡ some v). absurd (nothing seat v e)) (λ (e : reader_of [] ≡ v). subst (λ (z : View). BeginsWith x.entries (history table z.read)) e (from_none x.entries)) (at_snoc [] (reader_of []) v seat at),
+    (
+      is ∙ ap (λ (s : Snapshot). snapshot book table s.log) (sym is),
+      subst (λ (s : Snapshot). IsEntryHistory own (history table s.log))
+          (sym is) tt,
+    ),
+    λ seat v at. ⊎_elim (λ (e : get_elem? {A = View} [] seat ≡ some v). absurd (nothing seat v e))
+        (λ (e : reader_of [] ≡ v). subst (λ (z : View). BeginsWith x.entries (history table z.read)) e (from_none x.entries))
+        (at_snoc [] (reader_of []) v seat at),
   )
     where
       nothing : (seat : ℕ) (v : View) → get_elem? {A = View} [] seat ≡ some v → ⊥
       nothing seat v e = cc
 
-  pub rises : (seat : ℕ) (v : View) (x y : Snapshot) → BeginsWith y.entries x.entries → IsSnapshot book own table y → TurnsAt (HoldsOfCopies book own table) seat v x y (Sees book own table)
+  pub rises : (seat : ℕ) (v : View) (x y : Snapshot) → BeginsWith y.entries x.entries → IsSnapshot book own table y
+      → TurnsAt (HoldsOfCopies book own table) seat v x y (Sees book own table)
   rises seat v x y up is views h at =
       let whole : y.entries ≡ history table y.log = ap (λ (s : Snapshot). s.entries) is.0 in (
         reader_of y.log,
         (
           is,
-          λ j u e. ⊎_elim (λ (t : (j ≡ seat) × (reader_of y.log ≡ u)). subst (λ (z : View). BeginsWith y.entries (history table z.read)) t.1 (subst (λ (G : List TheEntry). BeginsWith y.entries G) whole (begins_self y.entries)))
+          λ j u e. ⊎_elim
+              (λ (t : (j ≡ seat) × (reader_of y.log ≡ u)). subst (λ (z : View). BeginsWith y.entries (history table z.read)) t.1
+              (subst (λ (G : List TheEntry). BeginsWith y.entries G) whole (begins_self y.entries)))
               (λ (t : (j ≢ seat) × (get_elem? views j ≡ some u)). begins_trans y.entries x.entries (history table u.read) up (h.1 j u t.1))
               (at_set views seat j (reader_of y.log) u e),
         ),
-        (is.0, is.1, subst (λ (G : List TheEntry). BeginsWith G (history table v.read)) whole (begins_trans y.entries x.entries (history table v.read) up (h.1 seat v at))),
+        (
+          is.0,
+          is.1,
+          subst (λ (G : List TheEntry). BeginsWith G (history table v.read)) whole
+              (begins_trans y.entries x.entries (history table v.read) up (h.1 seat v at)),
+        ),
       )
 
   pub reads : (seat : ℕ) (v : View) → Turns (HoldsOfCopies book own table) seat v (λ x. x) (Sees book own table)
@@ -70,52 +90,67 @@ taken_begins s w = by (is_lawful s.table s.entries (op_in w.entry))
 
 pub fold_begins : (s : Snapshot) (ws : List Pending) → BeginsWith (fold applied_to s ws).entries s.entries
 fold_begins s [] = begins_self s.entries
-fold_begins s (w ∷ ws) = begins_trans (fold applied_to (applied_to s w) ws).entries (applied_to s w).entries s.entries (fold_begins (applied_to s w) ws) (taken_begins s w)
+fold_begins s (w ∷ ws) = begins_trans (fold applied_to (applied_to s w) ws).entries (applied_to s w).entries s.entries
+    (fold_begins (applied_to s w) ws) (taken_begins s w)
 
-fold_sheet : (book : Book) (table : List ℕ) (s : Snapshot) (ws : List Pending) (log : List Entry) → fold applied_to s ws ≡ snapshot book table log → BeginsWith (history table log) s.entries
+fold_sheet : (book : Book) (table : List ℕ) (s : Snapshot) (ws : List Pending) (log : List Entry)
+    → fold applied_to s ws ≡ snapshot book table log → BeginsWith (history table log) s.entries
 fold_sheet book table s ws log all = subst (λ (z : Snapshot). BeginsWith z.entries s.entries) all (fold_begins s ws)
 
 -- what a publish shows keeps the rule
-pub shows : (book : Book) (own : ℕ) (table : List ℕ) (seat : ℕ) (v : View) (x y : Snapshot) (ws : List Pending) (log : List Entry) → fold applied_to x ws ≡ snapshot book table log → IsEntryHistory own (history table log) → y ≡ fold applied_to x ws
+pub shows : (book : Book) (own : ℕ) (table : List ℕ) (seat : ℕ) (v : View) (x y : Snapshot) (ws : List Pending) (log : List Entry)
+    → fold applied_to x ws ≡ snapshot book table log → IsEntryHistory own (history table log) → y ≡ fold applied_to x ws
     → TurnsAt (HoldsOfCopies book own table) seat v x y (Sees book own table)
 shows book own table seat v x y ws log all legal is =
     let e : y ≡ snapshot book table log = is ∙ all in
-    rises book own table seat v x y (subst (λ (z : Snapshot). BeginsWith z.entries x.entries) (sym is) (fold_begins x ws))
-    (e ∙ ap (λ (s : Snapshot). snapshot book table s.log) (sym e), subst (λ (s : Snapshot). IsEntryHistory own (history table s.log)) (sym e) legal)
+    rises book own table seat v x y (subst (λ (z : Snapshot). BeginsWith z.entries x.entries) (sym is) (fold_begins x ws)) (
+      e ∙ ap (λ (s : Snapshot). snapshot book table s.log) (sym e),
+      subst (λ (s : Snapshot). IsEntryHistory own (history table s.log))
+          (sym e) legal,
+    )
 
 pub fold-snoc : (s : Snapshot) (ws : List Pending) (w : Pending) → fold applied_to s (ws ++ w ∷ []) ≡ applied_to (fold applied_to s ws) w
 fold-snoc s [] w = refl
 fold-snoc s (x ∷ ws) w = fold-snoc (applied_to s x) ws w
 
-module _ (book : Book) (own : ℕ) (table : List ℕ) (s : Snapshot) (ws : List Pending) (head : Named) (all : Beginning) (h : IsPublisher book own table s ws head all) where
+module _ (book : Book) (own : ℕ) (table : List ℕ) (s : Snapshot) (ws : List Pending) (head : Named) (all : Beginning)
+    (h : IsPublisher book own table s ws head all) where
   -- all that was appended begins with what is published
   pub appended_begins : BeginsWith (history table all.log) s.entries
   appended_begins = fold_sheet book table s ws all.log h.brought_up
 
   pub snapshot_legal : IsEntryHistory own (history table s.log)
-  snapshot_legal = subst (IsEntryHistory own) (ap (λ (z : Snapshot). z.entries) h.stands) (history_begun own (history table all.log) s.entries appended_begins h.legal)
+  snapshot_legal = subst (IsEntryHistory own) (ap (λ (z : Snapshot). z.entries) h.stands)
+      (history_begun own (history table all.log) s.entries appended_begins h.legal)
 
   -- the history of what is shown, wherever it stands
   pub shown_legal : (log : List Entry) → log ≡ s.log → IsEntryHistory own (history table log)
   shown_legal log is = subst (λ (l : List Entry). IsEntryHistory own (history table l)) (sym is) snapshot_legal
 
-  pub seen_begins : (z : Publication) → record { own = own; members = table; published = s.entries; appended = history table all.log } ≡ z → BeginsWith z.appended z.published
+  pub seen_begins : (z : Publication) → record { own = own; members = table; published = s.entries; appended = history table all.log } ≡ z
+      → BeginsWith z.appended z.published
   seen_begins z is = subst (λ (z : Publication). BeginsWith z.appended z.published) is appended_begins
 
   -- what waits may be moved
   pending_moved : (t : Snapshot) (vs : List Pending) → t ≡ s → vs ≡ ws → IsPublisher book own table t vs head all
-  pending_moved t vs same moved = subst (λ (z : Snapshot). IsPublisher book own table z vs head all) (sym same) (subst (λ (l : List Pending). IsPublisher book own table s l head all) (sym moved) h)
+  pending_moved t vs same moved = subst (λ (z : Snapshot). IsPublisher book own table z vs head all) (sym same)
+      (subst (λ (l : List Pending). IsPublisher book own table s l head all) (sym moved) h)
 
   -- all that waits brings what is shown up to an entry history
-  pub all_pending : (t : Snapshot) (vs : List Pending) → t ≡ s → vs ≡ ws → (log : List Entry) × (fold applied_to t vs ≡ snapshot book table log) × IsEntryHistory own (history table log)
+  pub all_pending : (t : Snapshot) (vs : List Pending) → t ≡ s → vs ≡ ws
+      → (log : List Entry) × (fold applied_to t vs ≡ snapshot book table log) × IsEntryHistory own (history table log)
   all_pending t vs same moved = let k = pending_moved t vs same moved in (all.log, k.brought_up, k.legal)
 
   -- one more entry waits
-  pub one_pending : (w : Pending) (after : Beginning) → after.log ≡ all.log ++ w.entry ∷ [] → after.book ≡ all.book → w.log ≡ after.log → w.book ≡ after.book
-      → IsEntryHistory own (entry_of table w.entry ∷ history table all.log) → IsFalse (is_full (history table all.log)) → IsTrue (is_member table (stamped_in (entry_of table w.entry)).id.replica) → length (op_in w.entry).deps ≡ length table
-      → (t : Snapshot) (vs : List Pending) (m : Option Pending) → t ≡ s → vs ≡ ws → m ≡ Some w → IsPublisher book own table t (vs ++ option_to_list m) head after
+  pub one_pending : (w : Pending) (after : Beginning) → after.log ≡ all.log ++ w.entry ∷ [] → after.book ≡ all.book → w.log ≡ after.log
+      → w.book ≡ after.book
+      → IsEntryHistory own (entry_of table w.entry ∷ history table all.log) → IsFalse (is_full (history table all.log))
+      → IsTrue (is_member table (stamped_in (entry_of table w.entry)).id.replica) → length (op_in w.entry).deps ≡ length table
+      → (t : Snapshot) (vs : List Pending) (m : Option Pending) → t ≡ s → vs ≡ ws → m ≡ Some w
+      → IsPublisher book own table t (vs ++ option_to_list m) head after
   one_pending w after log name wlog wbook follows room member width t vs m same moved one =
-      let longer : history table after.log ≡ entry_of table w.entry ∷ history table all.log = ap (history table) log ∙ history-more table all.log w.entry in
+      let longer : history table after.log ≡ entry_of table w.entry ∷ history table all.log = ap (history table) log
+      ∙ history-more table all.log w.entry in
       let lawful = lawful_next own table (history table all.log) w.entry follows room h.members member width in
       let k = pending_moved t vs same moved in
       let becomes : appended_to (snapshot book table all.log) w ≡ snapshot book table after.log =

@@ -1,4 +1,5 @@
--- The two copies of the document, and their rule: readers are shown a snapshot of the engine's history, which begins with all that each seat has read.
+-- The two copies of the document, and their rule: readers are shown a snapshot of the engine's history, which begins with all
+-- that each seat has read.
 use Rattle.std.specs.Prelude.{ℕ, ◌≡◌, cond, List, ◌∷◌}
 use mathlib.Core.Option.{some}
 use lib.ListN.{get_elem?}
@@ -46,8 +47,10 @@ module _ (book : Book) (own : ℕ) (table : List ℕ) where
 
   -- the rule: what is shown is a snapshot, and begins with all that each seat has read
   abbrev pub HoldsOfCopies : Snapshot → List View → Type 0
-  HoldsOfCopies shown views = IsSnapshot shown × ((seat : ℕ) (v : View) → get_elem? views seat ≡ some v → BeginsWith shown.entries (history table v.read))
+  HoldsOfCopies shown views = IsSnapshot shown
+      × ((seat : ℕ) (v : View) → get_elem? views seat ≡ some v → BeginsWith shown.entries (history table v.read))
 
   -- what one step reads: what is shown after it, which begins with what was read before
   abbrev pub Sees : View → Snapshot → Snapshot → View → Type 0
-  Sees v before after w = (after ≡ snapshot book table w.read) × IsEntryHistory own (history table w.read) × BeginsWith (history table w.read) (history table v.read)
+  Sees v before after w = (after ≡ snapshot book table w.read) × IsEntryHistory own (history table w.read)
+      × BeginsWith (history table w.read) (history table v.read)

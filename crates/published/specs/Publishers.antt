@@ -7,8 +7,10 @@ use Rattle.published.specs.Beginnings.{Beginning}
 use Rattle.published.specs.Rules.{head_of}
 use Rattle.published.specs.Copies.{Snapshot, Pending, applied_to, snapshot}
 
--- what is shown is a snapshot; once all that is pending was absorbed, or left out, it is the snapshot of all that was appended, whose operations are of members. So nothing is left out
-pub record IsPublisher (book : Book) (own : ℕ) (table : List ℕ) (shown : Snapshot) (pending : List Pending) (head : Named) (all : Beginning) : Type 0 where
+-- what is shown is a snapshot; once all that is pending was absorbed, or left out, it is the snapshot of all that was appended,
+-- whose operations are of members. So nothing is left out
+pub record IsPublisher (book : Book) (own : ℕ) (table : List ℕ) (shown : Snapshot) (pending : List Pending) (head : Named)
+    (all : Beginning) : Type 0 where
   pub stands : shown ≡ snapshot book table shown.log
   pub brought_up : fold applied_to shown pending ≡ snapshot book table all.log
   pub legal : IsEntryHistory own (history table all.log)

@@ -123,7 +123,8 @@ fn append(alloc: Global, document: &mut Document, entry: Entry) -> Result<(), En
     requires member { IsTrue (is_member document.old.table (op_in entry).id.replica) }
     requires width { length (op_in entry).deps ≡ length document.old.table }
     ensures table { document.new.table ≡ document.old.table }
-    ensures entries { MatchResult result (λ _. document.new.entries ≡ entry_of document.old.table entry ∷ document.old.entries) (λ e. (e ≡ entry) × (document.new.entries ≡ document.old.entries)) }
+    ensures entries { MatchResult result (λ _. document.new.entries ≡ entry_of document.old.table entry ∷ document.old.entries)
+        (λ e. (e ≡ entry) × (document.new.entries ≡ document.old.entries)) }
 {
     if document.reserve(alloc, entry.op()).is_err() {
         return Err(entry);

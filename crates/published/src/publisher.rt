@@ -1,6 +1,7 @@
 //! The one writer of a history.
 
-ghost use Rattle.std.specs.Prelude.{◌≡◌, ◌^◌, ◌<◌, ◌⊎◌, ◌++◌, ◌∷◌, [], List, length, drop, fold, MatchResult, IfOk, IfErr, IsTrue, IsFalse, Some, None, option_to_list};
+ghost use Rattle.std.specs.Prelude.{◌≡◌, ◌^◌, ◌<◌, ◌⊎◌, ◌++◌, ◌∷◌, [], List, length, drop, fold, MatchResult, IfOk, IfErr, IsTrue, IsFalse};
+ghost use Rattle.std.specs.Prelude.{Some, None, option_to_list};
 ghost use Rattle.std.specs.List.{All};
 ghost use Rattle.ids.specs.declared.refusal.Refusal.TheVariants.{NoMemory, NoReaderPlace};
 ghost use Rattle.ids.specs.Members.{is_member};
@@ -48,9 +49,15 @@ impl<N: EngineName> Model for Publisher<N> {
 
     ghost coded = { Prim.hlevel (codes, coded_element) };
 
-    ghost view = { λ p. record { own = N.own; members = N.table; published = p.writer.desk.shown.value.entries; appended = history N.table p.all.log } };
+    ghost view = { λ p. record {
+      own = N.own;
+      members = N.table;
+      published = p.writer.desk.shown.value.entries;
+      appended = history N.table p.all.log;
+    } };
 
-    ghost invariant = { λ p. IsPublisher N.book N.own N.table p.writer.desk.shown.value (drop p.writer.behind p.writer.log.items ++ option_to_list p.next) p.head p.all };
+    ghost invariant = { λ p. IsPublisher N.book N.own N.table p.writer.desk.shown.value (drop p.writer.behind p.writer.log.items
+        ++ option_to_list p.next) p.head p.all };
 }
 
 /// Opens the two copies over two new documents of one table, with a seat for each reader.
@@ -136,7 +143,8 @@ fn flush<N: EngineName>(
     next: &mut Option<Pending>,
 ) -> bool
     ensures shown { writer.new.desk.shown ≡ writer.old.desk.shown }
-    ensures pending { drop writer.new.behind writer.new.log.items ++ option_to_list next.new ≡ drop writer.old.behind writer.old.log.items ++ option_to_list next.old }
+    ensures pending { drop writer.new.behind writer.new.log.items ++ option_to_list next.new
+        ≡ drop writer.old.behind writer.old.log.items ++ option_to_list next.old }
     ensures flushed { IsTrue result → next.new ≡ None }
 {
     match next.take() {
@@ -163,10 +171,14 @@ fn show_all<N: EngineName>(
     rt: &impl Wait,
     writer: &mut Writer<Copy, Pending, View, Shown<N>>,
 ) -> Result<(), Refusal>
-    requires { (log : List AnEntry) × (fold applied_to writer.old.desk.shown.value (drop writer.old.behind writer.old.log.items) ≡ snapshot N.book N.table log) × IsEntryHistory N.own (history N.table log) }
+    requires { (log : List AnEntry)
+        × (fold applied_to writer.old.desk.shown.value (drop writer.old.behind writer.old.log.items) ≡ snapshot N.book N.table log)
+        × IsEntryHistory N.own (history N.table log) }
     ensures { MatchResult result
-        (λ _. (writer.new.desk.shown.value ≡ fold applied_to writer.old.desk.shown.value (drop writer.old.behind writer.old.log.items)) × (drop writer.new.behind writer.new.log.items ≡ []))
-        (λ why. (why ≡ NoMemory) × (writer.new.desk.shown.value ≡ writer.old.desk.shown.value) × (drop writer.new.behind writer.new.log.items ≡ drop writer.old.behind writer.old.log.items)) }
+        (λ _. (writer.new.desk.shown.value ≡ fold applied_to writer.old.desk.shown.value (drop writer.old.behind writer.old.log.items))
+        × (drop writer.new.behind writer.new.log.items ≡ []))
+        (λ why. (why ≡ NoMemory) × (writer.new.desk.shown.value ≡ writer.old.desk.shown.value)
+        × (drop writer.new.behind writer.new.log.items ≡ drop writer.old.behind writer.old.log.items)) }
 {
     replace_with(writer, rt, |writer, rt| show::<N, _>(rt, writer))
 }
@@ -176,10 +188,14 @@ fn show<N: EngineName, R: Wait>(
     rt: &R,
     writer: Writer<Copy, Pending, View, Shown<N>>,
 ) -> (Writer<Copy, Pending, View, Shown<N>>, Result<(), Refusal>)
-    requires { (log : List AnEntry) × (fold applied_to writer.desk.shown.value (drop writer.behind writer.log.items) ≡ snapshot N.book N.table log) × IsEntryHistory N.own (history N.table log) }
+    requires { (log : List AnEntry)
+        × (fold applied_to writer.desk.shown.value (drop writer.behind writer.log.items) ≡ snapshot N.book N.table log)
+        × IsEntryHistory N.own (history N.table log) }
     ensures { MatchResult result.1
-        (λ _. (result.0.desk.shown.value ≡ fold applied_to writer.desk.shown.value (drop writer.behind writer.log.items)) × (drop result.0.behind result.0.log.items ≡ []))
-        (λ why. (why ≡ NoMemory) × (result.0.desk.shown.value ≡ writer.desk.shown.value) × (drop result.0.behind result.0.log.items ≡ drop writer.behind writer.log.items)) }
+        (λ _. (result.0.desk.shown.value ≡ fold applied_to writer.desk.shown.value (drop writer.behind writer.log.items))
+        × (drop result.0.behind result.0.log.items ≡ []))
+        (λ why. (why ≡ NoMemory) × (result.0.desk.shown.value ≡ writer.desk.shown.value)
+        × (drop result.0.behind result.0.log.items ≡ drop writer.behind writer.log.items)) }
 {
     let (writer, shown) = writer.publish_as::<Sees<N>, R>(rt);
     match shown {
@@ -208,7 +224,8 @@ impl<N: EngineName> Publisher<N> {
         requires member { IsTrue (is_member N.table (stamped_in (entry_of N.table entry)).id.replica) }
         requires width { length (op_in entry).deps ≡ length N.table }
         ensures published { self.new.published ≡ self.old.published }
-        ensures appended { MatchResult result (λ _. self.new.appended ≡ entry_of N.table entry ∷ self.old.appended) (λ why. (why ≡ NoMemory) × (self.new.appended ≡ self.old.appended)) }
+        ensures appended { MatchResult result (λ _. self.new.appended ≡ entry_of N.table entry ∷ self.old.appended)
+            (λ why. (why ≡ NoMemory) × (self.new.appended ≡ self.old.appended)) }
     {
         if !flush::<N>(&mut self.writer, &mut self.next) {
             return Err(Refusal::NoMemory);
@@ -233,7 +250,8 @@ impl<N: EngineName> Publisher<N> {
     /// # Errors
     /// `NoMemory` if allocation fails. All that is pending stays then, and another `publish` goes on with it.
     pub fn publish(&mut self, rt: &impl Wait) -> Result<(), Refusal>
-        ensures { MatchResult result (λ _. (self.new.published ≡ self.old.appended) × (self.new.appended ≡ self.old.appended)) (λ why. (why ≡ NoMemory) × (self.new ≡ self.old)) }
+        ensures { MatchResult result (λ _. (self.new.published ≡ self.old.appended) × (self.new.appended ≡ self.old.appended))
+            (λ why. (why ≡ NoMemory) × (self.new ≡ self.old)) }
     {
         if !flush::<N>(&mut self.writer, &mut self.next) {
             return Err(Refusal::NoMemory);

@@ -141,10 +141,17 @@ impl<N: EngineName> Seat<N> {
         ensures grows { BeginsWith self.new.seen self.old.seen }
         ensures legal { IsEntryHistory N.own self.new.seen }
         ensures answer { IfOk result (λ r. said_by N.table r ≡ reading_of self.new.seen (asked_of N.table question.now)) }
-        ensures view { IfOk result (λ r. (q : TheQuestion) → asked_of N.table question.now ≡ OfDocument q → said_by N.table r ≡ Answered (view (applied self.new.seen) q)) }
-        ensures err { IfErr result (λ why. (why ≡ NoMemory) ⊎ (why ≡ NoReading) ⊎ (reading_of self.new.seen (asked_of N.table question.now) ≡ Answered (Refused why))) }
-        ensures view_refuses { IfErr result (λ why. (why ≡ NoMemory) ⊎ (why ≡ NoReading) ⊎ ((q : TheQuestion) → asked_of N.table question.now ≡ OfDocument q → view (applied self.new.seen) q ≡ Refused why)) }
-        ensures published { MatchResult result (λ _. self.new.read ≡ self.new.seen) (λ why. (why ≡ NoMemory) ⊎ (why ≡ NoReading) ⊎ (self.new.read ≡ self.new.seen)) }
+        ensures view { IfOk result
+            (λ r. (q : TheQuestion) → asked_of N.table question.now ≡ OfDocument q
+            → said_by N.table r ≡ Answered (view (applied self.new.seen) q)) }
+        ensures err { IfErr result
+            (λ why. (why ≡ NoMemory) ⊎ (why ≡ NoReading)
+            ⊎ (reading_of self.new.seen (asked_of N.table question.now) ≡ Answered (Refused why))) }
+        ensures view_refuses { IfErr result
+            (λ why. (why ≡ NoMemory) ⊎ (why ≡ NoReading)
+            ⊎ ((q : TheQuestion) → asked_of N.table question.now ≡ OfDocument q → view (applied self.new.seen) q ≡ Refused why)) }
+        ensures published { MatchResult result (λ _. self.new.read ≡ self.new.seen)
+            (λ why. (why ≡ NoMemory) ⊎ (why ≡ NoReading) ⊎ (self.new.read ≡ self.new.seen)) }
     {
         let before = self.seen.len();
         let Some(reader) = self.reader.take() else {

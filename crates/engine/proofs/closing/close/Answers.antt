@@ -12,13 +12,24 @@ use Rattle.engine.proofs.Gathering.{gathering_none, gathering_head, gathering_mo
 use Rattle.engine.proofs.closing.close.Goals as goal
 
 pub end-requires-clause-queue : goal.end-requires-clause-queue
-end-requires-clause-queue g c = (gathering_head _ _ _ c.next.new.self.rest.items c.in-Some.client _ _ _ c.loop-client.invariant.2 c.in-Some.ensures.steps.0).1 ∙ sym c.loop-client.invariant.4
+end-requires-clause-queue g c =
+    (gathering_head _ _ _ c.next.new.self.rest.items c.in-Some.client _ _ _ c.loop-client.invariant.2 c.in-Some.ensures.steps.0).1
+    ∙ sym c.loop-client.invariant.4
 
 pub end-requires-clause-number : goal.end-requires-clause-number
-end-requires-clause-number g c = (gathering_head _ _ _ c.next.new.self.rest.items c.in-Some.client _ _ _ c.loop-client.invariant.2 c.in-Some.ensures.steps.0).0
+end-requires-clause-number g c =
+    (gathering_head _ _ _ c.next.new.self.rest.items c.in-Some.client _ _ _ c.loop-client.invariant.2 c.in-Some.ensures.steps.0).0
 
 pub loop-client-init : goal.loop-client-init
-loop-client-init g c = let q = ap (λ (w : Writer). w.queue) c.writer.view_is in (tt, tt, gathering_none _ _ _ _ _ (subst (λ t. AreClients t 0 c.args.clients.items) (sym q) c.requires) (search rules) c.writer.invariant.none_ended, refl, refl)
+loop-client-init g c =
+    let q = ap (λ (w : Writer). w.queue) c.writer.view_is in (
+      tt,
+      tt,
+      gathering_none _ _ _ _ _ (subst (λ t. AreClients t 0 c.args.clients.items) (sym q) c.requires)
+          (search rules) c.writer.invariant.none_ended,
+      refl,
+      refl,
+    )
 
 pub loop-client-preserved : goal.loop-client-preserved
 loop-client-preserved g c = (
@@ -30,17 +41,20 @@ loop-client-preserved g c = (
 )
 
 pub returns-clause-seen : goal.returns-clause-seen
-returns-clause-seen g c = gathered_seen _ _ _ _ _ _ _ c.loop-client.invariant.2 (search rules) (ap (λ (w : Writer). w.published) (sym c.writer.view_is))
+returns-clause-seen g c = gathered_seen _ _ _ _ _ _ _ c.loop-client.invariant.2 (search rules)
+    (ap (λ (w : Writer). w.published) (sym c.writer.view_is))
 
 pub returns-clause-taken : goal.returns-clause-taken
 returns-clause-taken g c =
     let q = c.rest.ensures.whole in
-    let got : (view c.loop-client.taker.pass).got ≡ c.args.writer.took = c.loop-client.invariant.3 ∙ ap (λ (w : Writer). w.took) c.writer.view_is in
+    let got : (view c.loop-client.taker.pass).got ≡ c.args.writer.took = c.loop-client.invariant.3
+    ∙ ap (λ (w : Writer). w.took) c.writer.view_is in
     let held : c.len-2.result ≡ length c.writer.inside.held.items = search rules in
     let same : length c.writer.inside.held.items ≡ length c.args.writer.held = ap (λ (w : Writer). length w.held) c.writer.view_is in (
       q.0,
       omega (arith, held, same, q.1),
-      λ k d at. ap (λ (l : List Item). of k (l ++ q.0)) (sym got) ∙ q.2 k (items_by d) (known_at _ _ _ _ _ _ c.loop-client.invariant.2 (search rules) k d at),
+      λ k d at. ap (λ (l : List Item). of k (l ++ q.0)) (sym got)
+          ∙ q.2 k (items_by d) (known_at _ _ _ _ _ _ c.loop-client.invariant.2 (search rules) k d at),
     )
 
 pub returns-clause-own : goal.returns-clause-own
@@ -48,15 +62,24 @@ returns-clause-own g c k d at n serial command s there =
     let table = g.N.EngineName.table in
     let q = c.rest.ensures.whole in
     let P : List Entry = c.writer.inside.publisher.published in
-    let begins : BeginsWith c.writer.inside.handler.replica.document.entries P = subst (λ (G : List Entry). BeginsWith G P) c.writer.invariant.holds.appended c.notice-notice.ensures.appended in
-    let all : of k ((view c.writer.inside.taker.pass).got ++ q.0) ≡ items_by d = ap (λ (l : List Item). of k (l ++ q.0)) (sym c.loop-client.invariant.3) ∙ q.2 k (items_by d) (known_at _ _ _ _ _ _ c.loop-client.invariant.2 (search rules) k d at) in
-    own_submitted table (view c.writer.inside.taker.pass).got q.0 (items_by d) P c.writer.inside.handler.replica.document.entries n k serial command s c.writer.invariant.come_from begins all
-    (subst (λ (G : List Entry). entry_at n G ≡ Some (Own k serial command s)) (sym (ap (λ (w : Writer). w.published) c.writer.view_is)) there)
+    let begins : BeginsWith c.writer.inside.handler.replica.document.entries P = subst
+    (λ (G : List Entry). BeginsWith G P) c.writer.invariant.holds.appended c.notice-notice.ensures.appended in
+    let all : of k ((view c.writer.inside.taker.pass).got ++ q.0)
+    ≡ items_by d = ap (λ (l : List Item). of k (l ++ q.0)) (sym c.loop-client.invariant.3)
+    ∙ q.2 k (items_by d) (known_at _ _ _ _ _ _ c.loop-client.invariant.2 (search rules) k d at) in
+    own_submitted table (view c.writer.inside.taker.pass).got q.0
+    (items_by d) P c.writer.inside.handler.replica.document.entries n k serial command s c.writer.invariant.come_from begins all
+    (subst (λ (G : List Entry). entry_at n G ≡ Some (Own k serial command s))
+    (sym (ap (λ (w : Writer). w.published) c.writer.view_is)) there)
 
 pub returns-clause-history : goal.returns-clause-history
 returns-clause-history g c =
     let own = g.N.EngineName.own in
     let published : c.writer.inside.publisher.published ≡ c.args.writer.published = ap (λ (w : Writer). w.published) c.writer.view_is in
     let entries : history g.N.EngineName.table c.into_entries.result.items ≡ c.writer.inside.publisher.published =
-    subst (λ (t : List ℕ). history t c.into_entries.result.items ≡ c.writer.inside.publisher.published) c.end-document.ensures.document.0 (c.into_entries.ensures ∙ c.end-document.ensures.document.1) in
-    (entries ∙ published, subst (λ (G : List Entry). IsEntryHistory own G) (c.notice-notice.ensures.published ∙ published) c.len.ensures.legal)
+    subst (λ (t : List ℕ). history t c.into_entries.result.items ≡ c.writer.inside.publisher.published) c.end-document.ensures.document.0
+    (c.into_entries.ensures ∙ c.end-document.ensures.document.1) in (
+      entries ∙ published,
+      subst (λ (G : List Entry). IsEntryHistory own G)
+          (c.notice-notice.ensures.published ∙ published) c.len.ensures.legal,
+    )

@@ -7,6 +7,7 @@ abbrev pub invariant-loop-client : goal.invariant-loop-client
 invariant-loop-client g l =
     (goal.iterator-loop-client g).can_next l.client-iterator
     × (goal.iterator-loop-client g).is_finite l.client-iterator
-    × Gathering l.fn.clients.items l.yielded l.client-iterator.rest.items (view l.taker.pass).known l.initial.taker.pass.table_id l.publisher.published
+    × Gathering l.fn.clients.items l.yielded l.client-iterator.rest.items
+    (view l.taker.pass).known l.initial.taker.pass.table_id l.publisher.published
     × ((view l.taker.pass).got ≡ (view l.initial.taker.pass).got)
     × (l.taker.pass.table_id ≡ l.initial.taker.pass.table_id)

@@ -16,8 +16,17 @@ returns g c =
     let x = c.args.item.now in
     let passed : c.is_same.result ≡ true = search rules in
     let same : is_same_item a.item x ≡ true = ap (λ (y : Item). is_same_item y x) (sym c.item.ensures) ∙ sym c.is_same.ensures ∙ passed in
-    elim c.given.result as (λ o. MatchOption o (a.given ≡ None) (λ y. (a.given ≡ Some (record { reply = y.now.reply; history = y.now.notice })) × IsAnswer own table y.now.notice (submitted_of table a.item) (reply_of y.now.reply))
-    → MatchOption o (answer_in x (Some a) ≡ None) (λ y. (answer_in x (Some a) ≡ Some (record { reply = y.now.reply; history = y.now.notice })) × IsAnswer own table y.now.notice (submitted_of table x) (reply_of y.now.reply))) [
-      | Some y ↦ λ h. (answer_inside a x same ∙ h.0, legal_for own table y.now.notice y.now.notice a.item x (reply_of y.now.reply) refl same h.1)
+    elim c.given.result as
+    (λ o. MatchOption o (a.given ≡ None)
+    (λ y. (a.given ≡ Some (record { reply = y.now.reply; history = y.now.notice }))
+    × IsAnswer own table y.now.notice (submitted_of table a.item) (reply_of y.now.reply))
+    → MatchOption o (answer_in x (Some a) ≡ None)
+    (λ y. (answer_in x (Some a) ≡ Some (record { reply = y.now.reply; history = y.now.notice }))
+    × IsAnswer own table y.now.notice (submitted_of table x) (reply_of y.now.reply))) [
+      | Some y ↦ λ h. (
+        answer_inside a x same
+            ∙ h.0,
+        legal_for own table y.now.notice y.now.notice a.item x (reply_of y.now.reply) refl same h.1,
+      )
       | None ↦ λ h. answer_inside a x same ∙ h
     ] c.given.ensures

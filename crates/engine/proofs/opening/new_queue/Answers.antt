@@ -7,4 +7,5 @@ pub returns-clause-err : goal.returns-clause-err
 returns-clause-err g c =
     let is : c.args.config.now.queue ≡ c.config.inside.queue = sym (ap (λ (k : Configuration). k.queue) c.config.view_is) in
     let fits = queue_fits c.args.config.now c.requires in
-    no_memory_alone c.new.result c.config.inside.queue (omega (arith, is, fits.0)) (omega (arith, is, fits.1)) c.new.ensures.bad_config c.new.ensures.err
+    no_memory_alone c.new.result c.config.inside.queue (omega (arith, is, fits.0))
+    (omega (arith, is, fits.1)) c.new.ensures.bad_config c.new.ensures.err

@@ -15,7 +15,8 @@ fill-requires g c =
     let y = answer_of c.handled.inside.reply in
     let popped = answers_pop own table c.args.notice.now c.loop-handled.held.items c.pop.new.self.items c.in-Some.handled c.in-Some.ensures.items c.loop-handled.invariant.0 in
     subst (λ (a : Answered). IsAnswer own table c.again.result (submitted_of table a.item) y) (sym c.deref_mut.ensures.value)
-    (subst (λ (G : List Entry). IsAnswer own table G (submitted_of table c.handled.inside.envelope.answer.value.item) y) (sym c.again.ensures)
+    (subst (λ (G : List Entry). IsAnswer own table G (submitted_of table c.handled.inside.envelope.answer.value.item) y)
+    (sym c.again.ensures)
     (subst (λ (h : Handled). IsAnswer own table c.args.notice.now h.submitted h.reply) (sym c.handled.view_is) popped.1))
 
 pub loop-handled-preserved : goal.loop-handled-preserved
@@ -27,5 +28,8 @@ loop-handled-preserved g c = (
 pub loop-handled-init : goal.loop-handled-init
 loop-handled-init g c =
     let own = g.N.EngineName.own in
-    let table = g.N.EngineName.table in
-    (subst (λ (hs : List Handled). AreAnswers own table c.args.notice.now hs) (sym c.reverse.ensures.items) (answers_reversed own table c.args.notice.now c.args.held.now.items c.requires), c.reverse.ensures.capacity)
+    let table = g.N.EngineName.table in (
+      subst (λ (hs : List Handled). AreAnswers own table c.args.notice.now hs) (sym c.reverse.ensures.items)
+          (answers_reversed own table c.args.notice.now c.args.held.now.items c.requires),
+      c.reverse.ensures.capacity,
+    )

@@ -12,10 +12,14 @@ returns-in-Ok-send-clause-kept g c =
     let room : ruled_capacity (arc_value c.send.new.self.queue) ≡ ruled_capacity (arc_value c.self.inside.sender.queue) = search rules in
     let x : Item = next_item me c.args.request in
     let many : c.len-2.result ≡ length me.kept = search rules in
-    let item : c.in-Ok.kept.item ≡ x = as_next me _ _ _ _ (ap (λ (z : Client). z.number) c.self.view_is) many (c.seen_len.ensures.length ∙ ap (λ (z : Client). length z.seen) c.self.view_is) _ c.in-Ok.ensures.item.1 in
+    let item : c.in-Ok.kept.item
+    ≡ x = as_next me _ _ _ _ (ap (λ (z : Client). z.number) c.self.view_is) many
+    (c.seen_len.ensures.length ∙ ap (λ (z : Client). length z.seen) c.self.view_is) _ c.in-Ok.ensures.item.1 in
     let kept : c.in-Ok.kept ≡ record { item = x; known = None } = keeps_next _ x item c.in-Ok.ensures.item.2 in
-    sent_one me _ c.reserve.new.self.items c.in-Ok.kept (record { item = x; known = None }) (ap (λ (z : Client). z.replica) c.self.view_is) (ap (λ (z : Client). z.number) c.self.view_is) (ap (λ (z : Client). z.serials) c.self.view_is)
-    (c.send.ensures.same.0 ∙ ap (λ (z : Client). z.queue) c.self.view_is) (room ∙ ap (λ (z : Client). z.capacity) c.self.view_is) (ap (λ (z : Client). z.seen) c.self.view_is) (ap (λ (z : Client). z.read) c.self.view_is)
+    sent_one me _ c.reserve.new.self.items c.in-Ok.kept (record { item = x; known = None }) (ap (λ (z : Client). z.replica) c.self.view_is)
+    (ap (λ (z : Client). z.number) c.self.view_is) (ap (λ (z : Client). z.serials) c.self.view_is)
+    (c.send.ensures.same.0 ∙ ap (λ (z : Client). z.queue) c.self.view_is) (room ∙ ap (λ (z : Client). z.capacity) c.self.view_is)
+    (ap (λ (z : Client). z.seen) c.self.view_is) (ap (λ (z : Client). z.read) c.self.view_is)
     c.push_reserved.ensures.items (c.reserve.ensures.items ∙ ap (λ (z : Client). z.kept) c.self.view_is) kept
 
 pub returns-then-is_err-clause-end : goal.returns-then-is_err-clause-end

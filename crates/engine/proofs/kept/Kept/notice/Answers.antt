@@ -1,4 +1,4 @@
-use Rattle.std.proofs.Common.{◌≡◌, refl, ap, subst}
+use Rattle.std.proofs.Common.{◌≡◌, ◌∙◌, refl, ap, subst}
 use Rattle.semantics.specs.Receipts.{IsAnswer}
 use Rattle.items.specs.declared.item.Item.{Item}
 use Rattle.items.specs.Meanings.{answer_of as reply_of, submitted_of}
@@ -10,5 +10,9 @@ returns g c =
     let own = g.N.EngineName.own in
     let table = g.N.EngineName.table in
     let given = c.in_ok-given.given.now in
-    let here : c.self.inside.item ≡ c.args.self.now.item = ap (λ (k : Keeps). k.item) c.self.view_is in
-    (record { reply = given.reply; history = given.notice }, refl, subst (λ (x : Item). IsAnswer own table given.notice (submitted_of table x) (reply_of given.reply)) here c.in_ok-given.ensures.1)
+    let here : c.self.inside.item.value ≡ c.args.self.now.item = ap (λ (k : Keeps). k.item) c.self.view_is in (
+      record { reply = given.reply; history = given.notice },
+      refl,
+      subst
+          (λ (x : Item). IsAnswer own table given.notice (submitted_of table x) (reply_of given.reply)) (c.deref-2.ensures ∙ here) c.in_ok-given.ensures.1,
+    )

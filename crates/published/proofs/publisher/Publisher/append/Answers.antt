@@ -17,8 +17,11 @@ invariant_of-self-2 g c =
     let now : history table c.self.inside.all.log ≡ c.args.self.now.appended = ap (λ (z : Publication). z.appended) c.self.view_is in
     let w : Pending = record { entry = e; log = c.again.result.log; book = c.again.result.book } in
     let log : c.extend.new.self.log ≡ c.again-after.result.log ++ e ∷ [] =
-    subst (λ b. MatchBool b (c.extend.new.self.log ≡ c.again-after.result.log ++ e ∷ []) (IsPrefix c.again-after.result.log c.extend.new.self.log)) c.if-not-extend.false c.extend.ensures.added in
-    one_pending _ _ _ _ _ _ _ c.self.invariant w c.extend.new.self (log ∙ ap (λ (p : Beginning). p.log ++ e ∷ []) c.again-after.ensures) (c.extend.ensures.book ∙ ap (λ (p : Beginning). p.book) c.again-after.ensures) (ap (λ (p : Beginning). p.log) c.again.ensures) (ap (λ (p : Beginning). p.book) c.again.ensures)
+    subst (λ b. MatchBool b (c.extend.new.self.log ≡ c.again-after.result.log ++ e ∷ [])
+    (IsPrefix c.again-after.result.log c.extend.new.self.log)) c.if-not-extend.false c.extend.ensures.added in
+    one_pending _ _ _ _ _ _ _ c.self.invariant w c.extend.new.self (log ∙ ap (λ (p : Beginning). p.log ++ e ∷ []) c.again-after.ensures)
+    (c.extend.ensures.book ∙ ap (λ (p : Beginning). p.book) c.again-after.ensures) (ap (λ (p : Beginning). p.log) c.again.ensures)
+    (ap (λ (p : Beginning). p.book) c.again.ensures)
     (subst (λ (G : List TheEntry). IsEntryHistory g.N.EngineName.own (entry_of table e ∷ G)) (sym now) c.requires.follows)
     (subst (λ (G : List TheEntry). IsFalse (is_full G)) (sym now) c.requires.room)
     c.requires.member

@@ -5,4 +5,5 @@ use Rattle.published.proofs.publisher.Publisher.end.Goals as goal
 
 pub of-requires-clause-legal : goal.of-requires-clause-legal
 of-requires-clause-legal g c =
-    shown_legal _ _ _ _ _ _ _ c.self.invariant c.document.inside.point.log (ap (λ (s : Snapshot). s.log) (c.document.view_is ∙ c.into_inner.ensures ∙ c.take.ensures))
+    shown_legal _ _ _ _ _ _ _ c.self.invariant c.document.inside.point.log
+    (ap (λ (s : Snapshot). s.log) (c.document.view_is ∙ c.into_inner.ensures ∙ c.take.ensures))

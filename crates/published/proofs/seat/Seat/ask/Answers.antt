@@ -11,8 +11,10 @@ enter_as-requires g c = reads _ _ _ _ _
 
 pub returns-clause-grows : goal.returns-clause-grows
 returns-clause-grows g c =
-    let less : length c.self.inside.seen.log ≤ length c.copy.inside.point.log = omega (arith, c.if-len-before.false, c.len.ensures, c.len-before.ensures) in
-    grown _ c.self.inside.seen.log c.copy.inside.point.log c.again.result.log c.args.self.now.seen (c.compare.ensures.shorter less) (ap (λ (p : Beginning). p.log) c.again.ensures) (ap (λ (s : Seated). s.seen) c.self.view_is)
+    let less : length c.self.inside.seen.log ≤ length c.copy.inside.point.log = omega
+    (arith, c.if-len-before.false, c.len.ensures, c.len-before.ensures) in
+    grown _ c.self.inside.seen.log c.copy.inside.point.log c.again.result.log c.args.self.now.seen (c.compare.ensures.shorter less)
+    (ap (λ (p : Beginning). p.log) c.again.ensures) (ap (λ (s : Seated). s.seen) c.self.view_is)
 
 pub returns-clause-view_refuses : goal.returns-clause-view_refuses
 returns-clause-view_refuses g c = IfErr-weaker c.ask-answer.result _ _ (λ why said. elim said [
