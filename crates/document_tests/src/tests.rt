@@ -6,14 +6,15 @@ mod refused_memory;
 
 use cursor::{Place, Tag};
 use document::Document;
-use ids::{OpId, Refusal, ReplicaId};
+use fixtures::{Pair, id_of};
+use ids::{Refusal, ReplicaId};
 use operation::{Mutation, Op};
 use playing::Does::{Assign, Insert};
 use playing::Hop::{Field, Head, Item};
 use playing::Step::{Get, Idx};
 use playing::Turn::{Conflicts, Items, Keys, Values};
 use playing::Value::{List, Map, Whole};
-use playing::{Hop, Pair, Sent, Turn, on_new};
+use playing::{Hop, Sent, Turn, on_new};
 use std::alloc::Global;
 use std::test::Fail;
 use value::Val;
@@ -21,10 +22,7 @@ use value::Val;
 /// The operation 1@1 that assigns an empty map at the root, with the vector of all that was applied.
 fn first_op(alloc: Global, document: &Document) -> Result<Op, Fail> {
     Ok(Op {
-        id: OpId {
-            counter: 1,
-            replica: ReplicaId::new(1).ok_or("numbered 0")?,
-        },
+        id: id_of((1, 1))?,
         deps: document.applied().clone()?,
         place: Place::doc(alloc),
         mutation: Mutation::Assign(Val::EmptyMap),

@@ -8,9 +8,10 @@ ghost use Rattle.semantics.specs.Stamped.{MayFollow};
 ghost use Rattle.operation.specs.Alone.{fault_alone};
 ghost use Rattle.operation.specs.Meanings.{stamped_of};
 
-use cursor::{Expr, Place, Step};
+use cursor::{Expr, Step};
 use document::{Document, Question, Reading};
-use ids::{OpId, Refusal, ReplicaId};
+use fixtures::{field, id_of};
+use ids::Refusal;
 use operation::{Entry, Mutation, Op, check_alone};
 use published::*;
 use std::alloc::Global;
@@ -324,22 +325,10 @@ fn write<N: EngineName, R: Abort>(
     Ok(())
 }
 
-/// The id of this counter and replica 1.
-fn id(counter: u64) -> Result<OpId, Refusal> {
-    let replica = ReplicaId::new(1).ok_or(Refusal::UnknownReplica)?;
-    Ok(OpId { counter, replica })
-}
-
-/// The key `a` of the root.
-fn place(alloc: Global) -> Result<Place, Refusal> {
-    let key = Key::new(alloc, "a")?;
-    Place::doc(alloc).get(alloc, key)
-}
-
 /// Replica 1 assigns the number at the key `a`, after all that was applied.
 fn assign(alloc: Global, document: &Document, counter: u64, number: i64) -> Result<Op, Refusal> {
-    let id = id(counter)?;
-    let place = place(alloc)?;
+    let id = id_of((counter, 1))?;
+    let place = field(alloc, "a")?;
     Ok(Op {
         id,
         deps: document.applied().clone()?,

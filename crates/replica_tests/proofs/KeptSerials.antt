@@ -17,19 +17,24 @@ above_peers client serial [] G h = h
 above_peers client serial (s ∷ M) G h = above_peers client serial M G h
 
 -- a turn of a drain keeps them
-pub above_turns : (client serial n : ℕ) (r q : Replica) → IsRunning r → q ≡ drain_for n r → IsAbove client serial r.entries → IsAbove client serial q.entries
+pub above_turns : (client serial n : ℕ) (r q : Replica) → IsRunning r → q ≡ drain_for n r → IsAbove client serial r.entries
+    → IsAbove client serial q.entries
 above_turns client serial n r q h e above =
     let parts = (part_drained n r h).1 in
-    subst (IsAbove client serial) (sym (ap (λ (p : Replica). p.entries) e ∙ parts.entries)) (above_peers client serial parts.appended r.entries above)
+    subst (IsAbove client serial) (sym (ap (λ (p : Replica). p.entries) e ∙ parts.entries))
+    (above_peers client serial parts.appended r.entries above)
 
 -- and so does a whole drain
-pub above_drained : (client serial : ℕ) (r q : Replica) → IsRunning r → q ≡ counted (drain r) → IsAbove client serial r.entries → IsAbove client serial q.entries
+pub above_drained : (client serial : ℕ) (r q : Replica) → IsRunning r → q ≡ counted (drain r) → IsAbove client serial r.entries
+    → IsAbove client serial q.entries
 above_drained client serial r q h e above =
     let parts = (drained r h).1 in
-    subst (IsAbove client serial) (sym (ap (λ (p : Replica). p.entries) e ∙ parts.entries)) (above_peers client serial parts.appended r.entries above)
+    subst (IsAbove client serial) (sym (ap (λ (p : Replica). p.entries) e ∙ parts.entries))
+    (above_peers client serial parts.appended r.entries above)
 
 -- the next serial is above those that were, and above that of one more entry
-pub next_above : (client serial : ℕ) (c : Command) (s : Stamped) (G : List Entry) → IsAbove client serial G → IsAbove client (serial + 1) (Own client serial c s ∷ G)
+pub next_above : (client serial : ℕ) (c : Command) (s : Stamped) (G : List Entry) → IsAbove client serial G
+    → IsAbove client (serial + 1) (Own client serial c s ∷ G)
 next_above client serial c s G h = (λ e. omega arith, above_more client serial (serial + 1) G (omega arith) h)
 
 -- a delivery changes no entry
@@ -41,11 +46,14 @@ same_entries r s = by (answer_to r s) where
   by (NotKept why) = refl
 
 -- nor does one that is refused
-pub delivered_entries : (result : Result AnAnswer Refusal) (r m : Replica) (s : Stamped) → OnOk result (m ≡ deliver r s) → OnErr result (m ≡ r) → m.entries ≡ r.entries
+pub delivered_entries : (result : Result AnAnswer Refusal) (r m : Replica) (s : Stamped) → OnOk result (m ≡ deliver r s)
+    → OnErr result (m ≡ r) → m.entries ≡ r.entries
 delivered_entries (Ok d) r m s kept same = ap (λ (p : Replica). p.entries) kept ∙ same_entries r s
 delivered_entries (Err why) r m s kept same = ap (λ (p : Replica). p.entries) same
 
 -- what is appended under a serial leaves the next one above
-pub own_above : (client serial : ℕ) (c : Command) (s : Stamped) (G : List Entry) (m q : Replica) → m.entries ≡ G → q ≡ commit_own m client serial c s → IsAbove client serial G → IsAbove client (serial + 1) q.entries
+pub own_above : (client serial : ℕ) (c : Command) (s : Stamped) (G : List Entry) (m q : Replica) → m.entries ≡ G
+    → q ≡ commit_own m client serial c s → IsAbove client serial G → IsAbove client (serial + 1) q.entries
 own_above client serial c s G m q same committed above =
-    subst (IsAbove client (serial + 1)) (sym (ap (λ (p : Replica). p.entries) committed ∙ ap (λ E. Own client serial c s ∷ E) same)) (next_above client serial c s G above)
+    subst (IsAbove client (serial + 1)) (sym (ap (λ (p : Replica). p.entries) committed ∙ ap (λ E. Own client serial c s ∷ E) same))
+    (next_above client serial c s G above)

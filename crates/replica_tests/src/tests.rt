@@ -6,9 +6,10 @@ mod leaving;
 mod playing;
 mod refused_memory;
 
+use fixtures::Pair;
 use ids::Refusal;
 use operation::Delivered;
-use playing::{Answer, Pair, Turn, Writes, on_new, on_new_after};
+use playing::{Answer, Turn, Writes, on_new, on_new_after};
 use replica::Replica;
 use std::alloc::Global;
 use std::process::Abort;

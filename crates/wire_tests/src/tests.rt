@@ -5,11 +5,11 @@ mod operations;
 mod vectors;
 
 use cursor::Place;
-use ids::{OpId, Refusal, ReplicaId};
+use fixtures::{field, id_of, text, vector};
+use ids::Refusal;
 use operation::{Mutation, Op};
 use std::alloc::{AllocError, Global};
-use value::{Key, Scalar, Text, Val};
-use version::VersionVector;
+use value::Val;
 
 /// The operations of a shopping list: a map, a list in it, and three items.
 const LINES: [&str; 5] = [
@@ -19,6 +19,9 @@ const LINES: [&str; 5] = [
     r#"["op",[4,1],[[1,3]],[["m",0],["l","shopping"]],1,["i","cheese"]]"#,
     r#"["op",[5,1],[[1,4]],[["m",0],["l","shopping"]],[3,1],["i","milk"]]"#,
 ];
+
+/// The key of the list.
+const LIST: &str = "shopping";
 
 /// Where an operation of the list stands: at the root, at the list, at its head, or at its item 3@1.
 #[derive(Clone, Copy)]
@@ -49,32 +52,21 @@ const FIVE: &[Row] = &[
     (4, At::Item, Does::Insert("milk")),
 ];
 
-fn id(counter: u64, replica: u32) -> Result<OpId, Refusal> {
-    let replica = ReplicaId::new(replica).ok_or(Refusal::UnknownReplica)?;
-    Ok(OpId { counter, replica })
-}
-
-/// The list at the key `shopping`.
-fn list(alloc: Global) -> Result<Place, Refusal> {
-    let key = Key::new(alloc, "shopping")?;
-    Place::doc(alloc).get(alloc, key)
-}
-
 fn head(alloc: Global) -> Result<Place, Refusal> {
-    let list = list(alloc)?;
+    let list = field(alloc, LIST)?;
     list.head(alloc)
 }
 
 fn item(alloc: Global) -> Result<Place, Refusal> {
-    let id = id(3, 1)?;
-    let list = list(alloc)?;
+    let id = id_of((3, 1))?;
+    let list = field(alloc, LIST)?;
     list.item(alloc, id)
 }
 
 fn place(alloc: Global, at: At) -> Result<Place, Refusal> {
     match at {
         At::Root => Ok(Place::doc(alloc)),
-        At::List => list(alloc),
+        At::List => field(alloc, LIST),
         At::Head => head(alloc),
         At::Item => item(alloc),
     }
@@ -84,26 +76,15 @@ fn mutation(alloc: Global, does: Does) -> Result<Mutation, Refusal> {
     match does {
         Does::Map => Ok(Mutation::Assign(Val::EmptyMap)),
         Does::List => Ok(Mutation::Assign(Val::EmptyList)),
-        Does::Insert(text) => {
-            Ok(Mutation::Insert(Val::Scalar(Scalar::Text(Text::new(alloc, text)?))))
-        }
+        Does::Insert(words) => Ok(Mutation::Insert(text(alloc, words)?)),
     }
-}
-
-/// The vector of this many operations of replica 1, for the table 1, 2.
-fn deps(alloc: Global, before: u64) -> Result<VersionVector, Refusal> {
-    let mut deps = VersionVector::zero(alloc, 2)?;
-    if deps.width() > 0 {
-        deps.raise(0, before);
-    }
-    Ok(deps)
 }
 
 /// The operation of a row.
 fn op(alloc: Global, row: &Row) -> Result<Op, Refusal> {
     let (before, at, does) = *row;
-    let id = id(before.saturating_add(1), 1)?;
-    let deps = deps(alloc, before)?;
+    let id = id_of((before.saturating_add(1), 1))?;
+    let deps = vector(alloc, &[before, 0])?;
     let place = place(alloc, at)?;
     Ok(Op {
         id,

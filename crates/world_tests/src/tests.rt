@@ -1,6 +1,6 @@
 //! What worlds reply, by examples.
 
-ghost use Rattle.std.specs.Prelude.{◌≡◌, ℕ, List, length, IfOk, IfSome};
+ghost use Rattle.std.specs.Prelude.{ℕ, List, IfOk, IfSome};
 ghost use Rattle.std.specs.List.{All};
 ghost use Rattle.document.specs.Documents.{IsBeside};
 ghost use Rattle.world.specs.Meanings.{AsksBeside};
@@ -15,14 +15,14 @@ mod shown;
 
 use cursor::{Expr, Step as PathStep};
 use document::{Question, Reading};
+use fixtures::{text, vector};
 use ids::{Config, Refusal};
 use operation::Command;
 use shown::is_shown;
 use std::alloc::Global;
 use std::process::Abort;
 use std::test::Fail;
-use value::{Key, Scalar, Text, Val};
-use version::VersionVector;
+use value::{Key, Scalar, Val};
 use world::*;
 
 /// One step of an expression.
@@ -132,7 +132,7 @@ fn value(alloc: Global, wrote: Wrote) -> Result<Val, Refusal> {
         Null => Val::Scalar(Scalar::Null),
         Truth(truth) => Val::Scalar(Scalar::Bool(truth)),
         Whole(whole) => Val::Scalar(Scalar::Whole(whole)),
-        Words(text) => Val::Scalar(Scalar::Text(Text::new(alloc, text)?)),
+        Words(words) => text(alloc, words)?,
         Map => Val::EmptyMap,
         List => Val::EmptyList,
     })
@@ -236,17 +236,6 @@ fn steps(alloc: Global, engine: usize, acts: &[Act]) -> Result<Vec<WorldStep>, R
     Ok(steps)
 }
 
-/// The vector of these counters, for a table of this width.
-fn vector(alloc: Global, width: usize, counters: &[u64]) -> Result<VersionVector, Refusal>
-    ensures { IfOk result (λ v. length v ≡ width) }
-{
-    let mut vector = VersionVector::zero(alloc, width)?;
-    for index in 0..counters.len().min(width) {
-        vector.raise(index, counters[index]);
-    }
-    Ok(vector)
-}
-
 /// A token asks for what a vector of these counters lacks.
 fn missing_step(
     alloc: Global,
@@ -259,7 +248,10 @@ fn missing_step(
     let Some(table) = world.table(0) else {
         return Err(Refusal::NoReading);
     };
-    let vector = vector(alloc, table.len(), counters)?;
+    let vector = vector(alloc, counters)?;
+    if vector.width() != table.len() {
+        return Err(Refusal::BadConfig);
+    }
     let question = Question::Missing(vector);
     Ok(WorldStep {
         engine: 0,

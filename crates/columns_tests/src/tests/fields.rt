@@ -28,9 +28,9 @@ fn fields_of(alloc: Global, rows: &[(&str, usize)]) -> Result<Fields, Fail> {
 /// Asserts the fields, in order.
 fn assert_fields(rt: &impl Abort, fields: &Fields, want: &[(&str, usize)]) {
     assert_eq!(rt; fields.len(), want.len());
-    for (place, row) in want.iter().enumerate() {
-        let (key, number) = fields.at(place);
-        assert_eq!(rt; (key.as_str(), number), *row, "at {place}");
+    for (position, row) in want.iter().enumerate() {
+        let (key, number) = fields.at(position);
+        assert_eq!(rt; (key.as_str(), number), *row, "at {position}");
     }
 }
 

@@ -15,8 +15,8 @@ fn put(alloc: Global, keys: &mut SortedKeys, text: &str) -> Result<(), Fail> {
     let mut probes = 0;
     match keys.find(&key, &mut probes) {
         Ok(_) => Err("a key that is there".into()),
-        Err(place) => {
-            keys.put(place, key);
+        Err(position) => {
+            keys.put(position, key);
             Ok(())
         }
     }
@@ -57,9 +57,9 @@ fn probes_for(alloc: Global, keys: &SortedKeys, text: &str) -> Result<u64, Fail>
 /// Asserts the keys in order, each with how many were put before it.
 fn assert_keys(rt: &impl Abort, keys: &SortedKeys, want: &[(&str, usize)]) {
     assert_eq!(rt; keys.len(), want.len());
-    for (place, row) in want.iter().enumerate() {
-        let text = keys.at(place).as_str();
-        assert_eq!(rt; (text, keys.number(place)), *row, "at {place}");
+    for (position, row) in want.iter().enumerate() {
+        let text = keys.at(position).as_str();
+        assert_eq!(rt; (text, keys.number(position)), *row, "at {position}");
     }
 }
 

@@ -54,8 +54,12 @@ fn row_of(entry: &(OpId, usize)) -> Row {
 /// Asserts the entries in order, and the number of each id.
 fn assert_rows(rt: &impl Abort, numbers: &Numbers, want: &[Row]) -> Result<(), Fail> {
     assert_eq!(rt; numbers.len(), want.len(), "of {want:?}");
-    for (place, row) in want.iter().enumerate() {
-        assert_eq!(rt; row_of(&numbers.at(place)), *row, "at {place} of {want:?}");
+    for (position, row) in want.iter().enumerate() {
+        assert_eq!(rt;
+            row_of(&numbers.at(position)),
+            *row,
+            "at {position} of {want:?}"
+        );
     }
     for row in want {
         assert_eq!(rt; get(numbers, row.0)?, Some(row.1), "of {row:?}");

@@ -8,7 +8,7 @@ use std::process::Abort;
 type Row = (Option<Pair>, Pair);
 
 /// Puts an item.
-fn place(order: &mut ListOrder, row: Row) -> Result<(), Fail> {
+fn put(order: &mut ListOrder, row: Row) -> Result<(), Fail> {
     let (prev, item) = row;
     let new = id_of(item)?;
     order.reserve_one()?;
@@ -16,12 +16,12 @@ fn place(order: &mut ListOrder, row: Row) -> Result<(), Fail> {
         return Ok(());
     }
     let Some(prev) = prev else {
-        order.place(None, new);
+        order.insert_after(None, new);
         return Ok(());
     };
     let prev = id_of(prev)?;
     if order.contains(&prev) {
-        order.place(Some(prev), new);
+        order.insert_after(Some(prev), new);
     }
     Ok(())
 }
@@ -30,7 +30,7 @@ fn place(order: &mut ListOrder, row: Row) -> Result<(), Fail> {
 fn order_of(alloc: Global, rows: &[Row]) -> Result<ListOrder, Fail> {
     let mut order = ListOrder::new(alloc);
     for row in rows {
-        place(&mut order, *row)?;
+        put(&mut order, *row)?;
     }
     Ok(order)
 }
@@ -152,7 +152,7 @@ fn assert_long(rt: &impl Abort, alloc: Global, count: u64, at_head: bool) -> Res
         } else {
             Some((number, 1))
         };
-        place(&mut order, (prev, (counter, 1)))?;
+        put(&mut order, (prev, (counter, 1)))?;
         show(&mut order, (counter, 1), true)?;
         want.push((counter, 1))?;
     }

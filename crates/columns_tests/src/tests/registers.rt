@@ -1,34 +1,24 @@
 //! Registers and presences: what stands at each id.
 
-ghost use Rattle.std.specs.Prelude.{◌≡◌, ◌<◌, length, IfOk};
+ghost use Rattle.std.specs.Prelude.{◌<◌, IfOk};
 ghost use Rattle.std.specs.List.{All};
 
 use super::*;
 use cursor::Tag;
+use fixtures::vector;
 use std::alloc::Global;
 use std::process::Abort;
 use value::Scalar;
-use version::VersionVector;
 
 /// An id, and the whole number that stands there.
 type Row = (Pair, i64);
 
 const FOUR: [Row; 4] = [((1, 1), 10), ((2, 2), 20), ((3, 1), 30), ((3, 2), 40)];
 
-/// The vector of two counters.
-fn vector(alloc: Global, counters: [u64; 2]) -> Result<VersionVector, Fail>
-    ensures { IfOk result (λ v. length v ≡ 2) }
-{
-    let mut vector = VersionVector::zero(alloc, 2)?;
-    vector.raise(0, counters[0]);
-    vector.raise(1, counters[1]);
-    Ok(vector)
-}
-
 /// Puts an entry, for a table of two replicas, numbered from 1.
 fn put<T: Drop>(entries: &mut ById<T>, pair: Pair, value: T) -> Result<(), Fail>
-    requires { All (λ place. place < 2) entries.old.indices }
-    ensures { All (λ place. place < 2) entries.new.indices }
+    requires { All (λ index. index < 2) entries.old.indices }
+    ensures { All (λ index. index < 2) entries.new.indices }
 {
     let id = id_of(pair)?;
     entries.reserve_one()?;
@@ -39,7 +29,7 @@ fn put<T: Drop>(entries: &mut ById<T>, pair: Pair, value: T) -> Result<(), Fail>
 
 /// A register of whole numbers, put in this order.
 fn register(alloc: Global, rows: &[Row]) -> Result<Register, Fail>
-    ensures { IfOk result (λ register. All (λ place. place < 2) register.indices) }
+    ensures { IfOk result (λ register. All (λ index. index < 2) register.indices) }
 {
     let mut register = Register::new(alloc);
     for (pair, whole) in rows {
@@ -50,7 +40,7 @@ fn register(alloc: Global, rows: &[Row]) -> Result<Register, Fail>
 
 /// A presence of tags, put in this order.
 fn presence(alloc: Global, rows: &[(Pair, Tag)]) -> Result<Presence, Fail>
-    ensures { IfOk result (λ presence. All (λ place. place < 2) presence.indices) }
+    ensures { IfOk result (λ presence. All (λ index. index < 2) presence.indices) }
 {
     let mut presence = Presence::new(alloc);
     for (pair, tag) in rows {
@@ -70,9 +60,9 @@ fn row_of(id: OpId, scalar: &Scalar) -> Option<Row> {
 /// Asserts the entries of a register, in order.
 fn assert_rows(rt: &impl Abort, register: &Register, want: &[Row]) {
     assert_eq!(rt; register.len(), want.len(), "of {want:?}");
-    for (place, row) in want.iter().enumerate() {
-        let (id, scalar) = register.at(place);
-        assert_eq!(rt; row_of(id, scalar), Some(*row), "at {place}");
+    for (position, row) in want.iter().enumerate() {
+        let (id, scalar) = register.at(position);
+        assert_eq!(rt; row_of(id, scalar), Some(*row), "at {position}");
     }
 }
 
@@ -90,7 +80,7 @@ fn assert_left(
     counters: [u64; 2],
     want: &[Row],
 ) -> Result<(), Fail> {
-    let vector = vector(alloc, counters)?;
+    let vector = vector(alloc, &counters)?;
     let mut register = register(alloc, &FOUR)?;
     register.clear(&vector);
     assert_rows(rt, &register, want);
@@ -100,8 +90,8 @@ fn assert_left(
 /// Asserts the tags of a presence, in order.
 fn assert_tags(rt: &impl Abort, presence: &Presence, want: &[Tag]) {
     assert_eq!(rt; presence.len(), want.len());
-    for (place, tag) in want.iter().enumerate() {
-        assert_eq!(rt; *presence.at(place).1, *tag, "at {place}");
+    for (position, tag) in want.iter().enumerate() {
+        assert_eq!(rt; *presence.at(position).1, *tag, "at {position}");
     }
 }
 
@@ -113,7 +103,7 @@ fn assert_tags_left(
     counters: [u64; 2],
     want: &[Tag],
 ) -> Result<(), Fail> {
-    let vector = vector(alloc, counters)?;
+    let vector = vector(alloc, &counters)?;
     let mut presence = presence(alloc, given)?;
     presence.clear(&vector);
     assert_tags(rt, &presence, want);

@@ -13,16 +13,14 @@ ghost use Rattle.document.specs.Documents.{HasRoomFor, IsBeside};
 
 use cursor::{Expr, Place, Tag};
 use document::{Document, Question, Reading};
-use ids::{OpId, Refusal, ReplicaId};
+use fixtures::{Pair, id_of, pair_of, text, vector};
+use ids::{OpId, Refusal};
 use operation::{Entry, Mutation, Op, check_alone};
 use std::alloc::{AllocError, Global};
 use std::process::Abort;
 use std::test::Fail;
-use value::{Key, Scalar, Text, Val};
+use value::{Key, Scalar, Val};
 use version::VersionVector;
-
-/// An id's counter and replica.
-pub type Pair = (u64, u32);
 
 /// One step of the way from the root to a place.
 #[derive(Clone, Copy)]
@@ -91,22 +89,6 @@ pub enum Turn<'a> {
     Greatest(u64),
 }
 
-/// The id of this counter and this replica.
-fn id_of(pair: Pair) -> Result<OpId, Refusal> {
-    let (counter, replica) = pair;
-    let replica = ReplicaId::new(replica).ok_or(Refusal::UnknownReplica)?;
-    Ok(OpId { counter, replica })
-}
-
-/// The vector of these counters.
-fn vector(alloc: Global, counters: [u64; 3]) -> Result<VersionVector, Refusal> {
-    let mut vector = VersionVector::zero(alloc, 3)?;
-    vector.raise(0, counters[0]);
-    vector.raise(1, counters[1]);
-    vector.raise(2, counters[2]);
-    Ok(vector)
-}
-
 /// The place that a hop leads to from here.
 fn further(alloc: Global, place: &Place, hop: Hop) -> Result<Place, Refusal> {
     match hop {
@@ -131,7 +113,7 @@ fn val(alloc: Global, value: Value) -> Result<Val, Refusal> {
         Value::Map => Val::EmptyMap,
         Value::List => Val::EmptyList,
         Value::Whole(whole) => Val::Scalar(Scalar::Whole(whole)),
-        Value::Text(text) => Val::Scalar(Scalar::Text(Text::new(alloc, text)?)),
+        Value::Text(words) => text(alloc, words)?,
     })
 }
 
@@ -150,7 +132,7 @@ fn try_op(alloc: Global, sent: Sent) -> Result<Op, Refusal> {
     let id = id_of(pair)?;
     Ok(Op {
         id,
-        deps: vector(alloc, counters)?,
+        deps: vector(alloc, &counters)?,
         place: place(alloc, hops)?,
         mutation: mutation(alloc, does)?,
     })
@@ -258,7 +240,7 @@ fn expr(alloc: Global, path: &[Step]) -> Result<Expr, Refusal> {
 fn beside(alloc: Global, document: &Document, counters: [u64; 3]) -> Result<VersionVector, Refusal>
     ensures { IfOk result (λ v. length v ≡ length document.now.table) }
 {
-    let vector = vector(alloc, counters)?;
+    let vector = vector(alloc, &counters)?;
     if vector.width() != document.table().len() {
         return Err(Refusal::BadConfig);
     }
@@ -293,11 +275,6 @@ fn ask(alloc: Global, document: &Document, turn: Turn) -> Result<Reading, Refusa
     }
 }
 
-/// Whether the id has this counter and this replica.
-fn is_id(id: OpId, wanted: Pair) -> bool {
-    (id.counter, id.replica.number()) == wanted
-}
-
 /// Whether the scalar is this value.
 fn is_scalar(scalar: &Scalar, wanted: Value) -> bool {
     match (scalar, wanted) {
@@ -310,7 +287,7 @@ fn is_scalar(scalar: &Scalar, wanted: Value) -> bool {
 /// Whether the values are these, with these ids.
 fn are_values(values: &[(OpId, Scalar)], wanted: &[(Pair, Value)]) -> bool {
     for ((id, scalar), (pair, value)) in values.iter().zip(wanted) {
-        if !is_id(*id, *pair) || !is_scalar(scalar, *value) {
+        if pair_of(*id) != *pair || !is_scalar(scalar, *value) {
             return false;
         }
     }
@@ -330,7 +307,7 @@ fn are_keys(keys: &[Key], wanted: &[&str]) -> bool {
 /// Whether the ids are these.
 fn are_ids(ids: &[OpId], wanted: &[Pair]) -> bool {
     for (id, pair) in ids.iter().zip(wanted) {
-        if !is_id(*id, *pair) {
+        if pair_of(*id) != *pair {
             return false;
         }
     }
@@ -340,7 +317,7 @@ fn are_ids(ids: &[OpId], wanted: &[Pair]) -> bool {
 /// Whether the ids are these, with these tags.
 fn are_conflicts(conflicts: &[(OpId, Tag)], wanted: &[(Pair, Tag)]) -> bool {
     for ((id, tag), (pair, wanted)) in conflicts.iter().zip(wanted) {
-        if !is_id(*id, *pair) || *tag != *wanted {
+        if pair_of(*id) != *pair || *tag != *wanted {
             return false;
         }
     }
@@ -350,7 +327,7 @@ fn are_conflicts(conflicts: &[(OpId, Tag)], wanted: &[(Pair, Tag)]) -> bool {
 /// Whether the operations have these ids.
 fn are_ops(ops: &[Op], wanted: &[Pair]) -> bool {
     for (op, pair) in ops.iter().zip(wanted) {
-        if !is_id(op.id, *pair) {
+        if pair_of(op.id) != *pair {
             return false;
         }
     }

@@ -4,7 +4,7 @@ use super::playing::{Token, Told, Turn, on_new};
 use super::*;
 
 #[test]
-fn a_queue_of_one_place(rt: HostRuntime) -> Result<(), Fail> {
+fn a_queue_of_one_slot(rt: HostRuntime) -> Result<(), Fail> {
     let alloc = rt.alloc();
     on_new(
         &rt,

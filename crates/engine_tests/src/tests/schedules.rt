@@ -200,7 +200,7 @@ fn count_items<N: EngineName>(
 }
 
 #[test]
-fn eight_clients_crowd_one_place(rt: HostRuntime) -> Result<(), Fail> {
+fn eight_clients_crowd_one_slot(rt: HostRuntime) -> Result<(), Fail> {
     let alloc = rt.alloc();
     let parts = prepare(alloc, alone(alloc, CLIENTS as u32)?)?;
     crowd::<Brand, _>(&rt, alloc, parts)

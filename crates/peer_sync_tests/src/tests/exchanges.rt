@@ -7,7 +7,7 @@ use super::playing::Wrote::{List, Map, Words};
 use super::playing::{Row, Turn, on_two};
 use super::showing::Shown::{Conflicts, Items, Keys, NoValues, Values};
 use super::showing::To;
-use super::showing::To::{Key, Place};
+use super::showing::To::{Index, Key};
 use super::*;
 use cursor::Tag;
 
@@ -90,8 +90,8 @@ fn answers_leave_out_what_the_hello_covers(rt: HostRuntime) -> Result<(), Fail> 
 #[test]
 fn runs_of_concurrent_inserts_stay_together(rt: HostRuntime) -> Result<(), Fail> {
     const L: &[To] = &[Key("l")];
-    const HEAD: &[To] = &[Key("l"), Place(0)];
-    const ONE: &[To] = &[Key("l"), Place(1)];
+    const HEAD: &[To] = &[Key("l"), Index(0)];
+    const ONE: &[To] = &[Key("l"), Index(1)];
     const LIST_LINE: &str = r#"["op",[1,1],[],[["m",0]],"l",["a",[]]]
 "#;
     const X_Y: &str = r#"["op",[2,1],[[1,1]],[["m",0],["l","l"]],1,["i","x"]]
@@ -187,9 +187,9 @@ fn a_map_and_a_list_stand_under_one_key(rt: HostRuntime) -> Result<(), Fail> {
 #[test]
 fn an_assign_fills_an_item_that_was_deleted_apart(rt: HostRuntime) -> Result<(), Fail> {
     const LIST_AT: &[To] = &[Key("shopping")];
-    const HEAD: &[To] = &[Key("shopping"), Place(0)];
-    const ITEM: &[To] = &[Key("shopping"), Place(2)];
-    const PAST: &[To] = &[Key("shopping"), Place(3)];
+    const HEAD: &[To] = &[Key("shopping"), Index(0)];
+    const ITEM: &[To] = &[Key("shopping"), Index(2)];
+    const PAST: &[To] = &[Key("shopping"), Index(3)];
     const ALL: Turn = Show(LIST_AT, Items(&[(4, 1), (3, 1), (5, 1)]));
     const FILLED: Turn = Show(ITEM, Values(&[((6, 2), "ham")]));
     const ACTS: &[&[Row]] = &[

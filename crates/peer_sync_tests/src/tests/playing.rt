@@ -7,6 +7,7 @@ use super::early::early_op;
 use super::showing::{Shown, To, assert_shown, expr};
 use super::*;
 use engine::{Client, EngineName, Parts, ReaderToken, Step, Ticket, Writer, close, open, prepare};
+use fixtures::text;
 use ids::{Config, ReplicaId};
 use items::Reply;
 use operation::Command;
@@ -14,7 +15,7 @@ use std::alloc::Global;
 use std::marker::Brand;
 use std::process::Abort;
 use std::sync::Wait;
-use value::{Scalar, Text, Val};
+use value::Val;
 
 /// One of the two engines.
 #[derive(Clone, Copy)]
@@ -84,7 +85,7 @@ fn val(alloc: Global, value: Wrote) -> Result<Val, Refusal> {
     Ok(match value {
         Wrote::Map => Val::EmptyMap,
         Wrote::List => Val::EmptyList,
-        Wrote::Words(words) => Val::Scalar(Scalar::Text(Text::new(alloc, words)?)),
+        Wrote::Words(words) => text(alloc, words)?,
     })
 }
 

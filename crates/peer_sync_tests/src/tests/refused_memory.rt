@@ -10,10 +10,11 @@ use super::playing::Writing::{Assign, Delete, Insert};
 use super::playing::Wrote::{List, Map, Words};
 use super::playing::{Stage, Writing, command, poll, prepare_engine};
 use super::showing::Shown::{Items, Values};
-use super::showing::To::{Key, Place};
-use super::showing::{Pair, Shown, To, expr, is_id, is_wanted, question};
+use super::showing::To::{Index, Key};
+use super::showing::{Shown, To, expr, is_wanted, question};
 use super::*;
 use engine::{Client, EngineName, Final, Parts, ReaderToken, Step, Writer, close, open};
+use fixtures::{Pair, pair_of};
 use items::Reply;
 use std::alloc::Global;
 use std::marker::Brand;
@@ -22,9 +23,9 @@ use std::sync::Wait;
 
 const LIST_AT: &[To] = &[Key("shopping")];
 
-const HEAD: &[To] = &[Key("shopping"), Place(0)];
+const HEAD: &[To] = &[Key("shopping"), Index(0)];
 
-const ITEM: &[To] = &[Key("shopping"), Place(2)];
+const ITEM: &[To] = &[Key("shopping"), Index(2)];
 
 /// What engine 1 writes, whose lines are `FIVE`, with the ids that it makes.
 const WRITTEN: &[(Writing, Pair)] = &[
@@ -246,7 +247,7 @@ fn write<N: EngineName, R: Wait + Abort>(
         let serial = submit(rt, alloc, refused, stage, writing)?;
         step_all(rt, alloc, refused, stage)?;
         match poll(stage, serial)? {
-            Some(Reply::Made(id, _)) if is_id(id, want) => return Ok(()),
+            Some(Reply::Made(id, _)) if pair_of(id) == want => return Ok(()),
             Some(Reply::Refused(why, _)) => refused.count(why)?,
             _ => return Err("another answer".into()),
         }

@@ -6,14 +6,12 @@ ghost use Rattle.document.specs.Documents.{IsBeside};
 use cursor::{Expr, Step, Tag};
 use document::{Question, Reading};
 use engine::{EngineName, ReaderToken};
+use fixtures::{Pair, pair_of};
 use ids::{OpId, Refusal};
 use std::alloc::Global;
 use std::process::Abort;
 use std::test::Fail;
 use value::{Key, Scalar};
-
-/// An id's counter and replica.
-pub type Pair = (u64, u32);
 
 /// One step of an expression.
 #[derive(Clone, Copy)]
@@ -21,7 +19,7 @@ pub enum To {
     /// To the field with this key.
     Key(&'static str),
     /// To the visible item with this index, from 1 on, or to the head, 0.
-    Place(u64),
+    Index(u64),
 }
 
 /// What stands where an expression leads.
@@ -56,7 +54,7 @@ fn add_step(alloc: Global, steps: &mut Vec<Step>, to: To) -> Result<(), Refusal>
 fn step(alloc: Global, to: To) -> Result<Step, Refusal> {
     Ok(match to {
         To::Key(key) => Step::Get(Key::new(alloc, key)?),
-        To::Place(place) => Step::Idx(place),
+        To::Index(index) => Step::Idx(index),
     })
 }
 
@@ -73,15 +71,10 @@ pub fn question<N: EngineName>(reader: &ReaderToken<N>, expr: Expr, want: Shown)
     }
 }
 
-/// Whether the id has this counter and this replica.
-pub fn is_id(id: OpId, want: Pair) -> bool {
-    (id.counter, id.replica.number()) == want
-}
-
 /// Whether the values are these texts, with these ids.
 fn are_values(values: &[(OpId, Scalar)], want: &[(Pair, &str)]) -> bool {
     for ((id, scalar), (pair, words)) in values.iter().zip(want) {
-        if !is_id(*id, *pair) || !is_text(scalar, words) {
+        if pair_of(*id) != *pair || !is_text(scalar, words) {
             return false;
         }
     }
@@ -109,7 +102,7 @@ fn are_keys(keys: &[Key], want: &[&str]) -> bool {
 /// Whether the ids are these.
 fn are_ids(ids: &[OpId], want: &[Pair]) -> bool {
     for (id, pair) in ids.iter().zip(want) {
-        if !is_id(*id, *pair) {
+        if pair_of(*id) != *pair {
             return false;
         }
     }
@@ -119,7 +112,7 @@ fn are_ids(ids: &[OpId], want: &[Pair]) -> bool {
 /// Whether the ids are these, with these tags.
 fn are_conflicts(conflicts: &[(OpId, Tag)], want: &[(Pair, Tag)]) -> bool {
     for ((id, tag), (pair, want)) in conflicts.iter().zip(want) {
-        if !is_id(*id, *pair) || *tag != *want {
+        if pair_of(*id) != *pair || *tag != *want {
             return false;
         }
     }

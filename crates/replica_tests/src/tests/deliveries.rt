@@ -243,7 +243,7 @@ fn on_full(
 }
 
 #[test]
-fn one_place_is_held_for_what_is_ready(rt: HostRuntime) -> Result<(), Fail> {
+fn one_slot_is_held_for_what_is_ready(rt: HostRuntime) -> Result<(), Fail> {
     const TURNS: &[Turn<'static>] = &[
         Turn::Deliver((4098, 2), &[0, 0, 4097], Writes::Delete, FULL),
         Turn::Drain(0, 0),

@@ -3,22 +3,19 @@
 //! A turn whose allocation is refused is taken once more, so that a test passes whichever allocation is refused. With none refused,
 //! nothing is done twice.
 
-ghost use Rattle.std.specs.Prelude.{◌≡◌, ℕ, length, IfOk, OnErr};
+ghost use Rattle.std.specs.Prelude.{◌≡◌, ℕ, IfOk, OnErr};
 ghost use Rattle.semantics.specs.Entries.{IsAbove};
 
 use super::*;
 use cursor::{Expr, Place, Step};
 use document::{Question, Reading};
-use ids::{OpId, Refusal, ReplicaId};
+use fixtures::{Pair, field, id_of, pair_of, text, vector};
+use ids::Refusal;
 use operation::{Command, Mutation, Op};
 use std::alloc::Global;
 use std::process::Abort;
 use std::test::Fail;
-use value::{Key, Scalar, Text, Val};
-use version::VersionVector;
-
-/// An id's counter and replica.
-pub type Pair = (u64, u32);
+use value::{Key, Val};
 
 /// The answer to a delivery.
 pub type Answer = Result<Delivered, Refusal>;
@@ -57,28 +54,9 @@ pub enum Turn<'a> {
     Values(&'a [Pair]),
 }
 
-/// The id of this counter and replica.
-fn id_of(pair: Pair) -> Result<OpId, Refusal> {
-    let replica = ReplicaId::new(pair.1).ok_or(Refusal::UnknownReplica)?;
-    Ok(OpId {
-        counter: pair.0,
-        replica,
-    })
-}
-
-/// The counter and the replica of an id.
-fn pair_of(id: &OpId) -> Pair {
-    (id.counter, id.replica.number())
-}
-
 /// How many operations are applied, and how many were dropped.
 fn lengths(replica: &Replica) -> (usize, u64) {
     (replica.history_len(), replica.dropped())
-}
-
-/// A text as a value.
-fn text(alloc: Global, text: &str) -> Result<Val, Refusal> {
-    Ok(Val::Scalar(Scalar::Text(Text::new(alloc, text)?)))
 }
 
 /// The expression of one field of the root.
@@ -91,23 +69,6 @@ fn expression(alloc: Global, key: &str) -> Result<Expr, Refusal> {
 /// The command that assigns a text at a field of the root.
 fn assigning(alloc: Global, key: &str, value: &str) -> Result<Command, Refusal> {
     Ok(Command::Assign(expression(alloc, key)?, text(alloc, value)?))
-}
-
-/// The vector of these counters.
-fn vector(alloc: Global, counters: &[u64]) -> Result<VersionVector, Refusal>
-    ensures { IfOk result (λ v. length v ≡ length counters.now) }
-{
-    let mut vector = VersionVector::zero(alloc, counters.len())?;
-    for (index, counter) in counters.iter().enumerate() {
-        vector.raise(index, *counter);
-    }
-    Ok(vector)
-}
-
-/// A field of the root.
-fn field(alloc: Global, key: &str) -> Result<Place, Refusal> {
-    let key = Key::new(alloc, key)?;
-    Ok(Place::doc(alloc).get(alloc, key)?)
 }
 
 /// An item of the list at `key`.
@@ -153,7 +114,7 @@ fn make(rt: &impl Abort, alloc: Global, replica: &mut Replica, want: Pair) -> Re
 {
     let command = assigning(alloc, "a", "1")?;
     let op = replica.make(alloc, &command)?;
-    assert_eq!(rt; pair_of(&op.id), want);
+    assert_eq!(rt; pair_of(op.id), want);
     Ok(())
 }
 
@@ -175,7 +136,7 @@ fn assign(
     }
     let command = assigning(alloc, at.0, at.1)?;
     let op = replica.make(alloc, &command)?;
-    assert_eq!(rt; pair_of(&op.id), want);
+    assert_eq!(rt; pair_of(op.id), want);
     replica.commit_own(0, serial, command, op);
     Ok(serial + 1)
 }
@@ -208,7 +169,7 @@ fn copy(alloc: Global, replica: &mut Replica) -> Result<Option<Pair>, Refusal>
     let Some(op) = replica.next_ready(alloc)? else {
         return Ok(None);
     };
-    Ok(Some(pair_of(&op.id)))
+    Ok(Some(pair_of(op.id)))
 }
 
 /// Appends the next one, if there is one. Returns its id.
@@ -218,8 +179,8 @@ fn append_next(alloc: Global, replica: &mut Replica) -> Result<Option<Pair>, Ref
     let Some(op) = replica.next_ready(alloc)? else {
         return Ok(None);
     };
-    replica.commit_peer();
-    Ok(Some(pair_of(&op.id)))
+    replica.commit_peer(op.id);
+    Ok(Some(pair_of(op.id)))
 }
 
 /// Asserts the ids of the values at the field `key` of the root.
@@ -235,7 +196,7 @@ fn expect_values(
     };
     assert_eq!(rt; values.len(), pairs.len());
     for ((id, _), pair) in values.iter().zip(pairs) {
-        assert_eq!(rt; pair_of(id), *pair);
+        assert_eq!(rt; pair_of(*id), *pair);
     }
     Ok(())
 }
@@ -337,7 +298,7 @@ pub fn expect_history(rt: &impl Abort, replica: Replica, history: &[Pair]) {
     let entries = replica.into_entries();
     assert_eq!(rt; entries.len(), history.len());
     for (entry, pair) in entries.iter().zip(history) {
-        assert_eq!(rt; pair_of(&entry.op().id), *pair);
+        assert_eq!(rt; pair_of(entry.op().id), *pair);
     }
 }
 

@@ -199,7 +199,7 @@ fn lines_that_are_no_text(rt: HostRuntime) -> Result<(), Fail> {
 }
 
 /// Each number of a line, as what comes before and after it.
-const PLACES: &[Around] = &[
+const GAPS: &[Around] = &[
     (r#"["push","#, r#",0,["assign",["a"],1]]"#),
     (r#"["push",0,"#, r#",["assign",["a"],1]]"#),
     (r#"["step","#, "]"),
@@ -211,7 +211,7 @@ const PLACES: &[Around] = &[
 ];
 
 #[test]
-fn places_that_are_no_numbers(rt: HostRuntime) -> Result<(), Fail> {
+fn indices_that_are_no_numbers(rt: HostRuntime) -> Result<(), Fail> {
     const PARTS: &[&str] = &[
         "-1",
         "-0",
@@ -223,8 +223,8 @@ fn places_that_are_no_numbers(rt: HostRuntime) -> Result<(), Fail> {
         r#""0""#,
         "null",
     ];
-    for place in PLACES {
-        are_bad_with(&rt, rt.alloc(), ONE, *place, PARTS, "E22")?;
+    for gap in GAPS {
+        are_bad_with(&rt, rt.alloc(), ONE, *gap, PARTS, "E22")?;
     }
     Ok(())
 }

@@ -48,7 +48,7 @@ fn other_words(rt: HostRuntime) -> Result<(), Fail> {
 }
 
 /// Each number of a line, as what comes before and after it.
-const PLACES: &[Around] = &[
+const GAPS: &[Around] = &[
     (r#"["take","#, "]"),
     (r#"["publish","#, "]"),
     (r#"["give","#, "]"),
@@ -85,8 +85,8 @@ fn parts_that_are_no_numbers(rt: HostRuntime) -> Result<(), Fail> {
         "null",
         "[0]",
     ];
-    for place in PLACES {
-        are_bad_with(&rt, rt.alloc(), FIRST, *place, PARTS, "E22")?;
+    for gap in GAPS {
+        are_bad_with(&rt, rt.alloc(), FIRST, *gap, PARTS, "E22")?;
     }
     Ok(())
 }

@@ -53,7 +53,7 @@ fn are_bad_with(
 }
 
 /// Each number of a line, as what comes before and after it.
-const PLACES: &[Around] = &[
+const GAPS: &[Around] = &[
     (r#"["world",[["#, ",[1],1,1,4,4,10]]]"),
     (r#"["world",[[1,["#, "],1,1,4,4,10]]]"),
     (r#"["world",[[1,[1],"#, ",1,4,4,10]]]"),
@@ -66,8 +66,8 @@ const PLACES: &[Around] = &[
 #[test]
 fn parts_that_are_no_numbers(rt: HostRuntime) -> Result<(), Fail> {
     const NUMBERS: &[&str] = &["-1", "-0", "1.0", "1.5", "18446744073709551616", "1e999"];
-    for place in PLACES {
-        are_bad_with(&rt, rt.alloc(), *place, NUMBERS, "E22")?;
+    for gap in GAPS {
+        are_bad_with(&rt, rt.alloc(), *gap, NUMBERS, "E22")?;
     }
     Ok(())
 }
@@ -76,8 +76,8 @@ fn parts_that_are_no_numbers(rt: HostRuntime) -> Result<(), Fail> {
 #[test]
 fn numbers_that_are_too_large(rt: HostRuntime) -> Result<(), Fail> {
     const NUMBERS: &[&str] = &["4294967296", "18446744073709551615"];
-    for place in PLACES {
-        are_bad_with(&rt, rt.alloc(), *place, NUMBERS, "E24")?;
+    for gap in GAPS {
+        are_bad_with(&rt, rt.alloc(), *gap, NUMBERS, "E24")?;
     }
     let second_member = (r#"["world",[[1,[1,"#, "],1,1,4,4,10]]]");
     are_bad_with(&rt, rt.alloc(), second_member, NUMBERS, "E24")

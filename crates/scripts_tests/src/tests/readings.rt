@@ -1,9 +1,10 @@
 //! Readings of values, keys and conflicts, as they are printed. Those of items are among the replies, those of missing operations
 //! among the sessions.
 
-use super::replies::{Pair, id_of, prints_line};
+use super::replies::prints_line;
 use cursor::Tag;
 use document::Reading;
+use fixtures::{Pair, id_of};
 use ids::{Refusal, ReplicaTable};
 use std::alloc::Global;
 use std::process::Abort;

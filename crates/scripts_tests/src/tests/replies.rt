@@ -1,36 +1,13 @@
 //! Every reply as it is printed.
 
 use document::Reading;
-use ids::{OpId, Refusal, ReplicaId, ReplicaTable};
+use fixtures::{Pair, id_of, vector};
+use ids::{Refusal, ReplicaTable};
 use scripts::reply_lines;
 use std::alloc::Global;
 use std::process::Abort;
 use std::test::Fail;
-use version::VersionVector;
 use world::{Reply, WorldReply};
-
-/// An id's counter and replica.
-pub type Pair = (u64, u32);
-
-/// The id of this counter and replica.
-pub fn id_of(pair: Pair) -> Result<OpId, Refusal> {
-    let replica = ReplicaId::new(pair.1).ok_or(Refusal::UnknownReplica)?;
-    Ok(OpId {
-        counter: pair.0,
-        replica,
-    })
-}
-
-/// The vector of these counters.
-fn vector(alloc: Global, counters: &[u64]) -> Result<VersionVector, Refusal> {
-    let mut vector = VersionVector::zero(alloc, counters.len())?;
-    for (index, counter) in counters.iter().enumerate() {
-        if index < vector.width() {
-            vector.raise(index, *counter);
-        }
-    }
-    Ok(vector)
-}
 
 /// The items with these ids.
 fn items_of(alloc: Global, pairs: &[Pair]) -> Result<Reading, Refusal> {

@@ -130,7 +130,7 @@ fn one_write_read_by_all(rt: HostRuntime) {
 
 /// A command that finds the queue full takes no serial.
 #[test]
-fn a_queue_of_one_place(rt: HostRuntime) {
+fn a_queue_of_one_slot(rt: HostRuntime) {
     const SCRIPT: &str = r#"["world",[[1,[1,2,3],1,1,1,8,100]]]
 ["push",0,0,["assign",["a"],1]]
 ["push",0,0,["assign",["a"],2]]

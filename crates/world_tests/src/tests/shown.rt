@@ -3,6 +3,7 @@
 use super::*;
 use std::alloc::AllocError;
 use std::fmt::Write;
+use version::VersionVector;
 
 /// A text as tests write it, in quotation marks.
 fn quoted(alloc: Global, text: &str) -> Result<String, AllocError> {
@@ -100,7 +101,7 @@ fn hello_shown(alloc: Global, message: u64, vector: &VersionVector) -> Result<St
 /// A client's answer as tests write it, where that isn't as it is printed for debugging.
 fn answer_shown(alloc: Global, reply: &Reply) -> Result<String, AllocError> {
     match reply {
-        Reply::Made(id, place) => format!(in alloc; "Made {id} at {place}"),
+        Reply::Made(id, position) => format!(in alloc; "Made {id} at {position}"),
         Reply::Refused(why, length) => format!(in alloc; "Refused {why} at {length}"),
         other => format!(in alloc; "Replied({other:?})"),
     }

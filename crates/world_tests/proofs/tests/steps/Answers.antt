@@ -7,4 +7,5 @@ use Rattle.world_tests.proofs.tests.steps.Goals as goal
 pub loop-act-preserved : goal.loop-act-preserved
 loop-act-preserved c = λ tables.
     subst (All (IsAskedBeside tables)) (sym c.in_ok-push.ensures.items)
-    (All-push (IsAskedBeside tables) c.loop-act.steps.items c.in_ok-step.field-0 (c.loop-act.invariant tables) (c.in_ok-step.ensures tables))
+    (All-push (IsAskedBeside tables) c.loop-act.steps.items c.in_ok-step.field-0 (c.loop-act.invariant tables)
+    (c.in_ok-step.ensures tables))

@@ -1,5 +1,5 @@
 use Rattle.ids.specs.Members.{in_order}
-use Rattle.engine_tests.proofs.tests.schedules.eight_clients_crowd_one_place.Given as goal
+use Rattle.engine_tests.proofs.tests.schedules.eight_clients_crowd_one_slot.Given as goal
 
 -- the engine of these parts
 abbrev pub ghosts-crowd : goal.ghosts-crowd
