@@ -1,5 +1,6 @@
 -- A whole step of a world's engine, take by take and give by give.
-use Rattle.std.proofs.Common.{◌≡◌, ℕ, zero, suc, ◌+◌, ◌-◌, ◌<◌, ◌≤◌, Bool, true, false, nat_le, List, [], ◌∷◌, ◌++◌, length, inl, refl, sym, ap, ◌∙◌, subst, arith, append_assoc}
+use Rattle.std.proofs.Common.{◌≡◌, ℕ, zero, suc, ◌+◌, ◌-◌, ◌<◌, ◌≤◌, Bool, true, false, nat_le, List, [], ◌∷◌, ◌++◌, length, inl, refl, sym}
+use Rattle.std.proofs.Common.{ap, ◌∙◌, subst, arith, append_assoc}
 use Rattle.std.proofs.lemmas.Bool.{leb-false, lt-leb}
 use Rattle.std.proofs.lemmas.List.{append-nil, length-append}
 use Rattle.semantics.specs.LegalAnswer.{Submitted}
@@ -24,7 +25,8 @@ abbrev as_rules : Handler → Handled → Handled
 as_rules w h = record { submitted = h.submitted; reply = reply_to w.replica h.submitted }
 
 -- one take, where a batch has room
-one_take : (E : Engine) (h : Handled) (queue : List Submitted) (w u : Handler) (done : List Handled) → length done < E.batch → IsWhole w h.submitted h.reply u
+one_take : (E : Engine) (h : Handled) (queue : List Submitted) (w u : Handler) (done : List Handled) → length done < E.batch
+    → IsWhole w h.submitted h.reply u
     → (take_item (taking E (h.submitted ∷ queue) w.replica done)).engine ≡ taking E queue u.replica (done ++ h ∷ [])
 one_take E h queue w u done l whole =
     rw (lt-leb E.batch (length done) l)
@@ -32,7 +34,8 @@ one_take E h queue w u done l whole =
     ∙ ap (λ y. taking E queue u.replica (done ++ (record { submitted = h.submitted; reply = y }) ∷ [])) (sym whole.reply))
 
 -- as many takes as there are items in the run
-take_run : (E : Engine) (hs : List Handled) (rest : List Submitted) (w v : Handler) (done : List Handled) → length done + length hs ≤ E.batch → AreGranted w hs v
+take_run : (E : Engine) (hs : List Handled) (rest : List Submitted) (w v : Handler) (done : List Handled)
+    → length done + length hs ≤ E.batch → AreGranted w hs v
     → take_for (length hs) (taking E (items_of hs ++ rest) w.replica done) ≡ taking E rest v.replica (done ++ hs)
 take_run E [] rest w v done l e =
     ap (λ (u : Handler). taking E rest u.replica done) (sym e) ∙ ap (taking E rest v.replica) (sym (append-nil done))
@@ -47,10 +50,12 @@ take_for-idle (suc n) e idle = ap (take_for n) idle ∙ take_for-idle n e idle
 
 take_for-sum : (a b : ℕ) (e : Engine) → take_for (a + b) e ≡ take_for b (take_for a e)
 take_for-sum zero b e = let none : 0 + b ≡ b = omega arith in ap (λ n. take_for n e) none
-take_for-sum (suc a) b e = let one : suc a + b ≡ suc (a + b) = omega arith in ap (λ n. take_for n e) one ∙ take_for-sum a b (take_item e).engine
+take_for-sum (suc a) b e =
+    let one : suc a + b ≡ suc (a + b) = omega arith in ap (λ n. take_for n e) one ∙ take_for-sum a b (take_item e).engine
 
 -- nothing is taken where nothing is left, or a batch is full
-no_take : (E : Engine) (rest : List Submitted) (r : Replica) (hs : List Handled) → (length hs < E.batch → rest ≡ []) → (take_item (taking E rest r hs)).engine ≡ taking E rest r hs
+no_take : (E : Engine) (rest : List Submitted) (r : Replica) (hs : List Handled) → (length hs < E.batch → rest ≡ [])
+    → (take_item (taking E rest r hs)).engine ≡ taking E rest r hs
 no_take E [] r hs all = refl
 no_take E (x ∷ rest) r hs all = by_room (nat_le E.batch (length hs)) refl
   where
@@ -59,7 +64,8 @@ no_take E (x ∷ rest) r hs all = by_room (nat_le E.batch (length hs)) refl
     by_room false e = let none : x ∷ rest ≡ [] = all (leb-false E.batch (length hs) e) in absurd (cc)
 
 -- all that a whole step takes
-take_all : (E : Engine) (hs : List Handled) (rest : List Submitted) (w v : Handler) → length hs ≤ E.batch → (length hs < E.batch → rest ≡ []) → AreGranted w hs v
+take_all : (E : Engine) (hs : List Handled) (rest : List Submitted) (w v : Handler) → length hs ≤ E.batch
+    → (length hs < E.batch → rest ≡ []) → AreGranted w hs v
     → take_for E.batch (taking E (items_of hs ++ rest) w.replica []) ≡ taking E rest v.replica hs
 take_all E hs rest w v fits all g =
     let sum : E.batch ≡ length hs + (E.batch - length hs) = omega (arith, fits) in
@@ -84,21 +90,29 @@ pub record HasGiven (e f : Engine) (left : List Handled) : Type 0 where
 
 -- one give keeps all but the oldest answer that is due
 one_give : (e : Engine) (h : Handled) (due : List Handled) → e.due ≡ h ∷ due → HasGiven e (give e).engine due
-one_give e h due same = subst (λ d. HasGiven e (give_oldest e d).engine due) (sym same) (record { replica = refl; published = refl; queue = refl; handled = refl; due = refl })
+one_give e h due same = subst (λ d. HasGiven e (give_oldest e d).engine due) (sym same)
+    (record { replica = refl; published = refl; queue = refl; handled = refl; due = refl })
 
 pub give_all : (due : List Handled) (e : Engine) → e.due ≡ due → HasGiven e (give_for (length due) e) []
 give_all [] e same = record { replica = refl; published = refl; queue = refl; handled = refl; due = same }
 give_all (h ∷ due) e same =
     let one = one_give e h due same in
     let rest = give_all due (give e).engine one.due in
-    record { replica = rest.replica ∙ one.replica; published = rest.published ∙ one.published; queue = rest.queue ∙ one.queue; handled = rest.handled ∙ one.handled; due = rest.due }
+    record {
+      replica = rest.replica ∙ one.replica;
+      published = rest.published ∙ one.published;
+      queue = rest.queue ∙ one.queue;
+      handled = rest.handled ∙ one.handled;
+      due = rest.due;
+    }
 
 some_answered : (hs : List Handled) → 0 < length hs → answered_or_idle (length hs) ≡ Published (length hs)
 some_answered [] l = absurd (omega (arith, l))
 some_answered (h ∷ hs) l = refl
 
 -- the engine that awaits these items
-awaiting : (E : Engine) (w : Handler) (hs : List Handled) (rest : List Submitted) → Awaits E w hs rest → E ≡ taking E (items_of hs ++ rest) w.replica []
+awaiting : (E : Engine) (w : Handler) (hs : List Handled) (rest : List Submitted) → Awaits E w hs rest
+    → E ≡ taking E (items_of hs ++ rest) w.replica []
 awaiting E w hs rest a =
     ap (λ q. record E { queue = q }) a.queue
     ∙ ap (λ r. record E { queue = items_of hs ++ rest; replica = r }) a.replica
@@ -113,7 +127,8 @@ handled_all E w v hs rest a g =
     ∙ ap (λ e. (publish e).engine) (take_all E hs rest w v a.batch a.all g)
     ∙ shown E hs rest v.replica a.some
 
-pub steps_alike : (E : Engine) (w v : Handler) (hs : List Handled) (rest : List Submitted) → Awaits E w hs rest → AreGranted w hs v → StepsAlike E hs rest v
+pub steps_alike : (E : Engine) (w v : Handler) (hs : List Handled) (rest : List Submitted) → Awaits E w hs rest → AreGranted w hs v
+    → StepsAlike E hs rest v
 steps_alike E w v hs rest a g =
     let e = handled_all E w v hs rest a g in
     let due : (handle_all E).due ≡ hs = ap (λ (f : Engine). f.due) e in

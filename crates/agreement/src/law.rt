@@ -10,5 +10,6 @@ ghost use Rattle.agreement.specs.GrantedTurns.{AreGranted, Awaits, StepsAlike};
 /// gives: it does the same with the same submissions.
 pub fn a_step_is_a_step_of_a_world()
     ensures runs { (w v : Handler) (hs : List Handled) → AreGranted w hs v → Runs w hs v }
-    ensures alike { (E : TheEngine) (w v : Handler) (hs : List Handled) (rest : List Submitted) → Awaits E w hs rest → AreGranted w hs v → StepsAlike E hs rest v }
+    ensures alike { (E : TheEngine) (w v : Handler) (hs : List Handled) (rest : List Submitted) → Awaits E w hs rest → AreGranted w hs v
+        → StepsAlike E hs rest v }
 {}

@@ -1,5 +1,6 @@
 -- A vector that is indexed by another table, one replica after the other as they rise.
-use Rattle.std.proofs.Common.{◌≡◌, ◌≢◌, ◌≤◌, ◌<◌, ℕ, zero, suc, max, Bool, true, false, cond, ◌&&◌, ◌==◌, List, [], ◌∷◌, ◌++◌, get_or, Some, slice_get, refl, sym, ap, ◌∙◌, arith}
+use Rattle.std.proofs.Common.{◌≡◌, ◌≢◌, ◌≤◌, ◌<◌, ℕ, zero, suc, max, Bool, true, false, cond, ◌&&◌, ◌==◌, List, [], ◌∷◌, ◌++◌, get_or, Some}
+use Rattle.std.proofs.Common.{slice_get, refl, sym, ap, ◌∙◌, arith}
 use Rattle.std.specs.List.{list_all}
 use Rattle.std.proofs.lemmas.Bool.{and_from, and_parts, or_left, or_right, eq-eqb, eqb-true}
 use Rattle.std.proofs.lemmas.Option.{slice_get_within, get_or_from_slice_get}
@@ -11,7 +12,7 @@ use Rattle.semantics.specs.Vectors.{Vector}
 use Rattle.semantics.specs.Tables.{by_table, component}
 use Rattle.semantics.proofs.CanonicalVectors.{same_vectors}
 use Rattle.semantics.proofs.TableVectors.{at-by_table, canonical-by_table}
-use Rattle.operation.proofs.AloneFaults.{all-by_table}
+use Rattle.operation.proofs.AloneFaults.{all-by_table, members_all}
 use Rattle.wire.proofs.ReadVectors.{by_table-more}
 
 -- the column ds is cs, with the counter of a raised
@@ -19,12 +20,15 @@ abbrev pub IsRaised : List ℕ → List ℕ → List ℕ → OpId → Type 0
 IsRaised ps cs ds a = (p : ℕ) → component ps ds p ≡ cond (a.replica == p) (max a.counter (component ps cs p)) (component ps cs p)
 
 -- a replica is raised from 0, and none above it has a counter
-pub named_next : (ps cs ds : List ℕ) (a : OpId) → AreDistinct ps → IsRaised ps cs ds a → ((p : ℕ) → a.replica ≤ p → component ps cs p ≡ 0) → a.counter ≢ 0 → by_table ps ds ≡ by_table ps cs ++ a ∷ []
+pub named_next : (ps cs ds : List ℕ) (a : OpId) → AreDistinct ps → IsRaised ps cs ds a → ((p : ℕ) → a.replica ≤ p → component ps cs p ≡ 0)
+    → a.counter ≢ 0 → by_table ps ds ≡ by_table ps cs ++ a ∷ []
 named_next ps cs ds a distinct raised none some = by_replica a.replica refl
   where
     by_replica : (q : ℕ) → a.replica ≡ q → by_table ps ds ≡ by_table ps cs ++ a ∷ []
     by_replica zero e =
-        let nothing : by_table ps cs ≡ [] = same_vectors (by_table ps cs) [] (canonical-by_table ps cs) tt (λ p. at-by_table ps cs distinct p ∙ none p (omega (arith, e))) in
+        let nothing : by_table ps cs
+        ≡ [] = same_vectors (by_table ps cs) [] (canonical-by_table ps cs) tt
+        (λ p. at-by_table ps cs distinct p ∙ none p (omega (arith, e))) in
         same_vectors (by_table ps ds) (a ∷ []) (canonical-by_table ps ds) (some, tt, tt)
         (λ p. at-by_table ps ds distinct p ∙ raised p ∙ ap (λ n. cond (a.replica == p) (max a.counter n) n) (none p (omega (arith, e))))
         ∙ sym (ap (λ (v : Vector). v ++ a ∷ []) nothing)
@@ -49,7 +53,8 @@ IsNoneFrom from i to cs = (j q : ℕ) → i ≤ j → slice_get from j ≡ Some 
 pub none_later : (from to cs : List ℕ) (i : ℕ) → IsNoneFrom from i to cs → IsNoneFrom from (suc i) to cs
 none_later from to cs i none j q l there p above = none j q (omega (arith, l)) there p above
 
-pub none_raised : (from to cs ds : List ℕ) (i : ℕ) (a : OpId) → AreRising from → slice_get from i ≡ Some a.replica → IsRaised to cs ds a → IsNoneFrom from i to cs → IsNoneFrom from (suc i) to ds
+pub none_raised : (from to cs ds : List ℕ) (i : ℕ) (a : OpId) → AreRising from → slice_get from i ≡ Some a.replica → IsRaised to cs ds a
+    → IsNoneFrom from i to cs → IsNoneFrom from (suc i) to ds
 none_raised from to cs ds i a rising at raised none j q l there p above =
     raised p ∙ other (a.replica == p) refl
   where
@@ -62,25 +67,17 @@ none_raised from to cs ds i a rising at raised none j q l there p above =
 
 -- ---- members
 
-members_all : (ps : List ℕ) → list_all (is_member ps) ps ≡ true
-members_all [] = refl
-members_all (p ∷ ps) = and_from (is_member (p ∷ ps) p) (list_all (is_member (p ∷ ps)) ps) (or_left (p == p) (is_member ps p) (eq-eqb p p refl)) (more ps (members_all ps))
-  where
-    more : (qs : List ℕ) → list_all (is_member ps) qs ≡ true → list_all (is_member (p ∷ ps)) qs ≡ true
-    more [] h = refl
-    more (q ∷ qs) h =
-        let parts = and_parts (is_member ps q) (list_all (is_member ps) qs) h in
-        and_from (is_member (p ∷ ps) q) (list_all (is_member (p ∷ ps)) qs) (or_right (p == q) (is_member ps q) parts.0) (more qs parts.1)
-
 -- a column names only members of its table
 pub all_of-by_table : (ps cs : List ℕ) → list_all (λ a. is_member ps a.replica) (by_table ps cs) ≡ true
 all_of-by_table ps cs = all-by_table (is_member ps) ps cs (members_all ps)
 
 -- one that isn't a member
-pub not_all_of : (ps : List ℕ) (u v : Vector) (a : OpId) → is_member ps a.replica ≡ false → list_all (λ b. is_member ps b.replica) (u ++ a ∷ v) ≡ false
+pub not_all_of : (ps : List ℕ) (u v : Vector) (a : OpId) → is_member ps a.replica ≡ false
+    → list_all (λ b. is_member ps b.replica) (u ++ a ∷ v) ≡ false
 not_all_of ps [] v a e = rw e refl
 not_all_of ps (b ∷ u) v a e = at_test (is_member ps b.replica) (not_all_of ps u v a e)
   where
-    at_test : (t : Bool) → list_all (λ b. is_member ps b.replica) (u ++ a ∷ v) ≡ false → (t && list_all (λ b. is_member ps b.replica) (u ++ a ∷ v)) ≡ false
+    at_test : (t : Bool) → list_all (λ b. is_member ps b.replica) (u ++ a ∷ v) ≡ false
+        → (t && list_all (λ b. is_member ps b.replica) (u ++ a ∷ v)) ≡ false
     at_test true rest = rest
     at_test false rest = refl

@@ -1,5 +1,6 @@
 -- An engine in which a step is done in part is between what it was and what the whole step makes of it.
-use Rattle.std.proofs.Common.{◌≡◌, ◌⊎◌, inl, inr, ℕ, zero, suc, ◌+◌, ◌-◌, ◌<◌, ◌≤◌, Bool, true, false, ◌||◌, not, nat_le, nat_lt, List, [], ◌∷◌, ◌++◌, length, Option, Some, None, refl, sym, ap, ◌∙◌, subst, arith, slice_get}
+use Rattle.std.proofs.Common.{◌≡◌, ◌⊎◌, inl, inr, ℕ, zero, suc, ◌+◌, ◌-◌, ◌<◌, ◌≤◌, Bool, true, false, ◌||◌, not, nat_le, nat_lt, List, []}
+use Rattle.std.proofs.Common.{◌∷◌, ◌++◌, length, Option, Some, None, refl, sym, ap, ◌∙◌, subst, arith, slice_get}
 use Rattle.std.proofs.lemmas.Bool.{cases_lt, le-ltb, or_parts}
 use Rattle.semantics.specs.LegalHistory.{IsAmong}
 use Rattle.semantics.specs.DocumentAnswer.{is_any}
@@ -10,8 +11,10 @@ use Rattle.semantics.specs.Replica.{Replica, IsRunning}
 use Rattle.semantics.specs.Delivery.{answer_to, deliver}
 use Rattle.semantics.specs.Drain.{counted, drain, drain_for, receive, Drains}
 use Rattle.semantics.specs.Engine.{Engine, Handled, Message, Took, Published, Turn}
-use Rattle.semantics.specs.WriteSteps.{after_item, after_request, reply_to, take_item, take_for, publish, give, give_for, handle_all, whole_step}
-use Rattle.semantics.specs.World.{WorldAct, Push, Take, Publish, Give, Whole, Poll, Ask, Learn, SayHello, AnswerHello, Deliver, Lines, CountDropped, engine_step}
+use Rattle.semantics.specs.WriteSteps.{after_item, after_request, reply_to, take_item, take_for, publish, give, give_for, handle_all}
+use Rattle.semantics.specs.WriteSteps.{whole_step}
+use Rattle.semantics.specs.World.{WorldAct, Push, Take, Publish, Give, Whole, Poll, Ask, Learn, SayHello, AnswerHello, Deliver, Lines}
+use Rattle.semantics.specs.World.{CountDropped, engine_step}
 use Rattle.semantics.specs.WorldHistory.{BeginsWith, HasGrown}
 use Rattle.semantics.proofs.AmongLists.{among_left}
 use Rattle.semantics.proofs.Delivered.{delivered}
@@ -29,7 +32,8 @@ use Rattle.semantics.proofs.SoundSteps.{stepped, taken_for}
 use Rattle.semantics.proofs.SoundTaking.{floor_within, took}
 use Rattle.replica.proofs.Turns.{ended_by_count}
 use Rattle.world.specs.Parts.{IsQueued, IsBetween, IsHandledInPart, HandlesInPart, TakesInPart, PublishesInPart, StepsInPart, IsInPart}
-use Rattle.world.proofs.DrawnWaiting.{Draws, delivered_waits, draws_both, gives_draw, item_waits, rest_draws, step_waits, take_draws, takes_draw}
+use Rattle.world.proofs.DrawnWaiting.{Draws, delivered_waits, draws_both, gives_draw, item_waits, rest_draws, step_waits, take_draws}
+use Rattle.world.proofs.DrawnWaiting.{takes_draw}
 
 -- ---- a drain that ended early
 
@@ -42,9 +46,13 @@ left_drains : (n : ℕ) (d : Replica) → IsRunning d → Drains (drain_for n d)
 left_drains n d h = by (cases_lt (length d.waiting) n)
   where
     by : (length d.waiting < n) ⊎ (n ≤ length d.waiting) → Drains (drain_for n d) (drain d)
-    by (inl l) = subst (Drains (drain_for n d)) (sym (ended_by_count n d h (omega arith))) (part_drained 0 (drain_for n d) (part_drained n d h).0).1
+    by (inl l) = subst (Drains (drain_for n d)) (sym (ended_by_count n d h (omega arith)))
+        (part_drained 0 (drain_for n d) (part_drained n d h).0).1
     by (inr l) =
-        let all : drain d ≡ drain_for (length d.waiting - n) (drain_for n d) = ap (λ k. drain_for k d) (let e : length d.waiting ≡ n + (length d.waiting - n) = omega arith in e) ∙ goes_on n (length d.waiting - n) d in
+        let all : drain d
+        ≡ drain_for (length d.waiting - n) (drain_for n d) = ap (λ k. drain_for k d)
+        (let e : length d.waiting ≡ n + (length d.waiting - n) = omega arith in e)
+        ∙ goes_on n (length d.waiting - n) d in
         subst (Drains (drain_for n d)) (sym all) (part_drained (length d.waiting - n) (drain_for n d) (part_drained n d h).0).1
 
 -- ---- an item that is handled in part
@@ -59,12 +67,14 @@ record IsWithin (r : Replica) (x : Submitted) (q : Replica) : Type 0 where
   pub waits : (o : Stamped) → IsAmong o (after_item r x).waiting → IsAmong o q.waiting ⊎ (x.request ≡ OfPeer o)
 
 -- all of an item that was delivered
-peer_item : (r : Replica) (x : Submitted) (s : Stamped) → x.request ≡ OfPeer s → x.floor ≤ length r.entries → after_item r x ≡ counted (receive r s)
+peer_item : (r : Replica) (x : Submitted) (s : Stamped) → x.request ≡ OfPeer s → x.floor ≤ length r.entries
+    → after_item r x ≡ counted (receive r s)
 peer_item r x s is floor =
     let low : nat_lt (length r.entries) x.floor ≡ false = le-ltb (length r.entries) x.floor floor in
     rw low (ap (after_request r x) is)
 
-within_delivery : (r : Replica) (x : Submitted) (s : Stamped) (n : ℕ) → IsRunning r → x.request ≡ OfPeer s → x.floor ≤ length r.entries → IsWithin r x (counted (drain_for n (deliver r s)))
+within_delivery : (r : Replica) (x : Submitted) (s : Stamped) (n : ℕ) → IsRunning r → x.request ≡ OfPeer s → x.floor ≤ length r.entries
+    → IsWithin r x (counted (drain_for n (deliver r s)))
 within_delivery r x s n h is floor =
     let d : Replica = deliver r s in
     let running : IsRunning d = delivered r s h in
@@ -139,7 +149,8 @@ module _ (E : Engine) (x : Submitted) (queue : List Submitted) (s : IsSound E) (
     between_taken : IsBetween E F (take_item E).engine
     between_taken = subst (IsBetween E F) (sym taken_is) (record {
       beyond = grown_by_history E q E.queue E.handled E.due E.published w.own w.begins (omega arith) (λ g m. m);
-      before = grown_by_history F (after_item E.replica x) queue (E.handled ++ answered ∷ []) E.due E.published w.own_after w.goes_on (omega arith) stays;
+      before = grown_by_history F (after_item E.replica x) queue (E.handled ++ answered ∷ []) E.due E.published w.own_after w.goes_on
+          (omega arith) stays;
       waited = λ o m. elim (w.waited o m) [ inl a ↦ inl a | inr is ↦ inr (queued o is) ];
       waits = λ o m. elim (w.waits o m) [ inl a ↦ inl a | inr is ↦ inr (queued o is) ];
     })
@@ -190,7 +201,8 @@ takes_then zero m E = ap (λ k. take_for k E) (let e : zero + m ≡ m = omega ar
 takes_then (suc n) m E = ap (λ k. take_for k E) (let e : suc n + m ≡ suc (n + m) = omega arith in e) ∙ takes_then n m (take_item E).engine
 
 -- E leads to A, and B to G
-wider : (E A F B G : Engine) → HasGrown E A → Draws E A → IsBetween A F B → ((x : Submitted) → IsAmong x B.queue → IsAmong x F.queue) → HasGrown B G → Draws B G → IsBetween E F G
+wider : (E A F B G : Engine) → HasGrown E A → Draws E A → IsBetween A F B → ((x : Submitted) → IsAmong x B.queue → IsAmong x F.queue)
+    → HasGrown B G → Draws B G → IsBetween E F G
 wider E A F B G grown drawn h queue later draws = record {
   beyond = grown_trans E A F grown h.beyond;
   before = grown_trans F B G h.before later;
@@ -226,7 +238,8 @@ stepped_in_part E F s (inl h) =
     let first = taken_for n E s in
     let next = took A first.sound in
     let rest = taken_for left B next.sound in
-    let all : T ≡ take_for left B = ap (λ k. take_for k E) (let e : E.batch ≡ n + suc left = omega (arith, h.1) in e) ∙ takes_then n (suc left) E in
+    let all : T ≡ take_for left B = ap (λ k. take_for k E) (let e : E.batch ≡ n + suc left = omega (arith, h.1) in e)
+    ∙ takes_then n (suc left) E in
     let grown : HasGrown B T = subst (HasGrown B) (sym all) rest.grown in
     let drawn : Draws B T = subst (Draws B) (sym all) (takes_draw left B next.sound) in
     let sound : IsSound T = subst IsSound (sym all) rest.sound in

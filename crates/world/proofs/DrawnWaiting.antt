@@ -1,5 +1,6 @@
 -- What waits after a step waited before it, or was in the queue.
-use Rattle.std.proofs.Common.{◌≡◌, ◌⊎◌, inl, inr, ℕ, zero, suc, Bool, true, false, ◌||◌, nat_le, nat_lt, List, [], ◌∷◌, length, Option, Some, None, Result, Ok, Err, refl, sym, ap, ◌∙◌, subst, slice_get}
+use Rattle.std.proofs.Common.{◌≡◌, ◌⊎◌, inl, inr, ℕ, zero, suc, Bool, true, false, ◌||◌, nat_le, nat_lt, List, [], ◌∷◌, length, Option}
+use Rattle.std.proofs.Common.{Some, None, Result, Ok, Err, refl, sym, ap, ◌∙◌, subst, slice_get}
 use Rattle.ids.specs.declared.refusal.Refusal.{Refusal}
 use Rattle.semantics.specs.LegalHistory.{IsAmong}
 use Rattle.semantics.specs.Operations.{Operation}
@@ -10,10 +11,13 @@ use Rattle.semantics.specs.LegalAnswer.{Request, OfCommand, OfPeer, Submitted}
 use Rattle.semantics.specs.Replica.{Replica, IsRunning, operations}
 use Rattle.semantics.specs.Delivery.{Delivered, Kept, Known, NotKept, answer_to, deliver, kept_by}
 use Rattle.semantics.specs.Engine.{Engine, Client, Message, Hello, Bundle}
-use Rattle.semantics.specs.WriteSteps.{push, after_made, after_request, after_item, take_oldest, take_item, take_for, publish, give, give_for, handle_all, whole_step}
+use Rattle.semantics.specs.WriteSteps.{push, after_made, after_request, after_item, take_oldest, take_item, take_for, publish, give}
+use Rattle.semantics.specs.WriteSteps.{give_for, handle_all, whole_step}
 use Rattle.semantics.specs.ReadSteps.{see}
-use Rattle.semantics.specs.PeerSteps.{names_members, answer_hello, refusal_in, unless_refused, submit_all, receive_lines, before_stranger, stranger_fault, receive_message}
-use Rattle.semantics.specs.World.{WorldAct, Push, Take, Publish, Give, Whole, Poll, Ask, Learn, SayHello, AnswerHello, Deliver, Lines, CountDropped, engine_step}
+use Rattle.semantics.specs.PeerSteps.{names_members, answer_hello, refusal_in, unless_refused, submit_all, receive_lines, before_stranger}
+use Rattle.semantics.specs.PeerSteps.{stranger_fault, receive_message}
+use Rattle.semantics.specs.World.{WorldAct, Push, Take, Publish, Give, Whole, Poll, Ask, Learn, SayHello, AnswerHello, Deliver, Lines}
+use Rattle.semantics.specs.World.{CountDropped, engine_step}
 use Rattle.semantics.proofs.Delivered.{delivered}
 use Rattle.semantics.proofs.Drained.{drained}
 use Rattle.semantics.proofs.EngineMoves.{IsStill, still_seen, still_polled, still_learnt, still_published, still_given}
@@ -35,7 +39,8 @@ delivered_waits r s o = by (answer_to r s)
     by (NotKept why) m = inr m
 
 -- what waits after an item waited, or is the item's operation
-pub item_waits : (r : Replica) (x : Submitted) (o : Stamped) → IsRunning r → IsAmong o (after_item r x).waiting → IsAmong o r.waiting ⊎ (x.request ≡ OfPeer o)
+pub item_waits : (r : Replica) (x : Submitted) (o : Stamped) → IsRunning r → IsAmong o (after_item r x).waiting
+    → IsAmong o r.waiting ⊎ (x.request ≡ OfPeer o)
 item_waits r x o h = at_floor (nat_lt (length r.entries) x.floor) refl
   where
     of_made : (c : Command) (m : Result Operation Refusal) → IsAmong o (after_made r x c m).waiting → IsAmong o r.waiting
@@ -49,7 +54,8 @@ item_waits r x o h = at_floor (nat_lt (length r.entries) x.floor) refl
     of_request (OfCommand c) is m = inl (of_made c (make (operations r) r.own c) m)
     of_request (OfPeer s) is m = of_peer s is ((drained (deliver r s) (delivered r s h)).1.waits o m)
 
-    at_floor : (b : Bool) → nat_lt (length r.entries) x.floor ≡ b → IsAmong o (after_item r x).waiting → IsAmong o r.waiting ⊎ (x.request ≡ OfPeer o)
+    at_floor : (b : Bool) → nat_lt (length r.entries) x.floor ≡ b → IsAmong o (after_item r x).waiting
+        → IsAmong o r.waiting ⊎ (x.request ≡ OfPeer o)
     at_floor true e = rw e (λ m. inl m)
     at_floor false e = rw e (of_request x.request refl)
 
@@ -75,10 +81,12 @@ draws_both E F G a b = record {
 pub take_draws : (E : Engine) → IsSound E → Draws E (take_item E).engine
 take_draws E s = at_queue E.queue refl
   where
-    at_test : (x : Submitted) (queue : List Submitted) → E.queue ≡ x ∷ queue → (b : Bool) → (is_any E.due || nat_le E.batch (length E.handled)) ≡ b → Draws E (take_oldest E (x ∷ queue)).engine
+    at_test : (x : Submitted) (queue : List Submitted) → E.queue ≡ x ∷ queue → (b : Bool)
+        → (is_any E.due || nat_le E.batch (length E.handled)) ≡ b → Draws E (take_oldest E (x ∷ queue)).engine
     at_test x queue e true f = rw f (draws_still E E (refl, refl))
     at_test x queue e false f = rw f (record {
-      waits = λ o m. elim (item_waits E.replica x o s.running m) [ inl w ↦ inl w | inr is ↦ inr (x, subst (IsAmong x) (sym e) (inl refl), is) ];
+      waits = λ o m. elim
+          (item_waits E.replica x o s.running m) [ inl w ↦ inl w | inr is ↦ inr (x, subst (IsAmong x) (sym e) (inl refl), is) ];
       queue = λ y m. subst (IsAmong y) (sym e) (inr m);
     })
 
@@ -88,21 +96,25 @@ take_draws E s = at_queue E.queue refl
 
 pub takes_draw : (n : ℕ) (E : Engine) → IsSound E → Draws E (take_for n E)
 takes_draw zero E s = draws_still E E (refl, refl)
-takes_draw (suc n) E s = draws_both E (take_item E).engine (take_for n (take_item E).engine) (take_draws E s) (takes_draw n (take_item E).engine (took E s).sound)
+takes_draw (suc n) E s = draws_both E (take_item E).engine (take_for n (take_item E).engine) (take_draws E s)
+    (takes_draw n (take_item E).engine (took E s).sound)
 
 pub gives_draw : (n : ℕ) (E : Engine) → Draws E (give_for n E)
 gives_draw zero E = draws_still E E (refl, refl)
-gives_draw (suc n) E = draws_both E (give E).engine (give_for n (give E).engine) (draws_still E (give E).engine (still_given E)) (gives_draw n (give E).engine)
+gives_draw (suc n) E = draws_both E (give E).engine (give_for n (give E).engine) (draws_still E (give E).engine (still_given E))
+    (gives_draw n (give E).engine)
 
 -- the publication and the answers of a whole step
 pub rest_draws : (E : Engine) (n : ℕ) → Draws E (give_for n (publish E).engine)
-rest_draws E n = draws_both E (publish E).engine (give_for n (publish E).engine) (draws_still E (publish E).engine (still_published E)) (gives_draw n (publish E).engine)
+rest_draws E n = draws_both E (publish E).engine (give_for n (publish E).engine) (draws_still E (publish E).engine (still_published E))
+    (gives_draw n (publish E).engine)
 
 -- ---- steps that leave the replica
 
 all_still : (c : ℕ) (bad : Option Refusal) (n : ℕ) (E : Engine) (ss : List Stamped) → (submit_all c bad n E ss).engine.replica ≡ E.replica
 all_still c bad n E [] = refl
-all_still c bad n E (x ∷ ss) = at_refusal (all_still c bad (suc n) (push E c (OfPeer x)).engine ss ∙ (push_keeps E c (OfPeer x)).replica) (refusal_in (push E c (OfPeer x)).reply)
+all_still c bad n E (x ∷ ss) = at_refusal (all_still c bad (suc n) (push E c (OfPeer x)).engine ss ∙ (push_keeps E c (OfPeer x)).replica)
+    (refusal_in (push E c (OfPeer x)).reply)
   where
     at_refusal : (submit_all c bad (suc n) (push E c (OfPeer x)).engine ss).engine.replica ≡ E.replica → (o : Option Refusal)
         → (unless_refused E n o (submit_all c bad (suc n) (push E c (OfPeer x)).engine ss)).engine.replica ≡ E.replica
@@ -133,24 +145,29 @@ answer_still E t k (Some (Hello v)) = at_test (names_members E v) refl
 -- ---- each step
 
 -- where the replica stays, what waits does
-pub waits_still : (E G : Engine) → G.replica ≡ E.replica → (s : Stamped) → IsAmong s G.replica.waiting → IsAmong s E.replica.waiting ⊎ IsQueued s E
+pub waits_still : (E G : Engine) → G.replica ≡ E.replica → (s : Stamped) → IsAmong s G.replica.waiting
+    → IsAmong s E.replica.waiting ⊎ IsQueued s E
 waits_still E G same s m = inl (subst (λ (r : Replica). IsAmong s r.waiting) same m)
 
-pub step_waits : (ms : List Message) (w : WorldAct) (E : Engine) → IsSound E → (s : Stamped) → IsAmong s (engine_step ms w E).engine.replica.waiting → IsAmong s E.replica.waiting ⊎ IsQueued s E
+pub step_waits : (ms : List Message) (w : WorldAct) (E : Engine) → IsSound E → (s : Stamped)
+    → IsAmong s (engine_step ms w E).engine.replica.waiting → IsAmong s E.replica.waiting ⊎ IsQueued s E
 step_waits ms (Push c command) E h = waits_still E (push E c (OfCommand command)).engine (push_keeps E c (OfCommand command)).replica
 step_waits ms Take E h = (take_draws E h).waits
 step_waits ms Publish E h = waits_still E (publish E).engine (still_published E).0
 step_waits ms Give E h = waits_still E (give E).engine (still_given E).0
-step_waits ms Whole E h = (draws_both E (take_for E.batch E) (whole_step E).engine (takes_draw E.batch E h) (rest_draws (take_for E.batch E) (length (handle_all E).due))).waits
+step_waits ms Whole E h = (draws_both E (take_for E.batch E) (whole_step E).engine (takes_draw E.batch E h)
+    (rest_draws (take_for E.batch E) (length (handle_all E).due))).waits
 step_waits ms (Poll c serial) E h = waits_still E (engine_step ms (Poll c serial) E).engine (still_polled E c serial).0
 step_waits ms (Ask t q) E h = waits_still E (engine_step ms (Ask t q) E).engine (still_seen E t E.published).0
 step_waits ms (Learn t c serial) E h = waits_still E (engine_step ms (Learn t c serial) E).engine (still_learnt E t c serial).0
 step_waits ms (SayHello t) E h = waits_still E (engine_step ms (SayHello t) E).engine (still_seen E t E.published).0
-step_waits ms (AnswerHello t k) E h = waits_still E (engine_step ms (AnswerHello t k) E).engine (answer_still E t (length ms) (slice_get ms k))
+step_waits ms (AnswerHello t k) E h = waits_still E (engine_step ms (AnswerHello t k) E).engine
+    (answer_still E t (length ms) (slice_get ms k))
 step_waits ms (Deliver c k) E h = waits_still E (engine_step ms (Deliver c k) E).engine (message_still E c (slice_get ms k))
 step_waits ms (Lines c ss bad) E h = waits_still E (engine_step ms (Lines c ss bad) E).engine (receive_still E c ss bad)
 step_waits ms CountDropped E h = waits_still E E refl
 
 -- what a client submits leaves what waits
-pub submits_wait : (c : ℕ) (bad : Option Refusal) (n : ℕ) (E : Engine) (ss : List Stamped) (s : Stamped) → IsAmong s (submit_all c bad n E ss).engine.replica.waiting → IsAmong s E.replica.waiting ⊎ IsQueued s E
+pub submits_wait : (c : ℕ) (bad : Option Refusal) (n : ℕ) (E : Engine) (ss : List Stamped) (s : Stamped)
+    → IsAmong s (submit_all c bad n E ss).engine.replica.waiting → IsAmong s E.replica.waiting ⊎ IsQueued s E
 submits_wait c bad n E ss = waits_still E (submit_all c bad n E ss).engine (all_still c bad n E ss)

@@ -1,5 +1,6 @@
 -- No step changes who the members are.
-use Rattle.std.proofs.Common.{◌≡◌, ℕ, zero, suc, Bool, true, false, ◌||◌, not, nat_le, nat_lt, List, [], ◌∷◌, length, Option, Some, None, Result, Ok, Err, refl, ap, ◌∙◌, slice_get}
+use Rattle.std.proofs.Common.{◌≡◌, ℕ, zero, suc, Bool, true, false, ◌||◌, not, nat_le, nat_lt, List, [], ◌∷◌, length, Option, Some, None}
+use Rattle.std.proofs.Common.{Result, Ok, Err, refl, ap, ◌∙◌, slice_get}
 use Rattle.ids.specs.declared.refusal.Refusal.{Refusal}
 use Rattle.semantics.specs.Operations.{Operation}
 use Rattle.semantics.specs.Stamped.{Stamped}
@@ -9,10 +10,13 @@ use Rattle.semantics.specs.LegalAnswer.{Request, OfCommand, OfPeer, Submitted}
 use Rattle.semantics.specs.Replica.{Replica, IsRunning, operations}
 use Rattle.semantics.specs.Engine as engine
 use Rattle.semantics.specs.Engine.{Engine, Client, Cell, Given, Message, Hello, Bundle}
-use Rattle.semantics.specs.WriteSteps.{push, after_made, after_request, after_item, take_oldest, take_item, take_for, publish, give_oldest, give, give_for, handle_all}
+use Rattle.semantics.specs.WriteSteps.{push, after_made, after_request, after_item, take_oldest, take_item, take_for, publish, give_oldest}
+use Rattle.semantics.specs.WriteSteps.{give, give_for, handle_all}
 use Rattle.semantics.specs.ReadSteps.{cell_at, poll, poll_cell, see, learn}
-use Rattle.semantics.specs.PeerSteps.{names_members, answer_hello, refusal_in, unless_refused, submit_all, receive_lines, before_stranger, stranger_fault, receive_message}
-use Rattle.semantics.specs.World.{WorldAct, Push, Take, Publish, Give, Whole, Poll, Ask, Learn, SayHello, AnswerHello, Deliver, Lines, CountDropped, engine_step}
+use Rattle.semantics.specs.PeerSteps.{names_members, answer_hello, refusal_in, unless_refused, submit_all, receive_lines, before_stranger}
+use Rattle.semantics.specs.PeerSteps.{stranger_fault, receive_message}
+use Rattle.semantics.specs.World.{WorldAct, Push, Take, Publish, Give, Whole, Poll, Ask, Learn, SayHello, AnswerHello, Deliver, Lines}
+use Rattle.semantics.specs.World.{CountDropped, engine_step}
 use Rattle.semantics.proofs.ReceivedItems.{received}
 use Rattle.semantics.proofs.SoundEngines.{IsSound}
 use Rattle.semantics.proofs.SoundTaking.{took}
@@ -42,7 +46,8 @@ item_keeps r x h = at_floor (nat_lt (length r.entries) x.floor) refl
 take_keeps : (E : Engine) → IsSound E → HasMembers E (take_item E).engine
 take_keeps E s = at_queue E.queue
   where
-    at_test : (x : Submitted) (queue : List Submitted) (b : Bool) → (is_any E.due || nat_le E.batch (length E.handled)) ≡ b → HasMembers E (take_oldest E (x ∷ queue)).engine
+    at_test : (x : Submitted) (queue : List Submitted) (b : Bool) → (is_any E.due || nat_le E.batch (length E.handled)) ≡ b
+        → HasMembers E (take_oldest E (x ∷ queue)).engine
     at_test x queue true e = rw e refl
     at_test x queue false e = rw e (item_keeps E.replica x s.running)
 
@@ -99,11 +104,13 @@ poll_keeps E c serial = at_client (slice_get E.clients c) refl
 learn_keeps : (E : Engine) (t c serial : ℕ) → HasMembers E (learn E t c serial).engine
 learn_keeps E t c serial = at_client (slice_get E.clients c) refl
   where
-    at_answer : (k : Client) → slice_get E.clients c ≡ Some k → (cell : Cell) → cell_at k.cells serial ≡ Some cell → (o : Option Given) → cell.answer ≡ o → HasMembers E (learn E t c serial).engine
+    at_answer : (k : Client) → slice_get E.clients c ≡ Some k → (cell : Cell) → cell_at k.cells serial ≡ Some cell → (o : Option Given)
+        → cell.answer ≡ o → HasMembers E (learn E t c serial).engine
     at_answer k e cell f None q = rw (e, f, q) refl
     at_answer k e cell f (Some g) q = rw (e, f, q) (see_keeps E t _)
 
-    at_cell : (k : Client) → slice_get E.clients c ≡ Some k → (o : Option Cell) → cell_at k.cells serial ≡ o → HasMembers E (learn E t c serial).engine
+    at_cell : (k : Client) → slice_get E.clients c ≡ Some k → (o : Option Cell) → cell_at k.cells serial ≡ o
+        → HasMembers E (learn E t c serial).engine
     at_cell k e None f = rw (e, f) refl
     at_cell k e (Some cell) f = at_answer k e cell f cell.answer refl
 
@@ -124,9 +131,12 @@ answer_keeps E t k (Some (Hello v)) = at_test (names_members E v) refl
 
 all_keep : (c : ℕ) (bad : Option Refusal) (n : ℕ) (E : Engine) (ss : List Stamped) → HasMembers E (submit_all c bad n E ss).engine
 all_keep c bad n E [] = refl
-all_keep c bad n E (x ∷ ss) = at_refusal (all_keep c bad (suc n) (push E c (OfPeer x)).engine ss ∙ ap (λ (r : Replica). r.members) (push_keeps E c (OfPeer x)).replica) (refusal_in (push E c (OfPeer x)).reply)
+all_keep c bad n E (x ∷ ss) = at_refusal
+    (all_keep c bad (suc n) (push E c (OfPeer x)).engine ss ∙ ap (λ (r : Replica). r.members) (push_keeps E c (OfPeer x)).replica)
+    (refusal_in (push E c (OfPeer x)).reply)
   where
-    at_refusal : HasMembers E (submit_all c bad (suc n) (push E c (OfPeer x)).engine ss).engine → (o : Option Refusal) → HasMembers E (unless_refused E n o (submit_all c bad (suc n) (push E c (OfPeer x)).engine ss)).engine
+    at_refusal : HasMembers E (submit_all c bad (suc n) (push E c (OfPeer x)).engine ss).engine → (o : Option Refusal)
+        → HasMembers E (unless_refused E n o (submit_all c bad (suc n) (push E c (OfPeer x)).engine ss)).engine
     at_refusal rest None = rest
     at_refusal rest (Some why) = refl
 
@@ -147,7 +157,8 @@ members_stay ms (Push c command) E s = ap (λ (r : Replica). r.members) (push_ke
 members_stay ms Take E s = take_keeps E s
 members_stay ms Publish E s = publish_keeps E
 members_stay ms Give E s = give_keeps E
-members_stay ms Whole E s = gives_keep (length (handle_all E).due) (handle_all E) ∙ publish_keeps (take_for E.batch E) ∙ takes_keep E.batch E s
+members_stay ms Whole E s = gives_keep (length (handle_all E).due) (handle_all E) ∙ publish_keeps (take_for E.batch E)
+    ∙ takes_keep E.batch E s
 members_stay ms (Poll c serial) E s = poll_keeps E c serial
 members_stay ms (Ask t q) E s = see_keeps E t E.published
 members_stay ms (Learn t c serial) E s = learn_keeps E t c serial

@@ -8,7 +8,6 @@ pub mod AnsweredHellos
 pub mod KeptMembers
 pub mod TurnedWorlds
 pub mod BesideVectors
-pub mod StrangeOps
 pub mod BeforeStrangers
 pub mod ReachedWorlds
 pub mod DrawnWaiting

@@ -21,7 +21,8 @@ use Rattle.document.specs.Documents.{Kept, MayFollowEntries}
 use Rattle.world.specs.Publishers.{IsPublisher, PublishesMore, appended_of}
 
 -- what is pending first is the next to be published
-pub oldest_next : (table : List ℕ) (e : Entry) (left : List Entry) (G : List TheEntry) → history table (e ∷ left) ++ G ≡ history table left ++ entry_of table e ∷ G
+pub oldest_next : (table : List ℕ) (e : Entry) (left : List Entry) (G : List TheEntry)
+    → history table (e ∷ left) ++ G ≡ history table left ++ entry_of table e ∷ G
 oldest_next table e left G =
     ap (λ (F : List TheEntry). F ++ G) (reverse-append (entry_of table e ∷ []) (map (entry_of table) left))
     ∙ append_assoc (history table left) (entry_of table e ∷ []) G
@@ -40,20 +41,24 @@ module _ (d : Kept) (e : Entry) (left : List Entry) (h : IsPublisher d (e ∷ le
   -- it is published
   pub one_published : (k : Kept) → k.table ≡ d.table → k.entries ≡ entry_of d.table e ∷ d.entries → PublishesMore d (e ∷ left) k left
   one_published k table entries =
-      let appended : appended_of k left ≡ history d.table left ++ entry_of d.table e ∷ d.entries = λ i. history (table i) left ++ entries i in
+      let appended : appended_of k left
+      ≡ history d.table left ++ entry_of d.table e ∷ d.entries = λ i. history (table i) left ++ entries i in
       record {
         table = table;
         appended = appended ∙ sym (oldest_next d.table e left d.entries);
         more = (entry_of d.table e ∷ [], entries);
         publisher = record {
           legal = subst (λ (G : List TheEntry). IsLegalStamped (stamped_entries G)) (sym appended) longer_legal;
-          members = subst (λ (ps : List ℕ). All (λ (f : Entry). IsTrue (is_member ps (op_in f).id.replica)) left) (sym table) (All-tail (λ (f : Entry). IsTrue (is_member d.table (op_in f).id.replica)) e left h.members);
-          wide = subst (λ (ps : List ℕ). All (λ (f : Entry). length (op_in f).deps ≡ length ps) left) (sym table) (All-tail (λ (f : Entry). length (op_in f).deps ≡ length d.table) e left h.wide);
+          members = subst (λ (ps : List ℕ). All (λ (f : Entry). IsTrue (is_member ps (op_in f).id.replica)) left) (sym table)
+              (All-tail (λ (f : Entry). IsTrue (is_member d.table (op_in f).id.replica)) e left h.members);
+          wide = subst (λ (ps : List ℕ). All (λ (f : Entry). length (op_in f).deps ≡ length ps) left) (sym table)
+              (All-tail (λ (f : Entry). length (op_in f).deps ≡ length d.table) e left h.wide);
         };
       }
 
 -- nothing is published
-pub none_published : (d k : Kept) (pending left : List Entry) → IsPublisher d pending → k.table ≡ d.table → k.entries ≡ d.entries → left ≡ pending → PublishesMore d pending k left
+pub none_published : (d k : Kept) (pending left : List Entry) → IsPublisher d pending → k.table ≡ d.table → k.entries ≡ d.entries
+    → left ≡ pending → PublishesMore d pending k left
 none_published d k pending left h table entries same =
     let appended : appended_of k left ≡ appended_of d pending = λ i. history (table i) (same i) ++ entries i in
     record {
@@ -62,12 +67,15 @@ none_published d k pending left h table entries same =
       more = ([], entries);
       publisher = record {
         legal = subst (λ (G : List TheEntry). IsLegalStamped (stamped_entries G)) (sym appended) h.legal;
-        members = subst (λ (ps : List ℕ). All (λ (f : Entry). IsTrue (is_member ps (op_in f).id.replica)) left) (sym table) (subst (All (λ (f : Entry). IsTrue (is_member d.table (op_in f).id.replica))) (sym same) h.members);
-        wide = subst (λ (ps : List ℕ). All (λ (f : Entry). length (op_in f).deps ≡ length ps) left) (sym table) (subst (All (λ (f : Entry). length (op_in f).deps ≡ length d.table)) (sym same) h.wide);
+        members = subst (λ (ps : List ℕ). All (λ (f : Entry). IsTrue (is_member ps (op_in f).id.replica)) left) (sym table)
+            (subst (All (λ (f : Entry). IsTrue (is_member d.table (op_in f).id.replica))) (sym same) h.members);
+        wide = subst (λ (ps : List ℕ). All (λ (f : Entry). length (op_in f).deps ≡ length ps) left) (sym table)
+            (subst (All (λ (f : Entry). length (op_in f).deps ≡ length d.table)) (sym same) h.wide);
       };
     }
 
-pub published_on : (d k m : Kept) (pending left last : List Entry) → PublishesMore d pending k left → PublishesMore k left m last → PublishesMore d pending m last
+pub published_on : (d k m : Kept) (pending left last : List Entry) → PublishesMore d pending k left → PublishesMore k left m last
+    → PublishesMore d pending m last
 published_on d k m pending left last f g = record {
   table = g.table ∙ f.table;
   appended = g.appended ∙ f.appended;
@@ -76,20 +84,26 @@ published_on d k m pending left last f g = record {
 }
 
 -- one more entry is appended
-pub one_appended : (own : ℕ) (d : Kept) (pending : List Entry) (e : Entry) → IsPublisher d pending → IsEntryHistory own (entry_of d.table e ∷ appended_of d pending) → IsTrue (is_member d.table (op_in e).id.replica)
-    → length (op_in e).deps ≡ length d.table → (appended_of d (pending ++ e ∷ []) ≡ entry_of d.table e ∷ appended_of d pending) × IsPublisher d (pending ++ e ∷ [])
+pub one_appended : (own : ℕ) (d : Kept) (pending : List Entry) (e : Entry) → IsPublisher d pending
+    → IsEntryHistory own (entry_of d.table e ∷ appended_of d pending) → IsTrue (is_member d.table (op_in e).id.replica)
+    → length (op_in e).deps ≡ length d.table
+    → (appended_of d (pending ++ e ∷ []) ≡ entry_of d.table e ∷ appended_of d pending) × IsPublisher d (pending ++ e ∷ [])
 one_appended own d pending e h lawful member width =
-    let appended : appended_of d (pending ++ e ∷ []) ≡ entry_of d.table e ∷ appended_of d pending = ap (λ (G : List TheEntry). G ++ d.entries) (history-more d.table pending e) in (
+    let appended : appended_of d (pending ++ e ∷ [])
+    ≡ entry_of d.table e ∷ appended_of d pending = ap (λ (G : List TheEntry). G ++ d.entries) (history-more d.table pending e) in (
       appended,
       record {
-        legal = subst (λ (G : List TheEntry). IsLegalStamped (stamped_entries G)) (sym appended) (entries_legal own (entry_of d.table e ∷ appended_of d pending) lawful);
+        legal = subst (λ (G : List TheEntry). IsLegalStamped (stamped_entries G)) (sym appended)
+            (entries_legal own (entry_of d.table e ∷ appended_of d pending) lawful);
         members = All-push (λ (f : Entry). IsTrue (is_member d.table (op_in f).id.replica)) pending e h.members member;
         wide = All-push (λ (f : Entry). length (op_in f).deps ≡ length d.table) pending e h.wide width;
       },
     )
 
-pub added : (own : ℕ) (d : Kept) (pending : List Entry) (e : Entry) → IsPublisher d pending → (z : Publication) → record { own = own; members = d.table; published = d.entries; appended = appended_of d pending } ≡ z
-    → IsEntryHistory z.own (entry_of z.members e ∷ z.appended) → IsTrue (is_member z.members (op_in e).id.replica) → length (op_in e).deps ≡ length z.members
+pub added : (own : ℕ) (d : Kept) (pending : List Entry) (e : Entry) → IsPublisher d pending → (z : Publication)
+    → record { own = own; members = d.table; published = d.entries; appended = appended_of d pending } ≡ z
+    → IsEntryHistory z.own (entry_of z.members e ∷ z.appended) → IsTrue (is_member z.members (op_in e).id.replica)
+    → length (op_in e).deps ≡ length z.members
     → (all : List Entry) → all ≡ pending ++ e ∷ [] → IsPublisher d all
 added own d pending e h z is lawful member width all more =
     subst (IsPublisher d) (sym more) (one_appended own d pending e h
@@ -98,7 +112,8 @@ added own d pending e h z is lawful member width all more =
     (subst (λ (p : Publication). length (op_in e).deps ≡ length p.members) (sym is) width)).1
 
 -- what is published of a history are its first entries
-pub published_first : (p : Publication) (G : List TheEntry) → BeginsWith p.appended p.published → p.appended ≡ G → p.published ≡ first_entries (length p.published) G
+pub published_first : (p : Publication) (G : List TheEntry) → BeginsWith p.appended p.published → p.appended ≡ G
+    → p.published ≡ first_entries (length p.published) G
 published_first p G begins is =
     let n = length p.published in
     sym (all_first p.published)

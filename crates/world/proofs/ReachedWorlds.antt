@@ -16,15 +16,19 @@ pub reached_sound : (E : Engine) → IsReachedEngine E → IsSound E
 reached_sound E (cs, steps, e, h) = sound_engine cs steps e E h
 
 -- the engine after a step of its own
-pub after_step : (W : World) (s : WorldStep) (E : Engine) → slice_get W.engines s.engine ≡ Some E → slice_get (world_step W s).world.engines s.engine ≡ Some (engine_step W.messages s.act E).engine
-after_step W s E there = ap (λ (V : World). slice_get V.engines s.engine) (ap (λ t. t.world) (world_step-there W.engines W.messages s E there)) ∙ get-set_same W.engines s.engine E (engine_step W.messages s.act E).engine there
+pub after_step : (W : World) (s : WorldStep) (E : Engine) → slice_get W.engines s.engine ≡ Some E
+    → slice_get (world_step W s).world.engines s.engine ≡ Some (engine_step W.messages s.act E).engine
+after_step W s E there = ap (λ (V : World). slice_get V.engines s.engine)
+    (ap (λ t. t.world) (world_step-there W.engines W.messages s E there))
+    ∙ get-set_same W.engines s.engine E (engine_step W.messages s.act E).engine there
 
 pub reached_take : (E : Engine) → IsReachedEngine E → IsReachedEngine (take_item E).engine
 reached_take E (cs, steps, e, h) = (
   cs,
   steps ++ step_by e Take ∷ [],
   e,
-  ap (λ (W : World). slice_get W.engines e) (after_more (opened cs) steps (step_by e Take ∷ [])) ∙ after_step (world_after (opened cs) steps) (step_by e Take) E h,
+  ap (λ (W : World). slice_get W.engines e) (after_more (opened cs) steps (step_by e Take ∷ []))
+      ∙ after_step (world_after (opened cs) steps) (step_by e Take) E h,
 )
 
 -- ---- worlds

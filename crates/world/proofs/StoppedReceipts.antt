@@ -18,12 +18,14 @@ pub lines_stopped : (E F : Engine) (c : ℕ) (ss ts : List Stamped) (bad got : O
     → (got ≡ Some NoMemory) ⊎ ((ts ≡ ss) × (got ≡ bad))
     → (F ≡ E) ⊎ ((got ≢ Some NoMemory) × IsBetween E F (receive_lines E c ts got).engine)
     → IsBetween E F (receive_lines E c ss bad).engine
-lines_stopped E F c ss ts bad got sound read (inl same) = subst (λ A. IsBetween E A (receive_lines E c ss bad).engine) (sym same) (not_begun [] (Lines c ss bad) E sound)
+lines_stopped E F c ss ts bad got sound read (inl same) = subst (λ A. IsBetween E A (receive_lines E c ss bad).engine) (sym same)
+    (not_begun [] (Lines c ss bad) E sound)
 lines_stopped E F c ss ts bad got sound (inl memory) (inr part) = absurd (part.0 memory)
 lines_stopped E F c ss ts bad got sound (inr read) (inr part) = between_same (λ i. (receive_lines E c (read.0 i) (read.1 i)).engine) part.1
 
 -- the same of a message
-pub message_stopped : (E F : Engine) (c : ℕ) (m : Option Message) (ss ts : List Stamped) (got : Option Refusal) → IsSound E → m ≡ Some (Bundle ss)
+pub message_stopped : (E F : Engine) (c : ℕ) (m : Option Message) (ss ts : List Stamped) (got : Option Refusal) → IsSound E
+    → m ≡ Some (Bundle ss)
     → (got ≡ Some NoMemory) ⊎ ((ts ≡ before_stranger E.replica.members ss) × (got ≡ stranger_fault E.replica.members ss))
     → (F ≡ E) ⊎ ((got ≢ Some NoMemory) × IsBetween E F (receive_lines E c ts got).engine)
     → IsBetween E F (receive_message E c m).engine

@@ -1,5 +1,6 @@
 -- Where a world stops, each engine is between what it was and what the next step makes of it.
-use Rattle.std.proofs.Common.{◌≡◌, ◌≢◌, ◌⊎◌, inl, inr, ℕ, zero, suc, ◌+◌, ◌≤◌, List, [], ◌∷◌, length, take, Option, Some, None, refl, sym, ap, ◌∙◌, subst, add-one, arith, slice_get, slice_set}
+use Rattle.std.proofs.Common.{◌≡◌, ◌≢◌, ◌⊎◌, inl, inr, ℕ, zero, suc, ◌+◌, ◌≤◌, List, [], ◌∷◌, length, take, Option, Some, None, refl, sym}
+use Rattle.std.proofs.Common.{ap, ◌∙◌, subst, add-one, arith, slice_get, slice_set}
 use Rattle.std.proofs.lemmas.Bool.{cases_eq}
 use Rattle.std.proofs.lemmas.List.{length-set}
 use Rattle.std.proofs.lemmas.Option.{same_Some}
@@ -26,15 +27,18 @@ same_engine : (o : Option Engine) (E F : Engine) → o ≡ Some E → o ≡ Some
 same_engine o E F e f = same_Some E F (sym e ∙ f)
 
 -- an engine of a reached world before a step, and after it
-step_between : (W : World) (s : WorldStep) → IsReached W → (e : ℕ) (E G : Engine) → slice_get W.engines e ≡ Some E → slice_get (world_step W s).world.engines e ≡ Some G → IsBetween E E G
+step_between : (W : World) (s : WorldStep) → IsReached W → (e : ℕ) (E G : Engine) → slice_get W.engines e ≡ Some E
+    → slice_get (world_step W s).world.engines e ≡ Some G → IsBetween E E G
 step_between W s reached e E G at_E at_G = by (cases_eq e s.engine)
   where
     by : (e ≡ s.engine) ⊎ (e ≡ s.engine → ⊥) → IsBetween E E G
     by (inl is) =
         let there : slice_get W.engines s.engine ≡ Some E = ap (slice_get W.engines) (sym is) ∙ at_E in
-        let moved = same_engine (slice_get (world_step W s).world.engines s.engine) (engine_step W.messages s.act E).engine G (after_step W s E there) (ap (slice_get (world_step W s).world.engines) (sym is) ∙ at_G) in
+        let moved = same_engine (slice_get (world_step W s).world.engines s.engine) (engine_step W.messages s.act E).engine G
+        (after_step W s E there) (ap (slice_get (world_step W s).world.engines) (sym is) ∙ at_G) in
         subst (IsBetween E E) moved (not_begun W.messages s.act E (reached_sound E (reached_at W reached s.engine E there)))
-    by (inr other) = subst (IsBetween E E) (same_engine (slice_get W.engines e) E G at_E (sym (other_stays W s e other) ∙ at_G)) (stays_between E)
+    by (inr other) = subst (IsBetween E E) (same_engine (slice_get W.engines e) E G at_E (sym (other_stays W s e other) ∙ at_G))
+        (stays_between E)
 
 step_count : (W : World) (s : WorldStep) → length (world_step W s).world.engines ≡ length W.engines
 step_count W s = at_engine (slice_get W.engines s.engine) refl
@@ -65,21 +69,26 @@ module _ (W : World) (steps : List WorldStep) (n : ℕ) (reached : IsReached W) 
   U_reached = reached_after W U (take n steps) reached refl
 
   between_steps : (e : ℕ) (F : Engine) → slice_get U.engines e ≡ Some F → IsBetweenSteps W steps n e F
-  between_steps e F at_F E G at_E at_G = subst (λ A. IsBetween E A G) (same_engine (slice_get U.engines e) E F at_E at_F) (by (slice_get steps n) refl)
+  between_steps e F at_F E G at_E at_G = subst (λ A. IsBetween E A G) (same_engine (slice_get U.engines e) E F at_E at_F)
+      (by (slice_get steps n) refl)
     where
       one_more : slice_get (world_after W (take (suc n) steps)).engines e ≡ Some G
       one_more = ap (λ k. slice_get (world_after W (take k steps)).engines e) (sym (add-one n)) ∙ at_G
 
       by : (o : Option WorldStep) → slice_get steps n ≡ o → IsBetween E E G
       by None is =
-          let same : slice_get U.engines e ≡ Some G = ap (λ ss. slice_get (world_after W ss).engines e) (sym (all_taken steps n is)) ∙ one_more in
+          let same : slice_get U.engines e ≡ Some G = ap (λ ss. slice_get (world_after W ss).engines e) (sym (all_taken steps n is))
+          ∙ one_more in
           subst (IsBetween E E) (same_engine (slice_get U.engines e) E G at_E same) (stays_between E)
       by (Some s) is =
-          let at : slice_get (world_step U s).world.engines e ≡ Some G = ap (λ (V : World). slice_get V.engines e) (sym (after_next W steps n s is)) ∙ one_more in
+          let at : slice_get (world_step U s).world.engines e
+          ≡ Some G = ap (λ (V : World). slice_get V.engines e) (sym (after_next W steps n s is))
+          ∙ one_more in
           step_between U s U_reached e E G at_E at
 
 -- these were done whole
-pub stops_whole : (W V : World) (steps : List WorldStep) (n : ℕ) → IsReached W → n ≤ length steps → V ≡ world_after W (take n steps) → StopsAfter W steps n V
+pub stops_whole : (W V : World) (steps : List WorldStep) (n : ℕ) → IsReached W → n ≤ length steps → V ≡ world_after W (take n steps)
+    → StopsAfter W steps n V
 stops_whole W V steps n reached l is = record {
   within = l;
   messages = ap (λ (U : World). U.messages) is;
@@ -97,15 +106,18 @@ stops_at_once W steps reached = stops_whole W W steps 0 reached (omega arith) (a
     none (s ∷ steps) = refl
 
 -- and the next one in part
-pub stops_within : (W U V : World) (steps : List WorldStep) (n : ℕ) (s : WorldStep) → IsReached W → slice_get steps n ≡ Some s → n ≤ length steps → U ≡ world_after W (take n steps) → V.messages ≡ U.messages
+pub stops_within : (W U V : World) (steps : List WorldStep) (n : ℕ) (s : WorldStep) → IsReached W → slice_get steps n ≡ Some s
+    → n ≤ length steps → U ≡ world_after W (take n steps) → V.messages ≡ U.messages
     → MovesInPart U.messages s U.engines V.engines → StopsAfter W steps n V
 stops_within W U V steps n s reached at l is messages part = record {
   within = l;
   messages = messages ∙ ap (λ (T : World). T.messages) is;
   others = λ e other. unmoved e (subst (IsAnother e) at other) ∙ ap (λ (T : World). slice_get T.engines e) is;
-  count = ap (length {A = Engine}) part.moved ∙ length-set U.engines s.engine part.part ∙ ap (λ (T : World). length T.engines) is ∙ after_count W (take n steps);
+  count = ap (length {A = Engine}) part.moved ∙ length-set U.engines s.engine part.part ∙ ap (λ (T : World). length T.engines) is
+      ∙ after_count W (take n steps);
   between = λ e F at_F E G at_E at_G.
-      by e F at_F E G (ap (λ (T : World). slice_get T.engines e) is ∙ at_E) (ap (λ (T : World). slice_get (world_step T s).world.engines e) is ∙ next e G at_G) (cases_eq e s.engine);
+      by e F at_F E G (ap (λ (T : World). slice_get T.engines e) is ∙ at_E)
+      (ap (λ (T : World). slice_get (world_step T s).world.engines e) is ∙ next e G at_G) (cases_eq e s.engine);
 }
   where
     unmoved : (e : ℕ) → (e ≡ s.engine → ⊥) → slice_get V.engines e ≡ slice_get U.engines e
@@ -114,18 +126,25 @@ stops_within W U V steps n s reached at l is messages part = record {
     U_reached : IsReached U
     U_reached = reached_after W U (take n steps) reached is
 
-    next : (e : ℕ) (G : Engine) → slice_get (world_after W (take (n + 1) steps)).engines e ≡ Some G → slice_get (world_step (world_after W (take n steps)) s).world.engines e ≡ Some G
-    next e G at_G = ap (λ (T : World). slice_get T.engines e) (sym (after_next W steps n s at)) ∙ ap (λ k. slice_get (world_after W (take k steps)).engines e) (sym (add-one n)) ∙ at_G
+    next : (e : ℕ) (G : Engine) → slice_get (world_after W (take (n + 1) steps)).engines e ≡ Some G
+        → slice_get (world_step (world_after W (take n steps)) s).world.engines e ≡ Some G
+    next e G at_G = ap (λ (T : World). slice_get T.engines e) (sym (after_next W steps n s at))
+        ∙ ap (λ k. slice_get (world_after W (take k steps)).engines e) (sym (add-one n)) ∙ at_G
 
-    by : (e : ℕ) (F : Engine) → slice_get V.engines e ≡ Some F → (E G : Engine) → slice_get U.engines e ≡ Some E → slice_get (world_step U s).world.engines e ≡ Some G
+    by : (e : ℕ) (F : Engine) → slice_get V.engines e ≡ Some F → (E G : Engine) → slice_get U.engines e ≡ Some E
+        → slice_get (world_step U s).world.engines e ≡ Some G
         → (e ≡ s.engine) ⊎ (e ≡ s.engine → ⊥) → IsBetween E F G
     by e F at_F E G at_E at_G (inl same) =
         let A : Engine = part.engine in
         let all : Engine = (engine_step U.messages s.act A).engine in
         let its_E : A ≡ E = same_engine (slice_get U.engines s.engine) A E part.there (ap (slice_get U.engines) (sym same) ∙ at_E) in
-        let set_there : slice_get V.engines s.engine ≡ Some part.part = ap (λ (Es : List Engine). slice_get Es s.engine) part.moved ∙ get-set_same U.engines s.engine A part.part part.there in
-        let its_F : part.part ≡ F = same_engine (slice_get V.engines s.engine) part.part F set_there (ap (slice_get V.engines) (sym same) ∙ at_F) in
-        let its_G : all ≡ G = same_engine (slice_get (world_step U s).world.engines s.engine) all G (after_step U s A part.there) (ap (slice_get (world_step U s).world.engines) (sym same) ∙ at_G) in
+        let set_there : slice_get V.engines s.engine ≡ Some part.part = ap (λ (Es : List Engine). slice_get Es s.engine) part.moved
+        ∙ get-set_same U.engines s.engine A part.part part.there in
+        let its_F : part.part
+        ≡ F = same_engine (slice_get V.engines s.engine) part.part F set_there (ap (slice_get V.engines) (sym same) ∙ at_F) in
+        let its_G : all
+        ≡ G = same_engine (slice_get (world_step U s).world.engines s.engine) all G (after_step U s A part.there)
+        (ap (slice_get (world_step U s).world.engines) (sym same) ∙ at_G) in
         let between = begun U.messages s.act A part.part (reached_sound A (reached_at U U_reached s.engine A part.there)) part.begun in
         subst (λ X. IsBetween X F G) its_E (subst (λ X. IsBetween A X G) its_F (subst (IsBetween A part.part) its_G between))
     by e F at_F E G at_E at_G (inr other) =

@@ -14,7 +14,8 @@ use Rattle.document.specs.Documents.{Kept}
 abbrev pub appended_of : Kept → List Entry → List TheEntry
 appended_of published pending = history published.table pending ++ published.entries
 
--- each pending entry may be published in its turn: what was appended is a legal history, and the operations are of members, with vectors of the table's width
+-- each pending entry may be published in its turn: what was appended is a legal history, and the operations are of members, with
+-- vectors of the table's width
 pub record IsPublisher (published : Kept) (pending : List Entry) : Type 0 where
   pub legal : IsLegalStamped (stamped_entries (appended_of published pending))
   pub members : All (λ e. IsTrue (is_member published.table (op_in e).id.replica)) pending

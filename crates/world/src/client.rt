@@ -46,7 +46,8 @@ impl Client {
     /// seen as the floor.
     pub fn next_item(&self, client: usize, request: Request) -> Item
         requires { vec_len self.now.cells + 1 < 2 ^ 64 }
-        ensures item { (table : List ℕ) → submitted_of table result ≡ next_item client (client_of table self.now) (request_of table request) }
+        ensures item { (table : List ℕ)
+            → submitted_of table result ≡ next_item client (client_of table self.now) (request_of table request) }
         ensures request { result.request ≡ request }
     {
         Item {
@@ -62,7 +63,8 @@ impl Client {
     /// # Errors
     /// `AllocError` if allocation fails. Nothing is kept then.
     pub fn keep(&mut self, item: Item) -> Result<(), AllocError>
-        ensures client { OnOk result ((table : List ℕ) → client_of table self.new ≡ with_cell (client_of table self.old) (submitted_of table item)) }
+        ensures client { OnOk result ((table : List ℕ)
+            → client_of table self.new ≡ with_cell (client_of table self.old) (submitted_of table item)) }
         ensures unchanged { OnErr result ((table : List ℕ) → client_of table self.new ≡ client_of table self.old) }
     {
         self.cells.push(Cell { item, answer: None })?;
@@ -73,9 +75,9 @@ impl Client {
     pub fn answer(&mut self, serial: u64, given: Given)
         ensures { (table : List ℕ) → client_of table self.new ≡ with_answer (client_of table self.old) serial (given_of given) }
     {
-        let place = serial.saturating_sub(1) as usize;
-        if place < self.cells.len() {
-            let cell = &mut self.cells[place];
+        let index = serial.saturating_sub(1) as usize;
+        if index < self.cells.len() {
+            let cell = &mut self.cells[index];
             cell.answer = Some(given);
         }
     }

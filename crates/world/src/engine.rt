@@ -11,6 +11,7 @@ ghost use Rattle.world.specs.Parts.{IsInPart};
 
 mod peers;
 mod reading;
+mod submissions;
 mod writer;
 
 use crate::client::Client;
@@ -36,7 +37,7 @@ pub struct Handled {
 /// An engine. Contracts see the engine of the definitions.
 #[derive(Debug, Drop)]
 pub struct Engine {
-    places: usize,
+    capacity: usize,
     batch: usize,
     serials: u64,
     handler: Handler,
@@ -64,7 +65,18 @@ impl Model for Engine {
 
     ghost coded = { Prim.hlevel (codes, coded_element) };
 
-    ghost view = { λ e. record { places = e.places; batch = e.batch; serials = e.serials; replica = replica_of e.handler.replica; queue = map (submitted_of e.handler.replica.document.table) e.queue.items; handled = map (handled_of e.handler.replica.document.table) e.handled.items; due = map (handled_of e.handler.replica.document.table) e.due.items; published = length e.publisher.published; clients = map (client_of e.handler.replica.document.table) e.clients.items; readers = e.readers.items } };
+    ghost view = { λ e. record {
+      capacity = e.capacity;
+      batch = e.batch;
+      serials = e.serials;
+      replica = replica_of e.handler.replica;
+      queue = map (submitted_of e.handler.replica.document.table) e.queue.items;
+      handled = map (handled_of e.handler.replica.document.table) e.handled.items;
+      due = map (handled_of e.handler.replica.document.table) e.due.items;
+      published = length e.publisher.published;
+      clients = map (client_of e.handler.replica.document.table) e.clients.items;
+      readers = e.readers.items;
+    } };
 
     ghost invariant = { λ e. Holds e.publisher (replica_of e.handler.replica) };
 }
@@ -82,7 +94,7 @@ impl Engine {
         let readers = new_readers(alloc, config.readers as usize)?;
         let (handler, publisher) = new_histories(alloc, config)?;
         Ok(Engine {
-            places: config.queue as usize,
+            capacity: config.queue as usize,
             batch: config.batch as usize,
             serials: u64::from(config.serials),
             handler,
@@ -113,11 +125,16 @@ impl Engine {
     ) -> Result<WorldReply, AllocError>
         requires reached { IsReachedEngine self.old }
         requires beside { AsksBeside self.old.replica.members act.now }
-        ensures engine { OnOk result (self.new ≡ (engine_step (map message_of messages.old.items) (act_of self.old.replica.members act.now) self.old).engine) }
-        ensures reply { IfOk result (λ r. reply_of r ≡ (engine_step (map message_of messages.old.items) (act_of self.old.replica.members act.now) self.old).reply) }
-        ensures sent { OnOk result (map message_of messages.new.items ≡ map message_of messages.old.items ++ sent_by (map message_of messages.old.items) (act_of self.old.replica.members act.now) self.old) }
+        ensures engine { OnOk result (self.new
+            ≡ (engine_step (map message_of messages.old.items) (act_of self.old.replica.members act.now) self.old).engine) }
+        ensures reply { IfOk result
+            (λ r. reply_of r ≡ (engine_step (map message_of messages.old.items) (act_of self.old.replica.members act.now) self.old).reply) }
+        ensures sent { OnOk result (map message_of messages.new.items
+            ≡ map message_of messages.old.items
+            ++ sent_by (map message_of messages.old.items) (act_of self.old.replica.members act.now) self.old) }
         ensures unsent { OnErr result (map message_of messages.new.items ≡ map message_of messages.old.items) }
-        ensures stopped { OnErr result (IsInPart (map message_of messages.old.items) (act_of self.old.replica.members act.now) self.old self.new) }
+        ensures stopped { OnErr result
+            (IsInPart (map message_of messages.old.items) (act_of self.old.replica.members act.now) self.old self.new) }
     {
         match act {
             WorldAct::Push { client, command } => self.push(*client, command),
@@ -146,7 +163,8 @@ impl Engine {
 /// A handler of a new replica, and a publisher of its history. The configuration is within the limits, so that only an allocation can fail.
 fn new_histories(alloc: Global, config: &Config) -> Result<(Handler, Publisher), AllocError>
     requires { is_within_limits config.now ≡ true }
-    ensures new { IfOk result (λ p. (replica_of p.0.replica ≡ (opened_engine config.now).replica) × Holds p.1 (replica_of p.0.replica) × (p.1.published ≡ [])) }
+    ensures new { IfOk result
+        (λ p. (replica_of p.0.replica ≡ (opened_engine config.now).replica) × Holds p.1 (replica_of p.0.replica) × (p.1.published ≡ [])) }
 {
     let Ok(replica) = Replica::new(alloc, config.own, &config.members) else {
         return Err(AllocError);
@@ -171,7 +189,8 @@ fn new_readers(alloc: Global, count: usize) -> Result<Vec<usize>, AllocError>
 
 /// New clients, which have seen and submitted nothing.
 fn new_clients(alloc: Global, count: usize) -> Result<Vec<Client>, AllocError>
-    ensures clients { IfOk result (λ v. (table : List ℕ) → map (client_of table) v.items ≡ replicate count (record { seen = 0; cells = [] })) }
+    ensures clients { IfOk result
+        (λ v. (table : List ℕ) → map (client_of table) v.items ≡ replicate count (record { seen = 0; cells = [] })) }
 {
     let mut clients = Vec::with_capacity(alloc, count)?;
     for _ in 0..count {

@@ -11,7 +11,7 @@ ghost use Rattle.operation.specs.Meanings.{stamped_of};
 
 use crate::message::NamedOps;
 use ids::{Refusal, ReplicaTable};
-use operation::{Op, check_alone};
+use operation::{Op, names_members};
 use std::alloc::Global;
 use version::VersionVector;
 use wire::LinesRead;
@@ -28,8 +28,10 @@ pub fn vector_beside(
 ) -> Result<VersionVector, Refusal>
     requires { length vector.now ≡ length from.now }
     ensures { MatchResult result
-        (λ v. (by_table to.now v ≡ by_table from.now vector.now) × (length v ≡ length to.now) × (list_all (λ a. is_member to.now a.replica) (by_table from.now vector.now) ≡ true))
-        (λ why. (why ≡ NoMemory) ⊎ ((why ≡ UnknownReplica) × (list_all (λ a. is_member to.now a.replica) (by_table from.now vector.now) ≡ false))) }
+        (λ v. (by_table to.now v ≡ by_table from.now vector.now) × (length v ≡ length to.now)
+        × (list_all (λ a. is_member to.now a.replica) (by_table from.now vector.now) ≡ true))
+        (λ why. (why ≡ NoMemory)
+        ⊎ ((why ≡ UnknownReplica) × (list_all (λ a. is_member to.now a.replica) (by_table from.now vector.now) ≡ false))) }
 {
     let mut named = VersionVector::zero(alloc, to.len())?;
     for index in 0..from.len() {
@@ -38,10 +40,10 @@ pub fn vector_beside(
             let Some(replica) = from.at(index) else {
                 unreachable!()
             };
-            let Some(place) = to.index_of(replica) else {
+            let Some(at) = to.index_of(replica) else {
                 return Err(Refusal::UnknownReplica);
             };
-            named.raise(place, counter);
+            named.raise(at, counter);
         }
     }
     Ok(named)
@@ -59,19 +61,19 @@ pub fn op_beside(
 ) -> Result<Op, Refusal>
     requires { length op.now.deps ≡ length from.now }
     ensures { MatchResult result
-        (λ o. (stamped_of to.now o ≡ stamped_of from.now op.now) × (length o.deps ≡ length to.now) × (is_of_members to.now (stamped_of from.now op.now) ≡ true))
+        (λ o. (stamped_of to.now o ≡ stamped_of from.now op.now) × (length o.deps ≡ length to.now)
+        × (is_of_members to.now (stamped_of from.now op.now) ≡ true))
         (λ why. (why ≡ NoMemory) ⊎ ((why ≡ UnknownReplica) × (is_of_members to.now (stamped_of from.now op.now) ≡ false))) }
 {
-    let named = Op {
+    if !names_members(op, to) {
+        return Err(Refusal::UnknownReplica);
+    }
+    Ok(Op {
         id: op.id,
         deps: vector_beside(alloc, from, &op.deps, to)?,
         place: op.place.clone()?,
         mutation: op.mutation.clone()?,
-    };
-    match check_alone(&named, to) {
-        Err(Refusal::UnknownReplica) => Err(Refusal::UnknownReplica),
-        Ok(()) | Err(_) => Ok(named),
-    }
+    })
 }
 
 /// Copies of the operations for another table, up to the first that names a replica which isn't in it. A failed allocation stops it

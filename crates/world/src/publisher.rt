@@ -32,7 +32,12 @@ impl Model for Publisher {
 
     ghost coded = { Prim.hlevel (codes, coded_element) };
 
-    ghost view = { λ p. record { own = p.own; members = p.published.table; published = p.published.entries; appended = appended_of p.published p.pending.items } };
+    ghost view = { λ p. record {
+      own = p.own;
+      members = p.published.table;
+      published = p.published.entries;
+      appended = appended_of p.published p.pending.items;
+    } };
 
     ghost invariant = { λ p. IsPublisher p.published p.pending.items };
 }

@@ -1,6 +1,7 @@
 //! Engines on one thread and the messages between them, as a list of steps moves them.
 
-ghost use Rattle.std.specs.Prelude.{◌≡◌, ◌≢◌, ◌+◌, ℕ, ◌↔◌, ◌⊎◌, OnOk, OnErr, IfOk, IfErr, Err, IsFalse, true, false, min, map, option_map, slice_get, length, List, alloc_error};
+ghost use Rattle.std.specs.Prelude.{◌≡◌, ◌≢◌, ◌+◌, ℕ, ◌↔◌, ◌⊎◌, OnOk, OnErr, IfOk, IfErr, Err, IsFalse, true, false, min, map, option_map};
+ghost use Rattle.std.specs.Prelude.{slice_get, length, List, alloc_error};
 ghost use Rattle.std.specs.List.{All, list_all};
 ghost use Rattle.ids.specs.declared.refusal.Refusal.TheVariants.{NoMemory, BadConfig};
 ghost use Rattle.ids.specs.Configurations.{is_within_limits};
@@ -40,7 +41,12 @@ impl Model for World {
 
     ghost coded = { Prim.hlevel (codes, coded_element) };
 
-    ghost view = { λ w. record { engines = w.engines.items; messages = map message_of w.messages.items; done = w.done; failed = w.failed } };
+    ghost view = { λ w. record {
+      engines = w.engines.items;
+      messages = map message_of w.messages.items;
+      done = w.done;
+      failed = w.failed;
+    } };
 
     ghost invariant = { λ w. w.failed ≡ false → IsReached (world w.engines.items (map message_of w.messages.items)) };
 }
@@ -83,12 +89,16 @@ impl World {
     /// in part, by its engine alone, which is then between what it was and what the whole step makes of it.
     pub fn run(&mut self, alloc: Global, steps: &[WorldStep]) -> Result<Vec<WorldReply>, AllocError>
         requires { All (IsAskedBeside (tables_of self.old.engines)) steps.now }
-        ensures replies { IfOk result (λ rs. map reply_of rs.items ≡ replies_of (world_of self.old) (map (step_in (tables_of self.old.engines)) steps.now)) }
-        ensures world { OnOk result (world_of self.new ≡ world_after (world_of self.old) (map (step_in (tables_of self.old.engines)) steps.now)) }
+        ensures replies { IfOk result
+            (λ rs. map reply_of rs.items ≡ replies_of (world_of self.old) (map (step_in (tables_of self.old.engines)) steps.now)) }
+        ensures world { OnOk result (world_of self.new
+            ≡ world_after (world_of self.old) (map (step_in (tables_of self.old.engines)) steps.now)) }
         ensures done { OnOk result (self.new.done ≡ min (self.old.done + length steps.now) 18446744073709551615) }
         ensures running { OnOk result ((self.old.failed ≡ false) × (self.new.failed ≡ false)) }
         ensures err { OnErr result (self.new.failed ≡ true) }
-        ensures stopped { OnErr result (self.old.failed ≡ false → (n : ℕ) × (self.new.done ≡ min (self.old.done + n) 18446744073709551615) × StopsAfter (world_of self.old) (map (step_in (tables_of self.old.engines)) steps.now) n (world_of self.new)) }
+        ensures stopped { OnErr result (self.old.failed ≡ false
+            → (n : ℕ) × (self.new.done ≡ min (self.old.done + n) 18446744073709551615)
+            × StopsAfter (world_of self.old) (map (step_in (tables_of self.old.engines)) steps.now) n (world_of self.new)) }
         ensures failed { self.old.failed ≡ true → (result ≡ Err alloc_error) × (self.new ≡ self.old) }
     {
         if self.failed {
@@ -151,10 +161,18 @@ fn run_all(
     requires reached { IsReached (world engines.old.items (map message_of messages.old.items)) }
     requires none { whole.old ≡ 0 }
     requires beside { All (IsAskedBeside (tables_of engines.old.items)) steps.now }
-    ensures replies { IfOk result (λ rs. map reply_of rs.items ≡ replies_of (world engines.old.items (map message_of messages.old.items)) (map (step_in (tables_of engines.old.items)) steps.now)) }
-    ensures world { OnOk result (world engines.new.items (map message_of messages.new.items) ≡ world_after (world engines.old.items (map message_of messages.old.items)) (map (step_in (tables_of engines.old.items)) steps.now)) }
+    ensures replies { IfOk result
+        (λ rs. map reply_of rs.items
+        ≡ replies_of (world engines.old.items (map message_of messages.old.items))
+        (map (step_in (tables_of engines.old.items)) steps.now)) }
+    ensures world { OnOk result (world engines.new.items (map message_of messages.new.items)
+        ≡ world_after (world engines.old.items (map message_of messages.old.items))
+        (map (step_in (tables_of engines.old.items)) steps.now)) }
     ensures whole { OnOk result (whole.new ≡ length steps.now) }
-    ensures stopped { OnErr result (StopsAfter (world engines.old.items (map message_of messages.old.items)) (map (step_in (tables_of engines.old.items)) steps.now) whole.new (world engines.new.items (map message_of messages.new.items))) }
+    ensures stopped { OnErr result
+        (StopsAfter (world engines.old.items (map message_of messages.old.items))
+        (map (step_in (tables_of engines.old.items)) steps.now) whole.new
+        (world engines.new.items (map message_of messages.new.items))) }
 {
     let mut replies = Vec::with_capacity(alloc, steps.len())?;
     for step in steps {
@@ -174,11 +192,18 @@ fn turn(
 ) -> Result<WorldReply, AllocError>
     requires reached { IsReached (world engines.old.items (map message_of messages.old.items)) }
     requires beside { IsAskedBeside (tables_of engines.old.items) step.now }
-    ensures world { OnOk result (world engines.new.items (map message_of messages.new.items) ≡ (world_step (world engines.old.items (map message_of messages.old.items)) (step_in (tables_of engines.old.items) step.now)).world) }
-    ensures reply { IfOk result (λ r. reply_of r ≡ (world_step (world engines.old.items (map message_of messages.old.items)) (step_in (tables_of engines.old.items) step.now)).reply) }
+    ensures world { OnOk result (world engines.new.items (map message_of messages.new.items)
+        ≡ (world_step (world engines.old.items (map message_of messages.old.items))
+        (step_in (tables_of engines.old.items) step.now)).world) }
+    ensures reply { IfOk result
+        (λ r. reply_of r
+        ≡ (world_step (world engines.old.items (map message_of messages.old.items))
+        (step_in (tables_of engines.old.items) step.now)).reply) }
     ensures tables { OnOk result (tables_of engines.new.items ≡ tables_of engines.old.items) }
     ensures messages { OnErr result (map message_of messages.new.items ≡ map message_of messages.old.items) }
-    ensures stopped { OnErr result (MovesInPart (map message_of messages.old.items) (step_in (tables_of engines.old.items) step.now) engines.old.items engines.new.items) }
+    ensures stopped { OnErr result
+        (MovesInPart (map message_of messages.old.items)
+        (step_in (tables_of engines.old.items) step.now) engines.old.items engines.new.items) }
 {
     if step.engine >= engines.len() {
         return Ok(WorldReply::Idle);

@@ -100,11 +100,11 @@ fn play_all<R: Wait + Abort>(
 /// The acts of actors who take their turns in this order, and the last ones.
 fn acts_in(alloc: Global, turns: &Turns, order: &[usize]) -> Result<Vec<Act>, Refusal> {
     let mut acts = Vec::new(alloc);
-    for (place, actor) in order.iter().enumerate() {
+    for (index, actor) in order.iter().enumerate() {
         // The actor's turns before this one.
         let turn = order
             .iter()
-            .take(place)
+            .take(index)
             .filter(|other| *other == actor)
             .count();
         if let Some(next) = turns.get(*actor).and_then(|moves| moves.get(turn)) {
@@ -142,8 +142,8 @@ fn submit(client: usize, command: Command) -> Result<Act, Refusal> {
     Ok(Act::Submit { client, command })
 }
 
-fn ask(alloc: Global, token: usize, kind: Kind, places: &[u64]) -> Result<Act, Refusal> {
-    let place = at(alloc, places)?;
+fn ask(alloc: Global, token: usize, kind: Kind, indices: &[u64]) -> Result<Act, Refusal> {
+    let place = at(alloc, indices)?;
     Ok(Act::Ask {
         token,
         probe: Probe { kind, place },
@@ -151,11 +151,11 @@ fn ask(alloc: Global, token: usize, kind: Kind, places: &[u64]) -> Result<Act, R
 }
 
 /// The expression of the list, or of an index in it.
-fn at(alloc: Global, places: &[u64]) -> Result<Expr, Refusal> {
+fn at(alloc: Global, indices: &[u64]) -> Result<Expr, Refusal> {
     let list = Hop::Get(Key::new(alloc, "l")?);
     let mut steps = vec![in alloc; list]?;
-    for place in places {
-        steps.push(Hop::Idx(*place))?;
+    for index in indices {
+        steps.push(Hop::Idx(*index))?;
     }
     Ok(Expr::new(steps))
 }

@@ -3,11 +3,11 @@
 /// Turns an order into the next one in lexicographic order. Each number occurs in it as often as before. False at the last order, which
 /// stays.
 pub fn next_order(order: &mut [usize]) -> bool {
-    let Some(place) = last_rise(order) else {
+    let Some(index) = last_rise(order) else {
         return false;
     };
-    swap_with_next_greater(order, place);
-    if let Some(rest) = order.get_mut(place.saturating_add(1)..) {
+    swap_with_next_greater(order, index);
+    if let Some(rest) = order.get_mut(index.saturating_add(1)..) {
         rest.reverse();
     }
     true
@@ -16,23 +16,23 @@ pub fn next_order(order: &mut [usize]) -> bool {
 /// The last index whose number is below the next one.
 fn last_rise(order: &[usize]) -> Option<usize> {
     let mut found = None;
-    for (place, pair) in order.windows(2).enumerate() {
+    for (index, pair) in order.windows(2).enumerate() {
         if pair.first() < pair.last() {
-            found = Some(place);
+            found = Some(index);
         }
     }
     found
 }
 
 /// Swaps the number at an index with the last one behind it that is greater.
-fn swap_with_next_greater(order: &mut [usize], place: usize) {
-    let mut with = place;
-    for other in place..order.len() {
-        if order.get(other) > order.get(place) {
+fn swap_with_next_greater(order: &mut [usize], index: usize) {
+    let mut with = index;
+    for other in index..order.len() {
+        if order.get(other) > order.get(index) {
             with = other;
         }
     }
-    if place < order.len() && with < order.len() {
-        order.swap(place, with);
+    if index < order.len() && with < order.len() {
+        order.swap(index, with);
     }
 }

@@ -1,84 +1,32 @@
-//! What clients of an engine submit and receive, and what its tokens send to other engines.
+//! What an engine receives from other engines, and what its tokens send to them.
 
-ghost use Rattle.std.specs.Prelude.{◌≡◌, ◌≢◌, ◌⊎◌, ◌++◌, ◌∷◌, [], ◌+◌, ◌<◌, ◌≤◌, ◌^◌, ◌==◌, cond, true, false, ℕ, List, OnOk, OnErr, IfOk, IfNone, IfSome, MatchResult, Option, Some, map, length, slice_get};
+ghost use Rattle.std.specs.Prelude.{◌≡◌, ◌≢◌, ◌⊎◌, ◌++◌, ◌∷◌, [], ◌+◌, ◌<◌, ◌≤◌, ◌^◌, ◌==◌, cond, true, false, OnOk, OnErr, IfOk, IfNone};
+ghost use Rattle.std.specs.Prelude.{IfSome, MatchResult, Option, Some, map, length, slice_get};
 ghost use Rattle.std.specs.List.{All};
 ghost use Rattle.ids.specs.declared.refusal.Refusal.TheVariants.{NoMemory, UnknownReplica};
 ghost use Rattle.ids.specs.declared.refusal.Refusal.{Refusal as TheRefusal};
 ghost use Rattle.semantics.specs.Tables.{by_table};
-ghost use Rattle.semantics.specs.LegalAnswer.{OfCommand};
-ghost use Rattle.semantics.specs.Engine.{Client as TheClient, Hello as HelloOf};
-ghost use Rattle.semantics.specs.WriteSteps.{push, with_cell};
-ghost use Rattle.semantics.specs.PeerSteps.{answer_hello, answer_sent, lacked, names_members, published_vector, receive_lines, receive_message, say_hello, submit_all};
-ghost use Rattle.operation.specs.Meanings.{command_of, stamped_of};
+ghost use Rattle.semantics.specs.Engine.{Hello as HelloOf};
+ghost use Rattle.semantics.specs.WriteSteps.{push};
+ghost use Rattle.semantics.specs.PeerSteps.{answer_hello, answer_sent, lacked, names_members, published_vector, receive_lines};
+ghost use Rattle.semantics.specs.PeerSteps.{receive_message, say_hello, submit_all};
+ghost use Rattle.operation.specs.Meanings.{stamped_of};
 ghost use Rattle.wire.specs.Bundles.{readable};
-ghost use Rattle.items.specs.Meanings.{request_of, submitted_of};
-ghost use Rattle.world.specs.Engines.{IsNoHello, IsReachedEngine, client_of, first_of, message_of, stop_after, taken_or_denied};
+ghost use Rattle.world.specs.Engines.{IsNoHello, IsReachedEngine, first_of, message_of, stop_after};
 ghost use Rattle.world.specs.Parts.{IsBetween};
 ghost use Rattle.world.specs.Meanings.{reply_of};
 
-use crate::client::Client;
 use crate::engine::Engine;
 use crate::message::{Message, NamedOps, NamedVector};
 use crate::naming::{ops_beside, vector_beside};
 use crate::step::WorldReply;
 use ids::Refusal;
-use items::{Item, Request};
-use operation::{Command, Op};
+use items::Request;
+use operation::Op;
 use std::alloc::{AllocError, Global};
-use std::collections::VecDeque;
 use wire::{LinesRead, read_lines};
 
 impl Engine {
-    /// A client submits a command. Copies it for the client and for the queue.
-    ///
-    /// # Errors
-    /// `AllocError` if allocation fails.
-    pub fn push(&mut self, client: usize, command: &Command) -> Result<WorldReply, AllocError>
-        ensures engine { OnOk result (self.new ≡ (push self.old client (OfCommand (command_of command.now))).engine) }
-        ensures reply { IfOk result (λ r. reply_of r ≡ (push self.old client (OfCommand (command_of command.now))).reply) }
-        ensures unchanged { OnErr result (self.new ≡ self.old) }
-    {
-        if client >= self.clients.len() {
-            return Ok(WorldReply::Idle);
-        }
-        let serial = self.next_serial(client);
-        match self.submit(client, Request::Command(command.clone()?))? {
-            Some(why) => Ok(WorldReply::Denied(why)),
-            None => Ok(WorldReply::Ticket(serial)),
-        }
-    }
-
-    /// The serial under which a client submits next.
-    fn next_serial(&self, client: usize) -> u64
-        requires { client < length self.now.clients }
-        ensures { (k : TheClient) → slice_get self.now.clients client ≡ Some k → result ≡ length k.cells + 1 }
-    {
-        self.clients[client].cells.len() as u64 + 1
-    }
-
-    /// A client that is there submits a request. Returns why that was refused, or `None` if it was taken.
-    ///
-    /// # Errors
-    /// `AllocError` if allocation fails.
-    fn submit(&mut self, client: usize, request: Request) -> Result<Option<Refusal>, AllocError>
-        requires there { client < length self.old.clients }
-        ensures engine { OnOk result (self.new ≡ (push self.old client (request_of self.old.replica.members request)).engine) }
-        ensures reply { IfOk result (λ w. (k : TheClient) → slice_get self.old.clients client ≡ Some k → (push self.old client (request_of self.old.replica.members request)).reply ≡ taken_or_denied (length k.cells + 1) w) }
-        ensures unchanged { OnErr result (self.new ≡ self.old) }
-    {
-        let k = &self.clients[client];
-        if k.cells.len() as u64 >= self.serials {
-            return Ok(Some(Refusal::SerialEnd));
-        }
-        if self.queue.len() >= self.places {
-            return Ok(Some(Refusal::QueueFull));
-        }
-        let item = k.next_item(client, request);
-        let k = &mut self.clients[client];
-        enqueue(&mut self.queue, k, item)?;
-        Ok(None)
-    }
-
     /// A token sends a hello.
     ///
     /// # Errors
@@ -90,7 +38,8 @@ impl Engine {
     ) -> Result<WorldReply, AllocError>
         ensures engine { OnOk result (self.new ≡ (say_hello self.old token (length messages.old.items)).engine) }
         ensures reply { IfOk result (λ r. reply_of r ≡ (say_hello self.old token (length messages.old.items)).reply) }
-        ensures sent { OnOk result (map message_of messages.new.items ≡ map message_of messages.old.items ++ HelloOf (published_vector self.old) ∷ []) }
+        ensures sent { OnOk result (map message_of messages.new.items
+            ≡ map message_of messages.old.items ++ HelloOf (published_vector self.old) ∷ []) }
         ensures unsent { OnErr result (map message_of messages.new.items ≡ map message_of messages.old.items) }
         ensures unchanged { OnErr result (self.new ≡ self.old) }
     {
@@ -120,9 +69,13 @@ impl Engine {
         token: usize,
         message: usize,
     ) -> Result<WorldReply, AllocError>
-        ensures engine { OnOk result (self.new ≡ (answer_hello self.old token (length messages.old.items) (slice_get (map message_of messages.old.items) message)).engine) }
-        ensures reply { IfOk result (λ r. reply_of r ≡ (answer_hello self.old token (length messages.old.items) (slice_get (map message_of messages.old.items) message)).reply) }
-        ensures sent { OnOk result (map message_of messages.new.items ≡ map message_of messages.old.items ++ answer_sent self.old (slice_get (map message_of messages.old.items) message)) }
+        ensures engine { OnOk result (self.new
+            ≡ (answer_hello self.old token (length messages.old.items) (slice_get (map message_of messages.old.items) message)).engine) }
+        ensures reply { IfOk result
+            (λ r. reply_of r
+            ≡ (answer_hello self.old token (length messages.old.items) (slice_get (map message_of messages.old.items) message)).reply) }
+        ensures sent { OnOk result (map message_of messages.new.items
+            ≡ map message_of messages.old.items ++ answer_sent self.old (slice_get (map message_of messages.old.items) message)) }
         ensures unsent { OnErr result (map message_of messages.new.items ≡ map message_of messages.old.items) }
         ensures unchanged { OnErr result (self.new ≡ self.old) }
     {
@@ -152,8 +105,10 @@ impl Engine {
     /// `UnknownReplica` if it names a replica that isn't a member, `NoMemory` if allocation fails.
     fn lacked(&self, alloc: Global, hello: &NamedVector) -> Result<NamedOps, Refusal>
         ensures { MatchResult result
-            (λ b. (map (stamped_of b.table) b.ops.items ≡ lacked self.now (by_table hello.now.table hello.now.vector)) × (names_members self.now (by_table hello.now.table hello.now.vector) ≡ true))
-            (λ why. (why ≡ NoMemory) ⊎ ((why ≡ UnknownReplica) × (names_members self.now (by_table hello.now.table hello.now.vector) ≡ false))) }
+            (λ b. (map (stamped_of b.table) b.ops.items ≡ lacked self.now (by_table hello.now.table hello.now.vector))
+            × (names_members self.now (by_table hello.now.table hello.now.vector) ≡ true))
+            (λ why. (why ≡ NoMemory)
+            ⊎ ((why ≡ UnknownReplica) × (names_members self.now (by_table hello.now.table hello.now.vector) ≡ false))) }
     {
         let table = self.shown().table().clone()?;
         let vector = vector_beside(alloc, &hello.table, &hello.vector, &table)?;
@@ -173,9 +128,12 @@ impl Engine {
         message: usize,
     ) -> Result<WorldReply, AllocError>
         requires reached { IsReachedEngine self.old }
-        ensures engine { OnOk result (self.new ≡ (receive_message self.old client (slice_get (map message_of messages.now) message)).engine) }
-        ensures reply { IfOk result (λ r. reply_of r ≡ (receive_message self.old client (slice_get (map message_of messages.now) message)).reply) }
-        ensures stopped { OnErr result (IsBetween self.old self.new (receive_message self.old client (slice_get (map message_of messages.now) message)).engine) }
+        ensures engine { OnOk result (self.new
+            ≡ (receive_message self.old client (slice_get (map message_of messages.now) message)).engine) }
+        ensures reply { IfOk result
+            (λ r. reply_of r ≡ (receive_message self.old client (slice_get (map message_of messages.now) message)).reply) }
+        ensures stopped { OnErr result
+            (IsBetween self.old self.new (receive_message self.old client (slice_get (map message_of messages.now) message)).engine) }
     {
         let Some(Message::Bundle(bundle)) = messages.get(message) else {
             return Ok(WorldReply::NoMessage);
@@ -195,9 +153,17 @@ impl Engine {
         text: &[u8],
     ) -> Result<WorldReply, AllocError>
         requires reached { IsReachedEngine self.old }
-        ensures engine { OnOk result (self.new ≡ (receive_lines self.old client (readable self.old.replica.members text.now).operations (readable self.old.replica.members text.now).stopped).engine) }
-        ensures reply { IfOk result (λ r. reply_of r ≡ (receive_lines self.old client (readable self.old.replica.members text.now).operations (readable self.old.replica.members text.now).stopped).reply) }
-        ensures stopped { OnErr result (IsBetween self.old self.new (receive_lines self.old client (readable self.old.replica.members text.now).operations (readable self.old.replica.members text.now).stopped).engine) }
+        ensures engine { OnOk result (self.new
+            ≡ (receive_lines self.old client (readable self.old.replica.members text.now).operations
+            (readable self.old.replica.members text.now).stopped).engine) }
+        ensures reply { IfOk result
+            (λ r. reply_of r
+            ≡ (receive_lines self.old client (readable self.old.replica.members text.now).operations
+            (readable self.old.replica.members text.now).stopped).reply) }
+        ensures stopped { OnErr result
+            (IsBetween self.old self.new
+            (receive_lines self.old client (readable self.old.replica.members text.now).operations
+            (readable self.old.replica.members text.now).stopped).engine) }
     {
         let read = read_lines(alloc, text, self.shown().table());
         self.receive(client, read)
@@ -210,11 +176,16 @@ impl Engine {
     fn receive(&mut self, client: usize, read: LinesRead) -> Result<WorldReply, AllocError>
         requires reached { IsReachedEngine self.old }
         requires wide { All (λ o. length o.deps ≡ length self.old.replica.members) read.ops.items }
-        ensures engine { OnOk result (self.new ≡ (receive_lines self.old client (map (stamped_of self.old.replica.members) read.ops.items) read.stopped).engine) }
-        ensures reply { IfOk result (λ r. reply_of r ≡ (receive_lines self.old client (map (stamped_of self.old.replica.members) read.ops.items) read.stopped).reply) }
+        ensures engine { OnOk result (self.new
+            ≡ (receive_lines self.old client (map (stamped_of self.old.replica.members) read.ops.items) read.stopped).engine) }
+        ensures reply { IfOk result
+            (λ r. reply_of r
+            ≡ (receive_lines self.old client (map (stamped_of self.old.replica.members) read.ops.items) read.stopped).reply) }
         ensures read { OnOk result (read.stopped ≢ Some NoMemory) }
         ensures stopped { OnErr result ((self.new ≡ self.old)
-            ⊎ ((read.stopped ≢ Some NoMemory) × IsBetween self.old self.new (receive_lines self.old client (map (stamped_of self.old.replica.members) read.ops.items) read.stopped).engine)) }
+            ⊎ ((read.stopped ≢ Some NoMemory)
+            × IsBetween self.old self.new
+            (receive_lines self.old client (map (stamped_of self.old.replica.members) read.ops.items) read.stopped).engine)) }
     {
         let LinesRead { ops, stopped } = read;
         if stopped == Some(Refusal::NoMemory) {
@@ -247,9 +218,11 @@ impl Engine {
         requires there { client < length self.old.clients }
         requires wide { All (λ o. length o.deps ≡ length self.old.replica.members) ops.items }
         ensures few { IfOk result (λ p. p.0 ≤ length ops.items) }
-        ensures submitted { IfOk result (λ p. (bad : Option TheRefusal) → submit_all client bad 0 self.old (map (stamped_of self.old.replica.members) ops.items)
+        ensures submitted { IfOk result
+            (λ p. (bad : Option TheRefusal) → submit_all client bad 0 self.old (map (stamped_of self.old.replica.members) ops.items)
             ≡ record { engine = self.new; submitted = p.0; stopped = stop_after p.0 (first_of p.1 bad) }) }
-        ensures stopped { OnErr result ((bad : Option TheRefusal) → IsBetween self.old self.new (submit_all client bad 0 self.old (map (stamped_of self.old.replica.members) ops.items)).engine) }
+        ensures stopped { OnErr result ((bad : Option TheRefusal)
+            → IsBetween self.old self.new (submit_all client bad 0 self.old (map (stamped_of self.old.replica.members) ops.items)).engine) }
     {
         let mut submitted = 0;
         for op in ops {
@@ -262,26 +235,10 @@ impl Engine {
     }
 }
 
-/// Keeps a submission for its client, and puts it at the back of the queue. Copies it once.
-///
-/// # Errors
-/// `AllocError` if allocation fails. Nothing is kept or queued then.
-fn enqueue(queue: &mut VecDeque<Item>, k: &mut Client, item: Item) -> Result<(), AllocError>
-    ensures queue { OnOk result (queue.new.items ≡ queue.old.items ++ item ∷ []) }
-    ensures client { OnOk result ((table : List ℕ) → client_of table k.new ≡ with_cell (client_of table k.old) (submitted_of table item)) }
-    ensures unqueued { OnErr result (queue.new.items ≡ queue.old.items) }
-    ensures unchanged { OnErr result ((table : List ℕ) → client_of table k.new ≡ client_of table k.old) }
-{
-    let kept = item.clone()?;
-    queue.reserve(1)?;
-    k.keep(kept)?;
-    queue.push_back_reserved(item);
-    Ok(())
-}
-
 /// The hello of this number, if it is one.
 fn hello_at(messages: &[Message], number: usize) -> Option<&NamedVector>
-    ensures some { IfSome result (λ h. slice_get (map message_of messages.now) number ≡ Some (HelloOf (by_table h.now.table h.now.vector))) }
+    ensures some { IfSome result
+        (λ h. slice_get (map message_of messages.now) number ≡ Some (HelloOf (by_table h.now.table h.now.vector))) }
     ensures none { IfNone result (IsNoHello (slice_get (map message_of messages.now) number)) }
 {
     match messages.get(number) {

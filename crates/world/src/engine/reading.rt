@@ -74,7 +74,9 @@ impl Engine {
     /// `AllocError` if allocation fails.
     fn read(&self, alloc: Global, question: &Question) -> Result<WorldReply, AllocError>
         requires { IsBeside self.now.replica.members question.now }
-        ensures reply { IfOk result (λ r. reply_of r ≡ Read self.now.published (reading_of (published_entries self.now) (asked_of self.now.replica.members question.now))) }
+        ensures reply { IfOk result
+            (λ r. reply_of r
+            ≡ Read self.now.published (reading_of (published_entries self.now) (asked_of self.now.replica.members question.now))) }
     {
         let seen = self.shown().len() as u64;
         match self.shown().ask(alloc, question) {
@@ -116,7 +118,8 @@ fn answer_under(clients: &[Client], client: usize, serial: u64) -> Option<Given>
 
 /// How many entries a token has seen; the tokens are the clients', then the readers'.
 fn seen_by(clients: &[Client], readers: &[usize], token: usize) -> usize
-    ensures { (table : List ℕ) (E : TheEngine) → E.clients ≡ map (client_of table) clients.now → E.readers ≡ readers.now → result ≡ seen_by E token }
+    ensures { (table : List ℕ) (E : TheEngine) → E.clients ≡ map (client_of table) clients.now → E.readers ≡ readers.now
+        → result ≡ seen_by E token }
 {
     if token < clients.len() {
         return clients[token].seen;

@@ -144,12 +144,16 @@ fn handle(
     requires holds { Holds publisher.old (replica_of handler.old.replica) }
     requires running { IsRunning (replica_of handler.old.replica) }
     requires above { IsAbove item.now.client item.now.serial handler.old.replica.document.entries }
-    ensures replica { OnOk result (replica_of handler.new.replica ≡ after_item (replica_of handler.old.replica) (submitted_of handler.old.replica.document.table item.now)) }
-    ensures reply { IfOk result (λ r. answer_of r ≡ reply_to (replica_of handler.old.replica) (submitted_of handler.old.replica.document.table item.now)) }
+    ensures replica { OnOk result (replica_of handler.new.replica
+        ≡ after_item (replica_of handler.old.replica) (submitted_of handler.old.replica.document.table item.now)) }
+    ensures reply { IfOk result
+        (λ r. answer_of r ≡ reply_to (replica_of handler.old.replica) (submitted_of handler.old.replica.document.table item.now)) }
     ensures table { handler.new.replica.document.table ≡ handler.old.replica.document.table }
     ensures holds { Holds publisher.new (replica_of handler.new.replica) }
     ensures published { publisher.new.published ≡ publisher.old.published }
-    ensures stopped { OnErr result (IsHandledInPart (replica_of handler.old.replica) (submitted_of handler.old.replica.document.table item.now) (replica_of handler.new.replica)) }
+    ensures stopped { OnErr result
+        (IsHandledInPart (replica_of handler.old.replica) (submitted_of handler.old.replica.document.table item.now)
+        (replica_of handler.new.replica)) }
 {
     let reply = handler.handle(alloc, publisher, item);
     if handler.behind || is_no_memory(&reply) {
@@ -167,7 +171,8 @@ fn is_no_memory(reply: &Reply) -> bool
 
 /// Sets the answer to a client's serial.
 fn give_to(clients: &mut Vec<Client>, client: usize, serial: u64, given: Given)
-    ensures { (table : List ℕ) → map (client_of table) clients.new.items ≡ give_to (map (client_of table) clients.old.items) client serial (given_of given) }
+    ensures { (table : List ℕ)
+        → map (client_of table) clients.new.items ≡ give_to (map (client_of table) clients.old.items) client serial (given_of given) }
 {
     if client < clients.len() {
         let client = &mut clients[client];

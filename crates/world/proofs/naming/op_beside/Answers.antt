@@ -1,20 +1,34 @@
-use Rattle.std.proofs.Common.{◌≡◌, ◌∙◌, Some, inr, false, refl, ap, subst}
-use Rattle.semantics.specs.Stamped.{Stamped}
-use Rattle.semantics.specs.Faults.{is_of_members}
-use Rattle.operation.specs.declared.op.Op.{Op}
-use Rattle.operation.specs.Meanings.{mutation_of, stamped_of}
-use Rattle.world.proofs.StrangeOps.{stranger}
+use Rattle.std.proofs.Common.{◌≡◌, ◌∙◌, ◌&&◌, inr, Bool, true, false, refl, sym, ap}
+use Rattle.std.specs.List.{list_all}
+use Rattle.ids.specs.Members.{is_member}
+use Rattle.semantics.specs.Operations.{element_of}
+use Rattle.semantics.specs.Faults.{items_of_members}
+use Rattle.semantics.specs.Tables.{by_table}
 use Rattle.world.proofs.naming.op_beside.Goals as goal
 
-pub returns-in-Err-UnknownReplica : goal.returns-in-Err-UnknownReplica
-returns-in-Err-UnknownReplica c =
+-- an operation names a stranger where its id or its place does
+by_others : (a b c : Bool) → (a && c) ≡ false → (a && b && c) ≡ false
+by_others false b c e = refl
+by_others true false c e = refl
+by_others true true c e = e
+
+-- or where its vector does
+by_vector : (a b c : Bool) → b ≡ false → (a && b && c) ≡ false
+by_vector false b c e = refl
+by_vector true b c e = ap (λ x. x && c) e
+
+-- it names members alone where all three do
+by_all : (a b c : Bool) → (a && c) ≡ true → b ≡ true → (a && b && c) ≡ true
+by_all false b c e f = e
+by_all true b c e f = ap (λ x. x && c) f ∙ e
+
+pub returns-then-not-names_members : goal.returns-then-not-names_members
+returns-then-not-names_members c =
     let to = c.args.to.now in
-    let beside = c.in_ok-vector_beside.ensures in
-    let named : Op = record { id = c.args.op.now.id; deps = c.in_ok-vector_beside.field-0; place = c.in_ok-clone.field-0; mutation = c.in_ok-clone-2.field-0 } in
-    let same : stamped_of to named ≡ stamped_of c.args.from.now c.args.op.now = (λ i. record {
-      id = c.args.op.now.id;
-      vector = beside.0 i;
-      place = c.in_ok-clone.ensures.cases i;
-      mutation = mutation_of (c.in_ok-clone-2.ensures.cases i);
-    }) in
-    inr (refl, subst (λ (s : Stamped). is_of_members to s ≡ false) same (stranger to named beside.1 (c.in-Err-UnknownReplica.ensures ∙ ap Some c.in-Err-UnknownReplica.field-0-is)))
+    let op = c.args.op.now in
+    inr (
+      refl,
+      by_others (is_member to op.id.replica) (list_all (λ a. is_member to a.replica) (by_table c.args.from.now op.deps))
+          (items_of_members to (element_of op.place))
+          (sym c.names_members.ensures ∙ c.if-not-names_members.true),
+    )

@@ -1,4 +1,5 @@
-use Rattle.std.proofs.Common.{rules, ◌≡◌, ◌∷◌, ◌++◌, ◌+◌, [], ℕ, List, Some, inl, inr, length, map, drop, drop-cons, add-one, append_assoc, append-nil, sym, ap, ◌∙◌, subst}
+use Rattle.std.proofs.Common.{rules, ◌≡◌, ◌∷◌, ◌++◌, ◌+◌, [], ℕ, List, Some, inl, inr, length, map, drop, drop-cons, add-one, append_assoc}
+use Rattle.std.proofs.Common.{append-nil, sym, ap, ◌∙◌, subst}
 use Rattle.std.specs.List.{All}
 use Rattle.std.proofs.lemmas.List.{drop_all, map-append}
 use Rattle.std.proofs.lemmas.List.Elements.{All-push}
@@ -21,7 +22,8 @@ loop-op-preserved c =
     let x = c.in-Ok.named in
     let rest : List Stamped = map f (drop (n + 1) xs) in
     let all : c.deref-op-items.result.now ≡ xs = c.deref-op-items.ensures.value in
-    let next : drop n xs ≡ o ∷ drop (n + 1) xs = ap (drop n) (sym all) ∙ drop-cons c.deref-op-items.result.now n o c.loop-op-test.true ∙ (λ i. sym c.op-item.is i ∷ drop (sym (add-one n) i) (all i)) in
+    let next : drop n xs ≡ o ∷ drop (n + 1) xs = ap (drop n) (sym all) ∙ drop-cons c.deref-op-items.result.now n o c.loop-op-test.true
+    ∙ (λ i. sym c.op-item.is i ∷ drop (sym (add-one n) i) (all i)) in
     let pushed : c.push.new.self.items ≡ old ++ x ∷ [] = search rules in
     let made = c.in-Ok.ensures in
     record {
@@ -37,7 +39,8 @@ loop-op-preserved c =
           sym (fault-member to (f o) rest made.2)
           ∙ ap (λ (ys : List Op). stranger_fault to (map f ys)) (sym next)
           ∙ c.loop-op.invariant.fault;
-      width = subst (All (λ (o : Op). length o.deps ≡ length to)) (sym pushed) (All-push (λ (o : Op). length o.deps ≡ length to) old x c.loop-op.invariant.width made.1);
+      width = subst (All (λ (o : Op). length o.deps ≡ length to)) (sym pushed)
+          (All-push (λ (o : Op). length o.deps ≡ length to) old x c.loop-op.invariant.width made.1);
     }
 
 pub returns-in-Err-clause-read : goal.returns-in-Err-clause-read
@@ -50,7 +53,8 @@ returns-in-Err-clause-read c =
     let done : List Stamped = map (stamped_of to) c.loop-op.ops.items in
     let rest : List Stamped = map f (drop (n + 1) xs) in
     let all : c.deref-op-items.result.now ≡ xs = c.deref-op-items.ensures.value in
-    let next : drop n xs ≡ o ∷ drop (n + 1) xs = ap (drop n) (sym all) ∙ drop-cons c.deref-op-items.result.now n o c.loop-op-test.true ∙ (λ i. sym c.op-item.is i ∷ drop (sym (add-one n) i) (all i)) in
+    let next : drop n xs ≡ o ∷ drop (n + 1) xs = ap (drop n) (sym all) ∙ drop-cons c.deref-op-items.result.now n o c.loop-op-test.true
+    ∙ (λ i. sym c.op-item.is i ∷ drop (sym (add-one n) i) (all i)) in
     elim c.in-Err.ensures [
       | inl e ↦ inl (ap Some e)
       | inr h ↦ inr (
@@ -72,7 +76,8 @@ returns-clause-read c =
     let xs : List Op = c.args.from.now.ops.items in
     let done : List Stamped = map (stamped_of to) c.loop-op.ops.items in
     let all : c.deref-op-items.result.now ≡ xs = c.deref-op-items.ensures.value in
-    let ended : drop c.loop-op.op-index xs ≡ [] = ap (drop c.loop-op.op-index) (sym all) ∙ drop_all c.loop-op.op-index c.deref-op-items.result.now c.loop-op-test.false in
+    let ended : drop c.loop-op.op-index xs ≡ [] = ap (drop c.loop-op.op-index) (sym all)
+    ∙ drop_all c.loop-op.op-index c.deref-op-items.result.now c.loop-op-test.false in
     inr (
       sym (append-nil done) ∙ ap (λ (ys : List Op). done ++ before_stranger to (map f ys)) (sym ended) ∙ c.loop-op.invariant.named,
       ap (λ (ys : List Op). stranger_fault to (map f ys)) (sym ended) ∙ c.loop-op.invariant.fault,

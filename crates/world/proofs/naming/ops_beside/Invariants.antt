@@ -7,7 +7,9 @@ use Rattle.world.proofs.naming.ops_beside.Given as goal
 
 abbrev pub invariant-loop-op : goal.invariant-loop-op
 invariant-loop-op l = record {
-  named : map (stamped_of l.to) l.ops.items ++ before_stranger l.to (map (stamped_of l.fn.from.table) (drop l.op-index l.fn.from.ops.items)) ≡ before_stranger l.to (map (stamped_of l.fn.from.table) l.fn.from.ops.items);
-  fault : stranger_fault l.to (map (stamped_of l.fn.from.table) (drop l.op-index l.fn.from.ops.items)) ≡ stranger_fault l.to (map (stamped_of l.fn.from.table) l.fn.from.ops.items);
+  named : map (stamped_of l.to) l.ops.items ++ before_stranger l.to (map (stamped_of l.fn.from.table) (drop l.op-index l.fn.from.ops.items))
+      ≡ before_stranger l.to (map (stamped_of l.fn.from.table) l.fn.from.ops.items);
+  fault : stranger_fault l.to (map (stamped_of l.fn.from.table) (drop l.op-index l.fn.from.ops.items))
+      ≡ stranger_fault l.to (map (stamped_of l.fn.from.table) l.fn.from.ops.items);
   width : All (λ o. length o.deps ≡ length l.to) l.ops.items;
 }

@@ -1,4 +1,5 @@
-use Rattle.std.proofs.Common.{◌≡◌, ◌≢◌, ◌<◌, ℕ, suc, List, [], ◌∷◌, ◌++◌, Some, None, length, length-set, drop, get_or, slice_get, is_some, inr, true, false, refl, sym, ap, ◌∙◌, subst, append_assoc, append-nil, add-one, arith}
+use Rattle.std.proofs.Common.{◌≡◌, ◌≢◌, ◌<◌, ℕ, suc, List, [], ◌∷◌, ◌++◌, Some, None, length, length-set, drop, get_or, slice_get, is_some}
+use Rattle.std.proofs.Common.{inr, true, false, refl, sym, ap, ◌∙◌, subst, append_assoc, append-nil, add-one, arith}
 use Rattle.std.specs.List.{list_all}
 use Rattle.std.proofs.lemmas.List.{drop_all, length-replicate}
 use Rattle.std.proofs.lemmas.Option.{slice_get_within, slice_get-get_or, get_or_from_slice_get}
@@ -43,14 +44,19 @@ returns-in_default-index_of c =
     let i : ℕ = c.loop-index.index in
     let named = c.loop-index.named in
     let within : i < length cs = omega (arith, c.loop-index-test.true, c.len-index-end.ensures.length, c.requires) in
-    let next = listed_some from cs i c.get-counter.result c.in-Some.replica c.len-index-end.ensures.rising (sym c.in-Some.ensures) within (sym c.get-counter.ensures) c.if-counter-gt0.true in
+    let next = listed_some from cs i c.get-counter.result c.in-Some.replica c.len-index-end.ensures.rising (sym c.in-Some.ensures) within
+    (sym c.get-counter.ensures) c.if-counter-gt0.true in
     let all = ap (λ (v : Vector). by_table to named ++ v) (sym next) ∙ c.loop-index.invariant.left in
     let stranger : is_member to c.in-Some.replica ≡ false = c.index_of.ensures.none.0 (ap is_some c.in_default-index_of.is) in
-    inr (refl, subst (λ (v : Vector). list_all (λ b. is_member to b.replica) v ≡ false) all (not_all_of to (by_table to named) _ (id_at c.get-counter.result c.in-Some.replica) stranger))
+    inr (
+      refl,
+      subst (λ (v : Vector). list_all (λ b. is_member to b.replica) v ≡ false) all
+          (not_all_of to (by_table to named) _ (id_at c.get-counter.result c.in-Some.replica) stranger),
+    )
 
 pub raise-requires : goal.raise-requires
 raise-requires c =
-    let within = slice_get_within c.args.to.now c.in-Some-index_of.place c.in-Some.replica c.in-Some-index_of.ensures.found in
+    let within = slice_get_within c.args.to.now c.in-Some-index_of.at c.in-Some.replica c.in-Some-index_of.ensures.found in
     omega (arith, within, c.loop-index.invariant.width)
 
 pub loop-index-preserved : goal.loop-index-preserved
@@ -67,21 +73,27 @@ loop-index-preserved c =
       | then-counter-gt0+in-Some+in-Some-index_of w ↦
           let a : OpId = id_at c.get-counter.result w.in-Some.replica in
           let ds = w.raise.new.self in
-          let place = w.in-Some-index_of.place in
-          let there : get_or to place 0 ≡ a.replica = get_or_from_slice_get to place a.replica 0 w.in-Some-index_of.ensures.found in
+          let index = w.in-Some-index_of.at in
+          let there : get_or to index 0 ≡ a.replica = get_or_from_slice_get to index a.replica 0 w.in-Some-index_of.ensures.found in
           let raised : IsRaised to named ds a =
-          (λ p. ap (λ ks. component to ks p) w.raise.ensures ∙ component-raised to named place a.counter p a.replica c.len.ensures.distinct (slice_get_within to place a.replica w.in-Some-index_of.ensures.found) c.loop-index.invariant.width there) in
+          (λ p. ap (λ ks. component to ks p) w.raise.ensures
+          ∙ component-raised to named index a.counter p a.replica c.len.ensures.distinct
+          (slice_get_within to index a.replica w.in-Some-index_of.ensures.found) c.loop-index.invariant.width there) in
           let some : a.counter ≢ 0 = (λ e. absurd (omega (arith, e, w.if-counter-gt0.true))) in
           let at : slice_get from i ≡ Some a.replica = sym w.in-Some.ensures in
-          let one_more = named_next to named ds a c.len.ensures.distinct raised (c.loop-index.invariant.none_from i a.replica (omega arith) at) some in
+          let one_more = named_next to named ds a c.len.ensures.distinct raised
+          (c.loop-index.invariant.none_from i a.replica (omega arith) at) some in
           record {
-            width = ap length w.named-is ∙ ap length w.raise.ensures ∙ length-set named place _ ∙ c.loop-index.invariant.width;
-            none_from = subst (IsNoneFrom from (suc i) to) (sym w.named-is) (none_raised from to named ds i a c.len-index-end.ensures.rising at raised c.loop-index.invariant.none_from);
+            width = ap length w.named-is ∙ ap length w.raise.ensures ∙ length-set named index _ ∙ c.loop-index.invariant.width;
+            none_from = subst (IsNoneFrom from (suc i) to) (sym w.named-is)
+                (none_raised from to named ds i a c.len-index-end.ensures.rising at raised c.loop-index.invariant.none_from);
             left =
                 ap (λ ks. by_table to ks ++ left) w.named-is
                 ∙ ap (λ (v : Vector). v ++ left) one_more
                 ∙ append_assoc (by_table to named) (a ∷ []) left
-                ∙ ap (λ (v : Vector). by_table to named ++ v) (sym (listed_some from cs i a.counter a.replica c.len-index-end.ensures.rising at within (sym c.get-counter.ensures) w.if-counter-gt0.true))
+                ∙ ap (λ (v : Vector). by_table to named ++ v)
+                (sym (listed_some from cs i a.counter a.replica c.len-index-end.ensures.rising at within
+                (sym c.get-counter.ensures) w.if-counter-gt0.true))
                 ∙ c.loop-index.invariant.left;
           }
       | else-counter-gt0 w ↦
@@ -90,7 +102,8 @@ loop-index-preserved c =
             none_from = subst (IsNoneFrom from (suc i) to) (sym w.named-is) (none_later from to named i c.loop-index.invariant.none_from);
             left =
                 ap (λ ks. by_table to ks ++ left) w.named-is
-                ∙ ap (λ (v : Vector). by_table to named ++ v) (sym (listed_zero from cs i within (sym c.get-counter.ensures ∙ omega (arith, w.if-counter-gt0.false))))
+                ∙ ap (λ (v : Vector). by_table to named ++ v)
+                (sym (listed_zero from cs i within (sym c.get-counter.ensures ∙ omega (arith, w.if-counter-gt0.false))))
                 ∙ c.loop-index.invariant.left;
           }
     ])
@@ -106,5 +119,9 @@ returns c =
     let same : by_table to named ≡ by_table from cs =
     sym (append-nil (by_table to named))
     ∙ ap (λ (ps : List ℕ). by_table to named ++ by_table ps (drop i cs)) (sym ended)
-    ∙ c.loop-index.invariant.left in
-    (same, c.loop-index.invariant.width, subst (λ (v : Vector). list_all (λ b. is_member to b.replica) v ≡ true) same (all_of-by_table to named))
+    ∙ c.loop-index.invariant.left in (
+      same,
+      c.loop-index.invariant.width,
+      subst (λ (v : Vector). list_all (λ b. is_member to b.replica) v ≡ true) same
+          (all_of-by_table to named),
+    )

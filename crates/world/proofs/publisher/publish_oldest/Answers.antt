@@ -9,7 +9,8 @@ commit-requires-clause-lawful c =
     let e = c.in-Some-pop_front.entry in
     let left = c.pop_front.new.self.items in
     let same : PublishesMore c.args.published.now c.args.pending.now.items d (e ∷ left) =
-    none_published c.args.published.now d c.args.pending.now.items (e ∷ left) c.requires c.reserve.ensures.table c.reserve.ensures.entries (sym c.in-Some-pop_front.ensures.items) in
+    none_published c.args.published.now d c.args.pending.now.items (e ∷ left) c.requires c.reserve.ensures.table c.reserve.ensures.entries
+    (sym c.in-Some-pop_front.ensures.items) in
     oldest_follows d e left same.publisher
 
 pub returns-clause-more : goal.returns-clause-more
@@ -18,6 +19,7 @@ returns-clause-more c =
     let e = c.in-Some-pop_front.entry in
     let left = c.pop_front.new.self.items in
     let same : PublishesMore c.args.published.now c.args.pending.now.items d (e ∷ left) =
-    none_published c.args.published.now d c.args.pending.now.items (e ∷ left) c.requires c.reserve.ensures.table c.reserve.ensures.entries (sym c.in-Some-pop_front.ensures.items) in
+    none_published c.args.published.now d c.args.pending.now.items (e ∷ left) c.requires c.reserve.ensures.table c.reserve.ensures.entries
+    (sym c.in-Some-pop_front.ensures.items) in
     published_on c.args.published.now d c.commit.new.self c.args.pending.now.items (e ∷ left) left same
     (one_published d e left same.publisher c.commit.new.self c.commit.ensures.table c.commit.ensures.entries)

@@ -11,8 +11,10 @@ open-requires c =
     let cs = c.args.configs.now in
     let n : ℕ = c.loop-config.config-index in
     let x : Configuration = c.config-item.result in
-    let next : drop n cs ≡ x ∷ drop (n + 1) cs = drop-cons cs n x c.loop-config-test.true ∙ (λ i. sym c.config-item.is i ∷ drop (sym (add-one n) i) cs) in
-    (and_parts (is_within_limits x) (list_all is_within_limits (drop (n + 1) cs)) (sym (ap (list_all is_within_limits) next) ∙ c.loop-config.invariant.within)).0
+    let next : drop n cs ≡ x ∷ drop (n + 1) cs = drop-cons cs n x c.loop-config-test.true
+    ∙ (λ i. sym c.config-item.is i ∷ drop (sym (add-one n) i) cs) in
+    (and_parts (is_within_limits x) (list_all is_within_limits (drop (n + 1) cs))
+    (sym (ap (list_all is_within_limits) next) ∙ c.loop-config.invariant.within)).0
 
 pub loop-config-preserved : goal.loop-config-preserved
 loop-config-preserved c =
@@ -20,8 +22,10 @@ loop-config-preserved c =
     let n : ℕ = c.loop-config.config-index in
     let x : Configuration = c.config-item.result in
     let E : Engine = c.in_ok-open.field-0 in
-    let next : drop n cs ≡ x ∷ drop (n + 1) cs = drop-cons cs n x c.loop-config-test.true ∙ (λ i. sym c.config-item.is i ∷ drop (sym (add-one n) i) cs) in
-    let both = and_parts (is_within_limits x) (list_all is_within_limits (drop (n + 1) cs)) (sym (ap (list_all is_within_limits) next) ∙ c.loop-config.invariant.within) in
+    let next : drop n cs ≡ x ∷ drop (n + 1) cs = drop-cons cs n x c.loop-config-test.true
+    ∙ (λ i. sym c.config-item.is i ∷ drop (sym (add-one n) i) cs) in
+    let both = and_parts (is_within_limits x) (list_all is_within_limits (drop (n + 1) cs))
+    (sym (ap (list_all is_within_limits) next) ∙ c.loop-config.invariant.within) in
     let made : E ≡ opened_engine x = c.in_ok-open.ensures.engine in
     let pushed = c.in_ok-push.ensures.items in
     record {

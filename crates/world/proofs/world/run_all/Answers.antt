@@ -1,4 +1,5 @@
-use Rattle.std.proofs.Common.{rules, ◌≡◌, ◌≢◌, ◌+◌, ◌≤◌, ◌∷◌, ◌++◌, [], ℕ, List, Some, Result, Ok, Err, length, map, take, drop, drop-cons, append_assoc, sym, ap, ◌∙◌, subst, add-one, arith, slice_get}
+use Rattle.std.proofs.Common.{rules, ◌≡◌, ◌≢◌, ◌+◌, ◌≤◌, ◌∷◌, ◌++◌, [], ℕ, List, Some, Result, Ok, Err, length, map, take, drop, drop-cons}
+use Rattle.std.proofs.Common.{append_assoc, sym, ap, ◌∙◌, subst, add-one, arith, slice_get}
 use Rattle.std.specs.Prelude.{OnErr}
 use Rattle.std.proofs.lemmas.List.{length-map, map-append}
 use Rattle.semantics.specs.World.{World, WorldStep as TheStep, replies_of, world_after, world_step}
@@ -19,8 +20,10 @@ on_err (Ok x) q = tt
 on_err (Err e) q = q
 
 -- one step more after these
-one_more : (W U V : World) (tables now : List (List ℕ)) (steps : List WorldStep) (n : ℕ) (o : WorldStep) → now ≡ tables → slice_get (map (step_in tables) steps) n ≡ Some (step_in tables o)
-    → U ≡ world_after W (take n (map (step_in tables) steps)) → V ≡ (world_step U (step_in now o)).world → V ≡ world_after W (take (n + 1) (map (step_in tables) steps))
+one_more : (W U V : World) (tables now : List (List ℕ)) (steps : List WorldStep) (n : ℕ) (o : WorldStep) → now ≡ tables
+    → slice_get (map (step_in tables) steps) n ≡ Some (step_in tables o)
+    → U ≡ world_after W (take n (map (step_in tables) steps)) → V ≡ (world_step U (step_in now o)).world
+    → V ≡ world_after W (take (n + 1) (map (step_in tables) steps))
 one_more W U V tables now steps n o same at so_far is =
     is
     ∙ (λ i. (world_step (so_far i) (step_in (same i) o)).world)
@@ -54,7 +57,8 @@ returns-in_err-reply-clause-stopped c =
     let now : tables_of c.loop-step.engines.items ≡ tables = c.loop-step.invariant.tables in
     on_err c.from_residual-in_err-reply.result
     (subst (λ k. StopsAfter W (map (step_in tables) steps) k V) (sym c.loop-step.invariant.whole)
-    (stops_within W U V (map (step_in tables) steps) n (step_in tables o) c.requires.reached at l c.loop-step.invariant.so_far c.in_err-reply.ensures.messages
+    (stops_within W U V (map (step_in tables) steps) n
+    (step_in tables o) c.requires.reached at l c.loop-step.invariant.so_far c.in_err-reply.ensures.messages
     (subst (λ ts. MovesInPart U.messages (step_in ts o) U.engines V.engines) now c.in_err-reply.ensures.stopped)))
 
 pub returns-in_err-push-clause-stopped : goal.returns-in_err-push-clause-stopped
@@ -71,7 +75,8 @@ returns-in_err-push-clause-stopped c =
     on_err c.from_residual-in_err-push.result
     (subst (λ k. StopsAfter W (map (step_in tables) steps) (k + 1) V) (sym c.loop-step.invariant.whole)
     (stops_whole W V (map (step_in tables) steps) (n + 1) c.requires.reached l
-    (one_more W U V tables (tables_of c.loop-step.engines.items) steps n o c.loop-step.invariant.tables at c.loop-step.invariant.so_far c.in_ok-reply.ensures.world)))
+    (one_more W U V tables
+    (tables_of c.loop-step.engines.items) steps n o c.loop-step.invariant.tables at c.loop-step.invariant.so_far c.in_ok-reply.ensures.world)))
 
 pub loop-step-preserved : goal.loop-step-preserved
 loop-step-preserved c =
@@ -86,12 +91,14 @@ loop-step-preserved c =
     let f : WorldStep → TheStep = step_in tables in
     let rest : List TheStep = map f (drop (n + 1) steps) in
     let now : tables_of c.loop-step.engines.items ≡ tables = c.loop-step.invariant.tables in
-    let next : drop n steps ≡ o ∷ drop (n + 1) steps = drop-cons steps n o c.loop-step-test.true ∙ (λ i. sym c.step-item.is i ∷ drop (sym (add-one n) i) steps) in
+    let next : drop n steps ≡ o ∷ drop (n + 1) steps = drop-cons steps n o c.loop-step-test.true
+    ∙ (λ i. sym c.step-item.is i ∷ drop (sym (add-one n) i) steps) in
     let R : List WorldReply = c.loop-step.replies.items in
     let r : WorldReply = c.in_ok-reply.reply in
     let pushed : c.push.new.self.items ≡ R ++ r ∷ [] = search rules in
     let moved : V ≡ (world_step U (f o)).world = c.in_ok-reply.ensures.world ∙ ap (λ ts. (world_step U (step_in ts o)).world) now in
-    let replied : reply_of r ≡ (world_step U (f o)).reply = c.in_ok-reply.ensures.reply ∙ ap (λ ts. (world_step U (step_in ts o)).reply) now in
+    let replied : reply_of r ≡ (world_step U (f o)).reply = c.in_ok-reply.ensures.reply
+    ∙ ap (λ ts. (world_step U (step_in ts o)).reply) now in
     let replies_are =
     ap (λ (rs : List WorldReply). map reply_of rs ++ replies_of V rest) pushed
     ∙ ap (λ (xs : List StepReply). xs ++ replies_of V rest) (map-append reply_of R (r ∷ []))
@@ -103,7 +110,8 @@ loop-step-preserved c =
     ap (λ (X : World). world_after X rest) moved
     ∙ ap (λ (xs : List WorldStep). world_after U (map f xs)) (sym next)
     ∙ c.loop-step.invariant.world in
-    let done = one_more W U V tables (tables_of c.loop-step.engines.items) steps n o now at c.loop-step.invariant.so_far c.in_ok-reply.ensures.world in
+    let done = one_more W U V tables
+    (tables_of c.loop-step.engines.items) steps n o now at c.loop-step.invariant.so_far c.in_ok-reply.ensures.world in
     record {
       tables = search rules;
       replies = replies_are;

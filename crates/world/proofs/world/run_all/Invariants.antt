@@ -9,8 +9,15 @@ use Rattle.world.proofs.world.run_all.Given as goal
 abbrev pub invariant-loop-step : goal.invariant-loop-step
 invariant-loop-step l = record {
   tables : tables_of l.engines.items ≡ tables_of l.fn.engines.items;
-  replies : map reply_of l.replies.items ++ replies_of (world l.engines.items (map message_of l.messages.items)) (map (step_in (tables_of l.fn.engines.items)) (drop l.step-index l.steps)) ≡ replies_of (world l.fn.engines.items (map message_of l.fn.messages.items)) (map (step_in (tables_of l.fn.engines.items)) l.steps);
-  so_far : world l.engines.items (map message_of l.messages.items) ≡ world_after (world l.fn.engines.items (map message_of l.fn.messages.items)) (take l.step-index (map (step_in (tables_of l.fn.engines.items)) l.steps));
-  world : world_after (world l.engines.items (map message_of l.messages.items)) (map (step_in (tables_of l.fn.engines.items)) (drop l.step-index l.steps)) ≡ world_after (world l.fn.engines.items (map message_of l.fn.messages.items)) (map (step_in (tables_of l.fn.engines.items)) l.steps);
+  replies : map reply_of l.replies.items
+      ++ replies_of (world l.engines.items (map message_of l.messages.items))
+      (map (step_in (tables_of l.fn.engines.items)) (drop l.step-index l.steps))
+      ≡ replies_of (world l.fn.engines.items (map message_of l.fn.messages.items)) (map (step_in (tables_of l.fn.engines.items)) l.steps);
+  so_far : world l.engines.items (map message_of l.messages.items)
+      ≡ world_after (world l.fn.engines.items (map message_of l.fn.messages.items))
+      (take l.step-index (map (step_in (tables_of l.fn.engines.items)) l.steps));
+  world : world_after (world l.engines.items (map message_of l.messages.items))
+      (map (step_in (tables_of l.fn.engines.items)) (drop l.step-index l.steps))
+      ≡ world_after (world l.fn.engines.items (map message_of l.fn.messages.items)) (map (step_in (tables_of l.fn.engines.items)) l.steps);
   whole : l.whole ≡ l.step-index;
 }

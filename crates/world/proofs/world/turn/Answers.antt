@@ -27,14 +27,19 @@ module _ (Es : List Engine) (ms : List Message) (s : WorldStep) (E : Engine) (th
   its_step = ap (λ table. step_of table s) (own_table Es s.engine E there)
 
   turned : world_step (world Es ms) (step_in (tables_of Es) s)
-      ≡ record { world = world (set Es s.engine (engine_step ms (act_of E.replica.members s.act) E).engine) (ms ++ sent_by ms (act_of E.replica.members s.act) E); reply = (engine_step ms (act_of E.replica.members s.act) E).reply }
+      ≡ record {
+        world = world (set Es s.engine (engine_step ms (act_of E.replica.members s.act) E).engine)
+            (ms ++ sent_by ms (act_of E.replica.members s.act) E);
+        reply = (engine_step ms (act_of E.replica.members s.act) E).reply;
+      }
   turned = ap (world_step (world Es ms)) its_step ∙ world_step-there Es ms (step_of E.replica.members s) E there
 
 pub turn-requires-clause-reached : goal.turn-requires-clause-reached
 turn-requires-clause-reached c =
     let Es = c.args.engines.now.items in
     let E : Engine = c.index_mut-engine.result.now in
-    let there : slice_get Es c.args.step.now.engine ≡ Some E = slice_get_read Es (length Es) c.args.step.now.engine E refl (omega arith) c.index_mut-engine.ensures.value in
+    let there : slice_get Es c.args.step.now.engine
+    ≡ Some E = slice_get_read Es (length Es) c.args.step.now.engine E refl (omega arith) c.index_mut-engine.ensures.value in
     reached_at (world Es (map message_of c.args.messages.now.items)) c.requires.reached c.args.step.now.engine E there
 
 pub turn-requires-clause-beside : goal.turn-requires-clause-beside
@@ -42,7 +47,8 @@ turn-requires-clause-beside c =
     let Es = c.args.engines.now.items in
     let s = c.args.step.now in
     let E : Engine = c.index_mut-engine.result.now in
-    let there : slice_get Es s.engine ≡ Some E = slice_get_read Es (length Es) s.engine E refl (omega arith) c.index_mut-engine.ensures.value in
+    let there : slice_get Es s.engine
+    ≡ Some E = slice_get_read Es (length Es) s.engine E refl (omega arith) c.index_mut-engine.ensures.value in
     subst (λ table. AsksBeside table s.act) (own_table Es s.engine E there) c.requires.beside
 
 -- both parts of an answer
@@ -59,7 +65,8 @@ returns-clause-world c =
     let E : Engine = c.index_mut-engine.result.now in
     let there : slice_get Es i ≡ Some E = slice_get_read Es (length Es) i E refl (omega arith) c.index_mut-engine.ensures.value in
     both_ok c.turn.result
-    (λ (e : c.turn.new.self ≡ (engine_step ms (act_of E.replica.members s.act) E).engine) (f : map message_of c.turn.new.messages.items ≡ ms ++ sent_by ms (act_of E.replica.members s.act) E).
+    (λ (e : c.turn.new.self ≡ (engine_step ms (act_of E.replica.members s.act) E).engine)
+    (f : map message_of c.turn.new.messages.items ≡ ms ++ sent_by ms (act_of E.replica.members s.act) E).
     (λ t. world (set Es i (e t)) (f t))
     ∙ sym (ap (λ (t : WorldTurn). t.world) (turned Es ms s E there)))
     c.turn.ensures.engine c.turn.ensures.sent
@@ -87,7 +94,8 @@ returns-clause-tables c =
     let sound = reached_sound E (reached_at (world Es ms) c.requires.reached i E there) in
     then_ok c.turn.result
     (λ (e : c.turn.new.self ≡ (engine_step ms (act_of E.replica.members s.act) E).engine).
-    tables_set Es i E c.turn.new.self there (ap (λ (F : Engine). F.replica.members) e ∙ members_stay ms (act_of E.replica.members s.act) E sound))
+    tables_set Es i E c.turn.new.self there
+    (ap (λ (F : Engine). F.replica.members) e ∙ members_stay ms (act_of E.replica.members s.act) E sound))
     c.turn.ensures.engine
 
 then_err : {X Y P Q : Type 0} (r : Result X Y) → (P → Q) → OnErr r P → OnErr r Q

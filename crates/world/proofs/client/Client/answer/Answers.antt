@@ -4,14 +4,24 @@ use Rattle.world.specs.Engines.{cell_of, client_of, given_of}
 use Rattle.world.proofs.SingleSteps.{read_mapped, with_answer-there}
 use Rattle.world.proofs.client.Client.answer.Goals as goal
 
-pub returns-then-place-len : goal.returns-then-place-len
-returns-then-place-len c = λ table.
+pub returns-then-index-len : goal.returns-then-index-len
+returns-then-index-len c = λ table.
     (let k = c.args.self.now in
-    let place : ℕ = c.saturating_sub-place.result in
-    let at : place ≡ c.args.serial - 1 = c.saturating_sub-place.ensures in
-    let within : place < length k.cells.items = omega arith in
-    let there : slice_get (map (cell_of table) k.cells.items) place ≡ Some (cell_of table c.index_mut-cell.result.now) =
-    read_mapped (cell_of table) k.cells.items place c.index_mut-cell.result.now within c.index_mut-cell.ensures.value in
-    (λ i. record { seen = k.seen; cells = map-set (cell_of table) k.cells.items place (record { item = c.index_mut-cell.result.now.item; answer = Some c.args.given }) i })
-    ∙ (λ i. record { seen = k.seen; cells = set (map (cell_of table) k.cells.items) (at i) (cell_of table (record { item = c.index_mut-cell.result.now.item; answer = Some c.args.given })) })
-    ∙ sym (with_answer-there (client_of table k) c.args.serial (given_of c.args.given) (cell_of table c.index_mut-cell.result.now) (ap (slice_get (map (cell_of table) k.cells.items)) (sym at) ∙ there)))
+    let index : ℕ = c.saturating_sub-index.result in
+    let at : index ≡ c.args.serial - 1 = c.saturating_sub-index.ensures in
+    let within : index < length k.cells.items = omega arith in
+    let there : slice_get (map (cell_of table) k.cells.items) index ≡ Some (cell_of table c.index_mut-cell.result.now) =
+    read_mapped (cell_of table) k.cells.items index c.index_mut-cell.result.now within c.index_mut-cell.ensures.value in
+    (λ i. record {
+      seen = k.seen;
+      cells = map-set (cell_of table) k.cells.items index
+          (record { item = c.index_mut-cell.result.now.item; answer = Some c.args.given }) i;
+    })
+    ∙ (λ i. record {
+      seen = k.seen;
+      cells = set (map (cell_of table) k.cells.items) (at i)
+          (cell_of table (record { item = c.index_mut-cell.result.now.item; answer = Some c.args.given }));
+    })
+    ∙ sym
+    (with_answer-there (client_of table k) c.args.serial (given_of c.args.given) (cell_of table c.index_mut-cell.result.now)
+    (ap (slice_get (map (cell_of table) k.cells.items)) (sym at) ∙ there)))

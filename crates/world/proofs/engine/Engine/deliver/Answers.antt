@@ -28,12 +28,15 @@ returns-clause-stopped c =
     let at = c.args.message in
     let r = c.in-Some-Bundle.field-0.now in
     let is : slice_get (map message_of c.args.messages.now) c.args.message ≡ Some (Bundle ss) =
-    read_mapped message_of messages at r (ltb-true at (length messages) (sym c.in-Some-Bundle.ensures.lookup.0)) c.in-Some-Bundle.ensures.lookup.1
+    read_mapped message_of messages at r
+    (ltb-true at (length messages) (sym c.in-Some-Bundle.ensures.lookup.0)) c.in-Some-Bundle.ensures.lookup.1
     ∙ ap (λ m. Some (message_of m)) c.in-Some-Bundle.field-0-is in
     let table : c.table.result.now ≡ M = c.table.ensures ∙ c.shown.ensures.table in
     let read : (got ≡ Some NoMemory) ⊎ ((map (stamped_of M) ops ≡ before_stranger M ss) × (got ≡ stranger_fault M ss)) =
-    subst (λ N. (got ≡ Some NoMemory) ⊎ ((map (stamped_of N) ops ≡ before_stranger N ss) × (got ≡ stranger_fault N ss))) table c.ops_beside-read.ensures.read in
+    subst (λ N. (got ≡ Some NoMemory)
+    ⊎ ((map (stamped_of N) ops ≡ before_stranger N ss) × (got ≡ stranger_fault N ss))) table c.ops_beside-read.ensures.read in
     then_err c.receive.result
-    (λ part. message_stopped A c.receive.new.self c.args.client (slice_get (map message_of c.args.messages.now) c.args.message) ss (map (stamped_of M) ops) got
+    (λ part. message_stopped A c.receive.new.self c.args.client (slice_get (map message_of c.args.messages.now) c.args.message) ss
+    (map (stamped_of M) ops) got
     (reached_sound A c.requires.reached) is read part)
     c.receive.ensures.stopped

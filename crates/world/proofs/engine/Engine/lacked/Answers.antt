@@ -10,7 +10,8 @@ use Rattle.semantics.specs.Engine.{Engine as TheEngine}
 use Rattle.world.proofs.engine.Engine.lacked.Goals as goal
 
 -- a refusal that is passed on
-passed_on : {T : Type 0} (r : Result T Refusal) (why : Refusal) (P : T → Type 0) (Q : Refusal → Type 0) → IsErrAnd r (λ y. y ≡ why) → Q why → MatchResult r P Q
+passed_on : {T : Type 0} (r : Result T Refusal) (why : Refusal) (P : T → Type 0) (Q : Refusal → Type 0) → IsErrAnd r (λ y. y ≡ why) → Q why
+    → MatchResult r P Q
 passed_on (Ok x) why P Q e h = absurd e
 passed_on (Err y) why P Q e h = subst Q (sym e) h
 

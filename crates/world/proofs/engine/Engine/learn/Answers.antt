@@ -30,7 +30,9 @@ returns-clause-engine c =
     let g = given_of c.in-Some.given in
     let found : Some g ≡ option_and_then (λ (cell : TheCell). cell.answer) (cell_under E c.args.client c.args.serial) =
     c.in-Some.ensures table E (ap (map (client_of table)) (sym c.deref.ensures.value)) in
-    let before : c.seen_by.result ≡ seen_by E token = c.seen_by.ensures table E (ap (map (client_of table)) (sym c.deref-2.ensures.value)) (sym c.deref-3.ensures.value) in
+    let before : c.seen_by.result
+    ≡ seen_by E token = c.seen_by.ensures table E (ap (map (client_of table)) (sym c.deref-2.ensures.value))
+    (sym c.deref-3.ensures.value) in
     let after : c.max-seen.result ≡ max (seen_by E token) g.published = c.max-seen.ensures ∙ ap (λ (n : ℕ). max n g.published) before in
     rw (← c.self.view_is)
     (sym (c.see.ensures table E refl refl)
@@ -45,7 +47,9 @@ returns-clause-reply c =
     let g = given_of c.in-Some.given in
     let found : Some g ≡ option_and_then (λ (cell : TheCell). cell.answer) (cell_under E c.args.client c.args.serial) =
     c.in-Some.ensures table E (ap (map (client_of table)) (sym c.deref.ensures.value)) in
-    let before : c.seen_by.result ≡ seen_by E token = c.seen_by.ensures table E (ap (map (client_of table)) (sym c.deref-2.ensures.value)) (sym c.deref-3.ensures.value) in
+    let before : c.seen_by.result
+    ≡ seen_by E token = c.seen_by.ensures table E (ap (map (client_of table)) (sym c.deref-2.ensures.value))
+    (sym c.deref-3.ensures.value) in
     let after : c.max-seen.result ≡ max (seen_by E token) g.published = c.max-seen.ensures ∙ ap (λ (n : ℕ). max n g.published) before in
     rw (← c.self.view_is)
     (ap Seen after

@@ -11,7 +11,8 @@ pub returns : goal.returns
 returns c =
     let E = opened_engine (the_view c.config.inside) in
     let table : List ℕ = c.in_ok-handler.handler.replica.document.table in
-    let replica : replica_of c.in_ok-handler.handler.replica ≡ E.replica = c.in_ok-handler.ensures.new.0 ∙ ap (λ (g : Configuration). (opened_engine g).replica) (sym c.config.view_is) in
+    let replica : replica_of c.in_ok-handler.handler.replica ≡ E.replica = c.in_ok-handler.ensures.new.0
+    ∙ ap (λ (g : Configuration). (opened_engine g).replica) (sym c.config.view_is) in
     let serials : c.from.result ≡ E.serials = c.from.ensures in
     let queue : map (submitted_of table) c.new.result.items ≡ E.queue = (λ i. map (submitted_of table) (c.new.ensures.items i)) in
     let handled : map (handled_of table) c.new-2.result.items ≡ E.handled = (λ i. map (handled_of table) (c.new-2.ensures.items i)) in
@@ -22,7 +23,7 @@ returns c =
     record {
       engine =
           (λ i. record {
-            places = E.places;
+            capacity = E.capacity;
             batch = E.batch;
             serials = serials i;
             replica = replica i;

@@ -1,4 +1,5 @@
-use Rattle.std.proofs.Common.{◌≡◌, ◌≤◌, ℕ, ◌||◌, not, true, false, List, Result, Ok, Err, length, refl, sym, ap, ◌∙◌, subst, arith, eqb-true}
+use Rattle.std.proofs.Common.{◌≡◌, ◌≤◌, ℕ, ◌||◌, not, true, false, List, Result, Ok, Err, length, refl, sym, ap, ◌∙◌, subst, arith}
+use Rattle.std.proofs.Common.{eqb-true}
 use Rattle.std.specs.Prelude.{OnErr}
 use Rattle.semantics.specs.DocumentAnswer.{is_any}
 use Rattle.semantics.specs.Entries.{Entry}
@@ -25,7 +26,8 @@ returns-in_err-publish-clause-stopped c =
     let short : length p.published ≤ length p.appended = no_shorter p.appended p.published c.publish.ensures.begins in
     let table : List ℕ = I.handler.replica.document.table in
     let none : length I.due.items ≡ 0 = (let e = eqb-true _ _ (sym c.is_empty.ensures ∙ c.if-not-is_empty.false) in omega (arith, e)) in
-    let some : length I.handled.items ≡ 0 → ⊥ = λ z. not_zero _ (sym c.is_empty-else-not-is_empty.ensures ∙ c.if-is_empty.false) (omega (arith, z)) in
+    let some : length I.handled.items ≡ 0
+    → ⊥ = λ z. not_zero _ (sym c.is_empty-else-not-is_empty.ensures ∙ c.if-is_empty.false) (omega (arith, z)) in
     let due : is_any E.due ≡ false = none_mapped (handled_of table) I.due.items none in
     let handled : is_any E.handled ≡ true = some_mapped (handled_of table) I.handled.items some in
     let part : PublishesInPart E F = record {

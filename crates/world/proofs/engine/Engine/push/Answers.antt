@@ -13,7 +13,12 @@ pub returns-in-Some-clause-reply : goal.returns-in-Some-clause-reply
 returns-in-Some-clause-reply c =
     let A : TheEngine = c.args.self.now in
     let at = c.args.client in
-    let there : at < length A.clients = omega (arith, ap (λ (F : TheEngine). length F.clients) c.self.view_is, length-map c.self.inside.clients.items (client_of c.self.inside.handler.replica.document.table)) in
+    let there : at < length A.clients = omega (
+      arith,
+      ap (λ (F : TheEngine). length F.clients) c.self.view_is,
+      length-map c.self.inside.clients.items
+          (client_of c.self.inside.handler.replica.document.table),
+    ) in
     let k = found A.clients at there in
     sym (c.in_ok-why.ensures.reply k.0 k.1 ∙ ap (taken_or_denied (length k.0.cells + 1)) c.in-Some.is)
     ∙ ap (λ (d : Command). (push A at (OfCommand (command_of d))).reply) c.in_ok-clone.ensures.cases
@@ -22,7 +27,12 @@ pub returns-in-None-clause-reply : goal.returns-in-None-clause-reply
 returns-in-None-clause-reply c =
     let A : TheEngine = c.args.self.now in
     let at = c.args.client in
-    let there : at < length A.clients = omega (arith, ap (λ (F : TheEngine). length F.clients) c.self.view_is, length-map c.self.inside.clients.items (client_of c.self.inside.handler.replica.document.table)) in
+    let there : at < length A.clients = omega (
+      arith,
+      ap (λ (F : TheEngine). length F.clients) c.self.view_is,
+      length-map c.self.inside.clients.items
+          (client_of c.self.inside.handler.replica.document.table),
+    ) in
     let k = found A.clients at there in
     ap Ticket (c.next_serial-serial.ensures k.0 k.1)
     ∙ sym (c.in_ok-why.ensures.reply k.0 k.1 ∙ ap (taken_or_denied (length k.0.cells + 1)) c.in-None.is)

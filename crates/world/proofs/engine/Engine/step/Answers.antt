@@ -13,4 +13,6 @@ returns-in_err-take_all-clause-stopped c = on_err c.from_residual.result (inl c.
 
 pub returns-in_err-publish-clause-stopped : goal.returns-in_err-publish-clause-stopped
 returns-in_err-publish-clause-stopped c =
-    on_err c.from_residual-in_err-publish.result (inr (subst (λ (E : Engine). PublishesInPart E c.publish.new.self) c.in_ok-take_all.ensures.engine c.in_err-publish.ensures.stopped))
+    on_err c.from_residual-in_err-publish.result
+    (inr (subst
+    (λ (E : Engine). PublishesInPart E c.publish.new.self) c.in_ok-take_all.ensures.engine c.in_err-publish.ensures.stopped))

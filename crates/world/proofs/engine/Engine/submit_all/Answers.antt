@@ -25,8 +25,10 @@ use Rattle.world.proofs.SubmittedRequests.{Keeps, found, push_keeps, denied_same
 use Rattle.world.proofs.engine.Engine.submit_all.Goals as goal
 
 -- the next operation is received as it is
-received_here : (M : List ℕ) (E : TheEngine) (o : Op) (rest : List Op) → E.replica.members ≡ M → All (λ (p : Op). length p.deps ≡ length M) (o ∷ rest) → received_of E.replica.members o ≡ stamped_of M o
-received_here M E o rest members wide = ap (λ ps. received_of ps o) members ∙ received_wide M o (All-head (λ (p : Op). length p.deps ≡ length M) o rest wide)
+received_here : (M : List ℕ) (E : TheEngine) (o : Op) (rest : List Op) → E.replica.members ≡ M
+    → All (λ (p : Op). length p.deps ≡ length M) (o ∷ rest) → received_of E.replica.members o ≡ stamped_of M o
+received_here M E o rest members wide = ap (λ ps. received_of ps o) members
+    ∙ received_wide M o (All-head (λ (p : Op). length p.deps ≡ length M) o rest wide)
 
 pub returns-in-Some-2-clause-submitted : goal.returns-in-Some-2-clause-submitted
 returns-in-Some-2-clause-submitted c = λ bad.
@@ -37,11 +39,15 @@ returns-in-Some-2-clause-submitted c = λ bad.
     let o : Op = c.in-Some.op in
     let rest = into_iter_items c.next.new.self in
     let steps : into_iter_items c.loop-op.op-iterator ≡ o ∷ rest = c.in-Some.ensures.steps.0 in
-    let received = received_here M E o rest c.loop-op.invariant.members (subst (All (λ (p : Op). length p.deps ≡ length M)) steps c.loop-op.invariant.wide) in
+    let received = received_here M E o rest c.loop-op.invariant.members
+    (subst (All (λ (p : Op). length p.deps ≡ length M)) steps c.loop-op.invariant.wide) in
     let k = found E.clients at c.loop-op.invariant.there in
     let there = c.in_ok-why.ensures.reply k.0 k.1 ∙ ap (taken_or_denied (length k.0.cells + 1)) c.in-Some-2.is in
-    let denied : (push E at (OfPeer (stamped_of M o))).reply ≡ Denied c.in-Some-2.why = ap (λ (s : Stamped). (push E at (OfPeer s)).reply) (sym received) ∙ there in
-    let engine : c.submit.new.self ≡ E = c.in_ok-why.ensures.engine ∙ denied_same E at (OfPeer (received_of E.replica.members o)) c.in-Some-2.why there in
+    let denied : (push E at (OfPeer (stamped_of M o))).reply
+    ≡ Denied c.in-Some-2.why = ap (λ (s : Stamped). (push E at (OfPeer s)).reply) (sym received)
+    ∙ there in
+    let engine : c.submit.new.self ≡ E = c.in_ok-why.ensures.engine
+    ∙ denied_same E at (OfPeer (received_of E.replica.members o)) c.in-Some-2.why there in
     sym (c.loop-op.invariant.left bad)
     ∙ ap (λ (os : List Op). submit_all at bad n E (map (stamped_of M) os)) steps
     ∙ submit_stop at bad n E (stamped_of M o) (map (stamped_of M) rest) c.in-Some-2.why denied
@@ -73,7 +79,8 @@ returns-in_err-why-clause-stopped c = on_err c.from_residual.result (λ bad.
     let n : ℕ = c.loop-op.submitted in
     let rest = map (stamped_of M) (into_iter_items c.loop-op.op-iterator) in
     let all = map (stamped_of M) c.args.ops.items in
-    let end : (submit_all at bad n E rest).engine ≡ (submit_all at bad 0 S all).engine = ap (λ (r : Receipt). r.engine) (c.loop-op.invariant.left bad) in
+    let end : (submit_all at bad n E rest).engine
+    ≡ (submit_all at bad 0 S all).engine = ap (λ (r : Receipt). r.engine) (c.loop-op.invariant.left bad) in
     let later = submitted_all at bad n E rest c.loop-op.invariant.sound in
     let between : IsBetween S E (submit_all at bad n E rest).engine = record {
       beyond = c.loop-op.invariant.grown;
@@ -92,10 +99,13 @@ loop-op-preserved c =
     let o : Op = c.in-Some.op in
     let rest = into_iter_items c.next.new.self in
     let steps : into_iter_items c.loop-op.op-iterator ≡ o ∷ rest = c.in-Some.ensures.steps.0 in
-    let received = received_here M E o rest c.loop-op.invariant.members (subst (All (λ (p : Op). length p.deps ≡ length M)) steps c.loop-op.invariant.wide) in
+    let received = received_here M E o rest c.loop-op.invariant.members
+    (subst (All (λ (p : Op). length p.deps ≡ length M)) steps c.loop-op.invariant.wide) in
     let k = found E.clients at c.loop-op.invariant.there in
     let there = c.in_ok-why.ensures.reply k.0 k.1 ∙ ap (taken_or_denied (length k.0.cells + 1)) c.in_default.is in
-    let taken : (push E at (OfPeer (stamped_of M o))).reply ≡ Ticket (length k.0.cells + 1) = ap (λ (s : Stamped). (push E at (OfPeer s)).reply) (sym received) ∙ there in
+    let taken : (push E at (OfPeer (stamped_of M o))).reply
+    ≡ Ticket (length k.0.cells + 1) = ap (λ (s : Stamped). (push E at (OfPeer s)).reply) (sym received)
+    ∙ there in
     let next : c.submit.new.self ≡ (push E at (OfPeer (received_of E.replica.members o))).engine = c.in_ok-why.ensures.engine in
     let keeps : Keeps E c.submit.new.self = subst (Keeps E) (sym next) (push_keeps E at (OfPeer (received_of E.replica.members o))) in
     let there_next = keeps.clients in
@@ -106,8 +116,10 @@ loop-op-preserved c =
       members = ap (λ (r : Replica). r.members) keeps.replica ∙ c.loop-op.invariant.members;
       sound = subst IsSound (sym next) (pushed E at (OfPeer (received_of E.replica.members o)) c.loop-op.invariant.sound).sound;
       still = keeps.replica ∙ c.loop-op.invariant.still;
-      grown = grown_trans c.args.self.now E c.submit.new.self c.loop-op.invariant.grown (subst (HasGrown E) (sym next) (pushed E at (OfPeer (received_of E.replica.members o)) c.loop-op.invariant.sound).grown);
-      wide = All-tail (λ (p : Op). length p.deps ≡ length M) o rest (subst (All (λ (p : Op). length p.deps ≡ length M)) steps c.loop-op.invariant.wide);
+      grown = grown_trans c.args.self.now E c.submit.new.self c.loop-op.invariant.grown
+          (subst (HasGrown E) (sym next) (pushed E at (OfPeer (received_of E.replica.members o)) c.loop-op.invariant.sound).grown);
+      wide = All-tail (λ (p : Op). length p.deps ≡ length M) o rest
+          (subst (All (λ (p : Op). length p.deps ≡ length M)) steps c.loop-op.invariant.wide);
       left = λ bad.
           ((λ i. submit_all at bad (add-one n i) (next i) (map (stamped_of M) rest))
           ∙ ap (λ (s : Stamped). submit_all at bad (suc n) (push E at (OfPeer s)).engine (map (stamped_of M) rest)) received

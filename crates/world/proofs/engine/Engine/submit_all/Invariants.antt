@@ -20,6 +20,7 @@ invariant-loop-op l = record {
   sound : IsSound l.self;
   still : l.self.replica ≡ l.fn.self.replica;
   grown : HasGrown l.fn.self l.self;
-  left : (bad : Option Refusal) → submit_all l.fn.client bad l.submitted l.self (map (stamped_of l.fn.self.replica.members) (into_iter_items l.op-iterator))
+  left : (bad : Option Refusal)
+      → submit_all l.fn.client bad l.submitted l.self (map (stamped_of l.fn.self.replica.members) (into_iter_items l.op-iterator))
       ≡ submit_all l.fn.client bad 0 l.fn.self (map (stamped_of l.fn.self.replica.members) l.fn.ops.items);
 }

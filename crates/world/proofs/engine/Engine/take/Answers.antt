@@ -1,4 +1,5 @@
-use Rattle.std.proofs.Common.{◌≡◌, ◌⊎◌, ◌||◌, not, false, nat_le, inl, inr, ℕ, List, ◌∷◌, length, map, refl, sym, ap, ◌∙◌, subst, arith, eqb-true}
+use Rattle.std.proofs.Common.{◌≡◌, ◌⊎◌, ◌||◌, not, false, nat_le, inl, inr, ℕ, List, ◌∷◌, length, map, refl, sym, ap, ◌∙◌, subst, arith}
+use Rattle.std.proofs.Common.{eqb-true}
 use Rattle.std.proofs.lemmas.List.{length-map}
 use Rattle.std.proofs.lemmas.Bool.{lt-leb}
 use Rattle.semantics.specs.DocumentAnswer.{is_any}
@@ -17,7 +18,8 @@ use Rattle.world.proofs.WholeSteps.{none_mapped}
 use Rattle.world.proofs.engine.Engine.take.Goals as goal
 
 pub handle-requires-clause-running : goal.handle-requires-clause-running
-handle-requires-clause-running c = subst (λ (E : TheEngine). IsRunning E.replica) (sym c.self.view_is) (reached_sound c.args.self.now c.requires).running
+handle-requires-clause-running c = subst (λ (E : TheEngine). IsRunning E.replica) (sym c.self.view_is)
+    (reached_sound c.args.self.now c.requires).running
 
 pub handle-requires-clause-above : goal.handle-requires-clause-above
 handle-requires-clause-above c =
@@ -25,20 +27,28 @@ handle-requires-clause-above c =
     let s : IsSound E = subst IsSound (sym c.self.view_is) (reached_sound c.args.self.now c.requires) in
     let table = c.self.inside.handler.replica.document.table in
     let x : Submitted = submitted_of table c.in-Some.item in
-    let oldest : E.queue ≡ x ∷ map (submitted_of table) c.pop_front.new.self.items = ap (map (submitted_of table)) c.in-Some.ensures.items in
+    let oldest : E.queue
+    ≡ x ∷ map (submitted_of table) c.pop_front.new.self.items = ap (map (submitted_of table)) c.in-Some.ensures.items in
     s.queued x (subst (IsAmong x) (sym oldest) (inl refl))
 
 pub returns-in_default-handle-clause-stopped : goal.returns-in_default-handle-clause-stopped
 returns-in_default-handle-clause-stopped c =
     let I = c.self.inside in
     let E : TheEngine = the_view I in
-    let F : TheEngine = the_view (record I { handler = c.handle.new.handler; publisher = c.handle.new.publisher; queue = c.push_front_reserved.new.self; handled = c.reserve.new.self }) in
+    let F : TheEngine = the_view
+    (record I {
+      handler = c.handle.new.handler;
+      publisher = c.handle.new.publisher;
+      queue = c.push_front_reserved.new.self;
+      handled = c.reserve.new.self;
+    }) in
     let table : List ℕ = I.handler.replica.document.table in
     let same_table : c.handle.new.handler.replica.document.table ≡ table = c.handle.ensures.table in
-    let same_queue : c.push_front_reserved.new.self.items ≡ I.queue.items = c.push_front_reserved.ensures.items ∙ sym c.in-Some.ensures.items in
+    let same_queue : c.push_front_reserved.new.self.items ≡ I.queue.items = c.push_front_reserved.ensures.items
+    ∙ sym c.in-Some.ensures.items in
     let is : F ≡ record E { replica = F.replica } =
     (λ i. record {
-      places = E.places;
+      capacity = E.capacity;
       batch = E.batch;
       serials = E.serials;
       replica = F.replica;
@@ -51,7 +61,8 @@ returns-in_default-handle-clause-stopped c =
     }) in
     let none : length I.due.items ≡ 0 = (let e = eqb-true _ _ (sym c.is_empty.ensures ∙ c.if-not-is_empty.false) in omega (arith, e)) in
     let due : is_any E.due ≡ false = none_mapped (handled_of table) I.due.items none in
-    let low : nat_le E.batch (length E.handled) ≡ false = lt-leb E.batch (length E.handled) (omega (arith, length-map I.handled.items (handled_of table))) in
+    let low : nat_le E.batch (length E.handled)
+    ≡ false = lt-leb E.batch (length E.handled) (omega (arith, length-map I.handled.items (handled_of table))) in
     let part : TakesInPart E F = inr (record {
       free = λ i. due i || low i;
       item = submitted_of table c.in-Some.item;

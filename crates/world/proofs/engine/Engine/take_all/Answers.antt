@@ -19,7 +19,8 @@ returns-then-is_empty-clause-engine c =
     let E : Engine = c.loop.self in
     let q = c.self-in-loop.inside.queue in
     let none : length q.items ≡ 0 = (let e = eqb-true _ _ (sym c.is_empty.ensures ∙ c.if-is_empty.true) in omega (arith, e)) in
-    let empty : E.queue ≡ [] = ap (λ (F : Engine). F.queue) (sym c.self-in-loop.view_is) ∙ ap (map (submitted_of c.self-in-loop.inside.handler.replica.document.table)) (none_of q.items none) in
+    let empty : E.queue ≡ [] = ap (λ (F : Engine). F.queue) (sym c.self-in-loop.view_is)
+    ∙ ap (map (submitted_of c.self-in-loop.inside.handler.replica.document.table)) (none_of q.items none) in
     sym (take_none (c.args.self.now.batch - c.loop.counter) E empty) ∙ c.loop.invariant.taken
 
 on_err : {X Y Q : Type 0} (r : Result X Y) → Q → OnErr r Q
@@ -30,7 +31,8 @@ pub returns-in_err-take-clause-stopped : goal.returns-in_err-take-clause-stopped
 returns-in_err-take-clause-stopped c =
     let S : Engine = c.args.self.now in
     let batch : c.self.inside.batch ≡ S.batch = ap (λ (F : Engine). F.batch) c.self.view_is in
-    let part : TakesInPart (take_for c.loop.counter S) c.take.new.self = subst (λ E. TakesInPart E c.take.new.self) c.loop.invariant.so_far c.in_err-take.ensures.stopped in
+    let part : TakesInPart (take_for c.loop.counter S) c.take.new.self = subst
+    (λ E. TakesInPart E c.take.new.self) c.loop.invariant.so_far c.in_err-take.ensures.stopped in
     on_err c.from_residual.result (c.loop.counter, omega (arith, batch, c.loop-test.true), part)
 
 pub loop-preserved : goal.loop-preserved

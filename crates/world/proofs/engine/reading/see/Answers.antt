@@ -12,17 +12,25 @@ returns-then-token-len c = λ table E clients readers.
     let at = c.args.token in
     let m = c.index_mut-k.result.now in
     let within : at < length ks = omega arith in
-    let there : slice_get E.clients at ≡ Some (client_of table m) = ap (λ (xs : List TheClient). slice_get xs at) clients ∙ read_mapped (client_of table) ks at m within c.index_mut-k.ensures.value in
+    let there : slice_get E.clients at ≡ Some (client_of table m) = ap (λ (xs : List TheClient). slice_get xs at) clients
+    ∙ read_mapped (client_of table) ks at m within c.index_mut-k.ensures.value in
     see-client E at c.args.seen (client_of table m) there
-    ∙ (λ i. record E { clients = set (clients i) at (record { seen = c.args.seen; cells = map (cell_of table) m.cells.items }); readers = readers i })
-    ∙ (λ i. record E { clients = sym (map-set (client_of table) ks at (record { seen = c.args.seen; cells = m.cells })) i; readers = c.args.readers.now.items }))
+    ∙ (λ i. record E {
+      clients = set (clients i) at (record { seen = c.args.seen; cells = map (cell_of table) m.cells.items });
+      readers = readers i;
+    })
+    ∙ (λ i. record E {
+      clients = sym (map-set (client_of table) ks at (record { seen = c.args.seen; cells = m.cells })) i;
+      readers = c.args.readers.now.items;
+    }))
 
 pub returns-then-reader-len : goal.returns-then-reader-len
 returns-then-reader-len c = λ table E clients readers.
     (let ks = c.args.clients.now.items in
     let at = c.args.token in
     let len = length-map ks (client_of table) in
-    let none : slice_get E.clients at ≡ None = ap (λ (xs : List TheClient). slice_get xs at) clients ∙ slice_get_past (map (client_of table) ks) at (omega (arith, len)) in
-    let place : at - length E.clients ≡ at - c.len-2.result = (let n = ap length clients in omega (arith, n, len)) in
+    let none : slice_get E.clients at ≡ None = ap (λ (xs : List TheClient). slice_get xs at) clients
+    ∙ slice_get_past (map (client_of table) ks) at (omega (arith, len)) in
+    let index : at - length E.clients ≡ at - c.len-2.result = (let n = ap length clients in omega (arith, n, len)) in
     see-reader E at c.args.seen none
-    ∙ (λ i. record E { clients = clients i; readers = set (readers i) (place i) c.args.seen }))
+    ∙ (λ i. record E { clients = clients i; readers = set (readers i) (index i) c.args.seen }))

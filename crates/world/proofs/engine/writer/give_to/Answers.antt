@@ -13,4 +13,6 @@ returns-then-client-len c = λ table.
     read_mapped (client_of table) ks at c.index_mut-client.result.now within c.index_mut-client.ensures.value in
     map-set (client_of table) ks at c.answer.new.self
     ∙ ap (set (map (client_of table) ks) at) (c.answer.ensures table)
-    ∙ sym (give_to-there (map (client_of table) ks) at c.args.serial (given_of c.args.given) (client_of table c.index_mut-client.result.now) there))
+    ∙ sym
+    (give_to-there (map (client_of table) ks) at c.args.serial (given_of c.args.given)
+    (client_of table c.index_mut-client.result.now) there))

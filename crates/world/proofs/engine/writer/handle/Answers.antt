@@ -10,13 +10,15 @@ use Rattle.world.proofs.engine.writer.handle.Goals as goal
 pub returns-clause-table : goal.returns-clause-table
 returns-clause-table c =
     let w = c.args.handler.now in
-    (handled (handler_of w) (handler_of c.handle-reply.new.self) (submitted_of w.replica.document.table c.args.item.now) (answer_of c.handle-reply.result)
+    (handled (handler_of w) (handler_of c.handle-reply.new.self) (submitted_of w.replica.document.table c.args.item.now)
+    (answer_of c.handle-reply.result)
     c.requires.running c.requires.above c.handle-reply.ensures.handled).members
 
 pub returns-then-handler-clause-table : goal.returns-then-handler-clause-table
 returns-then-handler-clause-table c =
     let w = c.args.handler.now in
-    (handled (handler_of w) (handler_of c.handle-reply.new.self) (submitted_of w.replica.document.table c.args.item.now) (answer_of c.handle-reply.result)
+    (handled (handler_of w) (handler_of c.handle-reply.new.self) (submitted_of w.replica.document.table c.args.item.now)
+    (answer_of c.handle-reply.result)
     c.requires.running c.requires.above c.handle-reply.ensures.handled).members
 
 -- whatever became of the item, it was handled in part
@@ -28,4 +30,5 @@ in_part w v x y (inr (inr cut)) = inr (inr (cut.stamped, cut.replica.0, cut.requ
 pub returns-then-handler-clause-stopped : goal.returns-then-handler-clause-stopped
 returns-then-handler-clause-stopped c =
     let w = c.args.handler.now in
-    in_part (handler_of w) (handler_of c.handle-reply.new.self) (submitted_of w.replica.document.table c.args.item.now) (answer_of c.handle-reply.result) c.handle-reply.ensures.handled
+    in_part (handler_of w) (handler_of c.handle-reply.new.self) (submitted_of w.replica.document.table c.args.item.now)
+    (answer_of c.handle-reply.result) c.handle-reply.ensures.handled

@@ -16,9 +16,13 @@ returns-in_err-replies-clause-stopped c =
     let A : Running = the_view c.self.inside in
     let n : ℕ = c.run_all-outcome.new.whole in
     let V : World = world c.run_all-outcome.new.engines.items (map message_of c.run_all-outcome.new.messages.items) in
-    let stopped : (n : ℕ) × (c.saturating_add-self-inside.result ≡ min (A.done + n) 18446744073709551615) × StopsAfter (world_of A) (map (step_in (tables_of A.engines)) c.args.steps.now) n V =
+    let stopped : (n : ℕ) × (c.saturating_add-self-inside.result ≡ min (A.done + n) 18446744073709551615)
+    × StopsAfter (world_of A) (map (step_in (tables_of A.engines)) c.args.steps.now) n V =
     (n, c.saturating_add-self-inside.ensures, c.in_err-replies.ensures.stopped) in
-    on_err c.from_residual.result (λ running. subst (λ (B : Running). (n : ℕ) × (c.saturating_add-self-inside.result ≡ min (B.done + n) 18446744073709551615) × StopsAfter (world_of B) (map (step_in (tables_of B.engines)) c.args.steps.now) n V) c.self.view_is stopped)
+    on_err c.from_residual.result
+    (λ running. subst
+    (λ (B : Running). (n : ℕ) × (c.saturating_add-self-inside.result ≡ min (B.done + n) 18446744073709551615)
+    × StopsAfter (world_of B) (map (step_in (tables_of B.engines)) c.args.steps.now) n V) c.self.view_is stopped)
 
 pub invariant_of-self-2 : goal.invariant_of-self-2
 invariant_of-self-2 c = λ running.
