@@ -23,7 +23,8 @@ is_same_written p q = (nat_eq p.0.counter q.0.counter && nat_eq p.0.replica q.0.
 
 -- v and w are one view
 abbrev pub is_same_view : View → View → Bool
-is_same_view v w = nat_eq v.length w.length && pointwise (pointwise nat_eq) v.keys w.keys && pointwise (pointwise is_same_written) v.values w.values
+is_same_view v w = nat_eq v.length w.length && pointwise (pointwise nat_eq) v.keys w.keys
+    && pointwise (pointwise is_same_written) v.values w.values
 
 -- there is one view, of a history with n operations, that all of them are
 abbrev pub ShowAlike : ℕ → List View → Type 0

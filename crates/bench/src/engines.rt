@@ -28,7 +28,7 @@ use std::thread::{Threads, join, map_vec};
 pub fn play<R: Threads + Wait + Sync>(rt: &R, alloc: Global, plan: Plan) -> Result<Verdict, Stop>
     ensures { IfOk result (λ v. (v ≡ Differ) ⊎ (v ≡ Agree (plan.replicas * (plan.writers * plan.ops)))) }
 {
-    let (links, seats) = places(alloc, plan)?;
+    let (links, seats) = links_and_seats(alloc, plan)?;
     let (met, ended) = join(
         rt,
         move || meet(rt, alloc, links),
@@ -49,7 +49,7 @@ struct Seat {
 }
 
 /// A link to each engine, and what each engine's thread gets.
-fn places(alloc: Global, plan: Plan) -> Result<(Vec<Link>, Vec<Seat>), AllocError> {
+fn links_and_seats(alloc: Global, plan: Plan) -> Result<(Vec<Link>, Vec<Seat>), AllocError> {
     let mut links = Vec::new(alloc);
     let mut seats = Vec::new(alloc);
     for own in 1..=plan.replicas() {

@@ -34,7 +34,8 @@ pub fn worker<N: EngineName, R: Wait, G: Gate>(
     key: &Key,
     ops: u32,
 ) -> Result<bool, Stop>
-    ensures requests { (n : ℕ) × (n ≤ ops) × (result ≡ Ok true → n ≡ ops) × (requests_by N.table client.new ≡ requests_by N.table client.old ++ assignments key.now n) }
+    ensures requests { (n : ℕ) × (n ≤ ops) × (result ≡ Ok true → n ≡ ops)
+        × (requests_by N.table client.new ≡ requests_by N.table client.old ++ assignments key.now n) }
     ensures read { result ≡ Ok true → 0 < ops → Shows client.new.seen key.now (ops - 1) }
     ensures same { client.new ≡ record client.old { seen = client.new.seen; read = client.new.read; kept = client.new.kept } }
 {
@@ -131,7 +132,8 @@ fn is_read<N: EngineName>(
 
 /// Whether these are the values of one operation, which wrote this number.
 fn is_number_alone(values: &[(OpId, Scalar)], number: u32) -> bool
-    ensures { result ≡ true → (a : AnId) × (map {B = AnId × TheScalar} (λ p. (p.0, scalar_of p.1)) values.now ≡ (a, Whole (pos number)) ∷ []) }
+    ensures { result ≡ true
+        → (a : AnId) × (map {B = AnId × TheScalar} (λ p. (p.0, scalar_of p.1)) values.now ≡ (a, Whole (pos number)) ∷ []) }
 {
     values.len() == 1 && values[0].1 == Scalar::Whole(i64::from(number))
 }

@@ -7,7 +7,8 @@ IsBenchStatus status = (status ≡ 0) ⊎ (status ≡ 1) ⊎ (status ≡ 3) ⊎ 
 
 -- the line that says how many replicas show how many operations
 abbrev pub agreement : ℕ → ℕ → List ℕ
-agreement replicas operations = codes "agree " ++ (decimal replicas ++ (codes " replicas " ++ (decimal operations ++ codes " operations\n")))
+agreement replicas operations = codes "agree "
+    ++ (decimal replicas ++ (codes " replicas " ++ (decimal operations ++ codes " operations\n")))
 
 -- the line that says that what was read differs from what was written, or from what another replica shows
 abbrev pub difference : List ℕ

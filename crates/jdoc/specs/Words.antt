@@ -26,10 +26,16 @@ number_rule name most = record (new_rule name) { long = Some name; required = tr
 
 -- an option with the capacity of a queue, the greatest where it isn't given
 abbrev pub queue_rule : Rule
-queue_rule = record (new_rule (codes "queue")) { long = Some (codes "queue"); parser = Some (Unsigned 1 65536); defaults = codes "65536" ∷ [] }
+queue_rule = record (new_rule (codes "queue")) {
+  long = Some (codes "queue");
+  parser = Some (Unsigned 1 65536);
+  defaults = codes "65536" ∷ [];
+}
 
 abbrev pub required_app : App
-required_app = with_rule (with_rule (with_rule (new_app (codes "bench")) (number_rule (codes "replicas") 16)) (number_rule (codes "writers") 16)) (number_rule (codes "ops") 4096)
+required_app = with_rule
+    (with_rule (with_rule (new_app (codes "bench")) (number_rule (codes "replicas") 16)) (number_rule (codes "writers") 16))
+    (number_rule (codes "ops") 4096)
 
 abbrev pub bench_app : App
 bench_app = with_rule required_app queue_rule
@@ -43,7 +49,8 @@ jdoc_app = with_subcommand (with_subcommand (on_top with_settings (new_app (code
 
 -- the option's text is a decimal numeral, maybe after a plus, and this is its number
 abbrev pub IsNumber : Text → List Row → ℕ → Type 0
-IsNumber option rows n = (t : Text) × (one_of option rows ≡ Some t) × IsNumeral 10 (without_leading_plus t) × (n ≡ digits_value 10 (without_leading_plus t))
+IsNumber option rows n = (t : Text) × (one_of option rows ≡ Some t) × IsNumeral 10 (without_leading_plus t)
+    × (n ≡ digits_value 10 (without_leading_plus t))
 
 -- the plan is that of the options
 abbrev pub IsPlanOf : List Row → Plan → Type 0

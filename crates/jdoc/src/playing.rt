@@ -26,7 +26,8 @@ pub fn bench<R: Threads + Wait + Sync, O: Write, F: Write>(
     ensures status { IsBenchStatus result }
 
     // Only what holds of known bytes can be said.
-    ensures agree { result ≡ 0 → Appends (O.contents out.old) (O.contents out.new) (agreement plan.replicas (plan.replicas * (plan.writers * plan.ops))) }
+    ensures agree { result ≡ 0
+        → Appends (O.contents out.old) (O.contents out.new) (agreement plan.replicas (plan.replicas * (plan.writers * plan.ops))) }
     ensures differ { result ≡ 1 → Appends (O.contents out.old) (O.contents out.new) difference }
     ensures silent { (result ≡ 3) ⊎ (result ≡ 4) → O.contents out.new ≡ O.contents out.old }
     ensures no_fault { (result ≡ 0) ⊎ (result ≡ 1) → F.contents faults.new ≡ F.contents faults.old }
@@ -57,7 +58,9 @@ fn agree<O: Write, F: Write>(
     faults: &mut F,
 ) -> Status
     ensures status { (result ≡ Done) ⊎ (result ≡ NoMemory) ⊎ (result ≡ NotWritten) }
-    ensures done { result ≡ Done → Appends (O.contents out.old) (O.contents out.new) (agreement replicas operations) × (F.contents faults.new ≡ F.contents faults.old) }
+    ensures done { result ≡ Done
+        → Appends (O.contents out.old) (O.contents out.new) (agreement replicas operations)
+        × (F.contents faults.new ≡ F.contents faults.old) }
     ensures silent { result ≡ NoMemory → O.contents out.new ≡ O.contents out.old }
 {
     match format!(in alloc; "agree {replicas} replicas {operations} operations\n") {

@@ -33,7 +33,8 @@ pub enum BadWords {
     OutOfRange,
 }
 
-ghost use Rattle.jdoc.specs.Words.{IsJobOf, IsNumber, IsOutOfMemory, IsPlanOf, IsRefusedBy, bench_app, jdoc_app, number_rule, queue_rule, run_app};
+ghost use Rattle.jdoc.specs.Words.{IsJobOf, IsNumber, IsOutOfMemory, IsPlanOf, IsRefusedBy, bench_app, jdoc_app, number_rule, queue_rule};
+ghost use Rattle.jdoc.specs.Words.{run_app};
 ghost use Rattle.jdoc.specs.declared.words.BadWords.TheVariants.{Refused as RefusedBy};
 
 impl From<Error> for BadWords {
@@ -147,7 +148,7 @@ fn number<'a>(alloc: Global, name: &'a str, most: u64) -> Arg<'a>
         .value_parser(ValueParser::unsigned(1, most))
 }
 
-/// The option for the places of each engine's queue.
+/// The option for the capacity of each engine's queue.
 fn queue_option<'a>(alloc: Global) -> Arg<'a>
     ensures rule { rule_of result ≡ queue_rule }
     ensures local { result.global ≡ false }

@@ -25,7 +25,8 @@ returns-in-Some-clause-refused c =
     let words : List Text = map (λ w. w.now) c.args.words.now in
     let name : Text = c.in-Some.name.now in
     let rows : List Row = rows_of (found_of c.in-Some.found.now) in
-    let there = sym c.in_ok-matches.ensures.found ∙ met (out-ArgMatches c.in_ok-matches.matches).subcommand name rows c.in-Some.ensures.name c.in-Some.ensures.rows in
+    let there = sym c.in_ok-matches.ensures.found
+    ∙ met (out-ArgMatches c.in_ok-matches.matches).subcommand name rows c.in-Some.ensures.name c.in-Some.ensures.rows in
     let named : name ≡ codes "bench" = search rules in
     let gone : c.plan_of.result ≡ None = search rules in
     no_job words (name, rows) there named (c.plan_of.ensures.none gone)
@@ -34,5 +35,6 @@ pub returns-in-Some-2-clause-job : goal.returns-in-Some-2-clause-job
 returns-in-Some-2-clause-job c =
     let name : Text = c.in-Some.name.now in
     let rows : List Row = rows_of (found_of c.in-Some.found.now) in
-    let there = sym c.in_ok-matches.ensures.found ∙ met (out-ArgMatches c.in_ok-matches.matches).subcommand name rows c.in-Some.ensures.name c.in-Some.ensures.rows in
+    let there = sym c.in_ok-matches.ensures.found
+    ∙ met (out-ArgMatches c.in_ok-matches.matches).subcommand name rows c.in-Some.ensures.name c.in-Some.ensures.rows in
     ((name, rows), there, (search rules, sym (c.get_str.ensures ∙ first_value-rows (found_of c.in-Some.found.now) (codes "SCRIPT"))))
