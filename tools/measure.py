@@ -13,6 +13,8 @@ import sys
 import tempfile
 
 BATCH = 256
+# How many submissions wait at most. A bundle of more is taken so far, and the rest comes with the next one.
+QUEUE = 65_536
 SIZES = (1_000, 10_000, 100_000, 1_000_000)
 # What takes longer than this isn't tried at the next size.
 LONGEST = 60.0
@@ -21,7 +23,7 @@ LONGEST = 60.0
 def world(engines):
     """The first line, with engines that are members of one another."""
     members = ",".join(str(n + 1) for n in range(engines))
-    one = ",".join(f"[{n + 1},[{members}],1,1,65536,{BATCH},4294967295]" for n in range(engines))
+    one = ",".join(f"[{n + 1},[{members}],1,1,{QUEUE},{BATCH},4294967295]" for n in range(engines))
     return f'["world",[{one}]]'
 
 
@@ -41,13 +43,14 @@ class Messages:
         self.next = 0
 
     def get(self, to, of, operations):
-        """An engine gets what another one has, and handles so many operations."""
-        yield f'["hello",{to},1]'
-        yield f'["bundle",{of},1,{self.next}]'
-        yield f'["deliver",{to},0,{self.next + 1}]'
-        self.next += 2
-        for _ in range(operations // BATCH + 2):
-            yield f'["step",{to}]'
+        """An engine gets what another one has, so many operations, and handles them."""
+        for done in range(0, operations, QUEUE):
+            yield f'["hello",{to},1]'
+            yield f'["bundle",{of},1,{self.next}]'
+            yield f'["deliver",{to},0,{self.next + 1}]'
+            self.next += 2
+            for _ in range(min(operations - done, QUEUE) // BATCH + 1):
+                yield f'["step",{to}]'
 
 
 def assign(key, value):
@@ -118,7 +121,7 @@ def apart(commands, all_writes=True, after=()):
         for engine in (0, 1):
             if all_writes or engine == 1:
                 yield from pushes(engine, commands(n // 2 if all_writes else n, engine))
-        yield from messages.get(0, 1, n)
+        yield from messages.get(0, 1, n // 2 if all_writes else n)
         yield from after
     return lines
 
