@@ -1,5 +1,7 @@
 -- Blocks of which one was changed.
-use Rattle.std.proofs.Common.{◌≡◌, refl, sym, ap, ◌∙◌, subst, ℕ, zero, suc, ◌+◌, ◌-◌, ◌<◌, ◌≤◌, Bool, true, false, true≢false, cond, ◌||◌, ◌⊎◌, inl, inr, List, [], ◌∷◌, ◌++◌, length, set, length-set, drop, take, Option, Some, is_some, slice_get, arith, append_assoc}
+use Rattle.std.proofs.Common.{◌≡◌, refl, sym, ap, ◌∙◌, subst, ℕ, zero, suc, ◌+◌, ◌-◌, ◌<◌, ◌≤◌, Bool, true, false, true≢false, cond, ◌||◌}
+use Rattle.std.proofs.Common.{◌⊎◌, inl, inr, List, [], ◌∷◌, ◌++◌, length, set, length-set, drop, take, Option, Some, is_some, slice_get}
+use Rattle.std.proofs.Common.{arith, append_assoc}
 use Rattle.std.specs.Prelude.{min}
 use Rattle.std.specs.List.{insert, items_where_true}
 use Rattle.std.specs.FinMap.{find, put}
@@ -14,14 +16,16 @@ use Rattle.semantics.proofs.SetElements.{get-set_other, get-set_same}
 use Rattle.semantics.specs.Context.{insert_after}
 use Rattle.columns.specs.Rank.{has_key, keys_of}
 use Rattle.columns.specs.Orders.{has_item}
-use Rattle.columns.specs.Blocks.{AreApart, AreBlocks, AreHomed, GoesIn, IsBehind, Run, items_before, items_from, joined, joined_shown, room_at}
+use Rattle.columns.specs.Blocks.{AreApart, AreBlocks, AreHomed, GoesIn, IsBehind, Run, items_before, items_from, joined, joined_shown}
+use Rattle.columns.specs.Blocks.{room_at}
 use Rattle.columns.proofs.InBlock.{has_item-append}
 use Rattle.columns.proofs.Flags.{shown_insert}
 use Rattle.columns.proofs.Same.{or_parts, some_is, turned_ids}
 use Rattle.columns.proofs.Runs.{from_first, items_here, split_at}
 
 -- what stands at an index of a list of which one was set
-pub set_cases : {X : Type 0} (xs : List X) (i j : ℕ) (x y z : X) → slice_get xs i ≡ Some x → slice_get (set xs i y) j ≡ Some z → ((j ≡ i) × (z ≡ y)) ⊎ ((j ≡ i → ⊥) × (slice_get xs j ≡ Some z))
+pub set_cases : {X : Type 0} (xs : List X) (i j : ℕ) (x y z : X) → slice_get xs i ≡ Some x → slice_get (set xs i y) j ≡ Some z
+    → ((j ≡ i) × (z ≡ y)) ⊎ ((j ≡ i → ⊥) × (slice_get xs j ≡ Some z))
 set_cases xs i j x y z is at = elim (cases_eq j i) [
   | inl e ↦ inl (e, some_is z y (sym at ∙ ap (slice_get (set xs i y)) e ∙ get-set_same xs i x y is))
   | inr other ↦ inr (other, sym (get-set_other xs i j y other) ∙ at)
@@ -45,17 +49,22 @@ room_within (r ∷ runs) zero room = omega arith
 room_within (r ∷ runs) (suc k) room = let rest = room_within runs k room in omega (arith, rest)
 
 -- an item of a block is an item
-pub has_in : (runs : List Run) (k : ℕ) (r : Run) (a : OpId) → slice_get runs k ≡ Some r → has_item a r.items ≡ true → has_item a (joined runs) ≡ true
+pub has_in : (runs : List Run) (k : ℕ) (r : Run) (a : OpId) → slice_get runs k ≡ Some r → has_item a r.items ≡ true
+    → has_item a (joined runs) ≡ true
 has_in [] k r a is has = absurd (cc is)
-has_in (s ∷ runs) zero r a is has = has_item-append a s.items (joined runs) ∙ ap (λ b. b || has_item a (joined runs)) (ap (λ (o : Run). has_item a o.items) (some_is s r is) ∙ has)
-has_in (s ∷ runs) (suc k) r a is has = has_item-append a s.items (joined runs) ∙ or_right (has_item a s.items) (has_item a (joined runs)) (has_in runs k r a is has)
+has_in (s ∷ runs) zero r a is has = has_item-append a s.items (joined runs)
+    ∙ ap (λ b. b || has_item a (joined runs)) (ap (λ (o : Run). has_item a o.items) (some_is s r is) ∙ has)
+has_in (s ∷ runs) (suc k) r a is has = has_item-append a s.items (joined runs)
+    ∙ or_right (has_item a s.items) (has_item a (joined runs)) (has_in runs k r a is has)
 
 -- an id that is no item is none of a block
-pub lacks_in : (runs : List Run) (k : ℕ) (r : Run) (a b : OpId) → slice_get runs k ≡ Some r → has_item a (joined runs) ≡ false → has_item b r.items ≡ true → is_same_id b a ≡ false
+pub lacks_in : (runs : List Run) (k : ℕ) (r : Run) (a b : OpId) → slice_get runs k ≡ Some r → has_item a (joined runs) ≡ false
+    → has_item b r.items ≡ true → is_same_id b a ≡ false
 lacks_in runs k r a b is absent has = at_test (is_same_id b a) refl
   where
     at_test : (t : Bool) → is_same_id b a ≡ t → t ≡ false
-    at_test true e = absurd (true≢false (sym (has_in runs k r b is has) ∙ ap (λ p. has_item p (joined runs)) (ids_from_test b a e) ∙ absent))
+    at_test true e = absurd
+        (true≢false (sym (has_in runs k r b is has) ∙ ap (λ p. has_item p (joined runs)) (ids_from_test b a e) ∙ absent))
     at_test false e = refl
 
 module _ (runs : List Run) (k : ℕ) (r q : Run) (is : slice_get runs k ≡ Some r) where
@@ -63,10 +72,12 @@ module _ (runs : List Run) (k : ℕ) (r q : Run) (is : slice_get runs k ≡ Some
   pub joined_set : joined (set runs k q) ≡ items_before runs k 0 ++ (q.items ++ items_from runs (suc k) 0)
   joined_set = go runs k is
     where
-      go : (runs : List Run) (k : ℕ) → slice_get runs k ≡ Some r → joined (set runs k q) ≡ items_before runs k 0 ++ (q.items ++ items_from runs (suc k) 0)
+      go : (runs : List Run) (k : ℕ) → slice_get runs k ≡ Some r
+          → joined (set runs k q) ≡ items_before runs k 0 ++ (q.items ++ items_from runs (suc k) 0)
       go [] k is = absurd (cc is)
       go (s ∷ runs) zero is = ap (λ xs. q.items ++ xs) (sym (from_first runs))
-      go (s ∷ runs) (suc k) is = ap (λ xs. s.items ++ xs) (go runs k is) ∙ sym (append_assoc s.items (items_before runs k 0) (q.items ++ items_from runs (suc k) 0))
+      go (s ∷ runs) (suc k) is = ap (λ xs. s.items ++ xs) (go runs k is)
+          ∙ sym (append_assoc s.items (items_before runs k 0) (q.items ++ items_from runs (suc k) 0))
 
   pub joined_same : q.items ≡ r.items → joined (set runs k q) ≡ joined runs
   joined_same same = go runs k is
@@ -82,7 +93,8 @@ module _ (runs : List Run) (k : ℕ) (r q : Run) (is : slice_get runs k ≡ Some
     where
       go : (runs : List Run) (k : ℕ) → slice_get runs k ≡ Some r → joined_shown (set runs k q) ≡ joined_shown runs
       go [] k is = absurd (cc is)
-      go (s ∷ runs) zero is = ap (λ xs. xs ++ joined_shown runs) (same ∙ ap (λ (o : Run). items_where_true o.flags o.items) (sym (some_is s r is)))
+      go (s ∷ runs) zero is = ap (λ xs. xs ++ joined_shown runs)
+          (same ∙ ap (λ (o : Run). items_where_true o.flags o.items) (sym (some_is s r is)))
       go (s ∷ runs) (suc k) is = ap (λ xs. items_where_true s.flags s.items ++ xs) (go runs k is)
 
   pub room_same : q.room ≡ r.room → (j : ℕ) → room_at (set runs k q) j ≡ room_at runs j
@@ -96,7 +108,8 @@ module _ (runs : List Run) (k : ℕ) (r q : Run) (is : slice_get runs k ≡ Some
       go (s ∷ runs) (suc k) (suc j) is = go runs k j is
 
   -- the same items, as a block of this room or more
-  pub blocks_same : (homes : List (OpId × ℕ)) (last : ℕ) → AreBlocks runs homes last → q.number ≡ r.number → q.items ≡ r.items → length q.flags ≡ length q.items → r.room ≤ q.room → AreBlocks (set runs k q) homes last
+  pub blocks_same : (homes : List (OpId × ℕ)) (last : ℕ) → AreBlocks runs homes last → q.number ≡ r.number → q.items ≡ r.items
+      → length q.flags ≡ length q.items → r.room ≤ q.room → AreBlocks (set runs k q) homes last
   blocks_same homes last are number items long room = record {
     long = λ j s at. elim (set_cases runs k j r q s is at) [
       | inl same ↦ ap (λ (o : Run). length o.flags) same.1 ∙ long ∙ ap (λ (o : Run). length o.items) (sym same.1)
@@ -104,7 +117,8 @@ module _ (runs : List Run) (k : ℕ) (r q : Run) (is : slice_get runs k ≡ Some
     ];
     at_home = record {
       homed = λ j s at a has. elim (set_cases runs k j r q s is at) [
-        | inl same ↦ are.at_home.homed k r is a (ap (has_item a) (sym items ∙ ap (λ (o : Run). o.items) (sym same.1)) ∙ has) ∙ ap Some (sym number ∙ ap (λ (o : Run). o.number) (sym same.1))
+        | inl same ↦ are.at_home.homed k r is a (ap (has_item a) (sym items ∙ ap (λ (o : Run). o.items) (sym same.1)) ∙ has)
+            ∙ ap Some (sym number ∙ ap (λ (o : Run). o.number) (sym same.1))
         | inr other ↦ are.at_home.homed j s other.1 a has
       ];
       only = λ a. are.at_home.only a ∙ ap (has_item a) (sym (joined_same items));
@@ -112,13 +126,15 @@ module _ (runs : List Run) (k : ℕ) (r q : Run) (is : slice_get runs k ≡ Some
     apart = subst AreApart (sym (joined_same items)) are.apart;
     within = subst (λ n. last ≤ n - 1) (sym (length-set runs k q)) are.within;
     spare = λ j s at other. elim (set_cases runs k j r q s is at) [
-      | inl same ↦ let some = are.spare k r is (λ e. other (same.0 ∙ e)) in subst (λ (o : Run). 0 < o.room) (sym same.1) (omega (arith, some, room))
+      | inl same ↦ let some = are.spare k r is (λ e. other (same.0 ∙ e)) in
+          subst (λ (o : Run). 0 < o.room) (sym same.1) (omega (arith, some, room))
       | inr old ↦ are.spare j s old.1 other
     ];
   }
 
 -- a key of a column with one more
-has_key-put : (p id : OpId) (m : ℕ) (column : List (OpId × ℕ)) → has_key id_cmp p (keys_of (put id_cmp id m column)) ≡ (is_same_id p id || has_key id_cmp p (keys_of column))
+has_key-put : (p id : OpId) (m : ℕ) (column : List (OpId × ℕ))
+    → has_key id_cmp p (keys_of (put id_cmp id m column)) ≡ (is_same_id p id || has_key id_cmp p (keys_of column))
 has_key-put p id m column =
     sym (is_some-find id_cmp p (put id_cmp id m column))
     ∙ ap is_some (find-put id_cmp id_total p id m column)
@@ -131,7 +147,8 @@ has_key-put p id m column =
 
 has_item-insert : (p id : OpId) (xs ys : List OpId) → has_item p (xs ++ id ∷ ys) ≡ (is_same_id p id || has_item p (xs ++ ys))
 has_item-insert p id [] ys = refl
-has_item-insert p id (x ∷ xs) ys = ap (λ b. is_same_id p x || b) (has_item-insert p id xs ys) ∙ swapped (is_same_id p x) (is_same_id p id) (has_item p (xs ++ ys))
+has_item-insert p id (x ∷ xs) ys = ap (λ b. is_same_id p x || b) (has_item-insert p id xs ys)
+    ∙ swapped (is_same_id p x) (is_same_id p id) (has_item p (xs ++ ys))
   where
     swapped : (a b c : Bool) → (a || (b || c)) ≡ (b || (a || c))
     swapped true true c = refl
@@ -148,23 +165,27 @@ apart_insert a (x ∷ xs) ys apart absent =
     )
 
 -- where the last block has room, all have
-pub roomy : (runs : List Run) (homes : List (OpId × ℕ)) (last : ℕ) → AreBlocks runs homes last → 0 < room_at runs last → (j : ℕ) (s : Run) → slice_get runs j ≡ Some s → 0 < s.room
+pub roomy : (runs : List Run) (homes : List (OpId × ℕ)) (last : ℕ) → AreBlocks runs homes last → 0 < room_at runs last → (j : ℕ) (s : Run)
+    → slice_get runs j ≡ Some s → 0 < s.room
 roomy runs homes last are room j s at = elim (cases_eq j last) [
   | inl e ↦ subst (λ n. 0 < n) (ap (room_at runs) (sym e) ∙ room_here runs j s at) room
   | inr other ↦ are.spare j s at other
 ]
 
 -- an item that came into a block
-module _ (runs : List Run) (k i : ℕ) (r q : Run) (a : OpId) (is : slice_get runs k ≡ Some r) (within : i ≤ length r.items) (items : q.items ≡ insert r.items i a) (flags : q.flags ≡ insert r.flags i false) where
+module _ (runs : List Run) (k i : ℕ) (r q : Run) (a : OpId) (is : slice_get runs k ≡ Some r) (within : i ≤ length r.items)
+    (items : q.items ≡ insert r.items i a) (flags : q.flags ≡ insert r.flags i false) where
   pub joined_put : joined (set runs k q) ≡ items_before runs k i ++ (a ∷ items_from runs k i)
   joined_put = go runs k is
     where
-      go : (runs : List Run) (k : ℕ) → slice_get runs k ≡ Some r → joined (set runs k q) ≡ items_before runs k i ++ (a ∷ items_from runs k i)
+      go : (runs : List Run) (k : ℕ) → slice_get runs k ≡ Some r
+          → joined (set runs k q) ≡ items_before runs k i ++ (a ∷ items_from runs k i)
       go [] k is = absurd (cc is)
       go (s ∷ runs) zero is =
           ap (λ xs. xs ++ joined runs) (items ∙ ap (λ (o : Run). insert o.items i a) (sym (some_is s r is)))
           ∙ append_assoc (take i s.items) (a ∷ drop i s.items) (joined runs)
-      go (s ∷ runs) (suc k) is = ap (λ xs. s.items ++ xs) (go runs k is) ∙ sym (append_assoc s.items (items_before runs k i) (a ∷ items_from runs k i))
+      go (s ∷ runs) (suc k) is = ap (λ xs. s.items ++ xs) (go runs k is)
+          ∙ sym (append_assoc s.items (items_before runs k i) (a ∷ items_from runs k i))
 
   module _ (homes : List (OpId × ℕ)) (last : ℕ) (are : AreBlocks runs homes last) where
     pub shown_put : joined_shown (set runs k q) ≡ joined_shown runs
@@ -174,23 +195,29 @@ module _ (runs : List Run) (k i : ℕ) (r q : Run) (a : OpId) (is : slice_get ru
       homed_put : AreHomed (put id_cmp a r.number homes) (set runs k q)
       homed_put j s at b has = find-put id_cmp id_total b a r.number homes ∙ by (set_cases runs k j r q s is at)
         where
-          by : ((j ≡ k) × (s ≡ q)) ⊎ ((j ≡ k → ⊥) × (slice_get runs j ≡ Some s)) → cond (is_same_id b a) (Some r.number) (find id_cmp b homes) ≡ Some s.number
+          by : ((j ≡ k) × (s ≡ q)) ⊎ ((j ≡ k → ⊥) × (slice_get runs j ≡ Some s))
+              → cond (is_same_id b a) (Some r.number) (find id_cmp b homes) ≡ Some s.number
           by (inl same) =
-              at_test (is_same_id b a) (sym (has_item-insert b a (take i r.items) (drop i r.items)) ∙ ap (has_item b) (sym items) ∙ ap (λ (o : Run). has_item b o.items) (sym same.1) ∙ has)
+              at_test (is_same_id b a)
+              (sym (has_item-insert b a (take i r.items) (drop i r.items)) ∙ ap (has_item b) (sym items)
+              ∙ ap (λ (o : Run). has_item b o.items) (sym same.1) ∙ has)
               ∙ ap Some (sym number ∙ ap (λ (o : Run). o.number) (sym same.1))
             where
-              at_test : (t : Bool) → (t || has_item b (take i r.items ++ drop i r.items)) ≡ true → cond t (Some r.number) (find id_cmp b homes) ≡ Some r.number
+              at_test : (t : Bool) → (t || has_item b (take i r.items ++ drop i r.items)) ≡ true
+                  → cond t (Some r.number) (find id_cmp b homes) ≡ Some r.number
               at_test true e = refl
               at_test false e = are.at_home.homed k r is b (ap (has_item b) (sym (take-append-drop i r.items)) ∙ e)
           by (inr other) =
-              ap (λ t. cond t (Some r.number) (find id_cmp b homes)) (lacks_in runs j s a b other.1 absent has) ∙ are.at_home.homed j s other.1 b has
+              ap (λ t. cond t (Some r.number) (find id_cmp b homes)) (lacks_in runs j s a b other.1 absent has)
+              ∙ are.at_home.homed j s other.1 b has
 
       pub blocks_put : AreBlocks (set runs k q) (put id_cmp a r.number homes) k
       blocks_put = record {
         long = λ j s at. elim (set_cases runs k j r q s is at) [
           | inl same ↦
               let old = are.long k r is in
-              ap (λ (o : Run). length o.flags) same.1 ∙ ap length flags ∙ length-insert r.flags i false (omega (arith, old, within)) ∙ ap (λ n. n + 1) old
+              ap (λ (o : Run). length o.flags) same.1 ∙ ap length flags ∙ length-insert r.flags i false (omega (arith, old, within))
+              ∙ ap (λ n. n + 1) old
               ∙ sym (length-insert r.items i a within) ∙ ap length (sym items) ∙ ap (λ (o : Run). length o.items) (sym same.1)
           | inr other ↦ are.long j s other.1
         ];
@@ -201,7 +228,9 @@ module _ (runs : List Run) (k i : ℕ) (r q : Run) (a : OpId) (is : slice_get ru
               ∙ sym (has_item-insert b a (items_before runs k i) (items_from runs k i))
               ∙ ap (has_item b) (sym joined_put);
         };
-        apart = subst AreApart (sym joined_put) (apart_insert a (items_before runs k i) (items_from runs k i) (subst AreApart (split_at runs k i) are.apart) (ap (has_item a) (sym (split_at runs k i)) ∙ absent));
+        apart = subst AreApart (sym joined_put)
+            (apart_insert a (items_before runs k i) (items_from runs k i) (subst AreApart (split_at runs k i) are.apart)
+            (ap (has_item a) (sym (split_at runs k i)) ∙ absent));
         within = let inside = slice_get_within runs k r is in let long = length-set runs k q in omega (arith, inside, long);
         spare = λ j s at other. elim (set_cases runs k j r q s is at) [
           | inl same ↦ absurd (other same.0)
@@ -223,8 +252,10 @@ pub record IsPlaced (runs : List Run) (homes : List (OpId × ℕ)) (prev : Optio
   pub shown : joined_shown (set runs k q) ≡ joined_shown runs
   pub blocks : AreBlocks (set runs k q) (put id_cmp a r.number homes) k
 
-pub placed : (runs : List Run) (homes : List (OpId × ℕ)) (last : ℕ) (prev : Option OpId) (a : OpId) (from_block from_index k i : ℕ) (r q : Run)
-    → AreBlocks runs homes last → has_item a (joined runs) ≡ false → 0 < room_at runs last → IsBehind runs prev from_block from_index → GoesIn runs a from_block from_index k i → slice_get runs k ≡ Some r
+pub placed : (runs : List Run) (homes : List (OpId × ℕ)) (last : ℕ) (prev : Option OpId) (a : OpId) (from_block from_index k i : ℕ)
+    (r q : Run)
+    → AreBlocks runs homes last → has_item a (joined runs) ≡ false → 0 < room_at runs last → IsBehind runs prev from_block from_index
+    → GoesIn runs a from_block from_index k i → slice_get runs k ≡ Some r
     → q.number ≡ r.number → q.items ≡ insert r.items i a → q.flags ≡ insert r.flags i false → IsPlaced runs homes prev a k r q
 placed runs homes last prev a from_block from_index k i r q are absent room behind goes is number items flags =
     let within : i ≤ length r.items = subst (λ xs. i ≤ length xs) (items_here runs k r is) goes.within in

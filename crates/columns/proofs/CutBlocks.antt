@@ -1,5 +1,7 @@
 -- A block that is cut in two.
-use Rattle.std.proofs.Common.{◌≡◌, refl, sym, ap, ◌∙◌, subst, ℕ, zero, suc, ◌+◌, ◌-◌, ◌<◌, ◌≤◌, Bool, true, false, true≢false, cond, ◌||◌, ◌⊎◌, inl, inr, List, [], ◌∷◌, ◌++◌, length, set, length-set, drop, take, Some, is_some, slice_get, arith, append_assoc}
+use Rattle.std.proofs.Common.{◌≡◌, refl, sym, ap, ◌∙◌, subst, ℕ, zero, suc, ◌+◌, ◌-◌, ◌<◌, ◌≤◌, Bool, true, false, true≢false, cond, ◌||◌}
+use Rattle.std.proofs.Common.{◌⊎◌, inl, inr, List, [], ◌∷◌, ◌++◌, length, set, length-set, drop, take, Some, is_some, slice_get, arith}
+use Rattle.std.proofs.Common.{append_assoc}
 use Rattle.std.specs.Prelude.{min}
 use Rattle.std.specs.List.{insert, items_where_true}
 use Rattle.std.specs.FinMap.{find}
@@ -40,28 +42,39 @@ apart_append : (a : OpId) (xs ys : List OpId) → AreApart (xs ++ ys) → has_it
 apart_append a [] ys apart has = absurd (true≢false (sym has))
 apart_append a (x ∷ xs) ys apart has = at_test (is_same_id a x) refl (apart_append a xs ys apart.1) has
   where
-    at_test : (b : Bool) → is_same_id a x ≡ b → (has_item a xs ≡ true → has_item a ys ≡ false) → (b || has_item a xs) ≡ true → has_item a ys ≡ false
-    at_test true e rest has = ap (λ y. has_item y ys) (ids_from_test a x e) ∙ (or_parts (has_item x xs) (has_item x ys) (sym (has_item-append x xs ys) ∙ apart.0)).1
+    at_test : (b : Bool) → is_same_id a x ≡ b → (has_item a xs ≡ true → has_item a ys ≡ false) → (b || has_item a xs) ≡ true
+        → has_item a ys ≡ false
+    at_test true e rest has = ap (λ y. has_item y ys) (ids_from_test a x e)
+        ∙ (or_parts (has_item x xs) (has_item x ys) (sym (has_item-append x xs ys) ∙ apart.0)).1
     at_test false e rest has = rest has
 
 apart_first : (xs ys : List OpId) → AreApart (xs ++ ys) → AreApart xs
 apart_first [] ys apart = tt
-apart_first (x ∷ xs) ys apart = ((or_parts (has_item x xs) (has_item x ys) (sym (has_item-append x xs ys) ∙ apart.0)).0, apart_first xs ys apart.1)
+apart_first (x ∷ xs) ys apart = (
+  (or_parts (has_item x xs) (has_item x ys)
+      (sym (has_item-append x xs ys) ∙ apart.0)).0,
+  apart_first xs ys apart.1,
+)
 
 apart_rest : (xs ys : List OpId) → AreApart (xs ++ ys) → AreApart ys
 apart_rest [] ys apart = apart
 apart_rest (x ∷ xs) ys apart = apart_rest xs ys apart.1
 
 -- two blocks have no item in common
-apart_blocks : (runs : List Run) (j k : ℕ) (s r : Run) (a : OpId) → AreApart (joined runs) → slice_get runs j ≡ Some s → slice_get runs k ≡ Some r → (j ≡ k → ⊥) → has_item a s.items ≡ true → has_item a r.items ≡ false
+apart_blocks : (runs : List Run) (j k : ℕ) (s r : Run) (a : OpId) → AreApart (joined runs) → slice_get runs j ≡ Some s
+    → slice_get runs k ≡ Some r → (j ≡ k → ⊥) → has_item a s.items ≡ true → has_item a r.items ≡ false
 apart_blocks [] j k s r a apart at is other has = absurd (cc at)
 apart_blocks (t ∷ runs) zero zero s r a apart at is other has = absurd (other refl)
 apart_blocks (t ∷ runs) zero (suc k) s r a apart at is other has =
     let here : has_item a t.items ≡ true = ap (λ (o : Run). has_item a o.items) (some_is t s at) ∙ has in
     lacks_other a r.items (λ there. true≢false (sym (has_in runs k r a is there) ∙ apart_append a t.items (joined runs) apart here))
 apart_blocks (t ∷ runs) (suc j) zero s r a apart at is other has =
-    lacks_other a r.items (λ there. true≢false (sym (has_in runs j s a at has) ∙ apart_append a t.items (joined runs) apart (ap (λ (o : Run). has_item a o.items) (some_is t r is) ∙ there)))
-apart_blocks (t ∷ runs) (suc j) (suc k) s r a apart at is other has = apart_blocks runs j k s r a (apart_rest t.items (joined runs) apart) at is (λ e. other (ap suc e)) has
+    lacks_other a r.items
+    (λ there. true≢false
+    (sym (has_in runs j s a at has)
+    ∙ apart_append a t.items (joined runs) apart (ap (λ (o : Run). has_item a o.items) (some_is t r is) ∙ there)))
+apart_blocks (t ∷ runs) (suc j) (suc k) s r a apart at is other has = apart_blocks runs j k s r a
+    (apart_rest t.items (joined runs) apart) at is (λ e. other (ap suc e)) has
 
 -- the items of one block are different
 apart_block : (runs : List Run) (k : ℕ) (r : Run) → AreApart (joined runs) → slice_get runs k ≡ Some r → AreApart r.items
@@ -69,7 +82,8 @@ apart_block [] k r apart is = absurd (cc is)
 apart_block (t ∷ runs) zero r apart is = subst (λ (o : Run). AreApart o.items) (some_is t r is) (apart_first t.items (joined runs) apart)
 apart_block (t ∷ runs) (suc k) r apart is = apart_block runs k r (apart_rest t.items (joined runs) apart) is
 
-module _ (runs : List Run) (k at : ℕ) (r q b : Run) (is : slice_get runs k ≡ Some r) (items : q.items ≡ take at r.items) (flags : q.flags ≡ take at r.flags) (back_items : b.items ≡ drop at r.items) (back_flags : b.flags ≡ drop at r.flags) where
+module _ (runs : List Run) (k at : ℕ) (r q b : Run) (is : slice_get runs k ≡ Some r) (items : q.items ≡ take at r.items)
+    (flags : q.flags ≡ take at r.flags) (back_items : b.items ≡ drop at r.items) (back_flags : b.flags ≡ drop at r.flags) where
   -- the blocks, once r was cut
   abbrev halves : List Run
   halves = insert (set runs k q) (k + 1) b
@@ -81,7 +95,8 @@ module _ (runs : List Run) (k at : ℕ) (r q b : Run) (is : slice_get runs k ≡
       go [] k is = absurd (cc is)
       go (s ∷ runs) zero is =
           sym (append_assoc q.items b.items (joined runs))
-          ∙ ap (λ xs. xs ++ joined runs) ((λ t. items t ++ back_items t) ∙ take-append-drop at r.items ∙ ap (λ (o : Run). o.items) (sym (some_is s r is)))
+          ∙ ap (λ xs. xs ++ joined runs)
+          ((λ t. items t ++ back_items t) ∙ take-append-drop at r.items ∙ ap (λ (o : Run). o.items) (sym (some_is s r is)))
       go (s ∷ runs) (suc k) is = ap (λ xs. s.items ++ xs) (go runs k is)
 
   pub shown_cut : length r.flags ≡ length r.items → joined_shown halves ≡ joined_shown runs
@@ -108,7 +123,9 @@ module _ (runs : List Run) (k at : ℕ) (r q b : Run) (is : slice_get runs k ≡
   IsOneOf j s = ((s ≡ q) × (j ≡ k)) ⊎ ((s ≡ b) ⊎ ((h : ℕ) × (h ≡ k → ⊥) × (slice_get runs h ≡ Some s)))
 
   one_of : (j : ℕ) (s : Run) → slice_get halves j ≡ Some s → IsOneOf j s
-  one_of j s there = by (insert_cases (set runs k q) (k + 1) j b s (let inside = slice_get_within runs k r is in let long = length-set runs k q in omega (arith, inside, long)) there)
+  one_of j s there = by
+      (insert_cases (set runs k q) (k + 1) j b s
+      (let inside = slice_get_within runs k r is in let long = length-set runs k q in omega (arith, inside, long)) there)
     where
       by_set : (h : ℕ) → slice_get (set runs k q) h ≡ Some s → (h ≡ k → j ≡ k) → IsOneOf j s
       by_set h at_h same = elim (set_cases runs k h r q s is at_h) [
@@ -121,7 +138,8 @@ module _ (runs : List Run) (k at : ℕ) (r q b : Run) (is : slice_get runs k ≡
       by (inr (h, at_h, inl (lt, e))) = by_set h at_h (λ same. sym e ∙ same)
       by (inr (h, at_h, inr (lt, e))) = by_set h at_h (λ same. absurd (omega (arith, lt, e, same)))
 
-  module _ (old_homes new_homes : List (OpId × ℕ)) (are : AreBlocks runs old_homes k) (number : q.number ≡ r.number) (moved : AreMoved b.items b.number old_homes new_homes) (room : 0 < b.room) where
+  module _ (old_homes new_homes : List (OpId × ℕ)) (are : AreBlocks runs old_homes k) (number : q.number ≡ r.number)
+      (moved : AreMoved b.items b.number old_homes new_homes) (room : 0 < b.room) where
     in_front : (a : OpId) → has_item a q.items ≡ true → has_item a r.items ≡ true
     in_front a has =
         ap (has_item a) (sym (take-append-drop at r.items)) ∙ has_item-append a (take at r.items) (drop at r.items)
@@ -143,20 +161,29 @@ module _ (runs : List Run) (k at : ℕ) (r q b : Run) (is : slice_get runs k ≡
         by (inl (same, e)) =
             let mine : has_item a q.items ≡ true = ap (λ (o : Run). has_item a o.items) (sym same) ∙ has in
             let other : has_item a b.items ≡ false =
-            ap (has_item a) back_items ∙ apart_append a (take at r.items) (drop at r.items) (subst AreApart (sym (take-append-drop at r.items)) (apart_block runs k r are.apart is)) (ap (has_item a) (sym items) ∙ mine) in
+            ap (has_item a) back_items
+            ∙ apart_append a (take at r.items) (drop at r.items)
+            (subst AreApart (sym (take-append-drop at r.items)) (apart_block runs k r are.apart is))
+            (ap (has_item a) (sym items) ∙ mine) in
             stays a other ∙ are.at_home.homed k r is a (in_front a mine) ∙ ap Some (sym number ∙ ap (λ (o : Run). o.number) (sym same))
         by (inr (inl same)) =
-            moved a ∙ ap (λ t. cond t (Some b.number) (find id_cmp a old_homes)) (ap (λ (o : Run). has_item a o.items) (sym same) ∙ has) ∙ ap (λ (o : Run). Some o.number) (sym same)
+            moved a ∙ ap (λ t. cond t (Some b.number) (find id_cmp a old_homes)) (ap (λ (o : Run). has_item a o.items) (sym same) ∙ has)
+            ∙ ap (λ (o : Run). Some o.number) (sym same)
         by (inr (inr (h, other, at_h))) =
-            let lacks : has_item a b.items ≡ false = lacks_other a b.items (λ mine. true≢false (sym (in_back a mine) ∙ apart_blocks runs h k s r a are.apart at_h is other has)) in
+            let lacks : has_item a b.items
+            ≡ false = lacks_other a b.items
+            (λ mine. true≢false (sym (in_back a mine) ∙ apart_blocks runs h k s r a are.apart at_h is other has)) in
             stays a lacks ∙ are.at_home.homed h s at_h a has
 
     only_cut : (a : OpId) → has_key id_cmp a (keys_of new_homes) ≡ has_item a (joined halves)
-    only_cut a = sym (is_some-find id_cmp a new_homes) ∙ ap is_some (moved a) ∙ by (has_item a b.items) refl ∙ are.at_home.only a ∙ ap (has_item a) (sym joined_cut)
+    only_cut a = sym (is_some-find id_cmp a new_homes) ∙ ap is_some (moved a) ∙ by (has_item a b.items) refl ∙ are.at_home.only a
+        ∙ ap (has_item a) (sym joined_cut)
       where
-        by : (t : Bool) → has_item a b.items ≡ t → is_some (cond (has_item a b.items) (Some b.number) (find id_cmp a old_homes)) ≡ has_key id_cmp a (keys_of old_homes)
+        by : (t : Bool) → has_item a b.items ≡ t
+            → is_some (cond (has_item a b.items) (Some b.number) (find id_cmp a old_homes)) ≡ has_key id_cmp a (keys_of old_homes)
         by true e =
-            ap (λ t. is_some (cond t (Some b.number) (find id_cmp a old_homes))) e ∙ sym (ap is_some (are.at_home.homed k r is a (in_back a e))) ∙ is_some-find id_cmp a old_homes
+            ap (λ t. is_some (cond t (Some b.number) (find id_cmp a old_homes))) e
+            ∙ sym (ap is_some (are.at_home.homed k r is a (in_back a e))) ∙ is_some-find id_cmp a old_homes
         by false e = ap (λ t. is_some (cond t (Some b.number) (find id_cmp a old_homes))) e ∙ is_some-find id_cmp a old_homes
 
     pub blocks_cut : AreBlocks halves new_homes k
@@ -174,10 +201,12 @@ module _ (runs : List Run) (k at : ℕ) (r q b : Run) (is : slice_get runs k ≡
       where
         long_by : (j : ℕ) (s : Run) → IsOneOf j s → length s.flags ≡ length s.items
         long_by j s (inl (same, e)) =
-            ap (λ (o : Run). length o.flags) same ∙ ap length flags ∙ length-take at r.flags ∙ ap (λ n. min at n) (are.long k r is) ∙ sym (length-take at r.items)
+            ap (λ (o : Run). length o.flags) same ∙ ap length flags ∙ length-take at r.flags ∙ ap (λ n. min at n) (are.long k r is)
+            ∙ sym (length-take at r.items)
             ∙ ap length (sym items) ∙ ap (λ (o : Run). length o.items) (sym same)
         long_by j s (inr (inl same)) =
-            ap (λ (o : Run). length o.flags) same ∙ ap length back_flags ∙ length-drop at r.flags ∙ ap (λ n. n - at) (are.long k r is) ∙ sym (length-drop at r.items)
+            ap (λ (o : Run). length o.flags) same ∙ ap length back_flags ∙ length-drop at r.flags ∙ ap (λ n. n - at) (are.long k r is)
+            ∙ sym (length-drop at r.items)
             ∙ ap length (sym back_items) ∙ ap (λ (o : Run). length o.items) (sym same)
         long_by j s (inr (inr (h, other, at_h))) = are.long h s at_h
 
@@ -196,16 +225,19 @@ room_cut runs k r q b is = let next : k + 1 ≡ suc k = omega arith in ap (λ j.
     go (s ∷ runs) (suc k) is = go runs k is
 
 -- a list's first block
-pub blocks_first : (q : Run) (homes : List (OpId × ℕ)) (last : ℕ) → AreBlocks [] homes last → q.items ≡ [] → q.flags ≡ [] → AreBlocks (q ∷ []) homes last
+pub blocks_first : (q : Run) (homes : List (OpId × ℕ)) (last : ℕ) → AreBlocks [] homes last → q.items ≡ [] → q.flags ≡ []
+    → AreBlocks (q ∷ []) homes last
 blocks_first q homes last are items flags = record {
-  long = λ j s there. let same = one j s there in ap (λ (o : Run). length o.flags) same ∙ ap length flags ∙ ap length (sym items) ∙ ap (λ (o : Run). length o.items) (sym same);
+  long = λ j s there. let same = one j s there in
+      ap (λ (o : Run). length o.flags) same ∙ ap length flags ∙ ap length (sym items) ∙ ap (λ (o : Run). length o.items) (sym same);
   at_home = record {
     homed = λ j s there a has. absurd (true≢false (sym has ∙ ap (λ (o : Run). has_item a o.items) (one j s there) ∙ ap (has_item a) items));
     only = λ a. are.at_home.only a ∙ ap (has_item a) (sym none);
   };
   apart = subst AreApart (sym none) tt;
   within = let within = are.within in omega (arith, within);
-  spare = λ j s there other. let inside = slice_get_within (q ∷ []) j s there in let within = are.within in absurd (other (omega (arith, inside, within)));
+  spare = λ j s there other. let inside = slice_get_within (q ∷ []) j s there in let within = are.within in
+      absurd (other (omega (arith, inside, within)));
 }
   where
     none : joined (q ∷ []) ≡ []
@@ -216,7 +248,8 @@ blocks_first q homes last are items flags = record {
     one (suc j) s there = absurd (cc there)
 
 -- a block with the same items, and no less room
-pub same_list : (runs : List Run) (homes : List (OpId × ℕ)) (k : ℕ) (r q : Run) → AreBlocks runs homes k → slice_get runs k ≡ Some r → q.number ≡ r.number → q.items ≡ r.items → q.flags ≡ r.flags → r.room ≤ q.room
+pub same_list : (runs : List Run) (homes : List (OpId × ℕ)) (k : ℕ) (r q : Run) → AreBlocks runs homes k → slice_get runs k ≡ Some r
+    → q.number ≡ r.number → q.items ≡ r.items → q.flags ≡ r.flags → r.room ≤ q.room
     → IsSameList runs (set runs k q) homes k
 same_list runs homes k r q are is number items flags room = record {
   blocks = blocks_same runs k r q is homes k are number items (ap length flags ∙ are.long k r is ∙ ap length (sym items)) room;
@@ -229,8 +262,10 @@ same_list runs homes k r q are is number items flags room = record {
 }
 
 -- a list whose last block was cut
-pub cut_list : (runs : List Run) (old_homes new_homes : List (OpId × ℕ)) (k at : ℕ) (r q b : Run) → AreBlocks runs old_homes k → slice_get runs k ≡ Some r → q.number ≡ r.number → q.items ≡ take at r.items → q.flags ≡ take at r.flags
-    → b.items ≡ drop at r.items → b.flags ≡ drop at r.flags → AreMoved b.items b.number old_homes new_homes → 0 < b.room → r.room ≤ q.room → IsSameList runs (insert (set runs k q) (k + 1) b) new_homes k
+pub cut_list : (runs : List Run) (old_homes new_homes : List (OpId × ℕ)) (k at : ℕ) (r q b : Run) → AreBlocks runs old_homes k
+    → slice_get runs k ≡ Some r → q.number ≡ r.number → q.items ≡ take at r.items → q.flags ≡ take at r.flags
+    → b.items ≡ drop at r.items → b.flags ≡ drop at r.flags → AreMoved b.items b.number old_homes new_homes → 0 < b.room → r.room ≤ q.room
+    → IsSameList runs (insert (set runs k q) (k + 1) b) new_homes k
 cut_list runs old_homes new_homes k at r q b are is number items flags back_items back_flags moved some room = record {
   blocks = blocks_cut runs k at r q b is items flags back_items back_flags old_homes new_homes are number moved some;
   items = joined_cut runs k at r q b is items flags back_items back_flags;
@@ -242,7 +277,8 @@ cut_list runs old_homes new_homes k at r q b are is number items flags back_item
 }
 
 -- the items of the back have a home
-pub have_homes : (runs : List Run) (homes : List (OpId × ℕ)) (last k at : ℕ) (r : Run) (back : List OpId) → AreBlocks runs homes last → slice_get runs k ≡ Some r → back ≡ drop at r.items → (a : OpId) → has_item a back ≡ true → is_some (find id_cmp a homes) ≡ true
+pub have_homes : (runs : List Run) (homes : List (OpId × ℕ)) (last k at : ℕ) (r : Run) (back : List OpId) → AreBlocks runs homes last
+    → slice_get runs k ≡ Some r → back ≡ drop at r.items → (a : OpId) → has_item a back ≡ true → is_some (find id_cmp a homes) ≡ true
 have_homes runs homes last k at r back are is behind a has =
     let mine : has_item a r.items ≡ true =
     ap (has_item a) (sym (take-append-drop at r.items)) ∙ has_item-append a (take at r.items) (drop at r.items)
@@ -250,7 +286,8 @@ have_homes runs homes last k at r back are is behind a has =
     ap is_some (are.at_home.homed k r is a mine)
 
 -- no list stays one
-pub first_list : (q : Run) (homes : List (OpId × ℕ)) (last : ℕ) → AreBlocks [] homes last → q.items ≡ [] → q.flags ≡ [] → IsSameList [] (q ∷ []) homes last
+pub first_list : (q : Run) (homes : List (OpId × ℕ)) (last : ℕ) → AreBlocks [] homes last → q.items ≡ [] → q.flags ≡ []
+    → IsSameList [] (q ∷ []) homes last
 first_list q homes last are items flags = record {
   blocks = blocks_first q homes last are items flags;
   items = ap (λ xs. xs ++ []) items;

@@ -1,5 +1,6 @@
 -- The items that flags show.
-use Rattle.std.proofs.Common.{◌≡◌, refl, ap, ◌∙◌, ℕ, zero, suc, ◌+◌, ◌-◌, ◌<◌, ◌≤◌, Bool, true, false, cond, List, [], ◌∷◌, ◌++◌, length, get_or, set, drop, Some, slice_get, arith}
+use Rattle.std.proofs.Common.{◌≡◌, refl, ap, ◌∙◌, ℕ, zero, suc, ◌+◌, ◌-◌, ◌<◌, ◌≤◌, Bool, true, false, cond, List, [], ◌∷◌, ◌++◌, length}
+use Rattle.std.proofs.Common.{get_or, set, drop, Some, slice_get, arith}
 use Rattle.std.specs.List.{items_where_true, insert}
 use Rattle.std.proofs.Math.Seq.{drop-cons}
 
@@ -47,7 +48,8 @@ module _ {X : Type 0} where
   shown_set (false ∷ bs) (x ∷ xs) (suc i) b c long is = shown_set bs xs i b c (omega (arith, long)) is
 
   -- an item that isn't shown comes in
-  pub shown_insert : (bs : List Bool) (xs : List X) (i : ℕ) (x : X) → length bs ≡ length xs → items_where_true (insert bs i false) (insert xs i x) ≡ items_where_true bs xs
+  pub shown_insert : (bs : List Bool) (xs : List X) (i : ℕ) (x : X) → length bs ≡ length xs
+      → items_where_true (insert bs i false) (insert xs i x) ≡ items_where_true bs xs
   shown_insert [] [] zero x long = refl
   shown_insert [] [] (suc i) x long = refl
   shown_insert [] (y ∷ xs) i x long = absurd (omega (arith, long))
@@ -57,7 +59,8 @@ module _ {X : Type 0} where
   shown_insert (false ∷ bs) (y ∷ xs) (suc i) x long = shown_insert bs xs i x (omega (arith, long))
 
   -- the shown items of two lists
-  pub shown_append : (bs cs : List Bool) (xs ys : List X) → length bs ≡ length xs → items_where_true (bs ++ cs) (xs ++ ys) ≡ items_where_true bs xs ++ items_where_true cs ys
+  pub shown_append : (bs cs : List Bool) (xs ys : List X) → length bs ≡ length xs
+      → items_where_true (bs ++ cs) (xs ++ ys) ≡ items_where_true bs xs ++ items_where_true cs ys
   shown_append [] cs [] ys long = refl
   shown_append [] cs (x ∷ xs) ys long = absurd (omega (arith, long))
   shown_append (b ∷ bs) cs [] ys long = absurd (omega (arith, long))

@@ -1,5 +1,7 @@
 -- Where an item goes in a block, and what its floor tells.
-use Rattle.std.proofs.Common.{◌≡◌, refl, sym, ap, ◌∙◌, subst, ℕ, zero, suc, ◌+◌, ◌≤◌, Bool, true, false, true≢false, cond, ◌||◌, List, [], ◌∷◌, ◌++◌, length, get_or, set, length-set, drop, take, take_all, ◌-◌, Option, Some, None, slice_get, arith, append_assoc, length-append}
+use Rattle.std.proofs.Common.{◌≡◌, refl, sym, ap, ◌∙◌, subst, ℕ, zero, suc, ◌+◌, ◌≤◌, Bool, true, false, true≢false, cond, ◌||◌, List, []}
+use Rattle.std.proofs.Common.{◌∷◌, ◌++◌, length, get_or, set, length-set, drop, take, take_all, ◌-◌, Option, Some, None, slice_get, arith}
+use Rattle.std.proofs.Common.{append_assoc, length-append}
 use Rattle.std.specs.Prelude.{min}
 use Rattle.std.specs.List.{All, insert, items_where_true}
 use Rattle.std.proofs.Math.Seq.{drop-cons, take-suc}
@@ -20,7 +22,8 @@ use Rattle.columns.proofs.Flags.{shown_append, shown_insert, shown_most, shown_s
 pub taken : (xs : List OpId) (i : ℕ) (x : OpId) → slice_get xs i ≡ Some x → take (i + 1) xs ≡ take i xs ++ x ∷ []
 taken xs i x is =
     let next : i + 1 ≡ suc i = omega arith in
-    ap (λ j. take j xs) next ∙ take-suc xs i x (slice_get_within xs i x is) ∙ ap (λ y. take i xs ++ y ∷ []) (get_or_from_slice_get xs i x x is)
+    ap (λ j. take j xs) next ∙ take-suc xs i x (slice_get_within xs i x is)
+    ∙ ap (λ y. take i xs ++ y ∷ []) (get_or_from_slice_get xs i x x is)
 
 -- the items from one on
 pub dropped : (xs : List OpId) (i : ℕ) (x : OpId) → slice_get xs i ≡ Some x → drop i xs ≡ x ∷ drop (i + 1) xs
@@ -31,7 +34,8 @@ dropped xs i x is =
 -- what stands up to one, and is searched for
 pub has_item-append : (a : OpId) (xs ys : List OpId) → has_item a (xs ++ ys) ≡ (has_item a xs || has_item a ys)
 has_item-append a [] ys = refl
-has_item-append a (x ∷ xs) ys = ap (λ b. is_same_id a x || b) (has_item-append a xs ys) ∙ grouped (is_same_id a x) (has_item a xs) (has_item a ys)
+has_item-append a (x ∷ xs) ys = ap (λ b. is_same_id a x || b) (has_item-append a xs ys)
+    ∙ grouped (is_same_id a x) (has_item a xs) (has_item a ys)
   where
     grouped : (b c d : Bool) → (b || (c || d)) ≡ ((b || c) || d)
     grouped true c d = refl
@@ -47,7 +51,8 @@ has_at (x ∷ xs) (suc i) a is = later (is_same_id a x) (has_at xs i a is)
     later false has = has
 
 -- one more that isn't it
-pub lacks_next : (a : OpId) (xs : List OpId) (i : ℕ) (x : OpId) → slice_get xs i ≡ Some x → has_item a (take i xs) ≡ false → is_same_id a x ≡ false → has_item a (take (i + 1) xs) ≡ false
+pub lacks_next : (a : OpId) (xs : List OpId) (i : ℕ) (x : OpId) → slice_get xs i ≡ Some x → has_item a (take i xs) ≡ false
+    → is_same_id a x ≡ false → has_item a (take (i + 1) xs) ≡ false
 lacks_next a xs i x is before other =
     ap (has_item a) (taken xs i x is) ∙ has_item-append a (take i xs) (x ∷ [])
     ∙ ap (λ b. b || (is_same_id a x || false)) before ∙ ap (λ b. b || false) other
@@ -69,7 +74,8 @@ module _ (a : OpId) (xs : List OpId) where
       ∙ ap (λ ys. ys ++ skip a (drop (i + 1) xs ++ rest)) (sym (taken xs i x is))
 
   -- before an item that is smaller
-  pub stop_here : (from i : ℕ) (x : OpId) → slice_get xs i ≡ Some x → is_smaller_id x a ≡ true → Passed from i → IsFirstSmaller a xs from (Some i)
+  pub stop_here : (from i : ℕ) (x : OpId) → slice_get xs i ≡ Some x → is_smaller_id x a ≡ true → Passed from i
+      → IsFirstSmaller a xs from (Some i)
   unfolding Passed
   stop_here from i x is smaller so = (
     slice_get_within xs i x is,
@@ -117,26 +123,33 @@ pub floor_insert : (o : Option OpId) (xs : List OpId) (i : ℕ) (a : OpId) → I
 floor_insert None xs i a bounded = absurd (cc bounded)
 floor_insert (Some least) xs i a bounded =
     let P : OpId → Type 0 = λ y. is_smaller_id y least ≡ false in
-    All-append P (take i xs) (a ∷ drop i xs) (All-take P i xs (All-tail P a xs bounded)) (All-cons P a (drop i xs) (All-head P a xs bounded) (All-drop P i xs (All-tail P a xs bounded)))
+    All-append P (take i xs) (a ∷ drop i xs) (All-take P i xs (All-tail P a xs bounded))
+    (All-cons P a (drop i xs) (All-head P a xs bounded) (All-drop P i xs (All-tail P a xs bounded)))
 
 -- and behind the others
-pub floor_next : (o : Option OpId) (xs : List OpId) (i : ℕ) (x : OpId) → slice_get xs i ≡ Some x → IsFloor o (x ∷ take i xs) → IsFloor o (take (i + 1) xs)
+pub floor_next : (o : Option OpId) (xs : List OpId) (i : ℕ) (x : OpId) → slice_get xs i ≡ Some x → IsFloor o (x ∷ take i xs)
+    → IsFloor o (take (i + 1) xs)
 floor_next None xs i x is bounded = absurd (cc bounded)
 floor_next (Some least) xs i x is bounded =
     let P : OpId → Type 0 = λ y. is_smaller_id y least ≡ false in
-    subst (All P) (sym (taken xs i x is)) (All-append P (take i xs) (x ∷ []) (All-tail P x (take i xs) bounded) (All-cons P x [] (All-head P x (take i xs) bounded) (λ k d inside. absurd (omega (arith, inside)))))
+    subst (All P) (sym (taken xs i x is))
+    (All-append P (take i xs) (x ∷ []) (All-tail P x (take i xs) bounded)
+    (All-cons P x [] (All-head P x (take i xs) bounded) (λ k d inside. absurd (omega (arith, inside)))))
 
 -- what a block keeps, once an item came in
-pub block_put : (xs : List OpId) (bs : List Bool) (shown : ℕ) (floor lowered : Option OpId) (i : ℕ) (a : OpId) → i ≤ length xs → IsBlock xs bs shown floor → IsFloor lowered (a ∷ xs)
+pub block_put : (xs : List OpId) (bs : List Bool) (shown : ℕ) (floor lowered : Option OpId) (i : ℕ) (a : OpId) → i ≤ length xs
+    → IsBlock xs bs shown floor → IsFloor lowered (a ∷ xs)
     → IsBlock (insert xs i a) (insert bs i false) shown lowered
 block_put xs bs shown floor lowered i a within block bounded = record {
-  long = length-insert bs i false (let long = block.long in omega (arith, long, within)) ∙ ap (λ n. n + 1) block.long ∙ sym (length-insert xs i a within);
+  long = length-insert bs i false (let long = block.long in omega (arith, long, within)) ∙ ap (λ n. n + 1) block.long
+      ∙ sym (length-insert xs i a within);
   counted = block.counted ∙ ap length (sym (shown_insert bs xs i a block.long));
   bounded = floor_insert lowered xs i a bounded;
 }
 
 -- and once a flag was set
-pub block_set : (xs : List OpId) (bs : List Bool) (shown : ℕ) (floor : Option OpId) (i : ℕ) (b c : Bool) → slice_get bs i ≡ Some b → IsBlock xs bs shown floor
+pub block_set : (xs : List OpId) (bs : List Bool) (shown : ℕ) (floor : Option OpId) (i : ℕ) (b c : Bool) → slice_get bs i ≡ Some b
+    → IsBlock xs bs shown floor
     → (cond b 1 0 ≤ shown) × (shown - cond b 1 0 + cond c 1 0 ≤ length xs) × IsBlock xs (set bs i c) (shown - cond b 1 0 + cond c 1 0) floor
 block_set xs bs shown floor i b c is block =
     let sum = shown_set bs xs i b c block.long is in
@@ -165,7 +178,8 @@ block_set xs bs shown floor i b c is block =
 
 -- and once what stands from an index on was cut off
 pub block_cut : (xs : List OpId) (bs : List Bool) (shown : ℕ) (floor : Option OpId) (at : ℕ) (back : ℕ) (behind lowest : Option OpId)
-    → IsBlock xs bs shown floor → IsBlock (drop at xs) (drop at bs) back behind → IsFloor lowest (take at xs) → (back ≤ shown) × IsBlock (take at xs) (take at bs) (shown - back) lowest
+    → IsBlock xs bs shown floor → IsBlock (drop at xs) (drop at bs) back behind → IsFloor lowest (take at xs)
+    → (back ≤ shown) × IsBlock (take at xs) (take at bs) (shown - back) lowest
 block_cut xs bs shown floor at back behind lowest block rest bounded =
     let counted = block.counted in
     let others = rest.counted in
@@ -181,7 +195,8 @@ block_cut xs bs shown floor at back behind lowest block rest bounded =
     same_takes : length (take at bs) ≡ length (take at xs)
     same_takes = length-take at bs ∙ ap (λ n. min at n) block.long ∙ sym (length-take at xs)
 
-    split_shown : length (items_where_true bs xs) ≡ length (items_where_true (take at bs) (take at xs)) + length (items_where_true (drop at bs) (drop at xs))
+    split_shown : length (items_where_true bs xs)
+        ≡ length (items_where_true (take at bs) (take at xs)) + length (items_where_true (drop at bs) (drop at xs))
     split_shown =
         (λ t. length (items_where_true (sym (take-append-drop at bs) t) (sym (take-append-drop at xs) t)))
         ∙ ap length (shown_append (take at bs) (drop at bs) (take at xs) (drop at xs) same_takes)

@@ -8,7 +8,8 @@ use Rattle.columns.specs.Orders.{has_item}
 use Rattle.columns.specs.Blocks.{AreMoved}
 use Rattle.columns.proofs.InBlock.{has_at, has_item-append, taken}
 
-module _ (items : List OpId) (n i : ℕ) (x : OpId) (old new : List (OpId × ℕ)) (is : slice_get items i ≡ Some x) (moved : AreMoved (take i items) n old new) where
+module _ (items : List OpId) (n i : ℕ) (x : OpId) (old new : List (OpId × ℕ)) (is : slice_get items i ≡ Some x)
+    (moved : AreMoved (take i items) n old new) where
   -- the next one has a home
   pub next_homed : ((a : OpId) → has_item a items ≡ true → is_some (find id_cmp a old) ≡ true) → is_some (find id_cmp x new) ≡ true
   next_homed homed = ap is_some (moved x) ∙ either (has_item x (take i items)) (homed x (has_at items i x is))
@@ -23,7 +24,8 @@ module _ (items : List OpId) (n i : ℕ) (x : OpId) (old new : List (OpId × ℕ
       find-put id_cmp id_total a x n new
       ∙ ap (λ o. cond (is_same_id a x) (Some n) o) (moved a)
       ∙ both (is_same_id a x) (has_item a (take i items))
-      ∙ ap (λ t. cond t (Some n) (find id_cmp a old)) (sym (ap (has_item a) (taken items i x is) ∙ has_item-append a (take i items) (x ∷ [])))
+      ∙ ap (λ t. cond t (Some n) (find id_cmp a old))
+      (sym (ap (has_item a) (taken items i x is) ∙ has_item-append a (take i items) (x ∷ [])))
     where
       both : (s t : Bool) → cond s (Some n) (cond t (Some n) (find id_cmp a old)) ≡ cond (t || (s || false)) (Some n) (find id_cmp a old)
       both true true = refl

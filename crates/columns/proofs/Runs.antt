@@ -1,5 +1,6 @@
 -- The items of blocks, before a position and from it on.
-use Rattle.std.proofs.Common.{◌≡◌, refl, sym, ap, ◌∙◌, ℕ, zero, suc, ◌+◌, ◌<◌, ◌≤◌, false, ◌||◌, List, [], ◌∷◌, ◌++◌, length, drop, take, Some, slice_get, arith, append_assoc}
+use Rattle.std.proofs.Common.{◌≡◌, refl, sym, ap, ◌∙◌, ℕ, zero, suc, ◌+◌, ◌<◌, ◌≤◌, false, ◌||◌, List, [], ◌∷◌, ◌++◌, length, drop, take}
+use Rattle.std.proofs.Common.{Some, slice_get, arith, append_assoc}
 use Rattle.std.proofs.lemmas.List.{append-nil, drop_all, take-append-drop}
 use Rattle.std.proofs.lemmas.Option.{slice_get_within}
 use Rattle.semantics.specs.Ids.{OpId}
@@ -22,8 +23,10 @@ from_first (r ∷ runs) = refl
 -- what stands before a position, and from it on, is all there is
 pub split_at : (runs : List Run) (k i : ℕ) → joined runs ≡ items_before runs k i ++ items_from runs k i
 split_at [] k i = refl
-split_at (r ∷ runs) zero i = ap (λ xs. xs ++ joined runs) (sym (take-append-drop i r.items)) ∙ append_assoc (take i r.items) (drop i r.items) (joined runs)
-split_at (r ∷ runs) (suc k) i = ap (λ xs. r.items ++ xs) (split_at runs k i) ∙ sym (append_assoc r.items (items_before runs k i) (items_from runs k i))
+split_at (r ∷ runs) zero i = ap (λ xs. xs ++ joined runs) (sym (take-append-drop i r.items))
+    ∙ append_assoc (take i r.items) (drop i r.items) (joined runs)
+split_at (r ∷ runs) (suc k) i = ap (λ xs. r.items ++ xs) (split_at runs k i)
+    ∙ sym (append_assoc r.items (items_before runs k i) (items_from runs k i))
 
 -- before the first there is none
 pub before_first : (runs : List Run) → items_before runs 0 0 ≡ []
@@ -46,14 +49,16 @@ before_by : (runs : List Run) (k i : ℕ) → k < length runs → items_before r
 before_by [] k i inside = absurd (omega (arith, inside))
 before_by (r ∷ runs) zero i inside = refl
 before_by (r ∷ runs) (suc k) i inside =
-    ap (λ xs. r.items ++ xs) (before_by runs k i (omega (arith, inside))) ∙ sym (append_assoc r.items (items_before runs k 0) (take i (items_at runs k)))
+    ap (λ xs. r.items ++ xs) (before_by runs k i (omega (arith, inside)))
+    ∙ sym (append_assoc r.items (items_before runs k 0) (take i (items_at runs k)))
 
 before_after : (runs : List Run) (k : ℕ) → k < length runs → items_before runs (suc k) 0 ≡ items_before runs k 0 ++ items_at runs k
 before_after [] k inside = absurd (omega (arith, inside))
 before_after (r ∷ []) zero inside = append-nil r.items
 before_after (r ∷ s ∷ runs) zero inside = append-nil r.items
 before_after (r ∷ runs) (suc k) inside =
-    ap (λ xs. r.items ++ xs) (before_after runs k (omega (arith, inside))) ∙ sym (append_assoc r.items (items_before runs k 0) (items_at runs k))
+    ap (λ xs. r.items ++ xs) (before_after runs k (omega (arith, inside)))
+    ∙ sym (append_assoc r.items (items_before runs k 0) (items_at runs k))
 
 from_by : (runs : List Run) (k i : ℕ) → k < length runs → items_from runs k i ≡ drop i (items_at runs k) ++ items_from runs (suc k) 0
 from_by [] k i inside = absurd (omega (arith, inside))
@@ -71,7 +76,9 @@ module _ (runs : List Run) (k : ℕ) (r : Run) (is : slice_get runs k ≡ Some r
   before_in i = before_by runs k i inside ∙ ap (λ xs. items_before runs k 0 ++ take i xs) here
 
   pub before_next : items_before runs (k + 1) 0 ≡ items_before runs k 0 ++ r.items
-  before_next = let next : k + 1 ≡ suc k = omega arith in ap (λ j. items_before runs j 0) next ∙ before_after runs k inside ∙ ap (λ xs. items_before runs k 0 ++ xs) here
+  before_next =
+      let next : k + 1 ≡ suc k = omega arith in
+      ap (λ j. items_before runs j 0) next ∙ before_after runs k inside ∙ ap (λ xs. items_before runs k 0 ++ xs) here
 
   pub from_in : (i : ℕ) → items_from runs k i ≡ drop i r.items ++ items_from runs (k + 1) 0
   from_in i =
@@ -83,5 +90,7 @@ module _ (runs : List Run) (k : ℕ) (r : Run) (is : slice_get runs k ≡ Some r
   from_past i past = from_in i ∙ ap (λ xs. xs ++ items_from runs (k + 1) 0) (drop_all i r.items past)
 
   -- an item that isn't in the block, nor before it
-  pub lacks_block : (a : OpId) → has_item a (items_before runs k 0) ≡ false → has_item a r.items ≡ false → has_item a (items_before runs (k + 1) 0) ≡ false
-  lacks_block a before within = ap (has_item a) before_next ∙ has_item-append a (items_before runs k 0) r.items ∙ (λ t. before t || within t)
+  pub lacks_block : (a : OpId) → has_item a (items_before runs k 0) ≡ false → has_item a r.items ≡ false
+      → has_item a (items_before runs (k + 1) 0) ≡ false
+  lacks_block a before within = ap (has_item a) before_next ∙ has_item-append a (items_before runs k 0) r.items
+      ∙ (λ t. before t || within t)

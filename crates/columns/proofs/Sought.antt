@@ -55,7 +55,8 @@ module _ {K : Type 0} (R : K → K → Ordering) (k : K) (xs : List K) where
           stands_here R o k xs i x rising (omega (arith, inside, most)) (ap (R k) (at x) ∙ ties)
 
   -- between neighbours
-  pub sought_nowhere : (low high : ℕ) → IsSought R k xs low high → high ≤ low → IsTotalOrder R → IsTrue (is_sorted R (as_set xs)) → GoesTo R k xs low
+  pub sought_nowhere : (low high : ℕ) → IsSought R k xs low high → high ≤ low → IsTotalOrder R → IsTrue (is_sorted R (as_set xs))
+      → GoesTo R k xs low
   sought_nowhere low high s none o rising =
       let least = s.above in
       let most = s.below in

@@ -1,5 +1,6 @@
 -- The order of a list as blocks of neighbouring items.
-use Rattle.std.specs.Prelude.{◌≡◌, ◌≤◌, ◌<◌, ◌-◌, ◌≢◌, ℕ, zero, suc, Bool, true, false, cond, IsFalse, List, [], ◌∷◌, ◌++◌, length, take, drop, Option, Some, None, slice_get}
+use Rattle.std.specs.Prelude.{◌≡◌, ◌≤◌, ◌<◌, ◌-◌, ◌≢◌, ℕ, zero, suc, Bool, true, false, cond, IsFalse, List, [], ◌∷◌, ◌++◌, length, take}
+use Rattle.std.specs.Prelude.{drop, Option, Some, None, slice_get}
 use Rattle.std.specs.List.{All, items_where_true}
 use Rattle.std.specs.FinMap.{find}
 use Rattle.semantics.specs.Ids.{OpId, id_cmp, is_smaller_id}
@@ -69,7 +70,8 @@ IsPositionOf a items (Some index) = StandsFirst a items index
 -- Where a new item a, which comes in at `from`, goes in a block, whatever items follow the block: past each one that isn't smaller
 abbrev pub IsFirstSmaller : OpId → List OpId → ℕ → Option ℕ → Type 0
 IsFirstSmaller a items from None = (rest : List OpId) → take from items ++ skip a (drop from items ++ rest) ≡ items ++ skip a rest
-IsFirstSmaller a items from (Some index) = (index < length items) × ((rest : List OpId) → take from items ++ skip a (drop from items ++ rest) ≡ take index items ++ (a ∷ (drop index items ++ rest)))
+IsFirstSmaller a items from (Some index) = (index < length items)
+    × ((rest : List OpId) → take from items ++ skip a (drop from items ++ rest) ≡ take index items ++ (a ∷ (drop index items ++ rest)))
 
 -- no item stands twice
 abbrev pub AreApart : List OpId → Type 0
@@ -78,7 +80,8 @@ AreApart (a ∷ rest) = (has_item a rest ≡ false) × AreApart rest
 
 -- each item has the number of its block as its home
 abbrev pub AreHomed : List (OpId × ℕ) → List Run → Type 0
-AreHomed homes runs = (block : ℕ) (r : Run) → slice_get runs block ≡ Some r → (a : OpId) → has_item a r.items ≡ true → find id_cmp a homes ≡ Some r.number
+AreHomed homes runs = (block : ℕ) (r : Run) → slice_get runs block ≡ Some r → (a : OpId) → has_item a r.items ≡ true
+    → find id_cmp a homes ≡ Some r.number
 
 -- the items have their homes, and no other id has one
 pub record AreHomes (runs : List Run) (homes : List (OpId × ℕ)) : Type 0 where
@@ -127,7 +130,8 @@ pub record IsBehind (runs : List Run) (item : Option OpId) (block index : ℕ) :
 pub record GoesIn (runs : List Run) (a : OpId) (from_block from_index block index : ℕ) : Type 0 where
   pub inside : block < length runs
   pub within : index ≤ length (items_at runs block)
-  pub same : items_before runs from_block from_index ++ skip a (items_from runs from_block from_index) ≡ items_before runs block index ++ (a ∷ items_from runs block index)
+  pub same : items_before runs from_block from_index ++ skip a (items_from runs from_block from_index)
+      ≡ items_before runs block index ++ (a ∷ items_from runs block index)
 
 -- in a map of homes the items have this number, and others stay
 abbrev pub AreMoved : List OpId → ℕ → List (OpId × ℕ) → List (OpId × ℕ) → Type 0

@@ -1,6 +1,7 @@
 //! A block of a list: a run of neighbouring items.
 
-ghost use Rattle.std.specs.Prelude.{◌≡◌, ◌≤◌, ◌<◌, ◌+◌, ℕ, List, [], ◌∷◌, ◌++◌, length, take, drop, slice_get, slice_set, Some, cond, false, IsTrue, OnOk, OnErr, IfOk};
+ghost use Rattle.std.specs.Prelude.{◌≡◌, ◌≤◌, ◌<◌, ◌+◌, ℕ, List, [], ◌∷◌, ◌++◌, length, take, drop, slice_get, slice_set, Some, cond};
+ghost use Rattle.std.specs.Prelude.{false, IsTrue, OnOk, OnErr, IfOk};
 ghost use Rattle.std.specs.List.{insert, items_where_true};
 ghost use Rattle.semantics.specs.Ids.{OpId as TheId};
 ghost use Rattle.columns.specs.Blocks.{AreGreater, IsFirstSmaller, IsFloor, IsPositionOf};
@@ -32,7 +33,12 @@ impl Model for Block {
 
     ghost Value = { Run };
 
-    ghost view = { λ b. record { number = b.number; items = b.ids.items; flags = b.flags.items; room = min (vec_capacity b.ids - vec_len b.ids) (vec_capacity b.flags - vec_len b.flags) } };
+    ghost view = { λ b. record {
+      number = b.number;
+      items = b.ids.items;
+      flags = b.flags.items;
+      room = min (vec_capacity b.ids - vec_len b.ids) (vec_capacity b.flags - vec_len b.flags);
+    } };
 
     ghost invariant = { λ b. IsBlock b.ids.items b.flags.items b.shown b.floor };
 }

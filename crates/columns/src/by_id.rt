@@ -111,7 +111,8 @@ impl<T: Drop> ById<T> {
         requires { 0 < self.old.room }
         ensures entries { self.new.entries ≡ put id_cmp id value self.old.entries }
         ensures indices { self.new.indices ≡ put_index id index (keys_of self.old.entries) self.old.indices }
-        ensures beside { (table : List ℕ) → slice_get table index ≡ Some id.replica → StandBeside table self.old.entries self.old.indices → StandBeside table self.new.entries self.new.indices }
+        ensures beside { (table : List ℕ) → slice_get table index ≡ Some id.replica → StandBeside table self.old.entries self.old.indices
+            → StandBeside table self.new.entries self.new.indices }
         ensures room { self.old.room ≤ self.new.room + 1 }
     {
         match &mut self.held {
@@ -125,9 +126,13 @@ impl<T: Drop> ById<T> {
     /// and moves the entries that stay to the front.
     pub fn clear(&mut self, vector: &VersionVector)
         requires { All (λ index. index < length vector.now) self.old.indices }
-        ensures kept { zip self.new.entries self.new.indices ≡ filter (λ e. is_uncovered vector.now (e.0.0.counter, e.1)) (zip self.old.entries self.old.indices) }
-        ensures without { (table : List ℕ) → AreDistinct table → length table ≡ length vector.now → StandBeside table self.old.entries self.old.indices → self.new.entries ≡ without (covers (by_table table vector.now)) self.old.entries }
-        ensures beside { (table : List ℕ) → StandBeside table self.old.entries self.old.indices → StandBeside table self.new.entries self.new.indices }
+        ensures kept { zip self.new.entries self.new.indices
+            ≡ filter (λ e. is_uncovered vector.now (e.0.0.counter, e.1)) (zip self.old.entries self.old.indices) }
+        ensures without { (table : List ℕ) → AreDistinct table → length table ≡ length vector.now
+            → StandBeside table self.old.entries self.old.indices
+            → self.new.entries ≡ without (covers (by_table table vector.now)) self.old.entries }
+        ensures beside { (table : List ℕ) → StandBeside table self.old.entries self.old.indices
+            → StandBeside table self.new.entries self.new.indices }
         ensures room { self.old.room ≤ self.new.room }
     {
         match &mut self.held {

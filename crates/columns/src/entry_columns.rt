@@ -1,6 +1,7 @@
 //! Entries by id in columns: the ids in columns of their own, and a value for each.
 
-ghost use Rattle.std.specs.Prelude.{◌≡◌, ◌↔◌, ◌≤◌, ◌<◌, ◌+◌, ℕ, List, [], length, map, Some, slice_get, slice_index_or, IsTrue, OnOk, MatchResult, vec_len, vec_capacity};
+ghost use Rattle.std.specs.Prelude.{◌≡◌, ◌↔◌, ◌≤◌, ◌<◌, ◌+◌, ℕ, List, [], length, map, Some, slice_get, slice_index_or, IsTrue, OnOk};
+ghost use Rattle.std.specs.Prelude.{MatchResult, vec_len, vec_capacity};
 ghost use Rattle.std.specs.List.{All, filter, zip};
 ghost use Rattle.std.specs.FinMap.{put, is_sorted};
 ghost use Rattle.ids.specs.Members.{AreDistinct};
@@ -34,7 +35,11 @@ impl<T> Model for EntryColumns<T> {
 
     ghost Value = { Entries T };
 
-    ghost view = { λ m. record { entries = entries_of m.ids.ids m.beside.items; indices = indices_of m.ids.ids; room = min m.ids.room m.beside.room } };
+    ghost view = { λ m. record {
+      entries = entries_of m.ids.ids m.beside.items;
+      indices = indices_of m.ids.ids;
+      room = min m.ids.room m.beside.room;
+    } };
 
     ghost invariant = { λ m. AreEntries m.ids.ids m.beside.items };
 }
@@ -100,7 +105,8 @@ fn id_at<T>(ids: &IdColumns, beside: &Rings<(ReplicaId, T)>, position: usize) ->
 /// binary search.
 fn find_id<T>(ids: &IdColumns, beside: &Rings<(ReplicaId, T)>, id: OpId) -> Result<usize, usize>
     requires { AreEntries ids.now.ids beside.now.items }
-    ensures { MatchResult result (StandsAt id_cmp id (keys_of (entries_of ids.now.ids beside.now.items))) (GoesTo id_cmp id (keys_of (entries_of ids.now.ids beside.now.items))) }
+    ensures { MatchResult result (StandsAt id_cmp id (keys_of (entries_of ids.now.ids beside.now.items)))
+        (GoesTo id_cmp id (keys_of (entries_of ids.now.ids beside.now.items))) }
 {
     if is_greatest(ids, beside, id) {
         return Err(beside.len());
@@ -138,7 +144,8 @@ impl<T: Drop> EntryColumns<T> {
         requires { 0 < self.old.room }
         ensures entries { self.new.entries ≡ put id_cmp id value self.old.entries }
         ensures indices { self.new.indices ≡ put_index id index (keys_of self.old.entries) self.old.indices }
-        ensures beside { (table : List ℕ) → slice_get table index ≡ Some id.replica → StandBeside table self.old.entries self.old.indices → StandBeside table self.new.entries self.new.indices }
+        ensures beside { (table : List ℕ) → slice_get table index ≡ Some id.replica → StandBeside table self.old.entries self.old.indices
+            → StandBeside table self.new.entries self.new.indices }
         ensures room { self.old.room ≤ self.new.room + 1 }
     {
         put_in(&mut self.ids, &mut self.beside, id, index, value);
@@ -148,9 +155,13 @@ impl<T: Drop> EntryColumns<T> {
     /// the entries that stay to the front.
     pub fn clear(&mut self, vector: &VersionVector)
         requires { All (λ index. index < length vector.now) self.old.indices }
-        ensures kept { zip self.new.entries self.new.indices ≡ filter (λ e. is_uncovered vector.now (e.0.0.counter, e.1)) (zip self.old.entries self.old.indices) }
-        ensures without { (table : List ℕ) → AreDistinct table → length table ≡ length vector.now → StandBeside table self.old.entries self.old.indices → self.new.entries ≡ without (covers (by_table table vector.now)) self.old.entries }
-        ensures beside { (table : List ℕ) → StandBeside table self.old.entries self.old.indices → StandBeside table self.new.entries self.new.indices }
+        ensures kept { zip self.new.entries self.new.indices
+            ≡ filter (λ e. is_uncovered vector.now (e.0.0.counter, e.1)) (zip self.old.entries self.old.indices) }
+        ensures without { (table : List ℕ) → AreDistinct table → length table ≡ length vector.now
+            → StandBeside table self.old.entries self.old.indices
+            → self.new.entries ≡ without (covers (by_table table vector.now)) self.old.entries }
+        ensures beside { (table : List ℕ) → StandBeside table self.old.entries self.old.indices
+            → StandBeside table self.new.entries self.new.indices }
         ensures room { self.old.room ≤ self.new.room }
     {
         vector.keep_uncovered_beside(&mut self.ids, &mut self.beside);
@@ -169,7 +180,8 @@ fn put_in<T: Drop>(
     requires room_for_the_id { 0 < ids.old.room }
     requires room_beside { 0 < beside.old.room }
     ensures entries { entries_of ids.new.ids beside.new.items ≡ put id_cmp id value (entries_of ids.old.ids beside.old.items) }
-    ensures indices { indices_of ids.new.ids ≡ put_index id index (keys_of (entries_of ids.old.ids beside.old.items)) (indices_of ids.old.ids) }
+    ensures indices { indices_of ids.new.ids
+        ≡ put_index id index (keys_of (entries_of ids.old.ids beside.old.items)) (indices_of ids.old.ids) }
     ensures long { length beside.new.items ≡ length ids.new.ids }
     ensures room { ids.old.room ≤ ids.new.room + 1 }
     ensures room_beside { beside.old.room ≤ beside.new.room + 1 }

@@ -28,7 +28,10 @@ impl Model for FieldColumns {
 
     ghost Value = { Numbered Name };
 
-    ghost view = { λ f. record { entries = zip f.keys.keys (numbered 0 f.numbers.items f.keys.numbers); room = min f.keys.room (vec_capacity f.numbers - vec_len f.numbers) } };
+    ghost view = { λ f. record {
+      entries = zip f.keys.keys (numbered 0 f.numbers.items f.keys.numbers);
+      room = min f.keys.room (vec_capacity f.numbers - vec_len f.numbers);
+    } };
 
     ghost invariant = { λ f. AreFields f.keys f.numbers.items };
 }

@@ -88,7 +88,8 @@ impl ListOrder {
     pub fn set_shown(&mut self, id: &OpId, shown: bool)
         requires { IsTrue (has_item id.now self.old.items) }
         ensures items { self.new.items ≡ self.old.items }
-        ensures visible { (f : TheId → Bool) → self.old.visible ≡ filter f self.old.items → self.new.visible ≡ filter (λ a. cond (is_same_id a id.now) shown (f a)) self.old.items }
+        ensures visible { (f : TheId → Bool) → self.old.visible ≡ filter f self.old.items
+            → self.new.visible ≡ filter (λ a. cond (is_same_id a id.now) shown (f a)) self.old.items }
         ensures room { self.new.room ≡ self.old.room }
     {
         match &mut self.blocks {

@@ -1,6 +1,7 @@
 //! The order of a list, in blocks of neighbouring items.
 
-ghost use Rattle.std.specs.Prelude.{◌≡◌, ◌≤◌, ◌<◌, ◌+◌, ℕ, Bool, List, cond, [], length, IsTrue, IsFalse, IsSome, IfOk, OnOk, true, slice_get};
+ghost use Rattle.std.specs.Prelude.{◌≡◌, ◌≤◌, ◌<◌, ◌+◌, ℕ, Bool, List, cond, [], length, IsTrue, IsFalse, IsSome, IfOk, OnOk, true};
+ghost use Rattle.std.specs.Prelude.{slice_get};
 ghost use Rattle.std.specs.List.{filter};
 ghost use Rattle.std.specs.FinMap.{find};
 ghost use Rattle.semantics.specs.Ids.{OpId as TheId, id_cmp, is_same_id};
@@ -39,7 +40,11 @@ impl Model for OrderBlocks {
 
     ghost Value = { Order };
 
-    ghost view = { λ o. record { items = joined o.blocks.items; visible = joined_shown o.blocks.items; room = min o.homes.room (min 1 (room_at o.blocks.items o.last.block)) } };
+    ghost view = { λ o. record {
+      items = joined o.blocks.items;
+      visible = joined_shown o.blocks.items;
+      room = min o.homes.room (min 1 (room_at o.blocks.items o.last.block));
+    } };
 
     ghost invariant = { λ o. AreBlocks o.blocks.items o.homes.entries o.last.block };
 }
@@ -98,7 +103,8 @@ impl OrderBlocks {
     pub fn set_shown(&mut self, id: &OpId, shown: bool)
         requires { IsTrue (has_item id.now self.old.items) }
         ensures items { self.new.items ≡ self.old.items }
-        ensures visible { (f : TheId → Bool) → self.old.visible ≡ filter f self.old.items → self.new.visible ≡ filter (λ a. cond (is_same_id a id.now) shown (f a)) self.old.items }
+        ensures visible { (f : TheId → Bool) → self.old.visible ≡ filter f self.old.items
+            → self.new.visible ≡ filter (λ a. cond (is_same_id a id.now) shown (f a)) self.old.items }
         ensures room { self.new.room ≡ self.old.room }
     {
         let home = self.homes.get(id).unwrap();
@@ -157,8 +163,10 @@ fn make_room(blocks: &mut Vec<Block>, homes: &mut Numbers, last: Position) -> Re
 /// `AllocError` if allocation fails.
 fn open(blocks: &mut Vec<Block>) -> Result<(), AllocError>
     requires { blocks.old.items ≡ [] }
-    ensures same { (homes : List (TheId × ℕ)) (last : ℕ) → AreBlocks blocks.old.items homes last → IsSameList blocks.old.items blocks.new.items homes last }
-    ensures room { (homes : List (TheId × ℕ)) (last : ℕ) → AreBlocks blocks.old.items homes last → OnOk result (0 < room_at blocks.new.items last) }
+    ensures same { (homes : List (TheId × ℕ)) (last : ℕ) → AreBlocks blocks.old.items homes last
+        → IsSameList blocks.old.items blocks.new.items homes last }
+    ensures room { (homes : List (TheId × ℕ)) (last : ℕ) → AreBlocks blocks.old.items homes last
+        → OnOk result (0 < room_at blocks.new.items last) }
 {
     let mut first = Block::new(0, *blocks.allocator());
     first.reserve_one()?;
@@ -174,7 +182,8 @@ fn open(blocks: &mut Vec<Block>) -> Result<(), AllocError>
 /// `AllocError` if allocation fails.
 fn reserve_in(blocks: &mut Vec<Block>, block: usize) -> Result<(), AllocError>
     requires { block < length blocks.old.items }
-    ensures same { (homes : List (TheId × ℕ)) → AreBlocks blocks.old.items homes block → IsSameList blocks.old.items blocks.new.items homes block }
+    ensures same { (homes : List (TheId × ℕ)) → AreBlocks blocks.old.items homes block
+        → IsSameList blocks.old.items blocks.new.items homes block }
     ensures room { OnOk result (0 < room_at blocks.new.items block) }
 {
     blocks[block].reserve_one()

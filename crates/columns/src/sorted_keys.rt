@@ -31,7 +31,11 @@ impl Model for SortedKeys {
 
     ghost Value = { Keys };
 
-    ghost view = { λ k. record { keys = numbered [] k.keys.items k.order.items; numbers = k.order.items; room = min (vec_capacity k.keys - vec_len k.keys) k.order.room } };
+    ghost view = { λ k. record {
+      keys = numbered [] k.keys.items k.order.items;
+      numbers = k.order.items;
+      room = min (vec_capacity k.keys - vec_len k.keys) k.order.room;
+    } };
 
     ghost invariant = { λ k. AreOrdered k.keys.items k.order.items };
 }
@@ -90,7 +94,9 @@ impl SortedKeys {
     /// as many others as their number has binary digits: at most k of fewer than 2 to the k. Each comparison adds 1 to `probes`.
     pub fn find(&self, key: &Key, probes: &mut u64) -> Result<usize, usize>
         requires { probes.old ≤ 18446744073709551551 }
-        ensures position { MatchResult result (λ position. (slice_get self.now.keys position ≡ Some key.now) × (position ≡ rank name_cmp key.now self.now.keys)) (GoesTo name_cmp key.now self.now.keys) }
+        ensures position { MatchResult result
+            (λ position. (slice_get self.now.keys position ≡ Some key.now) × (position ≡ rank name_cmp key.now self.now.keys))
+            (GoesTo name_cmp key.now self.now.keys) }
         ensures few_probes { (k : ℕ) → length self.now.keys < 2 ^ k → probes.new ≤ probes.old + k }
         ensures any_probe { 0 < length self.now.keys → probes.old < probes.new }
         ensures counted { probes.old ≤ probes.new }
@@ -127,7 +133,8 @@ fn find_in(keys: &[Key], order: &Rings<usize>, key: &Key, probes: &mut u64) -> R
     requires fits { length order.now.items < 2 ^ 64 }
     requires probes { probes.old ≤ 18446744073709551551 }
     ensures position { let sorted = numbered [] keys.now order.now.items in
-        MatchResult result (λ position. (slice_get sorted position ≡ Some key.now) × (position ≡ rank name_cmp key.now sorted)) (GoesTo name_cmp key.now sorted) }
+        MatchResult result (λ position. (slice_get sorted position ≡ Some key.now) × (position ≡ rank name_cmp key.now sorted))
+        (GoesTo name_cmp key.now sorted) }
     ensures few_probes { (k : ℕ) → length order.now.items < 2 ^ k → probes.new ≤ probes.old + k }
     ensures any_probe { 0 < length order.now.items → probes.old < probes.new }
     ensures counted { probes.old ≤ probes.new }

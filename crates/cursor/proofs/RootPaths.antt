@@ -26,7 +26,8 @@ down-push e [] k = refl
 down-push e (l ∷ path) k = down-push (child e l) path k
 
 -- one hop more leads to a child
-pub down-longer : (e : Element) (hops : List Hop) (hop : Hop) → map hop_of hops ≡ keys_from_root e → down Doc (map hop_of (hops ++ hop ∷ [])) ≡ child e (hop_of hop)
+pub down-longer : (e : Element) (hops : List Hop) (hop : Hop) → map hop_of hops ≡ keys_from_root e
+    → down Doc (map hop_of (hops ++ hop ∷ [])) ≡ child e (hop_of hop)
 down-longer e hops hop is =
     ap (down Doc) (map-append hop_of hops (hop ∷ []))
     ∙ down-push Doc (map hop_of hops) (hop_of hop)
@@ -43,7 +44,8 @@ append_none (k ∷ path) = ap (λ r. k ∷ r) (append_none path)
 
 keys_below : (e : Element) (path : List Key) → keys_from_root (down e path) ≡ keys_from_root e ++ path
 keys_below e [] = sym (append_none (keys_from_root e))
-keys_below e (k ∷ path) = keys_below (child e k) path ∙ ap (λ ks. ks ++ path) (keys_from_root-child e k) ∙ append_assoc (keys_from_root e) (k ∷ []) path
+keys_below e (k ∷ path) = keys_below (child e k) path ∙ ap (λ ks. ks ++ path) (keys_from_root-child e k)
+    ∙ append_assoc (keys_from_root e) (k ∷ []) path
 
 pub keys_from_root-down : (path : List Key) → keys_from_root (down Doc path) ≡ path
 keys_from_root-down path = keys_below Doc path

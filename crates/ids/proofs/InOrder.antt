@@ -1,10 +1,12 @@
 -- Numbers put in order: nothing is lost, and different numbers rise.
-use Rattle.std.proofs.Common.{◌≡◌, ℕ, suc, ◌+◌, ◌<◌, ◌≤◌, Bool, true, false, not, ◌||◌, eqb, ltb, IsTrue, IsFalse, ◌⊎◌, inl, inr, List, [], ◌∷◌, length, refl, ◌∙◌, ap, one-add, drop, arith}
+use Rattle.std.proofs.Common.{◌≡◌, ℕ, suc, ◌+◌, ◌<◌, ◌≤◌, Bool, true, false, not, ◌||◌, eqb, ltb, IsTrue, IsFalse, ◌⊎◌, inl, inr, List, []}
+use Rattle.std.proofs.Common.{◌∷◌, length, refl, ◌∙◌, ap, one-add, drop, arith}
 use Rattle.std.proofs.lemmas.List.{drop_all}
 use Rattle.std.specs.List.{insert, position, position_or_len}
 use Rattle.std.specs.Option.{unwrap_or}
 use Rattle.std.proofs.lemmas.List.Sums.{prefix_len-le-length}
-use Rattle.std.proofs.lemmas.Bool.{cases_Bool, both_ways, not-true, ltb-true, ltb-false, eq-eqb, eqb-true, eqb-false, ne_eqb, and_parts, or_parts, or_left, or_right, false_from_ne_true}
+use Rattle.std.proofs.lemmas.Bool.{cases_Bool, both_ways, not-true, ltb-true, ltb-false, eq-eqb, eqb-true, eqb-false, ne_eqb, and_parts}
+use Rattle.std.proofs.lemmas.Bool.{or_parts, or_left, or_right, false_from_ne_true}
 use Rattle.ids.specs.Members.{is_member, AreDistinct, are_distinct, put_number, put_all, in_order}
 use Rattle.ids.specs.Tables.{IsBelowAll, AreRising}
 
@@ -28,7 +30,8 @@ pub is_member-put_number : (p : ℕ) (ps : List ℕ) (q : ℕ) → is_member (pu
 is_member-put_number p [] q = refl
 is_member-put_number p (r ∷ ps) q = by_test (cases_Bool (ltb p r)) (is_member-put_number p ps q)
   where
-    by_test : (ltb p r ≡ true) ⊎ (ltb p r ≡ false) → is_member (put_number p ps) q ≡ (eqb p q || is_member ps q) → is_member (put_number p (r ∷ ps)) q ≡ (eqb p q || is_member (r ∷ ps) q)
+    by_test : (ltb p r ≡ true) ⊎ (ltb p r ≡ false) → is_member (put_number p ps) q ≡ (eqb p q || is_member ps q)
+        → is_member (put_number p (r ∷ ps)) q ≡ (eqb p q || is_member (r ∷ ps) q)
     by_test (inl e) h = rw e refl
     by_test (inr e) h = rw e (ap (λ x. eqb r q || x) h ∙ swap_tests (eqb r q) (eqb p q) (is_member ps q))
 
@@ -36,7 +39,8 @@ pub length-put_number : (p : ℕ) (ps : List ℕ) → length (put_number p ps) �
 length-put_number p [] = refl
 length-put_number p (r ∷ ps) = by_test (cases_Bool (ltb p r)) (length-put_number p ps)
   where
-    by_test : (ltb p r ≡ true) ⊎ (ltb p r ≡ false) → length (put_number p ps) ≡ suc (length ps) → length (put_number p (r ∷ ps)) ≡ suc (suc (length ps))
+    by_test : (ltb p r ≡ true) ⊎ (ltb p r ≡ false) → length (put_number p ps) ≡ suc (length ps)
+        → length (put_number p (r ∷ ps)) ≡ suc (suc (length ps))
     by_test (inl e) h = rw e refl
     by_test (inr e) h = rw e (ap suc h)
 
@@ -44,7 +48,8 @@ insert_first_greater : (p : ℕ) (ps : List ℕ) → put_number p ps ≡ insert 
 insert_first_greater p [] = refl
 insert_first_greater p (r ∷ ps) = by_test (cases_Bool (ltb p r)) (insert_first_greater p ps)
   where
-    by_test : (ltb p r ≡ true) ⊎ (ltb p r ≡ false) → put_number p ps ≡ insert ps (position_or_len (λ q. ltb p q) ps) p → put_number p (r ∷ ps) ≡ insert (r ∷ ps) (position_or_len (λ q. ltb p q) (r ∷ ps)) p
+    by_test : (ltb p r ≡ true) ⊎ (ltb p r ≡ false) → put_number p ps ≡ insert ps (position_or_len (λ q. ltb p q) ps) p
+        → put_number p (r ∷ ps) ≡ insert (r ∷ ps) (position_or_len (λ q. ltb p q) (r ∷ ps)) p
     by_test (inl e) h = rw e refl
     by_test (inr e) h = rw (e, one-add) (ap (λ x. r ∷ x) h)
 
@@ -55,7 +60,8 @@ position_for p ps = unwrap_or (position (λ q. ltb p q) ps) (length ps)
 position_for-position_or_len : (p : ℕ) (ps : List ℕ) → position_for p ps ≡ position_or_len (λ q. ltb p q) ps
 position_for-position_or_len p ps = by_test (cases_Bool (ltb (position_or_len (λ q. ltb p q) ps) (length ps)))
   where
-    by_test : (ltb (position_or_len (λ q. ltb p q) ps) (length ps) ≡ true) ⊎ (ltb (position_or_len (λ q. ltb p q) ps) (length ps) ≡ false) → position_for p ps ≡ position_or_len (λ q. ltb p q) ps
+    by_test : (ltb (position_or_len (λ q. ltb p q) ps) (length ps) ≡ true) ⊎ (ltb (position_or_len (λ q. ltb p q) ps) (length ps) ≡ false)
+        → position_for p ps ≡ position_or_len (λ q. ltb p q) ps
     by_test (inl e) = rw e refl
     by_test (inr e) = rw e (omega (arith, ltb-false _ _ e, prefix_len-le-length (λ q. not (ltb p q)) ps))
 
@@ -82,7 +88,8 @@ IsBelowAll-put_number q p (r ∷ ps) l h = by_test (cases_Bool (ltb p r)) (IsBel
 -- a number that isn't one of these keeps them rising
 pub AreRising-put_number : (p : ℕ) (ps : List ℕ) → IsFalse (is_member ps p) → AreRising ps → AreRising (put_number p ps)
 AreRising-put_number p [] a h = (tt, tt)
-AreRising-put_number p (r ∷ ps) a h = by_test (cases_Bool (ltb p r)) (AreRising-put_number p ps (or_parts (eqb r p) (is_member ps p) a).1 h.1)
+AreRising-put_number p (r ∷ ps) a h = by_test (cases_Bool (ltb p r))
+    (AreRising-put_number p ps (or_parts (eqb r p) (is_member ps p) a).1 h.1)
   where
     by_test : (ltb p r ≡ true) ⊎ (ltb p r ≡ false) → AreRising (put_number p ps) → AreRising (put_number p (r ∷ ps))
     by_test (inl e) m = let below : p < r = ltb-true p r e in rw e ((below, IsBelowAll-trans p r ps below h.0), h)
@@ -113,7 +120,8 @@ is_member-put_all table [] q = or_nothing (is_member table q)
     or_nothing : (a : Bool) → a ≡ a || false
     or_nothing true = refl
     or_nothing false = refl
-is_member-put_all table (p ∷ ps) q = is_member-put_all (put_number p table) ps q ∙ ap (λ x. x || is_member ps q) (is_member-put_number p table q) ∙ or_again (eqb p q) (is_member table q) (is_member ps q)
+is_member-put_all table (p ∷ ps) q = is_member-put_all (put_number p table) ps q
+    ∙ ap (λ x. x || is_member ps q) (is_member-put_number p table q) ∙ or_again (eqb p q) (is_member table q) (is_member ps q)
 
 pub length-put_all : (table ps : List ℕ) → length (put_all table ps) ≡ length table + length ps
 length-put_all table [] = omega arith
@@ -128,7 +136,8 @@ abbrev AreApart : List ℕ → List ℕ → Type 0
 AreApart table ps = (q : ℕ) → IsTrue (is_member ps q) → IsFalse (is_member table q)
 
 apart_after : (p : ℕ) (table ps : List ℕ) → (IsTrue (is_member ps p) → ⊥) → AreApart table (p ∷ ps) → AreApart (put_number p table) ps
-apart_after p table ps new apart q m = is_member-put_number p table q ∙ neither (apart q (or_right (eqb p q) (is_member ps q) m)) (false_from_ne_true (eqb p q) (λ e. new (same (eqb-true p q e))))
+apart_after p table ps new apart q m = is_member-put_number p table q
+    ∙ neither (apart q (or_right (eqb p q) (is_member ps q) m)) (false_from_ne_true (eqb p q) (λ e. new (same (eqb-true p q e))))
   where
     same : p ≡ q → IsTrue (is_member ps p)
     same e = rw e m
@@ -139,7 +148,9 @@ apart_after p table ps new apart q m = is_member-put_number p table q ∙ neithe
 AreRising-put_all : (table ps : List ℕ) → AreRising table → AreDistinct ps → AreApart table ps → AreRising (put_all table ps)
 AreRising-put_all table [] h d apart = h
 AreRising-put_all table (p ∷ ps) h d apart =
-    AreRising-put_all (put_number p table) ps (AreRising-put_number p table (apart p (or_left (eqb p p) (is_member ps p) (eq-eqb p p refl))) h) d.1 (apart_after p table ps d.0 apart)
+    AreRising-put_all (put_number p table) ps
+    (AreRising-put_number p table (apart p (or_left (eqb p p) (is_member ps p) (eq-eqb p p refl))) h) d.1
+    (apart_after p table ps d.0 apart)
 
 -- where all are in place
 pub put_all-done : (table ps : List ℕ) (n : ℕ) → length ps ≤ n → put_all table (drop n ps) ≡ table

@@ -1,5 +1,6 @@
 -- Members make a table, and what a search in a table finds.
-use Rattle.std.proofs.Common.{◌≡◌, ℕ, zero, suc, ◌<◌, ◌≤◌, true, ◌&&◌, eqb, leb, IsTrue, IsFalse, ◌↔◌, ◌⊎◌, inl, inr, List, [], ◌∷◌, length, get_or, slice_get, Option, Some, None, Result, Ok, Err, IsNone, MatchOption, refl, ap, sym, ◌∙◌, arith}
+use Rattle.std.proofs.Common.{◌≡◌, ℕ, zero, suc, ◌<◌, ◌≤◌, true, ◌&&◌, eqb, leb, IsTrue, IsFalse, ◌↔◌, ◌⊎◌, inl, inr, List, [], ◌∷◌, length}
+use Rattle.std.proofs.Common.{get_or, slice_get, Option, Some, None, Result, Ok, Err, IsNone, MatchOption, refl, ap, sym, ◌∙◌, arith}
 use Rattle.std.specs.List.{list_all}
 use Rattle.std.specs.List.Sorted.{IsBinarySearchResult}
 use Rattle.std.specs.Ordering.{nat_cmp}
@@ -14,7 +15,9 @@ use Rattle.ids.proofs.InOrder.{distinct_from_test, length-in_order, AreRising-in
 
 all_above_zero : (ps : List ℕ) → IsTrue (list_all (λ p. leb 1 p) ps) → IsBelowAll 0 ps
 all_above_zero [] h = tt
-all_above_zero (p ∷ ps) h = let parts = and_parts (leb 1 p) (list_all (λ p. leb 1 p) ps) h in let l : 1 ≤ p = leb-true 1 p parts.0 in (omega arith, all_above_zero ps parts.1)
+all_above_zero (p ∷ ps) h =
+    let parts = and_parts (leb 1 p) (list_all (λ p. leb 1 p) ps) h in let l : 1 ≤ p = leb-true 1 p parts.0 in
+    (omega arith, all_above_zero ps parts.1)
 
 -- members in order are a table
 pub members_make_a_table : (ps : List ℕ) → IsTrue (are_members ps) → IsTable (in_order ps)
@@ -54,13 +57,18 @@ member_at (q ∷ ps) p (suc k) l e = or_right (eqb q p) (is_member ps p) (member
 
 pub no_member_at : (ps : List ℕ) (p : ℕ) → ((k : ℕ) → k < length ps → get_or ps k 0 ≡ p → ⊥) → IsFalse (is_member ps p)
 no_member_at [] p h = refl
-no_member_at (q ∷ ps) p h = or_from (eqb q p) (is_member ps p) (ne_eqb q p (h zero (omega arith))) (no_member_at ps p (λ k l e. h (suc k) (omega arith) e))
+no_member_at (q ∷ ps) p h = or_from (eqb q p) (is_member ps p) (ne_eqb q p (h zero (omega arith)))
+    (no_member_at ps p (λ k l e. h (suc k) (omega arith) e))
 
 -- a search finds a number exactly where it is a member
-pub search_decides : (ps : List ℕ) (p : ℕ) (r : Result ℕ ℕ) → AreRising ps → IsBinarySearchResult (λ q. nat_cmp q p) ps r → IsNone (result_ok r) ↔ IsFalse (is_member ps p)
+pub search_decides : (ps : List ℕ) (p : ℕ) (r : Result ℕ ℕ) → AreRising ps → IsBinarySearchResult (λ q. nat_cmp q p) ps r
+    → IsNone (result_ok r) ↔ IsFalse (is_member ps p)
 search_decides ps p r h found = by_result r (searched ps p r found (rising_indices ps h))
   where
-    by_result : (s : Result ℕ ℕ) → MatchResult s (λ k. (k < length ps) × (get_or ps k 0 ≡ p)) (λ k. (k ≤ length ps) × ((j : ℕ) → j < k → get_or ps j 0 < p) × ((j : ℕ) → k ≤ j → j < length ps → p < get_or ps j 0)) → IsNone (result_ok s) ↔ IsFalse (is_member ps p)
+    by_result : (s : Result ℕ ℕ)
+        → MatchResult s (λ k. (k < length ps) × (get_or ps k 0 ≡ p))
+        (λ k. (k ≤ length ps) × ((j : ℕ) → j < k → get_or ps j 0 < p) × ((j : ℕ) → k ≤ j → j < length ps → p < get_or ps j 0))
+        → IsNone (result_ok s) ↔ IsFalse (is_member ps p)
     by_result (Ok k) m = (λ e. absurd (both_ways true e refl), λ e. absurd (both_ways (is_member ps p) e (member_at ps p k m.0 m.1)))
     by_result (Err k) m = (λ e. no_member_at ps p (λ j l same. by_order j l same (cases_lt j k)), λ e. refl)
       where
@@ -69,6 +77,7 @@ search_decides ps p r h found = by_result r (searched ps p r found (rising_indic
         by_order j l same (inr above) = let high = m.2 j above l in omega arith
 
 -- the number at an index is that of a replica, since it isn't 0
-pub replica_at : (ps : List ℕ) (k n : ℕ) (r : Option ℕ) → IsBelowAll 0 ps → k < length ps → n ≡ get_or ps k 0 → MatchOption r (n ≡ 0) (λ m. (m ≡ n) × (0 < n)) → r ≡ slice_get ps k
+pub replica_at : (ps : List ℕ) (k n : ℕ) (r : Option ℕ) → IsBelowAll 0 ps → k < length ps → n ≡ get_or ps k 0
+    → MatchOption r (n ≡ 0) (λ m. (m ≡ n) × (0 < n)) → r ≡ slice_get ps k
 replica_at ps k n None h l e m = let above : 0 < get_or ps k 0 = all_above 0 ps h k l in absurd (omega arith)
 replica_at ps k n (Some r) h l e m = ap Some (m.0 ∙ e) ∙ sym (slice_get-get_or ps k 0 l)

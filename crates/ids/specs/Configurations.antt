@@ -3,7 +3,8 @@ use Rattle.std.specs.Prelude.{ℕ, Bool, ◌&&◌, nat_le, List, length}
 use Rattle.std.specs.List.{list_all}
 use Rattle.ids.specs.Members.{is_member, are_distinct}
 
--- the own number and the members, how many clients and readers there are, the capacity of the queue, how many submissions go into a batch, and how many serials a client has
+-- the own number and the members, how many clients and readers there are, the capacity of the queue, how many submissions go into
+-- a batch, and how many serials a client has
 pub record Configuration : Type 0 where
   pub own : ℕ
   pub members : List ℕ

@@ -1,7 +1,10 @@
 -- Refusals by their numbers.
 use Rattle.std.specs.Prelude.{ℕ}
 use Rattle.ids.specs.declared.refusal.Refusal.{Refusal}
-use Rattle.ids.specs.declared.refusal.Refusal.TheVariants.{NoMemory, AtHead, PastEnd, NotInList, TooDeep, KeyTooLong, TextTooLong, HistoryFull, QueueFull, SerialEnd, Foreign, BadFloor, UnknownReplica, BadCounter, BrokenChain, NamesNothing, NotClosed, BadPlace, InboxFull, OwnName, NotWhole, BadLine, NoReaderPlace, BadConfig, NoReading}
+use Rattle.ids.specs.declared.refusal.Refusal.TheVariants.{NoMemory, AtHead, PastEnd, NotInList, TooDeep, KeyTooLong, TextTooLong}
+use Rattle.ids.specs.declared.refusal.Refusal.TheVariants.{HistoryFull, QueueFull, SerialEnd, Foreign, BadFloor, UnknownReplica, BadCounter}
+use Rattle.ids.specs.declared.refusal.Refusal.TheVariants.{BrokenChain, NamesNothing, NotClosed, BadPlace, InboxFull, OwnName, NotWhole}
+use Rattle.ids.specs.declared.refusal.Refusal.TheVariants.{BadLine, NoReaderPlace, BadConfig, NoReading}
 
 -- the number of a refusal
 abbrev pub number_of : Refusal → ℕ

@@ -32,7 +32,15 @@ impl Model for Config {
 
     ghost Value = { Configuration };
 
-    ghost view = { λ c. record { own = c.own; members = c.members.items; clients = c.clients; readers = c.readers; queue = c.queue; batch = c.batch; serials = c.serials } };
+    ghost view = { λ c. record {
+      own = c.own;
+      members = c.members.items;
+      clients = c.clients;
+      readers = c.readers;
+      queue = c.queue;
+      batch = c.batch;
+      serials = c.serials;
+    } };
 }
 
 impl Config {
@@ -41,7 +49,8 @@ impl Config {
     /// # Errors
     /// `BadConfig` if a number is outside its limits, a member stands twice, or the own number isn't a member.
     pub fn check(&self) -> Result<(), Refusal>
-        ensures { MatchResult result (λ _. IsTrue (is_within_limits self.now)) (λ why. (why ≡ BadConfig) × IsFalse (is_within_limits self.now)) }
+        ensures { MatchResult result (λ _. IsTrue (is_within_limits self.now))
+            (λ why. (why ≡ BadConfig) × IsFalse (is_within_limits self.now)) }
     {
         let is_within_limits = are_members(&self.members)
             && self.members.contains(&self.own)

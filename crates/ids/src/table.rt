@@ -1,6 +1,7 @@
 //! The table of an engine's replicas.
 
-ghost use Rattle.std.specs.Prelude.{◌≡◌, ◌≤◌, ◌↔◌, ◌⊎◌, ℕ, nat_lt, length, slice_get, Some, Err, IsTrue, IsFalse, IfOk, OnOk, IfErr, IfSome, IsNone};
+ghost use Rattle.std.specs.Prelude.{◌≡◌, ◌≤◌, ◌↔◌, ◌⊎◌, ℕ, nat_lt, length, slice_get, Some, Err, IsTrue, IsFalse, IfOk, OnOk, IfErr};
+ghost use Rattle.std.specs.Prelude.{IfSome, IsNone};
 ghost use Rattle.std.specs.Arc.{arc_value};
 ghost use Rattle.std.specs.List.{position};
 ghost use Rattle.ids.specs.Members.{AreDistinct, is_member, in_order, put_number};

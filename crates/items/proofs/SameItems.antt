@@ -1,5 +1,6 @@
 -- Items that are one were submitted as one, whatever the table is.
-use Rattle.std.proofs.Common.{◌≡◌, ◌&&◌, ◌==◌, ℕ, Bool, true, false, List, nat_eq, cond, length, refl, sym, ap, true≢false, eqb-true, eq-eqb}
+use Rattle.std.proofs.Common.{◌≡◌, ◌&&◌, ◌==◌, ℕ, Bool, true, false, List, nat_eq, cond, length, refl, sym, ap, true≢false, eqb-true}
+use Rattle.std.proofs.Common.{eq-eqb}
 use Rattle.semantics.specs.LegalAnswer.{OfCommand, OfPeer}
 use Rattle.semantics.specs.Tables.{by_table}
 use Rattle.semantics.specs.Stamped.{Stamped}
@@ -23,7 +24,8 @@ both false b h = absurd (true≢false (sym h))
 
 one_request : (q r : Request) → is_same_request q r ≡ true → (table : List ℕ) → request_of table q ≡ request_of table r
 one_request (Command c) (Command d) h table = ap OfCommand ((command_decides (command_of c) (command_of d)).0 h)
-one_request (Peer o) (Peer p) h table = ap (λ (x : Counted). OfPeer (received table x)) ((operation_decides (counted_of o) (counted_of p)).0 h)
+one_request (Peer o) (Peer p) h table = ap (λ (x : Counted). OfPeer (received table x))
+    ((operation_decides (counted_of o) (counted_of p)).0 h)
 one_request (Command c) (Peer p) h table = absurd (true≢false (sym h))
 one_request (Peer o) (Command d) h table = absurd (true≢false (sym h))
 

@@ -3,7 +3,8 @@ use Rattle.std.specs.Prelude.{ℕ, suc, cond, nat_eq, List, [], ◌∷◌, lengt
 use Rattle.semantics.specs.Ids.{id_at}
 use Rattle.semantics.specs.Tables.{greatest_in}
 use Rattle.semantics.specs.Stamped.{Stamped}
-use Rattle.semantics.specs.LegalAnswer.{Request as TheRequest, OfCommand, OfPeer, Submitted, Reply as TheReply, Made as MadeAs, NotMade, KeptAt, KnownAt}
+use Rattle.semantics.specs.LegalAnswer.{Request as TheRequest, OfCommand, OfPeer, Submitted, Reply as TheReply, Made as MadeAs, NotMade}
+use Rattle.semantics.specs.LegalAnswer.{KeptAt, KnownAt}
 use Rattle.operation.specs.declared.op.Op.{Op}
 use Rattle.operation.specs.Meanings.{command_of, stamped_of}
 use Rattle.items.specs.declared.item.Request.{Request}

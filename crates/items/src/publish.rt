@@ -22,7 +22,8 @@ pub trait Publish {
     /// # Errors
     /// `NoMemory` if allocation fails. Nothing has changed then.
     fn add(&mut self, entry: Entry) -> Result<(), Refusal>
-        requires lawful { IsEntryHistory (publication self.old).own (entry_of (publication self.old).members entry ∷ (publication self.old).appended) }
+        requires lawful { IsEntryHistory (publication self.old).own
+            (entry_of (publication self.old).members entry ∷ (publication self.old).appended) }
         requires room { IsFalse (is_full (publication self.old).appended) }
         requires member { IsTrue (is_member (publication self.old).members (op_in entry).id.replica) }
         requires width { length (op_in entry).deps ≡ length (publication self.old).members }

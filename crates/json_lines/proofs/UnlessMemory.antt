@@ -8,6 +8,7 @@ pub IsUnlessMemory-Ok : {T : Type 0} (wanted : Result T Refusal) (x : T) → IsU
 IsUnlessMemory-Ok wanted x (inl e) = sym e
 IsUnlessMemory-Ok wanted x (inr e) = absurd (cc)
 
-pub IsUnlessMemory-Err : {T : Type 0} (wanted : Result T Refusal) (why : Refusal) → IsUnlessMemory (Err why) wanted → (why ≡ NoMemory) ⊎ (wanted ≡ Err why)
+pub IsUnlessMemory-Err : {T : Type 0} (wanted : Result T Refusal) (why : Refusal) → IsUnlessMemory (Err why) wanted
+    → (why ≡ NoMemory) ⊎ (wanted ≡ Err why)
 IsUnlessMemory-Err wanted why (inl e) = inr (sym e)
 IsUnlessMemory-Err wanted why (inr e) = inl (cc)

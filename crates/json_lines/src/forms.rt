@@ -29,7 +29,8 @@ pub fn json_of(alloc: Global, text: &[u8]) -> Result<Value, Refusal>
 
 /// A list's parts.
 pub fn list_in(value: &Value) -> Result<&[Value], Refusal>
-    ensures { MatchResult result (λ parts. list_form (view value.now) ≡ Ok (items_view parts.now)) (λ why. list_form (view value.now) ≡ Err why) }
+    ensures { MatchResult result (λ parts. list_form (view value.now) ≡ Ok (items_view parts.now))
+        (λ why. list_form (view value.now) ≡ Err why) }
 {
     match value.as_array() {
         Some(parts) => Ok(parts.as_slice()),
@@ -39,7 +40,8 @@ pub fn list_in(value: &Value) -> Result<&[Value], Refusal>
 
 /// A list's first word and its other parts.
 pub fn phrase_in(value: &Value) -> Result<(&str, &[Value]), Refusal>
-    ensures { MatchResult result (λ p. phrase_form (view value.now) ≡ Ok (p.0.now, items_view p.1.now)) (λ why. phrase_form (view value.now) ≡ Err why) }
+    ensures { MatchResult result (λ p. phrase_form (view value.now) ≡ Ok (p.0.now, items_view p.1.now))
+        (λ why. phrase_form (view value.now) ≡ Err why) }
 {
     let (first, others) = list_in(value)?.split_first().ok_or(Refusal::BadLine)?;
     Ok((text_in(first)?, others))

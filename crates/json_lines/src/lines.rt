@@ -42,7 +42,8 @@ impl<'a> Lines<'a> {
     pub fn take_line(&mut self) -> Option<Line<'a>>
         ensures line { IfSome result (λ line. IsFirstLine self.old.rest.now line.text.now self.new.rest.now) }
         ensures number { IfSome result (λ line. (line.number ≡ self.old.taken + 1) × (self.new.taken ≡ line.number)) }
-        ensures none { IfNone result (HasNoEnd self.old.rest.now × (self.new.rest.now ≡ self.old.rest.now) × (self.new.taken ≡ self.old.taken)) }
+        ensures none { IfNone result
+            (HasNoEnd self.old.rest.now × (self.new.rest.now ≡ self.old.rest.now) × (self.new.taken ≡ self.old.taken)) }
     {
         let rest = self.rest;
         let end = rest.iter().position(|byte| *byte == LINE_END)?;

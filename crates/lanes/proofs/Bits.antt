@@ -1,5 +1,7 @@
 -- Lists of bits as numbers, part by part, and as words.
-use Rattle.std.proofs.Common.{◌≡◌, ℕ, zero, suc, ◌+◌, ◌-◌, ◌*◌, ◌/◌, ◌%◌, ◌^◌, ◌<◌, ◌≤◌, Bool, true, false, cond, eqb, ltb, List, [], ◌∷◌, ◌++◌, length, get_or, map, take, drop, refl, sym, ap, ◌∙◌, arith, pow-suc, bit_or, inl, inr, ◌⊎◌, min, mul_comm, suc-add, subst}
+use Rattle.std.proofs.Common.{◌≡◌, ℕ, zero, suc, ◌+◌, ◌-◌, ◌*◌, ◌/◌, ◌%◌, ◌^◌, ◌<◌, ◌≤◌, Bool, true, false, cond, eqb, ltb, List, [], ◌∷◌}
+use Rattle.std.proofs.Common.{◌++◌, length, get_or, map, take, drop, refl, sym, ap, ◌∙◌, arith, pow-suc, bit_or, inl, inr, ◌⊎◌, min}
+use Rattle.std.proofs.Common.{mul_comm, suc-add, subst}
 use Rattle.std.specs.List.{sum_by}
 use Rattle.std.specs.Int.{bit_at, div_ceil}
 use Rattle.std.specs.Int.RustNames.{count_ones}
@@ -9,7 +11,8 @@ use lib.Bits.{or_shifted_r}
 use Rattle.std.proofs.lemmas.Bool.{cases_lt}
 use Rattle.std.proofs.lemmas.Nat.{shl_whole}
 use Rattle.std.proofs.lemmas.Nat.Bits.{bit_at-zero}
-use Rattle.std.proofs.lemmas.List.{take_min, length-take-le, length-take, length-drop, get_or_past, get_or-drop, map-id, get_or-map, length-map}
+use Rattle.std.proofs.lemmas.List.{take_min, length-take-le, length-take, length-drop, get_or_past, get_or-drop, map-id, get_or-map}
+use Rattle.std.proofs.lemmas.List.{length-map}
 use Rattle.std.proofs.lemmas.List.FromFn.{get_or-map-range_with_len, length-map-range_with_len}
 use Rattle.std.proofs.lemmas.List.Sums.{sum_by-append, sum-map, count_by-le-length}
 use Rattle.std.proofs.lemmas.Simd.{mask_l-lt, ones-mask_l, bit_mask_l, get_or-chunk, get_or-zip2, length-zip2}
@@ -41,18 +44,21 @@ byte_is false = refl
 pub length-over : (counters bounds : List ℕ) → length counters ≡ length bounds → length (over counters bounds) ≡ length counters
 length-over counters bounds long = length-zip2 ltb bounds counters (sym long) ∙ sym long
 
-pub over-at : (counters bounds : List ℕ) (i : ℕ) → length counters ≡ length bounds → i < length counters → get_or (over counters bounds) i false ≡ ltb (get_or bounds i 0) (get_or counters i 0)
+pub over-at : (counters bounds : List ℕ) (i : ℕ) → length counters ≡ length bounds → i < length counters
+    → get_or (over counters bounds) i false ≡ ltb (get_or bounds i 0) (get_or counters i 0)
 over-at counters bounds i long h = get_or-zip2 ltb bounds counters i 0 0 false (omega arith) h
 
 -- the same bit, read from the ends of both columns as a number
 pub bit_over : (p i : ℕ) (counters bounds cs bs : List ℕ) (bit : ℕ) → length counters ≡ length bounds → p + i < length counters
-    → cs ≡ drop p counters → bs ≡ drop p bounds → bit ≡ bool_byte (ltb (get_or bs i 0) (get_or cs i 0)) → bit ≡ cond (get_or (over counters bounds) (p + i) false) 1 0
+    → cs ≡ drop p counters → bs ≡ drop p bounds → bit ≡ bool_byte (ltb (get_or bs i 0) (get_or cs i 0))
+    → bit ≡ cond (get_or (over counters bounds) (p + i) false) 1 0
 bit_over p i counters bounds cs bs bit long within is_cs is_bs e =
     e ∙ (λ j. bool_byte (ltb (get_or (is_bs j) i 0) (get_or (is_cs j) i 0)))
     ∙ (λ j. bool_byte (ltb (get_or-drop p bounds i 0 j) (get_or-drop p counters i 0 j)))
     ∙ byte_is _ ∙ ap (λ b. cond b 1 0) (sym (over-at counters bounds (p + i) long within))
 
-mask_of_block : (i : ℕ) (counters bounds cs bs : List ℕ) (mask : ℕ) → cs ≡ chunk (8 * i) 8 counters → bs ≡ chunk (8 * i) 8 bounds → mask ≡ mask_l (over cs bs) → mask ≡ mask_l (chunk (8 * i) 8 (over counters bounds))
+mask_of_block : (i : ℕ) (counters bounds cs bs : List ℕ) (mask : ℕ) → cs ≡ chunk (8 * i) 8 counters → bs ≡ chunk (8 * i) 8 bounds
+    → mask ≡ mask_l (over cs bs) → mask ≡ mask_l (chunk (8 * i) 8 (over counters bounds))
 mask_of_block i counters bounds cs bs mask is_cs is_bs e =
     e ∙ (λ j. mask_l (over (is_cs j) (is_bs j))) ∙ ap mask_l (sym (chunk-zip2 ltb (8 * i) 8 bounds counters))
 
@@ -80,9 +86,11 @@ word_more i n bits within few =
     ∙ ap mask_l (sym (take_chunk i n bits))
 
 -- the bits of a block of counters
-pub word_block : (i : ℕ) (counters bounds cs bs : List ℕ) (word mask : ℕ) → length counters ≡ length bounds → 8 * i + 8 ≤ length counters → length counters ≤ 64
+pub word_block : (i : ℕ) (counters bounds cs bs : List ℕ) (word mask : ℕ) → length counters ≡ length bounds → 8 * i + 8 ≤ length counters
+    → length counters ≤ 64
     → cs ≡ chunk (8 * i) 8 counters → bs ≡ chunk (8 * i) 8 bounds → mask ≡ mask_l (over cs bs)
-    → word ≡ mask_l (take (8 * i) (over counters bounds)) → bit_or word (mask * 2 ^ (8 * i) % 2 ^ 64) ≡ mask_l (take (8 * (i + 1)) (over counters bounds))
+    → word ≡ mask_l (take (8 * i) (over counters bounds))
+    → bit_or word (mask * 2 ^ (8 * i) % 2 ^ 64) ≡ mask_l (take (8 * (i + 1)) (over counters bounds))
 word_block i counters bounds cs bs word mask long within few is_cs is_bs e so_far =
     let bits = over counters bounds in
     let wide : length bits ≡ length counters = length-over counters bounds long in
@@ -100,7 +108,8 @@ word_next p bits word bit within few is_bit so_far =
 ones_of : (bits : List Bool) → count_ones (mask_l bits) ≡ count_true bits
 ones_of bits = ap (λ l. count_ones (mask_l l)) (sym (map-id bits)) ∙ ones-mask_l (λ (bit : Bool). bit) bits
 
-pub count_more : (i n : ℕ) (bits : List Bool) → count_true (take i bits) + count_ones (mask_l (chunk i n bits)) ≡ count_true (take (i + n) bits)
+pub count_more : (i n : ℕ) (bits : List Bool)
+    → count_true (take i bits) + count_ones (mask_l (chunk i n bits)) ≡ count_true (take (i + n) bits)
 count_more i n bits =
     ap (λ m. count_true (take i bits) + m) (ones_of (chunk i n bits))
     ∙ sym (sum_by-append (λ (bit : Bool). cond {A = ℕ} bit 1 0) (take i bits) (chunk i n bits))
@@ -110,11 +119,14 @@ pub count_true-take-le : (i : ℕ) (bits : List Bool) → count_true (take i bit
 count_true-take-le i bits = omega (arith, count_by-le-length (λ (bit : Bool). bit) (take i bits), length-take i bits)
 
 -- the count of a block of counters
-pub count_block : (i : ℕ) (counters bounds cs bs : List ℕ) (count mask : ℕ) → cs ≡ chunk (8 * i) 8 counters → bs ≡ chunk (8 * i) 8 bounds → mask ≡ mask_l (over cs bs)
-    → count ≡ count_true (take (8 * i) (over counters bounds)) → count + count_ones mask ≡ count_true (take (8 * (i + 1)) (over counters bounds))
+pub count_block : (i : ℕ) (counters bounds cs bs : List ℕ) (count mask : ℕ) → cs ≡ chunk (8 * i) 8 counters → bs ≡ chunk (8 * i) 8 bounds
+    → mask ≡ mask_l (over cs bs)
+    → count ≡ count_true (take (8 * i) (over counters bounds))
+    → count + count_ones mask ≡ count_true (take (8 * (i + 1)) (over counters bounds))
 count_block i counters bounds cs bs count mask is_cs is_bs e so_far =
     let bits = over counters bounds in
-    (λ j. so_far j + count_ones (mask_of_block i counters bounds cs bs mask is_cs is_bs e j)) ∙ count_more (8 * i) 8 bits ∙ ap (λ m. count_true (take m bits)) (omega arith)
+    (λ j. so_far j + count_ones (mask_of_block i counters bounds cs bs mask is_cs is_bs e j)) ∙ count_more (8 * i) 8 bits
+    ∙ ap (λ m. count_true (take m bits)) (omega arith)
 
 one_of : (b : Bool) → cond b 1 0 ≡ count_ones (cond b 1 0)
 unfolding count_ones
@@ -131,11 +143,13 @@ count_next p bits count bit within is_bit so_far =
 
 -- the word of the counters from 64 * w on
 pub word_of_range : (w end : ℕ) (counters bounds : List ℕ) → length counters ≡ length bounds → end ≡ min (length counters) (64 * w + 64)
-    → mask_l (over (take (end - 64 * w) (drop (64 * w) counters)) (take (end - 64 * w) (drop (64 * w) bounds))) ≡ word_at (over counters bounds) w
+    → mask_l (over (take (end - 64 * w) (drop (64 * w) counters)) (take (end - 64 * w) (drop (64 * w) bounds)))
+    ≡ word_at (over counters bounds) w
 word_of_range w end counters bounds long e =
     let bits = over counters bounds in
     let left = drop (64 * w) bits in
-    let wide : length left ≡ length counters - 64 * w = length-drop (64 * w) bits ∙ ap (λ n. n - 64 * w) (length-over counters bounds long) in
+    let wide : length left ≡ length counters - 64 * w = length-drop (64 * w) bits
+    ∙ ap (λ n. n - 64 * w) (length-over counters bounds long) in
     ap mask_l (sym (chunk-zip2 ltb (64 * w) (end - 64 * w) bounds counters)
     ∙ ap (λ n. take n left) (omega (arith, wide)) ∙ take_min 64 left)
 
@@ -160,7 +174,8 @@ is_set-packed bits i = by_word (cases_lt (i / 64) (div_ceil (length bits) 64))
         ∙ ap (λ m. eqb m 1) (bit_at-word_at bits (i / 64) (i % 64) (omega arith))
         ∙ bit_is _ ∙ ap (λ m. get_or bits m false) (omega arith)
     by_word (inr h) =
-        ap (λ m. eqb (bit_at m (i % 64)) 1) (get_or_past (packed bits) (i / 64) 0 (omega (arith, length-map-range_with_len (word_at bits) 0 (div_ceil (length bits) 64))))
+        ap (λ m. eqb (bit_at m (i % 64)) 1)
+        (get_or_past (packed bits) (i / 64) 0 (omega (arith, length-map-range_with_len (word_at bits) 0 (div_ceil (length bits) 64))))
         ∙ ap (λ m. eqb m 1) (bit_at-zero (i % 64))
         ∙ sym (get_or_past bits i false (omega arith))
 
@@ -172,7 +187,8 @@ ones-packed bits =
     sym (sum-map count_ones (packed bits))
     ∙ sum_by_chunks (λ (bit : Bool). cond {A = ℕ} bit 1 0) 64 bits (map count_ones (packed bits))
     (λ w h. get_or-map count_ones (packed bits) w 0 0 (omega (arith, length-map (packed bits) count_ones))
-    ∙ ap count_ones (get_or-packed bits w (omega (arith, length-map (packed bits) count_ones, length-map-range_with_len (word_at bits) 0 all)))
+    ∙ ap count_ones
+    (get_or-packed bits w (omega (arith, length-map (packed bits) count_ones, length-map-range_with_len (word_at bits) 0 all)))
     ∙ ones_of (chunk (64 * w) 64 bits) ∙ ap (λ m. count_true (take 64 (drop m bits))) (mul_comm 64 w))
     (omega arith)
     (length-map (packed bits) count_ones ∙ length-map-range_with_len (word_at bits) 0 all)

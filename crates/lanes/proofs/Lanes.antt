@@ -1,5 +1,6 @@
 -- What eight lanes answer at once.
-use Rattle.std.proofs.Common.{◌≡◌, ℕ, ◌+◌, ◌-◌, ◌*◌, ◌%◌, ◌^◌, ◌<◌, max, Bool, true, false, cond, ◌&&◌, ltb, eqb, List, [], ◌∷◌, length, map, refl, sym, ap, ◌∙◌, arith, w64, pow-suc}
+use Rattle.std.proofs.Common.{◌≡◌, ℕ, ◌+◌, ◌-◌, ◌*◌, ◌%◌, ◌^◌, ◌<◌, max, Bool, true, false, cond, ◌&&◌, ltb, eqb, List, [], ◌∷◌, length}
+use Rattle.std.proofs.Common.{map, refl, sym, ap, ◌∙◌, arith, w64, pow-suc}
 use Rattle.std.specs.List.{list_all}
 use Rattle.std.specs.Simd.Lanes.{zip2, mask_l, sel_l, top}
 use Rattle.std.specs.Cmp.Lexicographic.{pointwise}
@@ -20,7 +21,8 @@ even_odd m p h = grind (arith, nat_tests)
 -- a mask is all ones exactly where each bit is true
 all_set : (bits : List Bool) → eqb (mask_l bits) (2 ^ length bits - 1) ≡ list_all (λ b. b) bits
 all_set [] = refl
-all_set (true ∷ bits) = rw (pow-suc) (ap (eqb _) (omega arith) ∙ one_more (mask_l bits) (2 ^ length bits) (pow_pos (length bits)) ∙ all_set bits)
+all_set (true ∷ bits) = rw
+    (pow-suc) (ap (eqb _) (omega arith) ∙ one_more (mask_l bits) (2 ^ length bits) (pow_pos (length bits)) ∙ all_set bits)
 all_set (false ∷ bits) = rw (pow-suc) (ap (eqb _) (omega arith) ∙ even_odd (mask_l bits) (2 ^ length bits) (pow_pos (length bits)))
 
 list_all-zip2 : (t : ℕ → ℕ → Bool) (xs ys : List ℕ) → length xs ≡ length ys → list_all (λ b. b) (zip2 t xs ys) ≡ pointwise t xs ys
@@ -30,12 +32,15 @@ list_all-zip2 t (x ∷ xs) [] h = absurd (omega arith)
 list_all-zip2 t (x ∷ xs) (y ∷ ys) h = ap (λ b. t x y && b) (list_all-zip2 t xs ys (omega arith))
 
 -- `to_bitmask`
-pub mask_of_lanes : (t : ℕ → ℕ → Bool) (xs ys : List ℕ) → length xs ≡ 8 → length ys ≡ 8 → mask_l (compared t xs ys) % 2 ^ 64 ≡ mask_l (zip2 t xs ys)
+pub mask_of_lanes : (t : ℕ → ℕ → Bool) (xs ys : List ℕ) → length xs ≡ 8 → length ys ≡ 8
+    → mask_l (compared t xs ys) % 2 ^ 64 ≡ mask_l (zip2 t xs ys)
 mask_of_lanes t xs ys p q =
-    ap (λ bits. mask_l bits % 2 ^ 64) (tops_compared w64 t xs ys) ∙ mask_l-mod (zip2 t xs ys) 64 (omega (arith, length-zip2 t xs ys (p ∙ sym q)))
+    ap (λ bits. mask_l bits % 2 ^ 64) (tops_compared w64 t xs ys)
+    ∙ mask_l-mod (zip2 t xs ys) 64 (omega (arith, length-zip2 t xs ys (p ∙ sym q)))
 
 -- `all`
-pub all_lanes : (t : ℕ → ℕ → Bool) (xs ys : List ℕ) → length xs ≡ 8 → length ys ≡ 8 → eqb (mask_l (compared t xs ys) % 2 ^ 64) 255 ≡ pointwise t xs ys
+pub all_lanes : (t : ℕ → ℕ → Bool) (xs ys : List ℕ) → length xs ≡ 8 → length ys ≡ 8
+    → eqb (mask_l (compared t xs ys) % 2 ^ 64) 255 ≡ pointwise t xs ys
 all_lanes t xs ys p q =
     let long : length (zip2 t xs ys) ≡ 8 = length-zip2 t xs ys (p ∙ sym q) ∙ p in
     ap (λ m. eqb m 255) (mask_of_lanes t xs ys p q) ∙ ap (λ n. eqb (mask_l (zip2 t xs ys)) (2 ^ n - 1)) (sym long)

@@ -1,5 +1,6 @@
 -- The greatest number of parts of a list, and lists in which the first numbers were raised.
-use Rattle.std.proofs.Common.{◌≡◌, ℕ, zero, suc, ◌+◌, ◌*◌, ◌<◌, ◌≤◌, max, List, [], ◌∷◌, ◌++◌, length, get_or, set, take, drop, refl, sym, ap, ◌∙◌, arith, suc-add, zero-add}
+use Rattle.std.proofs.Common.{◌≡◌, ℕ, zero, suc, ◌+◌, ◌*◌, ◌<◌, ◌≤◌, max, List, [], ◌∷◌, ◌++◌, length, get_or, set, take, drop, refl, sym}
+use Rattle.std.proofs.Common.{ap, ◌∙◌, arith, suc-add, zero-add}
 use Rattle.std.specs.Simd.Lanes.{zip2, chunk, put_chunk}
 use Rattle.std.proofs.lemmas.Simd.{chunk-drop, length-chunk, length-zip2}
 use Rattle.lanes.specs.Kernels.{greatest}
@@ -51,7 +52,8 @@ raised_all (suc n) (x ∷ xs) [] p q = absurd (omega arith)
 raised_all (suc n) (x ∷ xs) (y ∷ ys) p q = ap (λ l. max x y ∷ l) (raised_all n xs ys (omega arith) (omega arith))
 
 -- a block is raised
-pub raised_block : (i : ℕ) (xs ys now new block : List ℕ) → length xs ≡ length ys → 8 * i + 8 ≤ length xs → now ≡ raised (8 * i) xs ys → block ≡ chunk (8 * i) 8 ys
+pub raised_block : (i : ℕ) (xs ys now new block : List ℕ) → length xs ≡ length ys → 8 * i + 8 ≤ length xs → now ≡ raised (8 * i) xs ys
+    → block ≡ chunk (8 * i) 8 ys
     → new ≡ put_chunk (8 * i) now (zip2 max (chunk (8 * i) 8 now) block) → new ≡ raised (8 * (i + 1)) xs ys
 raised_block i xs ys now new block long within so_far is_block e =
     e ∙ (λ j. put_chunk (8 * i) (so_far j) (zip2 max (chunk (8 * i) 8 (so_far j)) (is_block j)))
@@ -64,7 +66,8 @@ raised_next i xs ys now m long within so_far e =
     ap (set now i) e ∙ (λ j. set (so_far j) i (max (get_or (so_far j) i 0) (get_or ys i 0))) ∙ raised_one i xs ys long within
 
 -- the greatest of a block goes into the lanes
-pub greatest_more : (i : ℕ) (xs lanes new block : List ℕ) (w : ℕ) → 8 * i + 8 ≤ length xs → length lanes ≡ 8 → block ≡ chunk (8 * i) 8 xs → new ≡ zip2 max lanes block
+pub greatest_more : (i : ℕ) (xs lanes new block : List ℕ) (w : ℕ) → 8 * i + 8 ≤ length xs → length lanes ≡ 8 → block ≡ chunk (8 * i) 8 xs
+    → new ≡ zip2 max lanes block
     → max (greatest lanes) (greatest (drop (8 * i) xs)) ≡ w
     → (length new ≡ 8) × (max (greatest new) (greatest (drop (8 * (i + 1)) xs)) ≡ w)
 greatest_more i xs lanes new block w within long is_block e so_far =

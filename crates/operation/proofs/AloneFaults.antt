@@ -1,5 +1,6 @@
 -- The faults of an operation alone, by the counters of its vector.
-use Rattle.std.proofs.Common.{◌≡◌, refl, ap, ◌∙◌, ℕ, Bool, true, false, ◌&&◌, ◌==◌, cond, nat_lt, max, List, [], ◌∷◌, length, Option, Some, arith}
+use Rattle.std.proofs.Common.{◌≡◌, refl, ap, ◌∙◌, ℕ, Bool, true, false, ◌&&◌, ◌==◌, cond, nat_lt, max, List, [], ◌∷◌, length, Option, Some}
+use Rattle.std.proofs.Common.{arith}
 use Rattle.std.specs.List.{list_all}
 use Rattle.std.proofs.lemmas.Bool.{or_left, or_right, eq-eqb, and_parts, and_from}
 use Rattle.std.proofs.Math.Bool.{and-true}
@@ -25,7 +26,8 @@ module _ (f : ℕ → Bool) where
   raised a (b ∷ v) h all =
       at_tests (nat_lt a.replica b.replica) (a.replica == b.replica) (raised a v h (and_parts (f b.replica) (all_of v) all).1)
     where
-      at_tests : (s t : Bool) → all_of (raise a v) ≡ true → all_of (cond s (a ∷ b ∷ v) (cond t (id_at (max a.counter b.counter) b.replica ∷ v) (b ∷ raise a v))) ≡ true
+      at_tests : (s t : Bool) → all_of (raise a v) ≡ true
+          → all_of (cond s (a ∷ b ∷ v) (cond t (id_at (max a.counter b.counter) b.replica ∷ v) (b ∷ raise a v))) ≡ true
       at_tests true t more = and_from (f a.replica) (all_of (b ∷ v)) h all
       at_tests false true more = all
       at_tests false false more = and_from (f b.replica) (all_of (raise a v)) (and_parts (f b.replica) (all_of v) all).0 more
@@ -34,16 +36,19 @@ module _ (f : ℕ → Bool) where
   pub all-by_table : (ps cs : List ℕ) → list_all f ps ≡ true → all_of (by_table ps cs) ≡ true
   all-by_table [] cs h = refl
   all-by_table (p ∷ ps) [] h = refl
-  all-by_table (p ∷ ps) (c ∷ cs) h = at_test (c == 0) (and_parts (f p) (list_all f ps) h).0 (all-by_table ps cs (and_parts (f p) (list_all f ps) h).1)
+  all-by_table (p ∷ ps) (c ∷ cs) h = at_test (c == 0) (and_parts (f p) (list_all f ps) h).0
+      (all-by_table ps cs (and_parts (f p) (list_all f ps) h).1)
     where
-      at_test : (b : Bool) → f p ≡ true → all_of (by_table ps cs) ≡ true → all_of (cond b (by_table ps cs) (raise (id_at c p) (by_table ps cs))) ≡ true
+      at_test : (b : Bool) → f p ≡ true → all_of (by_table ps cs) ≡ true
+          → all_of (cond b (by_table ps cs) (raise (id_at c p) (by_table ps cs))) ≡ true
       at_test true here rest = rest
       at_test false here rest = raised (id_at c p) (by_table ps cs) here rest
 
 -- each number of a list is its member
 pub members_all : (ps : List ℕ) → list_all (is_member ps) ps ≡ true
 members_all [] = refl
-members_all (p ∷ ps) = and_from (is_member (p ∷ ps) p) (list_all (is_member (p ∷ ps)) ps) (or_left (p == p) (is_member ps p) (eq-eqb p p refl)) (more ps (members_all ps))
+members_all (p ∷ ps) = and_from (is_member (p ∷ ps) p) (list_all (is_member (p ∷ ps)) ps)
+    (or_left (p == p) (is_member ps p) (eq-eqb p p refl)) (more ps (members_all ps))
   where
     more : (qs : List ℕ) → list_all (is_member ps) qs ≡ true → list_all (is_member (p ∷ ps)) qs ≡ true
     more [] h = refl
@@ -52,12 +57,15 @@ members_all (p ∷ ps) = and_from (is_member (p ∷ ps) p) (list_all (is_member 
         and_from (is_member (p ∷ ps) q) (list_all (is_member (p ∷ ps)) qs) (or_right (p == q) (is_member ps q) parts.0) (more qs parts.1)
 
 -- the members that an operation names are those of its id and its place
-of_members : (ps : List ℕ) (o : Op) → is_of_members ps (stamped_of ps o) ≡ (is_member ps o.id.replica && items_of_members ps (element_of o.place))
+of_members : (ps : List ℕ) (o : Op)
+    → is_of_members ps (stamped_of ps o) ≡ (is_member ps o.id.replica && items_of_members ps (element_of o.place))
 of_members ps o =
-    ap (λ b. is_member ps o.id.replica && b && items_of_members ps (element_of o.place)) (all-by_table (is_member ps) ps o.deps (members_all ps))
+    ap (λ b. is_member ps o.id.replica && b && items_of_members ps (element_of o.place))
+    (all-by_table (is_member ps) ps o.deps (members_all ps))
     ∙ ap (λ b. b && items_of_members ps (element_of o.place)) (and-true (is_member ps o.id.replica))
 
-next_counter : (ps : List ℕ) (o : Op) → length o.deps ≡ length ps → has_counter (stamped_of ps o) ≡ is_next_counter (greatest_in o.deps) o.id.counter
+next_counter : (ps : List ℕ) (o : Op) → length o.deps ≡ length ps
+    → has_counter (stamped_of ps o) ≡ is_next_counter (greatest_in o.deps) o.id.counter
 next_counter ps o width = ap (λ g. is_next_counter g o.id.counter) (greatest-by_table ps o.deps (omega (arith, width)))
 
 -- the first fault of an operation whose vector has the table's width, by what its tests answer

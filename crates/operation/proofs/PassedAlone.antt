@@ -11,14 +11,16 @@ use Rattle.operation.specs.Meanings.{stamped_of}
 pub width_alone : (table : List ℕ) (o : Op) → fault_alone table o ≡ None → length o.deps ≡ length table
 width_alone table o h = at_test (nat_eq (length o.deps) (length table)) refl h
   where
-    at_test : (b : Bool) → nat_eq (length o.deps) (length table) ≡ b → cond b (alone_fault table (stamped_of table o)) (Some UnknownReplica) ≡ None → length o.deps ≡ length table
+    at_test : (b : Bool) → nat_eq (length o.deps) (length table) ≡ b
+        → cond b (alone_fault table (stamped_of table o)) (Some UnknownReplica) ≡ None → length o.deps ≡ length table
     at_test true e h = eqb-true (length o.deps) (length table) e
     at_test false e h = cc
 
 pub alone : (table : List ℕ) (o : Op) → fault_alone table o ≡ None → alone_fault table (stamped_of table o) ≡ None
 alone table o h = at_test (nat_eq (length o.deps) (length table)) h
   where
-    at_test : (b : Bool) → cond b (alone_fault table (stamped_of table o)) (Some UnknownReplica) ≡ None → alone_fault table (stamped_of table o) ≡ None
+    at_test : (b : Bool) → cond b (alone_fault table (stamped_of table o)) (Some UnknownReplica) ≡ None
+        → alone_fault table (stamped_of table o) ≡ None
     at_test true h = h
     at_test false h = cc
 

@@ -21,9 +21,11 @@ last_first p ks k = list_all-append p ks (k ∷ []) ∙ turned (list_all p ks) (
 pub items_of_members-keys : (ps : List ℕ) (e : Element) → items_of_members ps e ≡ list_all (key_of_member ps) (keys_from_root e)
 items_of_members-keys ps Doc = refl
 items_of_members-keys ps (Field e n) = items_of_members-keys ps e ∙ sym (last_first (key_of_member ps) (keys_from_root e) (FieldKey n))
-items_of_members-keys ps (Item e a) = ap (λ b. is_member ps a.replica && b) (items_of_members-keys ps e) ∙ sym (last_first (key_of_member ps) (keys_from_root e) (ItemKey a))
+items_of_members-keys ps (Item e a) = ap (λ b. is_member ps a.replica && b) (items_of_members-keys ps e)
+    ∙ sym (last_first (key_of_member ps) (keys_from_root e) (ItemKey a))
 
 pub items_covered-keys : (v : Vector) (e : Element) → items_covered v e ≡ list_all (key_covered v) (keys_from_root e)
 items_covered-keys v Doc = refl
 items_covered-keys v (Field e n) = items_covered-keys v e ∙ sym (last_first (key_covered v) (keys_from_root e) (FieldKey n))
-items_covered-keys v (Item e a) = ap (λ b. covers v a && b) (items_covered-keys v e) ∙ sym (last_first (key_covered v) (keys_from_root e) (ItemKey a))
+items_covered-keys v (Item e a) = ap (λ b. covers v a && b) (items_covered-keys v e)
+    ∙ sym (last_first (key_covered v) (keys_from_root e) (ItemKey a))

@@ -26,5 +26,6 @@ first_true true b c d h = refl
 pub alone_member : (table : List ℕ) (o : Op) → fault_alone table o ≡ None → is_member table o.id.replica ≡ true
 alone_member table o h =
     let s : Stamped = stamped_of table o in
-    let known = and_parts (is_member table s.id.replica && list_all (λ a. is_member table a.replica) s.vector) (items_of_members table (element_of s.place)) (first_true (is_of_members table s) _ _ _ (alone table o h)) in
+    let known = and_parts (is_member table s.id.replica && list_all (λ a. is_member table a.replica) s.vector)
+    (items_of_members table (element_of s.place)) (first_true (is_of_members table s) _ _ _ (alone table o h)) in
     (and_parts (is_member table s.id.replica) (list_all (λ a. is_member table a.replica) s.vector) known.0).0

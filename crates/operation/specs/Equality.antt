@@ -38,7 +38,8 @@ counted_of o = record { id = o.id; counters = o.deps; place = o.place; mutation 
 
 -- o and p are one operation
 abbrev pub is_same_operation : Counted → Counted → Bool
-is_same_operation o p = is_same_id o.id p.id && pointwise nat_eq o.counters p.counters && is_same_place o.place p.place && is_same_mutation o.mutation p.mutation
+is_same_operation o p = is_same_id o.id p.id && pointwise nat_eq o.counters p.counters && is_same_place o.place p.place
+    && is_same_mutation o.mutation p.mutation
 
 mutation_itself : (m : Mutation) → is_same_mutation m m ≡ true
 mutation_itself (Assign v) = (value_decides v v).1 refl
@@ -79,7 +80,8 @@ same_commands c d h =
     λ i. record { expression = e i; mutation = m i }
 
 command_itself : (c : Command) → is_same_command c c ≡ true
-command_itself c = both (pointwise is_same_step c.expression c.expression) (is_same_mutation c.mutation c.mutation) ((expression_decides c.expression c.expression).1 refl) (mutation_itself c.mutation)
+command_itself c = both (pointwise is_same_step c.expression c.expression) (is_same_mutation c.mutation c.mutation)
+    ((expression_decides c.expression c.expression).1 refl) (mutation_itself c.mutation)
 
 pub command_decides : (c d : Command) → Decides (is_same_command c d) (c ≡ d)
 command_decides c d = (same_commands c d, λ is. rw (← is) (command_itself c))
@@ -92,7 +94,8 @@ counters_decide xs ys = slice_eq-Decides unsigned_Decides xs ys (pointwise nat_e
 
 same_operations : (o p : Counted) → is_same_operation o p ≡ true → o ≡ p
 same_operations o p h =
-    let t = parts (is_same_id o.id p.id && pointwise nat_eq o.counters p.counters && is_same_place o.place p.place) (is_same_mutation o.mutation p.mutation) h in
+    let t = parts (is_same_id o.id p.id && pointwise nat_eq o.counters p.counters && is_same_place o.place p.place)
+    (is_same_mutation o.mutation p.mutation) h in
     let u = parts (is_same_id o.id p.id && pointwise nat_eq o.counters p.counters) (is_same_place o.place p.place) t.0 in
     let v = parts (is_same_id o.id p.id) (pointwise nat_eq o.counters p.counters) u.0 in
     let a = ids_from_test o.id p.id v.0 in
@@ -103,7 +106,8 @@ same_operations o p h =
 
 operation_itself : (o : Counted) → is_same_operation o o ≡ true
 operation_itself o =
-    both (is_same_id o.id o.id && pointwise nat_eq o.counters o.counters && is_same_place o.place o.place) (is_same_mutation o.mutation o.mutation)
+    both (is_same_id o.id o.id && pointwise nat_eq o.counters o.counters && is_same_place o.place o.place)
+    (is_same_mutation o.mutation o.mutation)
     (both (is_same_id o.id o.id && pointwise nat_eq o.counters o.counters) (is_same_place o.place o.place)
     (both (is_same_id o.id o.id) (pointwise nat_eq o.counters o.counters) (id_itself o.id) ((counters_decide o.counters o.counters).1 refl))
     ((place_decides o.place o.place).1 refl))

@@ -1,6 +1,7 @@
 -- Commands, operations and entries of the program as those of the definitions.
 use Rattle.std.specs.Prelude.{ℕ, List}
-use Rattle.semantics.specs.Operations.{Misplaced as WhyMisplaced, Mutation as TheMutation, Assign as Assigning, Insert as Inserting, Delete as Deleting}
+use Rattle.semantics.specs.Operations.{Misplaced as WhyMisplaced, Mutation as TheMutation, Assign as Assigning, Insert as Inserting}
+use Rattle.semantics.specs.Operations.{Delete as Deleting}
 use Rattle.semantics.specs.Operations as operations
 use Rattle.semantics.specs.Tables.{by_table}
 use Rattle.semantics.specs.Stamped.{Stamped}

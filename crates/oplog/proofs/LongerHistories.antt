@@ -10,5 +10,6 @@ use Rattle.oplog.specs.Logs.{history}
 pub begins_of : (table : List ℕ) (xs ys : List Entry) → IsPrefix xs ys → BeginsWith (history table ys) (history table xs)
 begins_of table xs ys p = (
   history table p.0,
-  ap (history table) (sym p.1) ∙ ap reverse (map-append (entry_of table) xs p.0) ∙ reverse-append (map (entry_of table) xs) (map (entry_of table) p.0),
+  ap (history table) (sym p.1) ∙ ap reverse (map-append (entry_of table) xs p.0)
+      ∙ reverse-append (map (entry_of table) xs) (map (entry_of table) p.0),
 )

@@ -1,5 +1,7 @@
 -- What a vector doesn't cover, by the positions of each replica and by the rules.
-use Rattle.std.proofs.Common.{◌≡◌, refl, sym, ap, ◌∙◌, ℕ, zero, suc, ◌+◌, ◌<◌, ◌≤◌, ◌==◌, ◌||◌, not, Bool, true, false, cond, nat_lt, nat_le, IsTrue, Less, Equal, Greater, List, [], ◌∷◌, ◌++◌, map, reverse, length, get_or, drop, subst, arith, Option, Some, None}
+use Rattle.std.proofs.Common.{◌≡◌, refl, sym, ap, ◌∙◌, ℕ, zero, suc, ◌+◌, ◌<◌, ◌≤◌, ◌==◌, ◌||◌, not, Bool, true, false, cond, nat_lt}
+use Rattle.std.proofs.Common.{nat_le, IsTrue, Less, Equal, Greater, List, [], ◌∷◌, ◌++◌, map, reverse, length, get_or, drop, subst, arith}
+use Rattle.std.proofs.Common.{Option, Some, None}
 use Rattle.std.specs.Option.{option_map}
 use Rattle.std.specs.Ordering.{is_eq}
 use Rattle.std.specs.List.{filter}
@@ -28,15 +30,18 @@ above-not : (x c : ℕ) → nat_lt x c ≡ not (nat_le c x)
 above-not x c = grind (arith, nat_tests)
 
 -- a column is what a function gives of each replica of the table
-by_indices : (f : ℕ → ℕ) (ps cs : List ℕ) → length cs ≡ length ps → ((i : ℕ) → i < length ps → f (get_or ps i 0) ≡ get_or cs i 0) → map f ps ≡ cs
+by_indices : (f : ℕ → ℕ) (ps cs : List ℕ) → length cs ≡ length ps → ((i : ℕ) → i < length ps → f (get_or ps i 0) ≡ get_or cs i 0)
+    → map f ps ≡ cs
 by_indices f [] [] long at_index = refl
 by_indices f [] (c ∷ cs) long at_index = absurd (omega arith)
 by_indices f (p ∷ ps) [] long at_index = absurd (omega arith)
-by_indices f (p ∷ ps) (c ∷ cs) long at_index = (λ t. at_index 0 (omega arith) t ∷ by_indices f ps cs (omega arith) (λ i lt. at_index (suc i) (omega arith)) t)
+by_indices f (p ∷ ps)
+    (c ∷ cs) long at_index = (λ t. at_index 0 (omega arith) t ∷ by_indices f ps cs (omega arith) (λ i lt. at_index (suc i) (omega arith)) t)
 
 -- counters that are indexed by a table are those that their vector names
 pub counters-are : (ps cs : List ℕ) → AreDistinct ps → length cs ≡ length ps → map (at (by_table ps cs)) ps ≡ cs
-counters-are ps cs distinct long = by_indices (at (by_table ps cs)) ps cs long (λ i lt. at-by_table ps cs distinct (get_or ps i 0) ∙ component-get ps cs i distinct lt long)
+counters-are ps cs distinct long = by_indices (at (by_table ps cs)) ps cs long
+    (λ i lt. at-by_table ps cs distinct (get_or ps i 0) ∙ component-get ps cs i distinct lt long)
 
 -- the numbers of the ids above a counter
 abbrev pub above : ℕ → List (OpId × ℕ) → List ℕ
@@ -44,7 +49,8 @@ above c es = map (λ e. e.1) (filter (λ e. nat_lt c e.0.counter) es)
 
 -- what is above in the columns from a position on
 pub next-above : (cs : List ℕ) (ns : List (Numbered OpId)) (i : ℕ) (d : Numbered OpId) → length cs ≡ length ns → i < length ns
-    → numbers_above (drop i cs) (numbers_of (drop i ns)) ≡ above (get_or cs i 0) (get_or ns i d).entries ++ numbers_above (drop (suc i) cs) (numbers_of (drop (suc i) ns))
+    → numbers_above (drop i cs) (numbers_of (drop i ns))
+    ≡ above (get_or cs i 0) (get_or ns i d).entries ++ numbers_above (drop (suc i) cs) (numbers_of (drop (suc i) ns))
 next-above [] [] i d same inside = absurd (omega arith)
 next-above [] (n ∷ ns) i d same inside = absurd (omega arith)
 next-above (c ∷ cs) [] i d same inside = absurd (omega arith)
@@ -59,15 +65,21 @@ counted n c a v = cond (nat_lt c a.counter) (cond (n == v) 1 0) 0
 count-front : (n c : ℕ) (e : OpId × ℕ) (es : List (OpId × ℕ)) → count n (above c (e ∷ es)) ≡ counted n c e.0 e.1 + count n (above c es)
 count-front n c e es = at_test (nat_lt c e.0.counter)
   where
-    at_test : (b : Bool) → count n (map (λ f. f.1) (cond b (e ∷ filter (λ f. nat_lt c f.0.counter) es) (filter (λ f. nat_lt c f.0.counter) es))) ≡ cond b (cond (n == e.1) 1 0) 0 + count n (above c es)
+    at_test : (b : Bool)
+        → count n (map (λ f. f.1) (cond b (e ∷ filter (λ f. nat_lt c f.0.counter) es) (filter (λ f. nat_lt c f.0.counter) es)))
+        ≡ cond b (cond (n == e.1) 1 0) 0 + count n (above c es)
     at_test true = refl
     at_test false = omega arith
 
 -- one entry that is put where its id wasn't
-count-put : (n c v : ℕ) (a : OpId) (es : List (OpId × ℕ)) → find id_cmp a es ≡ None → count n (above c (put id_cmp a v es)) ≡ counted n c a v + count n (above c es)
+count-put : (n c v : ℕ) (a : OpId) (es : List (OpId × ℕ)) → find id_cmp a es ≡ None
+    → count n (above c (put id_cmp a v es)) ≡ counted n c a v + count n (above c es)
 count-put n c v a [] absent = count-front n c (a, v) []
 count-put n c v a (e ∷ es) absent =
-    elim (id_cmp a e.0) as (λ r. cond (is_eq r) (Some e.1) (find id_cmp a es) ≡ None → count n (above c (by_order r ((a, v) ∷ e ∷ es) ((e.0, v) ∷ es) (e ∷ put id_cmp a v es))) ≡ counted n c a v + count n (above c (e ∷ es))) [
+    elim (id_cmp a e.0) as
+    (λ r. cond (is_eq r) (Some e.1) (find id_cmp a es) ≡ None
+    → count n (above c (by_order r ((a, v) ∷ e ∷ es) ((e.0, v) ∷ es) (e ∷ put id_cmp a v es)))
+    ≡ counted n c a v + count n (above c (e ∷ es))) [
       | Less ↦ λ none. count-front n c (a, v) (e ∷ es)
       | Equal ↦ λ none. cc
       | Greater ↦ λ none. (
@@ -78,11 +90,14 @@ count-put n c v a (e ∷ es) absent =
     ] absent
 
 -- one more entry, whose id is new and whose replica is in the table
-count-more : (n : ℕ) (f : ℕ → ℕ) (G : List TheEntry) (x : TheEntry) (ps : List ℕ) → AreDistinct ps → IsTrue (is_member ps (stamped_in x).id.replica) → position_of (stamped_in x).id G ≡ None
+count-more : (n : ℕ) (f : ℕ → ℕ) (G : List TheEntry) (x : TheEntry) (ps : List ℕ) → AreDistinct ps
+    → IsTrue (is_member ps (stamped_in x).id.replica) → position_of (stamped_in x).id G ≡ None
     → count n (numbers_above (map f ps) (map (λ p. positions_by p (x ∷ G)) ps))
-    ≡ counted n (f (stamped_in x).id.replica) (stamped_in x).id (length G) + count n (numbers_above (map f ps) (map (λ p. positions_by p G) ps))
+    ≡ counted n (f (stamped_in x).id.replica) (stamped_in x).id (length G) + count n
+    (numbers_above (map f ps) (map (λ p. positions_by p G) ps))
 count-more n f G x [] distinct member new = cc
-count-more n f G x (p ∷ ps) distinct member new = at_test (p == (stamped_in x).id.replica) refl member (λ m. count-more n f G x ps distinct.1 m new)
+count-more n f G x (p ∷ ps) distinct member new = at_test (p == (stamped_in x).id.replica) refl member
+    (λ m. count-more n f G x ps distinct.1 m new)
   where
     id : OpId
     id = (stamped_in x).id
@@ -100,16 +115,21 @@ count-more n f G x (p ∷ ps) distinct member new = at_test (p == (stamped_in x)
     split = count-append n (above (f p) (positions_by p G)) without_x
 
     Claim : Type 0
-    Claim = count n (above (f p) (positions_by p (x ∷ G)) ++ with_x) ≡ counted n (f id.replica) id (length G) + count n (above (f p) (positions_by p G) ++ without_x)
+    Claim = count n (above (f p) (positions_by p (x ∷ G)) ++ with_x)
+        ≡ counted n (f id.replica) id (length G) + count n (above (f p) (positions_by p G) ++ without_x)
 
-    at_test : (b : Bool) → (p == id.replica) ≡ b → (b || is_member ps id.replica) ≡ true → (IsTrue (is_member ps id.replica) → count n with_x ≡ counted n (f id.replica) id (length G) + count n without_x) → Claim
+    at_test : (b : Bool) → (p == id.replica) ≡ b → (b || is_member ps id.replica) ≡ true
+        → (IsTrue (is_member ps id.replica) → count n with_x ≡ counted n (f id.replica) id (length G) + count n without_x) → Claim
     at_test true e m rest =
         let own : p ≡ id.replica = eqb-true p id.replica e in
-        let here : count n (above (f p) (positions_by p (x ∷ G))) ≡ counted n (f id.replica) id (length G) + count n (above (f p) (positions_by p G)) =
+        let here : count n (above (f p) (positions_by p (x ∷ G)))
+        ≡ counted n (f id.replica) id (length G) + count n (above (f p) (positions_by p G)) =
         ap (λ es. count n (above (f p) es)) (positions_by-own p G x (sym own))
         ∙ count-put n (f p) (length G) id (positions_by p G) (positions_by-find p G id (sym own) ∙ new)
         ∙ ap (λ q. counted n (f q) id (length G) + count n (above (f p) (positions_by p G))) own in
-        let others : count n with_x ≡ count n without_x = ap (λ ms. count n (numbers_above (map f ps) ms)) (all_others G x ps (λ m. distinct.0 (ap (is_member ps) own ∙ m))) in
+        let others : count n with_x
+        ≡ count n without_x = ap (λ ms. count n (numbers_above (map f ps) ms))
+        (all_others G x ps (λ m. distinct.0 (ap (is_member ps) own ∙ m))) in
         omega (arith, split_x, split, here, others)
     at_test false e m rest =
         let here : count n (above (f p) (positions_by p (x ∷ G))) ≡ count n (above (f p) (positions_by p G)) =
@@ -154,14 +174,16 @@ missing-to v m (x ∷ G) le = at_test (covers v (stamped_in x).id) (missing_posi
 
 missing-rises : (v : Vector) (G : List TheEntry) → Rises (missing_positions v G)
 missing-rises v [] = tt
-missing-rises v (x ∷ G) = at_test (covers v (stamped_in x).id) (missing_positions v G) (missing-rises v G) (missing-to v (length G) G (omega arith))
+missing-rises v (x ∷ G) = at_test (covers v (stamped_in x).id) (missing_positions v G) (missing-rises v G)
+    (missing-to v (length G) G (omega arith))
   where
     at_test : (b : Bool) (xs : List ℕ) → Rises xs → AreTo (length G) xs → Rises (xs ++ cond b [] (length G ∷ []))
     at_test true xs rises to = subst Rises (sym (append-nil xs)) rises
     at_test false xs rises to = rises-last (length G) xs rises to
 
 -- the positions above the counters, sorted, are those that are missing
-pub sorted-missing : (ps cs : List ℕ) (G : List TheEntry) (xs : List ℕ) → AreDistinct ps → length cs ≡ length ps → AreOfMembers ps G → HaveOwnIds G
+pub sorted-missing : (ps cs : List ℕ) (G : List TheEntry) (xs : List ℕ) → AreDistinct ps → length cs ≡ length ps → AreOfMembers ps G
+    → HaveOwnIds G
     → IsPermutation (numbers_above cs (map (λ p. positions_by p G) ps)) xs → IsSorted nat_cmp xs → xs ≡ missing_positions (by_table ps cs) G
 sorted-missing ps cs G xs distinct long members own moved sorted =
     let v = by_table ps cs in
@@ -171,7 +193,8 @@ sorted-missing ps cs G xs distinct long members own moved sorted =
     ∙ count-missing n v G ps distinct members own)
 
 -- what reads the positions of a history reads at the missing ones what is missing
-read_missing : (v : Vector) (G : List TheEntry) (h : ℕ → Option Stamped) → ((n : ℕ) → n < length G → h n ≡ option_map stamped_in (entry_at n G))
+read_missing : (v : Vector) (G : List TheEntry) (h : ℕ → Option Stamped)
+    → ((n : ℕ) → n < length G → h n ≡ option_map stamped_in (entry_at n G))
     → map h (missing_positions v G) ≡ map Some (reverse (missing v (stamped_of G)))
 read_missing v [] h reads = refl
 read_missing v (e ∷ G) h reads =
@@ -180,24 +203,28 @@ read_missing v (e ∷ G) h reads =
     ∙ at_test (covers v (stamped_in e).id)
   where
     before : (n : ℕ) → n < length G → h n ≡ option_map stamped_in (entry_at n G)
-    before n lt = reads n (omega (arith, lt)) ∙ ap (λ b. option_map stamped_in (cond b (Some e) (entry_at n G))) (other (length G == n) refl)
+    before n lt = reads n (omega (arith, lt))
+        ∙ ap (λ b. option_map stamped_in (cond b (Some e) (entry_at n G))) (other (length G == n) refl)
       where
         other : (b : Bool) → (length G == n) ≡ b → (length G == n) ≡ false
         other true same = absurd (omega (arith, lt, eqb-true (length G) n same))
         other false same = same
 
     newest : h (length G) ≡ Some (stamped_in e)
-    newest = reads (length G) (omega arith) ∙ ap (λ b. option_map stamped_in (cond b (Some e) (entry_at (length G) G))) (eq-eqb (length G) (length G) refl)
+    newest = reads (length G) (omega arith)
+        ∙ ap (λ b. option_map stamped_in (cond b (Some e) (entry_at (length G) G))) (eq-eqb (length G) (length G) refl)
 
     rest : List Stamped
     rest = missing v (stamped_of G)
 
-    at_test : (b : Bool) → map Some (reverse rest) ++ map h (cond b [] (length G ∷ [])) ≡ map Some (reverse (cond (not b) (stamped_in e ∷ rest) rest))
+    at_test : (b : Bool)
+        → map Some (reverse rest) ++ map h (cond b [] (length G ∷ [])) ≡ map Some (reverse (cond (not b) (stamped_in e ∷ rest) rest))
     at_test true = append-nil (map Some (reverse rest))
     at_test false =
         ap (λ o. map Some (reverse rest) ++ o ∷ []) newest
         ∙ sym (map-append Some (reverse rest) (stamped_in e ∷ []))
         ∙ ap (map Some) (sym (reverse-append (stamped_in e ∷ []) rest))
 
-pub positions-read : (v : Vector) (G : List TheEntry) → map (λ n. option_map stamped_in (entry_at n G)) (missing_positions v G) ≡ map Some (reverse (missing v (stamped_of G)))
+pub positions-read : (v : Vector) (G : List TheEntry)
+    → map (λ n. option_map stamped_in (entry_at n G)) (missing_positions v G) ≡ map Some (reverse (missing v (stamped_of G)))
 positions-read v G = read_missing v G (λ n. option_map stamped_in (entry_at n G)) (λ n lt. refl)

@@ -1,5 +1,6 @@
 -- A history that is kept oldest first: its positions, and one more entry.
-use Rattle.std.proofs.Common.{◌≡◌, refl, sym, ap, ◌∙◌, ℕ, zero, suc, Bool, true, false, cond, ◌==◌, List, [], ◌∷◌, ◌++◌, map, reverse, length, arith, Some, None, slice_get}
+use Rattle.std.proofs.Common.{◌≡◌, refl, sym, ap, ◌∙◌, ℕ, zero, suc, Bool, true, false, cond, ◌==◌, List, [], ◌∷◌, ◌++◌, map, reverse}
+use Rattle.std.proofs.Common.{length, arith, Some, None, slice_get}
 use Rattle.std.specs.Option.{option_map}
 use Rattle.std.proofs.lemmas.Bool.{eq-eqb, eqb-true, eqb-false, ne_eqb}
 use Rattle.std.proofs.lemmas.List.{map-append, reverse-append, length-reverse, length-map}
@@ -35,15 +36,18 @@ entry_at-reverse (e ∷ G) n =
     ∙ ap (λ l. slice_get l n) (sym (reverse-append (e ∷ []) G))
 
 -- the entry at a position of a history
-pub entry_at-history : (table : List ℕ) (entries : List Entry) (n : ℕ) → entry_at n (history table entries) ≡ option_map (entry_of table) (slice_get entries n)
+pub entry_at-history : (table : List ℕ) (entries : List Entry) (n : ℕ)
+    → entry_at n (history table entries) ≡ option_map (entry_of table) (slice_get entries n)
 entry_at-history table entries n =
     entry_at-reverse (history table entries) n
     ∙ ap (λ l. slice_get l n) (reverse-twice (map (entry_of table) entries))
     ∙ slice_get-map (entry_of table) entries n
 
 -- one more entry is the newest
-pub history-more : (table : List ℕ) (entries : List Entry) (e : Entry) → history table (entries ++ e ∷ []) ≡ entry_of table e ∷ history table entries
-history-more table entries e = ap reverse (map-append (entry_of table) entries (e ∷ [])) ∙ reverse-append (map (entry_of table) entries) (entry_of table e ∷ [])
+pub history-more : (table : List ℕ) (entries : List Entry) (e : Entry)
+    → history table (entries ++ e ∷ []) ≡ entry_of table e ∷ history table entries
+history-more table entries e = ap reverse (map-append (entry_of table) entries (e ∷ []))
+    ∙ reverse-append (map (entry_of table) entries) (entry_of table e ∷ [])
 
 pub history-length : (table : List ℕ) (entries : List Entry) → length (history table entries) ≡ length entries
 history-length table entries = length-reverse (map (entry_of table) entries) ∙ length-map entries (entry_of table)

@@ -1,5 +1,6 @@
 -- An id has a position where an operation has it.
-use Rattle.std.proofs.Common.{◌≡◌, ℕ, Bool, true, false, cond, ◌||◌, List, [], ◌∷◌, length, Option, Some, None, is_some, refl, ◌∙◌, true≢false}
+use Rattle.std.proofs.Common.{◌≡◌, ℕ, Bool, true, false, cond, ◌||◌, List, [], ◌∷◌, length, Option, Some, None, is_some, refl, ◌∙◌}
+use Rattle.std.proofs.Common.{true≢false}
 use Rattle.semantics.specs.Ids.{OpId, is_same_id}
 use Rattle.semantics.specs.LegalHistory.{has_id}
 use Rattle.semantics.specs.Entries.{Entry, applied, stamped_in}
@@ -9,7 +10,8 @@ pub placed : (G : List Entry) (a : OpId) → is_some (position_of a G) ≡ has_i
 placed [] a = refl
 placed (e ∷ G) a = at_test (is_same_id (stamped_in e).id a) (placed G a)
   where
-    at_test : (b : Bool) → is_some (position_of a G) ≡ has_id (applied G) a → is_some (cond b (Some (length G)) (position_of a G)) ≡ (b || has_id (applied G) a)
+    at_test : (b : Bool) → is_some (position_of a G) ≡ has_id (applied G) a
+        → is_some (cond b (Some (length G)) (position_of a G)) ≡ (b || has_id (applied G) a)
     at_test true rest = refl
     at_test false rest = rest
 

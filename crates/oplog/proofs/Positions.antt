@@ -1,5 +1,6 @@
 -- Where the operations of each replica of a table stand.
-use Rattle.std.proofs.Common.{◌≡◌, refl, sym, ap, ◌∙◌, ℕ, zero, suc, ◌<◌, Bool, true, false, true≢false, cond, ◌==◌, List, [], ◌∷◌, map, length, get_or, set, replicate, IsTrue, IsFalse, arith, Some, None, slice_get}
+use Rattle.std.proofs.Common.{◌≡◌, refl, sym, ap, ◌∙◌, ℕ, zero, suc, ◌<◌, Bool, true, false, true≢false, cond, ◌==◌, List, [], ◌∷◌, map}
+use Rattle.std.proofs.Common.{length, get_or, set, replicate, IsTrue, IsFalse, arith, Some, None, slice_get}
 use Rattle.std.specs.FinMap.{find, put}
 use Rattle.std.specs.FinMap.Entries.{find-put}
 use Rattle.std.proofs.lemmas.Bool.{or_left, or_right, eq-eqb, eqb-false, ne_eqb}
@@ -39,32 +40,43 @@ positions_by-find p (x ∷ G) a own = at_test (positions_by-find p G a own) ((st
         find-put id_cmp id_total a (stamped_in x).id (length G) (positions_by p G)
         ∙ (λ t. cond ((eq_by_cmp_equiv id_total).symm a (stamped_in x).id t) (Some (length G)) (rest t))
     at_test rest false e =
-        rest ∙ ap (λ b. cond b (Some (length G)) (position_of a G)) (sym (other_replica (stamped_in x).id a (λ same. eqb-false (stamped_in x).id.replica p e (same ∙ own))))
+        rest ∙ ap (λ b. cond b (Some (length G)) (position_of a G))
+        (sym (other_replica (stamped_in x).id a (λ same. eqb-false (stamped_in x).id.replica p e (same ∙ own))))
 
 -- one more entry of another replica
-pub positions_by-other : (p : ℕ) (G : List TheEntry) (x : TheEntry) → ((stamped_in x).id.replica ≡ p → ⊥) → positions_by p (x ∷ G) ≡ positions_by p G
-positions_by-other p G x other = ap (λ b. cond b (put id_cmp (stamped_in x).id (length G) (positions_by p G)) (positions_by p G)) (ne_eqb (stamped_in x).id.replica p other)
+pub positions_by-other : (p : ℕ) (G : List TheEntry) (x : TheEntry) → ((stamped_in x).id.replica ≡ p → ⊥)
+    → positions_by p (x ∷ G) ≡ positions_by p G
+positions_by-other p G x other = ap (λ b. cond b (put id_cmp (stamped_in x).id (length G) (positions_by p G)) (positions_by p G))
+    (ne_eqb (stamped_in x).id.replica p other)
 
 -- one more entry of the replica
-pub positions_by-own : (p : ℕ) (G : List TheEntry) (x : TheEntry) → (stamped_in x).id.replica ≡ p → positions_by p (x ∷ G) ≡ put id_cmp (stamped_in x).id (length G) (positions_by p G)
-positions_by-own p G x own = ap (λ b. cond b (put id_cmp (stamped_in x).id (length G) (positions_by p G)) (positions_by p G)) (eq-eqb (stamped_in x).id.replica p own)
+pub positions_by-own : (p : ℕ) (G : List TheEntry) (x : TheEntry) → (stamped_in x).id.replica ≡ p
+    → positions_by p (x ∷ G) ≡ put id_cmp (stamped_in x).id (length G) (positions_by p G)
+positions_by-own p G x own = ap (λ b. cond b (put id_cmp (stamped_in x).id (length G) (positions_by p G)) (positions_by p G))
+    (eq-eqb (stamped_in x).id.replica p own)
 
 -- an entry of none of these replicas
-pub all_others : (G : List TheEntry) (x : TheEntry) (ps : List ℕ) → (IsTrue (is_member ps (stamped_in x).id.replica) → ⊥) → map (λ p. positions_by p (x ∷ G)) ps ≡ map (λ p. positions_by p G) ps
+pub all_others : (G : List TheEntry) (x : TheEntry) (ps : List ℕ) → (IsTrue (is_member ps (stamped_in x).id.replica) → ⊥)
+    → map (λ p. positions_by p (x ∷ G)) ps ≡ map (λ p. positions_by p G) ps
 all_others G x [] absent = refl
 all_others G x (p ∷ ps) absent =
     let r = (stamped_in x).id.replica in
-    (λ t. positions_by-other p G x (λ own. absent (or_left (p == r) (is_member ps r) (eq-eqb p r (sym own)))) t ∷ all_others G x ps (λ m. absent (or_right (p == r) (is_member ps r) m)) t)
+    (λ t. positions_by-other p G x (λ own. absent (or_left (p == r) (is_member ps r) (eq-eqb p r (sym own)))) t ∷ all_others G x ps
+    (λ m. absent (or_right (p == r) (is_member ps r) m)) t)
 
 -- one more entry, whose position is put among those of its replica
 pub all_more : (G : List TheEntry) (x : TheEntry) (ps : List ℕ) (i : ℕ) → AreDistinct ps → slice_get ps i ≡ Some (stamped_in x).id.replica
-    → set (map (λ p. positions_by p G) ps) i (put id_cmp (stamped_in x).id (length G) (get_or (map (λ p. positions_by p G) ps) i [])) ≡ map (λ p. positions_by p (x ∷ G)) ps
+    → set (map (λ p. positions_by p G) ps) i (put id_cmp (stamped_in x).id (length G) (get_or (map (λ p. positions_by p G) ps) i []))
+    ≡ map (λ p. positions_by p (x ∷ G)) ps
 all_more G x [] i distinct at = cc
 all_more G x (p ∷ ps) zero distinct at =
     let own : p ≡ (stamped_in x).id.replica = cc in
     (λ t. sym (positions_by-own p G x (sym own)) t ∷ sym (all_others G x ps (λ m. distinct.0 (ap (is_member ps) own ∙ m))) t)
 all_more G x (p ∷ ps) (suc i) distinct at =
-    (λ t. sym (positions_by-other p G x (λ same. distinct.0 (ap (is_member ps) (sym same) ∙ member_at ps i (stamped_in x).id.replica at))) t ∷ all_more G x ps i distinct.1 at t)
+    (λ t. sym
+    (positions_by-other p G x
+    (λ same. distinct.0
+    (ap (is_member ps) (sym same) ∙ member_at ps i (stamped_in x).id.replica at))) t ∷ all_more G x ps i distinct.1 at t)
 
 -- without entries there is no position
 pub all_none : (ps : List ℕ) → map (λ p. positions_by p []) ps ≡ replicate (length ps) []
@@ -72,7 +84,8 @@ all_none [] = refl
 all_none (p ∷ ps) = ap (λ l. [] ∷ l) (all_none ps)
 
 -- a replica's positions stand among the columns
-pub positions_inside : (G : List TheEntry) (ps : List ℕ) (ns : List (Numbered OpId)) (i p : ℕ) → slice_get ps i ≡ Some p → numbers_of ns ≡ map (λ q. positions_by q G) ps → i < length ns
+pub positions_inside : (G : List TheEntry) (ps : List ℕ) (ns : List (Numbered OpId)) (i p : ℕ) → slice_get ps i ≡ Some p
+    → numbers_of ns ≡ map (λ q. positions_by q G) ps → i < length ns
 positions_inside G ps ns i p at are =
     let here = slice_get_within ps i p at in
     let beside = ap length are in
@@ -81,14 +94,17 @@ positions_inside G ps ns i p at are =
     omega arith
 
 -- the positions at a replica's index in the table are its own
-pub all_at : (G : List TheEntry) (ps : List ℕ) (i p : ℕ) → slice_get ps i ≡ Some p → get_or (map (λ q. positions_by q G) ps) i [] ≡ positions_by p G
+pub all_at : (G : List TheEntry) (ps : List ℕ) (i p : ℕ) → slice_get ps i ≡ Some p
+    → get_or (map (λ q. positions_by q G) ps) i [] ≡ positions_by p G
 all_at G [] i p at = cc
 all_at G (q ∷ ps) zero p at = ap (λ r. positions_by r G) (cc)
 all_at G (q ∷ ps) (suc i) p at = all_at G ps i p at
 
 -- an id of a replica that isn't in the table is nowhere
-pub absent_elsewhere : (table : List ℕ) (G : List TheEntry) (a : OpId) → IsFalse (is_member table a.replica) → AreOfMembers table G → position_of a G ≡ None
+pub absent_elsewhere : (table : List ℕ) (G : List TheEntry) (a : OpId) → IsFalse (is_member table a.replica) → AreOfMembers table G
+    → position_of a G ≡ None
 absent_elsewhere table [] a elsewhere members = refl
 absent_elsewhere table (e ∷ G) a elsewhere members =
-    ap (λ b. cond b (Some (length G)) (position_of a G)) (other_replica (stamped_in e).id a (λ same. true≢false (sym members.1 ∙ ap (is_member table) same ∙ elsewhere)))
+    ap (λ b. cond b (Some (length G)) (position_of a G))
+    (other_replica (stamped_in e).id a (λ same. true≢false (sym members.1 ∙ ap (is_member table) same ∙ elsewhere)))
     ∙ absent_elsewhere table G a elsewhere members.0

@@ -1,5 +1,6 @@
 -- Numbers that rise, and how often each stands among them.
-use Rattle.std.proofs.Common.{◌≡◌, refl, sym, ap, ◌∙◌, ℕ, suc, ◌+◌, ◌<◌, ◌≤◌, ◌==◌, ◌⊎◌, inl, inr, false, cond, List, [], ◌∷◌, ◌++◌, get_or, subst, arith}
+use Rattle.std.proofs.Common.{◌≡◌, refl, sym, ap, ◌∙◌, ℕ, suc, ◌+◌, ◌<◌, ◌≤◌, ◌==◌, ◌⊎◌, inl, inr, false, cond, List, [], ◌∷◌, ◌++◌, get_or}
+use Rattle.std.proofs.Common.{subst, arith}
 use Rattle.std.specs.Prelude.{⊤}
 use Rattle.std.specs.List.{sum_by}
 use Rattle.std.specs.List.Sorted.{IsPermutation, IsSorted}
@@ -58,7 +59,11 @@ rises-last m (x ∷ xs) rises to = (AreFrom-last x m xs rises.0 to.0, rises-last
 pub rises-sorted : (xs : List ℕ) → IsSorted nat_cmp xs → Rises xs
 rises-sorted [] sorted = tt
 rises-sorted (x ∷ []) sorted = (tt, tt)
-rises-sorted (x ∷ y ∷ xs) sorted = by_rest (rises-sorted (y ∷ xs) (λ k d low high. let e : suc k + 1 ≡ suc (k + 1) = omega arith in subst (λ j. is_lt (nat_cmp (get_or (x ∷ y ∷ xs) j d) (get_or (y ∷ xs) k d)) ≡ false) e (sorted (suc k) d (omega arith) (omega arith))))
+rises-sorted (x ∷ y ∷ xs) sorted = by_rest
+    (rises-sorted (y ∷ xs)
+    (λ k d low high. let e : suc k + 1 ≡ suc (k + 1) = omega arith in
+    subst (λ j. is_lt (nat_cmp (get_or (x ∷ y ∷ xs) j d) (get_or (y ∷ xs) k d)) ≡ false) e
+    (sorted (suc k) d (omega arith) (omega arith))))
   where
     le : x ≤ y
     le = ge_from_not_lt y x (sorted 0 x (omega arith) (omega arith))
@@ -96,7 +101,8 @@ same_rising (x ∷ xs) (y ∷ ys) rises rises' same =
         here = ap (λ t. cond t 1 0 + count a us) (eq-eqb a a refl)
 
         by_cases : (a < b) ⊎ (b ≤ a) → b ≤ a
-        by_cases (inl lt) = let none = count-below a b (b ∷ vs) lt ((omega arith), from) in let h = here in absurd (omega (arith, none, h, e))
+        by_cases (inl lt) =
+            let none = count-below a b (b ∷ vs) lt ((omega arith), from) in let h = here in absurd (omega (arith, none, h, e))
         by_cases (inr le) = le
 
     first : x ≡ y

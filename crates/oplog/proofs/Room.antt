@@ -39,17 +39,20 @@ least_room-used n (x ∷ ns) zero m d h used = let e = least_room-fewer n ns in 
 least_room-used n (x ∷ ns) (suc i) m d h used = let e = least_room-used n ns i m d (omega arith) used in omega arith
 
 -- the same numbers in one of the columns
-pub numbers-kept : (ns : List (Numbered OpId)) (i : ℕ) (m d : Numbered OpId) → d ≡ get_or ns i d → m.entries ≡ d.entries → numbers_of (set ns i m) ≡ numbers_of ns
+pub numbers-kept : (ns : List (Numbered OpId)) (i : ℕ) (m d : Numbered OpId) → d ≡ get_or ns i d → m.entries ≡ d.entries
+    → numbers_of (set ns i m) ≡ numbers_of ns
 numbers-kept ns i m d read same = map-set_same (λ n. n.entries) ns i m d (same ∙ ap (λ (n : Numbered OpId). n.entries) read)
 
 -- more room in one of the columns
-pub least_room-grown : (n : ℕ) (ns : List (Numbered OpId)) (i : ℕ) (m d : Numbered OpId) → d ≡ get_or ns i d → d.room ≤ m.room → least_room n ns ≤ least_room n (set ns i m)
+pub least_room-grown : (n : ℕ) (ns : List (Numbered OpId)) (i : ℕ) (m d : Numbered OpId) → d ≡ get_or ns i d → d.room ≤ m.room
+    → least_room n ns ≤ least_room n (set ns i m)
 least_room-grown n [] i m d read grown = omega arith
 least_room-grown n (x ∷ ns) zero m d read grown = let e = ap (λ (k : Numbered OpId). k.room) read in omega arith
 least_room-grown n (x ∷ ns) (suc i) m d read grown = let e = least_room-grown n ns i m d read grown in omega arith
 
 -- one more column that has room
-pub least_room-more : (n : ℕ) (ns : List (Numbered OpId)) (i : ℕ) (m : Numbered OpId) → i < length ns → 0 < m.room → 0 < least_room n (take i ns) → 0 < least_room n (take (suc i) (set ns i m))
+pub least_room-more : (n : ℕ) (ns : List (Numbered OpId)) (i : ℕ) (m : Numbered OpId) → i < length ns → 0 < m.room
+    → 0 < least_room n (take i ns) → 0 < least_room n (take (suc i) (set ns i m))
 least_room-more n [] i m h some before = absurd (omega arith)
 least_room-more n (x ∷ ns) zero m h some before = omega arith
 least_room-more n (x ∷ ns) (suc i) m h some before = let e = least_room-more n ns i m (omega arith) some (omega arith) in omega arith

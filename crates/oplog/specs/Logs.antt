@@ -1,5 +1,6 @@
 -- The entries of a history, with the table of their replicas.
-use Rattle.std.specs.Prelude.{◌≡◌, ℕ, min, nat_lt, ◌==◌, if◌then◌else◌, ⊤, IsTrue, List, [], ◌∷◌, ◌++◌, map, reverse, length, Option, Some, None}
+use Rattle.std.specs.Prelude.{◌≡◌, ℕ, min, nat_lt, ◌==◌, if◌then◌else◌, ⊤, IsTrue, List, [], ◌∷◌, ◌++◌, map, reverse, length, Option, Some}
+use Rattle.std.specs.Prelude.{None}
 use Rattle.std.specs.List.{All, filter}
 use Rattle.std.specs.FinMap.{put}
 use Rattle.ids.specs.declared.id.OpId.{OpId}
@@ -35,7 +36,8 @@ position_of a (e ∷ G) = if is_same_id (stamped_in e).id a then Some (length G)
 -- the positions of the operations of replica p by their ids
 abbrev pub positions_by : ℕ → List TheEntry → List (OpId × ℕ)
 positions_by p [] = []
-positions_by p (e ∷ G) = if (stamped_in e).id.replica == p then put id_cmp (stamped_in e).id (length G) (positions_by p G) else positions_by p G
+positions_by p (e ∷ G) = if (stamped_in e).id.replica == p then put id_cmp (stamped_in e).id (length G)
+    (positions_by p G) else positions_by p G
 
 -- no two operations have one id
 abbrev pub HaveOwnIds : List TheEntry → Type 0
@@ -51,7 +53,8 @@ abbrev pub AreOfMembers : List ℕ → List TheEntry → Type 0
 AreOfMembers table [] = ⊤
 AreOfMembers table (e ∷ G) = AreOfMembers table G × IsTrue (is_member table (stamped_in e).id.replica)
 
--- for each replica of the table the positions of its operations; the operations are of these replicas, and have ids of their own; each vector has the table's width
+-- for each replica of the table the positions of its operations; the operations are of these replicas, and have ids of their own;
+-- each vector has the table's width
 pub record IsIndexed (table : List ℕ) (positions : List (Numbered OpId)) (entries : List Entry) : Type 0 where
   pub distinct : AreDistinct table
   pub positions_are : numbers_of positions ≡ map (λ p. positions_by p (history table entries)) table

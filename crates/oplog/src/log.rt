@@ -1,6 +1,7 @@
 //! A list of entries, and for each replica of a table the positions of its operations.
 
-ghost use Rattle.std.specs.Prelude.{◌≡◌, ◌≤◌, ◌<◌, ◌+◌, ◌++◌, ◌∷◌, [], IsTrue, ℕ, List, Some, false, nat_lt, option_map, map, replicate, reverse, set, length, IfOk, IfSome, OnOk, slice_index_or};
+ghost use Rattle.std.specs.Prelude.{◌≡◌, ◌≤◌, ◌<◌, ◌+◌, ◌++◌, ◌∷◌, [], IsTrue, ℕ, List, Some, false, nat_lt, option_map, map, replicate};
+ghost use Rattle.std.specs.Prelude.{reverse, set, length, IfOk, IfSome, OnOk, slice_index_or};
 ghost use Rattle.std.specs.List.{filter};
 ghost use Rattle.std.specs.FinMap.{put};
 ghost use Rattle.ids.specs.Members.{AreDistinct, is_member};
@@ -40,7 +41,11 @@ impl Model for Log {
 
     ghost coded = { Prim.hlevel (codes, coded_element) };
 
-    ghost view = { λ l. record { table = l.table; entries = history l.table l.entries.items; room = least_room (vec_capacity l.entries - vec_len l.entries) l.positions.items } };
+    ghost view = { λ l. record {
+      table = l.table;
+      entries = history l.table l.entries.items;
+      room = least_room (vec_capacity l.entries - vec_len l.entries) l.positions.items;
+    } };
 
     ghost invariant = { λ l. IsIndexed l.table l.positions.items l.entries.items };
 }
@@ -180,7 +185,8 @@ fn reserve_positions(positions: &mut Vec<Numbers>) -> Result<(), AllocError>
 fn put_position(positions: &mut Vec<Numbers>, index: usize, id: OpId, position: usize)
     requires inside { index < length positions.old.items }
     requires room { 0 < least_room 1 positions.old.items }
-    ensures numbers { numbers_of positions.new.items ≡ set (numbers_of positions.old.items) index (put id_cmp id position (slice_index_or (numbers_of positions.old.items) index [])) }
+    ensures numbers { numbers_of positions.new.items
+        ≡ set (numbers_of positions.old.items) index (put id_cmp id position (slice_index_or (numbers_of positions.old.items) index [])) }
     ensures room { (n : ℕ) → least_room (n + 1) positions.old.items ≤ least_room n positions.new.items + 1 }
 {
     let numbers = &mut positions[index];
@@ -205,7 +211,8 @@ fn positions_above(
 
 /// Appends the number of each id with a greater counter than this, rising by id. A binary search, and one read for each.
 fn push_numbers(numbers: &mut Vec<usize>, from: &Numbers, counter: u64) -> Result<(), AllocError>
-    ensures { OnOk result (numbers.new.items ≡ numbers.old.items ++ map (λ e. e.1) (filter (λ e. nat_lt counter e.0.counter) from.now.entries)) }
+    ensures { OnOk result
+        (numbers.new.items ≡ numbers.old.items ++ map (λ e. e.1) (filter (λ e. nat_lt counter e.0.counter) from.now.entries)) }
 {
     let first = from.first_above(counter);
     let count = from.len();

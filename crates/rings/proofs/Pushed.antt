@@ -1,5 +1,6 @@
 -- A ring that takes an item in its midst and lets its last one fall out.
-use Rattle.std.proofs.Common.{◌≡◌, ℕ, zero, suc, ◌+◌, ◌-◌, ◌*◌, ◌<◌, ◌≤◌, List, [], ◌∷◌, ◌++◌, length, get_or, take, drop, refl, sym, ap, ◌∙◌, arith, append_assoc}
+use Rattle.std.proofs.Common.{◌≡◌, ℕ, zero, suc, ◌+◌, ◌-◌, ◌*◌, ◌<◌, ◌≤◌, List, [], ◌∷◌, ◌++◌, length, get_or, take, drop, refl, sym, ap}
+use Rattle.std.proofs.Common.{◌∙◌, arith, append_assoc}
 use Rattle.std.specs.List.{insert}
 use Rattle.std.proofs.lemmas.List.{take_at, drop_at}
 use Rattle.std.proofs.lemmas.List.Edits.{insert-append_left, insert-append_right}
@@ -30,9 +31,11 @@ module _ {X : Type 0} where
       ∙ sym (insert-append_right A B (length A) o v refl le)
 
   -- what one ring takes, and what falls out of it, as the list sees it
-  pub straight_pushed : (n : ℕ) (starts : List ℕ) (xs ring : List X) (k o : ℕ) (v x : X) → k < length starts → length starts * n ≤ length xs → o < n → length ring ≡ n
+  pub straight_pushed : (n : ℕ) (starts : List ℕ) (xs ring : List X) (k o : ℕ) (v x : X) → k < length starts → length starts * n ≤ length xs
+      → o < n → length ring ≡ n
       → turned (get_or starts k 0) ring ++ x ∷ [] ≡ insert (turned (get_or starts k 0) (take n (drop (in_ring n k 0) xs))) o v
-      → insert (straight n starts (take (in_ring n k 0) xs ++ (ring ++ drop n (drop (in_ring n k 0) xs)))) (in_ring n (suc k) 0) x ≡ insert (straight n starts xs) (in_ring n k o) v
+      → insert (straight n starts (take (in_ring n k 0) xs ++ (ring ++ drop n (drop (in_ring n k 0) xs)))) (in_ring n (suc k) 0) x
+      ≡ insert (straight n starts xs) (in_ring n k o) v
   straight_pushed n [] xs ring k o v x lt full inside long pushed = absurd (omega (arith, lt))
   straight_pushed n (s ∷ starts) xs ring zero o v x lt full inside long pushed =
       let rest = straight n starts (drop n xs) in
@@ -59,9 +62,12 @@ module _ {X : Type 0} where
       let here : n + in_ring n (suc k) 0 - n ≡ in_ring n (suc k) 0 = omega arith in
       let at : n + in_ring n k o - n ≡ in_ring n k o = omega arith in
       (λ t. insert (turned s (take n (split t)) ++ straight n starts (drop n (split t))) (n + in_ring n (suc k) 0) x)
-      ∙ (λ t. insert (turned s (take_at front inner n size t) ++ straight n starts (drop_at front inner n size t)) (n + in_ring n (suc k) 0) x)
+      ∙ (λ t. insert (turned s (take_at front inner n size t) ++ straight n starts (drop_at front inner n size t))
+      (n + in_ring n (suc k) 0) x)
       ∙ insert-append_right (turned s front) (straight n starts inner) n (n + in_ring n (suc k) 0) x many (omega arith)
       ∙ ap (λ i. turned s front ++ insert (straight n starts inner) i x) here
-      ∙ ap (λ ys. turned s front ++ ys) (straight_pushed n starts back ring k o v x (omega (arith, lt)) (rest_full n (length starts) xs full) inside long (pushed ∙ ap (λ ys. insert (turned (get_or starts k 0) (take n ys)) o v) there))
+      ∙ ap (λ ys. turned s front ++ ys)
+      (straight_pushed n starts back ring k o v x (omega (arith, lt)) (rest_full n (length starts) xs full) inside long
+      (pushed ∙ ap (λ ys. insert (turned (get_or starts k 0) (take n ys)) o v) there))
       ∙ ap (λ i. turned s front ++ insert (straight n starts back) i v) (sym at)
       ∙ sym (insert-append_right (turned s front) (straight n starts back) n (n + in_ring n k o) v many (omega arith))

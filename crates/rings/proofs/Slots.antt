@@ -1,11 +1,13 @@
 -- Places and their slots.
-use Rattle.std.proofs.Common.{◌≡◌, ℕ, ◌+◌, ◌*◌, ◌/◌, ◌%◌, ◌<◌, ◌≤◌, ◌⊎◌, inl, inr, List, [], ◌∷◌, ◌++◌, length, length-append, get_or, set, refl, sym, ap, ◌∙◌, arith}
+use Rattle.std.proofs.Common.{◌≡◌, ℕ, ◌+◌, ◌*◌, ◌/◌, ◌%◌, ◌<◌, ◌≤◌, ◌⊎◌, inl, inr, List, [], ◌∷◌, ◌++◌, length, length-append, get_or, set}
+use Rattle.std.proofs.Common.{refl, sym, ap, ◌∙◌, arith}
 use Rattle.std.specs.Prelude.{Result, Ok, Err, is_ok, IsOk, true}
 use Rattle.std.specs.List.{All}
 use Rattle.std.proofs.lemmas.List.{get_or_append_left, get_or_at}
 use Rattle.std.proofs.lemmas.Bool.{cases_lt}
 use Rattle.rings.specs.Rings.{straight, AreRings, IsClosed, IsSlot}
-use Rattle.rings.proofs.Straight.{in_ring, in_ring_is, IsWrapped, straight-get, straight-set, straight-get_past, straight-set_past, straight_one_more}
+use Rattle.rings.proofs.Straight.{in_ring, in_ring_is, IsWrapped, straight-get, straight-set, straight-get_past, straight-set_past}
+use Rattle.rings.proofs.Straight.{straight_one_more}
 
 -- a sum that goes round
 pub goes_round : (s o : ℕ) → s < 512 → o < 512 → ((s + o) % 512 < 512) × IsWrapped 512 (s + o) ((s + o) % 512)
@@ -24,7 +26,8 @@ pub record MeetsSlot {X : Type 0} (starts : List ℕ) (xs : List X) (position sl
   pub get : (d : X) → get_or (straight 512 starts xs) position d ≡ get_or xs slot d
   pub set : (v : X) → straight 512 starts (set xs slot v) ≡ set (straight 512 starts xs) position v
 
-pub meets_slot : {X : Type 0} (starts : List ℕ) (xs : List X) (position slot : ℕ) → AreRings 512 starts (length xs) → position < length xs → IsSlot 512 starts position slot → MeetsSlot starts xs position slot
+pub meets_slot : {X : Type 0} (starts : List ℕ) (xs : List X) (position slot : ℕ) → AreRings 512 starts (length xs) → position < length xs
+    → IsSlot 512 starts position slot → MeetsSlot starts xs position slot
 meets_slot {X = X} starts xs position slot rings within is = by_cases (cases_lt position (length starts * 512))
   where
     by_cases : (position < length starts * 512) ⊎ (length starts * 512 ≤ position) → MeetsSlot starts xs position slot
@@ -41,8 +44,10 @@ meets_slot {X = X} starts xs position slot rings within is = by_cases (cases_lt 
         let full = rings.full in
         record {
           inside = omega (arith, at, kl, small, full);
-          get = λ d. ap (λ i. get_or (straight 512 starts xs) i d) (sym here) ∙ straight-get 512 starts xs k o w d kl full start ol wrapped small ∙ ap (λ i. get_or xs i d) there;
-          set = λ v. ap (λ i. straight 512 starts (set xs i v)) (sym there) ∙ straight-set 512 starts xs k o w v kl full start ol wrapped small ∙ ap (λ i. set (straight 512 starts xs) i v) here;
+          get = λ d. ap (λ i. get_or (straight 512 starts xs) i d) (sym here)
+              ∙ straight-get 512 starts xs k o w d kl full start ol wrapped small ∙ ap (λ i. get_or xs i d) there;
+          set = λ v. ap (λ i. straight 512 starts (set xs i v)) (sym there)
+              ∙ straight-set 512 starts xs k o w v kl full start ol wrapped small ∙ ap (λ i. set (straight 512 starts xs) i v) here;
         }
     by_cases (inr ge) =
         let at = is.past ge in
@@ -53,7 +58,8 @@ meets_slot {X = X} starts xs position slot rings within is = by_cases (cases_lt 
         }
 
 -- a ring that was closed changes nothing of the list
-pub closed_same : {X : Type 0} (old new : List ℕ) (xs : List X) (count : ℕ) → length xs ≡ count → IsClosed 512 old new count → straight 512 new xs ≡ straight 512 old xs
+pub closed_same : {X : Type 0} (old new : List ℕ) (xs : List X) (count : ℕ) → length xs ≡ count → IsClosed 512 old new count
+    → straight 512 new xs ≡ straight 512 old xs
 closed_same old new xs count long (inl (few, e)) = ap (λ ss. straight 512 ss xs) e
 closed_same old new xs count long (inr (full, e)) = ap (λ ss. straight 512 ss xs) e ∙ straight_one_more 512 old xs (long ∙ full)
 
@@ -64,7 +70,8 @@ all_more ss all k d lt = by_cases (cases_lt k (length ss))
     by_cases (inl h) = rw (get_or_append_left ss (0 ∷ []) d k h) (all k d h)
     by_cases (inr h) = rw (get_or_at ss 0 [] d k (let a = length-append ss (0 ∷ []) in omega (arith, a, h, lt))) (omega arith)
 
-pub closed_rings : (old new : List ℕ) (count : ℕ) → All (λ s. s < 512) old → length old * 512 ≤ count → count ≤ length old * 512 + 512 → IsClosed 512 old new count → AreRings 512 new count
+pub closed_rings : (old new : List ℕ) (count : ℕ) → All (λ s. s < 512) old → length old * 512 ≤ count → count ≤ length old * 512 + 512
+    → IsClosed 512 old new count → AreRings 512 new count
 closed_rings old new count all full rest (inl (few, e)) = rw e (record { within = all; full = full; rest = few })
 closed_rings old new count all full rest (inr (whole, e)) =
     let long = length-append old (0 ∷ []) in

@@ -1,5 +1,6 @@
 -- Rings that begin at their first slots.
-use Rattle.std.proofs.Common.{◌≡◌, ℕ, zero, suc, ◌+◌, ◌*◌, ◌<◌, ◌≤◌, ◌==◌, ◌&&◌, ◌⊎◌, inl, inr, Bool, true, false, true≢false, IsTrue, List, [], ◌∷◌, ◌++◌, length, get_or, set, take, drop, refl, sym, ap, ◌∙◌, arith, length-set, append_assoc}
+use Rattle.std.proofs.Common.{◌≡◌, ℕ, zero, suc, ◌+◌, ◌*◌, ◌<◌, ◌≤◌, ◌==◌, ◌&&◌, ◌⊎◌, inl, inr, Bool, true, false, true≢false, IsTrue, List}
+use Rattle.std.proofs.Common.{[], ◌∷◌, ◌++◌, length, get_or, set, take, drop, refl, sym, ap, ◌∙◌, arith, length-set, append_assoc}
 use Rattle.std.specs.List.{All}
 use Rattle.std.proofs.lemmas.Bool.{cases_lt, eqb-true, eq-eqb}
 use Rattle.std.proofs.lemmas.List.{append-nil, drop-drop, take-append-drop, take_at, drop_at, get_or-set_same, get_or-set_other}
@@ -17,7 +18,8 @@ zero_parts s ss h = at_test (s == 0) refl h
 
 pub zero_from_all : (ss : List ℕ) → All (λ s. s ≡ 0) ss → IsTrue (are_zero ss)
 zero_from_all [] all = refl
-zero_from_all (s ∷ ss) all = ap (λ b. b && are_zero ss) (eq-eqb s 0 (all 0 0 (omega arith))) ∙ zero_from_all ss (λ k d lt. all (suc k) d (omega (arith, lt)))
+zero_from_all (s ∷ ss) all = ap (λ b. b && are_zero ss) (eq-eqb s 0 (all 0 0 (omega arith)))
+    ∙ zero_from_all ss (λ k d lt. all (suc k) d (omega (arith, lt)))
 
 pub zero_take : (n : ℕ) (ss : List ℕ) → are_zero ss ≡ true → are_zero (take n ss) ≡ true
 zero_take zero ss h = refl
@@ -38,7 +40,9 @@ module _ {X : Type 0} where
 
   -- a ring that is turned to begin at its first slot leaves the list
   pub straight_turned : (n : ℕ) (starts : List ℕ) (xs : List X) (k : ℕ) → k < length starts → length starts * n ≤ length xs
-      → straight n (set starts k 0) (take (in_ring n k 0) xs ++ (turned (get_or starts k 0) (take n (drop (in_ring n k 0) xs)) ++ drop n (drop (in_ring n k 0) xs))) ≡ straight n starts xs
+      → straight n (set starts k 0)
+      (take (in_ring n k 0) xs ++ (turned (get_or starts k 0) (take n (drop (in_ring n k 0) xs)) ++ drop n (drop (in_ring n k 0) xs)))
+      ≡ straight n starts xs
   straight_turned n [] xs k lt full = absurd (omega (arith, lt))
   straight_turned n (s ∷ starts) xs zero lt full =
       let ring = turned s (take n xs) in
@@ -54,13 +58,15 @@ module _ {X : Type 0} where
       let long : length front ≡ n = ring_full n (length starts) xs full in
       let there : drop (n + q) xs ≡ drop q back = sym (drop-drop q n xs) in
       let split : take (n + q) xs ++ (turned (get_or starts k 0) (take n (drop (n + q) xs)) ++ drop n (drop (n + q) xs)) ≡ front ++ inner =
-      (λ t. take-add n q xs t ++ (turned (get_or starts k 0) (take n (there t)) ++ drop n (there t))) ∙ append_assoc front (take q back) mid in
+      (λ t. take-add n q xs t ++ (turned (get_or starts k 0) (take n (there t)) ++ drop n (there t)))
+      ∙ append_assoc front (take q back) mid in
       (λ t. turned s (take n (split t)) ++ straight n (set starts k 0) (drop n (split t)))
       ∙ (λ t. turned s (take_at front inner n long t) ++ straight n (set starts k 0) (drop_at front inner n long t))
       ∙ ap (λ ys. turned s front ++ ys) (straight_turned n starts back k (omega (arith, lt)) (rest_full n (length starts) xs full))
 
 -- one more ring begins at its first slot
-pub zero_more : (k : ℕ) (ss : List ℕ) → k < length ss → ((i : ℕ) (d : ℕ) → i < k → get_or ss i d ≡ 0) → (i d : ℕ) → i < k + 1 → get_or (set ss k 0) i d ≡ 0
+pub zero_more : (k : ℕ) (ss : List ℕ) → k < length ss → ((i : ℕ) (d : ℕ) → i < k → get_or ss i d ≡ 0) → (i d : ℕ) → i < k + 1
+    → get_or (set ss k 0) i d ≡ 0
 zero_more k ss inside before i d lt = by_cases (cases_lt i k)
   where
     by_cases : (i < k) ⊎ (k ≤ i) → get_or (set ss k 0) i d ≡ 0
@@ -86,8 +92,10 @@ all_zeroed k ss all inside i d lt = by_cases (cases_lt i k)
             rw (same, get_or-set_same ss k 0 d inside) (omega arith)
 
 -- two items in one another's position, by their slots
-pub swapped : {X : Type 0} (starts : List ℕ) (xs : List X) (a b i j : ℕ) (d : X) → MeetsSlot starts xs a i → MeetsSlot starts (set xs i (get_or xs j d)) b j → MeetsSlot starts xs b j
-    → straight 512 starts (set (set xs i (get_or xs j d)) j (get_or xs i d)) ≡ set (set (straight 512 starts xs) a (get_or (straight 512 starts xs) b d)) b (get_or (straight 512 starts xs) a d)
+pub swapped : {X : Type 0} (starts : List ℕ) (xs : List X) (a b i j : ℕ) (d : X) → MeetsSlot starts xs a i
+    → MeetsSlot starts (set xs i (get_or xs j d)) b j → MeetsSlot starts xs b j
+    → straight 512 starts (set (set xs i (get_or xs j d)) j (get_or xs i d))
+    ≡ set (set (straight 512 starts xs) a (get_or (straight 512 starts xs) b d)) b (get_or (straight 512 starts xs) a d)
 swapped starts xs a b i j d first after second =
     after.set (get_or xs i d)
     ∙ ap (λ ys. set ys b (get_or xs i d)) (first.set (get_or xs j d))

@@ -1,4 +1,5 @@
--- A list that lies in rings: each ring of so many slots begins at one of them and goes round, and after the rings come fewer than a ring's items.
+-- A list that lies in rings: each ring of so many slots begins at one of them and goes round, and after the rings come fewer than
+-- a ring's items.
 use Rattle.std.specs.Prelude.{◌≡◌, ◌<◌, ◌≤◌, ◌+◌, ◌*◌, ℕ, Bool, true, ◌==◌, ◌&&◌, List, [], ◌∷◌, ◌++◌, length, take, drop, get_or, ◌⊎◌}
 use Rattle.std.specs.List.{All}
 
@@ -25,7 +26,10 @@ straight n (s ∷ starts) xs = turned s (take n xs) ++ straight n starts (drop n
 
 -- the slot of a position: a position in a ring lies as far behind the ring's start, and goes round; one behind the rings is its own slot
 pub record IsSlot (n : ℕ) (starts : List ℕ) (position slot : ℕ) : Type 0 where
-  pub inside : (k o : ℕ) → k < length starts → o < n → position ≡ k * n + o → (w : ℕ) × (w < n) × (((get_or starts k 0 + o < n) × (w ≡ get_or starts k 0 + o)) ⊎ ((n ≤ get_or starts k 0 + o) × (w + n ≡ get_or starts k 0 + o))) × (slot ≡ k * n + w)
+  pub inside : (k o : ℕ) → k < length starts → o < n → position ≡ k * n + o
+      → (w : ℕ) × (w < n)
+      × (((get_or starts k 0 + o < n) × (w ≡ get_or starts k 0 + o)) ⊎ ((n ≤ get_or starts k 0 + o) × (w + n ≡ get_or starts k 0 + o)))
+      × (slot ≡ k * n + w)
   pub past : length starts * n ≤ position → slot ≡ position
 
 -- so many slots are full rings that begin there, and fewer than a ring's items

@@ -1,6 +1,7 @@
 //! A list whose items lie in rings, and the moves that keep them there.
 
-ghost use Rattle.std.specs.Prelude.{◌≡◌, ◌<◌, ◌≤◌, ◌+◌, ◌*◌, ◌/◌, ◌++◌, ◌∷◌, [], length, Some, slice_get, slice_index_or, slice_set, take, IsTrue, OnOk, vec_len, vec_capacity};
+ghost use Rattle.std.specs.Prelude.{◌≡◌, ◌<◌, ◌≤◌, ◌+◌, ◌*◌, ◌/◌, ◌++◌, ◌∷◌, [], length, Some, slice_get, slice_index_or, slice_set, take};
+ghost use Rattle.std.specs.Prelude.{IsTrue, OnOk, vec_len, vec_capacity};
 ghost use Rattle.std.specs.List.{All, insert, remove};
 ghost use Rattle.rings.specs.Rings.{AreRings, IsClosed, IsSlot, are_zero, straight, turned};
 ghost use Rattle.rings.specs.Starts.{capacity_of, starts_of};
@@ -13,9 +14,12 @@ use std::mem::replace;
 /// How many slots a ring has.
 const RING: usize = 512;
 
-/// A list that stays fast at a million items: one is read at any position in constant time, and one that goes in moves at most those of its own ring and one of each later ring.
+/// A list that stays fast at a million items: one is read at any position in constant time, and one that goes in moves at most
+/// those of its own ring and one of each later ring.
 ///
-/// All items stand in one vector: first the full rings of 512 slots, each of which begins at one of its slots and goes round, and then fewer than 512 items in their order. So a list below 512 items is a vector. Contracts see the items, how many more fit without memory, and whether all rings begin at their first slots.
+/// All items stand in one vector: first the full rings of 512 slots, each of which begins at one of its slots and goes round, and
+/// then fewer than 512 items in their order. So a list below 512 items is a vector. Contracts see the items, how many more fit
+/// without memory, and whether all rings begin at their first slots.
 #[derive(Debug, Drop)]
 pub struct Rings<T> {
     slots: Vec<T>,
@@ -29,7 +33,11 @@ impl<T> Model for Rings<T> {
 
     ghost Value = { Sequence T };
 
-    ghost view = { λ r. record { items = straight 512 (starts_of r.starts) r.slots.items; room = min (vec_capacity r.slots - vec_len r.slots) (capacity_of r.starts * 512 + 511 - vec_len r.slots); is_straight = are_zero (starts_of r.starts) } };
+    ghost view = { λ r. record {
+      items = straight 512 (starts_of r.starts) r.slots.items;
+      room = min (vec_capacity r.slots - vec_len r.slots) (capacity_of r.starts * 512 + 511 - vec_len r.slots);
+      is_straight = are_zero (starts_of r.starts);
+    } };
 
     ghost invariant = { λ r. AreRings 512 (starts_of r.starts) (length r.slots.items) };
 }
@@ -90,13 +98,16 @@ impl<T> Rings<T> {
     pub fn swap(&mut self, a: usize, b: usize)
         requires a { a < length self.old.items }
         requires b { b < length self.old.items }
-        ensures items { (d : T) → self.new.items ≡ slice_set (slice_set self.old.items a (slice_index_or self.old.items b d)) b (slice_index_or self.old.items a d) }
+        ensures items { (d : T)
+            → self.new.items
+            ≡ slice_set (slice_set self.old.items a (slice_index_or self.old.items b d)) b (slice_index_or self.old.items a d) }
         ensures room { self.new.room ≡ self.old.room }
     {
         swap_in(&mut self.slots, self.starts.as_slice(), a, b);
     }
 
-    /// Moves the items so that `as_slice` can return them as one slice. Takes no memory. Costs one move of each ring that doesn't begin at its first slot.
+    /// Moves the items so that `as_slice` can return them as one slice. Takes no memory. Costs one move of each ring that doesn't
+    /// begin at its first slot.
     pub fn straighten(&mut self)
         ensures items { self.new.items ≡ self.old.items }
         ensures room { self.new.room ≡ self.old.room }
@@ -113,7 +124,8 @@ impl<T> Rings<T> {
         &self.slots
     }
 
-    /// Removes the item at this position and returns it; those behind it come one earlier. Takes no memory. All rings are straightened first, and each item behind it moves, by one move of memory.
+    /// Removes the item at this position and returns it; those behind it come one earlier. Takes no memory. All rings are
+    /// straightened first, and each item behind it moves, by one move of memory.
     pub fn remove(&mut self, position: usize) -> T
         requires { position < length self.old.items }
         ensures items { self.new.items ≡ remove self.old.items position }
@@ -135,7 +147,8 @@ impl<T: Drop> Rings<T> {
         truncate_in(&mut self.slots, &mut self.starts, count);
     }
 
-    /// Puts an item at this position; those from there on come one later. Takes no memory. Moves those behind it in its ring at once, and one item of each later ring.
+    /// Puts an item at this position; those from there on come one later. Takes no memory. Moves those behind it in its ring at
+    /// once, and one item of each later ring.
     pub fn insert(&mut self, position: usize, value: T)
         requires within { position ≤ length self.old.items }
         requires room { 0 < self.old.room }
@@ -184,7 +197,8 @@ fn turn<T>(slots: &mut [T], starts: &mut [usize], ring: usize, value: T) -> T
     requires within { All (λ s. s < 512) starts.old }
     requires full { length starts.old * 512 ≤ length slots.old }
     requires ring { ring < length starts.old }
-    ensures items { insert (straight 512 starts.new slots.new) (ring * 512 + 512) result ≡ insert (straight 512 starts.old slots.old) (ring * 512) value }
+    ensures items { insert (straight 512 starts.new slots.new) (ring * 512 + 512) result
+        ≡ insert (straight 512 starts.old slots.old) (ring * 512) value }
     ensures within { All (λ s. s < 512) starts.new }
     ensures starts { length starts.new ≡ length starts.old }
     ensures slots { length slots.new ≡ length slots.old }
@@ -195,7 +209,8 @@ fn turn<T>(slots: &mut [T], starts: &mut [usize], ring: usize, value: T) -> T
     replace(&mut slots[ring * RING + before], value)
 }
 
-/// Moves each item one slot on and puts the value into the first, by one move of memory. Returns the item that falls out at the end: the value, where there are no slots.
+/// Moves each item one slot on and puts the value into the first, by one move of memory. Returns the item that falls out at the
+/// end: the value, where there are no slots.
 fn push_front<T>(items: &mut [T], value: T) -> T
     ensures { items.new ++ result ∷ [] ≡ value ∷ items.old }
 {
@@ -206,7 +221,8 @@ fn push_front<T>(items: &mut [T], value: T) -> T
     replace(&mut items[0], value)
 }
 
-/// Puts an item at a position of a ring, by one move of memory, or two where those behind it go round. Returns the ring's last item, which falls out.
+/// Puts an item at a position of a ring, by one move of memory, or two where those behind it go round. Returns the ring's last
+/// item, which falls out.
 fn push_into<T>(ring: &mut [T], start: usize, position: usize, value: T) -> T
     requires start { start ≤ length ring.old }
     requires position { position ≤ length ring.old }
@@ -226,7 +242,8 @@ fn push_into<T>(ring: &mut [T], start: usize, position: usize, value: T) -> T
 fn push_at<T>(slots: &mut [T], starts: &[usize], position: usize, value: T) -> T
     requires rings { AreRings 512 starts.now (length slots.old) }
     requires position { position < length starts.now * 512 }
-    ensures items { insert (straight 512 starts.now slots.new) (position / 512 * 512 + 512) result ≡ insert (straight 512 starts.now slots.old) position value }
+    ensures items { insert (straight 512 starts.now slots.new) (position / 512 * 512 + 512) result
+        ≡ insert (straight 512 starts.now slots.old) position value }
     ensures slots { length slots.new ≡ length slots.old }
 {
     let ring = position / RING;
@@ -239,11 +256,13 @@ fn push_at<T>(slots: &mut [T], starts: &[usize], position: usize, value: T) -> T
     )
 }
 
-/// Puts an item at a position that lies in a ring. Each ring from there on passes its last item on to the next; returns that of the last ring.
+/// Puts an item at a position that lies in a ring. Each ring from there on passes its last item on to the next; returns that of
+/// the last ring.
 fn carry<T>(slots: &mut [T], starts: &mut [usize], position: usize, value: T) -> T
     requires rings { AreRings 512 starts.old (length slots.old) }
     requires position { position < length starts.old * 512 }
-    ensures items { insert (straight 512 starts.new slots.new) (length starts.old * 512) result ≡ insert (straight 512 starts.old slots.old) position value }
+    ensures items { insert (straight 512 starts.new slots.new) (length starts.old * 512) result
+        ≡ insert (straight 512 starts.old slots.old) position value }
     ensures within { All (λ s. s < 512) starts.new }
     ensures starts { length starts.new ≡ length starts.old }
     ensures slots { length slots.new ≡ length slots.old }
@@ -259,7 +278,8 @@ fn carry<T>(slots: &mut [T], starts: &mut [usize], position: usize, value: T) ->
 fn make_way<T>(slots: &mut [T], starts: &mut Starts, position: usize, value: T) -> (usize, T)
     requires rings { AreRings 512 (starts_of starts.old) (length slots.old) }
     requires position { position ≤ length slots.old }
-    ensures items { insert (straight 512 (starts_of starts.new) slots.new) result.0 result.1 ≡ insert (straight 512 (starts_of starts.old) slots.old) position value }
+    ensures items { insert (straight 512 (starts_of starts.new) slots.new) result.0 result.1
+        ≡ insert (straight 512 (starts_of starts.old) slots.old) position value }
     ensures behind { length (starts_of starts.old) * 512 ≤ result.0 }
     ensures position { result.0 ≤ length slots.old }
     ensures within { All (λ s. s < 512) (starts_of starts.new) }
@@ -277,7 +297,8 @@ fn make_way<T>(slots: &mut [T], starts: &mut Starts, position: usize, value: T) 
 fn make_way_in<T>(slots: &mut [T], starts: &mut [usize], position: usize, value: T) -> (usize, T)
     requires rings { AreRings 512 starts.old (length slots.old) }
     requires position { position ≤ length slots.old }
-    ensures items { insert (straight 512 starts.new slots.new) result.0 result.1 ≡ insert (straight 512 starts.old slots.old) position value }
+    ensures items { insert (straight 512 starts.new slots.new) result.0 result.1
+        ≡ insert (straight 512 starts.old slots.old) position value }
     ensures behind { length starts.old * 512 ≤ result.0 }
     ensures position { result.0 ≤ length slots.old }
     ensures within { All (λ s. s < 512) starts.new }
@@ -313,7 +334,8 @@ fn insert_in<T: Drop>(slots: &mut Vec<T>, starts: &mut Starts, position: usize, 
     requires within { position ≤ length slots.old.items }
     requires room { vec_len slots.old < vec_capacity slots.old }
     requires room_for_start { vec_len slots.old < capacity_of starts.old * 512 + 511 }
-    ensures items { straight 512 (starts_of starts.new) slots.new.items ≡ insert (straight 512 (starts_of starts.old) slots.old.items) position value }
+    ensures items { straight 512 (starts_of starts.new) slots.new.items
+        ≡ insert (straight 512 (starts_of starts.old) slots.old.items) position value }
     ensures rings { AreRings 512 (starts_of starts.new) (length slots.new.items) }
     ensures length { vec_len slots.new ≡ vec_len slots.old + 1 }
     ensures slots { vec_capacity slots.new ≡ vec_capacity slots.old }
@@ -330,7 +352,10 @@ fn swap_in<T>(slots: &mut [T], starts: &[usize], a: usize, b: usize)
     requires rings { AreRings 512 starts.now (length slots.old) }
     requires a { a < length slots.old }
     requires b { b < length slots.old }
-    ensures items { (d : T) → straight 512 starts.now slots.new ≡ slice_set (slice_set (straight 512 starts.now slots.old) a (slice_index_or (straight 512 starts.now slots.old) b d)) b (slice_index_or (straight 512 starts.now slots.old) a d) }
+    ensures items { (d : T)
+        → straight 512 starts.now slots.new
+        ≡ slice_set (slice_set (straight 512 starts.now slots.old) a (slice_index_or (straight 512 starts.now slots.old) b d)) b
+        (slice_index_or (straight 512 starts.now slots.old) a d) }
     ensures length { length slots.new ≡ length slots.old }
 {
     let first = slot_of(starts, a);
@@ -401,7 +426,8 @@ fn remove_in<T>(slots: &mut Vec<T>, starts: &mut Starts, position: usize) -> T
     requires rings { AreRings 512 (starts_of starts.old) (length slots.old.items) }
     requires straight { IsTrue (are_zero (starts_of starts.old)) }
     requires within { position < length slots.old.items }
-    ensures items { straight 512 (starts_of starts.new) slots.new.items ≡ remove (straight 512 (starts_of starts.old) slots.old.items) position }
+    ensures items { straight 512 (starts_of starts.new) slots.new.items
+        ≡ remove (straight 512 (starts_of starts.old) slots.old.items) position }
     ensures value { slice_get (straight 512 (starts_of starts.old) slots.old.items) position ≡ Some result }
     ensures rings { AreRings 512 (starts_of starts.new) (length slots.new.items) }
     ensures fewer { vec_len slots.new + 1 ≡ vec_len slots.old }

@@ -1,5 +1,6 @@
 -- In every run of a world all that clients submitted is there.
-use Rattle.std.proofs.Common.{◌≡◌, inl, inr, ℕ, zero, suc, max, Bool, true, false, List, [], ◌∷◌, replicate, length, Option, Some, None, refl, sym, ap, ◌∙◌, subst, slice_get, slice_set}
+use Rattle.std.proofs.Common.{◌≡◌, inl, inr, ℕ, zero, suc, max, Bool, true, false, List, [], ◌∷◌, replicate, length, Option, Some, None}
+use Rattle.std.proofs.Common.{refl, sym, ap, ◌∙◌, subst, slice_get, slice_set}
 use Rattle.std.proofs.lemmas.Bool.{cases_eq}
 use Rattle.ids.specs.Configurations.{Configuration}
 use Rattle.ids.specs.declared.refusal.Refusal.{Refusal}
@@ -8,8 +9,10 @@ use Rattle.semantics.specs.LegalAnswer.{OfCommand, OfPeer}
 use Rattle.semantics.specs.Engine.{Engine, Client, Cell, Given, Message, Hello, Bundle}
 use Rattle.semantics.specs.WriteSteps.{push, take_item, give, take_for, give_for, handle_all, whole_step}
 use Rattle.semantics.specs.ReadSteps.{cell_at, cell_under, poll_cell, poll, see, learn}
-use Rattle.semantics.specs.PeerSteps.{names_members, answer_hello, refusal_in, unless_refused, submit_all, receive_lines, before_stranger, stranger_fault, receive_message}
-use Rattle.semantics.specs.World.{WorldAct, opened_engine, World, opened, WorldStep, Push, Take, Publish, Give, Whole, Poll, Ask, Learn, SayHello, AnswerHello, Deliver, Lines, CountDropped, engine_step, world_step, world_after}
+use Rattle.semantics.specs.PeerSteps.{names_members, answer_hello, refusal_in, unless_refused, submit_all, receive_lines, before_stranger}
+use Rattle.semantics.specs.PeerSteps.{stranger_fault, receive_message}
+use Rattle.semantics.specs.World.{WorldAct, opened_engine, World, opened, WorldStep, Push, Take, Publish, Give, Whole, Poll, Ask, Learn}
+use Rattle.semantics.specs.World.{SayHello, AnswerHello, Deliver, Lines, CountDropped, engine_step, world_step, world_after}
 use Rattle.semantics.specs.WorldHistory.{IsEngineAfter, cells_of, HasAllSubmitted}
 use Rattle.semantics.proofs.SetElements.{get-set_same, get-set_other, get-set_cases}
 use Rattle.semantics.proofs.KeptSubmissions.{IsComplete, cells_in, complete_still, complete_taken, complete_published}

@@ -15,15 +15,18 @@ among_left (y ∷ xs) ys x (inr m) = inr (among_left xs ys x m)
 
 pub in_reverse : {X : Type 0} (xs : List X) (x : X) → IsAmong x (reverse xs) → IsAmong x xs
 in_reverse [] x m = m
-in_reverse {X = X} (y ∷ xs) x m = elim (among_last (reverse xs) y x (subst (λ (zs : List X). IsAmong x zs) (reverse-append (y ∷ []) xs) m)) [
-  | inl n ↦ inr (in_reverse xs x n)
-  | inr e ↦ inl e
-]
+in_reverse {X = X} (y ∷ xs) x m = elim
+    (among_last (reverse xs) y x (subst (λ (zs : List X). IsAmong x zs) (reverse-append (y ∷ []) xs) m)) [
+      | inl n ↦ inr (in_reverse xs x n)
+      | inr e ↦ inl e
+    ]
 
 pub into_reverse : {X : Type 0} (xs : List X) (x : X) → IsAmong x xs → IsAmong x (reverse xs)
 into_reverse [] x m = absurd m
-into_reverse {X = X} (y ∷ xs) x (inl e) = subst (λ (zs : List X). IsAmong x zs) (sym (reverse-append (y ∷ []) xs)) (among_right (reverse xs) (y ∷ []) x (inl e))
-into_reverse {X = X} (y ∷ xs) x (inr m) = subst (λ (zs : List X). IsAmong x zs) (sym (reverse-append (y ∷ []) xs)) (among_left (reverse xs) (y ∷ []) x (into_reverse xs x m))
+into_reverse {X = X} (y ∷ xs) x (inl e) = subst (λ (zs : List X). IsAmong x zs) (sym (reverse-append (y ∷ []) xs))
+    (among_right (reverse xs) (y ∷ []) x (inl e))
+into_reverse {X = X} (y ∷ xs) x (inr m) = subst (λ (zs : List X). IsAmong x zs) (sym (reverse-append (y ∷ []) xs))
+    (among_left (reverse xs) (y ∷ []) x (into_reverse xs x m))
 
 -- ---- filtered
 
@@ -31,7 +34,8 @@ pub in_filter : {X : Type 0} (test : X → Bool) (xs : List X) (x : X) → IsAmo
 in_filter test [] x m = m
 in_filter test (y ∷ xs) x m = at_test (in_filter test xs x) (test y) m
   where
-    at_test : (IsAmong x (filter test xs) → IsAmong x xs) → (b : Bool) → IsAmong x (cond b (y ∷ filter test xs) (filter test xs)) → IsAmong x (y ∷ xs)
+    at_test : (IsAmong x (filter test xs) → IsAmong x xs) → (b : Bool) → IsAmong x (cond b (y ∷ filter test xs) (filter test xs))
+        → IsAmong x (y ∷ xs)
     at_test rest true (inl e) = inl e
     at_test rest true (inr n) = inr (rest n)
     at_test rest false n = inr (rest n)
@@ -40,7 +44,8 @@ pub into_filter : {X : Type 0} (test : X → Bool) (xs : List X) (x : X) → IsA
 into_filter test [] x m e = absurd m
 into_filter test (y ∷ xs) x m e = at_test (into_filter test xs x) (test y) refl m
   where
-    at_test : (IsAmong x xs → test x ≡ true → IsAmong x (filter test xs)) → (b : Bool) → test y ≡ b → IsAmong x (y ∷ xs) → IsAmong x (cond b (y ∷ filter test xs) (filter test xs))
+    at_test : (IsAmong x xs → test x ≡ true → IsAmong x (filter test xs)) → (b : Bool) → test y ≡ b → IsAmong x (y ∷ xs)
+        → IsAmong x (cond b (y ∷ filter test xs) (filter test xs))
     at_test rest true f (inl i) = inl i
     at_test rest true f (inr n) = inr (rest n e)
     at_test rest false f (inl i) = absurd (true≢false (sym e ∙ ap test i ∙ f))

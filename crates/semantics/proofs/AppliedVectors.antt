@@ -22,11 +22,14 @@ canonical-vector_of (o ∷ H) h = canonical_raise o.id (vector_of H) (h o (inl r
 -- no counter of a legal history is 0
 pub legal_counters : (H : List Operation) → IsLegal H → (o : Operation) → IsAmong o H → o.id.counter ≢ 0
 legal_counters [] l o m = absurd m
-legal_counters (x ∷ H) l o (inl e) = λ z. (let c = l.1.counter in let k : o.id.counter ≡ x.id.counter = ap (λ (y : Operation). y.id.counter) e in omega (arith, c, k, z))
+legal_counters (x ∷ H) l o
+    (inl e) = λ z. (let c = l.1.counter in let k : o.id.counter ≡ x.id.counter = ap (λ (y : Operation). y.id.counter) e in
+    omega (arith, c, k, z))
 legal_counters (x ∷ H) l o (inr m) = legal_counters H l.0 o m
 
 -- the order of the operations says nothing
-pub vector_same : (H O : List Operation) → HaveSameOperations O H → ((o : Operation) → IsAmong o H → o.id.counter ≢ 0) → vector_of H ≡ vector_of O
+pub vector_same : (H O : List Operation) → HaveSameOperations O H → ((o : Operation) → IsAmong o H → o.id.counter ≢ 0)
+    → vector_of H ≡ vector_of O
 vector_same H O same h =
     same_vectors (vector_of H) (vector_of O) (canonical-vector_of H h) (canonical-vector_of O (λ o m. h o ((same o).0 m)))
     (λ p. at-vector_of H p ∙ sym (greatest_same (λ a. a.replica == p) O H same) ∙ sym (at-vector_of O p))
@@ -40,5 +43,6 @@ greatest-vector_of (o ∷ H) = greatest-raise o.id (vector_of H) ∙ ap (max o.i
 pub greatest_within : (H : List Operation) → IsLegal H → greatest_of (λ a. true) H ≤ length H
 greatest_within H l = elim (greatest_cases (λ a. true) H) [
   | inl z ↦ omega arith
-  | inr r ↦ (let c : r.0.id.counter ≤ length H = counter_within H l r.0 r.1 in let e : r.0.id.counter ≡ greatest_of (λ a. true) H = r.3 in omega arith)
+  | inr r ↦ (let c : r.0.id.counter ≤ length H = counter_within H l r.0 r.1 in let e : r.0.id.counter ≡ greatest_of (λ a. true) H = r.3 in
+      omega arith)
 ]

@@ -1,5 +1,6 @@
 -- A settled replica that takes the next operation of a history has it then, or its history is full and the operation waits.
-use Rattle.std.proofs.Common.{◌≡◌, inl, inr, ℕ, ◌≤◌, true, false, nat_lt, List, ◌∷◌, length, Result, Ok, Err, refl, sym, ap, ◌∙◌, subst, cond}
+use Rattle.std.proofs.Common.{◌≡◌, inl, inr, ℕ, ◌≤◌, true, false, nat_lt, List, ◌∷◌, length, Result, Ok, Err, refl, sym, ap, ◌∙◌, subst}
+use Rattle.std.proofs.Common.{cond}
 use Rattle.std.proofs.lemmas.Bool.{cases_Bool, le-ltb}
 use Rattle.ids.specs.declared.refusal.Refusal.{Refusal}
 use Rattle.semantics.specs.Ids.{OpId}
@@ -29,7 +30,9 @@ pub ids_stay : (G F : List Entry) → BeginsWith G F → (i : OpId) → has_id (
 ids_stay G F b i t = (let x = among_from (applied F) i t in has_id-among (applied G) x.0 i (applied_begins G F b x.0 x.1) x.2)
 
 pub members_stay : (r : Replica) (x : Submitted) → IsRunning r → (after_item r x).members ≡ r.members
-members_stay r x h = (let other = at_request x.request in elim (nat_lt (length r.entries) x.floor) as (λ b. (cond b r (after_request r x x.request)).members ≡ r.members) [ true ↦ refl | false ↦ other ])
+members_stay r x h = (let other = at_request x.request in
+    elim (nat_lt (length r.entries) x.floor) as
+    (λ b. (cond b r (after_request r x x.request)).members ≡ r.members) [ true ↦ refl | false ↦ other ])
   where
     at_made : (c : Command) (m : Result Operation Refusal) → (after_made r x c m).members ≡ r.members
     at_made c (Err why) = refl

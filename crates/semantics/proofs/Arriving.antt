@@ -1,5 +1,6 @@
 -- An operation whose dependencies are there is applied by its delivery.
-use Rattle.std.proofs.Common.{◌≡◌, ◌⊎◌, inl, inr, ℕ, ◌≤◌, true, false, ◌||◌, ◌==◌, nat_lt, List, [], ◌∷◌, None, refl, sym, ap, ◌∙◌, subst, true≢false, arith, length}
+use Rattle.std.proofs.Common.{◌≡◌, ◌⊎◌, inl, inr, ℕ, ◌≤◌, true, false, ◌||◌, ◌==◌, nat_lt, List, [], ◌∷◌, None, refl, sym, ap, ◌∙◌, subst}
+use Rattle.std.proofs.Common.{true≢false, arith, length}
 use Rattle.std.proofs.lemmas.Bool.{and_parts, or_cases, or_from, or_left, or_right, ltb-false, le-ltb, false_from_ne_true, eqb-true}
 use Rattle.semantics.specs.Ids.{OpId, is_same_id}
 use Rattle.semantics.specs.Operations.{Operation}
@@ -48,9 +49,12 @@ waiting_under (y ∷ W) s (inr m) = or_right (is_same_id y.id s.id) (is_waiting 
 abbrev pub HasCome : Replica → Stamped → Type 0
 HasCome r s = ((is_full r.entries ≡ true) × (is_waiting r.waiting s.id ≡ true)) ⊎ (has_id (operations r) s.id ≡ true)
 
-module _ (K : List Operation) (lk : IsLegal K) (p : ℕ) (r : Replica) (w : IsReplicaOf K p r) (end : IsDrained r) (le : length r.waiting ≤ 4096)
-    (s : Stamped) (F : List Stamped) (l : IsLegalStamped (s ∷ F)) (wf : AreWithin (operations_of (s ∷ F)) K) (known : is_of_members r.members s ≡ true)
-    (there : (a : OpId) → has_id (operations_of F) a ≡ true → has_id (operations r) a ≡ true) (few : is_full r.entries ≡ false) (new : has_id (operations r) s.id ≡ false) where
+module _ (K : List Operation) (lk : IsLegal K) (p : ℕ) (r : Replica) (w : IsReplicaOf K p r) (end : IsDrained r)
+    (le : length r.waiting ≤ 4096)
+    (s : Stamped) (F : List Stamped) (l : IsLegalStamped (s ∷ F)) (wf : AreWithin (operations_of (s ∷ F)) K)
+    (known : is_of_members r.members s ≡ true)
+    (there : (a : OpId) → has_id (operations_of F) a ≡ true → has_id (operations r) a ≡ true) (few : is_full r.entries ≡ false)
+    (new : has_id (operations r) s.id ≡ false) where
   abbrev o : Operation
   o = operation_after (operations_of F) s
 
@@ -81,9 +85,11 @@ module _ (K : List Operation) (lk : IsLegal K) (p : ℕ) (r : Replica) (w : IsRe
       let room : length r.entries ≤ 1048575 = ltb-false 1048575 (length r.entries) few in
       let alone : alone_fault r.members s ≡ None = no_fault_alone r.members (operations r) s ld (omega (arith, n, room)) may known in
       let other : (s.id.replica == r.own) ≡ false =
-      false_from_ne_true (s.id.replica == r.own) (λ t. true≢false (sym (w.made o (wf o means.among) (eqb-true s.id.replica r.own t ∙ w.own)) ∙ new)) in
+      false_from_ne_true (s.id.replica == r.own)
+      (λ t. true≢false (sym (w.made o (wf o means.among) (eqb-true s.id.replica r.own t ∙ w.own)) ∙ new)) in
       ap (answer_after r s) alone
-      ∙ kept_by_tests (has_id (operations r) s.id || is_waiting r.waiting s.id) (s.id.replica == r.own) (is_full r.entries) (is_ready (operations r) s) (nat_lt 4096 (length r.waiting)) (fault_of (stamped_of r.entries) s) _
+      ∙ kept_by_tests (has_id (operations r) s.id || is_waiting r.waiting s.id) (s.id.replica == r.own) (is_full r.entries)
+      (is_ready (operations r) s) (nat_lt 4096 (length r.waiting)) (fault_of (stamped_of r.entries) s) _
       (or_from (has_id (operations r) s.id) (is_waiting r.waiting s.id) new none_under_id) other few
       (ready-from (operations r) s (ready_where_follows may)) (le-ltb 4096 (length r.waiting) (omega (arith, le)))
       (no_fault_where_follows (stamped_of r.entries) s (entries_legal r.own r.entries w.running.history) may)
@@ -93,18 +99,25 @@ module _ (K : List Operation) (lk : IsLegal K) (p : ℕ) (r : Replica) (w : IsRe
       let q : Replica = record r { waiting = put_waiting s r.waiting } in
       let same : receive r s ≡ drain q = ap (λ a. drain (kept_by r s a)) is_kept in
       let run : IsRunning q = subst IsRunning (ap (kept_by r s) is_kept) (delivered r s w.running) in
-      let of : (x : Stamped) → IsAmong x q.waiting → IsOfWorld K x = λ x m. elim (in_put s r.waiting x m)
-      [ inl e ↦ subst (IsOfWorld K) (sym e) (record { history = s ∷ F; legal = l; within = wf; there = inl refl }) | inr n ↦ w.waits x n ] in
+      let of : (x : Stamped) → IsAmong x q.waiting → IsOfWorld K x = λ x m. elim (in_put s r.waiting x m) [
+        | inl e ↦ subst (IsOfWorld K) (sym e)
+            (record { history = s ∷ F; legal = l; within = wf; there = inl refl })
+        | inr n ↦ w.waits x n
+      ] in
       let stay = stay_for K lk (length q.waiting) q run w.within of s (inl (in_put_itself s r.waiting)) in
       let done = drained q run in
       let keeps = keeps_for K lk (length q.waiting) q run w.within of in
       let more : (a : OpId) → has_id (operations r) a ≡ true → has_id (operations (drain q)) a ≡ true = λ a t.
-      subst (λ (G : List Entry). has_id (operations_of (stamped_of G)) a ≡ true) (sym done.1.entries) (has_more done.1.appended r.entries a t) in
+      subst (λ (G : List Entry). has_id (operations_of (stamped_of G)) a ≡ true) (sym done.1.entries)
+      (has_more done.1.appended r.entries a t) in
       subst (λ (d : Replica). HasCome d s) (sym same)
       (elim stay [
         | inr t ↦ inr t
         | inl m ↦ elim done.2 [
           | inl f ↦ inl (f, waiting_under (drain q).waiting s m)
-          | inr f ↦ absurd (true≢false (sym (ready_where_there K lk (operations (drain q)) (operations_of (s ∷ F)) (legal_entries (drain q) done.0) keeps.within wf s o means (λ a d. more a (before a d))) ∙ f s m))
+          | inr f ↦ absurd
+              (true≢false (sym (ready_where_there K lk (operations (drain q)) (operations_of (s ∷ F))
+              (legal_entries (drain q) done.0) keeps.within wf s o means (λ a d. more a (before a d)))
+              ∙ f s m))
         ]
       ])

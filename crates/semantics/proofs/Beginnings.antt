@@ -1,10 +1,12 @@
 -- A history's first entries, the beginnings of a history, and what stays as a history grows from a beginning.
-use Rattle.std.proofs.Common.{◌≡◌, ℕ, ◌+◌, ◌<◌, ◌≤◌, Bool, true, false, cond, nat_lt, List, [], ◌∷◌, ◌++◌, length, Some, refl, sym, ap, ◌∙◌, subst, arith}
+use Rattle.std.proofs.Common.{◌≡◌, ℕ, ◌+◌, ◌<◌, ◌≤◌, Bool, true, false, cond, nat_lt, List, [], ◌∷◌, ◌++◌, length, Some, refl, sym, ap, ◌∙◌}
+use Rattle.std.proofs.Common.{subst, arith}
 use Rattle.std.proofs.lemmas.Bool.{ltb-true, ltb-false}
 use Rattle.std.proofs.lemmas.List.{length-append}
 use Rattle.semantics.specs.Making.{Command}
 use Rattle.semantics.specs.Entries.{Entry, Own, Peer, entry_at, first_entries, IsAbove, IsEntryHistory}
-use Rattle.semantics.specs.LegalAnswer.{Request, OfCommand, OfPeer, Submitted, Reply, Made, NotMade, KeptAt, KnownAt, IsLegalAnswer, IsLegalReceipt, IsLegalReply}
+use Rattle.semantics.specs.LegalAnswer.{Request, OfCommand, OfPeer, Submitted, Reply, Made, NotMade, KeptAt, KnownAt, IsLegalAnswer}
+use Rattle.semantics.specs.LegalAnswer.{IsLegalReceipt, IsLegalReply}
 use Rattle.semantics.specs.WorldHistory.{BeginsWith, IsNotBelow}
 use Rattle.semantics.proofs.Replies.{first_stay, entry_stays, before, made_stays, refused_stays}
 
@@ -19,7 +21,9 @@ pub begins_first : (m : ℕ) (G : List Entry) → BeginsWith G (first_entries m 
 begins_first m [] = ([], refl)
 begins_first m (e ∷ G) =
     let r = begins_first m G in
-    elim (nat_lt (length G) m) as (λ b. BeginsWith (e ∷ G) (cond b (e ∷ G) (first_entries m G))) [ true ↦ ([], refl) | false ↦ (e ∷ r.0, ap (λ (F : List Entry). e ∷ F) r.1) ]
+    elim (nat_lt (length G) m) as
+    (λ b. BeginsWith (e ∷ G)
+    (cond b (e ∷ G) (first_entries m G))) [ true ↦ ([], refl) | false ↦ (e ∷ r.0, ap (λ (F : List Entry). e ∷ F) r.1) ]
 
 pub no_shorter : (G F : List Entry) → BeginsWith G F → length F ≤ length G
 no_shorter G F b = let e : length G ≡ length b.0 + length F = ap (length {A = Entry}) b.1 ∙ length-append b.0 F in omega arith
@@ -28,7 +32,8 @@ pub length-first : (m : ℕ) (G : List Entry) → m ≤ length G → length (fir
 length-first m [] h = omega arith
 length-first m (e ∷ G) h = at_test (λ l. length-first m G l) (nat_lt (length G) m) refl
   where
-    at_test : (m ≤ length G → length (first_entries m G) ≡ m) → (b : Bool) → nat_lt (length G) m ≡ b → length (cond b (e ∷ G) (first_entries m G)) ≡ m
+    at_test : (m ≤ length G → length (first_entries m G) ≡ m) → (b : Bool) → nat_lt (length G) m ≡ b
+        → length (cond b (e ∷ G) (first_entries m G)) ≡ m
     at_test rest true t = (let l : length G < m = ltb-true (length G) m t in omega arith)
     at_test rest false t = rest (ltb-false (length G) m t)
 
@@ -36,7 +41,8 @@ pub first_begins_first : (m n : ℕ) (G : List Entry) → m ≤ n → BeginsWith
 first_begins_first m n [] h = ([], refl)
 first_begins_first m n (e ∷ G) h = at_test (first_begins_first m n G h) (nat_lt (length G) n) refl
   where
-    at_test : BeginsWith (first_entries n G) (first_entries m G) → (b : Bool) → nat_lt (length G) n ≡ b → BeginsWith (cond b (e ∷ G) (first_entries n G)) (first_entries m (e ∷ G))
+    at_test : BeginsWith (first_entries n G) (first_entries m G) → (b : Bool) → nat_lt (length G) n ≡ b
+        → BeginsWith (cond b (e ∷ G) (first_entries n G)) (first_entries m (e ∷ G))
     at_test rest true t = begins_first m (e ∷ G)
     at_test rest false t =
         let l : n ≤ length G = ltb-false (length G) n t in
@@ -63,7 +69,8 @@ entry_in_longer n (f ∷ more) F e h = entry_stays n (more ++ F) f e (entry_in_l
 abbrev pub IsGoodReply : ℕ → List Entry → Submitted → Reply → Type 0
 IsGoodReply p G x r = IsLegalReply p G x r × IsNotBelow x.floor r
 
-answer_stays : (p : ℕ) (G : List Entry) (e : Entry) (x : Submitted) (c : Command) (r : Reply) → IsLegalAnswer p G x c r → IsLegalAnswer p (e ∷ G) x c r
+answer_stays : (p : ℕ) (G : List Entry) (e : Entry) (x : Submitted) (c : Command) (r : Reply) → IsLegalAnswer p G x c r
+    → IsLegalAnswer p (e ∷ G) x c r
 answer_stays p G e x c (Made a n) h = made_stays p G e x c a n h
 answer_stays p G e x c (NotMade why m) h = refused_stays p G e x c why m h
 answer_stays p G e x c (KeptAt m) h = h

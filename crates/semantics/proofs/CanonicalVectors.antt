@@ -7,13 +7,16 @@ use Rattle.semantics.specs.Vectors.{Vector, at, AreAbove, IsCanonical}
 above_absent : (p : ℕ) (v : Vector) → AreAbove p v → (q : ℕ) → q ≤ p → at v q ≡ 0
 above_absent p [] h q le = refl
 above_absent p (a ∷ v) h q le =
-    cond-false (a.replica == q) _ _ (ne_eqb a.replica q (λ e. let k : p < a.replica = h.0 in absurd (omega arith))) ∙ above_absent p v h.1 q le
+    cond-false (a.replica == q) _ _ (ne_eqb a.replica q (λ e. let k : p < a.replica = h.0 in absurd (omega arith)))
+    ∙ above_absent p v h.1 q le
 
 pub at_first : (a : OpId) (v : Vector) → AreAbove a.replica v → at (a ∷ v) a.replica ≡ a.counter
-at_first a v h = cond-true (a.replica == a.replica) _ _ (eq-eqb a.replica a.replica refl) ∙ ap (max a.counter) (above_absent a.replica v h a.replica (omega arith)) ∙ (let k : max a.counter 0 ≡ a.counter = grind arith in k)
+at_first a v h = cond-true (a.replica == a.replica) _ _ (eq-eqb a.replica a.replica refl)
+    ∙ ap (max a.counter) (above_absent a.replica v h a.replica (omega arith)) ∙ (let k : max a.counter 0 ≡ a.counter = grind arith in k)
 
 at_below : (a : OpId) (v : Vector) (q : ℕ) → q < a.replica → AreAbove a.replica v → at (a ∷ v) q ≡ 0
-at_below a v q le h = cond-false (a.replica == q) _ _ (ne_eqb a.replica q (λ e. absurd (omega arith))) ∙ above_absent a.replica v h q (omega arith)
+at_below a v q le h = cond-false (a.replica == q) _ _ (ne_eqb a.replica q (λ e. absurd (omega arith)))
+    ∙ above_absent a.replica v h q (omega arith)
 
 at_later : (a : OpId) (v : Vector) (q : ℕ) → a.replica < q → at (a ∷ v) q ≡ at v q
 at_later a v q lt = cond-false (a.replica == q) _ _ (ne_eqb a.replica q (λ e. absurd (omega arith)))
@@ -35,7 +38,8 @@ same_vectors (a ∷ u) (b ∷ v) cu cv h = at_order (order_cases a.replica b.rep
           above_absent a.replica u cu.1 q le ∙ sym (above_absent b.replica v cv.1 q (omega arith)))
     ]
 
-    at_order : (a.replica < b.replica) ⊎ ((a.replica ≡ b.replica) ⊎ (b.replica < a.replica)) → (((q : ℕ) → at u q ≡ at v q) → u ≡ v) → (a ∷ u) ≡ (b ∷ v)
+    at_order : (a.replica < b.replica) ⊎ ((a.replica ≡ b.replica) ⊎ (b.replica < a.replica)) → (((q : ℕ) → at u q ≡ at v q) → u ≡ v)
+        → (a ∷ u) ≡ (b ∷ v)
     at_order (inl k) f = absurd (cu.0 (sym (at_first a u cu.1) ∙ h a.replica ∙ at_below b v a.replica k cv.1))
     at_order (inr (inr k)) f = absurd (cv.0 (sym (at_first b v cv.1) ∙ sym (h b.replica) ∙ at_below a u b.replica k cu.1))
     at_order (inr (inl e)) f =

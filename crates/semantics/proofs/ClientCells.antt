@@ -1,5 +1,6 @@
 -- The cells of a client: what stands under a serial after one more cell is there, and after an answer is set.
-use Rattle.std.proofs.Common.{◌≡◌, ◌⊎◌, inl, inr, ℕ, zero, suc, cond, ◌-◌, ◌<◌, ◌≤◌, List, [], ◌∷◌, ◌++◌, length, Some, None, refl, sym, ap, ◌∙◌, arith, slice_get, slice_set}
+use Rattle.std.proofs.Common.{◌≡◌, ◌⊎◌, inl, inr, ℕ, zero, suc, cond, ◌-◌, ◌<◌, ◌≤◌, List, [], ◌∷◌, ◌++◌, length, Some, None, refl, sym, ap}
+use Rattle.std.proofs.Common.{◌∙◌, arith, slice_get, slice_set}
 use Rattle.std.proofs.lemmas.Bool.{ne_eqb}
 use Rattle.std.proofs.lemmas.List.{length-set}
 use Rattle.std.proofs.lemmas.Option.{slice_get_within}
@@ -23,7 +24,8 @@ cell_within cells (suc n) cell h =
 
 -- ---- one more cell
 
-pub cell_kept : (cells more : List Cell) (serial : ℕ) (cell : Cell) → cell_at cells serial ≡ Some cell → cell_at (cells ++ more) serial ≡ Some cell
+pub cell_kept : (cells more : List Cell) (serial : ℕ) (cell : Cell) → cell_at cells serial ≡ Some cell
+    → cell_at (cells ++ more) serial ≡ Some cell
 cell_kept cells more zero cell h = h
 cell_kept cells more (suc n) cell h = cell_at-suc (cells ++ more) n ∙ get-append cells more n cell (sym (cell_at-suc cells n) ∙ h)
 
@@ -58,7 +60,8 @@ answered_there k (suc n) g cell h =
     ∙ cell_at-suc (slice_set k.cells n (record cell { answer = Some g })) n
     ∙ get-set_same k.cells n cell (record cell { answer = Some g }) there
 
-pub answered_elsewhere : (k : Client) (serial other : ℕ) (g : Given) (cell : Cell) → cell_at k.cells serial ≡ Some cell → (other ≡ serial → ⊥)
+pub answered_elsewhere : (k : Client) (serial other : ℕ) (g : Given) (cell : Cell) → cell_at k.cells serial ≡ Some cell
+    → (other ≡ serial → ⊥)
     → cell_at (with_answer k serial g).cells other ≡ cell_at k.cells other
 answered_elsewhere k zero other g cell h n = cc
 answered_elsewhere k (suc n) zero g cell h e = refl
@@ -68,6 +71,8 @@ answered_elsewhere k (suc n) (suc m) g cell h e =
     ∙ get-set_other k.cells n m (record cell { answer = Some g }) (λ q. e (ap suc q))
     ∙ sym (cell_at-suc k.cells m)
 
-pub length-answered : (k : Client) (serial : ℕ) (g : Given) (cell : Cell) → cell_at k.cells serial ≡ Some cell → length (with_answer k serial g).cells ≡ length k.cells
+pub length-answered : (k : Client) (serial : ℕ) (g : Given) (cell : Cell) → cell_at k.cells serial ≡ Some cell
+    → length (with_answer k serial g).cells ≡ length k.cells
 length-answered k zero g cell h = cc
-length-answered k (suc n) g cell h = ap (length {A = Cell}) (answered_cells k n g cell h) ∙ length-set k.cells n (record cell { answer = Some g })
+length-answered k (suc n) g cell h = ap (length {A = Cell}) (answered_cells k n g cell h)
+    ∙ length-set k.cells n (record cell { answer = Some g })

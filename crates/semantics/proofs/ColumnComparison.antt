@@ -1,5 +1,6 @@
 -- To compare columns is to compare vectors.
-use Rattle.std.proofs.Common.{◌≡◌, ℕ, ◌≤◌, Bool, true, false, cond, ◌==◌, List, [], ◌∷◌, refl, sym, ap, ◌∙◌, true≢false, arith, length, nat_le}
+use Rattle.std.proofs.Common.{◌≡◌, ℕ, ◌≤◌, Bool, true, false, cond, ◌==◌, List, [], ◌∷◌, refl, sym, ap, ◌∙◌, true≢false, arith, length}
+use Rattle.std.proofs.Common.{nat_le}
 use Rattle.std.proofs.lemmas.Bool.{or_left, or_right, false_from_ne_true, eqb-true, eq-eqb, cond-false}
 use Rattle.semantics.specs.Operations.{Operation}
 use Rattle.semantics.specs.NamedIds.{greatest_counter}
@@ -36,7 +37,8 @@ columns-at f (q ∷ ps) (c ∷ cs) (d ∷ ds) h p =
     chosen true h k = h
     chosen false h k = k
 
-columns-from : (ps cs ds : List ℕ) → AreDistinct ps → length cs ≡ length ps → length ds ≡ length ps → ((p : ℕ) → component ps cs p ≤ component ps ds p) → all_at_most cs ds ≡ true
+columns-from : (ps cs ds : List ℕ) → AreDistinct ps → length cs ≡ length ps → length ds ≡ length ps
+    → ((p : ℕ) → component ps cs p ≤ component ps ds p) → all_at_most cs ds ≡ true
 columns-from [] [] ds a l m h = refl
 columns-from [] (c ∷ cs) ds a l m h = absurd (omega arith)
 columns-from (q ∷ ps) [] ds a l m h = refl
@@ -49,18 +51,25 @@ columns-from (q ∷ ps) (c ∷ cs) (d ∷ ds) a l m h =
     at_first true e k = k
     at_first false e k = absurd (true≢false (sym e))
 
-    at_rest : (p : ℕ) (b : Bool) → (q == p) ≡ b → cond b c (component ps cs p) ≤ cond b d (component ps ds p) → component ps cs p ≤ component ps ds p
+    at_rest : (p : ℕ) (b : Bool) → (q == p) ≡ b → cond b c (component ps cs p) ≤ cond b d (component ps ds p)
+        → component ps cs p ≤ component ps ds p
     at_rest p true e k = let z = component_absent ps cs p (λ t. a.0 (ap (is_member ps) (eqb-true q p e) ∙ t)) in omega (arith, z)
     at_rest p false e k = k
 
 -- comparing columns of the table's width is comparing vectors
-pub at_most-by_table : (ps cs ds : List ℕ) → AreDistinct ps → length cs ≡ length ps → length ds ≡ length ps → is_at_most (by_table ps cs) (by_table ps ds) ≡ all_at_most cs ds
+pub at_most-by_table : (ps cs ds : List ℕ) → AreDistinct ps → length cs ≡ length ps → length ds ≡ length ps
+    → is_at_most (by_table ps cs) (by_table ps ds) ≡ all_at_most cs ds
 at_most-by_table ps cs ds a l m = same_bool _ _
-    (λ h. columns-from ps cs ds a l m (λ p. (let k = at_most-at (by_table ps cs) (by_table ps ds) h p in let u = at-by_table ps cs a p in let v = at-by_table ps ds a p in omega (arith, k, u, v))))
-    (λ h. at_most-from (by_table ps cs) (by_table ps ds) (λ p. (let k = columns-at (λ n. n) ps cs ds h p in let u = at-by_table ps cs a p in let v = at-by_table ps ds a p in omega (arith, k, u, v))))
+    (λ h. columns-from ps cs ds a l m
+    (λ p. (let k = at_most-at (by_table ps cs) (by_table ps ds) h p in let u = at-by_table ps cs a p in let v = at-by_table ps ds a p in
+    omega (arith, k, u, v))))
+    (λ h. at_most-from (by_table ps cs) (by_table ps ds)
+    (λ p. (let k = columns-at (λ n. n) ps cs ds h p in let u = at-by_table ps cs a p in let v = at-by_table ps ds a p in
+    omega (arith, k, u, v))))
 
 -- ready is a comparison with the column of all that was applied
-pub ready-by_table : (G : List Operation) (ps cs ds : List ℕ) (s : Stamped) → s.vector ≡ by_table ps cs → AreDistinct ps → length cs ≡ length ps → length ds ≡ length ps → ((p : ℕ) → component ps ds p ≡ greatest_counter G p)
+pub ready-by_table : (G : List Operation) (ps cs ds : List ℕ) (s : Stamped) → s.vector ≡ by_table ps cs → AreDistinct ps
+    → length cs ≡ length ps → length ds ≡ length ps → ((p : ℕ) → component ps ds p ≡ greatest_counter G p)
     → is_ready G s ≡ all_at_most cs ds
 ready-by_table G ps cs ds s e a l m all = same_bool _ _
     (λ h. columns-from ps cs ds a l m (λ p. (let k = ready-at G s h p in let u = at-stamp p in let v = all p in omega (arith, k, u, v))))

@@ -1,5 +1,6 @@
 -- The rest of a history that comes in requests, one operation after the other.
-use Rattle.std.proofs.Common.{◌≡◌, inl, inr, ℕ, suc, ◌≤◌, Bool, true, false, not, cond, List, [], ◌∷◌, ◌++◌, map, reverse, length, refl, sym, ap, ◌∙◌, subst, append_assoc, true≢false, arith}
+use Rattle.std.proofs.Common.{◌≡◌, inl, inr, ℕ, suc, ◌≤◌, Bool, true, false, not, cond, List, [], ◌∷◌, ◌++◌, map, reverse, length, refl}
+use Rattle.std.proofs.Common.{sym, ap, ◌∙◌, subst, append_assoc, true≢false, arith}
 use Rattle.std.proofs.lemmas.List.{reverse-append, map-append}
 use Rattle.semantics.specs.Ids.{OpId}
 use Rattle.semantics.specs.Operations.{Operation}
@@ -13,11 +14,14 @@ use Rattle.semantics.specs.Replica.{Replica, operations}
 use Rattle.semantics.specs.OneWorld.{AreWithin}
 use Rattle.semantics.proofs.CompleteExchange.{one_more}
 
--- The history F goes on from a beginning, and these requests are for the rest, the oldest first: each operation is the next request and of members, or the base had it.
+-- The history F goes on from a beginning, and these requests are for the rest, the oldest first: each operation is the next
+-- request and of members, or the base had it.
 pub data Comes (ms : List ℕ) (base : List Operation) (F : List Stamped) : List Stamped → List Request → Type 0 where
   End : Comes ms base F F []
-  Had : (s : Stamped) (there : List Stamped) (qs : List Request) → has_id base s.id ≡ true → Comes ms base F (s ∷ there) qs → Comes ms base F there qs
-  Next : (s : Stamped) (there : List Stamped) (qs : List Request) → is_of_members ms s ≡ true → Comes ms base F (s ∷ there) qs → Comes ms base F there (OfPeer s ∷ qs)
+  Had : (s : Stamped) (there : List Stamped) (qs : List Request) → has_id base s.id ≡ true → Comes ms base F (s ∷ there) qs
+      → Comes ms base F there qs
+  Next : (s : Stamped) (there : List Stamped) (qs : List Request) → is_of_members ms s ≡ true → Comes ms base F (s ∷ there) qs
+      → Comes ms base F there (OfPeer s ∷ qs)
 
 -- r has all operations of the history
 abbrev pub HasThose : Replica → List Stamped → Type 0
@@ -47,19 +51,24 @@ pub record HasNext (ms : List ℕ) (base : List Operation) (F : List Stamped) (P
 
 module _ (ms : List ℕ) (base : List Operation) (F : List Stamped) where
   -- what a vector doesn't cover comes, where the base has what it covers
-  pub comes_from : (v : Vector) (more there : List Stamped) (qs : List Request) → ((s : Stamped) → IsAmong s more → covers v s.id ≡ true → has_id base s.id ≡ true)
-      → ((s : Stamped) → IsAmong s more → covers v s.id ≡ false → is_of_members ms s ≡ true) → Comes ms base F (more ++ there) qs → Comes ms base F there (map OfPeer (reverse (missing v more)) ++ qs)
+  pub comes_from : (v : Vector) (more there : List Stamped) (qs : List Request)
+      → ((s : Stamped) → IsAmong s more → covers v s.id ≡ true → has_id base s.id ≡ true)
+      → ((s : Stamped) → IsAmong s more → covers v s.id ≡ false → is_of_members ms s ≡ true) → Comes ms base F (more ++ there) qs
+      → Comes ms base F there (map OfPeer (reverse (missing v more)) ++ qs)
   comes_from v [] there qs had known h = h
   comes_from v (s ∷ more) there qs had known h = at_test (comes_from v more there) (covers v s.id) refl
     where
       as_first : (M : List Stamped) → map OfPeer (reverse M) ++ OfPeer s ∷ qs ≡ map OfPeer (reverse (s ∷ M)) ++ qs
       as_first M =
           sym (append_assoc (map OfPeer (reverse M)) (OfPeer s ∷ []) qs)
-          ∙ ap (λ (rs : List Request). rs ++ qs) (sym (map-append OfPeer (reverse M) (s ∷ [])) ∙ ap (map OfPeer) (sym (reverse-append (s ∷ []) M)))
+          ∙ ap (λ (rs : List Request). rs ++ qs)
+          (sym (map-append OfPeer (reverse M) (s ∷ [])) ∙ ap (map OfPeer) (sym (reverse-append (s ∷ []) M)))
 
-      at_test : ((rs : List Request) → ((x : Stamped) → IsAmong x more → covers v x.id ≡ true → has_id base x.id ≡ true) → ((x : Stamped) → IsAmong x more → covers v x.id ≡ false → is_of_members ms x ≡ true)
+      at_test : ((rs : List Request) → ((x : Stamped) → IsAmong x more → covers v x.id ≡ true → has_id base x.id ≡ true)
+          → ((x : Stamped) → IsAmong x more → covers v x.id ≡ false → is_of_members ms x ≡ true)
           → Comes ms base F (more ++ there) rs → Comes ms base F there (map OfPeer (reverse (missing v more)) ++ rs))
-          → (b : Bool) → covers v s.id ≡ b → Comes ms base F there (map OfPeer (reverse (cond (not b) (s ∷ missing v more) (missing v more))) ++ qs)
+          → (b : Bool) → covers v s.id ≡ b
+          → Comes ms base F there (map OfPeer (reverse (cond (not b) (s ∷ missing v more) (missing v more))) ++ qs)
       at_test rest true e = rest qs (λ x m. had x (inr m)) (λ x m. known x (inr m)) (Had s (more ++ there) qs (had s (inl refl) e) h)
       at_test rest false e = subst (Comes ms base F there) (as_first (missing v more))
           (rest (OfPeer s ∷ qs) (λ x m. had x (inr m)) (λ x m. known x (inr m)) (Next s (more ++ there) qs (known s (inl refl) e) h))
@@ -69,7 +78,8 @@ module _ (ms : List ℕ) (base : List Operation) (F : List Stamped) where
   beginning_legal there qs (Had s _ _ e h) l = (beginning_legal (s ∷ there) qs h l).0
   beginning_legal there _ (Next s _ qs k h) l = (beginning_legal (s ∷ there) qs h l).0
 
-  pub beginning_within : (K : List Operation) (there : List Stamped) (qs : List Request) → Comes ms base F there qs → AreWithin (operations_of F) K → AreWithin (operations_of there) K
+  pub beginning_within : (K : List Operation) (there : List Stamped) (qs : List Request) → Comes ms base F there qs
+      → AreWithin (operations_of F) K → AreWithin (operations_of there) K
   beginning_within K _ _ End w = w
   beginning_within K there qs (Had s _ _ e h) w = λ x m. beginning_within K (s ∷ there) qs h w x (inr m)
   beginning_within K there _ (Next s _ qs k h) w = λ x m. beginning_within K (s ∷ there) qs h w x (inr m)

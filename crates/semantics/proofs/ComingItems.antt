@@ -1,6 +1,7 @@
 -- While the items of a receipt are in the queue, the rest of a history is on its way, whatever else is handled between them,
 -- and however full the receiver's history is.
-use Rattle.std.proofs.Common.{◌≡◌, ◌⊎◌, inl, inr, ℕ, suc, ◌<◌, ◌≤◌, Bool, true, false, cond, ◌&&◌, ◌==◌, nat_le, nat_lt, List, [], ◌∷◌, ◌++◌, length, Option, Some, None, refl, sym, ap, ◌∙◌, subst, arith, true≢false, slice_get}
+use Rattle.std.proofs.Common.{◌≡◌, ◌⊎◌, inl, inr, ℕ, suc, ◌<◌, ◌≤◌, Bool, true, false, cond, ◌&&◌, ◌==◌, nat_le, nat_lt, List, [], ◌∷◌}
+use Rattle.std.proofs.Common.{◌++◌, length, Option, Some, None, refl, sym, ap, ◌∙◌, subst, arith, true≢false, slice_get}
 use Rattle.std.proofs.lemmas.Bool.{cases_Bool, and_parts, false_from_ne_true, eqb-true, leb-true, ltb-true}
 use Rattle.std.proofs.lemmas.Option.{none-some}
 use Rattle.semantics.specs.Ids.{OpId}
@@ -27,7 +28,8 @@ use Rattle.semantics.proofs.GrownWorlds.{full_stays}
 use Rattle.semantics.proofs.FullHistories.{waits_full, item_full}
 use Rattle.semantics.proofs.EngineMoves.{IsStill, HasSubmitted, HasTaken}
 use Rattle.semantics.proofs.TrackedEngines.{IsEngineOf, IsTracked}
-use Rattle.semantics.proofs.ComingHistory.{Comes, AllAre, one_more_is, HasNext, next_comes, those_from, beginning_legal, beginning_within, beginning_shorter}
+use Rattle.semantics.proofs.ComingHistory.{Comes, AllAre, one_more_is, HasNext, next_comes, those_from, beginning_legal, beginning_within}
+use Rattle.semantics.proofs.ComingHistory.{beginning_shorter}
 use Rattle.semantics.proofs.Arriving.{HasCome}
 use Rattle.semantics.proofs.ArrivedItems.{ids_stay, members_stay, item_arrived}
 
@@ -157,16 +159,19 @@ module _ (c start end : ℕ) (ms : List ℕ) (base : List Operation) (F : List S
 
   coming_submitted : (K : List Operation) (E G : Engine) (x : Submitted) → HasSubmitted E G x → IsComing K E → IsComing K G
   coming_submitted K E G x l h =
-      let queue : awaited c start end E.queue ≡ awaited c start end G.queue = sym (ap (awaited c start end) l.queue ∙ awaited_last E.queue x (not_of_receipt K E G x l h)) in
+      let queue : awaited c start end E.queue
+      ≡ awaited c start end G.queue = sym (ap (awaited c start end) l.queue ∙ awaited_last E.queue x (not_of_receipt K E G x l h)) in
       coming_same K E G l.later.grown l.replica h (subst (Comes ms base F h.there) queue h.comes)
 
   -- ---- one item less
 
-  module _ (K : List Operation) (E G : Engine) (x : Submitted) (lk : IsLegal K) (sound : IsSound E) (is : IsEngineOf K E) (l : HasTaken E G x) (h : IsComing K E) where
+  module _ (K : List Operation) (E G : Engine) (x : Submitted) (lk : IsLegal K) (sound : IsSound E) (is : IsEngineOf K E)
+      (l : HasTaken E G x) (h : IsComing K E) where
     members : G.replica.members ≡ E.replica.members
     members = ap (λ (r : Replica). r.members) l.replica ∙ members_stay E.replica x sound.running
 
-    queue : awaited c start end E.queue ≡ cond (is_of_receipt c start end x) (x.request ∷ awaited c start end G.queue) (awaited c start end G.queue)
+    queue : awaited c start end E.queue
+        ≡ cond (is_of_receipt c start end x) (x.request ∷ awaited c start end G.queue) (awaited c start end G.queue)
     queue = ap (awaited c start end) l.oldest
 
     came_still : (s : Stamped) → HasArrived c start end E s → HasArrived c start end G s
@@ -174,7 +179,8 @@ module _ (c start end : ℕ) (ms : List ℕ) (base : List Operation) (F : List S
 
     other_taken : is_of_receipt c start end x ≡ false → IsComing K G
     other_taken e =
-        let same : awaited c start end E.queue ≡ awaited c start end G.queue = queue ∙ ap (λ b. cond b (x.request ∷ awaited c start end G.queue) (awaited c start end G.queue)) e in
+        let same : awaited c start end E.queue ≡ awaited c start end G.queue = queue
+        ∙ ap (λ b. cond b (x.request ∷ awaited c start end G.queue) (awaited c start end G.queue)) e in
         coming_on K E G h l.later.grown members h.there (λ s m. came_still s (h.came s m)) (subst (Comes ms base F h.there) same h.comes)
 
     module _ (e : is_of_receipt c start end x ≡ true) where
@@ -239,7 +245,8 @@ module _ (c start end : ℕ) (ms : List ℕ) (base : List Operation) (F : List S
         where
           short : length next.before < 1048576
           short =
-              let n : suc (length next.before) ≤ length F = beginning_shorter ms base F (s ∷ next.before) (awaited c start end G.queue) next.comes in
+              let n : suc (length next.before) ≤ length F = beginning_shorter ms base F (s ∷ next.before)
+              (awaited c start end G.queue) next.comes in
               omega (arith, n, h.short)
 
       came_free : is_full E.replica.entries ≡ false → HasArrived c start end G s

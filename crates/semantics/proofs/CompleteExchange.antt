@@ -30,20 +30,24 @@ same_members r s Kept = refl
 same_members r s Known = refl
 same_members r s (NotKept f) = refl
 
-pub settled_next : (K : List Operation) → IsLegal K → (p : ℕ) (r : Replica) (s : Stamped) → IsSettled K p r → IsOfWorld K s → IsSettled K p (receive r s)
+pub settled_next : (K : List Operation) → IsLegal K → (p : ℕ) (r : Replica) (s : Stamped) → IsSettled K p r → IsOfWorld K s
+    → IsSettled K p (receive r s)
 settled_next K lk p r s h of = record {
   world = received K lk p r s h.world of;
   end = (drained (deliver r s) (delivered r s h.world.running)).2;
   few = bounded r s h.world.running h.few;
 }
 
-pub one_more : (s : Stamped) (F : List Stamped) (d : Replica) → has_id (operations d) s.id ≡ true → ((a : OpId) → has_id (operations_of F) a ≡ true → has_id (operations d) a ≡ true) → (a : OpId) → has_id (operations_of (s ∷ F)) a ≡ true → has_id (operations d) a ≡ true
+pub one_more : (s : Stamped) (F : List Stamped) (d : Replica) → has_id (operations d) s.id ≡ true
+    → ((a : OpId) → has_id (operations_of F) a ≡ true → has_id (operations d) a ≡ true) → (a : OpId)
+    → has_id (operations_of (s ∷ F)) a ≡ true → has_id (operations d) a ≡ true
 one_more s F d t h a e = elim (or_cases (is_same_id s.id a) (has_id (operations_of F) a) e) [
   | inl f ↦ ap (has_id (operations d)) (sym (ids_from_test s.id a f)) ∙ t
   | inr f ↦ h a f
 ]
 
-all_next : (K : List Operation) → IsLegal K → (p : ℕ) (r d : Replica) (s : Stamped) (F : List Stamped) → IsSettled K p d → HasAll r d F → IsLegalStamped (s ∷ F) → AreWithin (operations_of (s ∷ F)) K → is_of_members r.members s ≡ true → HasAll r (receive d s) (s ∷ F)
+all_next : (K : List Operation) → IsLegal K → (p : ℕ) (r d : Replica) (s : Stamped) (F : List Stamped) → IsSettled K p d → HasAll r d F
+    → IsLegalStamped (s ∷ F) → AreWithin (operations_of (s ∷ F)) K → is_of_members r.members s ≡ true → HasAll r (receive d s) (s ∷ F)
 all_next K lk p r d s F h a l wf known = record {
   members = (drained (deliver d s) (delivered d s run)).1.members ∙ same_members d s (answer_to d s) ∙ a.members;
   kept = λ b t. grows.1 b (a.kept b t);
@@ -65,7 +69,8 @@ all_next K lk p r d s F h a l wf known = record {
     run : IsRunning d
     run = h.world.running
 
-    grows : (length d.entries ≤ length (receive d s).entries) × ((b : OpId) → has_id (operations d) b ≡ true → has_id (operations (receive d s)) b ≡ true)
+    grows : (length d.entries ≤ length (receive d s).entries)
+        × ((b : OpId) → has_id (operations d) b ≡ true → has_id (operations (receive d s)) b ≡ true)
     grows = receive_grows d s h.world.running
 
 all_skip : (r d : Replica) (s : Stamped) (F : List Stamped) → HasAll r d F → has_id (operations d) s.id ≡ true → HasAll r d (s ∷ F)
@@ -75,17 +80,22 @@ all_skip r d s F a t = record {
   complete = elim a.complete [ inl f ↦ inl f | inr f ↦ inr (one_more s F d t f) ];
 }
 
-pub complete : (K : List Operation) → IsLegal K → (p : ℕ) (r : Replica) (v : Vector) → IsSettled K p r → ((q : ℕ) → at v q ≤ greatest_counter (operations r) q) → (F : List Stamped) → IsLegalStamped F → AreWithin (operations_of F) K
-    → ((s : Stamped) → IsAmong s F → is_of_members r.members s ≡ true) → IsSettled K p (receive_all r (missing v F)) × HasAll r (receive_all r (missing v F)) F
+pub complete : (K : List Operation) → IsLegal K → (p : ℕ) (r : Replica) (v : Vector) → IsSettled K p r
+    → ((q : ℕ) → at v q ≤ greatest_counter (operations r) q) → (F : List Stamped) → IsLegalStamped F → AreWithin (operations_of F) K
+    → ((s : Stamped) → IsAmong s F → is_of_members r.members s ≡ true)
+    → IsSettled K p (receive_all r (missing v F)) × HasAll r (receive_all r (missing v F)) F
 complete K lk p r v h n [] l wf known = (h, record { members = refl; kept = λ a t. t; complete = inr (λ a e. absurd (true≢false (sym e))) })
-complete K lk p r v h n (s ∷ F) l wf known = at_test (complete K lk p r v h n F l.0 (λ x m. wf x (inr m)) (λ x m. known x (inr m))) (covers v s.id) refl
+complete K lk p r v h n (s ∷ F) l wf known = at_test (complete K lk p r v h n F l.0 (λ x m. wf x (inr m)) (λ x m. known x (inr m)))
+    (covers v s.id) refl
   where
     at_test : IsSettled K p (receive_all r (missing v F)) × HasAll r (receive_all r (missing v F)) F → (b : Bool) → covers v s.id ≡ b
         → (let d : Replica = receive_all r (cond (not b) (s ∷ missing v F) (missing v F)) in IsSettled K p d × HasAll r d (s ∷ F))
     at_test rest true e = (
       rest.0,
       all_skip r (receive_all r (missing v F)) s F rest.1
-          (rest.1.kept s.id (covered_there K lk r v n (legal_entries r h.world.running) h.world.within (operation_after (operations_of F) s) (wf (operation_after (operations_of F) s) (inl refl)) e)),
+          (rest.1.kept s.id
+          (covered_there K lk r v n (legal_entries r h.world.running) h.world.within (operation_after (operations_of F) s)
+          (wf (operation_after (operations_of F) s) (inl refl)) e)),
     )
     at_test rest false e = (
       settled_next K lk p (receive_all r (missing v F)) s rest.0 (record { history = s ∷ F; legal = l; within = wf; there = inl refl }),

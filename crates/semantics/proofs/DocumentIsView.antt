@@ -4,7 +4,8 @@ use Rattle.semantics.specs.Elements.{Element, Field, Item}
 use Rattle.semantics.specs.Operations.{Operation, name_given}
 use Rattle.semantics.specs.LegalHistory.{IsLegal, HaveSameOperations}
 use Rattle.semantics.specs.Context.{doc, put_name}
-use Rattle.semantics.specs.Questions.{AppliedVector, Question, Values, Keys, Items, Conflicts, ValuesAre, KeysAre, ItemsAre, ConflictsAre, resolve, answer_at}
+use Rattle.semantics.specs.Questions.{AppliedVector, Question, Values, Keys, Items, Conflicts, ValuesAre, KeysAre, ItemsAre, ConflictsAre}
+use Rattle.semantics.specs.Questions.{resolve, answer_at}
 use Rattle.semantics.specs.DocumentAnswer.{document_answer, visible_items, visible_names, is_any}
 use Rattle.semantics.specs.View.{view, live_items, live_names, field_names}
 use Rattle.semantics.proofs.LiveEntries.{presence_live, register_live}
@@ -27,9 +28,11 @@ pub document_is_view : (H : List Operation) → IsLegal H → (q : Question) →
 document_is_view H legal (Values x) = λ i. answer_at (λ e. ValuesAre (register_live H legal e i)) (resolve (λ l. items_are H legal l i) x)
 document_is_view H legal (Keys x) = λ i. answer_at (λ e. KeysAre (shown_names H legal e i)) (resolve (λ l. items_are H legal l i) x)
 document_is_view H legal (Items x) = λ i. answer_at (λ e. ItemsAre (items_are H legal e i)) (resolve (λ l. items_are H legal l i) x)
-document_is_view H legal (Conflicts x) = λ i. answer_at (λ e. ConflictsAre (presence_live H legal e i)) (resolve (λ l. items_are H legal l i) x)
+document_is_view H legal (Conflicts x) = λ i. answer_at (λ e. ConflictsAre (presence_live H legal e i))
+    (resolve (λ l. items_are H legal l i) x)
 document_is_view H legal AppliedVector = refl
 
 -- What a legal history answers is what its operations show, as a set.
 pub document_is_view_of_set : (H O : List Operation) → IsLegal H → HaveSameOperations O H → (q : Question) → document_answer H q ≡ view O q
-document_is_view_of_set H O legal same q = document_is_view H legal q ∙ sym (view_same O H same (same_operation H legal) (legal_counters H legal) q)
+document_is_view_of_set H O legal same q = document_is_view H legal q
+    ∙ sym (view_same O H same (same_operation H legal) (legal_counters H legal) q)

@@ -23,7 +23,8 @@ deletes_key c p v = sent c p v (At (field (codes "key"))) Delete
 
 -- replica 1 makes two, receives one of replica 2, and makes two more
 abbrev before : Replica
-before = after_commands (receive (after_commands (new 1) (command ∷ command ∷ [])) (deletes_key 3 2 (id_at 2 1 ∷ []))) (command ∷ command ∷ [])
+before = after_commands (receive (after_commands (new 1) (command ∷ command ∷ [])) (deletes_key 3 2 (id_at 2 1 ∷ [])))
+    (command ∷ command ∷ [])
 
 before_operations : reverse (stamped_of before.entries)
     ≡ deletes_key 1 1 []

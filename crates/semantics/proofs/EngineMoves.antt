@@ -1,5 +1,6 @@
 -- What the steps of an engine do to its replica and its queue: nothing, an item more that was submitted, or one less that was handled.
-use Rattle.std.proofs.Common.{◌≡◌, inl, ℕ, suc, Bool, true, false, ◌||◌, not, nat_le, List, [], ◌∷◌, ◌++◌, length, Option, Some, None, refl, subst, slice_get}
+use Rattle.std.proofs.Common.{◌≡◌, inl, ℕ, suc, Bool, true, false, ◌||◌, not, nat_le, List, [], ◌∷◌, ◌++◌, length, Option, Some, None, refl}
+use Rattle.std.proofs.Common.{subst, slice_get}
 use Rattle.semantics.specs.LegalHistory.{IsAmong}
 use Rattle.semantics.specs.DocumentAnswer.{is_any}
 use Rattle.semantics.specs.LegalAnswer.{Request, Submitted}
@@ -62,7 +63,8 @@ still_polled E c serial = at_client (slice_get E.clients c) refl
 pub still_learnt : (E : Engine) (t c serial : ℕ) → IsStill E (learn E t c serial).engine
 still_learnt E t c serial = at_cell (cell_under E c serial) refl
   where
-    at_answer : (cell : Cell) → cell_under E c serial ≡ Some cell → (o : Option Given) → cell.answer ≡ o → IsStill E (learn E t c serial).engine
+    at_answer : (cell : Cell) → cell_under E c serial ≡ Some cell → (o : Option Given) → cell.answer ≡ o
+        → IsStill E (learn E t c serial).engine
     at_answer cell e None f = rw (e, f) (refl, refl)
     at_answer cell e (Some g) f = rw (e, f) (still_seen E t _)
 
@@ -90,27 +92,35 @@ module _ (P : Request → Type 0) (Claim : Engine → Type 0) (kept : IsKeptOn P
   pub kept_by_push : (E : Engine) (c : ℕ) (request : Request) → IsSound E → P request → Claim E → Claim (push E c request).engine
   kept_by_push E c request s p h = at_client (slice_get E.clients c) refl
     where
-      at_room : (k : Client) → slice_get E.clients c ≡ Some k → IsLater E (submit E c k (next_item c k request)).engine → (a b : Bool) → nat_le E.serials (length k.cells) ≡ a → nat_le E.capacity (length E.queue) ≡ b
+      at_room : (k : Client) → slice_get E.clients c ≡ Some k → IsLater E (submit E c k (next_item c k request)).engine → (a b : Bool)
+          → nat_le E.serials (length k.cells) ≡ a → nat_le E.capacity (length E.queue) ≡ b
           → Claim (submit E c k (next_item c k request)).engine
       at_room k is l true b e f = rw e h
       at_room k is l false true e f = rw (e, f) h
       at_room k is l false false e f =
           let after = rw (e, f) at l in
-          rw (e, f) (kept.submitted E _ (next_item c k request) s (record { later = after; replica = refl; queue = refl; next = λ j q. cc }) p h)
+          rw (e, f)
+          (kept.submitted E _ (next_item c k request) s (record { later = after; replica = refl; queue = refl; next = λ j q. cc }) p h)
 
       at_client : (o : Option Client) → slice_get E.clients c ≡ o → Claim (push E c request).engine
       at_client None e = rw e h
-      at_client (Some k) e = rw e (at_room k e (rw e at (pushed E c request s)) (nat_le E.serials (length k.cells)) (nat_le E.capacity (length E.queue)) refl refl)
+      at_client (Some k) e = rw e
+          (at_room k e (rw e at (pushed E c request s)) (nat_le E.serials (length k.cells)) (nat_le E.capacity (length E.queue)) refl refl)
 
   pub kept_by_take : (E : Engine) → IsSound E → Claim E → Claim (take_item E).engine
   kept_by_take E s h = at_queue E.queue refl
     where
-      at_test : (x : Submitted) (queue : List Submitted) → E.queue ≡ x ∷ queue → (b : Bool) → (is_any E.due || nat_le E.batch (length E.handled)) ≡ b → IsLater E (take_oldest E (x ∷ queue)).engine → Claim (take_oldest E (x ∷ queue)).engine
+      at_test : (x : Submitted) (queue : List Submitted) → E.queue ≡ x ∷ queue → (b : Bool)
+          → (is_any E.due || nat_le E.batch (length E.handled)) ≡ b → IsLater E (take_oldest E (x ∷ queue)).engine
+          → Claim (take_oldest E (x ∷ queue)).engine
       at_test x queue e true f l = rw f h
       at_test x queue e false f l =
           let after = rw f at l in
-          rw f (kept.taken E _ x s (record { later = after; oldest = e; replica = refl; replied = among_right E.handled (_ ∷ []) _ (inl refl) }) h)
+          rw f
+          (kept.taken E _ x s
+          (record { later = after; oldest = e; replica = refl; replied = among_right E.handled (_ ∷ []) _ (inl refl) }) h)
 
       at_queue : (q : List Submitted) → E.queue ≡ q → Claim (take_oldest E q).engine
       at_queue [] e = h
-      at_queue (x ∷ queue) e = at_test x queue e (is_any E.due || nat_le E.batch (length E.handled)) refl (subst (λ (q : List Submitted). IsLater E (take_oldest E q).engine) e (took E s))
+      at_queue (x ∷ queue) e = at_test x queue e (is_any E.due || nat_le E.batch (length E.handled)) refl
+          (subst (λ (q : List Submitted). IsLater E (take_oldest E q).engine) e (took E s))

@@ -24,17 +24,21 @@ use Rattle.semantics.proofs.EnginesOfOneWorld.{one_world}
 -- what an engine of a world has published is a legal history of it
 
 pub published_legal : (K : List Operation) (E : Engine) → IsEngineOf K E → IsLegalStamped (stamped_of (published_entries E))
-published_legal K E h = entries_legal E.replica.own (published_entries E) (first_history E.replica.own E.published E.replica.entries h.settled.world.running.history)
+published_legal K E h = entries_legal E.replica.own (published_entries E)
+    (first_history E.replica.own E.published E.replica.entries h.settled.world.running.history)
 
 pub published_of_world : (K : List Operation) (E : Engine) → IsEngineOf K E → AreWithin (applied (published_entries E)) K
 published_of_world K E h x m = h.settled.world.within x (published_within E x m)
 
-pub engines_agree : (cs : List Configuration) (steps : List WorldStep) → HaveOwnNumbers cs → AreWithoutLines steps → (d e : ℕ) (D E : Engine) → IsEngineAfter cs steps d D → IsEngineAfter cs steps e E
-    → ((a : OpId) → has_id (applied (published_entries D)) a ≡ has_id (applied (published_entries E)) a) → (q : Question) → document_answer (applied (published_entries D)) q ≡ document_answer (applied (published_entries E)) q
+pub engines_agree : (cs : List Configuration) (steps : List WorldStep) → HaveOwnNumbers cs → AreWithoutLines steps
+    → (d e : ℕ) (D E : Engine) → IsEngineAfter cs steps d D → IsEngineAfter cs steps e E
+    → ((a : OpId) → has_id (applied (published_entries D)) a ≡ has_id (applied (published_entries E)) a) → (q : Question)
+    → document_answer (applied (published_entries D)) q ≡ document_answer (applied (published_entries E)) q
 engines_agree cs steps own known d e D E p q same x =
     let w = one_world cs steps own known in
     let first = w.1.engines d D p in
     let second = w.1.engines e E q in
     histories_agree w.0 (applied (published_entries D)) (applied (published_entries E)) w.1.legal
-    (legal (stamped_of (published_entries D)) (published_legal w.0 D first)) (legal (stamped_of (published_entries E)) (published_legal w.0 E second))
+    (legal (stamped_of (published_entries D)) (published_legal w.0 D first))
+    (legal (stamped_of (published_entries E)) (published_legal w.0 E second))
     (published_of_world w.0 D first) (published_of_world w.0 E second) same x

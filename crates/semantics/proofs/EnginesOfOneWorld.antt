@@ -1,5 +1,6 @@
 -- In a run without lines of any origin, all engines are of one world.
-use Rattle.std.proofs.Common.{◌≡◌, ◌⊎◌, inl, inr, ℕ, false, List, [], ◌∷◌, ◌++◌, Option, Some, None, refl, sym, ap, ◌∙◌, subst, slice_get, slice_set}
+use Rattle.std.proofs.Common.{◌≡◌, ◌⊎◌, inl, inr, ℕ, false, List, [], ◌∷◌, ◌++◌, Option, Some, None, refl, sym, ap, ◌∙◌, subst, slice_get}
+use Rattle.std.proofs.Common.{slice_set}
 use Rattle.std.proofs.lemmas.Bool.{cases_eq}
 use Rattle.ids.specs.Configurations.{Configuration}
 use Rattle.semantics.specs.Operations.{Operation}
@@ -29,7 +30,8 @@ pub record IsFurther (Claim : List Operation → Engine → Type 0) (a : ℕ) (K
 
 -- ---- a step
 
-module _ (Claim : List Operation → Engine → Type 0) (kept : IsTracked Claim) (a : ℕ) (K : List Operation) (W : World) (w : WorldStep) (sound : IsSoundWorld W) (known : is_of_lines w.act ≡ false) (h : IsWorldOf K W)
+module _ (Claim : List Operation → Engine → Type 0) (kept : IsTracked Claim) (a : ℕ) (K : List Operation) (W : World) (w : WorldStep)
+    (sound : IsSoundWorld W) (known : is_of_lines w.act ≡ false) (h : IsWorldOf K W)
     (claim : (A : Engine) → slice_get W.engines a ≡ Some A → Claim K A) where
   -- the claim, where it is on the engine that moves
   abbrev here : List Operation → Engine → Type 0
@@ -51,22 +53,26 @@ module _ (Claim : List Operation → Engine → Type 0) (kept : IsTracked Claim)
     engines = slice_set W.engines w.engine moved
 
     gone_on : HasGoneOn here K E.replica.own moved
-    gone_on = kept_by_step (IsRequestOf K) (HasGoneOn here K E.replica.own) (kept_going here kept_here K E.replica.own) W.messages w.act E known (sound w.engine E there)
+    gone_on = kept_by_step (IsRequestOf K) (HasGoneOn here K E.replica.own)
+        (kept_going here kept_here K E.replica.own) W.messages w.act E known (sound w.engine E there)
         (λ command s e. cc) (λ k ss s is m t e. (let same : s ≡ t = cc in subst (IsOfWorld K) same (h.sent k ss s is m)))
         (starts here K h.legal E (h.engines w.engine E there) (λ e. claim E (sym (ap (slice_get W.engines) e) ∙ there)))
 
     -- the engine at an index is the one that moved, or the one that was there
-    placed : (d : ℕ) (D : Engine) → slice_get engines d ≡ Some D → ((d ≡ w.engine) × (moved ≡ D)) ⊎ ((d ≡ w.engine → ⊥) × (slice_get W.engines d ≡ Some D))
+    placed : (d : ℕ) (D : Engine) → slice_get engines d ≡ Some D
+        → ((d ≡ w.engine) × (moved ≡ D)) ⊎ ((d ≡ w.engine → ⊥) × (slice_get W.engines d ≡ Some D))
     placed d D e = at_cases (cases_eq d w.engine)
       where
-        at_cases : ((d ≡ w.engine) ⊎ (d ≡ w.engine → ⊥)) → ((d ≡ w.engine) × (moved ≡ D)) ⊎ ((d ≡ w.engine → ⊥) × (slice_get W.engines d ≡ Some D))
+        at_cases : ((d ≡ w.engine) ⊎ (d ≡ w.engine → ⊥))
+            → ((d ≡ w.engine) × (moved ≡ D)) ⊎ ((d ≡ w.engine → ⊥) × (slice_get W.engines d ≡ Some D))
         at_cases (inl i) =
             let set : slice_get engines d ≡ Some moved = ap (slice_get engines) i ∙ get-set_same W.engines w.engine E moved there in
             inl (i, cc)
         at_cases (inr n) = inr (n, sym (get-set_other W.engines w.engine d moved n) ∙ e)
 
     -- it was there with the same own number
-    was : (d : ℕ) (D : Engine) → slice_get engines d ≡ Some D → (X : Engine) × (slice_get W.engines d ≡ Some X) × (X.replica.own ≡ D.replica.own)
+    was : (d : ℕ) (D : Engine) → slice_get engines d ≡ Some D
+        → (X : Engine) × (slice_get W.engines d ≡ Some X) × (X.replica.own ≡ D.replica.own)
     was d D e = elim (placed d D e) [
       | inl i ↦ (E, ap (slice_get W.engines) i.0 ∙ there, sym gone_on.own ∙ ap (λ (X : Engine). X.replica.own) i.1)
       | inr n ↦ (D, n.1, refl)
@@ -75,19 +81,22 @@ module _ (Claim : List Operation → Engine → Type 0) (kept : IsTracked Claim)
     engine_there : (d : ℕ) (D : Engine) → slice_get engines d ≡ Some D → IsEngineOf gone_on.world D
     engine_there d D e = elim (placed d D e) [
       | inl i ↦ subst (IsEngineOf gone_on.world) i.1 gone_on.engine
-      | inr n ↦ engine_beside E.replica.own K gone_on.world D (λ same. n.0 (sym (h.numbers w.engine d E D there n.1 same))) gone_on.grown (h.engines d D n.1)
+      | inr n ↦ engine_beside E.replica.own K gone_on.world D (λ same. n.0 (sym (h.numbers w.engine d E D there n.1 same))) gone_on.grown
+          (h.engines d D n.1)
     ]
 
-    sent_here : (k : ℕ) (ss : List Stamped) (s : Stamped) → slice_get (W.messages ++ sent_by W.messages w.act E) k ≡ Some (Bundle ss) → IsAmong s ss → IsOfWorld gone_on.world s
-    sent_here k ss s is m = of_grown K gone_on.world s gone_on.grown.within (elim (get-append_either W.messages (sent_by W.messages w.act E) k (Bundle ss) is) [
-      | inl e ↦ h.sent k ss s e m
-      | inr n ↦ (let r = (h.engines w.engine E there).settled.world in record {
-        history = stamped_of E.replica.entries;
-        legal = entries_legal E.replica.own E.replica.entries r.running.history;
-        within = r.within;
-        there = sent_there W.messages w.act E ss n s m;
-      })
-    ])
+    sent_here : (k : ℕ) (ss : List Stamped) (s : Stamped) → slice_get (W.messages ++ sent_by W.messages w.act E) k ≡ Some (Bundle ss)
+        → IsAmong s ss → IsOfWorld gone_on.world s
+    sent_here k ss s is m = of_grown K gone_on.world s gone_on.grown.within
+        (elim (get-append_either W.messages (sent_by W.messages w.act E) k (Bundle ss) is) [
+          | inl e ↦ h.sent k ss s e m
+          | inr n ↦ (let r = (h.engines w.engine E there).settled.world in record {
+            history = stamped_of E.replica.entries;
+            legal = entries_legal E.replica.own E.replica.entries r.running.history;
+            within = r.within;
+            there = sent_there W.messages w.act E ss n s m;
+          })
+        ])
 
     further : IsFurther Claim a K (record { engines = engines; messages = W.messages ++ sent_by W.messages w.act E })
     further = record {
@@ -114,12 +123,14 @@ module _ (Claim : List Operation → Engine → Type 0) (kept : IsTracked Claim)
 
 -- ---- a run
 
-pub further_by_run : (Claim : List Operation → Engine → Type 0) → IsTracked Claim → (a : ℕ) (K : List Operation) (W : World) (steps : List WorldStep) → IsSoundWorld W → AreWithoutLines steps → IsWorldOf K W
+pub further_by_run : (Claim : List Operation → Engine → Type 0) → IsTracked Claim
+    → (a : ℕ) (K : List Operation) (W : World) (steps : List WorldStep) → IsSoundWorld W → AreWithoutLines steps → IsWorldOf K W
     → ((A : Engine) → slice_get W.engines a ≡ Some A → Claim K A) → IsFurther Claim a K (world_after W steps)
 further_by_run Claim kept a K W [] sound known h claim = record { world = K; within = λ x m. m; is = h; claim = claim }
 further_by_run Claim kept a K W (w ∷ steps) sound known h claim =
     let one = further_by_step Claim kept a K W w sound (known w (inl refl)) h claim in
-    let rest = further_by_run Claim kept a one.world (world_step W w).world steps (sound_step W w sound) (λ s m. known s (inr m)) one.is one.claim in
+    let rest = further_by_run Claim kept a one.world (world_step W w).world steps (sound_step W w sound)
+    (λ s m. known s (inr m)) one.is one.claim in
     record { world = rest.world; within = λ x m. rest.within x (one.within x m); is = rest.is; claim = rest.claim }
 
 -- no claim
@@ -130,12 +141,14 @@ nothing_kept : IsTracked nothing
 nothing_kept = record { grown = λ K L E v c. tt; still = λ K E F l q c. tt; submitted = λ K E F x l c. tt; taken = λ K E F x u s i l c. tt }
 
 -- a world goes on as one
-pub one_world_after : (K : List Operation) (W : World) (steps : List WorldStep) → IsSoundWorld W → AreWithoutLines steps → IsWorldOf K W → (L : List Operation) × AreWithin K L × IsWorldOf L (world_after W steps)
+pub one_world_after : (K : List Operation) (W : World) (steps : List WorldStep) → IsSoundWorld W → AreWithoutLines steps → IsWorldOf K W
+    → (L : List Operation) × AreWithin K L × IsWorldOf L (world_after W steps)
 one_world_after K W steps sound known h =
     let f = further_by_run nothing nothing_kept 0 K W steps sound known h (λ A e. tt) in
     (f.world, f.within, f.is)
 
-pub one_world : (cs : List Configuration) (steps : List WorldStep) → HaveOwnNumbers cs → AreWithoutLines steps → (K : List Operation) × IsWorldOf K (world_after (opened cs) steps)
+pub one_world : (cs : List Configuration) (steps : List WorldStep) → HaveOwnNumbers cs → AreWithoutLines steps
+    → (K : List Operation) × IsWorldOf K (world_after (opened cs) steps)
 one_world cs steps own known =
     let f = one_world_after [] (opened cs) steps (sound_opened cs) known (opened_world cs own) in
     (f.0, f.2)

@@ -16,10 +16,13 @@ use Rattle.semantics.proofs.MadeLawful.{made_lawful}
 -- the vector of all that was applied stands for it
 pub all_named : (G : List Operation) (v : Vector) → NamesAll G v → StandsFor v (has_id G) G
 all_named G v h = record {
-  same = λ a. same_bool (has_id G a) (covers v a) (λ t. covers-from v a (subst (λ (n : ℕ). a.counter ≤ n) (sym (h a.replica)) (vector_counts_id G a t)));
+  same = λ a. same_bool (has_id G a) (covers v a)
+      (λ t. covers-from v a (subst (λ (n : ℕ). a.counter ≤ n) (sym (h a.replica)) (vector_counts_id G a t)));
   attained = λ p n. elim (vector_cases G p) [
     | inl z ↦ absurd (n (h p ∙ z))
-    | inr r ↦ has_id-among G r.0 (id_at (at v p) p) r.1 (let c : r.0.id.counter ≡ at v p = r.3 ∙ sym (h p) in let q : r.0.id.replica ≡ p = r.2 in λ i. record { counter = c i; replica = q i })
+    | inr r ↦ has_id-among G r.0 (id_at (at v p) p) r.1
+        (let c : r.0.id.counter ≡ at v p = r.3 ∙ sym (h p) in let q : r.0.id.replica ≡ p = r.2 in
+        λ i. record { counter = c i; replica = q i })
   ];
 }
   where
@@ -27,7 +30,8 @@ all_named G v h = record {
     same_bool true c f = sym (f refl)
     same_bool false c f = refl
 
-pub own_may_follow : (G : List Operation) (s : Stamped) → IsLegal G → NamesAll G s.vector → (p : ℕ) (c : Command) → make G p c ≡ Ok (operation_after G s) → MayFollow G s
+pub own_may_follow : (G : List Operation) (s : Stamped) → IsLegal G → NamesAll G s.vector → (p : ℕ) (c : Command)
+    → make G p c ≡ Ok (operation_after G s) → MayFollow G s
 own_may_follow G s l n p c k =
     let stands = all_named G s.vector n in
     let same : has_id G ≡ names G s.vector = λ i a. stands.same a i in

@@ -43,7 +43,8 @@ not_closed : answer_to second (deletes_key 3 3 (id_at 2 2 ∷ [])) ≡ NotKept N
 not_closed = refl
 
 -- an item was inserted into the list where it is looked for
-bad_item : answer_to second (sent 3 3 (id_at 2 1 ∷ id_at 2 2 ∷ []) (At (Item key (id_at 2 2))) (Assign (text (codes "x")))) ≡ NotKept BadPlace
+bad_item : answer_to second (sent 3 3 (id_at 2 1 ∷ id_at 2 2 ∷ []) (At (Item key (id_at 2 2))) (Assign (text (codes "x"))))
+    ≡ NotKept BadPlace
 bad_item = refl
 
 -- only the replica itself makes operations of its own name

@@ -1,5 +1,6 @@
 -- No history has more operations than one may hold, and a replica whose history is full keeps what waits and refuses what is new.
-use Rattle.std.proofs.Common.{◌≡◌, ◌⊎◌, inl, inr, ℕ, zero, suc, ◌<◌, ◌≤◌, Bool, true, false, cond, ◌||◌, ◌==◌, nat_lt, List, ◌∷◌, length, Option, Some, None, Result, Ok, Err, refl, sym, ap, ◌∙◌, true≢false, arith}
+use Rattle.std.proofs.Common.{◌≡◌, ◌⊎◌, inl, inr, ℕ, zero, suc, ◌<◌, ◌≤◌, Bool, true, false, cond, ◌||◌, ◌==◌, nat_lt, List, ◌∷◌, length}
+use Rattle.std.proofs.Common.{Option, Some, None, Result, Ok, Err, refl, sym, ap, ◌∙◌, true≢false, arith}
 use Rattle.std.proofs.lemmas.Bool.{or_from, ltb-false, le-ltb, false_from_ne_true, eqb-true}
 use Rattle.ids.specs.declared.refusal.Refusal.{Refusal}
 use Rattle.ids.specs.declared.refusal.Refusal.TheVariants.{HistoryFull, OwnName}
@@ -152,7 +153,8 @@ item_full K lk p r x s F h floor is l few w known full = at_applied (has_id (ope
         let test : nat_lt (length r.entries) x.floor ≡ false = le-ltb (length r.entries) x.floor floor in
         let answer : answer_to r s ≡ NotKept HistoryFull =
         ap (answer_after r s) alone
-        ∙ refused_by_tests (has_id (operations r) s.id || is_waiting r.waiting s.id) (s.id.replica == r.own) (is_full r.entries) (room_answer r s)
+        ∙ refused_by_tests (has_id (operations r) s.id || is_waiting r.waiting s.id) (s.id.replica == r.own) (is_full r.entries)
+        (room_answer r s)
         (or_from (has_id (operations r) s.id) (is_waiting r.waiting s.id) new absent) (other new) full in
         rw test (ap (reply_requested r) is ∙ ap (reply_delivered (length (receive r s).entries)) answer)
 

@@ -17,7 +17,8 @@ legal_entries r h = legal (stamped_of r.entries) (entries_legal r.own r.entries 
 
 -- ---- what a world's replica makes goes on that world
 
-pub grows_world : (K G : List Operation) → IsLegal K → IsLegal G → AreWithin G K → (o : Operation) → Follows G o → ((a : OpId) → o.deps a ≡ has_id G a)
+pub grows_world : (K G : List Operation) → IsLegal K → IsLegal G → AreWithin G K → (o : Operation) → Follows G o
+    → ((a : OpId) → o.deps a ≡ has_id G a)
     → ((x : Operation) → IsAmong x K → x.id.replica ≡ o.id.replica → has_id G x.id ≡ true) → Follows K o
 grows_world K G lk lg w o f all own = record {
   new_id = λ x m e. (let y = among_from G x.id (own x m (ap (λ (b : OpId). b.replica) e)) in f.new_id y.0 y.1 (y.2 ∙ e));

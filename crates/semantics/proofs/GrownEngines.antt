@@ -38,8 +38,10 @@ grown_trans E F G f g = record {
 abbrev pub with_history : Engine → Replica → List Submitted → List Handled → List Handled → ℕ → Engine
 with_history E r queue handled due published = record E { replica = r; queue = queue; handled = handled; due = due; published = published }
 
-pub grown_by_history : (E : Engine) (r : Replica) (queue : List Submitted) (handled due : List Handled) (published : ℕ) → r.own ≡ E.replica.own → BeginsWith r.entries E.replica.entries → E.published ≤ published
-    → ((h : Handled) → IsAmong h (E.due ++ E.handled) → IsAmong h (due ++ handled)) → HasGrown E (with_history E r queue handled due published)
+pub grown_by_history : (E : Engine) (r : Replica) (queue : List Submitted) (handled due : List Handled) (published : ℕ)
+    → r.own ≡ E.replica.own → BeginsWith r.entries E.replica.entries → E.published ≤ published
+    → ((h : Handled) → IsAmong h (E.due ++ E.handled) → IsAmong h (due ++ handled))
+    → HasGrown E (with_history E r queue handled due published)
 grown_by_history E r queue handled due published own entries more still = record {
   own = own;
   entries = entries;

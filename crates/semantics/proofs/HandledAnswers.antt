@@ -1,5 +1,6 @@
 -- What handling an item keeps, whether an allocation fails or not.
-use Rattle.std.proofs.Common.{◌≡◌, inl, inr, ℕ, ◌<◌, ◌≤◌, Bool, true, false, nat_lt, List, [], ◌∷◌, ◌++◌, length, Option, Some, None, Result, Ok, Err, refl, sym, ap, ◌∙◌, subst, arith}
+use Rattle.std.proofs.Common.{◌≡◌, inl, inr, ℕ, ◌<◌, ◌≤◌, Bool, true, false, nat_lt, List, [], ◌∷◌, ◌++◌, length, Option, Some, None}
+use Rattle.std.proofs.Common.{Result, Ok, Err, refl, sym, ap, ◌∙◌, subst, arith}
 use Rattle.std.proofs.lemmas.Bool.{ltb-true, ltb-false}
 use Rattle.ids.specs.declared.refusal.Refusal.{Refusal}
 use Rattle.ids.specs.declared.refusal.Refusal.TheVariants.{NoMemory, BadFloor}
@@ -7,7 +8,8 @@ use Rattle.semantics.specs.Operations.{Operation}
 use Rattle.semantics.specs.Stamped.{Stamped}
 use Rattle.semantics.specs.Making.{Command, make}
 use Rattle.semantics.specs.Entries.{Entry, Own, Peer, first_entries, IsAbove}
-use Rattle.semantics.specs.LegalAnswer.{Request, OfCommand, OfPeer, Submitted, Reply, Made, NotMade, KeptAt, KnownAt, LacksSerial, IsLegalAnswer}
+use Rattle.semantics.specs.LegalAnswer.{Request, OfCommand, OfPeer, Submitted, Reply, Made, NotMade, KeptAt, KnownAt, LacksSerial}
+use Rattle.semantics.specs.LegalAnswer.{IsLegalAnswer}
 use Rattle.semantics.specs.Replica.{Replica, operations, IsRunning}
 use Rattle.semantics.specs.Delivery.{Delivered, Kept, Known, NotKept, answer_after, answer_to, deliver}
 use Rattle.semantics.specs.Drain.{counted, drain_for, receive, with_peers}
@@ -69,22 +71,27 @@ peers_for x (s ∷ M) = peers_for x M
 
 -- ---- answers to deliveries
 
-same_answer : (r : Replica) (s : Stamped) (f : Option Refusal) → answer_after (record { own = r.own; members = r.members; entries = r.entries; waiting = r.waiting; dropped = 0 }) s f ≡ answer_after r s f
+same_answer : (r : Replica) (s : Stamped) (f : Option Refusal)
+    → answer_after (record { own = r.own; members = r.members; entries = r.entries; waiting = r.waiting; dropped = 0 }) s f
+    ≡ answer_after r s f
 same_answer r s (Some f) = refl
 same_answer r s None = refl
 
-answered : (r : Replica) (s : Stamped) (floor : ℕ) (more G : List Entry) → G ≡ more ++ r.entries → floor ≤ length r.entries → (d : Delivered) → answer_to r s ≡ d → WasAnswered r.own r.members G s floor (length G) d
+answered : (r : Replica) (s : Stamped) (floor : ℕ) (more G : List Entry) → G ≡ more ++ r.entries → floor ≤ length r.entries
+    → (d : Delivered) → answer_to r s ≡ d → WasAnswered r.own r.members G s floor (length G) d
 answered r s floor more G e l d is = record {
   k = length r.entries;
   from = l;
   to = no_shorter G r.entries (more, e);
   within = omega arith;
   waiting = r.waiting;
-  answer = ap (λ (F : List Entry). answer_with r.own r.members F r.waiting s) (ap (first_entries (length r.entries)) e ∙ first_of_longer (length r.entries) more r.entries (omega arith) ∙ all_first r.entries)
+  answer = ap (λ (F : List Entry). answer_with r.own r.members F r.waiting s)
+      (ap (first_entries (length r.entries)) e ∙ first_of_longer (length r.entries) more r.entries (omega arith) ∙ all_first r.entries)
       ∙ same_answer r s _ ∙ is;
 }
 
-receipt : (r : Replica) (x : Submitted) (s : Stamped) (more G : List Entry) → G ≡ more ++ r.entries → x.floor ≤ length r.entries → (d : Delivered) → answer_to r s ≡ d → IsReceipt r.own r.members G x s (reply_delivered (length G) d)
+receipt : (r : Replica) (x : Submitted) (s : Stamped) (more G : List Entry) → G ≡ more ++ r.entries → x.floor ≤ length r.entries
+    → (d : Delivered) → answer_to r s ≡ d → IsReceipt r.own r.members G x s (reply_delivered (length G) d)
 receipt r x s more G e l Kept is = answered r s x.floor more G e l Kept is
 receipt r x s more G e l Known is = answered r s x.floor more G e l Known is
 receipt r x s more G e l (NotKept why) is = inl (answered r s x.floor more G e l (NotKept why) is)
@@ -101,17 +108,21 @@ unchanged : (r : Replica) (x : Submitted) (y : Reply) → IsRunning r → IsAnsw
 unchanged r x y h a = record { own = refl; members = refl; more = []; entries = refl; for_it = tt; running = h; answer = a }
 
 -- a refusal for what isn't a rule
-refused_lacking : (r : Replica) (x : Submitted) (c : Command) → IsAbove x.client x.serial r.entries → LacksSerial x.client x.serial (first_entries (length r.entries) r.entries)
-refused_lacking r x c above = subst (LacksSerial x.client x.serial) (sym (all_first r.entries)) (above_lacks x.client x.serial r.entries above)
+refused_lacking : (r : Replica) (x : Submitted) (c : Command) → IsAbove x.client x.serial r.entries
+    → LacksSerial x.client x.serial (first_entries (length r.entries) r.entries)
+refused_lacking r x c above = subst (LacksSerial x.client x.serial) (sym (all_first r.entries))
+    (above_lacks x.client x.serial r.entries above)
 
-no_memory : (r : Replica) (x : Submitted) → IsAbove x.client x.serial r.entries → x.floor ≤ length r.entries → IsAnswer r.own r.members r.entries x (NotMade NoMemory (length r.entries))
+no_memory : (r : Replica) (x : Submitted) → IsAbove x.client x.serial r.entries → x.floor ≤ length r.entries
+    → IsAnswer r.own r.members r.entries x (NotMade NoMemory (length r.entries))
 no_memory r x above floor = of_request x.request refl
   where
     of_request : (q : Request) → x.request ≡ q → IsAnswer r.own r.members r.entries x (NotMade NoMemory (length r.entries))
     of_request (OfCommand c) is = rw is ((omega arith, inr (inl refl), refused_lacking r x c above), inl floor)
     of_request (OfPeer s) is = rw is (inr (inl (refl, floor, omega arith)))
 
-bad_floor : (r : Replica) (x : Submitted) → IsAbove x.client x.serial r.entries → length r.entries < x.floor → IsAnswer r.own r.members r.entries x (NotMade BadFloor (length r.entries))
+bad_floor : (r : Replica) (x : Submitted) → IsAbove x.client x.serial r.entries → length r.entries < x.floor
+    → IsAnswer r.own r.members r.entries x (NotMade BadFloor (length r.entries))
 bad_floor r x above below = of_request x.request refl
   where
     of_request : (q : Request) → x.request ≡ q → IsAnswer r.own r.members r.entries x (NotMade BadFloor (length r.entries))
@@ -119,32 +130,40 @@ bad_floor r x above below = of_request x.request refl
     of_request (OfPeer s) is = rw is (inr (inr (refl, below, omega arith)))
 
 -- an operation of a peer, after whose delivery a drain made this many turns
-peer_part : (n : ℕ) (r q : Replica) (x : Submitted) (s : Stamped) → IsRunning r → x.floor ≤ length r.entries → x.request ≡ OfPeer s → q ≡ counted (drain_for n (deliver r s))
+peer_part : (n : ℕ) (r q : Replica) (x : Submitted) (s : Stamped) → IsRunning r → x.floor ≤ length r.entries → x.request ≡ OfPeer s
+    → q ≡ counted (drain_for n (deliver r s))
     → IsAfter r x (reply_delivered (length q.entries) (answer_to r s)) q
 peer_part n r q x s h floor is e =
     let p = delivered_part n r q s h e in
     let entries : q.entries ≡ with_peers p.appended [] ++ r.entries = p.entries ∙ peers_before p.appended r.entries in
     let y : Reply = reply_delivered (length q.entries) (answer_to r s) in
-    let here : IsReceipt r.own r.members q.entries x s y = receipt r x s (with_peers p.appended []) q.entries entries floor (answer_to r s) refl in record {
+    let here : IsReceipt r.own r.members q.entries x s y = receipt r x s (with_peers p.appended []) q.entries entries floor
+    (answer_to r s) refl in
+    record {
       own = p.own;
       members = p.members;
       more = with_peers p.appended [];
       entries = entries;
       for_it = peers_for x p.appended;
       running = p.running;
-      answer = rw is (subst (λ k. IsReceipt k q.members q.entries x s y) (sym p.own) (subst (λ ps. IsReceipt r.own ps q.entries x s y) (sym p.members) here));
+      answer = rw is
+          (subst (λ k. IsReceipt k q.members q.entries x s y) (sym p.own)
+          (subst (λ ps. IsReceipt r.own ps q.entries x s y) (sym p.members) here));
     }
 
-made : (r : Replica) (x : Submitted) (c : Command) → x.request ≡ OfCommand c → IsRunning r → IsAbove x.client x.serial r.entries → x.floor ≤ length r.entries
+made : (r : Replica) (x : Submitted) (c : Command) → x.request ≡ OfCommand c → IsRunning r → IsAbove x.client x.serial r.entries
+    → x.floor ≤ length r.entries
     → (m : Result Operation Refusal) → make (operations r) r.own c ≡ m → IsAfter r x (reply_made r m) (after_made r x c m)
-made r x c is h above floor (Err why) e = unchanged r x (NotMade why (length r.entries)) h (rw is (own_refused r.own r.entries x c why above e, inl floor))
+made r x c is h above floor (Err why) e = unchanged r x (NotMade why (length r.entries)) h
+    (rw is (own_refused r.own r.entries x c why above e, inl floor))
 made r x c is h above floor (Ok o) e = record {
   own = refl;
   members = refl;
   more = Own x.client x.serial c (stamp (operations r) o) ∷ [];
   entries = refl;
   for_it = (refl, refl, is, tt);
-  running = own_committed r x.client x.serial c (stamp (operations r) o) h (at-vector_of (operations r)) (e ∙ (λ i. Ok (as_stamped r c o h.history e i))) above;
+  running = own_committed r x.client x.serial c (stamp (operations r) o) h (at-vector_of (operations r))
+      (e ∙ (λ i. Ok (as_stamped r c o h.history e i))) above;
   answer = rw is (own_made r.own r.entries x c (stamp (operations r) o), floor);
 }
 
@@ -158,15 +177,19 @@ whole : (r : Replica) (x : Submitted) → IsRunning r → IsAbove x.client x.ser
 whole r x h above = by_test (nat_lt (length r.entries) x.floor) refl
   where
     by_test : (b : Bool) → nat_lt (length r.entries) x.floor ≡ b → IsAfter r x (reply_to r x) (after_item r x)
-    by_test true t = rw t (unchanged r x (NotMade BadFloor (length r.entries)) h (bad_floor r x above (ltb-true (length r.entries) x.floor t)))
+    by_test true t = rw t
+        (unchanged r x (NotMade BadFloor (length r.entries)) h (bad_floor r x above (ltb-true (length r.entries) x.floor t)))
     by_test false t = rw t (requested r x h above (ltb-false (length r.entries) x.floor t) x.request refl)
 
 -- the same where the reply and the replica have other names
 pub named : (r t u : Replica) (x : Submitted) (y z : Reply) → y ≡ z → t ≡ u → IsAfter r x z u → IsAfter r x y t
-named r t u x y z reply replica a = subst (λ (q : Replica). IsAfter r x y q) (sym replica) (subst (λ (k : Reply). IsAfter r x k u) (sym reply) a)
+named r t u x y z reply replica a = subst (λ (q : Replica). IsAfter r x y q) (sym replica)
+    (subst (λ (k : Reply). IsAfter r x k u) (sym reply) a)
 
-pub handled : (w v : Handler) (x : Submitted) (y : Reply) → IsRunning w.replica → IsAbove x.client x.serial w.replica.entries → Handles w x y v → IsAfter w.replica x y v.replica
-handled w v x y h above (inl k) = named w.replica v.replica (after_item w.replica x) x y (reply_to w.replica x) k.reply k.replica (whole w.replica x h above)
+pub handled : (w v : Handler) (x : Submitted) (y : Reply) → IsRunning w.replica → IsAbove x.client x.serial w.replica.entries
+    → Handles w x y v → IsAfter w.replica x y v.replica
+handled w v x y h above (inl k) = named w.replica v.replica (after_item w.replica x) x y (reply_to w.replica x) k.reply k.replica
+    (whole w.replica x h above)
 handled w v x y h above (inr (inl k)) =
     named w.replica v.replica w.replica x y (NotMade NoMemory (length w.replica.entries)) k.reply (ap (λ (u : Handler). u.replica) k.same)
     (unchanged w.replica x (NotMade NoMemory (length w.replica.entries)) h (no_memory w.replica x above k.floor))
@@ -176,7 +199,8 @@ handled w v x y h above (inr (inr k)) =
 
 -- ---- answers stay legal
 
-command_stays : (p : ℕ) (more F : List Entry) (x : Submitted) (c : Command) (y : Reply) → IsLegalAnswer p F x c y → IsLegalAnswer p (more ++ F) x c y
+command_stays : (p : ℕ) (more F : List Entry) (x : Submitted) (c : Command) (y : Reply) → IsLegalAnswer p F x c y
+    → IsLegalAnswer p (more ++ F) x c y
 command_stays p [] F x c y a = a
 command_stays p (e ∷ more) F x c y a = one y (command_stays p more F x c y a)
   where
@@ -186,7 +210,8 @@ command_stays p (e ∷ more) F x c y a = one y (command_stays p more F x c y a)
     one (KeptAt m) h = h
     one (KnownAt m) h = h
 
-was_longer : (p : ℕ) (ps : List ℕ) (more F : List Entry) (s : Stamped) (floor m : ℕ) (d : Delivered) → WasAnswered p ps F s floor m d → WasAnswered p ps (more ++ F) s floor m d
+was_longer : (p : ℕ) (ps : List ℕ) (more F : List Entry) (s : Stamped) (floor m : ℕ) (d : Delivered) → WasAnswered p ps F s floor m d
+    → WasAnswered p ps (more ++ F) s floor m d
 was_longer p ps more F s floor m d a = record {
   k = a.k;
   from = a.from;
@@ -196,15 +221,19 @@ was_longer p ps more F s floor m d a = record {
   answer = ap (λ (G : List Entry). answer_with p ps G a.waiting s) (first_of_longer a.k more F (omega (arith, a.to, a.within))) ∙ a.answer;
 }
 
-receipt_stays : (p : ℕ) (ps : List ℕ) (more F : List Entry) (x : Submitted) (s : Stamped) (y : Reply) → IsReceipt p ps F x s y → IsReceipt p ps (more ++ F) x s y
+receipt_stays : (p : ℕ) (ps : List ℕ) (more F : List Entry) (x : Submitted) (s : Stamped) (y : Reply) → IsReceipt p ps F x s y
+    → IsReceipt p ps (more ++ F) x s y
 receipt_stays p ps more F x s (Made a n) h = h
 receipt_stays p ps more F x s (KeptAt m) h = was_longer p ps more F s x.floor m Kept h
 receipt_stays p ps more F x s (KnownAt m) h = was_longer p ps more F s x.floor m Known h
 receipt_stays p ps more F x s (NotMade why m) (inl h) = inl (was_longer p ps more F s x.floor m (NotKept why) h)
-receipt_stays p ps more F x s (NotMade why m) (inr (inl h)) = inr (inl (h.0, h.1, (let l : length F ≤ length (more ++ F) = no_shorter (more ++ F) F (more, refl) in omega (arith, h.2))))
-receipt_stays p ps more F x s (NotMade why m) (inr (inr h)) = inr (inr (h.0, h.1, (let l : length F ≤ length (more ++ F) = no_shorter (more ++ F) F (more, refl) in omega (arith, h.2))))
+receipt_stays p ps more F x s (NotMade why m) (inr (inl h)) = inr
+    (inl (h.0, h.1, (let l : length F ≤ length (more ++ F) = no_shorter (more ++ F) F (more, refl) in omega (arith, h.2))))
+receipt_stays p ps more F x s (NotMade why m) (inr (inr h)) = inr
+    (inr (h.0, h.1, (let l : length F ≤ length (more ++ F) = no_shorter (more ++ F) F (more, refl) in omega (arith, h.2))))
 
-pub answer_stays : (p : ℕ) (ps : List ℕ) (G F : List Entry) (x : Submitted) (y : Reply) → BeginsWith G F → IsAnswer p ps F x y → IsAnswer p ps G x y
+pub answer_stays : (p : ℕ) (ps : List ℕ) (G F : List Entry) (x : Submitted) (y : Reply) → BeginsWith G F → IsAnswer p ps F x y
+    → IsAnswer p ps G x y
 answer_stays p ps G F x y b a = subst (λ (K : List Entry). IsAnswer p ps K x y) (sym b.1) (of_request x.request refl a)
   where
     of_request : (q : Request) → x.request ≡ q → IsAnswer p ps F x y → IsAnswer p ps (b.0 ++ F) x y

@@ -1,5 +1,6 @@
 -- A batch of handled items, which grows at its end.
-use Rattle.std.proofs.Common.{◌≡◌, ◌==◌, ℕ, zero, suc, ◌+◌, ◌-◌, ◌<◌, Bool, true, false, cond, List, [], ◌∷◌, ◌++◌, length, Some, slice_get, refl, sym, ap, ◌∙◌, subst, arith, append_assoc, eq-eqb}
+use Rattle.std.proofs.Common.{◌≡◌, ◌==◌, ℕ, zero, suc, ◌+◌, ◌-◌, ◌<◌, Bool, true, false, cond, List, [], ◌∷◌, ◌++◌, length, Some, slice_get}
+use Rattle.std.proofs.Common.{refl, sym, ap, ◌∙◌, subst, arith, append_assoc, eq-eqb}
 use Rattle.std.proofs.lemmas.List.{append-nil}
 use Rattle.std.proofs.lemmas.Option.{slice_get_within}
 use Rattle.semantics.specs.Operations.{Delete}
@@ -30,8 +31,10 @@ serials_below c took (Own client serial d s ∷ G) h = (within, serials_below c 
         omega (arith, l)
 serials_below c took (Peer s ∷ G) h = serials_below c took G h
 
-pub next_above : (x : Submitted) (took : List Submitted) (G : List Entry) → ComeFrom took G → x.serial ≡ length (of_client x.client took) + 1 → IsAbove x.client x.serial G
-next_above x took G h e = subst (λ n. IsAbove x.client n G) (let q : suc (length (of_client x.client took)) ≡ x.serial = omega (arith, e) in q) (serials_below x.client took G h)
+pub next_above : (x : Submitted) (took : List Submitted) (G : List Entry) → ComeFrom took G
+    → x.serial ≡ length (of_client x.client took) + 1 → IsAbove x.client x.serial G
+next_above x took G h e = subst (λ n. IsAbove x.client n G)
+    (let q : suc (length (of_client x.client took)) ≡ x.serial = omega (arith, e) in q) (serials_below x.client took G h)
 
 of_one_more : (b : Bool) (x : Submitted) (zs xs ys : List Submitted) → zs ≡ xs ++ ys → cond b (x ∷ zs) zs ≡ cond b (x ∷ xs) xs ++ ys
 of_one_more true x zs xs ys e = ap (λ (l : List Submitted). x ∷ l) e
@@ -54,33 +57,44 @@ get_last [] n x e = ap (slice_get (x ∷ [])) e
 get_last (y ∷ xs) zero x e = absurd (omega (arith, e))
 get_last (y ∷ xs) (suc n) x e = get_last xs n x (omega (arith, e))
 
-asks_longer : (c : ℕ) (took : List Submitted) (x : Submitted) (serial : ℕ) (d : Command) → AsksFor (of_client c took) serial d → AsksFor (of_client c (took ++ x ∷ [])) serial d
-asks_longer c took x serial d a =
-    (a.0, a.1, ap (λ (l : List Submitted). slice_get l (serial - 1)) (of-append c took (x ∷ [])) ∙ get_longer (of_client c took) (of_client c (x ∷ [])) (serial - 1) a.0 a.2, a.3)
+asks_longer : (c : ℕ) (took : List Submitted) (x : Submitted) (serial : ℕ) (d : Command) → AsksFor (of_client c took) serial d
+    → AsksFor (of_client c (took ++ x ∷ [])) serial d
+asks_longer c took x serial d a = (
+  a.0,
+  a.1,
+  ap (λ (l : List Submitted). slice_get l (serial - 1)) (of-append c took (x ∷ []))
+      ∙ get_longer (of_client c took) (of_client c (x ∷ [])) (serial - 1) a.0 a.2,
+  a.3,
+)
 
 pub come_from_more : (took : List Submitted) (x : Submitted) (G : List Entry) → ComeFrom took G → ComeFrom (took ++ x ∷ []) G
 come_from_more took x [] h = tt
 come_from_more took x (Own client serial d s ∷ G) h = (asks_longer client took x serial d h.0, come_from_more took x G h.1)
 come_from_more took x (Peer s ∷ G) h = come_from_more took x G h
 
-asks_last : (took : List Submitted) (x : Submitted) (d : Command) → x.serial ≡ length (of_client x.client took) + 1 → x.request ≡ OfCommand d → AsksFor (of_client x.client (took ++ x ∷ [])) x.serial d
+asks_last : (took : List Submitted) (x : Submitted) (d : Command) → x.serial ≡ length (of_client x.client took) + 1
+    → x.request ≡ OfCommand d → AsksFor (of_client x.client (took ++ x ∷ [])) x.serial d
 asks_last took x d e is = (
   x,
   omega (arith, e),
-  ap (λ (l : List Submitted). slice_get l (x.serial - 1)) (of-append x.client took (x ∷ []) ∙ ap (λ (l : List Submitted). of_client x.client took ++ l) (of_itself x))
+  ap (λ (l : List Submitted). slice_get l (x.serial - 1))
+      (of-append x.client took (x ∷ []) ∙ ap (λ (l : List Submitted). of_client x.client took ++ l) (of_itself x))
       ∙ get_last (of_client x.client took) (x.serial - 1) x (omega (arith, e)),
   is,
 )
 
-pub come_from_it : (took : List Submitted) (x : Submitted) (more G : List Entry) → x.serial ≡ length (of_client x.client took) + 1 → AreFor x more → ComeFrom took G → ComeFrom (took ++ x ∷ []) (more ++ G)
+pub come_from_it : (took : List Submitted) (x : Submitted) (more G : List Entry) → x.serial ≡ length (of_client x.client took) + 1
+    → AreFor x more → ComeFrom took G → ComeFrom (took ++ x ∷ []) (more ++ G)
 come_from_it took x [] G e a h = come_from_more took x G h
 come_from_it took x (Own client serial d s ∷ more) G e a h = (
-  subst (λ k. AsksFor (of_client k (took ++ x ∷ [])) serial d) (sym a.0) (subst (λ n. AsksFor (of_client x.client (took ++ x ∷ [])) n d) (sym a.1) (asks_last took x d e a.2)),
+  subst (λ k. AsksFor (of_client k (took ++ x ∷ [])) serial d) (sym a.0)
+      (subst (λ n. AsksFor (of_client x.client (took ++ x ∷ [])) n d) (sym a.1) (asks_last took x d e a.2)),
   come_from_it took x more G e a.3 h,
 )
 come_from_it took x (Peer s ∷ more) G e a h = come_from_it took x more G e a h
 
-come_from_before : (x : Submitted) (took : List Submitted) (more G : List Entry) → ((y : Submitted) → AreFor y more) → ComeFrom took G → ComeFrom took (more ++ G)
+come_from_before : (x : Submitted) (took : List Submitted) (more G : List Entry) → ((y : Submitted) → AreFor y more) → ComeFrom took G
+    → ComeFrom took (more ++ G)
 come_from_before x took [] G a h = h
 come_from_before x took (Own client serial d s ∷ more) G a h = absurd (other (a (record x { serial = suc serial })).1)
   where
@@ -90,7 +104,8 @@ come_from_before x took (Peer s ∷ more) G a h = come_from_before x took more G
 
 -- ---- the rest of a drain
 
-pub resumed : (w v : Handler) (took : List Submitted) → IsRunning w.replica → ComeFrom took w.replica.entries → Resumes w v → IsResumed w took v
+pub resumed : (w v : Handler) (took : List Submitted) → IsRunning w.replica → ComeFrom took w.replica.entries → Resumes w v
+    → IsResumed w took v
 resumed w v took h st = by w.behind
   where
     some : Submitted
@@ -104,11 +119,13 @@ resumed w v took h st = by w.behind
           members = p.members;
           entries = (with_peers p.appended [], e);
           running = p.running;
-          come_from = subst (ComeFrom took) (sym e) (come_from_before some took (with_peers p.appended []) w.replica.entries (λ y. peers_for y p.appended) st);
+          come_from = subst (ComeFrom took) (sym e)
+              (come_from_before some took (with_peers p.appended []) w.replica.entries (λ y. peers_for y p.appended) st);
         }
 
     same : v ≡ w → IsResumed w took v
-    same e = subst (λ (u : Handler). IsResumed w took u) (sym e) (record { own = refl; members = refl; entries = ([], refl); running = h; come_from = st })
+    same e = subst (λ (u : Handler). IsResumed w took u) (sym e)
+        (record { own = refl; members = refl; entries = ([], refl); running = h; come_from = st })
 
     by : (b : Bool) → ResumesIf b w v → IsResumed w took v
     by true k = drained k
@@ -134,23 +151,29 @@ items-snoc : (hs : List Handled) (h : Handled) → items_of (hs ++ h ∷ []) ≡
 items-snoc [] h = refl
 items-snoc (g ∷ hs) h = ap (λ (l : List Submitted). g.submitted ∷ l) (items-snoc hs h)
 
-answers_snoc : (p : ℕ) (ps : List ℕ) (G : List Entry) (hs : List Handled) (h : Handled) → AreAnswers p ps G hs → IsAnswer p ps G h.submitted h.reply → AreAnswers p ps G (hs ++ h ∷ [])
+answers_snoc : (p : ℕ) (ps : List ℕ) (G : List Entry) (hs : List Handled) (h : Handled) → AreAnswers p ps G hs
+    → IsAnswer p ps G h.submitted h.reply → AreAnswers p ps G (hs ++ h ∷ [])
 answers_snoc p ps G [] h a k = (k, tt)
 answers_snoc p ps G (g ∷ hs) h a k = (a.0, answers_snoc p ps G hs h a.1 k)
 
-pub answers_stay : (p : ℕ) (ps : List ℕ) (G F : List Entry) (hs : List Handled) → BeginsWith G F → AreAnswers p ps F hs → AreAnswers p ps G hs
+pub answers_stay : (p : ℕ) (ps : List ℕ) (G F : List Entry) (hs : List Handled) → BeginsWith G F → AreAnswers p ps F hs
+    → AreAnswers p ps G hs
 answers_stay p ps G F [] b a = tt
 answers_stay p ps G F (h ∷ hs) b a = (answer_stays p ps G F h.submitted h.reply b a.0, answers_stay p ps G F hs b a.1)
 
-pub taken_items : (took : List Submitted) (hs : List Handled) (h : Handled) → took ++ items_of (hs ++ h ∷ []) ≡ (took ++ items_of hs) ++ h.submitted ∷ []
+pub taken_items : (took : List Submitted) (hs : List Handled) (h : Handled)
+    → took ++ items_of (hs ++ h ∷ []) ≡ (took ++ items_of hs) ++ h.submitted ∷ []
 taken_items took hs h = ap (λ (l : List Submitted). took ++ l) (items-snoc hs h) ∙ sym (append_assoc took (items_of hs) (h.submitted ∷ []))
 
 -- one more
-pub one_more : (w u v : Handler) (took got : List Submitted) (hs : List Handled) (h : Handled) → IsBatch w took hs u → got ≡ took ++ items_of hs → h.submitted.serial ≡ length (of_client h.submitted.client got) + 1
+pub one_more : (w u v : Handler) (took got : List Submitted) (hs : List Handled) (h : Handled) → IsBatch w took hs u
+    → got ≡ took ++ items_of hs → h.submitted.serial ≡ length (of_client h.submitted.client got) + 1
     → Handles u h.submitted h.reply v → IsBatch w took (hs ++ h ∷ []) v
 one_more w u v took got hs h b is number k =
     let x = h.submitted in
-    let so : x.serial ≡ length (of_client x.client (took ++ items_of hs)) + 1 = subst (λ (l : List Submitted). x.serial ≡ length (of_client x.client l) + 1) is number in
+    let so : x.serial
+    ≡ length (of_client x.client (took ++ items_of hs)) + 1 = subst
+    (λ (l : List Submitted). x.serial ≡ length (of_client x.client l) + 1) is number in
     let a = handled u v x h.reply b.running (next_above x (took ++ items_of hs) u.replica.entries b.come_from so) k in
     let old : AreAnswers v.replica.own v.replica.members v.replica.entries hs =
     subst (λ p. AreAnswers p v.replica.members v.replica.entries hs) (sym a.own)
@@ -161,6 +184,7 @@ one_more w u v took got hs h b is number k =
       members = a.members ∙ b.members;
       running = a.running;
       come_from = subst (λ (l : List Submitted). ComeFrom l v.replica.entries) (sym (taken_items took hs h))
-          (subst (ComeFrom ((took ++ items_of hs) ++ x ∷ [])) (sym a.entries) (come_from_it (took ++ items_of hs) x a.more u.replica.entries so a.for_it b.come_from));
+          (subst (ComeFrom ((took ++ items_of hs) ++ x ∷ [])) (sym a.entries)
+          (come_from_it (took ++ items_of hs) x a.more u.replica.entries so a.for_it b.come_from));
       answers = answers_snoc v.replica.own v.replica.members v.replica.entries hs h old a.answer;
     }

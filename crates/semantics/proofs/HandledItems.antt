@@ -28,17 +28,20 @@ pub record IsHandled (r : Replica) (x : Submitted) (t : Replica) (reply : Reply)
   pub running : IsRunning t
   pub good : IsGoodReply t.own t.entries x reply
   -- it has no other serial of a client than x's that wasn't there before
-  pub above : (client serial : ℕ) → IsAbove client serial r.entries → (x.client ≡ client → x.serial < serial) → IsAbove client serial t.entries
+  pub above : (client serial : ℕ) → IsAbove client serial r.entries → (x.client ≡ client → x.serial < serial)
+      → IsAbove client serial t.entries
 
 -- the vector of all that was applied says what the operation depends on
-pub as_stamped : (r : Replica) (c : Command) (o : Operation) → IsEntryHistory r.own r.entries → make (operations r) r.own c ≡ Ok o → o ≡ operation_after (operations r) (stamp (operations r) o)
+pub as_stamped : (r : Replica) (c : Command) (o : Operation) → IsEntryHistory r.own r.entries → make (operations r) r.own c ≡ Ok o
+    → o ≡ operation_after (operations r) (stamp (operations r) o)
 as_stamped r c o h e = λ i. record { id = o.id; deps = λ a. deps a i; place = o.place; mutation = o.mutation }
   where
     deps : (a : OpId) → o.deps a ≡ names (operations r) (vector_of (operations r)) a
     deps a = (made_lawful (operations r) (legal (stamped_of r.entries) (entries_legal r.own r.entries h)) r.own c o e).2 a
         ∙ (all_named (operations r) (vector_of (operations r)) (at-vector_of (operations r))).same a
 
-made : (r : Replica) (x : Submitted) (c : Command) → x.request ≡ OfCommand c → IsRunning r → IsAbove x.client x.serial r.entries → x.floor ≤ length r.entries
+made : (r : Replica) (x : Submitted) (c : Command) → x.request ≡ OfCommand c → IsRunning r → IsAbove x.client x.serial r.entries
+    → x.floor ≤ length r.entries
     → (m : Result Operation Refusal) → make (operations r) r.own c ≡ m → IsHandled r x (after_made r x c m) (reply_made r m)
 made r x c is h above floor (Err why) e = record {
   own = refl;
@@ -50,7 +53,8 @@ made r x c is h above floor (Err why) e = record {
 made r x c is h above floor (Ok o) e = record {
   own = refl;
   entries = (Own x.client x.serial c (stamp (operations r) o) ∷ [], refl);
-  running = own_committed r x.client x.serial c (stamp (operations r) o) h (at-vector_of (operations r)) (e ∙ (λ i. Ok (as_stamped r c o h.history e i))) above;
+  running = own_committed r x.client x.serial c (stamp (operations r) o) h (at-vector_of (operations r))
+      (e ∙ (λ i. Ok (as_stamped r c o h.history e i))) above;
   good = rw is (own_made r.own r.entries x c (stamp (operations r) o), floor);
   above = λ client serial a l. (l, a);
 }
@@ -68,7 +72,8 @@ requested r x h above floor (OfPeer s) is =
     }
 
 -- An item whose floor isn't above the history is handled, and never refused for its floor.
-pub handled : (r : Replica) (x : Submitted) → IsRunning r → IsAbove x.client x.serial r.entries → x.floor ≤ length r.entries → IsHandled r x (after_item r x) (reply_to r x)
+pub handled : (r : Replica) (x : Submitted) → IsRunning r → IsAbove x.client x.serial r.entries → x.floor ≤ length r.entries
+    → IsHandled r x (after_item r x) (reply_to r x)
 handled r x h above floor =
     let test : nat_lt (length r.entries) x.floor ≡ false = le-ltb (length r.entries) x.floor floor in
     rw test (requested r x h above floor x.request refl)

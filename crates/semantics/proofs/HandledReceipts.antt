@@ -1,6 +1,7 @@
 -- Once all of a receipt is handled, each operation of the history that came in it is applied, or the engine's own history is full,
 -- and the operation waits or was refused for that.
-use Rattle.std.proofs.Common.{◌≡◌, inl, inr, ℕ, ◌+◌, ◌<◌, ◌≤◌, false, cond, ◌&&◌, ◌==◌, nat_le, nat_lt, List, [], Some, sym, ap, ◌∙◌, subst, arith, slice_get}
+use Rattle.std.proofs.Common.{◌≡◌, inl, inr, ℕ, ◌+◌, ◌<◌, ◌≤◌, false, cond, ◌&&◌, ◌==◌, nat_le, nat_lt, List, [], Some, sym, ap, ◌∙◌, subst}
+use Rattle.std.proofs.Common.{arith, slice_get}
 use Rattle.std.proofs.lemmas.Bool.{and_parts, false_from_ne_true, eqb-true, leb-true, ltb-true, ne_eqb}
 use Rattle.std.proofs.lemmas.List.{append-nil}
 use Rattle.semantics.specs.Operations.{Operation}

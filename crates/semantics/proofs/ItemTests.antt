@@ -1,5 +1,6 @@
 -- The test of an item decides whether it was inserted into that very list.
-use Rattle.std.proofs.Common.{◌≡◌, inl, inr, Bool, true, false, cond, ◌&&◌, List, [], ◌∷◌, Option, Some, None, is_some, refl, sym, ap, ◌∙◌, true≢false}
+use Rattle.std.proofs.Common.{◌≡◌, inl, inr, Bool, true, false, cond, ◌&&◌, List, [], ◌∷◌, Option, Some, None, is_some, refl, sym, ap, ◌∙◌}
+use Rattle.std.proofs.Common.{true≢false}
 use Rattle.std.proofs.lemmas.Bool.{or_cases, or_right, or_left, and_parts, and_from}
 use Rattle.semantics.specs.Ids.{OpId, IdSet, is_same_id}
 use Rattle.semantics.specs.Elements.{Element, Doc, Field, Item, is_same}
@@ -11,7 +12,8 @@ use Rattle.semantics.specs.Faults.{items_covered, is_item_of, items_stand}
 use Rattle.semantics.proofs.Orders.{ids_from_test, id_tested, same_elements, element_itself}
 use Rattle.semantics.proofs.AbsentIds.{has_id-among}
 
-pub slot_from : (l : Element) (r : Option (Element × Option OpId)) → is_some (after_in l r) ≡ true → (after : Option OpId) × (r ≡ Some (l, after))
+pub slot_from : (l : Element) (r : Option (Element × Option OpId)) → is_some (after_in l r) ≡ true
+    → (after : Option OpId) × (r ≡ Some (l, after))
 slot_from l None h = absurd (true≢false (sym h))
 slot_from l (Some slot) h = (slot.1, at_test (is_same slot.0 l) refl h)
   where
@@ -20,7 +22,8 @@ slot_from l (Some slot) h = (slot.1, at_test (is_same slot.0 l) refl h)
     at_test false e h = absurd (true≢false (sym h))
 
 slot_test : (l : Element) (after : Option OpId) (r : Option (Element × Option OpId)) → r ≡ Some (l, after) → is_some (after_in l r) ≡ true
-slot_test l after r e = ap (λ (y : Option (Element × Option OpId)). is_some (after_in l y)) e ∙ ap (λ b. is_some (cond b (Some after) None)) (element_itself l)
+slot_test l after r e = ap (λ (y : Option (Element × Option OpId)). is_some (after_in l y)) e
+    ∙ ap (λ b. is_some (cond b (Some after) None)) (element_itself l)
 
 pub item_from : (G : List Operation) (l : Element) (a : OpId) → is_item_of G l a ≡ true → IsItemOf G l a
 item_from [] l a h = absurd (true≢false (sym h))
@@ -36,7 +39,8 @@ item_test G l a (x, m, e, slot) = passing G m
   where
     here : (o : Operation) → x ≡ o → (is_same_id o.id a && is_some (inserted_after o l)) ≡ true
     here o p = ap (λ (y : Operation). is_same_id y.id a && is_some (inserted_after y l)) (sym p)
-        ∙ and_from (is_same_id x.id a) (is_some (inserted_after x l)) (id_tested x.id a e) (slot_test l slot.0 (slot_of x.mutation x.place) slot.1)
+        ∙ and_from (is_same_id x.id a) (is_some (inserted_after x l)) (id_tested x.id a e)
+        (slot_test l slot.0 (slot_of x.mutation x.place) slot.1)
 
     passing : (G : List Operation) → IsAmong x G → is_item_of G l a ≡ true
     passing [] m = absurd m
@@ -46,7 +50,8 @@ item_test G l a (x, m, e, slot) = passing G m
 item_there : (G : List Operation) (l : Element) (a : OpId) → IsItemOf G l a → has_id G a ≡ true
 item_there G l a (x, m, e, slot) = has_id-among G x a m e
 
-pub items_from : (G : List Operation) (v : Vector) (e : Element) → items_stand G e ≡ true → items_covered v e ≡ true → ItemsStand G (names G v) e
+pub items_from : (G : List Operation) (v : Vector) (e : Element) → items_stand G e ≡ true → items_covered v e ≡ true
+    → ItemsStand G (names G v) e
 items_from G v Doc h c = tt
 items_from G v (Field e n) h c = items_from G v e h c
 items_from G v (Item l a) h c =

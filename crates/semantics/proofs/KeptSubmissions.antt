@@ -1,5 +1,6 @@
 -- All that clients submitted stays there at each step of an engine.
-use Rattle.std.proofs.Common.{◌≡◌, ℕ, Bool, true, false, ◌||◌, ◌==◌, not, cond, nat_le, List, [], ◌∷◌, ◌++◌, map, length, Option, Some, None, refl, sym, ap, ◌∙◌, slice_get}
+use Rattle.std.proofs.Common.{◌≡◌, ℕ, Bool, true, false, ◌||◌, ◌==◌, not, cond, nat_le, List, [], ◌∷◌, ◌++◌, map, length, Option, Some}
+use Rattle.std.proofs.Common.{None, refl, sym, ap, ◌∙◌, slice_get}
 use Rattle.std.proofs.lemmas.Bool.{eq-eqb, ne_eqb, or_parts}
 use Rattle.semantics.specs.DocumentAnswer.{is_any}
 use Rattle.semantics.specs.LegalAnswer.{Submitted}

@@ -1,5 +1,6 @@
 -- What got a ticket, and what was counted as received, stands in its client's cell, and stays there.
-use Rattle.std.proofs.Common.{◌≡◌, inl, inr, ℕ, zero, suc, ◌+◌, ◌<◌, Bool, true, false, cond, ◌==◌, nat_le, List, [], ◌∷◌, ◌++◌, length, Option, Some, None, refl, sym, ap, ◌∙◌, subst, arith, slice_get}
+use Rattle.std.proofs.Common.{◌≡◌, inl, inr, ℕ, zero, suc, ◌+◌, ◌<◌, Bool, true, false, cond, ◌==◌, nat_le, List, [], ◌∷◌, ◌++◌, length}
+use Rattle.std.proofs.Common.{Option, Some, None, refl, sym, ap, ◌∙◌, subst, arith, slice_get}
 use Rattle.std.proofs.lemmas.Bool.{ne_eqb}
 use Rattle.std.proofs.lemmas.List.{length-append}
 use Rattle.ids.specs.Configurations.{Configuration}
@@ -54,7 +55,8 @@ ticketed E c request serial h = at_client (slice_get E.clients c) refl
     at_room k there false false e f r =
         let given : Ticket (suc (length k.cells)) ≡ Ticket serial = rw (e, f) at r in
         let is : suc (length k.cells) ≡ serial = cc in
-        let now = subst (λ n. WasSubmitted (with_request E c k request) c n (next_item c k request)) is (now_submitted E c k request there) in
+        let now = subst (λ n. WasSubmitted (with_request E c k request) c n (next_item c k request)) is
+        (now_submitted E c k request there) in
         rw (e, f) (sym is, now)
 
     at_found : (k : Client) → slice_get E.clients c ≡ Some k → IsTicketed k c request serial (push E c request).engine
@@ -75,7 +77,8 @@ ticket_kept cs steps more e c command serial E F there ticket later =
     let W : World = world_after (opened cs) steps in
     let t = ticketed E c (OfCommand command) serial ticket in
     let G : Engine = (push E c (OfCommand command)).engine in
-    let after : slice_get (world_step W (step_by e (Push c command))).world.engines e ≡ Some G = rw there (get-set_same W.engines e E G there) in
+    let after : slice_get (world_step W (step_by e (Push c command))).world.engines e
+    ≡ Some G = rw there (get-set_same W.engines e E G there) in
     let sound = sound_step W (step_by e (Push c command)) (sound_after (opened cs) steps (sound_opened cs)) in
     let grown = grown_after (world_step W (step_by e (Push c command))).world more sound e G F after
     (subst (λ (X : World). slice_get X.engines e ≡ Some F) (after_more (opened cs) steps (step_by e (Push c command) ∷ more)) later) in
@@ -124,8 +127,12 @@ module _ (E : Engine) (c : ℕ) (k : Client) (bad : Option Refusal) (n : ℕ) (s
   )
   at_index later sound_after (suc i) l =
       let x = later i sound_after (get-set_same E.clients c k (with_cell k item) there) (omega (arith, l)) in
-      let same : suc (length (with_cell k item).cells) + i ≡ suc (length k.cells) + suc i = omega (arith, one_more) in
-      (x.0, x.1, under_serial (rest after).engine c (suc (length (with_cell k item).cells) + i) (suc (length k.cells) + suc i) k.seen x.0 same x.2)
+      let same : suc (length (with_cell k item).cells) + i ≡ suc (length k.cells) + suc i = omega (arith, one_more) in (
+        x.0,
+        x.1,
+        under_serial (rest after).engine c (suc (length (with_cell k item).cells) + i)
+            (suc (length k.cells) + suc i) k.seen x.0 same x.2,
+      )
 
   at_push : AreSubmittedAfter → IsPushed E c k s (push E c (OfPeer s)) → (i : ℕ) → n + i < (submit_all c bad n E (s ∷ ss)).submitted
       → IsSubmittedAt (submit_all c bad n E (s ∷ ss)).engine c (suc (length k.cells)) k.seen (s ∷ ss) i

@@ -1,5 +1,6 @@
 -- A made operation may follow the history that it was made in.
-use Rattle.std.proofs.Common.{◌≡◌, inl, inr, ℕ, zero, suc, ◌≤◌, le_antisymm, true, false, cond, nat_le, List, [], ◌∷◌, Result, Ok, Err, refl, ap, subst, arith, slice_get}
+use Rattle.std.proofs.Common.{◌≡◌, inl, inr, ℕ, zero, suc, ◌≤◌, le_antisymm, true, false, cond, nat_le, List, [], ◌∷◌, Result, Ok, Err}
+use Rattle.std.proofs.Common.{refl, ap, subst, arith, slice_get}
 use Rattle.semantics.specs.Ids.{OpId, id_at}
 use Rattle.semantics.specs.Elements.{Element, Doc, Field, Item, Place, At, HeadOf, depth}
 use Rattle.semantics.specs.Operations.{Operation, Mutation, Assign, Insert, Delete, misplaced, element_of}
@@ -20,7 +21,8 @@ module _ (H : List Operation) where
   Stands (Err r) = Unit {0}
   Stands (Ok p) = ItemsStand H (has_id H) (element_of p)
 
-  item_stands : (e : Element) → ItemsStand H (has_id H) e → (ids : List OpId) → AllInserted H e ids → (i : ℕ) → Stands (item_at e (slice_get ids i))
+  item_stands : (e : Element) → ItemsStand H (has_id H) e → (ids : List OpId) → AllInserted H e ids → (i : ℕ)
+      → Stands (item_at e (slice_get ids i))
   item_stands e st [] h i = tt
   item_stands e st (a ∷ ids) h zero = (has_id-among H h.0.0 a h.0.1 h.0.2, h.0, st)
   item_stands e st (a ∷ ids) h (suc i) = item_stands e st ids h.1 i
@@ -28,11 +30,13 @@ module _ (H : List Operation) where
   enter_stands : (e : Element) → ItemsStand H (has_id H) e → (s : Step) → Stands (enter (visible_items (doc H)) e s)
   enter_stands e st (Get n) = st
   enter_stands e st (Idx zero) = st
-  enter_stands e st (Idx (suc i)) = item_stands e st (visible_items (doc H) e) (inserted_filter H e (λ a. is_any ((doc H).presence (Item e a))) ((doc H).order e) (order_inserted H e)) i
+  enter_stands e st (Idx (suc i)) = item_stands e st (visible_items (doc H) e)
+      (inserted_filter H e (λ a. is_any ((doc H).presence (Item e a))) ((doc H).order e) (order_inserted H e)) i
 
   step_stands : (p : Place) → ItemsStand H (has_id H) (element_of p) → (s : Step) → Stands (step_from (visible_items (doc H)) p s)
   step_stands (HeadOf l) st s = tt
-  step_stands (At e) st s = elim (nat_le 32 (depth e)) as (λ b. Stands (cond b (Err TooDeep) (enter (visible_items (doc H)) e s))) [ true ↦ tt | false ↦ enter_stands e st s ]
+  step_stands (At e) st s = elim (nat_le 32 (depth e)) as
+      (λ b. Stands (cond b (Err TooDeep) (enter (visible_items (doc H)) e s))) [ true ↦ tt | false ↦ enter_stands e st s ]
 
   walk_stands : (steps : List Step) (r : Result Place Refusal) → Stands r → Stands (walk_from (visible_items (doc H)) steps r)
   walk_stands [] (Err r) st = tt
@@ -44,11 +48,13 @@ module _ (H : List Operation) where
   all_counted = le_antisymm
       (elim (greatest_cases (λ a. true) H) [
         | inl z ↦ omega arith
-        | inr r ↦ (let k : r.0.id.counter ≤ greatest_of (has_id H) H = counted (has_id H) H r.0 r.1 (has_id-among H r.0 r.0.id r.1 refl) in let e : r.0.id.counter ≡ greatest_of (λ a. true) H = r.3 in omega arith)
+        | inr r ↦ (let k : r.0.id.counter ≤ greatest_of (has_id H) H = counted (has_id H) H r.0 r.1 (has_id-among H r.0 r.0.id r.1 refl) in
+            let e : r.0.id.counter ≡ greatest_of (λ a. true) H = r.3 in omega arith)
       ])
       (elim (greatest_cases (has_id H) H) [
         | inl z ↦ omega arith
-        | inr r ↦ (let k : r.0.id.counter ≤ greatest_of (λ a. true) H = counted (λ a. true) H r.0 r.1 refl in let e : r.0.id.counter ≡ greatest_of (has_id H) H = r.3 in omega arith)
+        | inr r ↦ (let k : r.0.id.counter ≤ greatest_of (λ a. true) H = counted (λ a. true) H r.0 r.1 refl in
+            let e : r.0.id.counter ≡ greatest_of (has_id H) H = r.3 in omega arith)
       ])
 
   made_follows : IsLegal H → (p : ℕ) (m : Mutation) (place : Place) → IsFormed m place → ItemsStand H (has_id H) (element_of place)
@@ -74,7 +80,8 @@ module _ (H : List Operation) where
   MakesLawful p (Err r) = Unit {0}
   MakesLawful p (Ok o) = IsLawful p o
 
-  placed : IsLegal H → (p : ℕ) (m : Mutation) (place : Place) → ItemsStand H (has_id H) (element_of place) → MakesLawful p (operation_at H p m (place_unless (misplaced m place) place))
+  placed : IsLegal H → (p : ℕ) (m : Mutation) (place : Place) → ItemsStand H (has_id H) (element_of place)
+      → MakesLawful p (operation_at H p m (place_unless (misplaced m place) place))
   placed legal p (Insert v) (HeadOf l) st = (made_follows legal p (Insert v) (HeadOf l) refl st, refl, λ a. refl)
   placed legal p (Insert v) (At (Item l a)) st = (made_follows legal p (Insert v) (At (Item l a)) refl st, refl, λ a. refl)
   placed legal p (Insert v) (At Doc) st = tt
@@ -91,7 +98,11 @@ module _ (H : List Operation) where
   makes_lawful : IsLegal H → (p : ℕ) (c : Command) → MakesLawful p (make H p c)
   makes_lawful legal p c =
       let ok = resolved legal p c.mutation (resolve (visible_items (doc H)) c.expression) (walk_stands c.expression (Ok (At Doc)) tt) in
-      elim (is_full H) as (λ b. MakesLawful p (cond b (Err HistoryFull) (operation_at H p c.mutation (then_place c.mutation (resolve (visible_items (doc H)) c.expression))))) [ true ↦ tt | false ↦ ok ]
+      elim (is_full H) as
+      (λ b. MakesLawful p
+      (cond b (Err HistoryFull)
+      (operation_at H p c.mutation
+      (then_place c.mutation (resolve (visible_items (doc H)) c.expression))))) [ true ↦ tt | false ↦ ok ]
 
   -- What is made is lawful.
   pub made_lawful : IsLegal H → (p : ℕ) (c : Command) (o : Operation) → make H p c ≡ Ok o → IsLawful p o

@@ -57,7 +57,8 @@ field_of_item = Get (codes "l") ∷ Idx 1 ∷ Get (codes "t") ∷ []
 
 -- a list, a map inserted into it, and 7 in a field of the map
 abbrev nested : Replica
-nested = after_commands (new 1) (assign list EmptyList ∷ insert (Get (codes "l") ∷ Idx 0 ∷ []) EmptyMap ∷ assign field_of_item (whole 7) ∷ [])
+nested = after_commands (new 1)
+    (assign list EmptyList ∷ insert (Get (codes "l") ∷ Idx 0 ∷ []) EmptyMap ∷ assign field_of_item (whole 7) ∷ [])
 
 nested_history : history nested ≡ id_at 1 1 ∷ id_at 2 1 ∷ id_at 3 1 ∷ []
 nested_history = refl

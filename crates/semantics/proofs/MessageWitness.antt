@@ -35,7 +35,8 @@ abbrev writer : Engine
 writer = (whole_step (push (opened_engine (configuration 1)) 0 (OfCommand (assign (Get (codes "a") ∷ []) (whole 1)))).engine).engine
 
 abbrev reader : Engine
-reader = (take_item (receive_message (see_published (opened_engine (configuration 2)) 0) 0 (Some (Bundle (lacked writer [])))).engine).engine
+reader = (take_item (receive_message (see_published (opened_engine (configuration 2)) 0) 0
+    (Some (Bundle (lacked writer [])))).engine).engine
 
 not_both : (b c : Configuration) → configuration 1 ≡ b → configuration 2 ≡ c → b.own ≡ c.own → ⊥
 not_both b c x y e =

@@ -1,5 +1,6 @@
 -- An engine has grown where a client or a reader has seen more, and where a client's cells keep what stands in them.
-use Rattle.std.proofs.Common.{◌≡◌, ◌⊎◌, inl, inr, ℕ, zero, suc, ◌-◌, ◌≤◌, List, [], ◌∷◌, length, get_or, Option, Some, None, refl, sym, ap, ◌∙◌, subst, arith, slice_get, slice_set}
+use Rattle.std.proofs.Common.{◌≡◌, ◌⊎◌, inl, inr, ℕ, zero, suc, ◌-◌, ◌≤◌, List, [], ◌∷◌, length, get_or, Option, Some, None, refl, sym, ap}
+use Rattle.std.proofs.Common.{◌∙◌, subst, arith, slice_get, slice_set}
 use Rattle.std.proofs.lemmas.Bool.{cases_eq}
 use Rattle.std.proofs.lemmas.List.{length-set}
 use Rattle.semantics.specs.LegalHistory.{IsAmong}
@@ -17,7 +18,8 @@ use Rattle.semantics.proofs.AmongLists.{among_left}
 pub record HasMoved (k j : Client) : Type 0 where
   pub seen : k.seen ≤ j.seen
   pub cells : (serial : ℕ) (cell : Cell) → cell_at k.cells serial ≡ Some cell
-      → (later : Cell) × (cell_at j.cells serial ≡ Some later) × (later.submitted ≡ cell.submitted) × ((g : Given) → cell.answer ≡ Some g → later.answer ≡ Some g)
+      → (later : Cell) × (cell_at j.cells serial ≡ Some later) × (later.submitted ≡ cell.submitted)
+      × ((g : Given) → cell.answer ≡ Some g → later.answer ≡ Some g)
 
 -- what a token has seen, by its client where it is one
 abbrev seen_at : List ℕ → ℕ → Option Client → ℕ
@@ -37,7 +39,8 @@ with_client E queue due c j = record E { queue = queue; due = due; clients = sli
 abbrev pub IsStillReplied : Engine → Handled → Type 0
 IsStillReplied F x = IsAmong x F.due ⊎ ((g : Given) × WasGiven F x.submitted.client x.submitted.serial g × (g.reply ≡ x.reply))
 
-pub grown_by_client : (E : Engine) (queue : List Submitted) (due : List Handled) (c : ℕ) (k j : Client) → slice_get E.clients c ≡ Some k → HasMoved k j
+pub grown_by_client : (E : Engine) (queue : List Submitted) (due : List Handled) (c : ℕ) (k j : Client) → slice_get E.clients c ≡ Some k
+    → HasMoved k j
     → ((x : Handled) → IsAmong x E.due → IsStillReplied (with_client E queue due c j) x) → HasGrown E (with_client E queue due c j)
 grown_by_client E queue due c k j h m still = record {
   own = refl;
@@ -62,20 +65,26 @@ grown_by_client E queue due c k j h m still = record {
     seen_now : (t : ℕ) → ((t ≡ c) ⊎ (t ≡ c → ⊥)) → seen_by E t ≤ seen_by (with_client E queue due c j) t
     seen_now t (inl e) =
         let before : seen_by E t ≡ k.seen = ap (seen_at E.readers (t - length E.clients)) (was t e) in
-        let after : seen_by (with_client E queue due c j) t ≡ j.seen = ap (seen_at E.readers (t - length (slice_set E.clients c j))) (same t e) in
+        let after : seen_by (with_client E queue due c j) t
+        ≡ j.seen = ap (seen_at E.readers (t - length (slice_set E.clients c j))) (same t e) in
         omega (arith, before, after, m.seen)
     seen_now t (inr n) =
-        let by_client : seen_by (with_client E queue due c j) t ≡ seen_at E.readers (t - length (slice_set E.clients c j)) (slice_get E.clients t) = ap (seen_at E.readers (t - length (slice_set E.clients c j))) (other t n) in
-        let by_index : seen_at E.readers (t - length (slice_set E.clients c j)) (slice_get E.clients t) ≡ seen_by E t = ap (λ i. seen_at E.readers (t - i) (slice_get E.clients t)) (length-set E.clients c j) in
+        let by_client : seen_by (with_client E queue due c j) t
+        ≡ seen_at E.readers (t - length (slice_set E.clients c j)) (slice_get E.clients t) = ap
+        (seen_at E.readers (t - length (slice_set E.clients c j))) (other t n) in
+        let by_index : seen_at E.readers (t - length (slice_set E.clients c j)) (slice_get E.clients t)
+        ≡ seen_by E t = ap (λ i. seen_at E.readers (t - i) (slice_get E.clients t)) (length-set E.clients c j) in
         omega (arith, by_client, by_index)
 
-    submitted_now : (d serial : ℕ) (x : Submitted) → WasSubmitted E d serial x → ((d ≡ c) ⊎ (d ≡ c → ⊥)) → WasSubmitted (with_client E queue due c j) d serial x
+    submitted_now : (d serial : ℕ) (x : Submitted) → WasSubmitted E d serial x → ((d ≡ c) ⊎ (d ≡ c → ⊥))
+        → WasSubmitted (with_client E queue due c j) d serial x
     submitted_now d serial x w (inl e) =
         let l = m.cells serial w.0 (sym (ap (cell_of serial) (was d e)) ∙ w.1) in
         (l.0, ap (cell_of serial) (same d e) ∙ l.1, l.2 ∙ w.2)
     submitted_now d serial x w (inr n) = (w.0, ap (cell_of serial) (other d n) ∙ w.1, w.2)
 
-    given_now : (d serial : ℕ) (g : Given) → WasGiven E d serial g → ((d ≡ c) ⊎ (d ≡ c → ⊥)) → WasGiven (with_client E queue due c j) d serial g
+    given_now : (d serial : ℕ) (g : Given) → WasGiven E d serial g → ((d ≡ c) ⊎ (d ≡ c → ⊥))
+        → WasGiven (with_client E queue due c j) d serial g
     given_now d serial g w (inl e) =
         let l = m.cells serial w.0 (sym (ap (cell_of serial) (was d e)) ∙ w.1) in
         (l.0, ap (cell_of serial) (same d e) ∙ l.1, l.3 g w.2)
@@ -123,6 +132,8 @@ grown_by_reader E i m h = record {
         omega (arith, before, after)
     seen_now t None e =
         let before : seen_by E t ≡ get_or E.readers (t - length E.clients) 0 = ap (seen_at E.readers (t - length E.clients)) e in
-        let after : seen_by (with_reader E i m) t ≡ get_or (slice_set E.readers i m) (t - length E.clients) 0 = ap (seen_at (slice_set E.readers i m) (t - length E.clients)) e in
-        let l : get_or E.readers (t - length E.clients) 0 ≤ get_or (slice_set E.readers i m) (t - length E.clients) 0 = raised E.readers i (t - length E.clients) m h in
+        let after : seen_by (with_reader E i m) t
+        ≡ get_or (slice_set E.readers i m) (t - length E.clients) 0 = ap (seen_at (slice_set E.readers i m) (t - length E.clients)) e in
+        let l : get_or E.readers (t - length E.clients) 0 ≤ get_or (slice_set E.readers i m) (t - length E.clients) 0 = raised E.readers i
+        (t - length E.clients) m h in
         omega (arith, before, after, l)

@@ -13,7 +13,8 @@ pub named_from : (G : List Operation) (v : Vector) (a : OpId) → has_id G a ≡
 named_from G v a h c = and_from (has_id G a) (covers v a) h (covers-from v a c)
 
 -- the greatest counter of a vector that stands for what it names
-pub greatest_named : (G : List Operation) (v : Vector) → ((p : ℕ) → at v p ≢ 0 → has_id G (id_at (at v p) p) ≡ true) → greatest v ≡ greatest_of (names G v) G
+pub greatest_named : (G : List Operation) (v : Vector) → ((p : ℕ) → at v p ≢ 0 → has_id G (id_at (at v p) p) ≡ true)
+    → greatest v ≡ greatest_of (names G v) G
 greatest_named G v reached = le_antisymm below above
   where
     below : greatest v ≤ greatest_of (names G v) G
@@ -24,7 +25,8 @@ greatest_named G v reached = le_antisymm below above
         | inr n ↦ (let e : at v r.0 ≡ greatest v = r.1 in
             let a : OpId = id_at (at v r.0) r.0 in
             let x = among_from G a (reached r.0 n) in
-            let k : x.0.id.counter ≤ greatest_of (names G v) G = counted (names G v) G x.0 x.1 (ap (names G v) x.2 ∙ named_from G v a (reached r.0 n) (omega arith)) in
+            let k : x.0.id.counter ≤ greatest_of (names G v) G = counted (names G v) G x.0 x.1
+            (ap (names G v) x.2 ∙ named_from G v a (reached r.0 n) (omega arith)) in
             let c : x.0.id.counter ≡ at v r.0 = ap (λ (b : OpId). b.counter) x.2 in
             omega arith)
       ]

@@ -1,5 +1,6 @@
 -- What a vector names in a legal history.
-use Rattle.std.proofs.Common.{◌≡◌, ◌≢◌, ◌⊎◌, inl, inr, ℕ, suc, ◌<◌, ◌≤◌, Bool, true, false, ◌&&◌, ◌||◌, ◌==◌, List, [], ◌∷◌, refl, sym, ◌∙◌, subst, arith}
+use Rattle.std.proofs.Common.{◌≡◌, ◌≢◌, ◌⊎◌, inl, inr, ℕ, suc, ◌<◌, ◌≤◌, Bool, true, false, ◌&&◌, ◌||◌, ◌==◌, List, [], ◌∷◌, refl, sym, ◌∙◌}
+use Rattle.std.proofs.Common.{subst, arith}
 use Rattle.std.proofs.lemmas.Bool.{or_right, and_parts, and_right, false_from_ne_true, eqb-true, eq-eqb, cases_eq}
 use Rattle.semantics.specs.Ids.{OpId, id_at, is_same_id}
 use Rattle.semantics.specs.Operations.{Operation}
@@ -20,7 +21,8 @@ vector_counts_id G a h =
     subst (λ (b : OpId). b.counter ≤ greatest_counter G b.replica) r.2 (vector_counts G r.0 r.1 r.0.id.replica refl)
 
 -- the greatest counter of a replica is 0 or that of an operation of it
-pub vector_cases : (G : List Operation) (p : ℕ) → (greatest_counter G p ≡ 0) ⊎ ((x : Operation) × IsAmong x G × (x.id.replica ≡ p) × (x.id.counter ≡ greatest_counter G p))
+pub vector_cases : (G : List Operation) (p : ℕ)
+    → (greatest_counter G p ≡ 0) ⊎ ((x : Operation) × IsAmong x G × (x.id.replica ≡ p) × (x.id.counter ≡ greatest_counter G p))
 vector_cases G p =
     elim (greatest_cases (λ a. a.replica == p) G) [
       | inl e ↦ inl e
@@ -32,7 +34,8 @@ vector_cases G p =
 pub follows_named : {G : List Operation} {s : Stamped} → MayFollow G s → Follows G (operation_after G s)
 follows_named {G} {s} f = f.1
 
-pub reached_named : {G : List Operation} {s : Stamped} → MayFollow G s → (p : ℕ) → at s.vector p ≢ 0 → has_id G (id_at (at s.vector p) p) ≡ true
+pub reached_named : {G : List Operation} {s : Stamped} → MayFollow G s → (p : ℕ) → at s.vector p ≢ 0
+    → has_id G (id_at (at s.vector p) p) ≡ true
 reached_named {G} {s} f p n =
     (and_parts (has_id G (id_at (at s.vector p) p)) (covers s.vector (id_at (at s.vector p) p)) (f.0.attained p n)).0
 
@@ -40,7 +43,8 @@ pub legal : (H : List Stamped) → IsLegalStamped H → IsLegal (operations_of H
 legal [] l = tt
 legal (s ∷ H) l = (legal H l.0, follows_named l.1)
 
-within_reached : (G : List Operation) (v : Vector) (p : ℕ) → (at v p ≢ 0 → has_id G (id_at (at v p) p) ≡ true) → at v p ≤ greatest_counter G p
+within_reached : (G : List Operation) (v : Vector) (p : ℕ) → (at v p ≢ 0 → has_id G (id_at (at v p) p) ≡ true)
+    → at v p ≤ greatest_counter G p
 within_reached G v p h =
     elim (cases_eq (at v p) 0) [
       | inl z ↦ omega arith
@@ -62,7 +66,8 @@ above_own G o f =
     ]
 
 -- What a vector names doesn't change as the history grows, where all that it names was applied.
-pub kept_by_next : (G : List Operation) (o : Operation) → Follows G o → (v : Vector) → ((p : ℕ) → at v p ≤ greatest_counter G p) → (a : OpId) → names (o ∷ G) v a ≡ names G v a
+pub kept_by_next : (G : List Operation) (o : Operation) → Follows G o → (v : Vector) → ((p : ℕ) → at v p ≤ greatest_counter G p)
+    → (a : OpId) → names (o ∷ G) v a ≡ names G v a
 kept_by_next G o f v h a = at_tests (is_same_id o.id a) (has_id G a) (covers v a) (λ e.
     false_from_ne_true (covers v a) (λ c.
     let i : o.id ≡ a = ids_from_test o.id a e in
@@ -75,32 +80,44 @@ kept_by_next G o f v h a = at_tests (is_same_id o.id a) (has_id G a) (covers v a
     at_tests true c d k = k refl ∙ sym (and_right c d (k refl))
     at_tests false c d k = refl
 
-pub means_first : (H : List Stamped) (s : Stamped) → IsLegalStamped (s ∷ H) → Means (operations_of (s ∷ H)) s (operation_after (operations_of H) s)
+pub means_first : (H : List Stamped) (s : Stamped) → IsLegalStamped (s ∷ H)
+    → Means (operations_of (s ∷ H)) s (operation_after (operations_of H) s)
 means_first H s l = record {
   among = inl refl;
   id = refl;
   place = refl;
   mutation = refl;
-  deps = λ a. sym (kept_by_next (operations_of H) (operation_after (operations_of H) s) (follows_named l.1) s.vector (ready_where_follows l.1) a);
+  deps = λ a. sym
+      (kept_by_next (operations_of H) (operation_after (operations_of H) s) (follows_named l.1) s.vector (ready_where_follows l.1) a);
   attained = λ p n. or_right (is_same_id s.id (id_at (at s.vector p) p)) _ (reached_named l.1 p n);
 }
 
-means_later : (H : List Stamped) (s : Stamped) → IsLegalStamped (s ∷ H) → (x : Stamped) (o : Operation) → Means (operations_of H) x o → Means (operations_of (s ∷ H)) x o
+means_later : (H : List Stamped) (s : Stamped) → IsLegalStamped (s ∷ H) → (x : Stamped) (o : Operation) → Means (operations_of H) x o
+    → Means (operations_of (s ∷ H)) x o
 means_later H s l x o m = record {
   among = inr m.among;
   id = m.id;
   place = m.place;
   mutation = m.mutation;
-  deps = λ a. m.deps a ∙ sym (kept_by_next (operations_of H) (operation_after (operations_of H) s) (follows_named l.1) x.vector (λ p. within_reached (operations_of H) x.vector p (m.attained p)) a);
+  deps = λ a. m.deps a
+      ∙ sym
+      (kept_by_next (operations_of H) (operation_after (operations_of H) s) (follows_named l.1) x.vector
+      (λ p. within_reached (operations_of H) x.vector p (m.attained p)) a);
   attained = λ p n. or_right (is_same_id s.id (id_at (at x.vector p) p)) _ (m.attained p n);
 }
 
 pub meaning_of : (H : List Stamped) → IsLegalStamped H → (x : Stamped) → IsAmong x H → (o : Operation) × Means (operations_of H) x o
 meaning_of [] l x m = absurd m
-meaning_of (s ∷ H) l x (inl e) = (operation_after (operations_of H) s, subst (λ (y : Stamped). Means (operations_of (s ∷ H)) y (operation_after (operations_of H) s)) (sym e) (means_first H s l))
+meaning_of (s ∷ H) l x
+    (inl e) = (
+      operation_after (operations_of H) s,
+      subst
+          (λ (y : Stamped). Means (operations_of (s ∷ H)) y (operation_after (operations_of H) s)) (sym e) (means_first H s l),
+    )
 meaning_of (s ∷ H) l x (inr m) = let r = meaning_of H l.0 x m in (r.0, means_later H s l x r.0 r.1)
 
-pub stamped_for : (H : List Stamped) → IsLegalStamped H → (o : Operation) → IsAmong o (operations_of H) → (x : Stamped) × IsAmong x H × Means (operations_of H) x o
+pub stamped_for : (H : List Stamped) → IsLegalStamped H → (o : Operation) → IsAmong o (operations_of H)
+    → (x : Stamped) × IsAmong x H × Means (operations_of H) x o
 stamped_for [] l o m = absurd m
 stamped_for (s ∷ H) l o (inl e) = (s, inl refl, subst (λ (y : Operation). Means (operations_of (s ∷ H)) s y) (sym e) (means_first H s l))
 stamped_for (s ∷ H) l o (inr m) = let r = stamped_for H l.0 o m in (r.0, inr r.1, means_later H s l r.0 o r.2)

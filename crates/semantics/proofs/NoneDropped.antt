@@ -1,5 +1,6 @@
 -- In one world nothing is dropped.
-use Rattle.std.proofs.Common.{◌≡◌, inl, inr, ℕ, zero, suc, Bool, true, false, cond, List, ◌∷◌, Option, Some, None, refl, sym, ap, ◌∙◌, subst}
+use Rattle.std.proofs.Common.{◌≡◌, inl, inr, ℕ, zero, suc, Bool, true, false, cond, List, ◌∷◌, Option, Some, None, refl, sym, ap, ◌∙◌}
+use Rattle.std.proofs.Common.{subst}
 use Rattle.semantics.specs.Operations.{Operation}
 use Rattle.semantics.specs.LegalHistory.{IsLegal, IsAmong, has_id}
 use Rattle.semantics.specs.Stamped.{Stamped, operation_after, operations_of, MayFollow}
@@ -17,7 +18,8 @@ use Rattle.semantics.proofs.Taken.{taken_running}
 use Rattle.semantics.proofs.Waiting.{ready_first, in_without}
 use Rattle.semantics.proofs.GrowingWorld.{legal_entries}
 
-pub may_follow_ready : (K : List Operation) → IsLegal K → (r : Replica) → IsRunning r → AreWithin (operations r) K → (s : Stamped) → IsOfWorld K s → has_id (operations r) s.id ≡ false → is_ready (operations r) s ≡ true
+pub may_follow_ready : (K : List Operation) → IsLegal K → (r : Replica) → IsRunning r → AreWithin (operations r) K → (s : Stamped)
+    → IsOfWorld K s → has_id (operations r) s.id ≡ false → is_ready (operations r) s ≡ true
     → MayFollow (operations r) s × ((o : Operation) × IsAmong o K × (operation_after (operations r) s ≡ o))
 may_follow_ready K lk r h w s of new ready =
     let o = meaning_of of.history of.legal s of.there in
@@ -32,25 +34,30 @@ pub record Keeps (K : List Operation) (r d : Replica) : Type 0 where
   pub none_dropped : d.dropped ≡ r.dropped
   pub within : AreWithin (operations d) K
 
-pub taken_keeps : (K : List Operation) → IsLegal K → (r : Replica) (s : Stamped) → IsRunning r → AreWithin (operations r) K → IsOfWorld K s → IsAmong s r.waiting → is_ready (operations r) s ≡ true
+pub taken_keeps : (K : List Operation) → IsLegal K → (r : Replica) (s : Stamped) → IsRunning r → AreWithin (operations r) K → IsOfWorld K s
+    → IsAmong s r.waiting → is_ready (operations r) s ≡ true
     → Keeps K r (taken r s) × ((x : Stamped) → IsAmong x (taken r s).waiting → IsAmong x r.waiting)
 taken_keeps K lk r s h w of m ready =
     let may = may_follow_ready K lk r h w s of (h.unapplied s m) ready in
-    let none : fault_of (stamped_of r.entries) s ≡ None = no_fault_where_follows (stamped_of r.entries) s (entries_legal r.own r.entries h.history) may.0 in
+    let none : fault_of (stamped_of r.entries) s
+    ≡ None = no_fault_where_follows (stamped_of r.entries) s (entries_legal r.own r.entries h.history) may.0 in
     subst (λ (d : Replica). Keeps K r d × ((x : Stamped) → IsAmong x d.waiting → IsAmong x r.waiting)) (sym (ap (taken_with r s) none)) (
       record { none_dropped = refl; within = next may.1.0 may.1.1 may.1.2 },
       λ x n. (in_without s.id r.waiting x n).0,
     )
   where
-    next : (o : Operation) → IsAmong o K → operation_after (operations r) s ≡ o → AreWithin (operations (record r { entries = Peer s ∷ r.entries })) K
+    next : (o : Operation) → IsAmong o K → operation_after (operations r) s ≡ o
+        → AreWithin (operations (record r { entries = Peer s ∷ r.entries })) K
     next o n e x (inl f) = subst (λ (y : Operation). IsAmong y K) (sym (f ∙ e)) n
     next o n e x (inr k) = w x k
 
-pub keeps_for : (K : List Operation) → IsLegal K → (n : ℕ) (r : Replica) → IsRunning r → AreWithin (operations r) K → ((s : Stamped) → IsAmong s r.waiting → IsOfWorld K s) → Keeps K r (drain_for n r)
+pub keeps_for : (K : List Operation) → IsLegal K → (n : ℕ) (r : Replica) → IsRunning r → AreWithin (operations r) K
+    → ((s : Stamped) → IsAmong s r.waiting → IsOfWorld K s) → Keeps K r (drain_for n r)
 keeps_for K lk zero r h w of = record { none_dropped = refl; within = w }
 keeps_for K lk (suc n) r h w of = at_full (λ m k u v. keeps_for K lk n m k u v) (is_full r.entries)
   where
-    at_first : ((m : Replica) → IsRunning m → AreWithin (operations m) K → ((s : Stamped) → IsAmong s m.waiting → IsOfWorld K s) → Keeps K m (drain_for n m))
+    at_first : ((m : Replica) → IsRunning m → AreWithin (operations m) K → ((s : Stamped) → IsAmong s m.waiting → IsOfWorld K s)
+        → Keeps K m (drain_for n m))
         → (f : Option Stamped) → first_ready (operations r) r.waiting ≡ f → Keeps K r (at_ready f r (λ s. drain_for n (taken r s)))
     at_first rest None e = record { none_dropped = refl; within = w }
     at_first rest (Some s) e =
@@ -59,7 +66,8 @@ keeps_for K lk (suc n) r h w of = at_full (λ m k u v. keeps_for K lk n m k u v)
         let later = rest (taken r s) (taken_running r s h got.0) one.0.within (λ x m. of x (one.1 x m)) in
         record { none_dropped = later.none_dropped ∙ one.0.none_dropped; within = later.within }
 
-    at_full : ((m : Replica) → IsRunning m → AreWithin (operations m) K → ((s : Stamped) → IsAmong s m.waiting → IsOfWorld K s) → Keeps K m (drain_for n m))
+    at_full : ((m : Replica) → IsRunning m → AreWithin (operations m) K → ((s : Stamped) → IsAmong s m.waiting → IsOfWorld K s)
+        → Keeps K m (drain_for n m))
         → (b : Bool) → Keeps K r (cond b r (at_ready (first_ready (operations r) r.waiting) r (λ s. drain_for n (taken r s))))
     at_full rest true = record { none_dropped = refl; within = w }
     at_full rest false = at_first rest (first_ready (operations r) r.waiting) refl

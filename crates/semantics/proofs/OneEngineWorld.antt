@@ -37,26 +37,34 @@ one_write : replies_of (opened (alone ∷ [])) (step_by 0 (Push 0 (assign_a 1)) 
 one_write = refl
 
 -- the client reads what it wrote, and a reader too; until the writer's step nothing is answered and nothing is seen
-own_write : replies_of (opened (engine 1 ∷ [])) (step_by 0 (Push 0 (assign_a 1)) ∷ step_by 0 (Poll 0 1) ∷ reads_a 1 ∷ step_by 0 Whole ∷ step_by 0 (Poll 0 1) ∷ reads_a 0 ∷ reads_a 1 ∷ step_by 0 (Poll 0 1) ∷ step_by 0 Whole ∷ [])
-    ≡ Ticket 1 ∷ Unanswered ∷ Read 0 (Answered (ValuesAre [])) ∷ Published 1 ∷ Replied (Made (id_at 1 1) 0) ∷ Read 1 one_at_a ∷ Read 1 one_at_a ∷ Replied (Made (id_at 1 1) 0) ∷ Idle ∷ []
+own_write : replies_of (opened (engine 1 ∷ []))
+    (step_by 0 (Push 0 (assign_a 1)) ∷ step_by 0 (Poll 0 1) ∷ reads_a 1 ∷ step_by 0 Whole ∷ step_by 0
+    (Poll 0 1) ∷ reads_a 0 ∷ reads_a 1 ∷ step_by 0 (Poll 0 1) ∷ step_by 0 Whole ∷ [])
+    ≡ Ticket 1 ∷ Unanswered ∷ Read 0 (Answered (ValuesAre [])) ∷ Published 1 ∷ Replied
+    (Made (id_at 1 1) 0) ∷ Read 1 one_at_a ∷ Read 1 one_at_a ∷ Replied (Made (id_at 1 1) 0) ∷ Idle ∷ []
 own_write = refl
 
 -- a full queue takes no command, and no serial is used up
-full_queue : replies_of (opened (record alone { queue = 1 } ∷ [])) (step_by 0 (Push 0 (assign_a 1)) ∷ step_by 0 (Push 0 (assign_a 2)) ∷ step_by 0 Whole ∷ step_by 0 (Push 0 (assign_a 2)) ∷ [])
+full_queue : replies_of (opened (record alone { queue = 1 } ∷ []))
+    (step_by 0 (Push 0 (assign_a 1)) ∷ step_by 0 (Push 0 (assign_a 2)) ∷ step_by 0 Whole ∷ step_by 0 (Push 0 (assign_a 2)) ∷ [])
     ≡ Ticket 1 ∷ Denied QueueFull ∷ Published 1 ∷ Ticket 2 ∷ []
 full_queue = refl
 
 -- a serial that was never taken, and no serial 0
-foreign_serials : replies_of (opened (engine 1 ∷ [])) (step_by 0 (Poll 0 1) ∷ step_by 0 (Poll 0 0) ∷ step_by 0 (Push 0 (assign_a 1)) ∷ step_by 0 (Poll 0 2) ∷ step_by 0 (Poll 0 1) ∷ [])
+foreign_serials : replies_of (opened (engine 1 ∷ []))
+    (step_by 0 (Poll 0 1) ∷ step_by 0 (Poll 0 0) ∷ step_by 0 (Push 0 (assign_a 1)) ∷ step_by 0 (Poll 0 2) ∷ step_by 0 (Poll 0 1) ∷ [])
     ≡ Denied Foreign ∷ Denied Foreign ∷ Ticket 1 ∷ Denied Foreign ∷ Unanswered ∷ []
 foreign_serials = refl
 
 -- one serial alone
-last_serial : replies_of (opened (record alone { serials = 1 } ∷ [])) (step_by 0 (Push 0 (assign_a 1)) ∷ step_by 0 (Push 0 (assign_a 2)) ∷ step_by 0 Whole ∷ step_by 0 (Push 0 (assign_a 2)) ∷ [])
+last_serial : replies_of (opened (record alone { serials = 1 } ∷ []))
+    (step_by 0 (Push 0 (assign_a 1)) ∷ step_by 0 (Push 0 (assign_a 2)) ∷ step_by 0 Whole ∷ step_by 0 (Push 0 (assign_a 2)) ∷ [])
     ≡ Ticket 1 ∷ Denied SerialEnd ∷ Published 1 ∷ Denied SerialEnd ∷ []
 last_serial = refl
 
 -- a step answers a batch at most
-batches : replies_of (opened (record alone { batch = 2 } ∷ [])) (step_by 0 (Push 0 (assign_a 1)) ∷ step_by 0 (Push 0 (assign_a 2)) ∷ step_by 0 (Push 0 (assign_a 3)) ∷ step_by 0 Whole ∷ step_by 0 Whole ∷ step_by 0 Whole ∷ [])
+batches : replies_of (opened (record alone { batch = 2 } ∷ []))
+    (step_by 0 (Push 0 (assign_a 1)) ∷ step_by 0 (Push 0 (assign_a 2)) ∷ step_by 0
+    (Push 0 (assign_a 3)) ∷ step_by 0 Whole ∷ step_by 0 Whole ∷ step_by 0 Whole ∷ [])
     ≡ Ticket 1 ∷ Ticket 2 ∷ Ticket 3 ∷ Published 2 ∷ Published 1 ∷ Idle ∷ []
 batches = refl

@@ -13,11 +13,13 @@ use Rattle.semantics.proofs.TrackedEngines.{IsEngineOf}
 -- The engines and messages of W are of the world K.
 pub record IsWorldOf (K : List Operation) (W : World) : Type 0 where
   pub legal : IsLegal K
-  pub numbers : (d e : ℕ) (D E : Engine) → slice_get W.engines d ≡ Some D → slice_get W.engines e ≡ Some E → D.replica.own ≡ E.replica.own → d ≡ e
+  pub numbers : (d e : ℕ) (D E : Engine) → slice_get W.engines d ≡ Some D → slice_get W.engines e ≡ Some E → D.replica.own ≡ E.replica.own
+      → d ≡ e
   pub engines : (e : ℕ) (E : Engine) → slice_get W.engines e ≡ Some E → IsEngineOf K E
   pub sent : (k : ℕ) (ss : List Stamped) (s : Stamped) → slice_get W.messages k ≡ Some (Bundle ss) → IsAmong s ss → IsOfWorld K s
 
-opened_of : (cs : List Configuration) (e : ℕ) (E : Engine) → slice_get (opened cs).engines e ≡ Some E → (c : Configuration) × (slice_get cs e ≡ Some c) × (opened_engine c ≡ E)
+opened_of : (cs : List Configuration) (e : ℕ) (E : Engine) → slice_get (opened cs).engines e ≡ Some E
+    → (c : Configuration) × (slice_get cs e ≡ Some c) × (opened_engine c ≡ E)
 opened_of [] e E h = cc
 opened_of (c ∷ cs) zero E h = (c, refl, cc)
 opened_of (c ∷ cs) (suc e) E h = opened_of cs e E h

@@ -1,5 +1,6 @@
 -- What the rules refuse is never refused because an allocation failed or for its floor, so such items change nothing.
-use Rattle.std.proofs.Common.{◌≡◌, inl, inr, ℕ, zero, suc, ◌<◌, Bool, true, false, cond, ◌||◌, ◌==◌, nat_lt, nat_le, List, [], ◌∷◌, length, Option, Some, None, Result, Ok, Err, refl, sym, ap, ◌∙◌, subst, arith, true≢false, slice_get}
+use Rattle.std.proofs.Common.{◌≡◌, inl, inr, ℕ, zero, suc, ◌<◌, Bool, true, false, cond, ◌||◌, ◌==◌, nat_lt, nat_le, List, [], ◌∷◌, length}
+use Rattle.std.proofs.Common.{Option, Some, None, Result, Ok, Err, refl, sym, ap, ◌∙◌, subst, arith, true≢false, slice_get}
 use Rattle.std.specs.Bool.{⊤}
 use Rattle.std.proofs.lemmas.Bool.{ltb-true, ltb-false}
 use Rattle.ids.specs.declared.refusal.Refusal.{Refusal}
@@ -61,7 +62,8 @@ cond_fine false x y f g = g
 room_fine : (r : Replica) (s : Stamped) → FineAnswer (room_answer r s)
 room_fine r s =
     cond_fine (is_ready (operations r) s) _ _
-    (cond_fine (nat_lt 4096 (length r.waiting)) (NotKept InboxFull) (kept_unless (fault_of (stamped_of r.entries) s)) refl (kept_fine (fault_of (stamped_of r.entries) s) (fault_fine _ _ _ _)))
+    (cond_fine (nat_lt 4096 (length r.waiting)) (NotKept InboxFull) (kept_unless (fault_of (stamped_of r.entries) s)) refl
+    (kept_fine (fault_of (stamped_of r.entries) s) (fault_fine _ _ _ _)))
     (cond_fine (nat_lt 4095 (length r.waiting)) (NotKept InboxFull) Kept refl tt)
 
 after_fine : (r : Replica) (s : Stamped) (o : Option Refusal) → FineFault o → FineAnswer (answer_after r s o)
@@ -93,7 +95,8 @@ step_fine : (items : Element → List OpId) (p : Place) (s : Step) → FineResul
 step_fine items (HeadOf l) s = refl
 step_fine items (At e) s = result_cond (nat_le 32 (depth e)) (Err TooDeep) (enter items e s) refl (enter_fine items e s)
 
-walk_fine : (items : Element → List OpId) (steps : List Step) (r : Result Place Refusal) → FineResult r → FineResult (walk_from items steps r)
+walk_fine : (items : Element → List OpId) (steps : List Step) (r : Result Place Refusal) → FineResult r
+    → FineResult (walk_from items steps r)
 walk_fine items [] (Err e) f = f
 walk_fine items (s ∷ steps) (Err e) f = f
 walk_fine items [] (Ok p) f = tt
@@ -120,7 +123,9 @@ at_fine H p m (Ok x) f = tt
 pub make_fine : (H : List Operation) (p : ℕ) (c : Command) → FineResult (make H p c)
 make_fine H p c =
     result_cond (is_full H) (Err HistoryFull) _ refl
-    (at_fine H p c.mutation _ (then_fine c.mutation (resolve (visible_items (doc H)) c.expression) (walk_fine (visible_items (doc H)) c.expression (Ok (At Doc)) tt)))
+    (at_fine H p c.mutation _
+    (then_fine c.mutation (resolve (visible_items (doc H)) c.expression)
+    (walk_fine (visible_items (doc H)) c.expression (Ok (At Doc)) tt)))
 
 -- ---- replies
 
@@ -155,37 +160,57 @@ same_refusal e f m n is = cc
 floor_only : BadFloor ≡ NoMemory → ⊥
 floor_only e = cc
 
-tested_reply : (w : Handler) (x : Submitted) (b : Bool) → nat_lt (length w.replica.entries) x.floor ≡ b → reply_to w.replica x ≡ cond b (NotMade BadFloor (length w.replica.entries)) (reply_requested w.replica x.request)
+tested_reply : (w : Handler) (x : Submitted) (b : Bool) → nat_lt (length w.replica.entries) x.floor ≡ b
+    → reply_to w.replica x ≡ cond b (NotMade BadFloor (length w.replica.entries)) (reply_requested w.replica x.request)
 tested_reply w x b is = ap (λ c. cond c (NotMade BadFloor (length w.replica.entries)) (reply_requested w.replica x.request)) is
 
-tested_replica : (w : Handler) (x : Submitted) (b : Bool) → nat_lt (length w.replica.entries) x.floor ≡ b → after_item w.replica x ≡ cond b w.replica (after_request w.replica x x.request)
+tested_replica : (w : Handler) (x : Submitted) (b : Bool) → nat_lt (length w.replica.entries) x.floor ≡ b
+    → after_item w.replica x ≡ cond b w.replica (after_request w.replica x x.request)
 tested_replica w x b is = ap (λ c. cond c w.replica (after_request w.replica x x.request)) is
 
 tested_behind : (w : Handler) (x : Submitted) → nat_lt (length w.replica.entries) x.floor ≡ true → still_behind w x ≡ w.behind
 tested_behind w x is = rw is refl
 
 -- an item that is refused because an allocation failed or for its floor changes nothing
-pub nothing_changes : (w v : Handler) (x : Submitted) (e : Refusal) (m : ℕ) → is_outside_rules e ≡ true → Handles w x (NotMade e m) v → v ≡ w
+pub nothing_changes : (w v : Handler) (x : Submitted) (e : Refusal) (m : ℕ) → is_outside_rules e ≡ true → Handles w x (NotMade e m) v
+    → v ≡ w
 nothing_changes w v x e m t (inl k) = by (nat_lt (length w.replica.entries) x.floor) refl
   where
     by : (b : Bool) → nat_lt (length w.replica.entries) x.floor ≡ b → v ≡ w
     by true is = (λ i. record { replica = (k.replica ∙ tested_replica w x true is) i; behind = (k.behind ∙ tested_behind w x is) i })
-    by false is = absurd (no_rule (reply_requested w.replica x.request) e m (sym (k.reply ∙ tested_reply w x false is)) t (requested_fine w.replica x.request))
+    by false is = absurd
+        (no_rule (reply_requested w.replica x.request) e m (sym (k.reply ∙ tested_reply w x false is)) t
+        (requested_fine w.replica x.request))
 nothing_changes w v x e m t (inr (inl k)) = k.same
-nothing_changes w v x e m t (inr (inr k)) = absurd (no_rule (reply_delivered (length v.replica.entries) (answer_to w.replica k.stamped)) e m (sym k.reply) t (delivered_fine (length v.replica.entries) (answer_to w.replica k.stamped) (answer_fine w.replica k.stamped)))
+nothing_changes w v x e m t (inr (inr k)) = absurd
+    (no_rule (reply_delivered (length v.replica.entries) (answer_to w.replica k.stamped)) e m (sym k.reply) t
+    (delivered_fine (length v.replica.entries) (answer_to w.replica k.stamped) (answer_fine w.replica k.stamped)))
 
 -- an item is refused for its floor exactly where that is above the history
-pub floors_exactly : (w v : Handler) (x : Submitted) (y : Reply) → Handles w x y v → (length w.replica.entries < x.floor → y ≡ NotMade BadFloor (length w.replica.entries)) × ((m : ℕ) → y ≡ NotMade BadFloor m → length w.replica.entries < x.floor)
+pub floors_exactly : (w v : Handler) (x : Submitted) (y : Reply) → Handles w x y v
+    → (length w.replica.entries < x.floor → y ≡ NotMade BadFloor (length w.replica.entries))
+    × ((m : ℕ) → y ≡ NotMade BadFloor m → length w.replica.entries < x.floor)
 floors_exactly w v x y (inl k) = by (nat_lt (length w.replica.entries) x.floor) refl
   where
-    by : (b : Bool) → nat_lt (length w.replica.entries) x.floor ≡ b → (length w.replica.entries < x.floor → y ≡ NotMade BadFloor (length w.replica.entries)) × ((m : ℕ) → y ≡ NotMade BadFloor m → length w.replica.entries < x.floor)
+    by : (b : Bool) → nat_lt (length w.replica.entries) x.floor ≡ b
+        → (length w.replica.entries < x.floor → y ≡ NotMade BadFloor (length w.replica.entries))
+        × ((m : ℕ) → y ≡ NotMade BadFloor m → length w.replica.entries < x.floor)
     by true is = (λ l. k.reply ∙ tested_reply w x true is, λ m e. ltb-true (length w.replica.entries) x.floor is)
     by false is = (
       λ l. absurd (let g = ltb-false (length w.replica.entries) x.floor is in omega (arith, l, g)),
-      λ m e. absurd (no_rule (reply_requested w.replica x.request) BadFloor m (sym (k.reply ∙ tested_reply w x false is) ∙ e) refl (requested_fine w.replica x.request)),
+      λ m e. absurd
+          (no_rule (reply_requested w.replica x.request) BadFloor m (sym (k.reply ∙ tested_reply w x false is) ∙ e) refl
+          (requested_fine w.replica x.request)),
     )
-floors_exactly w v x y (inr (inl k)) = (λ l. absurd (omega (arith, l, k.floor)), λ m e. absurd (floor_only (sym (same_refusal NoMemory BadFloor (length w.replica.entries) m (sym k.reply ∙ e)))))
+floors_exactly w v x y
+    (inr (inl k)) = (
+      λ l. absurd (omega (arith, l, k.floor)),
+      λ m e. absurd
+          (floor_only (sym (same_refusal NoMemory BadFloor (length w.replica.entries) m (sym k.reply ∙ e)))),
+    )
 floors_exactly w v x y (inr (inr k)) = (
   λ l. absurd (omega (arith, l, k.floor)),
-  λ m e. absurd (no_rule (reply_delivered (length v.replica.entries) (answer_to w.replica k.stamped)) BadFloor m (sym k.reply ∙ e) refl (delivered_fine (length v.replica.entries) (answer_to w.replica k.stamped) (answer_fine w.replica k.stamped))),
+  λ m e. absurd
+      (no_rule (reply_delivered (length v.replica.entries) (answer_to w.replica k.stamped)) BadFloor m (sym k.reply ∙ e) refl
+      (delivered_fine (length v.replica.entries) (answer_to w.replica k.stamped) (answer_fine w.replica k.stamped))),
 )

@@ -10,7 +10,8 @@ use Rattle.semantics.specs.LegalAnswer.{Submitted, Made, NotMade, LacksSerial, I
 newest_at : (e : Entry) (G : List Entry) → entry_at (length G) (e ∷ G) ≡ Some e
 newest_at e G = ap (λ b. cond b (Some e) (entry_at (length G) G)) (eq-eqb (length G) (length G) refl)
 
-pub own_made : (p : ℕ) (G : List Entry) (x : Submitted) (c : Command) (s : Stamped) → IsLegalAnswer p (Own x.client x.serial c s ∷ G) x c (Made s.id (length G))
+pub own_made : (p : ℕ) (G : List Entry) (x : Submitted) (c : Command) (s : Stamped)
+    → IsLegalAnswer p (Own x.client x.serial c s ∷ G) x c (Made s.id (length G))
 own_made p G x c s = (s, newest_at (Own x.client x.serial c s) G, refl)
 
 pub all_first : (G : List Entry) → first_entries (length G) G ≡ G
@@ -22,7 +23,8 @@ above_lacks client serial [] h = tt
 above_lacks client serial (Own k n c s ∷ G) h = (λ e f. (let l : n < serial = h.0 e in omega arith), above_lacks client serial G h.1)
 above_lacks client serial (Peer s ∷ G) h = above_lacks client serial G h
 
-pub own_refused : (p : ℕ) (G : List Entry) (x : Submitted) (c : Command) (why : Refusal) → IsAbove x.client x.serial G → make (applied G) p c ≡ Err why → IsLegalAnswer p G x c (NotMade why (length G))
+pub own_refused : (p : ℕ) (G : List Entry) (x : Submitted) (c : Command) (why : Refusal) → IsAbove x.client x.serial G
+    → make (applied G) p c ≡ Err why → IsLegalAnswer p G x c (NotMade why (length G))
 own_refused p G x c why above e = (
   omega arith,
   inl (subst (λ F. make (applied F) p c ≡ Err why) (sym (all_first G)) e),

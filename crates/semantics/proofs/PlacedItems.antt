@@ -1,5 +1,6 @@
 -- Which items stand in the lists of a legal history.
-use Rattle.std.proofs.Common.{◌≡◌, ◌⊎◌, inl, inr, Bool, true, false, cond, ◌&&◌, ◌||◌, List, [], ◌∷◌, Option, Some, None, is_some, refl, sym, ap, ◌∙◌, true≢false}
+use Rattle.std.proofs.Common.{◌≡◌, ◌⊎◌, inl, inr, Bool, true, false, cond, ◌&&◌, ◌||◌, List, [], ◌∷◌, Option, Some, None, is_some, refl}
+use Rattle.std.proofs.Common.{sym, ap, ◌∙◌, true≢false}
 use Rattle.std.specs.List.{list_any}
 use Rattle.std.specs.Cmp.{both_ways}
 use Rattle.std.proofs.lemmas.Bool.{and_from, or_cases, or_left, or_right}
@@ -23,7 +24,12 @@ has_prev (Some p) bs = has p bs
 
 -- an item is still there where x stands before it in both, or it is x
 keeps_first : (a x : OpId) (xs ys : List OpId) → (has a xs ≡ true → has a ys ≡ true) → has a (x ∷ xs) ≡ true → has a (x ∷ ys) ≡ true
-keeps_first a x xs ys k h = elim (or_cases (is_same_id a x) (has a xs) h) [ inl f ↦ or_left (is_same_id a x) (has a ys) f | inr r ↦ or_right (is_same_id a x) (has a ys) (k r) ]
+keeps_first a x xs ys k h = elim
+    (or_cases (is_same_id a x) (has a xs) h) [
+      | inl f ↦ or_left (is_same_id a x) (has a ys) f
+      | inr r ↦ or_right (is_same_id a x) (has a ys)
+          (k r)
+    ]
 
 -- an item stays where another goes in
 skip_keeps : (a b : OpId) (xs : List OpId) → has a xs ≡ true → has a (skip b xs) ≡ true
@@ -36,10 +42,12 @@ skip_keeps a b (x ∷ xs) h = by (is_smaller_id x b) (keeps_first a x xs (skip b
 insert_keeps : (p : Option OpId) (a b : OpId) (xs : List OpId) → has a xs ≡ true → has a (insert_after p b xs) ≡ true
 insert_keeps None a b xs h = skip_keeps a b xs h
 insert_keeps (Some p) a b [] h = absurd (true≢false (sym h))
-insert_keeps (Some p) a b (x ∷ xs) h = by (is_same_id p x) (keeps_first a x xs (skip b xs) (skip_keeps a b xs) h) (keeps_first a x xs (insert_after (Some p) b xs) (insert_keeps (Some p) a b xs) h) where
-  by : (s : Bool) → has a (x ∷ skip b xs) ≡ true → has a (x ∷ insert_after (Some p) b xs) ≡ true → has a (cond s (x ∷ skip b xs) (x ∷ insert_after (Some p) b xs)) ≡ true
-  by true j k = j
-  by false j k = k
+insert_keeps (Some p) a b (x ∷ xs) h = by (is_same_id p x) (keeps_first a x xs (skip b xs) (skip_keeps a b xs) h)
+    (keeps_first a x xs (insert_after (Some p) b xs) (insert_keeps (Some p) a b xs) h) where
+      by : (s : Bool) → has a (x ∷ skip b xs) ≡ true → has a (x ∷ insert_after (Some p) b xs) ≡ true
+          → has a (cond s (x ∷ skip b xs) (x ∷ insert_after (Some p) b xs)) ≡ true
+      by true j k = j
+      by false j k = k
 
 -- a new item is there, where what it goes after is
 skip_has : (b : OpId) (xs : List OpId) → has b (skip b xs) ≡ true
@@ -53,7 +61,8 @@ insert_has : (p : Option OpId) (b : OpId) (xs : List OpId) → has_prev p xs ≡
 insert_has None b xs h = skip_has b xs
 insert_has (Some p) b [] h = absurd (true≢false (sym h))
 insert_has (Some p) b (x ∷ xs) h = by (is_same_id p x) refl (insert_has (Some p) b xs) where
-  by : (s : Bool) → is_same_id p x ≡ s → (has p xs ≡ true → has b (insert_after (Some p) b xs) ≡ true) → has b (cond s (x ∷ skip b xs) (x ∷ insert_after (Some p) b xs)) ≡ true
+  by : (s : Bool) → is_same_id p x ≡ s → (has p xs ≡ true → has b (insert_after (Some p) b xs) ≡ true)
+      → has b (cond s (x ∷ skip b xs) (x ∷ insert_after (Some p) b xs)) ≡ true
   by true e k = or_right (is_same_id b x) (has b (skip b xs)) (skip_has b xs)
   by false e k = or_right (is_same_id b x) (has b (insert_after (Some p) b xs)) (k (ap (λ s. s || has p xs) (sym e) ∙ h))
 
@@ -80,10 +89,12 @@ insert_adds : (p : Option OpId) (a b : OpId) (xs : List OpId) → Adds a b xs (i
 unfolding Adds
 insert_adds None a b xs h = skip_adds a b xs h
 insert_adds (Some p) a b [] h = inr h
-insert_adds (Some p) a b (x ∷ xs) h = by (is_same_id p x) (adds_first a b x xs (skip b xs) (skip_adds a b xs)) (adds_first a b x xs (insert_after (Some p) b xs) (insert_adds (Some p) a b xs)) h where
-  by : (s : Bool) → Adds a b (x ∷ xs) (x ∷ skip b xs) → Adds a b (x ∷ xs) (x ∷ insert_after (Some p) b xs) → Adds a b (x ∷ xs) (cond s (x ∷ skip b xs) (x ∷ insert_after (Some p) b xs))
-  by true j k g = j g
-  by false j k g = k g
+insert_adds (Some p) a b (x ∷ xs) h = by (is_same_id p x) (adds_first a b x xs (skip b xs) (skip_adds a b xs))
+    (adds_first a b x xs (insert_after (Some p) b xs) (insert_adds (Some p) a b xs)) h where
+      by : (s : Bool) → Adds a b (x ∷ xs) (x ∷ skip b xs) → Adds a b (x ∷ xs) (x ∷ insert_after (Some p) b xs)
+          → Adds a b (x ∷ xs) (cond s (x ∷ skip b xs) (x ∷ insert_after (Some p) b xs))
+      by true j k g = j g
+      by false j k g = k g
 
 some_adds : (o : Option (Option OpId)) (a b : OpId) (xs : List OpId) → Adds a b xs (insert_some o b xs)
 unfolding Adds
@@ -106,10 +117,14 @@ slot_is a b e = cc
 AreThere : List Operation → Type 0
 AreThere H = (l : Element) (a : OpId) → IsItemOf H l a → has a ((doc H).order l) ≡ true
 
-prev_in : (H : List Operation) (S : OpId → Bool) → AreThere H → (m : Mutation) (place : Place) (l : Element) (p : Option OpId) → ItemsStand H S (element_of place) → slot_of m place ≡ Some (l, p) → has_prev p ((doc H).order l) ≡ true
+prev_in : (H : List Operation) (S : OpId → Bool) → AreThere H → (m : Mutation) (place : Place) (l : Element) (p : Option OpId)
+    → ItemsStand H S (element_of place) → slot_of m place ≡ Some (l, p) → has_prev p ((doc H).order l) ≡ true
 unfolding AreThere
-prev_in H S there (Insert v) (HeadOf m) l p stand is = ap (λ (s : Element × Option OpId). has_prev s.1 ((doc H).order s.0)) (sym (slot_is (m, None) (l, p) is))
-prev_in H S there (Insert v) (At (Item m q)) l p stand is = ap (λ (s : Element × Option OpId). has_prev s.1 ((doc H).order s.0)) (sym (slot_is (m, Some q) (l, p) is)) ∙ there m q stand.1
+prev_in H S there (Insert v) (HeadOf m) l p stand is = ap (λ (s : Element × Option OpId). has_prev s.1 ((doc H).order s.0))
+    (sym (slot_is (m, None) (l, p) is))
+prev_in H S there (Insert v) (At (Item m q)) l p stand is = ap (λ (s : Element × Option OpId). has_prev s.1 ((doc H).order s.0))
+    (sym (slot_is (m, Some q) (l, p) is))
+    ∙ there m q stand.1
 prev_in H S there (Insert v) (At Doc) l p stand is = cc
 prev_in H S there (Insert v) (At (Field e n)) l p stand is = cc
 prev_in H S there (Assign v) place l p stand is = cc
@@ -130,7 +145,8 @@ items_there (o ∷ H) legal l a (x, inr among, id, slot) = by (inserted_after o 
   by (Some p) h = insert_keeps p a o.id ((doc H).order l) h
 
 -- what an insert that may follow goes after stands in its list, if it isn't the head
-pub prev_there : (H : List Operation) (o : Operation) → IsLegal H → Follows H o → (l : Element) (p : Option OpId) → slot_of o.mutation o.place ≡ Some (l, p) → has_prev p ((doc H).order l) ≡ true
+pub prev_there : (H : List Operation) (o : Operation) → IsLegal H → Follows H o → (l : Element) (p : Option OpId)
+    → slot_of o.mutation o.place ≡ Some (l, p) → has_prev p ((doc H).order l) ≡ true
 prev_there H o legal follows l p is = prev_in H o.deps (items_there H legal) o.mutation o.place l p follows.items is
 
 -- what stands in a list was inserted into it
@@ -143,11 +159,13 @@ item_listed (o ∷ H) l a h = by (inserted_after o l) refl (item_listed H l a) h
   by None e rest h = or_right (is_same_id o.id a && is_some (inserted_after o l)) (is_item_of H l a) (rest h)
   by (Some p) e rest h = elim (insert_adds p a o.id ((doc H).order l) h) [
     | inl s ↦ or_left (is_same_id o.id a && is_some (inserted_after o l)) (is_item_of H l a)
-        (and_from (is_same_id o.id a) (is_some (inserted_after o l)) (ap (λ b. is_same_id o.id b) (ids_from_test a o.id s) ∙ id_itself o.id) (ap is_some e))
+        (and_from (is_same_id o.id a) (is_some (inserted_after o l)) (ap (λ b. is_same_id o.id b) (ids_from_test a o.id s) ∙ id_itself o.id)
+        (ap is_some e))
     | inr r ↦ or_right (is_same_id o.id a && is_some (inserted_after o l)) (is_item_of H l a) (rest r)
   ]
 
 -- the items of a list in a legal history are those that were inserted into it
 pub items_inserted : (H : List Operation) → IsLegal H → (l : Element) (a : OpId) → has a ((doc H).order l) ≡ is_item_of H l a
 unfolding AreThere
-items_inserted H legal l a = both_ways (has a ((doc H).order l)) (is_item_of H l a) (item_listed H l a) (λ h. items_there H legal l a (item_from H l a h))
+items_inserted H legal l a = both_ways (has a ((doc H).order l)) (is_item_of H l a) (item_listed H l a)
+    (λ h. items_there H legal l a (item_from H l a h))

@@ -7,7 +7,8 @@ use Rattle.semantics.specs.Stamped.{Stamped}
 use Rattle.semantics.specs.Entries.{applied, stamped_of, missing}
 use Rattle.semantics.specs.Engine.{Engine, Message, Hello, Bundle, published_entries}
 use Rattle.semantics.specs.PeerSteps.{answer_sent, lacked, names_members}
-use Rattle.semantics.specs.World.{WorldAct, Push, Take, Publish, Give, Whole, Poll, Ask, Learn, SayHello, AnswerHello, Deliver, Lines, CountDropped, sent_by}
+use Rattle.semantics.specs.World.{WorldAct, Push, Take, Publish, Give, Whole, Poll, Ask, Learn, SayHello, AnswerHello, Deliver, Lines}
+use Rattle.semantics.specs.World.{CountDropped, sent_by}
 use Rattle.semantics.proofs.AmongLists.{in_reverse, in_filter}
 
 -- a hello of the vector of what is published, or a bundle of published operations
@@ -16,7 +17,8 @@ IsPublished E (Hello v) = v ≡ vector_of (applied (published_entries E))
 IsPublished E (Bundle ss) = (s : Stamped) → IsAmong s ss → IsAmong s (stamped_of (published_entries E))
 
 lacked_published : (E : Engine) (v : Vector) (s : Stamped) → IsAmong s (lacked E v) → IsAmong s (stamped_of (published_entries E))
-lacked_published E v s m = in_filter (λ x. not (covers v x.id)) (stamped_of (published_entries E)) s (in_reverse (missing v (stamped_of (published_entries E))) s m)
+lacked_published E v s m = in_filter (λ x. not (covers v x.id)) (stamped_of (published_entries E)) s
+    (in_reverse (missing v (stamped_of (published_entries E))) s m)
 
 answer_published : (E : Engine) (o : Option Message) (m : Message) → IsAmong m (answer_sent E o) → IsPublished E m
 answer_published E None m h = absurd h
@@ -44,8 +46,10 @@ sent_published ms (Deliver c k) E m h = absurd h
 sent_published ms (Lines c ss bad) E m h = absurd h
 sent_published ms CountDropped E m h = absurd h
 
-pub hello_published : (ms : List Message) (act : WorldAct) (E : Engine) (v : Vector) → IsAmong (Hello v) (sent_by ms act E) → v ≡ vector_of (applied (published_entries E))
+pub hello_published : (ms : List Message) (act : WorldAct) (E : Engine) (v : Vector) → IsAmong (Hello v) (sent_by ms act E)
+    → v ≡ vector_of (applied (published_entries E))
 hello_published ms act E v m = sent_published ms act E (Hello v) m
 
-pub bundle_published : (ms : List Message) (act : WorldAct) (E : Engine) (ss : List Stamped) → IsAmong (Bundle ss) (sent_by ms act E) → (s : Stamped) → IsAmong s ss → IsAmong s (stamped_of (published_entries E))
+pub bundle_published : (ms : List Message) (act : WorldAct) (E : Engine) (ss : List Stamped) → IsAmong (Bundle ss) (sent_by ms act E)
+    → (s : Stamped) → IsAmong s ss → IsAmong s (stamped_of (published_entries E))
 bundle_published ms act E ss m = sent_published ms act E (Bundle ss) m

@@ -5,7 +5,8 @@ use Rattle.std.proofs.lemmas.Bool.{ltb-true, ltb-false, eqb-true, eqb-false}
 use Rattle.semantics.specs.Ids.{OpId, id_at}
 use Rattle.semantics.specs.Vectors.{Vector, at, greatest, raise, AreAbove, IsCanonical}
 
-max_swap : (b e : Bool) (c d m : ℕ) → cond b (max c (cond e (max d m) m)) (cond e (max d m) m) ≡ cond e (max d (cond b (max c m) m)) (cond b (max c m) m)
+max_swap : (b e : Bool) (c d m : ℕ)
+    → cond b (max c (cond e (max d m) m)) (cond e (max d m) m) ≡ cond e (max d (cond b (max c m) m)) (cond b (max c m) m)
 max_swap true true c d m = grind arith
 max_swap true false c d m = refl
 max_swap false true c d m = refl
@@ -26,7 +27,8 @@ at-raise a (b ∷ v) p = at_tests (nat_lt a.replica b.replica) (a.replica == b.r
     at_tests false true is rest =
         max_join (b.replica == p) a.counter b.counter (at v p)
         ∙ ap (λ q. cond (q == p) (max a.counter (at (b ∷ v) p)) (at (b ∷ v) p)) (sym (eqb-true a.replica b.replica is))
-    at_tests false false is rest = ap (λ n. cond (b.replica == p) (max b.counter n) n) rest ∙ max_swap (b.replica == p) (a.replica == p) b.counter a.counter (at v p)
+    at_tests false false is rest = ap (λ n. cond (b.replica == p) (max b.counter n) n) rest
+        ∙ max_swap (b.replica == p) (a.replica == p) b.counter a.counter (at v p)
 
 max_past : (c d m : ℕ) → max d (max c m) ≡ max c (max d m)
 max_past c d m = grind arith
@@ -48,7 +50,8 @@ above_raise : (q : ℕ) (a : OpId) (v : Vector) → q < a.replica → AreAbove q
 above_raise q a [] l h = (l, tt)
 above_raise q a (b ∷ v) l h = at_tests (nat_lt a.replica b.replica) (a.replica == b.replica) (above_raise q a v l h.1)
   where
-    at_tests : (t e : Bool) → AreAbove q (raise a v) → AreAbove q (cond t (a ∷ b ∷ v) (cond e (id_at (max a.counter b.counter) b.replica ∷ v) (b ∷ raise a v)))
+    at_tests : (t e : Bool) → AreAbove q (raise a v)
+        → AreAbove q (cond t (a ∷ b ∷ v) (cond e (id_at (max a.counter b.counter) b.replica ∷ v) (b ∷ raise a v)))
     at_tests true e rest = (l, h)
     at_tests false true rest = h
     at_tests false false rest = (h.0, rest)
@@ -67,7 +70,19 @@ canonical_raise a (b ∷ v) n h = at_tests (nat_lt a.replica b.replica) refl (a.
   where
     at_tests : (t : Bool) → nat_lt a.replica b.replica ≡ t → (e : Bool) → (a.replica == b.replica) ≡ e → IsCanonical (raise a v)
         → IsCanonical (cond t (a ∷ b ∷ v) (cond e (id_at (max a.counter b.counter) b.replica ∷ v) (b ∷ raise a v)))
-    at_tests true is e also rest = (n, (ltb-true a.replica b.replica is, above_more a.replica b.replica v (ltb-true a.replica b.replica is) h.1), h)
+    at_tests true is e also rest = (
+      n,
+      (
+        ltb-true a.replica b.replica is,
+        above_more a.replica b.replica v
+            (ltb-true a.replica b.replica is) h.1,
+      ),
+      h,
+    )
     at_tests false is true also rest = (λ z. n (let m = le-max_left a.counter b.counter in omega (arith, m, z)), h.1, h.2)
-    at_tests false is false also rest =
-        (h.0, above_raise b.replica a v (lt_where_other b.replica a.replica (ltb-false a.replica b.replica is) (eqb-false a.replica b.replica also)) h.1, rest)
+    at_tests false is false also rest = (
+      h.0,
+      above_raise b.replica a v
+          (lt_where_other b.replica a.replica (ltb-false a.replica b.replica is) (eqb-false a.replica b.replica also)) h.1,
+      rest,
+    )

@@ -1,5 +1,6 @@
 -- Every world that is reached is one world.
-use Rattle.std.proofs.Common.{◌≡◌, ◌≢◌, ◌⊎◌, inl, inr, ℕ, Bool, true, false, cond, ◌==◌, List, [], ◌∷◌, Ok, refl, sym, ap, ◌∙◌, subst, length}
+use Rattle.std.proofs.Common.{◌≡◌, ◌≢◌, ◌⊎◌, inl, inr, ℕ, Bool, true, false, cond, ◌==◌, List, [], ◌∷◌, Ok, refl, sym, ap, ◌∙◌, subst}
+use Rattle.std.proofs.Common.{length}
 use Rattle.std.proofs.lemmas.Bool.{or_right, or_left, eqb-true, eqb-false}
 use Rattle.semantics.specs.Ids.{OpId, is_same_id}
 use Rattle.semantics.specs.Operations.{Operation}
@@ -23,7 +24,8 @@ use Rattle.semantics.proofs.Waiting.{in_put}
 use Rattle.semantics.proofs.NoneDropped.{keeps_for}
 use Rattle.semantics.proofs.Settled.{made_grows_world}
 
-at_each : (P : ℕ → Replica → Type 0) (W : Replicas) (p : ℕ) (r : Replica) → ((q : ℕ) → q ≢ p → P q (W q)) → P p r → (q : ℕ) → P q (put_replica p r W q)
+at_each : (P : ℕ → Replica → Type 0) (W : Replicas) (p : ℕ) (r : Replica) → ((q : ℕ) → q ≢ p → P q (W q)) → P p r → (q : ℕ)
+    → P q (put_replica p r W q)
 at_each P W p r rest here q = at_test (q == p) refl
   where
     at_test : (b : Bool) → (q == p) ≡ b → P q (cond b r (W q))
@@ -34,35 +36,43 @@ pub grown : (K : List Operation) (o : Operation) (s : Stamped) → IsOfWorld K s
 grown K o s w = record { history = w.history; legal = w.legal; within = λ x m. inr (w.within x m); there = w.there }
 
 -- a delivery changes what waits alone, by the operation at most
-pub kept_same : (r : Replica) (s : Stamped) (a : Delivered) → ((kept_by r s a).own ≡ r.own) × ((kept_by r s a).dropped ≡ r.dropped) × ((kept_by r s a).entries ≡ r.entries) × ((x : Stamped) → IsAmong x (kept_by r s a).waiting → (x ≡ s) ⊎ IsAmong x r.waiting)
+pub kept_same : (r : Replica) (s : Stamped) (a : Delivered)
+    → ((kept_by r s a).own ≡ r.own) × ((kept_by r s a).dropped ≡ r.dropped) × ((kept_by r s a).entries ≡ r.entries)
+    × ((x : Stamped) → IsAmong x (kept_by r s a).waiting → (x ≡ s) ⊎ IsAmong x r.waiting)
 kept_same r s Kept = (refl, refl, refl, λ x m. in_put s r.waiting x m)
 kept_same r s Known = (refl, refl, refl, λ x m. inr m)
 kept_same r s (NotKept f) = (refl, refl, refl, λ x m. inr m)
 
-pub has_more : (M : List Stamped) (G : List Entry) (a : OpId) → has_id (operations_of (stamped_of G)) a ≡ true → has_id (operations_of (stamped_of (with_peers M G))) a ≡ true
+pub has_more : (M : List Stamped) (G : List Entry) (a : OpId) → has_id (operations_of (stamped_of G)) a ≡ true
+    → has_id (operations_of (stamped_of (with_peers M G))) a ≡ true
 has_more [] G a h = h
 has_more (s ∷ M) G a h = or_right (is_same_id s.id a) _ (has_more M G a h)
 
-pub received : (K : List Operation) → IsLegal K → (p : ℕ) (r : Replica) (s : Stamped) → IsReplicaOf K p r → IsOfWorld K s → IsReplicaOf K p (receive r s)
+pub received : (K : List Operation) → IsLegal K → (p : ℕ) (r : Replica) (s : Stamped) → IsReplicaOf K p r → IsOfWorld K s
+    → IsReplicaOf K p (receive r s)
 received K lk p r s h of =
     let same = kept_same r s (answer_to r s) in
     let d : Replica = deliver r s in
     let run : IsRunning d = delivered r s h.running in
     let end = drained d run in
-    let within : AreWithin (operations d) K = subst (λ (G : List Entry). AreWithin (operations_of (stamped_of G)) K) (sym same.2) h.within in
-    let waits : (x : Stamped) → IsAmong x d.waiting → IsOfWorld K x = λ x m. elim (same.3 x m) [ inl e ↦ subst (IsOfWorld K) (sym e) of | inr n ↦ h.waits x n ] in
+    let within : AreWithin (operations d) K = subst (λ (G : List Entry). AreWithin (operations_of (stamped_of G)) K)
+    (sym same.2) h.within in
+    let waits : (x : Stamped) → IsAmong x d.waiting
+    → IsOfWorld K x = λ x m. elim (same.3 x m) [ inl e ↦ subst (IsOfWorld K) (sym e) of | inr n ↦ h.waits x n ] in
     let keeps = keeps_for K lk (length d.waiting) d run within waits in
     record {
       own = end.1.own ∙ same.0 ∙ h.own;
       running = end.0;
       within = keeps.within;
       made = λ x m e. subst (λ (G : List Entry). has_id (operations_of (stamped_of G)) x.id ≡ true) (sym end.1.entries)
-          (has_more end.1.appended d.entries x.id (subst (λ (G : List Entry). has_id (operations_of (stamped_of G)) x.id ≡ true) (sym same.2) (h.made x m e)));
+          (has_more end.1.appended d.entries x.id
+          (subst (λ (G : List Entry). has_id (operations_of (stamped_of G)) x.id ≡ true) (sym same.2) (h.made x m e)));
       waits = λ x m. waits x (end.1.waits x m);
       none_dropped = keeps.none_dropped ∙ same.1 ∙ h.none_dropped;
     }
 
-pub committed : (K : List Operation) → IsLegal K → (p client serial : ℕ) (c : Command) (r : Replica) (s : Stamped) → IsReplicaOf K p r → NamesAll (operations r) s.vector → make (operations r) p c ≡ Ok (operation_after (operations r) s) → IsAbove client serial r.entries
+pub committed : (K : List Operation) → IsLegal K → (p client serial : ℕ) (c : Command) (r : Replica) (s : Stamped) → IsReplicaOf K p r
+    → NamesAll (operations r) s.vector → make (operations r) p c ≡ Ok (operation_after (operations r) s) → IsAbove client serial r.entries
     → IsReplicaOf (operation_after (operations r) s ∷ K) p (commit_own r client serial c s)
 committed K lk p client serial c r s h n e above = record {
   own = h.own;
@@ -77,8 +87,10 @@ committed K lk p client serial c r s h n e above = record {
     next x (inl f) = inl f
     next x (inr m) = inr (h.within x m)
 
-    made : (x : Operation) → IsAmong x (operation_after (operations r) s ∷ K) → x.id.replica ≡ p → has_id (operation_after (operations r) s ∷ operations r) x.id ≡ true
-    made x (inl f) g = or_left (is_same_id s.id x.id) (has_id (operations r) x.id) (ap (λ (y : Operation). is_same_id s.id y.id) f ∙ id_itself s.id)
+    made : (x : Operation) → IsAmong x (operation_after (operations r) s ∷ K) → x.id.replica ≡ p
+        → has_id (operation_after (operations r) s ∷ operations r) x.id ≡ true
+    made x (inl f) g = or_left (is_same_id s.id x.id) (has_id (operations r) x.id)
+        (ap (λ (y : Operation). is_same_id s.id y.id) f ∙ id_itself s.id)
     made x (inr m) g = or_right (is_same_id s.id x.id) (has_id (operations r) x.id) (h.made x m g)
 
 untouched : (K : List Operation) (o : Operation) (q : ℕ) (r : Replica) → o.id.replica ≢ q → IsReplicaOf K q r → IsReplicaOf (o ∷ K) q r
@@ -95,7 +107,8 @@ untouched K o q r other h = record {
     made x (inl f) g = absurd (other (ap (λ (y : Operation). y.id.replica) (sym f) ∙ g))
     made x (inr m) g = h.made x m g
 
-pub one_world : (members : ℕ → List ℕ) (W : Replicas) → IsReached members W → (K : List Operation) × IsLegal K × ((p : ℕ) → IsReplicaOf K p (W p))
+pub one_world : (members : ℕ → List ℕ) (W : Replicas) → IsReached members W
+    → (K : List Operation) × IsLegal K × ((p : ℕ) → IsReplicaOf K p (W p))
 one_world members W Opened = (
   [],
   tt,
@@ -125,7 +138,12 @@ one_world members W (Comes V reached p q s m) =
     let before = one_world members V reached in
     let K : List Operation = before.0 in
     let there = before.2 q in
-    let of : IsOfWorld K s = record { history = stamped_of (V q).entries; legal = entries_legal (V q).own (V q).entries there.running.history; within = there.within; there = m } in (
+    let of : IsOfWorld K s = record {
+      history = stamped_of (V q).entries;
+      legal = entries_legal (V q).own (V q).entries there.running.history;
+      within = there.within;
+      there = m;
+    } in (
       K,
       before.1,
       at_each (IsReplicaOf K) V p (receive (V p) s) (λ t ne. before.2 t) (received K before.1 p (V p) s (before.2 p) of),

@@ -17,7 +17,8 @@ use Rattle.semantics.proofs.NamedCounters.{named_from}
 use Rattle.semantics.proofs.SameWorld.{follows_in}
 
 -- s is of a history of the world, and means o there
-module _ (K : List Operation) (lk : IsLegal K) (G F : List Operation) (lg : IsLegal G) (wg : AreWithin G K) (wf : AreWithin F K) (s : Stamped) (o : Operation) (m : Means F s o) where
+module _ (K : List Operation) (lk : IsLegal K) (G F : List Operation) (lg : IsLegal G) (wg : AreWithin G K) (wf : AreWithin F K)
+    (s : Stamped) (o : Operation) (m : Means F s o) where
   -- the vector's ids are what the operation depends on
   depended : (p : ℕ) → at s.vector p ≢ 0 → o.deps (id_at (at s.vector p) p) ≡ true
   depended p n = m.deps (id_at (at s.vector p) p) ∙ named_from F s.vector (id_at (at s.vector p) p) (m.attained p n) (omega arith)
@@ -59,14 +60,26 @@ module _ (K : List Operation) (lk : IsLegal K) (G F : List Operation) (lg : IsLe
   -- it may follow here, and means the same
   pub may_follow_in : has_id G s.id ≡ false → ((a : OpId) → o.deps a ≡ true → has_id G a ≡ true) → MayFollow G s
   may_follow_in new before =
-      let seen : o ≡ operation_after G s = λ i. record { id = m.id i; deps = λ a. deps_are_named before a i; place = m.place i; mutation = m.mutation i } in (
+      let seen : o
+      ≡ operation_after G s = λ i. record {
+        id = m.id i;
+        deps = λ a. deps_are_named before a i;
+        place = m.place i;
+        mutation = m.mutation i;
+      } in (
         record { same = λ a. refl; attained = λ p n. sym (deps_are_named before (id_at (at s.vector p) p)) ∙ depended p n },
         subst (Follows G) seen (follows_in K G lk lg wg o (wf o m.among) (ap (has_id G) m.id ∙ new) before),
       )
 
   pub same_meaning : ((a : OpId) → o.deps a ≡ true → has_id G a ≡ true) → operation_after G s ≡ o
   same_meaning before =
-      let seen : o ≡ operation_after G s = λ i. record { id = m.id i; deps = λ a. deps_are_named before a i; place = m.place i; mutation = m.mutation i } in
+      let seen : o
+      ≡ operation_after G s = λ i. record {
+        id = m.id i;
+        deps = λ a. deps_are_named before a i;
+        place = m.place i;
+        mutation = m.mutation i;
+      } in
       sym seen
 
   -- ready means that what it depends on is there

@@ -1,5 +1,6 @@
 -- A client that receives a bundle without a stop has submitted all of it.
-use Rattle.std.proofs.Common.{◌≡◌, ℕ, suc, ◌+◌, Bool, true, false, cond, ◌==◌, List, [], ◌∷◌, length, Option, Some, None, refl, sym, ap, ◌∙◌, subst, arith, slice_get}
+use Rattle.std.proofs.Common.{◌≡◌, ℕ, suc, ◌+◌, Bool, true, false, cond, ◌==◌, List, [], ◌∷◌, length, Option, Some, None, refl, sym, ap}
+use Rattle.std.proofs.Common.{◌∙◌, subst, arith, slice_get}
 use Rattle.std.specs.List.{list_all}
 use Rattle.std.proofs.lemmas.Bool.{and_parts}
 use Rattle.ids.specs.declared.refusal.Refusal.{Refusal}
@@ -34,17 +35,20 @@ pub record HasReceivedAll (E : Engine) (c : ℕ) (ss : List Stamped) (serial cou
   pub engine : receipt.engine ≡ G
   pub whole : IsWhole E c client bad 0 ss receipt
 
-pub bundle_received : (E : Engine) (c : ℕ) (ss : List Stamped) (serial count : ℕ) → (receive_message E c (Some (Bundle ss))).reply ≡ Received serial count None
+pub bundle_received : (E : Engine) (c : ℕ) (ss : List Stamped) (serial count : ℕ)
+    → (receive_message E c (Some (Bundle ss))).reply ≡ Received serial count None
     → HasReceivedAll E c ss serial count (receive_message E c (Some (Bundle ss))).engine
 bundle_received E c ss serial count h = at_client (slice_get E.clients c) refl
   where
-    at_client : (o : Option Client) → slice_get E.clients c ≡ o → HasReceivedAll E c ss serial count (receive_message E c (Some (Bundle ss))).engine
+    at_client : (o : Option Client) → slice_get E.clients c ≡ o
+        → HasReceivedAll E c ss serial count (receive_message E c (Some (Bundle ss))).engine
     at_client None e = (let z = rw e at h in cc)
     at_client (Some k) e =
         let ts : List Stamped = before_stranger E.replica.members ss in
         let bad : Option Refusal = stranger_fault E.replica.members ss in
         let r : Receipt = submit_all c bad 0 E ts in
-        let reply : Received (cond (r.submitted == 0) 0 (suc (length k.cells))) r.submitted r.stopped ≡ Received serial count None = rw e at h in
+        let reply : Received (cond (r.submitted == 0) 0 (suc (length k.cells))) r.submitted r.stopped
+        ≡ Received serial count None = rw e at h in
         let stopped : r.stopped ≡ None = cc in
         let submitted : r.submitted ≡ count = cc in
         let start : cond (r.submitted == 0) 0 (suc (length k.cells)) ≡ serial = cc in

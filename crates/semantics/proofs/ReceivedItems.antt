@@ -46,7 +46,8 @@ pub begins_with_peers : (M : List Stamped) (G : List Entry) → BeginsWith (with
 begins_with_peers [] G = ([], refl)
 begins_with_peers (s ∷ M) G = (let rest = begins_with_peers M G in (Peer s ∷ rest.0, ap (λ (F : List Entry). Peer s ∷ F) rest.1))
 
-above_with_peers : (client serial : ℕ) (M : List Stamped) (G : List Entry) → IsAbove client serial G → IsAbove client serial (with_peers M G)
+above_with_peers : (client serial : ℕ) (M : List Stamped) (G : List Entry) → IsAbove client serial G
+    → IsAbove client serial (with_peers M G)
 above_with_peers client serial [] G a = a
 above_with_peers client serial (s ∷ M) G a = above_with_peers client serial M G a
 
@@ -74,7 +75,8 @@ received r s h = record {
   entries = begins;
   running = running_counted (receive r s) all.0;
   reply = receipt (receive r s).entries (answer_to r s);
-  floor = λ n l. not_below n (length (receive r s).entries) (answer_to r s) (let k : length r.entries ≤ length (receive r s).entries = no_shorter (receive r s).entries r.entries begins in omega (arith, l));
+  floor = λ n l. not_below n (length (receive r s).entries) (answer_to r s)
+      (let k : length r.entries ≤ length (receive r s).entries = no_shorter (receive r s).entries r.entries begins in omega (arith, l));
   above = λ client serial a. subst (IsAbove client serial) (sym appended) (above_with_peers client serial all.1.appended r.entries a);
 }
   where

@@ -1,5 +1,6 @@
 -- What waits is never too much for a ready operation.
-use Rattle.std.proofs.Common.{◌≡◌, inl, inr, ℕ, zero, suc, ◌≤◌, Bool, true, false, cond, ◌||◌, ◌==◌, nat_lt, List, [], ◌∷◌, Option, Some, None, refl, sym, ◌∙◌, true≢false, arith, length}
+use Rattle.std.proofs.Common.{◌≡◌, inl, inr, ℕ, zero, suc, ◌≤◌, Bool, true, false, cond, ◌||◌, ◌==◌, nat_lt, List, [], ◌∷◌, Option, Some}
+use Rattle.std.proofs.Common.{None, refl, sym, ◌∙◌, true≢false, arith, length}
 use Rattle.std.proofs.lemmas.Bool.{ltb-false, eqb-false, or_parts}
 use Rattle.semantics.specs.Ids.{is_smaller_id}
 use Rattle.semantics.specs.LegalHistory.{has_id, IsAmong}
@@ -10,7 +11,8 @@ use Rattle.semantics.specs.Faults.{is_ready, fault_of, alone_fault}
 use Rattle.semantics.specs.Making.{is_full}
 use Rattle.semantics.specs.Entries.{stamped_of}
 use Rattle.semantics.specs.Replica.{Replica, operations, IsRunning}
-use Rattle.semantics.specs.Delivery.{Kept, Known, NotKept, is_waiting, put_waiting, kept_unless, room_answer, answer_after, kept_by, deliver}
+use Rattle.semantics.specs.Delivery.{Kept, Known, NotKept, is_waiting, put_waiting, kept_unless, room_answer, answer_after, kept_by}
+use Rattle.semantics.specs.Delivery.{deliver}
 use Rattle.semantics.specs.Drain.{first_ready, taken, at_ready, drain_for, drain, receive}
 use Rattle.semantics.proofs.Delivered.{delivered, kept_running}
 use Rattle.semantics.proofs.Taken.{taken_running, taken_fewer}
@@ -21,7 +23,8 @@ pub shorter_for : (n : ℕ) (r : Replica) → IsRunning r → length (drain_for 
 shorter_for zero r h = omega arith
 shorter_for (suc n) r h = at_full (λ m k. shorter_for n m k) (is_full r.entries)
   where
-    at_first : ((m : Replica) → IsRunning m → length (drain_for n m).waiting ≤ length m.waiting) → (f : Option Stamped) → first_ready (operations r) r.waiting ≡ f
+    at_first : ((m : Replica) → IsRunning m → length (drain_for n m).waiting ≤ length m.waiting) → (f : Option Stamped)
+        → first_ready (operations r) r.waiting ≡ f
         → length (at_ready f r (λ s. drain_for n (taken r s))).waiting ≤ length r.waiting
     at_first rest None e = omega arith
     at_first rest (Some s) e =
@@ -36,10 +39,12 @@ shorter_for (suc n) r h = at_full (λ m k. shorter_for n m k) (is_full r.entries
     at_full rest false = at_first rest (first_ready (operations r) r.waiting) refl
 
 -- one leaves where one is ready
-pub shorter_one : (n : ℕ) (r : Replica) (s : Stamped) → IsRunning r → is_full r.entries ≡ false → IsAmong s r.waiting → is_ready (operations r) s ≡ true → suc (length (drain_for (suc n) r).waiting) ≤ length r.waiting
+pub shorter_one : (n : ℕ) (r : Replica) (s : Stamped) → IsRunning r → is_full r.entries ≡ false → IsAmong s r.waiting
+    → is_ready (operations r) s ≡ true → suc (length (drain_for (suc n) r).waiting) ≤ length r.waiting
 shorter_one n r s h few m ready = at_full (is_full r.entries) few
   where
-    at_first : (f : Option Stamped) → first_ready (operations r) r.waiting ≡ f → suc (length (at_ready f r (λ t. drain_for n (taken r t))).waiting) ≤ length r.waiting
+    at_first : (f : Option Stamped) → first_ready (operations r) r.waiting ≡ f
+        → suc (length (at_ready f r (λ t. drain_for n (taken r t))).waiting) ≤ length r.waiting
     at_first None e = absurd (true≢false (sym ready ∙ none_ready (operations r) r.waiting e s m))
     at_first (Some t) e =
         let k = (ready_first (operations r) r.waiting h.rising t e).0 in
@@ -47,7 +52,10 @@ shorter_one n r s h few m ready = at_full (is_full r.entries) few
         let f = taken_fewer r t h k in
         omega (arith, l, f)
 
-    at_full : (b : Bool) → b ≡ false → suc (length (cond b r (at_ready (first_ready (operations r) r.waiting) r (λ t. drain_for n (taken r t)))).waiting) ≤ length r.waiting
+    at_full : (b : Bool) → b ≡ false
+        → suc
+        (length (cond b r
+        (at_ready (first_ready (operations r) r.waiting) r (λ t. drain_for n (taken r t)))).waiting) ≤ length r.waiting
     at_full true e = absurd (true≢false e)
     at_full false e = at_first (first_ready (operations r) r.waiting) refl
 
@@ -59,7 +67,8 @@ in_put_itself s (y ∷ W) = at_test (in_put_itself s W) (is_smaller_id s.id y.id
     at_test rest true = inl refl
     at_test rest false = inr rest
 
-drain_shorter : (r : Replica) (s : Stamped) → IsRunning r → is_full r.entries ≡ false → IsAmong s r.waiting → is_ready (operations r) s ≡ true → suc (length (drain r).waiting) ≤ length r.waiting
+drain_shorter : (r : Replica) (s : Stamped) → IsRunning r → is_full r.entries ≡ false → IsAmong s r.waiting
+    → is_ready (operations r) s ≡ true → suc (length (drain r).waiting) ≤ length r.waiting
 drain_shorter r s h few m ready = at_length (length r.waiting) refl
   where
     none_in : (W : List Stamped) → length W ≡ 0 → IsAmong s W → ⊥
@@ -80,8 +89,12 @@ bounded r s h le = at_alone (alone_fault r.members s) refl
     run : IsRunning (deliver r s)
     run = delivered r s h
 
-    after_kept : IsRunning (record r { waiting = put_waiting s r.waiting }) → is_full r.entries ≡ false → (b : Bool) → is_ready (operations r) s ≡ b
-        → length (drain (kept_by r s (cond b (cond (nat_lt 4096 (length r.waiting)) (NotKept InboxFull) (kept_unless (fault_of (stamped_of r.entries) s))) (cond (nat_lt 4095 (length r.waiting)) (NotKept InboxFull) Kept)))).waiting ≤ 4096
+    after_kept : IsRunning (record r { waiting = put_waiting s r.waiting }) → is_full r.entries ≡ false → (b : Bool)
+        → is_ready (operations r) s ≡ b
+        → length
+        (drain (kept_by r s
+        (cond b (cond (nat_lt 4096 (length r.waiting)) (NotKept InboxFull) (kept_unless (fault_of (stamped_of r.entries) s)))
+        (cond (nat_lt 4095 (length r.waiting)) (NotKept InboxFull) Kept)))).waiting ≤ 4096
     after_kept k few true e = at_many (nat_lt 4096 (length r.waiting)) (fault_of (stamped_of r.entries) s)
       where
         at_many : (b : Bool) (f : Option Refusal) → length (drain (kept_by r s (cond b (NotKept InboxFull) (kept_unless f)))).waiting ≤ 4096
@@ -94,7 +107,8 @@ bounded r s h le = at_alone (alone_fault r.members s) refl
             omega (arith, l, m, le)
     after_kept k few false e = at_many (nat_lt 4095 (length r.waiting)) refl
       where
-        at_many : (b : Bool) → nat_lt 4095 (length r.waiting) ≡ b → length (drain (kept_by r s (cond b (NotKept InboxFull) Kept))).waiting ≤ 4096
+        at_many : (b : Bool) → nat_lt 4095 (length r.waiting) ≡ b
+            → length (drain (kept_by r s (cond b (NotKept InboxFull) Kept))).waiting ≤ 4096
         at_many true t = stays
         at_many false t =
             let q : Replica = record r { waiting = put_waiting s r.waiting } in
@@ -103,17 +117,26 @@ bounded r s h le = at_alone (alone_fault r.members s) refl
             let b : length r.waiting ≤ 4095 = ltb-false 4095 (length r.waiting) t in
             omega (arith, l, m, b)
 
-    at_full : IsRunning (record r { waiting = put_waiting s r.waiting }) → (b : Bool) → is_full r.entries ≡ b → length (drain (kept_by r s (cond b (NotKept HistoryFull) (room_answer r s)))).waiting ≤ 4096
+    at_full : IsRunning (record r { waiting = put_waiting s r.waiting }) → (b : Bool) → is_full r.entries ≡ b
+        → length (drain (kept_by r s (cond b (NotKept HistoryFull) (room_answer r s)))).waiting ≤ 4096
     at_full k true e = stays
     at_full k false e = after_kept k e (is_ready (operations r) s) refl
 
-    at_own : ((s.id.replica ≡ r.own → ⊥) → IsRunning (record r { waiting = put_waiting s r.waiting })) → (b : Bool) → (s.id.replica == r.own) ≡ b
-        → length (drain (kept_by r s (cond b (NotKept OwnName) (cond (is_full r.entries) (NotKept HistoryFull) (room_answer r s))))).waiting ≤ 4096
+    at_own : ((s.id.replica ≡ r.own → ⊥) → IsRunning (record r { waiting = put_waiting s r.waiting })) → (b : Bool)
+        → (s.id.replica == r.own) ≡ b
+        → length
+        (drain (kept_by r s
+        (cond b (NotKept OwnName) (cond (is_full r.entries) (NotKept HistoryFull) (room_answer r s))))).waiting ≤ 4096
     at_own k true e = stays
     at_own k false e = at_full (k (eqb-false s.id.replica r.own e)) (is_full r.entries) refl
 
-    at_known : (b : Bool) → (has_id (operations r) s.id || is_waiting r.waiting s.id) ≡ b → ((s.id.replica ≡ r.own → ⊥) → b ≡ false → IsRunning (record r { waiting = put_waiting s r.waiting }))
-        → length (drain (kept_by r s (cond b Known (cond (s.id.replica == r.own) (NotKept OwnName) (cond (is_full r.entries) (NotKept HistoryFull) (room_answer r s)))))).waiting ≤ 4096
+    at_known : (b : Bool) → (has_id (operations r) s.id || is_waiting r.waiting s.id) ≡ b
+        → ((s.id.replica ≡ r.own → ⊥) → b ≡ false → IsRunning (record r { waiting = put_waiting s r.waiting }))
+        → length
+        (drain (kept_by r s
+        (cond b Known
+        (cond (s.id.replica == r.own) (NotKept OwnName)
+        (cond (is_full r.entries) (NotKept HistoryFull) (room_answer r s)))))).waiting ≤ 4096
     at_known true e k = stays
     at_known false e k = at_own (λ n. k n refl) (s.id.replica == r.own) refl
 

@@ -5,7 +5,8 @@ use Rattle.semantics.specs.Ids.{OpId, id_cmp, falling_cmp}
 use Rattle.semantics.specs.Elements.{Element, Field, Item}
 use Rattle.semantics.specs.Operations.{Operation, clears, tag_given, scalar_given, inserted_after}
 use Rattle.semantics.specs.LegalHistory.{IsAmong, HaveSameOperations}
-use Rattle.semantics.specs.Questions.{AppliedVector, Question, Values, Keys, Items, Conflicts, ValuesAre, KeysAre, ItemsAre, ConflictsAre, VectorIs, resolve, answer_at}
+use Rattle.semantics.specs.Questions.{AppliedVector, Question, Values, Keys, Items, Conflicts, ValuesAre, KeysAre, ItemsAre, ConflictsAre}
+use Rattle.semantics.specs.Questions.{VectorIs, resolve, answer_at}
 use Rattle.semantics.specs.DocumentAnswer.{is_any}
 use Rattle.semantics.specs.View.{view, collect, stays, live, live_scalars, live_names, inserts, tree_of, preorder, live_items}
 use Rattle.semantics.proofs.Orders.{id_total, falling_total, same_ids, falling_same}
@@ -15,7 +16,8 @@ use Rattle.semantics.proofs.AppliedVectors.{vector_same}
 distinct_same : (O P : List Operation) → HaveSameOperations O P → HasDistinctIds P → HasDistinctIds O
 distinct_same O P same d x y m n e = d x y ((same x).0 m) ((same y).0 n) e
 
-module _ (O P : List Operation) (same : HaveSameOperations O P) (distinct : HasDistinctIds P) (counted : (o : Operation) → IsAmong o P → o.id.counter ≢ 0) where
+module _ (O P : List Operation) (same : HaveSameOperations O P) (distinct : HasDistinctIds P)
+    (counted : (o : Operation) → IsAmong o P → o.id.counter ≢ 0) where
   stays_same : (e : Element) (a : OpId) → stays O e a ≡ stays P e a
   stays_same e a = all_same (λ o. not (clears o e && o.deps a)) O P same
 
@@ -29,7 +31,8 @@ module _ (O P : List Operation) (same : HaveSameOperations O P) (distinct : HasD
   scalars_same e = λ i. filter (λ x. is_some (find id_cmp x.0 (live_same e i))) (given_same (λ o. scalar_given o e) i)
 
   inserts_same : (l : Element) → inserts O l ≡ inserts P l
-  inserts_same l = collects_same falling_cmp falling_total falling_same (λ o. inserted_after o l) O P (distinct_same O P same distinct) distinct same
+  inserts_same l = collects_same falling_cmp falling_total falling_same (λ o. inserted_after o l) O P
+      (distinct_same O P same distinct) distinct same
 
   items_same : (l : Element) → live_items O l ≡ live_items P l
   items_same l = λ i. filter (λ a. is_any (live_same (Item l a) i)) (preorder (tree_of (inserts_same l i)))

@@ -1,5 +1,6 @@
 -- In one world what a history lacks may follow once its dependencies are there.
-use Rattle.std.proofs.Common.{◌≡◌, ◌⊎◌, inl, inr, ℕ, suc, ◌≤◌, true, false, List, [], ◌∷◌, sym, ap, ◌∙◌, subst, true≢false, arith, le_antisymm}
+use Rattle.std.proofs.Common.{◌≡◌, ◌⊎◌, inl, inr, ℕ, suc, ◌≤◌, true, false, List, [], ◌∷◌, sym, ap, ◌∙◌, subst, true≢false, arith}
+use Rattle.std.proofs.Common.{le_antisymm}
 use Rattle.semantics.specs.Ids.{OpId, IdSet}
 use Rattle.semantics.specs.Elements.{Element, Doc, Field, Item}
 use Rattle.semantics.specs.Operations.{Operation, element_of, slot_of}
@@ -25,7 +26,8 @@ greatest_within S A B h =
           omega arith)
     ]
 
-pub items_moved : (K : List Operation) → IsLegal K → (B G : List Operation) (S : IdSet) → AreWithin B K → AreWithin G K → ((a : OpId) → S a ≡ true → has_id G a ≡ true) → (e : Element) → ItemsStand B S e → ItemsStand G S e
+pub items_moved : (K : List Operation) → IsLegal K → (B G : List Operation) (S : IdSet) → AreWithin B K → AreWithin G K
+    → ((a : OpId) → S a ≡ true → has_id G a ≡ true) → (e : Element) → ItemsStand B S e → ItemsStand G S e
 items_moved K l B G S wb wg h Doc i = tt
 items_moved K l B G S wb wg h (Field e n) i = items_moved K l B G S wb wg h e i
 items_moved K l B G S wb wg h (Item e a) (there, (x, m, xa, slot), up) =
@@ -37,7 +39,8 @@ items_moved K l B G S wb wg h (Item e a) (there, (x, m, xa, slot), up) =
     )
 
 -- the step of convergence: what is missing may follow where all that it depends on is there
-pub follows_in : (K G : List Operation) → IsLegal K → IsLegal G → AreWithin G K → (o : Operation) → IsAmong o K → has_id G o.id ≡ false → ((a : OpId) → o.deps a ≡ true → has_id G a ≡ true) → Follows G o
+pub follows_in : (K G : List Operation) → IsLegal K → IsLegal G → AreWithin G K → (o : Operation) → IsAmong o K → has_id G o.id ≡ false
+    → ((a : OpId) → o.deps a ≡ true → has_id G a ≡ true) → Follows G o
 follows_in K G lk lg w o m new before =
     let at_own = followed K lk o m in
     record {
@@ -45,7 +48,8 @@ follows_in K G lk lg w o m new before =
       deps_before = before;
       deps_closed = λ x n d a e. deps_through K lk o x m (w x n) d a e;
       own_in_deps = λ x n r. own x n r (chain K lk x o (w x n) m r) (chain K lk o x m (w x n) (sym r));
-      counter = at_own.1.counter ∙ ap suc (le_antisymm (greatest_within o.deps at_own.0 G before) (greatest_within o.deps G at_own.0 at_own.1.deps_before));
+      counter = at_own.1.counter
+          ∙ ap suc (le_antisymm (greatest_within o.deps at_own.0 G before) (greatest_within o.deps G at_own.0 at_own.1.deps_before));
       items = items_moved K lk at_own.0 G o.deps at_own.2 w before (element_of o.place) at_own.1.items;
       form = at_own.1.form;
     }
@@ -57,7 +61,8 @@ follows_in K G lk lg w o m new before =
     above x n (inl e) = not_same x n (sym e)
     above x n (inr d) = true≢false (sym (deps_there G lg x n o.id d) ∙ new)
 
-    own : (x : Operation) → IsAmong x G → x.id.replica ≡ o.id.replica → (x.id.counter ≤ o.id.counter → (x ≡ o) ⊎ (o.deps x.id ≡ true)) → (o.id.counter ≤ x.id.counter → (o ≡ x) ⊎ (x.deps o.id ≡ true)) → o.deps x.id ≡ true
+    own : (x : Operation) → IsAmong x G → x.id.replica ≡ o.id.replica → (x.id.counter ≤ o.id.counter → (x ≡ o) ⊎ (o.deps x.id ≡ true))
+        → (o.id.counter ≤ x.id.counter → (o ≡ x) ⊎ (x.deps o.id ≡ true)) → o.deps x.id ≡ true
     own x n r up down =
         elim (le_either x.id.counter o.id.counter) [
           | inl h ↦ elim (up h) [ inl e ↦ absurd (not_same x n e) | inr d ↦ d ]

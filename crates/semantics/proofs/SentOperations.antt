@@ -1,5 +1,6 @@
 -- What an engine publishes and sends stands in its history.
-use Rattle.std.proofs.Common.{◌≡◌, ◌⊎◌, inl, inr, ℕ, zero, suc, Bool, true, false, not, cond, List, [], ◌∷◌, ◌++◌, Option, Some, None, sym, subst, slice_get}
+use Rattle.std.proofs.Common.{◌≡◌, ◌⊎◌, inl, inr, ℕ, zero, suc, Bool, true, false, not, cond, List, [], ◌∷◌, ◌++◌, Option, Some, None, sym}
+use Rattle.std.proofs.Common.{subst, slice_get}
 use Rattle.semantics.specs.LegalHistory.{IsAmong}
 use Rattle.semantics.specs.Vectors.{Vector, covers}
 use Rattle.semantics.specs.Stamped.{Stamped}
@@ -7,7 +8,8 @@ use Rattle.semantics.specs.Entries.{Entry, stamped_of, applied, missing}
 use Rattle.semantics.specs.OneWorld.{AreWithin}
 use Rattle.semantics.specs.Engine.{Engine, Message, Hello, Bundle, published_entries}
 use Rattle.semantics.specs.PeerSteps.{names_members, lacked, answer_sent}
-use Rattle.semantics.specs.World.{WorldAct, Push, Take, Publish, Give, Whole, Poll, Ask, Learn, SayHello, AnswerHello, Deliver, Lines, CountDropped, sent_by}
+use Rattle.semantics.specs.World.{WorldAct, Push, Take, Publish, Give, Whole, Poll, Ask, Learn, SayHello, AnswerHello, Deliver, Lines}
+use Rattle.semantics.specs.World.{CountDropped, sent_by}
 use Rattle.semantics.specs.WorldHistory.{BeginsWith}
 use Rattle.semantics.proofs.Beginnings.{begins_first}
 use Rattle.semantics.proofs.AmongLists.{in_reverse, in_filter}
@@ -37,9 +39,12 @@ published_stamped E s m =
 
 lacked_there : (E : Engine) (v : Vector) (s : Stamped) → IsAmong s (lacked E v) → IsAmong s (stamped_of E.replica.entries)
 lacked_there E v s m =
-    published_stamped E s (in_filter (λ t. not (covers v t.id)) (stamped_of (published_entries E)) s (in_reverse (missing v (stamped_of (published_entries E))) s m))
+    published_stamped E s
+    (in_filter (λ t. not (covers v t.id)) (stamped_of (published_entries E)) s
+    (in_reverse (missing v (stamped_of (published_entries E))) s m))
 
-answer_there : (E : Engine) (m : Option Message) (ss : List Stamped) → IsAmong (Bundle ss) (answer_sent E m) → (s : Stamped) → IsAmong s ss → IsAmong s (stamped_of E.replica.entries)
+answer_there : (E : Engine) (m : Option Message) (ss : List Stamped) → IsAmong (Bundle ss) (answer_sent E m) → (s : Stamped) → IsAmong s ss
+    → IsAmong s (stamped_of E.replica.entries)
 answer_there E None ss n s m = absurd n
 answer_there E (Some (Bundle ts)) ss n s m = absurd n
 answer_there E (Some (Hello v)) ss n s m = at_test (names_members E v) n
@@ -50,7 +55,8 @@ answer_there E (Some (Hello v)) ss n s m = at_test (names_members E v) n
     at_test false k = absurd k
 
 -- An operation of a bundle stands in the history of the engine that sends it.
-pub sent_there : (ms : List Message) (w : WorldAct) (E : Engine) (ss : List Stamped) → IsAmong (Bundle ss) (sent_by ms w E) → (s : Stamped) → IsAmong s ss → IsAmong s (stamped_of E.replica.entries)
+pub sent_there : (ms : List Message) (w : WorldAct) (E : Engine) (ss : List Stamped) → IsAmong (Bundle ss) (sent_by ms w E) → (s : Stamped)
+    → IsAmong s ss → IsAmong s (stamped_of E.replica.entries)
 sent_there ms (SayHello t) E ss (inl q) s m = cc
 sent_there ms (SayHello t) E ss (inr n) s m = absurd n
 sent_there ms (AnswerHello t k) E ss n s m = answer_there E (slice_get ms k) ss n s m
@@ -67,7 +73,8 @@ sent_there ms (Lines c ts bad) E ss n s m = absurd n
 sent_there ms CountDropped E ss n s m = absurd n
 
 -- a message was there before, or it was just sent
-pub get-append_either : {X : Type 0} (xs ys : List X) (k : ℕ) (x : X) → slice_get (xs ++ ys) k ≡ Some x → (slice_get xs k ≡ Some x) ⊎ IsAmong x ys
+pub get-append_either : {X : Type 0} (xs ys : List X) (k : ℕ) (x : X) → slice_get (xs ++ ys) k ≡ Some x
+    → (slice_get xs k ≡ Some x) ⊎ IsAmong x ys
 get-append_either [] [] k x h = cc
 get-append_either [] (y ∷ ys) zero x h = inr (inl cc)
 get-append_either [] (y ∷ ys) (suc k) x h = elim (get-append_either [] ys k x h) [ inl e ↦ cc | inr m ↦ inr (inr m) ]

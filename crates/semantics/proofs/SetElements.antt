@@ -36,7 +36,8 @@ get-append_last [] y = refl
 get-append_last (z ∷ xs) y = get-append_last xs y
 
 -- what stands there stood there before, or it is the new last one
-pub get-append_cases : {X : Type 0} (xs : List X) (i : ℕ) (y z : X) → slice_get (xs ++ y ∷ []) i ≡ Some z → (slice_get xs i ≡ Some z) ⊎ ((i ≡ length xs) × (z ≡ y))
+pub get-append_cases : {X : Type 0} (xs : List X) (i : ℕ) (y z : X) → slice_get (xs ++ y ∷ []) i ≡ Some z
+    → (slice_get xs i ≡ Some z) ⊎ ((i ≡ length xs) × (z ≡ y))
 get-append_cases [] zero y z h = inr (refl, cc)
 get-append_cases [] (suc i) y z h = inl h
 get-append_cases (x ∷ xs) zero y z h = inl h

@@ -1,5 +1,6 @@
 -- A settled replica stays settled in its world by each item that it handles, and the world grows by what it makes.
-use Rattle.std.proofs.Common.{◌≡◌, inl, inr, ℕ, true, false, nat_lt, List, [], ◌∷◌, length, Result, Ok, Err, refl, sym, ap, ◌∙◌, true≢false, arith, cond}
+use Rattle.std.proofs.Common.{◌≡◌, inl, inr, ℕ, true, false, nat_lt, List, [], ◌∷◌, length, Result, Ok, Err, refl, sym, ap, ◌∙◌, true≢false}
+use Rattle.std.proofs.Common.{arith, cond}
 use Rattle.std.proofs.lemmas.Bool.{or_cases, false_from_ne_true}
 use Rattle.ids.specs.declared.refusal.Refusal.{Refusal}
 use Rattle.semantics.specs.Ids.{OpId, is_same_id}
@@ -32,7 +33,8 @@ use Rattle.semantics.proofs.HandledItems.{as_stamped}
 use Rattle.semantics.proofs.GrownWorlds.{IsGrownBy, grown_not, full_stays}
 
 -- what isn't ready isn't so by an operation that is new to the world
-still_unready : (K H : List Operation) → IsLegal K → IsLegal H → AreWithin H K → (o : Operation) → Follows K o → Follows H o → (s : Stamped) → IsOfWorld K s → is_ready H s ≡ false → is_ready (o ∷ H) s ≡ false
+still_unready : (K H : List Operation) → IsLegal K → IsLegal H → AreWithin H K → (o : Operation) → Follows K o → Follows H o → (s : Stamped)
+    → IsOfWorld K s → is_ready H s ≡ false → is_ready (o ∷ H) s ≡ false
 still_unready K H lk lh w o fk fh s of unready = false_from_ne_true (is_ready (o ∷ H) s) (λ t.
     true≢false (sym (ready_where_there K lk H (operations_of of.history) lh w of.within s means.0 means.1 (before t)) ∙ unready))
   where
@@ -45,9 +47,12 @@ still_unready K H lk lh w o fk fh s of unready = false_from_ne_true (is_ready (o
 
     before : is_ready (o ∷ H) s ≡ true → (a : OpId) → means.0.deps a ≡ true → has_id H a ≡ true
     before t a d =
-        let there = there_where_ready (o ∷ K) (lk, fk) (o ∷ H) (operations_of of.history) (lh, fh) within (λ x m. inr (of.within x m)) s means.0 means.1 (legal of.history of.legal) t a d in
+        let there = there_where_ready (o ∷ K) (lk, fk) (o ∷ H) (operations_of of.history) (lh, fh) within
+        (λ x m. inr (of.within x m)) s means.0 means.1 (legal of.history of.legal) t a d in
         elim (or_cases (is_same_id o.id a) (has_id H a) there) [
-          | inl e ↦ absurd (true≢false (sym (deps_there K lk means.0 (of.within means.0 means.1.among) a d) ∙ ap (has_id K) (sym (ids_from_test o.id a e)) ∙ fresh fk))
+          | inl e ↦ absurd
+              (true≢false (sym (deps_there K lk means.0 (of.within means.0 means.1.among) a d)
+              ∙ ap (has_id K) (sym (ids_from_test o.id a e)) ∙ fresh fk))
           | inr h ↦ h
         ]
 
@@ -63,7 +68,8 @@ module _ (K : List Operation) (lk : IsLegal K) (p : ℕ) (r : Replica) (h : IsSe
 
   -- ---- an own operation
 
-  made : (client serial : ℕ) (c : Command) (s : Stamped) → NamesAll (operations r) s.vector → make (operations r) p c ≡ Ok (operation_after (operations r) s) → IsAbove client serial r.entries
+  made : (client serial : ℕ) (c : Command) (s : Stamped) → NamesAll (operations r) s.vector
+      → make (operations r) p c ≡ Ok (operation_after (operations r) s) → IsAbove client serial r.entries
       → GoesOn K p (commit_own r client serial c s)
   made client serial c s n e above =
       let o : Operation = operation_after (operations r) s in
@@ -72,7 +78,11 @@ module _ (K : List Operation) (lk : IsLegal K) (p : ℕ) (r : Replica) (h : IsSe
       let follows : Follows K o = made_grows_world K (operations r) p c o lk lr h.world.within e h.world.made in
       record {
         world = o ∷ K;
-        grown = record { legal = (lk, follows); within = λ x m. inr m; new = λ x m. elim m [ inl i ↦ inr (ap (λ (y : Operation). y.id.replica) i ∙ lawful.1) | inr k ↦ inl k ] };
+        grown = record {
+          legal = (lk, follows);
+          within = λ x m. inr m;
+          new = λ x m. elim m [ inl i ↦ inr (ap (λ (y : Operation). y.id.replica) i ∙ lawful.1) | inr k ↦ inl k ];
+        };
         settled = record {
           world = committed K lk p client serial c r s h.world n e above;
           end = elim h.end [
@@ -83,7 +93,8 @@ module _ (K : List Operation) (lk : IsLegal K) (p : ℕ) (r : Replica) (h : IsSe
         };
       }
 
-  commanded : (x : Submitted) (c : Command) → IsAbove x.client x.serial r.entries → (m : Result Operation Refusal) → make (operations r) r.own c ≡ m → GoesOn K p (after_made r x c m)
+  commanded : (x : Submitted) (c : Command) → IsAbove x.client x.serial r.entries → (m : Result Operation Refusal)
+      → make (operations r) r.own c ≡ m → GoesOn K p (after_made r x c m)
   commanded x c above (Err why) e = stays
   commanded x c above (Ok o) e =
       made x.client x.serial c (stamp (operations r) o) (at-vector_of (operations r))
@@ -113,11 +124,14 @@ module _ (K : List Operation) (lk : IsLegal K) (p : ℕ) (r : Replica) (h : IsSe
 
   -- ---- each item
 
-  requested : (x : Submitted) → IsAbove x.client x.serial r.entries → (q : Request) → ((s : Stamped) → q ≡ OfPeer s → IsOfWorld K s) → GoesOn K p (after_request r x q)
+  requested : (x : Submitted) → IsAbove x.client x.serial r.entries → (q : Request) → ((s : Stamped) → q ≡ OfPeer s → IsOfWorld K s)
+      → GoesOn K p (after_request r x q)
   requested x above (OfCommand c) of = commanded x c above (make (operations r) r.own c) refl
   requested x above (OfPeer s) of = received s (of s refl)
 
-  pub item_handled : (x : Submitted) → IsAbove x.client x.serial r.entries → ((s : Stamped) → x.request ≡ OfPeer s → IsOfWorld K s) → GoesOn K p (after_item r x)
+  pub item_handled : (x : Submitted) → IsAbove x.client x.serial r.entries → ((s : Stamped) → x.request ≡ OfPeer s → IsOfWorld K s)
+      → GoesOn K p (after_item r x)
   item_handled x above of =
       let other = requested x above x.request of in
-      elim (nat_lt (length r.entries) x.floor) as (λ b. GoesOn K p (cond b r (after_request r x x.request))) [ true ↦ stays | false ↦ other ]
+      elim (nat_lt (length r.entries) x.floor) as
+      (λ b. GoesOn K p (cond b r (after_request r x x.request))) [ true ↦ stays | false ↦ other ]

@@ -20,15 +20,18 @@ cell_moved E queue due c k j h d n cell w keeps = at_client (cases_eq d c)
     at_client : ((d ≡ c) ⊎ (d ≡ c → ⊥)) → cell_under (with_client E queue due c j) d n ≡ Some cell
     at_client (inl e) =
         let was : slice_get E.clients d ≡ Some k = ap (slice_get E.clients) e ∙ h in
-        let is : slice_get (slice_set E.clients c j) d ≡ Some j = ap (slice_get (slice_set E.clients c j)) e ∙ get-set_same E.clients c k j h in
+        let is : slice_get (slice_set E.clients c j) d ≡ Some j = ap (slice_get (slice_set E.clients c j)) e
+        ∙ get-set_same E.clients c k j h in
         ap (cell_of n) is ∙ keeps e (sym (ap (cell_of n) was) ∙ w)
     at_client (inr q) = ap (cell_of n) (get-set_other E.clients c d j q) ∙ w
 
 -- The moved client is sound, and so is all that stands in the queue and is due.
-pub sound_by_client : (E : Engine) (queue : List Submitted) (due : List Handled) (c : ℕ) (k j : Client) → IsSound E → slice_get E.clients c ≡ Some k
+pub sound_by_client : (E : Engine) (queue : List Submitted) (due : List Handled) (c : ℕ) (k j : Client) → IsSound E
+    → slice_get E.clients c ≡ Some k
     → IsSoundClient E.replica.own E.replica.entries E.published c j
     → IsInTurn (waiting_items due E.handled queue)
-    → ((x : Submitted) → IsAmong x (waiting_items due E.handled queue) → cell_under (with_client E queue due c j) x.client x.serial ≡ Some (open_cell x))
+    → ((x : Submitted) → IsAmong x (waiting_items due E.handled queue)
+    → cell_under (with_client E queue due c j) x.client x.serial ≡ Some (open_cell x))
     → ((x : Submitted) → IsAmong x queue → IsAbove x.client x.serial E.replica.entries)
     → ((h : Handled) → IsAmong h due → IsGoodReply E.replica.own (published_entries E) h.submitted h.reply)
     → IsSound (with_client E queue due c j)

@@ -1,5 +1,6 @@
 -- An engine stays sound where a token sees more of what is published: at a poll and at a question.
-use Rattle.std.proofs.Common.{◌≡◌, inl, ℕ, zero, suc, ◌-◌, ◌≤◌, max, List, [], ◌∷◌, length, get_or, Option, Some, None, refl, ap, arith, slice_get, slice_set}
+use Rattle.std.proofs.Common.{◌≡◌, inl, ℕ, zero, suc, ◌-◌, ◌≤◌, max, List, [], ◌∷◌, length, get_or, Option, Some, None, refl, ap, arith}
+use Rattle.std.proofs.Common.{slice_get, slice_set}
 use Rattle.std.proofs.Math.Nat.{le-max_left, max-le}
 use Rattle.semantics.specs.LegalAnswer.{Asked}
 use Rattle.semantics.specs.Engine.{Engine, Client, Cell, Given}
@@ -16,12 +17,15 @@ pub later_refl : (E : Engine) → IsSound E → IsLater E E
 later_refl E s = record { sound = s; grown = grown_refl E }
 
 -- a client sees
-client_sees : (E : Engine) (c : ℕ) (k : Client) (m : ℕ) → IsSound E → slice_get E.clients c ≡ Some k → k.seen ≤ m → m ≤ E.published → IsLater E (with_client E E.queue E.due c (record k { seen = m }))
+client_sees : (E : Engine) (c : ℕ) (k : Client) (m : ℕ) → IsSound E → slice_get E.clients c ≡ Some k → k.seen ≤ m → m ≤ E.published
+    → IsLater E (with_client E E.queue E.due c (record k { seen = m }))
 client_sees E c k m s h l u = record {
   sound = sound_by_client E E.queue E.due c k (record k { seen = m }) s h seen_more s.turns
-      (λ x w. cell_moved E E.queue E.due c k (record k { seen = m }) h x.client x.serial (record { submitted = x; answer = None }) (s.unanswered x w) (λ e q. q))
+      (λ x w. cell_moved E E.queue E.due c k (record k { seen = m }) h x.client x.serial (record { submitted = x; answer = None })
+      (s.unanswered x w) (λ e q. q))
       s.queued s.due;
-  grown = grown_by_client E E.queue E.due c k (record k { seen = m }) h (record { seen = l; cells = λ n cell q. (cell, q, refl, λ g w. w) }) (λ x n. inl n);
+  grown = grown_by_client E E.queue E.due c k (record k { seen = m }) h (record { seen = l; cells = λ n cell q. (cell, q, refl, λ g w. w) })
+      (λ x n. inl n);
 }
   where
     seen_more : IsSoundClient E.replica.own E.replica.entries E.published c (record k { seen = m })
@@ -36,12 +40,14 @@ polled E c serial s = at_client (slice_get E.clients c) refl
         → IsLater E (with_client E E.queue E.due c (record k { seen = max k.seen g.published }))
     at_seen k h g l = client_sees E c k (max k.seen g.published) s h (le-max_left k.seen g.published) (max-le (s.clients c k h).seen l)
 
-    at_answer : (k : Client) → slice_get E.clients c ≡ Some k → (cell : Cell) → IsSoundCell E.replica.own E.replica.entries E.published c serial cell → (o : Option Given) → cell.answer ≡ o
+    at_answer : (k : Client) → slice_get E.clients c ≡ Some k → (cell : Cell)
+        → IsSoundCell E.replica.own E.replica.entries E.published c serial cell → (o : Option Given) → cell.answer ≡ o
         → IsLater E (poll_cell E c k (Some cell)).engine
     at_answer k h cell w None e = rw e (later_refl E s)
     at_answer k h cell w (Some g) e = rw e (at_seen k h g (w.given g e).0)
 
-    at_cell : (k : Client) → slice_get E.clients c ≡ Some k → (o : Option Cell) → cell_at k.cells serial ≡ o → IsLater E (poll_cell E c k o).engine
+    at_cell : (k : Client) → slice_get E.clients c ≡ Some k → (o : Option Cell) → cell_at k.cells serial ≡ o
+        → IsLater E (poll_cell E c k o).engine
     at_cell k h None e = later_refl E s
     at_cell k h (Some cell) e = at_answer k h cell ((s.clients c k h).cells serial cell e) cell.answer refl
 
@@ -83,8 +89,13 @@ pub seen : (E : Engine) (t m : ℕ) → IsSound E → seen_by E t ≤ m → m �
 seen E t m s l u = at_client (slice_get E.clients t) refl
   where
     at_client : (o : Option Client) → slice_get E.clients t ≡ o → IsLater E (see E t m)
-    at_client None e = rw e (reader_sees E (t - length E.clients) m s (let was : seen_by E t ≡ get_or E.readers (t - length E.clients) 0 = ap (seen_at E.readers (t - length E.clients)) e in omega (arith, was, l)) u)
-    at_client (Some k) e = rw e (client_sees E t k m s e (let was : seen_by E t ≡ k.seen = ap (seen_at E.readers (t - length E.clients)) e in omega (arith, was, l)) u)
+    at_client None e = rw e
+        (reader_sees E (t - length E.clients) m s
+        (let was : seen_by E t ≡ get_or E.readers (t - length E.clients) 0 = ap (seen_at E.readers (t - length E.clients)) e in
+        omega (arith, was, l)) u)
+    at_client (Some k) e = rw e
+        (client_sees E t k m s e
+        (let was : seen_by E t ≡ k.seen = ap (seen_at E.readers (t - length E.clients)) e in omega (arith, was, l)) u)
 
 -- no token has seen more than what is published
 pub seen_within : (E : Engine) → IsSound E → (t : ℕ) → seen_by E t ≤ E.published
@@ -108,12 +119,14 @@ learned E t c serial s = at_client (slice_get E.clients c) refl
     at_given : (g : Given) → g.published ≤ E.published → IsLater E (see E t (max (seen_by E t) g.published))
     at_given g l = seen E t (max (seen_by E t) g.published) s (le-max_left (seen_by E t) g.published) (max-le (seen_within E s t) l)
 
-    at_answer : (k : Client) → slice_get E.clients c ≡ Some k → (cell : Cell) → cell_at k.cells serial ≡ Some cell → IsSoundCell E.replica.own E.replica.entries E.published c serial cell
+    at_answer : (k : Client) → slice_get E.clients c ≡ Some k → (cell : Cell) → cell_at k.cells serial ≡ Some cell
+        → IsSoundCell E.replica.own E.replica.entries E.published c serial cell
         → (o : Option Given) → cell.answer ≡ o → IsLater E (learn E t c serial).engine
     at_answer k e cell f w None q = rw (e, f, q) (later_refl E s)
     at_answer k e cell f w (Some g) q = rw (e, f, q) (at_given g (w.given g q).0)
 
-    at_cell : (k : Client) → slice_get E.clients c ≡ Some k → (o : Option Cell) → cell_at k.cells serial ≡ o → IsLater E (learn E t c serial).engine
+    at_cell : (k : Client) → slice_get E.clients c ≡ Some k → (o : Option Cell) → cell_at k.cells serial ≡ o
+        → IsLater E (learn E t c serial).engine
     at_cell k e None f = rw (e, f) (later_refl E s)
     at_cell k e (Some cell) f = at_answer k e cell f ((s.clients c k e).cells serial cell f) cell.answer refl
 

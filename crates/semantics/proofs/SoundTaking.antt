@@ -1,5 +1,6 @@
 -- An engine stays sound where the writer takes the oldest item and handles it.
-use Rattle.std.proofs.Common.{◌≡◌, inl, inr, ℕ, suc, ◌<◌, ◌≤◌, Bool, true, false, ◌||◌, nat_le, List, [], ◌∷◌, ◌++◌, map, length, Option, Some, None, refl, sym, ap, ◌∙◌, subst, arith, slice_get}
+use Rattle.std.proofs.Common.{◌≡◌, inl, inr, ℕ, suc, ◌<◌, ◌≤◌, Bool, true, false, ◌||◌, nat_le, List, [], ◌∷◌, ◌++◌, map, length, Option}
+use Rattle.std.proofs.Common.{Some, None, refl, sym, ap, ◌∙◌, subst, arith, slice_get}
 use Rattle.std.proofs.lemmas.Option.{none-some}
 use Rattle.semantics.specs.LegalHistory.{IsAmong}
 use Rattle.semantics.specs.DocumentAnswer.{is_any}
@@ -56,18 +57,24 @@ module _ (E : Engine) (x : Submitted) (queue : List Submitted) (s : IsSound E) (
 
     clients_sound : (c : ℕ) (k : Client) → slice_get E.clients c ≡ Some k → IsSoundClient r.own r.entries E.published c k
     clients_sound c k e = subst (λ p. IsSoundClient p r.entries E.published c k) (sym h.own)
-        (client_grows E.replica.own r.entries E.replica.entries E.published E.published c k h.entries s.published (omega arith) (h.above c (suc (length k.cells)) (s.clients c k e).above below) (s.clients c k e))
+        (client_grows E.replica.own r.entries E.replica.entries E.published E.published c k h.entries s.published (omega arith)
+        (h.above c (suc (length k.cells)) (s.clients c k e).above below) (s.clients c k e))
       where
         below : x.client ≡ c → x.serial < suc (length k.cells)
-        below f = (let l : x.serial ≤ length k.cells = cell_within k.cells x.serial (open_cell x) (client_cell k (ap (slice_get E.clients) f ∙ e)) in omega arith)
+        below f = (let l : x.serial ≤ length k.cells = cell_within k.cells x.serial (open_cell x)
+            (client_cell k (ap (slice_get E.clients) f ∙ e)) in
+            omega arith)
 
     later_above : (y : Submitted) → IsAmong y queue → IsAbove y.client y.serial r.entries
     later_above y m = h.above y.client y.serial (s.queued y (subst (IsAmong y) (sym oldest) (inr m)))
-        (λ f. (turns_right (map (λ g. g.submitted) E.handled) (x ∷ queue) (turns_right (map (λ g. g.submitted) E.due) (map (λ g. g.submitted) E.handled ++ x ∷ queue) in_turn)).0 y m (sym f))
+        (λ f. (turns_right (map (λ g. g.submitted) E.handled) (x ∷ queue)
+        (turns_right (map (λ g. g.submitted) E.due) (map (λ g. g.submitted) E.handled ++ x ∷ queue) in_turn)).0 y m
+        (sym f))
 
     all_good : (g : Handled) → IsAmong g (E.handled ++ as_handled ∷ []) → IsGoodReply r.own r.entries g.submitted g.reply
     all_good g m = elim (among_last E.handled as_handled g m) [
-      | inl o ↦ subst (λ p. IsGoodReply p r.entries g.submitted g.reply) (sym h.own) (good_in_longer E.replica.own r.entries E.replica.entries g.submitted g.reply h.entries (s.handled g o))
+      | inl o ↦ subst (λ p. IsGoodReply p r.entries g.submitted g.reply) (sym h.own)
+          (good_in_longer E.replica.own r.entries E.replica.entries g.submitted g.reply h.entries (s.handled g o))
       | inr e ↦ subst (λ (f : Handled). IsGoodReply r.own r.entries f.submitted f.reply) (sym e) h.good
     ]
 
@@ -81,7 +88,8 @@ module _ (E : Engine) (x : Submitted) (queue : List Submitted) (s : IsSound E) (
     taken = record {
       sound = record {
         running = h.running;
-        published = (let l : length E.replica.entries ≤ length r.entries = no_shorter r.entries E.replica.entries h.entries in omega (arith, s.published));
+        published = (let l : length E.replica.entries ≤ length r.entries = no_shorter r.entries E.replica.entries h.entries in
+            omega (arith, s.published));
         readers = s.readers;
         clients = clients_sound;
         turns = subst IsInTurn (sym as_waiting) s.turns;
@@ -89,7 +97,8 @@ module _ (E : Engine) (x : Submitted) (queue : List Submitted) (s : IsSound E) (
         queued = later_above;
         handled = all_good;
         due = λ g m. subst (λ p. IsGoodReply p (published_entries after) g.submitted g.reply) (sym h.own)
-            (good_in_longer E.replica.own (published_entries after) (published_entries E) g.submitted g.reply (begins_published r.entries E.replica.entries E.published E.published h.entries s.published (omega arith)) (s.due g m));
+            (good_in_longer E.replica.own (published_entries after) (published_entries E) g.submitted g.reply
+            (begins_published r.entries E.replica.entries E.published E.published h.entries s.published (omega arith)) (s.due g m));
       };
       grown = grown_by_history E r queue (E.handled ++ as_handled ∷ []) E.due E.published h.own h.entries (omega arith) still;
     }
@@ -98,7 +107,8 @@ module _ (E : Engine) (x : Submitted) (queue : List Submitted) (s : IsSound E) (
 pub took : (E : Engine) → IsSound E → IsLater E (take_item E).engine
 took E s = at_queue E.queue refl
   where
-    at_test : (x : Submitted) (queue : List Submitted) → E.queue ≡ x ∷ queue → (b : Bool) → (is_any E.due || nat_le E.batch (length E.handled)) ≡ b → IsLater E (take_oldest E (x ∷ queue)).engine
+    at_test : (x : Submitted) (queue : List Submitted) → E.queue ≡ x ∷ queue → (b : Bool)
+        → (is_any E.due || nat_le E.batch (length E.handled)) ≡ b → IsLater E (take_oldest E (x ∷ queue)).engine
     at_test x queue e true f = rw f (later_refl E s)
     at_test x queue e false f = rw f (taken E x queue s e (after_item E.replica x) (reply_to E.replica x) (result E x queue s e))
 

@@ -1,5 +1,6 @@
 -- Every engine of every run of a world is sound, and it is later than at each step before.
-use Rattle.std.proofs.Common.{◌≡◌, ◌⊎◌, inl, inr, ℕ, zero, suc, ◌≤◌, List, [], ◌∷◌, ◌++◌, replicate, get_or, Option, Some, None, refl, sym, ap, ◌∙◌, subst, arith, slice_get, slice_set}
+use Rattle.std.proofs.Common.{◌≡◌, ◌⊎◌, inl, inr, ℕ, zero, suc, ◌≤◌, List, [], ◌∷◌, ◌++◌, replicate, get_or, Option, Some, None, refl, sym}
+use Rattle.std.proofs.Common.{ap, ◌∙◌, subst, arith, slice_get, slice_set}
 use Rattle.std.proofs.lemmas.Bool.{cases_eq}
 use Rattle.ids.specs.Configurations.{Configuration}
 use Rattle.semantics.specs.Engine.{Engine, Client, Cell}
@@ -30,7 +31,8 @@ no_readings (suc n) zero = omega arith
 no_readings (suc n) (suc i) = no_readings n i
 
 sound_new_client : (p c : ℕ) (k : Client) → k ≡ record { seen = 0; cells = [] } → IsSoundClient p [] 0 c k
-sound_new_client p c k e = subst (IsSoundClient p [] 0 c) (sym e) (record { seen = omega arith; above = tt; cells = λ n cell w. absurd (none n cell w) })
+sound_new_client p c k e = subst (IsSoundClient p [] 0 c) (sym e)
+    (record { seen = omega arith; above = tt; cells = λ n cell w. absurd (none n cell w) })
   where
     none : (n : ℕ) (cell : Cell) → cell_at [] n ≡ Some cell → ⊥
     none zero cell w = cc
@@ -77,21 +79,25 @@ later_step : (W : World) (w : WorldStep) → IsSoundWorld W → (e : ℕ) (E : E
     → (F : Engine) × (slice_get (world_step W w).world.engines e ≡ Some F) × IsLater E F
 later_step W w s e E h = at_engine (slice_get W.engines w.engine) refl
   where
-    at_engine : (o : Option Engine) → slice_get W.engines w.engine ≡ o → (F : Engine) × (slice_get (world_step W w).world.engines e ≡ Some F) × IsLater E F
+    at_engine : (o : Option Engine) → slice_get W.engines w.engine ≡ o
+        → (F : Engine) × (slice_get (world_step W w).world.engines e ≡ Some F) × IsLater E F
     at_engine None q = rw q (E, h, later_refl E (s e E h))
     at_engine (Some G) q = rw q (at_index (cases_eq e w.engine))
       where
-        at_index : ((e ≡ w.engine) ⊎ (e ≡ w.engine → ⊥)) → (F : Engine) × (slice_get (slice_set W.engines w.engine (engine_step W.messages w.act G).engine) e ≡ Some F) × IsLater E F
+        at_index : ((e ≡ w.engine) ⊎ (e ≡ w.engine → ⊥))
+            → (F : Engine) × (slice_get (slice_set W.engines w.engine (engine_step W.messages w.act G).engine) e ≡ Some F) × IsLater E F
         at_index (inl i) =
             let there : slice_get W.engines e ≡ Some G = ap (slice_get W.engines) i ∙ q in
             let is : G ≡ E = cc in (
               (engine_step W.messages w.act G).engine,
-              ap (slice_get (slice_set W.engines w.engine (engine_step W.messages w.act G).engine)) i ∙ get-set_same W.engines w.engine G (engine_step W.messages w.act G).engine q,
+              ap (slice_get (slice_set W.engines w.engine (engine_step W.messages w.act G).engine)) i
+                  ∙ get-set_same W.engines w.engine G (engine_step W.messages w.act G).engine q,
               subst (λ K. IsLater K (engine_step W.messages w.act G).engine) is (stepped W.messages w.act G (s w.engine G q)),
             )
         at_index (inr n) = (E, get-set_other W.engines w.engine e (engine_step W.messages w.act G).engine n ∙ h, later_refl E (s e E h))
 
-pub grown_after : (W : World) (steps : List WorldStep) → IsSoundWorld W → (e : ℕ) (E F : Engine) → slice_get W.engines e ≡ Some E → slice_get (world_after W steps).engines e ≡ Some F → HasGrown E F
+pub grown_after : (W : World) (steps : List WorldStep) → IsSoundWorld W → (e : ℕ) (E F : Engine) → slice_get W.engines e ≡ Some E
+    → slice_get (world_after W steps).engines e ≡ Some F → HasGrown E F
 grown_after W [] s e E F h k = (let is : E ≡ F = cc in subst (HasGrown E) is (grown_refl E))
 grown_after W (w ∷ steps) s e E F h k =
     let one = later_step W w s e E h in
@@ -108,7 +114,8 @@ pub sound_engine : (cs : List Configuration) (steps : List WorldStep) (e : ℕ) 
 sound_engine cs steps e E h = sound_after (opened cs) steps (sound_opened cs) e E h
 
 -- Every engine of every run has grown by each run that goes on from there.
-pub only_grow : (cs : List Configuration) (steps more : List WorldStep) (e : ℕ) (E F : Engine) → IsEngineAfter cs steps e E → IsEngineAfter cs (steps ++ more) e F → HasGrown E F
+pub only_grow : (cs : List Configuration) (steps more : List WorldStep) (e : ℕ) (E F : Engine) → IsEngineAfter cs steps e E
+    → IsEngineAfter cs (steps ++ more) e F → HasGrown E F
 only_grow cs steps more e E F h k =
     grown_after (world_after (opened cs) steps) more (sound_after (opened cs) steps (sound_opened cs)) e E F h
     (subst (λ (W : World). slice_get W.engines e ≡ Some F) (after_more (opened cs) steps more) k)

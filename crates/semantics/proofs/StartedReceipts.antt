@@ -1,5 +1,6 @@
 -- With the receipt of a bundle the rest of its sender's history is on its way.
-use Rattle.std.proofs.Common.{◌≡◌, inl, inr, ℕ, zero, suc, ◌+◌, ◌<◌, ◌≤◌, true, false, not, cond, ◌&&◌, ◌==◌, nat_le, nat_lt, List, [], ◌∷◌, ◌++◌, map, reverse, length, Some, refl, sym, ap, ◌∙◌, subst, arith, slice_get}
+use Rattle.std.proofs.Common.{◌≡◌, inl, inr, ℕ, zero, suc, ◌+◌, ◌<◌, ◌≤◌, true, false, not, cond, ◌&&◌, ◌==◌, nat_le, nat_lt, List, [], ◌∷◌}
+use Rattle.std.proofs.Common.{◌++◌, map, reverse, length, Some, refl, sym, ap, ◌∙◌, subst, arith, slice_get}
 use Rattle.std.proofs.lemmas.Bool.{and_parts, false_from_ne_true, eqb-true, leb-true, not_from_false}
 use Rattle.std.proofs.lemmas.List.{append-nil}
 use Rattle.std.proofs.lemmas.Option.{slice_get_cases}
@@ -29,15 +30,20 @@ use Rattle.semantics.proofs.ComingItems.{is_of_receipt, awaited, IsComing}
 use Rattle.semantics.proofs.ReceivedBundles.{HasReceivedAll}
 
 -- none of these is awaited
-pub awaited_after : (c start end : ℕ) (queue more : List Submitted) → ((x : Submitted) → IsAmong x queue → is_of_receipt c start end x ≡ false) → awaited c start end (queue ++ more) ≡ awaited c start end more
+pub awaited_after : (c start end : ℕ) (queue more : List Submitted)
+    → ((x : Submitted) → IsAmong x queue → is_of_receipt c start end x ≡ false)
+    → awaited c start end (queue ++ more) ≡ awaited c start end more
 awaited_after c start end [] more none = refl
 awaited_after c start end (x ∷ queue) more none =
-    ap (λ b. cond b (x.request ∷ awaited c start end (queue ++ more)) (awaited c start end (queue ++ more))) (none x (inl refl)) ∙ awaited_after c start end queue more (λ y m. none y (inr m))
+    ap (λ b. cond b (x.request ∷ awaited c start end (queue ++ more)) (awaited c start end (queue ++ more))) (none x (inl refl))
+    ∙ awaited_after c start end queue more (λ y m. none y (inr m))
 
 -- ---- the receipt
 
-module _ (K : List Operation) (lk : IsLegal K) (A G : Engine) (sound : IsSound A) (is : IsEngineOf K A) (v : Vector) (F : List Stamped) (l : IsLegalStamped F) (short : length F ≤ 1048576) (w : AreWithin (operations_of F) K) (c serial count : ℕ)
-    (r : HasReceivedAll A c (reverse (missing v F)) serial count G) (named : (q : ℕ) → at v q ≤ greatest_counter (operations A.replica) q) where
+module _ (K : List Operation) (lk : IsLegal K) (A G : Engine) (sound : IsSound A) (is : IsEngineOf K A) (v : Vector) (F : List Stamped)
+    (l : IsLegalStamped F) (short : length F ≤ 1048576) (w : AreWithin (operations_of F) K) (c serial count : ℕ)
+    (r : HasReceivedAll A c (reverse (missing v F)) serial count G)
+    (named : (q : ℕ) → at v q ≤ greatest_counter (operations A.replica) q) where
   -- the serials of the receipt
   abbrev pub first_serial : ℕ
   first_serial = suc (length r.client.cells)
@@ -54,7 +60,8 @@ module _ (K : List Operation) (lk : IsLegal K) (A G : Engine) (sound : IsSound A
       let one = and_parts (x.client == c) (nat_le first_serial x.serial && nat_lt x.serial end_serial) t in
       let two = and_parts (nat_le first_serial x.serial) (nat_lt x.serial end_serial) one.1 in
       let there : slice_get A.clients x.client ≡ Some r.client = ap (slice_get A.clients) (eqb-true x.client c one.0) ∙ r.is_client in
-      let within : x.serial ≤ length r.client.cells = cell_within r.client.cells x.serial _ (sym (ap (cell_of x.serial) there) ∙ sound.unanswered x (queued_waits A.due A.handled A.queue x m)) in
+      let within : x.serial ≤ length r.client.cells = cell_within r.client.cells x.serial _
+      (sym (ap (cell_of x.serial) there) ∙ sound.unanswered x (queued_waits A.due A.handled A.queue x m)) in
       let from : first_serial ≤ x.serial = leb-true first_serial x.serial two.0 in
       absurd (omega arith))
 
@@ -67,20 +74,25 @@ module _ (K : List Operation) (lk : IsLegal K) (A G : Engine) (sound : IsSound A
   had : (s : Stamped) → IsAmong s F → covers v s.id ≡ true → has_id (operations A.replica) s.id ≡ true
   had s m e =
       let o = meaning_of F l s m in
-      ap (has_id (operations A.replica)) (sym o.1.id) ∙ covered_there K lk A.replica v named (legal_entries A.replica is.settled.world.running) is.settled.world.within o.0 (w o.0 o.1.among) (ap (covers v) o.1.id ∙ e)
+      ap (has_id (operations A.replica)) (sym o.1.id)
+      ∙ covered_there K lk A.replica v named (legal_entries A.replica is.settled.world.running) is.settled.world.within o.0
+      (w o.0 o.1.among) (ap (covers v) o.1.id ∙ e)
 
   known : (s : Stamped) → IsAmong s F → covers v s.id ≡ false → is_of_members A.replica.members s ≡ true
-  known s m e = all_pass (is_of_members A.replica.members) (reverse (missing v F)) s r.known (into_reverse (missing v F) s (into_filter (λ t. not (covers v t.id)) F s m (not_from_false (covers v s.id) e)))
+  known s m e = all_pass (is_of_members A.replica.members) (reverse (missing v F)) s r.known
+      (into_reverse (missing v F) s (into_filter (λ t. not (covers v t.id)) F s m (not_from_false (covers v s.id) e)))
 
   all_come : Comes A.replica.members (operations A.replica) F [] (awaited c first_serial end_serial G.queue)
   all_come = subst (Comes A.replica.members (operations A.replica) F []) (append-nil (map OfPeer (reverse (missing v F))) ∙ sym all_awaited)
-      (comes_from A.replica.members (operations A.replica) F v F [] [] had known (subst (λ (H : List Stamped). Comes A.replica.members (operations A.replica) F H []) (sym (append-nil F)) End))
+      (comes_from A.replica.members (operations A.replica) F v F [] [] had known
+      (subst (λ (H : List Stamped). Comes A.replica.members (operations A.replica) F H []) (sym (append-nil F)) End))
 
   used : (n : ℕ) → first_serial ≤ n → n < end_serial → (x : Submitted) × WasSubmitted G c n x
   used zero from below = absurd (omega arith)
   used (suc n) from below = elim (slice_get_cases r.whole.client.cells n).1 [
     | inl x ↦ (x.0.submitted, (x.0, ap (cell_of (suc n)) there ∙ cell_at-suc r.whole.client.cells n ∙ x.2, refl))
-    | inr o ↦ (let cells : length r.whole.client.cells ≡ length r.client.cells + length (reverse (missing v F)) = r.whole.cells in absurd (omega (arith, o.0)))
+    | inr o ↦ (let cells : length r.whole.client.cells ≡ length r.client.cells + length (reverse (missing v F)) = r.whole.cells in
+        absurd (omega (arith, o.0)))
   ]
     where
       there : slice_get G.clients c ≡ Some r.whole.client

@@ -1,5 +1,6 @@
 -- In one world what waits stays or is applied.
-use Rattle.std.proofs.Common.{◌≡◌, ◌⊎◌, inl, inr, ℕ, zero, suc, Bool, true, false, not, cond, ◌||◌, List, [], ◌∷◌, Option, Some, None, refl, sym, ap, ◌∙◌, subst, true≢false}
+use Rattle.std.proofs.Common.{◌≡◌, ◌⊎◌, inl, inr, ℕ, zero, suc, Bool, true, false, not, cond, ◌||◌, List, [], ◌∷◌, Option, Some, None, refl}
+use Rattle.std.proofs.Common.{sym, ap, ◌∙◌, subst, true≢false}
 use Rattle.std.proofs.lemmas.Bool.{or_left, or_right, cases_Bool}
 use Rattle.semantics.specs.Ids.{OpId, is_same_id}
 use Rattle.semantics.specs.Operations.{Operation}
@@ -22,39 +23,53 @@ in_without_other : (a : OpId) (W : List Stamped) (x : Stamped) → IsAmong x W �
 in_without_other a [] x m n = absurd m
 in_without_other a (y ∷ W) x m n = at_test (λ k. in_without_other a W x k n) (is_same_id y.id a) refl m
   where
-    at_test : (IsAmong x W → IsAmong x (without_waiting a W)) → (t : Bool) → is_same_id y.id a ≡ t → IsAmong x (y ∷ W) → IsAmong x (cond (not t) (y ∷ without_waiting a W) (without_waiting a W))
+    at_test : (IsAmong x W → IsAmong x (without_waiting a W)) → (t : Bool) → is_same_id y.id a ≡ t → IsAmong x (y ∷ W)
+        → IsAmong x (cond (not t) (y ∷ without_waiting a W) (without_waiting a W))
     at_test rest true e (inl f) = absurd (true≢false (sym (ap (λ (z : Stamped). is_same_id z.id a) f ∙ e) ∙ n))
     at_test rest true e (inr k) = rest k
     at_test rest false e (inl f) = inl f
     at_test rest false e (inr k) = inr (rest k)
 
 -- where one leaves without a fault, each other stays
-stays_taken : (r : Replica) (s x : Stamped) → fault_of (stamped_of r.entries) s ≡ None → IsAmong x r.waiting ⊎ (has_id (operations r) x.id ≡ true) → IsAmong x (taken r s).waiting ⊎ (has_id (operations (taken r s)) x.id ≡ true)
-stays_taken r s x none h = subst (λ (d : Replica). IsAmong x d.waiting ⊎ (has_id (operations d) x.id ≡ true)) (sym (ap (taken_with r s) none)) (at_case h)
+stays_taken : (r : Replica) (s x : Stamped) → fault_of (stamped_of r.entries) s ≡ None
+    → IsAmong x r.waiting ⊎ (has_id (operations r) x.id ≡ true)
+    → IsAmong x (taken r s).waiting ⊎ (has_id (operations (taken r s)) x.id ≡ true)
+stays_taken r s x none h = subst (λ (d : Replica). IsAmong x d.waiting ⊎ (has_id (operations d) x.id ≡ true))
+    (sym (ap (taken_with r s) none)) (at_case h)
   where
-    at_case : IsAmong x r.waiting ⊎ (has_id (operations r) x.id ≡ true) → IsAmong x (without_waiting s.id r.waiting) ⊎ ((is_same_id s.id x.id || has_id (operations r) x.id) ≡ true)
+    at_case : IsAmong x r.waiting ⊎ (has_id (operations r) x.id ≡ true)
+        → IsAmong x (without_waiting s.id r.waiting) ⊎ ((is_same_id s.id x.id || has_id (operations r) x.id) ≡ true)
     at_case (inr t) = inr (or_right (is_same_id s.id x.id) (has_id (operations r) x.id) t)
     at_case (inl m) = elim (cases_Bool (is_same_id x.id s.id)) [
       | inl e ↦ inr (or_left (is_same_id s.id x.id) (has_id (operations r) x.id) (id_tested s.id x.id (sym (ids_from_test x.id s.id e))))
       | inr e ↦ inl (in_without_other s.id r.waiting x m e)
     ]
 
-pub stay_for : (K : List Operation) → IsLegal K → (n : ℕ) (r : Replica) → IsRunning r → AreWithin (operations r) K → ((s : Stamped) → IsAmong s r.waiting → IsOfWorld K s) → (x : Stamped) → IsAmong x r.waiting ⊎ (has_id (operations r) x.id ≡ true)
+pub stay_for : (K : List Operation) → IsLegal K → (n : ℕ) (r : Replica) → IsRunning r → AreWithin (operations r) K
+    → ((s : Stamped) → IsAmong s r.waiting → IsOfWorld K s) → (x : Stamped) → IsAmong x r.waiting ⊎ (has_id (operations r) x.id ≡ true)
     → IsAmong x (drain_for n r).waiting ⊎ (has_id (operations (drain_for n r)) x.id ≡ true)
 stay_for K lk zero r h w of x m = m
 stay_for K lk (suc n) r h w of x m = at_full (λ q k u v t. stay_for K lk n q k u v x t) (is_full r.entries)
   where
-    at_first : ((q : Replica) → IsRunning q → AreWithin (operations q) K → ((s : Stamped) → IsAmong s q.waiting → IsOfWorld K s) → IsAmong x q.waiting ⊎ (has_id (operations q) x.id ≡ true) → IsAmong x (drain_for n q).waiting ⊎ (has_id (operations (drain_for n q)) x.id ≡ true))
-        → (f : Option Stamped) → first_ready (operations r) r.waiting ≡ f → (let d : Replica = at_ready f r (λ s. drain_for n (taken r s)) in IsAmong x d.waiting ⊎ (has_id (operations d) x.id ≡ true))
+    at_first : ((q : Replica) → IsRunning q → AreWithin (operations q) K → ((s : Stamped) → IsAmong s q.waiting → IsOfWorld K s)
+        → IsAmong x q.waiting ⊎ (has_id (operations q) x.id ≡ true)
+        → IsAmong x (drain_for n q).waiting ⊎ (has_id (operations (drain_for n q)) x.id ≡ true))
+        → (f : Option Stamped) → first_ready (operations r) r.waiting ≡ f
+        → (let d : Replica = at_ready f r (λ s. drain_for n (taken r s)) in IsAmong x d.waiting ⊎ (has_id (operations d) x.id ≡ true))
     at_first rest None e = m
     at_first rest (Some s) e =
         let got = ready_first (operations r) r.waiting h.rising s e in
         let one = taken_keeps K lk r s h w (of s got.0) got.0 got.1 in
         let may = may_follow_ready K lk r h w s (of s got.0) (h.unapplied s got.0) got.1 in
-        let none : fault_of (stamped_of r.entries) s ≡ None = no_fault_where_follows (stamped_of r.entries) s (entries_legal r.own r.entries h.history) may.0 in
+        let none : fault_of (stamped_of r.entries) s
+        ≡ None = no_fault_where_follows (stamped_of r.entries) s (entries_legal r.own r.entries h.history) may.0 in
         rest (taken r s) (taken_running r s h got.0) one.0.within (λ y k. of y (one.1 y k)) (stays_taken r s x none m)
 
-    at_full : ((q : Replica) → IsRunning q → AreWithin (operations q) K → ((s : Stamped) → IsAmong s q.waiting → IsOfWorld K s) → IsAmong x q.waiting ⊎ (has_id (operations q) x.id ≡ true) → IsAmong x (drain_for n q).waiting ⊎ (has_id (operations (drain_for n q)) x.id ≡ true))
-        → (b : Bool) → (let d : Replica = cond b r (at_ready (first_ready (operations r) r.waiting) r (λ s. drain_for n (taken r s))) in IsAmong x d.waiting ⊎ (has_id (operations d) x.id ≡ true))
+    at_full : ((q : Replica) → IsRunning q → AreWithin (operations q) K → ((s : Stamped) → IsAmong s q.waiting → IsOfWorld K s)
+        → IsAmong x q.waiting ⊎ (has_id (operations q) x.id ≡ true)
+        → IsAmong x (drain_for n q).waiting ⊎ (has_id (operations (drain_for n q)) x.id ≡ true))
+        → (b : Bool)
+        → (let d : Replica = cond b r (at_ready (first_ready (operations r) r.waiting) r (λ s. drain_for n (taken r s))) in
+        IsAmong x d.waiting ⊎ (has_id (operations d) x.id ≡ true))
     at_full rest true = m
     at_full rest false = at_first rest (first_ready (operations r) r.waiting) refl

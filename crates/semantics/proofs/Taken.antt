@@ -22,7 +22,12 @@ taken_running r s h m = at_fault (fault_of (stamped_of r.entries) s) refl
   where
     at_fault : (w : Option Refusal) → fault_of (stamped_of r.entries) s ≡ w → IsRunning (taken_with r s w)
     at_fault None e = record {
-      history = (h.history, follows_without_fault (stamped_of r.entries) s (entries_legal r.own r.entries h.history) (h.alone s m) e, h.foreign s m);
+      history = (
+        h.history,
+        follows_without_fault (stamped_of r.entries) s (entries_legal r.own r.entries h.history)
+            (h.alone s m) e,
+        h.foreign s m,
+      );
       alone = λ x n. h.alone x (in_without s.id r.waiting x n).0;
       foreign = λ x n. h.foreign x (in_without s.id r.waiting x n).0;
       unapplied = λ x n. or_from (is_same_id s.id x.id) (has_id (operations r) x.id)

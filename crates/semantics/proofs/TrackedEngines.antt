@@ -31,7 +31,8 @@ pub record IsTracked (Claim : List Operation → Engine → Type 0) : Type 0 whe
   pub grown : (K L : List Operation) (E : Engine) → AreWithin K L → Claim K E → Claim L E
   pub still : (K : List Operation) (E F : Engine) → IsLater E F → IsStill E F → Claim K E → Claim K F
   pub submitted : (K : List Operation) (E F : Engine) (x : Submitted) → HasSubmitted E F x → Claim K E → Claim K F
-  pub taken : (K : List Operation) (E F : Engine) (x : Submitted) → IsLegal K → IsSound E → IsEngineOf K E → HasTaken E F x → Claim K E → Claim K F
+  pub taken : (K : List Operation) (E F : Engine) (x : Submitted) → IsLegal K → IsSound E → IsEngineOf K E → HasTaken E F x → Claim K E
+      → Claim K F
 
 -- engine E, whose replica is p, in a world that K has grown to, with the claim
 pub record HasGoneOn (Claim : List Operation → Engine → Type 0) (K : List Operation) (p : ℕ) (E : Engine) : Type 0 where
@@ -42,7 +43,8 @@ pub record HasGoneOn (Claim : List Operation → Engine → Type 0) (K : List Op
   pub claim : Claim world E
 
 -- an engine stays one of its world as another one makes something
-pub engine_beside : (p : ℕ) (K L : List Operation) (E : Engine) → (p ≡ E.replica.own → ⊥) → IsGrownBy p K L → IsEngineOf K E → IsEngineOf L E
+pub engine_beside : (p : ℕ) (K L : List Operation) (E : Engine) → (p ≡ E.replica.own → ⊥) → IsGrownBy p K L → IsEngineOf K E
+    → IsEngineOf L E
 engine_beside p K L E other g h = record {
   settled = settled_beside p E.replica.own K L E.replica other g h.settled;
   short = h.short;
@@ -66,7 +68,8 @@ module _ (Claim : List Operation → Engine → Type 0) (kept : IsTracked Claim)
     claim = kept.still h.world E F l still h.claim;
   }
 
-  gone_on_submitted : (E F : Engine) (x : Submitted) → IsSound E → HasSubmitted E F x → IsRequestOf K x.request → HasGoneOn Claim K p E → HasGoneOn Claim K p F
+  gone_on_submitted : (E F : Engine) (x : Submitted) → IsSound E → HasSubmitted E F x → IsRequestOf K x.request → HasGoneOn Claim K p E
+      → HasGoneOn Claim K p F
   gone_on_submitted E F x sound l of h = record {
     world = h.world;
     grown = h.grown;
@@ -108,5 +111,6 @@ module _ (Claim : List Operation → Engine → Type 0) (kept : IsTracked Claim)
   pub kept_going : IsKeptOn (IsRequestOf K) (HasGoneOn Claim K p)
   kept_going = record { still = gone_on_still; submitted = gone_on_submitted; taken = gone_on_taken }
 
-pub starts : (Claim : List Operation → Engine → Type 0) (K : List Operation) → IsLegal K → (E : Engine) → IsEngineOf K E → Claim K E → HasGoneOn Claim K E.replica.own E
+pub starts : (Claim : List Operation → Engine → Type 0) (K : List Operation) → IsLegal K → (E : Engine) → IsEngineOf K E → Claim K E
+    → HasGoneOn Claim K E.replica.own E
 starts Claim K l E h claim = record { world = K; grown = grown_not E.replica.own K l; own = refl; engine = h; claim = claim }

@@ -1,5 +1,6 @@
 -- What an answer to a delivery says of the operation and of the history.
-use Rattle.std.proofs.Common.{◌≡◌, inl, inr, ℕ, ◌≤◌, Bool, true, false, cond, ◌||◌, ◌==◌, nat_lt, List, [], ◌∷◌, ◌++◌, length, Option, Some, None, refl, sym, ap, ◌∙◌, true≢false, eqb-true}
+use Rattle.std.proofs.Common.{◌≡◌, inl, inr, ℕ, ◌≤◌, Bool, true, false, cond, ◌||◌, ◌==◌, nat_lt, List, [], ◌∷◌, ◌++◌, length, Option, Some}
+use Rattle.std.proofs.Common.{None, refl, sym, ap, ◌∙◌, true≢false, eqb-true}
 use Rattle.std.proofs.lemmas.Bool.{or_right}
 use Rattle.ids.specs.declared.refusal.Refusal.{Refusal}
 use Rattle.ids.specs.declared.refusal.Refusal.TheVariants.{HistoryFull, InboxFull, OwnName}
@@ -23,7 +24,8 @@ module _ (r : Replica) (s : Stamped) (e : Refusal) where
   Told = IsTrueOf r.own r.members r.entries s e
 
   -- behind a test
-  by_test : (t : Bool) (P : Type 0) (x y : Delivered) → (t ≡ true → x ≡ NotKept e → P) → (t ≡ false → y ≡ NotKept e → P) → cond t x y ≡ NotKept e → P
+  by_test : (t : Bool) (P : Type 0) (x y : Delivered) → (t ≡ true → x ≡ NotKept e → P) → (t ≡ false → y ≡ NotKept e → P)
+      → cond t x y ≡ NotKept e → P
   by_test true P x y f g is = f refl is
   by_test false P x y f g is = g refl is
 
@@ -43,7 +45,8 @@ module _ (r : Replica) (s : Stamped) (e : Refusal) where
   of_room : room_answer r s ≡ NotKept e → Told
   of_room is =
       by_test (is_ready (operations r) s) Told _ _
-      (λ t. by_test (nat_lt 4096 (length r.waiting)) Told (NotKept InboxFull) _ (λ u. full_inbox) (λ u. of_fault (fault_of (stamped_of r.entries) s) refl))
+      (λ t. by_test (nat_lt 4096 (length r.waiting)) Told (NotKept InboxFull) _ (λ u. full_inbox)
+      (λ u. of_fault (fault_of (stamped_of r.entries) s) refl))
       (λ t. by_test (nat_lt 4095 (length r.waiting)) Told (NotKept InboxFull) Kept (λ u. full_inbox) (λ u. no_kept))
       is
 
@@ -59,17 +62,31 @@ module _ (r : Replica) (s : Stamped) (e : Refusal) where
   of_tests None a is =
       by_test (has_id (operations r) s.id || is_waiting r.waiting s.id) Told Known _ (λ t. of_known)
       (λ t. by_test (s.id.replica == r.own) Told (NotKept OwnName) _
-      (λ u q. inr (inl (sym (same_cause e OwnName q), eqb-true s.id.replica r.own u, left_false (has_id (operations r) s.id) (is_waiting r.waiting s.id) t)))
-      (λ u. by_test (is_full r.entries) Told (NotKept HistoryFull) (room_answer r s) (λ v q. inr (inr (inl (sym (same_cause e HistoryFull q), v)))) (λ v. of_room)))
+      (λ u q. inr
+      (inl (
+        sym (same_cause e OwnName q),
+        eqb-true s.id.replica r.own u,
+        left_false (has_id (operations r) s.id)
+            (is_waiting r.waiting s.id) t,
+      )))
+      (λ u. by_test (is_full r.entries) Told (NotKept HistoryFull) (room_answer r s)
+      (λ v q. inr (inr (inl (sym (same_cause e HistoryFull q), v)))) (λ v. of_room)))
       is
 
   pub told : answer_to r s ≡ NotKept e → Told
   told = of_tests (alone_fault r.members s) refl
 
 -- a refusal is true of the operation and the first k entries
-pub refused_truly : (p : ℕ) (ps : List ℕ) (G : List Entry) (s : Stamped) (floor m : ℕ) (e : Refusal) → WasAnswered p ps G s floor m (NotKept e)
+pub refused_truly : (p : ℕ) (ps : List ℕ) (G : List Entry) (s : Stamped) (floor m : ℕ) (e : Refusal)
+    → WasAnswered p ps G s floor m (NotKept e)
     → (k : ℕ) × (floor ≤ k) × (k ≤ m) × IsTrueOf p ps (first_entries k G) s e
-refused_truly p ps G s floor m e a = (a.k, a.from, a.to, told (record { own = p; members = ps; entries = first_entries a.k G; waiting = a.waiting; dropped = 0 }) s e a.answer)
+refused_truly p ps G s floor m e a = (
+  a.k,
+  a.from,
+  a.to,
+  told
+      (record { own = p; members = ps; entries = first_entries a.k G; waiting = a.waiting; dropped = 0 }) s e a.answer,
+)
 
 -- ---- what was kept was new
 
@@ -96,7 +113,8 @@ lacks_shorter G F a b h = by (has_id (applied F) a) refl
     by true e = absurd (true≢false (sym (has_longer b.0 F a e) ∙ ap (λ (K : List Entry). has_id (applied K) a) (sym b.1) ∙ h))
 
 -- no entry before the floor has the id of what was kept
-pub kept_as_new : (p : ℕ) (ps : List ℕ) (G : List Entry) (s : Stamped) (floor m : ℕ) → WasAnswered p ps G s floor m Kept → has_id (applied (first_entries floor G)) s.id ≡ false
+pub kept_as_new : (p : ℕ) (ps : List ℕ) (G : List Entry) (s : Stamped) (floor m : ℕ) → WasAnswered p ps G s floor m Kept
+    → has_id (applied (first_entries floor G)) s.id ≡ false
 kept_as_new p ps G s floor m a =
     lacks_shorter (first_entries a.k G) (first_entries floor G) s.id (first_begins_first floor a.k G a.from)
     (kept_new (record { own = p; members = ps; entries = first_entries a.k G; waiting = a.waiting; dropped = 0 }) s a.answer)

@@ -1,5 +1,6 @@
 -- Delivering what is missing, in order, each followed by a drain, leaves the union.
-use Rattle.std.proofs.Common.{◌≡◌, inl, inr, ℕ, suc, ◌+◌, ◌<◌, ◌≤◌, Bool, true, false, not, cond, ◌||◌, ◌==◌, List, [], ◌∷◌, None, refl, sym, ap, ◌∙◌, subst, true≢false, arith, length, le_trans}
+use Rattle.std.proofs.Common.{◌≡◌, inl, inr, ℕ, suc, ◌+◌, ◌<◌, ◌≤◌, Bool, true, false, not, cond, ◌||◌, ◌==◌, List, [], ◌∷◌, None, refl}
+use Rattle.std.proofs.Common.{sym, ap, ◌∙◌, subst, true≢false, arith, length, le_trans}
 use Rattle.std.proofs.lemmas.Bool.{and_parts, or_parts, or_left, or_right, false_from_ne_true, cases_Bool, eqb-true, le-ltb, not_from_false}
 use Rattle.semantics.specs.Ids.{OpId, is_same_id}
 use Rattle.semantics.specs.Operations.{Operation}
@@ -61,7 +62,8 @@ longer_new : (b : Bool) (s : Stamped) (L : List Stamped) → b ≡ true → suc 
 longer_new true s L e = omega arith
 longer_new false s L e = absurd (true≢false (sym e))
 
-along_skip : (r d : Replica) (K : List Operation) (s : Stamped) (F : List Stamped) → Along r d K F → has_id (operations d) s.id ≡ true → Along r d K (s ∷ F)
+along_skip : (r d : Replica) (K : List Operation) (s : Stamped) (F : List Stamped) → Along r d K F → has_id (operations d) s.id ≡ true
+    → Along r d K (s ∷ F)
 along_skip r d K s F h known = record {
   running = h.running;
   none_waits = h.none_waits;
@@ -74,7 +76,8 @@ along_skip r d K s F h known = record {
   room = le_trans h.room (let k = longer (not (has_id (operations r) s.id)) s (lacking (operations r) F) in omega (arith, k));
 }
 
-module _ (K : List Operation) (lk : IsLegal K) (r : Replica) (v : Vector) (named : (p : ℕ) → at v p ≤ greatest_counter (operations r) p) (lr : IsLegal (operations r)) (wr : AreWithin (operations r) K) where
+module _ (K : List Operation) (lk : IsLegal K) (r : Replica) (v : Vector) (named : (p : ℕ) → at v p ≤ greatest_counter (operations r) p)
+    (lr : IsLegal (operations r)) (wr : AreWithin (operations r) K) where
   -- what the vector covers is there
   pub covered_there : (o : Operation) → IsAmong o K → covers v o.id ≡ true → has_id (operations r) o.id ≡ true
   covered_there o m c =
@@ -92,7 +95,8 @@ module _ (K : List Operation) (lk : IsLegal K) (r : Replica) (v : Vector) (named
       ]
 
   along_next : (d : Replica) (s : Stamped) (F : List Stamped) → IsLegalStamped (s ∷ F) → AreWithin (operations_of (s ∷ F)) K
-      → (s.id.replica ≡ r.own → has_id (operations r) s.id ≡ true) → is_of_members r.members s ≡ true → length r.entries + length (lacking (operations r) (s ∷ F)) ≤ 1048576
+      → (s.id.replica ≡ r.own → has_id (operations r) s.id ≡ true) → is_of_members r.members s ≡ true
+      → length r.entries + length (lacking (operations r) (s ∷ F)) ≤ 1048576
       → Along r d K F → Along r (receive d s) K (s ∷ F)
   along_next d s F l w own known room h =
       elim (cases_Bool (has_id (operations d) s.id)) [
@@ -106,11 +110,15 @@ module _ (K : List Operation) (lk : IsLegal K) (r : Replica) (v : Vector) (named
           let m : Means (operations_of (s ∷ F)) s o = means_first F s l in
           let ld : IsLegal (operations d) = legal (stamped_of d.entries) (entries_legal d.own d.entries h.running.history) in
           let before : (a : OpId) → o.deps a ≡ true → has_id (operations d) a ≡ true =
-          λ a t. h.union a ∙ or_right (has_id (operations r) a) (has_id (operations_of F) a) (and_parts (has_id (operations_of F) a) (covers s.vector a) t).0 in
+          λ a t. h.union a
+          ∙ or_right (has_id (operations r) a) (has_id (operations_of F) a)
+          (and_parts (has_id (operations_of F) a) (covers s.vector a) t).0 in
           let may : MayFollow (operations d) s = may_follow_in K lk (operations d) (operations_of (s ∷ F)) ld h.within w s o m e before in
-          let none_here : has_id (operations r) s.id ≡ false = (or_parts (has_id (operations r) s.id) (has_id (operations_of F) s.id) (sym (h.union s.id) ∙ e)).0 in
+          let none_here : has_id (operations r) s.id
+          ≡ false = (or_parts (has_id (operations r) s.id) (has_id (operations_of F) s.id) (sym (h.union s.id) ∙ e)).0 in
           let grown : suc (length (lacking (operations r) F)) ≤ length (lacking (operations r) (s ∷ F)) =
-          longer_new (not (has_id (operations r) s.id)) s (lacking (operations r) F) (not_from_false (has_id (operations r) s.id) none_here) in
+          longer_new (not (has_id (operations r) s.id)) s (lacking (operations r) F)
+          (not_from_false (has_id (operations r) s.id) none_here) in
           let small : length d.entries ≤ length r.entries + length (lacking (operations r) F) = h.room in
           let few : length d.entries < 1048576 = omega (arith, room, grown, small) in
           let there : length (operations d) ≡ length d.entries = length_operations (stamped_of d.entries) ∙ length_stamped d.entries in
@@ -119,7 +127,8 @@ module _ (K : List Operation) (lk : IsLegal K) (r : Replica) (v : Vector) (named
           let other : (s.id.replica == d.own) ≡ false =
           false_from_ne_true (s.id.replica == d.own) (λ t. true≢false (sym (own (eqb-true s.id.replica d.own t ∙ h.own)) ∙ none_here)) in
           let ready : is_ready (operations d) s ≡ true = ready-from (operations d) s (ready_where_follows may) in
-          let none : fault_of (stamped_of d.entries) s ≡ None = no_fault_where_follows (stamped_of d.entries) s (entries_legal d.own d.entries h.running.history) may in
+          let none : fault_of (stamped_of d.entries) s
+          ≡ None = no_fault_where_follows (stamped_of d.entries) s (entries_legal d.own d.entries h.running.history) may in
           let end : receive d s ≡ appended d s =
           received_new d s h.none_waits alone e other (le-ltb 1048575 (length d.entries) (omega (arith, few))) ready none in
           let running : IsRunning (receive d s) = (drained (deliver d s) (delivered d s h.running)).0 in
@@ -130,7 +139,8 @@ module _ (K : List Operation) (lk : IsLegal K) (r : Replica) (v : Vector) (named
             own = h.own;
             members = h.members;
             none_dropped = h.none_dropped;
-            union = λ a. union_new (has_id (operations d) a) (has_id (operations r) a) (is_same_id s.id a) (has_id (operations_of F) a) (h.union a);
+            union = λ a. union_new (has_id (operations d) a) (has_id (operations r) a) (is_same_id s.id a) (has_id (operations_of F) a)
+                (h.union a);
             within = within_next o (same_meaning K lk (operations d) (operations_of (s ∷ F)) ld h.within w s o m before) (w o (inl refl));
             room = omega (arith, small, grown);
           })
@@ -140,7 +150,8 @@ module _ (K : List Operation) (lk : IsLegal K) (r : Replica) (v : Vector) (named
           within_next o same m x (inr n) = h.within x n
 
   along : (F : List Stamped) → IsRunning r → r.waiting ≡ [] → IsLegalStamped F → AreWithin (operations_of F) K
-      → ((s : Stamped) → IsAmong s F → s.id.replica ≡ r.own → has_id (operations r) s.id ≡ true) → ((s : Stamped) → IsAmong s F → is_of_members r.members s ≡ true)
+      → ((s : Stamped) → IsAmong s F → s.id.replica ≡ r.own → has_id (operations r) s.id ≡ true)
+      → ((s : Stamped) → IsAmong s F → is_of_members r.members s ≡ true)
       → length r.entries + length (lacking (operations r) F) ≤ 1048576 → Along r (receive_all r (missing v F)) K F
   along [] run none l w own known room = record {
     running = run;
@@ -156,14 +167,18 @@ module _ (K : List Operation) (lk : IsLegal K) (r : Replica) (v : Vector) (named
       at_test (along F run none l.0 (λ x n. w x (inr n)) (λ x n. own x (inr n)) (λ x n. known x (inr n))
       (let k = longer (not (has_id (operations r) s.id)) s (lacking (operations r) F) in omega (arith, k, room))) (covers v s.id) refl
     where
-      at_test : Along r (receive_all r (missing v F)) K F → (b : Bool) → covers v s.id ≡ b → Along r (receive_all r (cond (not b) (s ∷ missing v F) (missing v F))) K (s ∷ F)
+      at_test : Along r (receive_all r (missing v F)) K F → (b : Bool) → covers v s.id ≡ b
+          → Along r (receive_all r (cond (not b) (s ∷ missing v F) (missing v F))) K (s ∷ F)
       at_test h true e = along_skip r (receive_all r (missing v F)) K s F h
-          (h.union s.id ∙ or_left (has_id (operations r) s.id) (has_id (operations_of F) s.id) (covered_there (operation_after (operations_of F) s) (w (operation_after (operations_of F) s) (inl refl)) e))
+          (h.union s.id
+          ∙ or_left (has_id (operations r) s.id) (has_id (operations_of F) s.id)
+          (covered_there (operation_after (operations_of F) s) (w (operation_after (operations_of F) s) (inl refl)) e))
       at_test h false e = along_next (receive_all r (missing v F)) s F l w (own s (inl refl)) (known s (inl refl)) room h
 
 pub exchanged : (r : Replica) (F : List Stamped) (v : Vector) → CanReceive r F v → HasReceived r (receive_all r (missing v F)) F
 exchanged r F v c =
-    let h = along c.world.all c.world.legal r v c.vector (legal (stamped_of r.entries) (entries_legal r.own r.entries c.running.history)) c.world.first
+    let h = along c.world.all c.world.legal r v c.vector
+    (legal (stamped_of r.entries) (entries_legal r.own r.entries c.running.history)) c.world.first
     F c.running c.none_waits c.legal c.world.second c.own c.members c.room in
     record {
       running = h.running;

@@ -1,5 +1,6 @@
 -- Vectors by their counters.
-use Rattle.std.proofs.Common.{◌≡◌, ◌≢◌, ◌⊎◌, inl, inr, ℕ, ◌≤◌, max, Bool, true, false, cond, ◌==◌, nat_le, List, [], ◌∷◌, refl, sym, ap, ◌∙◌, subst, true≢false, arith, le_trans}
+use Rattle.std.proofs.Common.{◌≡◌, ◌≢◌, ◌⊎◌, inl, inr, ℕ, ◌≤◌, max, Bool, true, false, cond, ◌==◌, nat_le, List, [], ◌∷◌, refl, sym, ap}
+use Rattle.std.proofs.Common.{◌∙◌, subst, true≢false, arith, le_trans}
 use Rattle.std.specs.List.{list_all, list_any}
 use Rattle.std.proofs.Math.Nat.{le-max_left, le-max_right, max-le}
 use Rattle.std.proofs.lemmas.Bool.{or_parts, or_from, and_parts, and_from, leb-true, le-leb, eqb-true, eq-eqb}
@@ -35,7 +36,8 @@ pub within-at : (f : ℕ → ℕ) (v : Vector) → ((p : ℕ) → at v p ≤ f p
 within-at f [] h = refl
 within-at f (a ∷ v) h =
     and_from (nat_le a.counter (f a.replica)) (list_all (λ x. nat_le x.counter (f x.replica)) v)
-    (le-leb a.counter (f a.replica) (le_trans (at_first (a.replica == a.replica) a.counter (at v a.replica) (eq-eqb a.replica a.replica refl)) (h a.replica)))
+    (le-leb a.counter (f a.replica)
+    (le_trans (at_first (a.replica == a.replica) a.counter (at v a.replica) (eq-eqb a.replica a.replica refl)) (h a.replica)))
     (within-at f v (λ p. le_trans (at_rest (a.replica == p) a.counter (at v p)) (h p)))
 
 pub at_most-at : (u v : Vector) → is_at_most u v ≡ true → (p : ℕ) → at u p ≤ at v p
@@ -65,7 +67,8 @@ max_cases a b = grind arith
 pub greatest_at : (v : Vector) → (greatest v ≡ 0) ⊎ ((p : ℕ) × (at v p ≡ greatest v))
 greatest_at [] = inl refl
 greatest_at (a ∷ v) =
-    let first : a.counter ≤ at (a ∷ v) a.replica = at_first (a.replica == a.replica) a.counter (at v a.replica) (eq-eqb a.replica a.replica refl) in
+    let first : a.counter ≤ at (a ∷ v) a.replica = at_first (a.replica == a.replica) a.counter (at v a.replica)
+    (eq-eqb a.replica a.replica refl) in
     let above : at (a ∷ v) a.replica ≤ max a.counter (greatest v) = at_greatest (a ∷ v) a.replica in
     elim (max_cases a.counter (greatest v)) [
       | inl e ↦ inr (a.replica, squeeze a.counter (at (a ∷ v) a.replica) (max a.counter (greatest v)) first above e)
@@ -79,7 +82,8 @@ greatest_at (a ∷ v) =
     squeeze : (c x m : ℕ) → c ≤ x → x ≤ m → m ≡ c → x ≡ m
     squeeze c x m h k e = omega arith
 
-any_none_here : (f : ℕ → Bool) (b : Bool) (q p c m : ℕ) → ((b ≡ true) → q ≡ p) → f q ≡ false → (m ≢ 0 → f p ≡ false) → cond b (max c m) m ≢ 0 → f p ≡ false
+any_none_here : (f : ℕ → Bool) (b : Bool) (q p c m : ℕ) → ((b ≡ true) → q ≡ p) → f q ≡ false → (m ≢ 0 → f p ≡ false)
+    → cond b (max c m) m ≢ 0 → f p ≡ false
 any_none_here f true q p c m e h k n = ap f (sym (e refl)) ∙ h
 any_none_here f false q p c m e h k n = k n
 

@@ -34,7 +34,8 @@ front_known xs ys h s m = h s (among_left xs ys s m)
 rest_known : (xs ys : List WorldStep) → AreWithoutLines (xs ++ ys) → AreWithoutLines ys
 rest_known xs ys h s m = h s (among_right xs ys s m)
 
-module _ (cs : List Configuration) (steps : List WorldStep) (a b c first end : ℕ) (published : List Entry) (x : IsExchange cs steps a b c first end published) where
+module _ (cs : List Configuration) (steps : List WorldStep) (a b c first end : ℕ) (published : List Entry)
+    (x : IsExchange cs steps a b c first end published) where
   -- the steps to the answer, from there to the receipt, and from there on
   abbrev asking : List WorldStep
   asking = step_by a (SayHello x.t) ∷ x.between
@@ -55,7 +56,8 @@ module _ (cs : List Configuration) (steps : List WorldStep) (a b c first end : �
   to_receipt = after_more (opened cs) (x.before ++ asking) answering ∙ ap (λ W. world_after W answering) to_answer
 
   to_end : world_after (opened cs) steps ≡ world_after (world_after (world_after start asking) answering) receiving
-  to_end = ap (world_after (opened cs)) x.all ∙ after_more (opened cs) (x.before ++ asking ++ answering) receiving ∙ ap (λ W. world_after W receiving) to_receipt
+  to_end = ap (world_after (opened cs)) x.all ∙ after_more (opened cs) (x.before ++ asking ++ answering) receiving
+      ∙ ap (λ W. world_after W receiving) to_receipt
 
   exchanged : HaveOwnNumbers cs → AreWithoutLines steps → (A : Engine) → IsEngineAfter cs steps a A → IsHandledBelow A c end
       → AllAre (HasArrived c first end A) (stamped_of published)
@@ -64,13 +66,16 @@ module _ (cs : List Configuration) (steps : List WorldStep) (a b c first end : �
       let to_third = front_known (x.before ++ asking ++ answering) receiving all in
       let to_second = front_known (x.before ++ asking) answering to_third in
       let world = one_world_after _ (opened cs) x.before (sound_opened cs) (front_known x.before asking to_second) (opened_world cs own) in
-      let through = exchanged_through world.0 start x.between x.later x.after (sound_after (opened cs) x.before (sound_opened cs)) world.2 a b c x.t x.h x.u x.k x.sent first x.count x.vector x.answerer
-      (rest_known x.before asking to_second) (rest_known (x.before ++ asking) answering to_third) (rest_known (x.before ++ asking ++ answering) receiving all) x.hello
+      let through = exchanged_through world.0 start x.between x.later x.after
+      (sound_after (opened cs) x.before (sound_opened cs)) world.2 a b c x.t x.h x.u x.k x.sent first x.count x.vector x.answerer
+      (rest_known x.before asking to_second) (rest_known (x.before ++ asking) answering to_third)
+      (rest_known (x.before ++ asking ++ answering) receiving all) x.hello
       (subst (λ (W : World). slice_get W.engines b ≡ Some x.answerer) to_answer x.there)
       (subst (λ (W : World). (world_step W (step_by b (AnswerHello x.u x.h))).reply ≡ SentBundle x.k x.sent) to_answer x.answer)
       (subst (λ (W : World). (world_step W (step_by a (Deliver c x.k))).reply ≡ Received first x.count None) to_receipt x.receipt)
       A (subst (λ (W : World). slice_get W.engines a ≡ Some A) to_end e) (subst (IsHandledBelow A c) x.last handled) in
-      subst (λ (G : List Entry). AllAre (HasArrived c first end A) (stamped_of G)) x.had (subst (λ n. AllAre (HasArrived c first n A) (stamped_of (published_entries x.answerer))) (sym x.last) through)
+      subst (λ (G : List Entry). AllAre (HasArrived c first end A) (stamped_of G)) x.had
+      (subst (λ n. AllAre (HasArrived c first n A) (stamped_of (published_entries x.answerer))) (sym x.last) through)
 
 pub messages_complete : (cs : List Configuration) (steps : List WorldStep) → HaveOwnNumbers cs → AreWithoutLines steps
     → (a b c first end : ℕ) (published : List Entry) (A : Engine) → IsExchange cs steps a b c first end published

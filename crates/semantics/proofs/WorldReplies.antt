@@ -8,7 +8,8 @@ use Rattle.semantics.specs.View.{view}
 use Rattle.semantics.specs.Stamped.{Stamped}
 use Rattle.semantics.specs.Making.{Command}
 use Rattle.semantics.specs.Entries.{Entry, Own, applied, stamped_of, entry_at, first_entries}
-use Rattle.semantics.specs.LegalAnswer.{Request, OfCommand, OfPeer, Submitted, Reply, Made, Asked, OfDocument, Reading, Answered, IsLegalAnswer, IsLegalReply, reading_of}
+use Rattle.semantics.specs.LegalAnswer.{Request, OfCommand, OfPeer, Submitted, Reply, Made, Asked, OfDocument, Reading, Answered}
+use Rattle.semantics.specs.LegalAnswer.{IsLegalAnswer, IsLegalReply, reading_of}
 use Rattle.semantics.specs.Engine.{Engine, Client, Cell, Given, Replied, Read, published_entries}
 use Rattle.semantics.specs.ReadSteps.{cell_at, poll_cell, poll, ask, seen_by}
 use Rattle.semantics.specs.WorldHistory.{BeginsWith, WasSubmitted, IsNotBelow}
@@ -36,11 +37,22 @@ pub record RepliedFrom (E : Engine) (c serial : ℕ) (r : Reply) : Type 0 where
 replied_from : (E : Engine) (c serial : ℕ) (r : Reply) → (poll E c serial).reply ≡ Replied r → RepliedFrom E c serial r
 replied_from E c serial r h = at_client (slice_get E.clients c) refl h
   where
-    at_answer : (k : Client) → slice_get E.clients c ≡ Some k → (cell : Cell) → cell_at k.cells serial ≡ Some cell → (o : Option Given) → cell.answer ≡ o → (poll_cell E c k (Some cell)).reply ≡ Replied r → RepliedFrom E c serial r
+    at_answer : (k : Client) → slice_get E.clients c ≡ Some k → (cell : Cell) → cell_at k.cells serial ≡ Some cell → (o : Option Given)
+        → cell.answer ≡ o → (poll_cell E c k (Some cell)).reply ≡ Replied r → RepliedFrom E c serial r
     at_answer k e cell f None q w = (let z = rw q at w in cc)
-    at_answer k e cell f (Some g) q w = record { client = k; cell = cell; given = g; is_client = e; is_cell = f; is_given = q; is_reply = (let z = rw q at w in cc) }
+    at_answer k e cell f
+        (Some g) q w = record {
+          client = k;
+          cell = cell;
+          given = g;
+          is_client = e;
+          is_cell = f;
+          is_given = q;
+          is_reply = (let z = rw q at w in cc);
+        }
 
-    at_cell : (k : Client) → slice_get E.clients c ≡ Some k → (o : Option Cell) → cell_at k.cells serial ≡ o → (poll_cell E c k o).reply ≡ Replied r → RepliedFrom E c serial r
+    at_cell : (k : Client) → slice_get E.clients c ≡ Some k → (o : Option Cell) → cell_at k.cells serial ≡ o
+        → (poll_cell E c k o).reply ≡ Replied r → RepliedFrom E c serial r
     at_cell k e None f w = cc
     at_cell k e (Some cell) f w = at_answer k e cell f cell.answer refl w
 
@@ -49,11 +61,16 @@ replied_from E c serial r h = at_client (slice_get E.clients c) refl h
     at_client (Some k) e w = at_cell k e (cell_at k.cells serial) refl (rw e at w)
 
 pub poll_legal : (E : Engine) → IsSound E → (c serial : ℕ) (r : Reply) → (poll E c serial).reply ≡ Replied r
-    → (x : Submitted) × WasSubmitted E c serial x × (x.client ≡ c) × (x.serial ≡ serial) × IsLegalReply E.replica.own (published_entries E) x r × IsNotBelow x.floor r
+    → (x : Submitted) × WasSubmitted E c serial x × (x.client ≡ c) × (x.serial ≡ serial)
+    × IsLegalReply E.replica.own (published_entries E) x r × IsNotBelow x.floor r
 poll_legal E s c serial r h =
     let from = replied_from E c serial r h in
-    let sound : IsSoundCell E.replica.own E.replica.entries E.published c serial from.cell = (s.clients c from.client from.is_client).cells serial from.cell from.is_cell in
-    let good = subst (λ (q : Reply). IsLegalReply E.replica.own (published_entries E) from.cell.submitted q × IsNotBelow from.cell.submitted.floor q) from.is_reply (sound.given from.given from.is_given).1 in (
+    let sound : IsSoundCell E.replica.own E.replica.entries E.published c serial from.cell =
+    (s.clients c from.client from.is_client).cells serial from.cell from.is_cell in
+    let good = subst
+    (λ (q : Reply). IsLegalReply E.replica.own (published_entries E) from.cell.submitted q
+    × IsNotBelow from.cell.submitted.floor q) from.is_reply
+    (sound.given from.given from.is_given).1 in (
       from.cell.submitted,
       (from.cell, ap (cell_of serial) from.is_client ∙ from.is_cell, refl),
       sound.client,
@@ -80,8 +97,10 @@ made_of p G x a n h = of_request x.request refl h
     of_request (OfCommand c) is w = (let l : IsLegalAnswer p G x c (Made a n) = rw is at w in (c, l.0, is, l.1, l.2))
     of_request (OfPeer s) is w = (let n : ⊥ = rw is at w in absurd n)
 
-pub made_once : (E : Engine) → IsSound E → (c serial : ℕ) (x : Submitted) (a : OpId) (n : ℕ) → WasSubmitted E c serial x → (poll E c serial).reply ≡ Replied (Made a n)
-    → (command : Command) × (s : Stamped) × (x.request ≡ OfCommand command) × (entry_at n (published_entries E) ≡ Some (Own c serial command s)) × (s.id ≡ a)
+pub made_once : (E : Engine) → IsSound E → (c serial : ℕ) (x : Submitted) (a : OpId) (n : ℕ) → WasSubmitted E c serial x
+    → (poll E c serial).reply ≡ Replied (Made a n)
+    → (command : Command) × (s : Stamped) × (x.request ≡ OfCommand command)
+    × (entry_at n (published_entries E) ≡ Some (Own c serial command s)) × (s.id ≡ a)
     × ((m : ℕ) (other : Command) (t : Stamped) → entry_at m E.replica.entries ≡ Some (Own c serial other t) → m ≡ n)
 made_once E s c serial x a n w h =
     let p = poll_legal E s c serial (Made a n) h in
@@ -89,7 +108,8 @@ made_once E s c serial x a n w h =
     let m = made_of E.replica.own (published_entries E) p.0 a n p.4 in
     let there : entry_at n (published_entries E) ≡ Some (Own c serial m.0 m.1) = m.3 ∙ (λ i. Some (Own (p.2 i) (p.3 i) m.0 m.1)) in
     let rest = begins_first E.published E.replica.entries in
-    let there_in_all : entry_at n E.replica.entries ≡ Some (Own c serial m.0 m.1) = ap (entry_at n) rest.1 ∙ entry_in_longer n rest.0 (published_entries E) (Own c serial m.0 m.1) there in (
+    let there_in_all : entry_at n E.replica.entries ≡ Some (Own c serial m.0 m.1) = ap (entry_at n) rest.1
+    ∙ entry_in_longer n rest.0 (published_entries E) (Own c serial m.0 m.1) there in (
       m.0,
       m.1,
       ap (λ (y : Submitted). y.request) (sym same) ∙ m.2,
@@ -101,17 +121,20 @@ made_once E s c serial x a n w h =
 -- ---- questions
 
 pub reading_published : (E : Engine) → IsSound E → (t : ℕ) (q : Asked) (n : ℕ) (R : Reading) → (ask E t q).reply ≡ Read n R
-    → (n ≡ length (published_entries E)) × (R ≡ reading_of (published_entries E) q) × BeginsWith (published_entries E) (first_entries (seen_by E t) E.replica.entries)
+    → (n ≡ length (published_entries E)) × (R ≡ reading_of (published_entries E) q)
+    × BeginsWith (published_entries E) (first_entries (seen_by E t) E.replica.entries)
 reading_published E s t q n R h = (
   (let is : E.published ≡ n = cc in sym is ∙ sym (length-first E.published E.replica.entries s.published)),
   (let is : reading_of (published_entries E) q ≡ R = cc in sym is),
   first_begins_first (seen_by E t) E.published E.replica.entries (seen_within E s t),
 )
 
-pub reading_viewed : (E : Engine) → IsSound E → (t : ℕ) (q : Question) (n : ℕ) (R : Reading) → (ask E t (OfDocument q)).reply ≡ Read n R → R ≡ Answered (view (applied (published_entries E)) q)
+pub reading_viewed : (E : Engine) → IsSound E → (t : ℕ) (q : Question) (n : ℕ) (R : Reading) → (ask E t (OfDocument q)).reply ≡ Read n R
+    → R ≡ Answered (view (applied (published_entries E)) q)
 reading_viewed E s t q n R h =
     let is : R ≡ Answered (document_answer (applied (published_entries E)) q) = cc in
     is ∙ (λ i. Answered (document_is_view (applied (published_entries E)) are_legal q i))
   where
     are_legal : IsLegal (applied (published_entries E))
-    are_legal = legal (stamped_of (published_entries E)) (entries_legal E.replica.own (published_entries E) (first_history E.replica.own E.published E.replica.entries s.running.history))
+    are_legal = legal (stamped_of (published_entries E))
+        (entries_legal E.replica.own (published_entries E) (first_history E.replica.own E.published E.replica.entries s.running.history))

@@ -60,7 +60,8 @@ insert_some (Some p) a bs = insert_after p a bs
 abbrev pub link : Context → Operation → Context
 link C o = record C { order = λ l. insert_some (inserted_after o l) o.id (C.order l) }
 
--- o's id goes to the presence of its target and of each element on the way down to it, and its scalar into the target's register, and the names of the fields on the way are noted; a delete writes nothing
+-- o's id goes to the presence of its target and of each element on the way down to it, and its scalar into the target's register,
+-- and the names of the fields on the way are noted; a delete writes nothing
 abbrev pub write : Context → Operation → Context
 write C o = record C {
   presence = λ e. put_some id_cmp o.id (tag_given o e) (C.presence e);
@@ -68,7 +69,8 @@ write C o = record C {
   fields = λ e. put_name (name_given o e) (C.fields e);
 }
 
--- an insert is linked in; then the target is cleared of what the operation depends on (nothing stands yet at an insert's new item); then the operation writes
+-- an insert is linked in; then the target is cleared of what the operation depends on (nothing stands yet at an insert's new
+-- item); then the operation writes
 abbrev pub apply : Context → Operation → Context
 apply C o = write (clear (link C o) (target o) o.deps) o
 

@@ -6,7 +6,8 @@ use Rattle.semantics.specs.Elements.{Element, Field, Item, Name}
 use Rattle.semantics.specs.Operations.{Operation}
 use Rattle.semantics.specs.Context.{Context, doc}
 use Rattle.semantics.specs.NamedIds.{vector_of}
-use Rattle.semantics.specs.Questions.{Question, Values, Keys, Items, Conflicts, AppliedVector, Answer, ValuesAre, KeysAre, ItemsAre, ConflictsAre, VectorIs, resolve, answer_at}
+use Rattle.semantics.specs.Questions.{Question, Values, Keys, Items, Conflicts, AppliedVector, Answer, ValuesAre, KeysAre, ItemsAre}
+use Rattle.semantics.specs.Questions.{ConflictsAre, VectorIs, resolve, answer_at}
 
 -- the list is not empty
 abbrev pub is_any : {X : Type 0} → List X → Bool

@@ -32,11 +32,13 @@ IsAbove client serial [] = ⊤
 IsAbove client serial (Own k n c s ∷ G) = (k ≡ client → n < serial) × IsAbove client serial G
 IsAbove client serial (Peer s ∷ G) = IsAbove client serial G
 
--- an entry history of replica p: own ones are what was made of the entries before, with rising serials, and a peer's may follow and is not p's
+-- an entry history of replica p: own ones are what was made of the entries before, with rising serials, and a peer's may follow
+-- and is not p's
 abbrev pub IsEntryHistory : ℕ → List Entry → Type 0
 IsEntryHistory p [] = ⊤
 IsEntryHistory p (Own client serial c s ∷ G) =
-    IsEntryHistory p G × NamesAll (applied G) s.vector × (make (applied G) p c ≡ Ok (operation_after (applied G) s)) × IsAbove client serial G
+    IsEntryHistory p G × NamesAll (applied G) s.vector × (make (applied G) p c ≡ Ok (operation_after (applied G) s))
+    × IsAbove client serial G
 IsEntryHistory p (Peer s ∷ G) = IsEntryHistory p G × MayFollow (applied G) s × (s.id.replica ≢ p)
 
 -- entry n, where the oldest is entry 0

@@ -5,7 +5,8 @@ use Rattle.semantics.specs.Ids.{OpId, id_at, is_same_id}
 use Rattle.semantics.specs.Elements.{Element, Doc, Field, Item}
 use Rattle.semantics.specs.Operations.{Operation, Misplaced, OutsideList, OnHead, element_of, inserted_after, misplaced}
 use Rattle.ids.specs.declared.refusal.Refusal.{Refusal}
-use Rattle.ids.specs.declared.refusal.Refusal.TheVariants.{NotInList, UnknownReplica, BadCounter, BrokenChain, NamesNothing, NotClosed, BadPlace}
+use Rattle.ids.specs.declared.refusal.Refusal.TheVariants.{NotInList, UnknownReplica, BadCounter, BrokenChain, NamesNothing, NotClosed}
+use Rattle.ids.specs.declared.refusal.Refusal.TheVariants.{BadPlace}
 use Rattle.semantics.specs.LegalHistory.{IsFormed, has_id}
 use Rattle.semantics.specs.NamedIds.{greatest_counter}
 use Rattle.semantics.specs.Vectors.{Vector, at, greatest, covers, is_at_most}
@@ -33,7 +34,8 @@ items_of_members ps (Item l a) = is_member ps a.replica && items_of_members ps l
 
 -- s names only members, in its id, its vector and its place
 abbrev pub is_of_members : List ℕ → Stamped → Bool
-is_of_members ps s = is_member ps s.id.replica && list_all (λ a. is_member ps a.replica) s.vector && items_of_members ps (element_of s.place)
+is_of_members ps s = is_member ps s.id.replica && list_all (λ a. is_member ps a.replica) s.vector
+    && items_of_members ps (element_of s.place)
 
 -- the counter is 1 plus the greatest of the vector, and isn't past the last one
 abbrev pub has_counter : Stamped → Bool
@@ -50,7 +52,8 @@ first_failed true true None true = None
 
 -- the first fault that can be seen of s alone
 abbrev pub alone_fault : List ℕ → Stamped → Option Refusal
-alone_fault ps s = first_failed (is_of_members ps s) (has_counter s) (misplaced s.mutation s.place) (items_covered s.vector (element_of s.place))
+alone_fault ps s = first_failed (is_of_members ps s) (has_counter s) (misplaced s.mutation s.place)
+    (items_covered s.vector (element_of s.place))
 
 -- all that the vector names is at most what was applied
 abbrev pub is_ready : List Operation → Stamped → Bool
@@ -92,4 +95,5 @@ first_fault false false false false = None
 
 -- the first fault of a ready operation against the history
 abbrev pub fault_of : List Stamped → Stamped → Option Refusal
-fault_of G s = first_fault (breaks_chain (operations_of G) s) (names_nothing (operations_of G) s) (is_open G s.vector) (not (items_stand (operations_of G) (element_of s.place)))
+fault_of G s = first_fault (breaks_chain (operations_of G) s) (names_nothing (operations_of G) s) (is_open G s.vector)
+    (not (items_stand (operations_of G) (element_of s.place)))

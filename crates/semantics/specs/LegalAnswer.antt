@@ -22,7 +22,8 @@ pub record Submitted : Type 0 where
   pub request : Request
   pub floor : ℕ
 
--- the operation with this id stands at entry n, or the request was refused at length m, or a peer's operation was kept, or known already, and the history has length m then
+-- the operation with this id stands at entry n, or the request was refused at length m, or a peer's operation was kept, or known
+-- already, and the history has length m then
 pub data Reply : Type 0 where
   Made : OpId → ℕ → Reply
   NotMade : (why : Refusal) (length : ℕ) → Reply
@@ -39,7 +40,8 @@ LacksSerial client serial (Peer s ∷ G) = LacksSerial client serial G
 abbrev pub IsCause : (own : ℕ) → List Entry → Submitted → Command → (length : ℕ) → Refusal → Type 0
 IsCause p G x c m e = (make (applied (first_entries m G)) p c ≡ Err e) ⊎ (e ≡ NoMemory) ⊎ ((e ≡ BadFloor) × (m < x.floor))
 
--- the reply to a submitted command that an entry history of replica p allows: the command stands at entry n, or no entry has it at length m, where it is refused
+-- the reply to a submitted command that an entry history of replica p allows: the command stands at entry n, or no entry has it
+-- at length m, where it is refused
 abbrev pub IsLegalAnswer : ℕ → List Entry → Submitted → Command → Reply → Type 0
 IsLegalAnswer p G x c (Made a n) = (s : Stamped) × (entry_at n G ≡ Some (Own x.client x.serial c s)) × (s.id ≡ a)
 IsLegalAnswer p G x c (NotMade e m) = (m ≤ length G) × IsCause p G x c m e × LacksSerial x.client x.serial (first_entries m G)

@@ -43,4 +43,5 @@ is_full H = nat_le most_entries (length H)
 
 -- what p makes of the command after H; a full history is refused first
 abbrev pub make : List Operation → ℕ → Command → Result Operation Refusal
-make H p c = cond (is_full H) (Err HistoryFull) (operation_at H p c.mutation (then_place c.mutation (resolve (visible_items (doc H)) c.expression)))
+make H p c = cond (is_full H) (Err HistoryFull)
+    (operation_at H p c.mutation (then_place c.mutation (resolve (visible_items (doc H)) c.expression)))

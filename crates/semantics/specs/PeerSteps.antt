@@ -10,7 +10,8 @@ use Rattle.semantics.specs.Stamped.{Stamped}
 use Rattle.semantics.specs.Faults.{is_of_members}
 use Rattle.semantics.specs.Entries.{applied, missing, stamped_of}
 use Rattle.semantics.specs.LegalAnswer.{OfPeer}
-use Rattle.semantics.specs.Engine.{Engine, Client, Message, Hello, Bundle, published_entries, StepReply, Denied, Idle, SentHello, SentBundle, NoMessage, Received, Turn}
+use Rattle.semantics.specs.Engine.{Engine, Client, Message, Hello, Bundle, published_entries, StepReply, Denied, Idle, SentHello}
+use Rattle.semantics.specs.Engine.{SentBundle, NoMessage, Received, Turn}
 use Rattle.semantics.specs.WriteSteps.{push}
 use Rattle.semantics.specs.ReadSteps.{see_published}
 
@@ -68,7 +69,8 @@ unless_refused e n (Some why) rest = record { engine = e; submitted = n; stopped
 -- client c submits the operations after n others, up to the first that is refused; behind the last may stand a bad line
 abbrev pub submit_all : (client : ℕ) → Option Refusal → (submitted : ℕ) → Engine → List Stamped → Receipt
 submit_all c bad n e [] = record { engine = e; submitted = n; stopped = option_map (λ why. (suc n, why)) bad }
-submit_all c bad n e (s ∷ ss) = unless_refused e n (refusal_in (push e c (OfPeer s)).reply) (submit_all c bad (suc n) (push e c (OfPeer s)).engine ss)
+submit_all c bad n e (s ∷ ss) = unless_refused e n (refusal_in (push e c (OfPeer s)).reply)
+    (submit_all c bad (suc n) (push e c (OfPeer s)).engine ss)
 
 -- what is replied, where the client's next serial was this
 abbrev pub as_received : (serial : ℕ) → Receipt → Turn

@@ -33,7 +33,10 @@ poll_cell e c k (Some cell) = at_answer cell.answer
   where
     at_answer : Option Given → Turn
     at_answer None = record { engine = e; reply = Unanswered }
-    at_answer (Some g) = record { engine = record e { clients = slice_set e.clients c (record k { seen = max k.seen g.published }) }; reply = Replied g.reply }
+    at_answer (Some g) = record {
+      engine = record e { clients = slice_set e.clients c (record k { seen = max k.seen g.published }) };
+      reply = Replied g.reply;
+    }
 
 abbrev pub poll : Engine → (client serial : ℕ) → Turn
 poll e c serial = at_client (slice_get e.clients c)

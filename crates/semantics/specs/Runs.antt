@@ -1,4 +1,5 @@
--- Runs of many replicas: each makes operations of its own, and any operation of any history may come to any replica, again, in any order or never.
+-- Runs of many replicas: each makes operations of its own, and any operation of any history may come to any replica, again, in
+-- any order or never.
 use Rattle.std.specs.Prelude.{◌≡◌, ℕ, cond, ◌==◌, List, [], Ok}
 use Rattle.semantics.specs.LegalHistory.{IsAmong}
 use Rattle.semantics.specs.NamedIds.{NamesAll}
@@ -23,6 +24,8 @@ opened members p = record { own = p; members = members p; entries = []; waiting 
 -- what may be reached from new replicas
 pub data IsReached (members : ℕ → List ℕ) : Replicas → Type 0 where
   Opened : IsReached members (opened members)
-  Makes : (W : Replicas) → IsReached members W → (p client serial : ℕ) (c : Command) (s : Stamped) → NamesAll (operations (W p)) s.vector → make (operations (W p)) p c ≡ Ok (operation_after (operations (W p)) s)
+  Makes : (W : Replicas) → IsReached members W → (p client serial : ℕ) (c : Command) (s : Stamped) → NamesAll (operations (W p)) s.vector
+      → make (operations (W p)) p c ≡ Ok (operation_after (operations (W p)) s)
       → IsAbove client serial (W p).entries → IsReached members (put_replica p (commit_own (W p) client serial c s) W)
-  Comes : (W : Replicas) → IsReached members W → (p q : ℕ) (s : Stamped) → IsAmong s (stamped_of (W q).entries) → IsReached members (put_replica p (receive (W p) s) W)
+  Comes : (W : Replicas) → IsReached members W → (p q : ℕ) (s : Stamped) → IsAmong s (stamped_of (W q).entries)
+      → IsReached members (put_replica p (receive (W p) s) W)

@@ -44,7 +44,13 @@ pub record Means (H : List Operation) (s : Stamped) (o : Operation) : Type 0 whe
 
 -- the operation that s is in a set: it depends on the ids of the set that its vector covers, whatever the order of the list
 abbrev pub operation_among : List Stamped → Stamped → Operation
-operation_among O s = record { id = s.id; deps = λ a. list_any (λ t. is_same_id t.id a) O && covers s.vector a; place = s.place; mutation = s.mutation }
+operation_among O s = record {
+  id = s.id;
+  deps = λ a. list_any (λ t. is_same_id t.id a) O
+      && covers s.vector a;
+  place = s.place;
+  mutation = s.mutation;
+}
 
 -- the operations of a set of stamped ones
 abbrev pub operations_among : List Stamped → List Operation

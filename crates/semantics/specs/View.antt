@@ -7,7 +7,8 @@ use Rattle.semantics.specs.Ids.{OpId, id_cmp, falling_cmp, is_same_id, is_smalle
 use Rattle.semantics.specs.Elements.{Element, Field, Item, Scalar, Tag, Name}
 use Rattle.semantics.specs.Operations.{Operation, clears, tag_given, scalar_given, name_given, inserted_after}
 use Rattle.semantics.specs.Context.{put_some, put_name}
-use Rattle.semantics.specs.Questions.{Question, Values, Keys, Items, Conflicts, AppliedVector, Answer, ValuesAre, KeysAre, ItemsAre, ConflictsAre, VectorIs, resolve, answer_at}
+use Rattle.semantics.specs.Questions.{Question, Values, Keys, Items, Conflicts, AppliedVector, Answer, ValuesAre, KeysAre, ItemsAre}
+use Rattle.semantics.specs.Questions.{ConflictsAre, VectorIs, resolve, answer_at}
 use Rattle.semantics.specs.DocumentAnswer.{is_any}
 use Rattle.semantics.specs.NamedIds.{vector_of}
 

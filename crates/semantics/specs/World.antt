@@ -107,7 +107,10 @@ world_step W s = at_engine (slice_get W.engines s.engine)
     at_engine : Option Engine → WorldTurn
     at_engine None = record { world = W; reply = Idle }
     at_engine (Some E) = record {
-      world = record { engines = slice_set W.engines s.engine (engine_step W.messages s.act E).engine; messages = W.messages ++ sent_by W.messages s.act E };
+      world = record {
+        engines = slice_set W.engines s.engine (engine_step W.messages s.act E).engine;
+        messages = W.messages ++ sent_by W.messages s.act E;
+      };
       reply = (engine_step W.messages s.act E).reply;
     }
 

@@ -53,7 +53,8 @@ pub record IsExchange (cs : List Configuration) (steps : List WorldStep) (a b c 
   pub had : published_entries answerer ≡ published
   -- the client receives it
   pub count : ℕ
-  pub receipt : reply_after cs (before ++ step_by a (SayHello t) ∷ between ++ step_by b (AnswerHello u h) ∷ later) (step_by a (Deliver c k)) ≡ Received first count None
+  pub receipt : reply_after cs (before ++ step_by a (SayHello t) ∷ between ++ step_by b (AnswerHello u h) ∷ later) (step_by a (Deliver c k))
+      ≡ Received first count None
   pub last : end ≡ first + count
   pub all : steps ≡ before ++ step_by a (SayHello t) ∷ between ++ step_by b (AnswerHello u h) ∷ later ++ step_by a (Deliver c k) ∷ after
 

@@ -1,5 +1,7 @@
--- The steps of one engine by which a request is submitted, handled, published and answered. A step that can do nothing leaves the engine as it was and replies so.
-use Rattle.std.specs.Prelude.{ℕ, zero, suc, cond, not, ◌||◌, ◌-◌, nat_le, nat_lt, List, [], ◌∷◌, ◌++◌, length, Option, Some, None, Result, Ok, Err, slice_get, slice_set}
+-- The steps of one engine by which a request is submitted, handled, published and answered. A step that can do nothing leaves the
+-- engine as it was and replies so.
+use Rattle.std.specs.Prelude.{ℕ, zero, suc, cond, not, ◌||◌, ◌-◌, nat_le, nat_lt, List, [], ◌∷◌, ◌++◌, length, Option, Some, None, Result}
+use Rattle.std.specs.Prelude.{Ok, Err, slice_get, slice_set}
 use Rattle.ids.specs.declared.refusal.Refusal.{Refusal}
 use Rattle.ids.specs.declared.refusal.Refusal.TheVariants.{QueueFull, SerialEnd, BadFloor}
 use Rattle.semantics.specs.Operations.{Operation}
@@ -83,7 +85,14 @@ abbrev pub take_oldest : Engine → List Submitted → Turn
 take_oldest e [] = record { engine = e; reply = Idle }
 take_oldest e (x ∷ queue) =
     cond (is_any e.due || nat_le e.batch (length e.handled)) (record { engine = e; reply = Idle })
-    (record { engine = record e { queue = queue; replica = after_item e.replica x; handled = e.handled ++ (record { submitted = x; reply = reply_to e.replica x }) ∷ [] }; reply = Took })
+    (record {
+      engine = record e {
+        queue = queue;
+        replica = after_item e.replica x;
+        handled = e.handled ++ (record { submitted = x; reply = reply_to e.replica x }) ∷ [];
+      };
+      reply = Took;
+    })
 
 abbrev pub take_item : Engine → Turn
 take_item e = take_oldest e e.queue
@@ -92,7 +101,10 @@ take_item e = take_oldest e e.queue
 abbrev pub publish : Engine → Turn
 publish e =
     cond (is_any e.due || not (is_any e.handled)) (record { engine = e; reply = Idle })
-    (record { engine = record e { published = length e.replica.entries; handled = []; due = e.handled }; reply = Published (length e.handled) })
+    (record {
+      engine = record e { published = length e.replica.entries; handled = []; due = e.handled };
+      reply = Published (length e.handled);
+    })
 
 -- ---- answering
 
@@ -116,7 +128,14 @@ give_to clients c serial g = at_client (slice_get clients c)
 abbrev pub give_oldest : Engine → List Handled → Turn
 give_oldest e [] = record { engine = e; reply = Idle }
 give_oldest e (h ∷ due) =
-    record { engine = record e { due = due; clients = give_to e.clients h.submitted.client h.submitted.serial (record { reply = h.reply; published = e.published }) }; reply = Gave h.submitted.client h.submitted.serial }
+    record {
+      engine = record e {
+        due = due;
+        clients = give_to e.clients h.submitted.client h.submitted.serial
+            (record { reply = h.reply; published = e.published });
+      };
+      reply = Gave h.submitted.client h.submitted.serial;
+    }
 
 abbrev pub give : Engine → Turn
 give e = give_oldest e e.due

@@ -20,12 +20,14 @@ pub fn handling_keeps_replicas()
 
 /// A legal answer stays one as the history grows.
 pub fn answers_stay()
-    ensures { (p : ℕ) (ps : List ℕ) (G F : List Entry) (x : Submitted) (y : Reply) → BeginsWith G F → IsAnswer p ps F x y → IsAnswer p ps G x y }
+    ensures { (p : ℕ) (ps : List ℕ) (G F : List Entry) (x : Submitted) (y : Reply) → BeginsWith G F → IsAnswer p ps F x y
+        → IsAnswer p ps G x y }
 {}
 
 /// Going on with a drain that ended early keeps what holds of a writer.
 pub fn resuming_keeps_replicas()
-    ensures { (w v : Handler) (took : List Submitted) → IsRunning w.replica → ComeFrom took w.replica.entries → Resumes w v → IsResumed w took v }
+    ensures { (w v : Handler) (took : List Submitted) → IsRunning w.replica → ComeFrom took w.replica.entries → Resumes w v
+        → IsResumed w took v }
 {}
 
 /// Handling submissions one after another keeps what holds of a writer, and all their replies are legal answers in the history at the end.
@@ -41,5 +43,6 @@ pub fn batches_grow()
 pub fn refused_items_change_nothing()
     ensures same { (w v : Handler) (x : Submitted) (e : Refusal) (m : ℕ) → is_outside_rules e ≡ true → Handles w x (NotMade e m) v → v ≡ w }
     ensures floor { (w v : Handler) (x : Submitted) (y : Reply) → Handles w x y v →
-        (length w.replica.entries < x.floor → y ≡ NotMade BadFloor (length w.replica.entries)) × ((m : ℕ) → y ≡ NotMade BadFloor m → length w.replica.entries < x.floor) }
+        (length w.replica.entries < x.floor → y ≡ NotMade BadFloor (length w.replica.entries))
+        × ((m : ℕ) → y ≡ NotMade BadFloor m → length w.replica.entries < x.floor) }
 {}

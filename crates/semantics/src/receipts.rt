@@ -11,7 +11,8 @@ ghost use Rattle.semantics.specs.Receipts.{WasAnswered, IsTrueOf};
 /// A refusal is true of the operation and of some beginning of the history, not before the floor; and what was kept was new before
 /// the floor.
 pub fn deliveries_are_answered_truly()
-    ensures refused { (p : ℕ) (ps : List ℕ) (G : List Entry) (s : Stamped) (floor m : ℕ) (e : Refusal) → WasAnswered p ps G s floor m (NotKept e) →
+    ensures refused { (p : ℕ) (ps : List ℕ) (G : List Entry) (s : Stamped) (floor m : ℕ) (e : Refusal)
+        → WasAnswered p ps G s floor m (NotKept e) →
         (k : ℕ) × (floor ≤ k) × (k ≤ m) × IsTrueOf p ps (first_entries k G) s e }
     ensures kept { (p : ℕ) (ps : List ℕ) (G : List Entry) (s : Stamped) (floor m : ℕ) → WasAnswered p ps G s floor m Kept →
         has_id (applied (first_entries floor G)) s.id ≡ false }

@@ -1,5 +1,6 @@
 -- What a tree answers at a node.
-use Rattle.std.proofs.Common.{◌≡◌, ℕ, zero, suc, ◌+◌, ◌<◌, ◌&&◌, Bool, true, false, cond, List, [], ◌∷◌, ◌++◌, length, get_or, take, map, Option, Some, None, refl, sym, ap, ◌∙◌, arith}
+use Rattle.std.proofs.Common.{◌≡◌, ℕ, zero, suc, ◌+◌, ◌<◌, ◌&&◌, Bool, true, false, cond, List, [], ◌∷◌, ◌++◌, length, get_or, take, map}
+use Rattle.std.proofs.Common.{Option, Some, None, refl, sym, ap, ◌∙◌, arith}
 use Rattle.std.specs.Prelude.{slice_get}
 use Rattle.std.specs.List.{filter}
 use Rattle.std.proofs.lemmas.List.{map-append, take_more}
@@ -29,7 +30,9 @@ take_next (y ∷ xs) (suc k) x e = ap (λ n. take n (y ∷ xs)) (next_is k) ∙ 
 names-append : (ns : List Node) (fs gs : List (Name × ℕ)) → names_in ns (fs ++ gs) ≡ names_in ns fs ++ names_in ns gs
 names-append ns [] gs = refl
 names-append ns (f ∷ fs) gs =
-    elim (is_written (slice_get ns f.1)) as (λ b. cond b ((f.0, tt) ∷ names_in ns (fs ++ gs)) (names_in ns (fs ++ gs)) ≡ cond b ((f.0, tt) ∷ names_in ns fs) (names_in ns fs) ++ names_in ns gs) [
+    elim (is_written (slice_get ns f.1)) as
+    (λ b. cond b ((f.0, tt) ∷ names_in ns (fs ++ gs)) (names_in ns (fs ++ gs))
+    ≡ cond b ((f.0, tt) ∷ names_in ns fs) (names_in ns fs) ++ names_in ns gs) [
       | true ↦ ap (λ xs. (f.0, tt) ∷ xs) (names-append ns fs gs)
       | false ↦ names-append ns fs gs
     ]
@@ -39,11 +42,14 @@ abbrev pub wanted : List Node → (Name → Bool) → Name × ℕ → List Name
 wanted ns p f = cond (is_written (slice_get ns f.1) && p f.0) (f.0 ∷ []) []
 
 wanted_is : (ns : List Node) (p : Name → Bool) (f : Name × ℕ) → filter p (map (λ x. x.0) (names_in ns (f ∷ []))) ≡ wanted ns p f
-wanted_is ns p f = elim (is_written (slice_get ns f.1)) as (λ b. filter p (map (λ (x : Name × Unit {0}). x.0) (cond b ((f.0, tt) ∷ []) [])) ≡ cond (b && p f.0) (f.0 ∷ []) []) [ true ↦ refl | false ↦ refl ]
+wanted_is ns p f = elim (is_written (slice_get ns f.1)) as
+    (λ b. filter p (map (λ (x : Name × Unit {0}). x.0) (cond b ((f.0, tt) ∷ []) []))
+    ≡ cond (b && p f.0) (f.0 ∷ []) []) [ true ↦ refl | false ↦ refl ]
 
 -- one more of the fields at the front
 pub wanted_next : (ns : List Node) (p : Name → Bool) (fs : List (Name × ℕ)) (k : ℕ) (d : Name × ℕ) → k < length fs
-    → filter p (map (λ x. x.0) (names_in ns (take (k + 1) fs))) ≡ filter p (map (λ x. x.0) (names_in ns (take k fs))) ++ wanted ns p (get_or fs k d)
+    → filter p (map (λ x. x.0) (names_in ns (take (k + 1) fs)))
+    ≡ filter p (map (λ x. x.0) (names_in ns (take k fs))) ++ wanted ns p (get_or fs k d)
 wanted_next ns p fs k d h =
     ap (λ xs. filter p (map (λ x. x.0) (names_in ns xs))) (take_more fs k d h)
     ∙ ap (λ xs. filter p (map (λ x. x.0) xs)) (names-append ns (take k fs) (get_or fs k d ∷ []))
@@ -55,8 +61,10 @@ some_is : (x y : ℕ) → Some x ≡ Some y → x ≡ y
 some_is x y e = cc
 
 -- whether a field shows is seen at its node
-pub field_shows : (ns : List Node) → IsTree ns → (e : Element) (i k j : ℕ) (d : Name × ℕ) → number ns e ≡ Some i → k < length (links ns i).0 → number ns (Field e (get_or (links ns i).0 k d).0) ≡ Some j
-    → (is_written (slice_get ns j) && is_any (presence_of (slice_get ns j))) ≡ (is_written (slice_get ns (get_or (links ns i).0 k d).1) && is_any ((context ns).presence (Field e (get_or (links ns i).0 k d).0)))
+pub field_shows : (ns : List Node) → IsTree ns → (e : Element) (i k j : ℕ) (d : Name × ℕ) → number ns e ≡ Some i → k < length (links ns i).0
+    → number ns (Field e (get_or (links ns i).0 k d).0) ≡ Some j
+    → (is_written (slice_get ns j) && is_any (presence_of (slice_get ns j)))
+    ≡ (is_written (slice_get ns (get_or (links ns i).0 k d).1) && is_any ((context ns).presence (Field e (get_or (links ns i).0 k d).0)))
 field_shows ns t e i k j d at h n =
     let f = get_or (links ns i).0 k d in
     let same : j ≡ f.1 = some_is j f.1 (sym n ∙ ap (λ o. next_number ns o (FieldKey f.0)) at ∙ field_there ns t i k d h) in

@@ -14,15 +14,18 @@ use Rattle.tree.proofs.Shape.{next_some, number_extend, under_none}
 use Rattle.tree.proofs.Clears.{any_more, beneath, linked_there, some_is, under_child, under_itself, under_parent, under_step}
 
 -- an item with a node, of a list at e or under it, stands under one of e's children
-pub beneath_child : (ns : List Node) (e : Element) (i : ℕ) → number ns e ≡ Some i → (y : Element) (k : Key) (j : ℕ) → number ns (child y k) ≡ Some j → is_under y e ≡ true → list_any (is_under (child y k)) (beneath e (links ns i)) ≡ true
+pub beneath_child : (ns : List Node) (e : Element) (i : ℕ) → number ns e ≡ Some i → (y : Element) (k : Key) (j : ℕ)
+    → number ns (child y k) ≡ Some j → is_under y e ≡ true → list_any (is_under (child y k)) (beneath e (links ns i)) ≡ true
 beneath_child ns e i at y k j p u =
     let (h, hp, hc) = next_some ns (number ns y) k j (sym (number_extend ns y k) ∙ p) in
     elim (or_cases (is_same y e) (list_any (is_under y) (beneath e (links ns i))) (under_child ns e i at y h hp u)) [
       | inl s ↦
           let q : y ≡ e = same_elements y e s in
           let here : h ≡ i = some_is h i (sym hp ∙ ap (number ns) q ∙ at) in
-          ap (λ z. list_any (is_under (child z k)) (beneath e (links ns i))) q ∙ linked_there e (links ns i) k j (ap (λ m. linked_by (links ns m) k) (sym here) ∙ hc)
-      | inr w ↦ any_more (is_under y) (is_under (child y k)) (λ z b. under_step y z k ∙ or_right (is_same (child y k) z) _ b) (beneath e (links ns i)) w
+          ap (λ z. list_any (is_under (child z k)) (beneath e (links ns i))) q
+          ∙ linked_there e (links ns i) k j (ap (λ m. linked_by (links ns m) k) (sym here) ∙ hc)
+      | inr w ↦ any_more (is_under y) (is_under (child y k)) (λ z b. under_step y z k ∙ or_right (is_same (child y k) z) _ b)
+          (beneath e (links ns i)) w
     ]
 
 -- what is on the way down to a place below z is on the way to z, or below it
@@ -37,10 +40,12 @@ way_parts z x (k ∷ ks) u = elim (way_parts (child z k) x ks u) [
 ]
 
 -- where a hop leads to no node, what has a node on the way down to the path's end is on the way to the hop's start
-pub way_lost : (ns : List Node) (path : List Key) (m : ℕ) (z : Element) (h : Key) → end_of (take m path) ≡ child z h → number ns (child z h) ≡ None
+pub way_lost : (ns : List Node) (path : List Key) (m : ℕ) (z : Element) (h : Key) → end_of (take m path) ≡ child z h
+    → number ns (child z h) ≡ None
     → (x : Element) (j : ℕ) → number ns x ≡ Some j → is_under (end_of path) x ≡ true → is_under z x ≡ true
 way_lost ns path m z h is none x j p u =
-    let whole : end_of path ≡ down (child z h) (drop m path) = ap end_of (sym (take-append-drop m path)) ∙ down-append Doc (take m path) (drop m path) ∙ ap (λ e. down e (drop m path)) is in
+    let whole : end_of path ≡ down (child z h) (drop m path) = ap end_of (sym (take-append-drop m path))
+    ∙ down-append Doc (take m path) (drop m path) ∙ ap (λ e. down e (drop m path)) is in
     elim (way_parts (child z h) x (drop m path) (ap (λ e. is_under e x) (sym whole) ∙ u)) [
       | inl v ↦ elim (or_cases (is_same (child z h) x) (is_under z x) (sym (under_step z x h) ∙ v)) [
         | inl s ↦ absurd (none_some j (sym none ∙ ap (number ns) (same_elements (child z h) x s) ∙ p))

@@ -11,7 +11,13 @@ use Rattle.tree.specs.Writes.{RoomTo}
 use Rattle.tree.proofs.Shape.{next_some}
 
 pub grows_same : (ns : List Node) → Grows ns ns
-grows_same ns = record { count = omega arith; children = λ i k j c. c; presence = λ i. omega arith; register = λ i. omega arith; order = λ i. omega arith }
+grows_same ns = record {
+  count = omega arith;
+  children = λ i k j c. c;
+  presence = λ i. omega arith;
+  register = λ i. omega arith;
+  order = λ i. omega arith;
+}
 
 pub grows_trans : (a b c : List Node) → Grows a b → Grows b c → Grows a c
 grows_trans a b c p q = record {
@@ -26,7 +32,14 @@ pub kept_same : (ns : List Node) → IsTree ns → Kept ns ns
 kept_same ns t = record { tree = t; same = refl; visible = λ e. refl; grows = grows_same ns; beside = λ table b. b }
 
 pub kept_trans : (a b c : List Node) → Kept a b → Kept b c → Kept a c
-kept_trans a b c p q = record { tree = q.tree; same = q.same ∙ p.same; visible = λ e. q.visible e ∙ p.visible e; grows = grows_trans a b c p.grows q.grows; beside = λ table b. q.beside table (p.beside table b) }
+kept_trans a b c p q = record {
+  tree = q.tree;
+  same = q.same ∙ p.same;
+  visible = λ e. q.visible e
+      ∙ p.visible e;
+  grows = grows_trans a b c p.grows q.grows;
+  beside = λ table b. q.beside table (p.beside table b);
+}
 
 -- the lists show what they showed
 pub kept_shown : (ns ms : List Node) → Kept ns ms → AreShown ns → AreShown ms
@@ -48,7 +61,8 @@ numbered room z ns None h = absurd (let z = z in omega arith)
 numbered room z ns (Some i) h = (i, refl)
 
 -- and what has room has room
-room_kept : (room : Option Node → ℕ) → room None ≡ 0 → (ns ms : List Node) → Grows ns ms → ((i : ℕ) → 0 < room (slice_get ns i) → 0 < room (slice_get ms i)) → (e : Element) → 0 < room (node_at ns e) → 0 < room (node_at ms e)
+room_kept : (room : Option Node → ℕ) → room None ≡ 0 → (ns ms : List Node) → Grows ns ms
+    → ((i : ℕ) → 0 < room (slice_get ns i) → 0 < room (slice_get ms i)) → (e : Element) → 0 < room (node_at ns e) → 0 < room (node_at ms e)
 room_kept room z ns ms g more e h =
     let (i, p) = numbered room z ns (number ns e) h in
     subst (λ o. 0 < room (node_in ms o)) (sym (number_grows ns ms g e i p)) (more i (subst (λ o. 0 < room (node_in ns o)) p h))
@@ -63,7 +77,8 @@ pub order_kept : (ns ms : List Node) → Grows ns ms → (e : Element) → 0 < o
 order_kept ns ms g e h = room_kept order_room refl ns ms g (λ i p. let k = g.order i in omega arith) e h
 
 -- the room at a number is that of its element
-pub room_here : (room : Option Node → ℕ) (ns : List Node) (e : Element) (i : ℕ) → number ns e ≡ Some i → 0 < room (slice_get ns i) → 0 < room (node_at ns e)
+pub room_here : (room : Option Node → ℕ) (ns : List Node) (e : Element) (i : ℕ) → number ns e ≡ Some i → 0 < room (slice_get ns i)
+    → 0 < room (node_at ns e)
 room_here room ns e i p h = subst (λ o. 0 < room (node_in ns o)) (sym p) h
 
 -- and room on the way down to an element stays

@@ -20,5 +20,6 @@ module _ (path : List Hop) (k : ℕ) (x : Hop) (inside : k < length path) (is : 
       ap end_of (take_more keys k (hop_of x) within) ∙ down-append Doc (take k keys) (get_or keys k (hop_of x) ∷ [])
       ∙ ap (child (end_of (take k keys))) (get_or-map hop_of path k x (hop_of x) inside ∙ ap hop_of (sym is))
 
-  pub number_more : (ns : List Node) (at : ℕ) → number ns (end_of (take k (map hop_of path))) ≡ Some at → number ns (end_of (take (k + 1) (map hop_of path))) ≡ child_number ns at (hop_of x)
+  pub number_more : (ns : List Node) (at : ℕ) → number ns (end_of (take k (map hop_of path))) ≡ Some at
+      → number ns (end_of (take (k + 1) (map hop_of path))) ≡ child_number ns at (hop_of x)
   number_more ns at p = ap (number ns) end_more ∙ number_child ns (end_of (take k (map hop_of path))) at (hop_of x) p

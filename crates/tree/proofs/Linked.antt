@@ -1,5 +1,6 @@
 -- A node that was the child of none becomes one, and no context changes.
-use Rattle.std.proofs.Common.{◌≡◌, ◌⊎◌, ℕ, ◌<◌, ◌≤◌, IsTrue, List, length, set, Option, Some, None, refl, sym, ap, ◌∙◌, subst, arith, inl, inr}
+use Rattle.std.proofs.Common.{◌≡◌, ◌⊎◌, ℕ, ◌<◌, ◌≤◌, IsTrue, List, length, set, Option, Some, None, refl, sym, ap, ◌∙◌, subst, arith, inl}
+use Rattle.std.proofs.Common.{inr}
 use Rattle.std.specs.Prelude.{slice_get}
 use Rattle.std.specs.FinMap.{find, is_sorted}
 use Rattle.semantics.specs.Ids.{id_cmp}
@@ -7,7 +8,9 @@ use Rattle.semantics.specs.Elements.{Element, Doc, Field, Item, name_cmp}
 use Rattle.semantics.specs.Paths.{Key, FieldKey, ItemKey}
 use Rattle.columns.specs.Entries.{StandBeside}
 use Rattle.tree.specs.declared.node.Node.{Node}
-use Rattle.tree.specs.Nodes.{IsOrphan, IsTree, Kept, child_number, context, links, links_of, names_in, next_number, node_at, node_in, number, order_of, order_room, presence_of, presence_room, register_of, register_room, tagged, valued, visible_of}
+use Rattle.tree.specs.Nodes.{IsOrphan, IsTree, Kept, child_number, context, links, links_of, names_in, next_number, node_at, node_in}
+use Rattle.tree.specs.Nodes.{number, order_of, order_room, presence_of, presence_room, register_of, register_room, tagged, valued}
+use Rattle.tree.specs.Nodes.{visible_of}
 use Rattle.tree.proofs.ListReads.{get_inside}
 use Rattle.tree.proofs.NodeWrites.{beside_at, beside_set}
 use Rattle.tree.proofs.Contexts.{context_same}
@@ -32,13 +35,15 @@ some_one x y o p q = cc
 none_some : (x : ℕ) (o : Option ℕ) → o ≡ None → o ≡ Some x → ⊥
 none_some x o p q = cc
 
-module _ (at : ℕ) (key : Key) (j : ℕ) (ns ms : List Node) (l : Linked at key j ns ms) (t : IsTree ns) (above : at < j) (o : IsOrphan ns j) where
+module _ (at : ℕ) (key : Key) (j : ℕ) (ns ms : List Node) (l : Linked at key j ns ms) (t : IsTree ns) (above : at < j)
+    (o : IsOrphan ns j) where
   linked_tree : IsTree ms
   linked_tree = record {
     rooted = let c = l.count in let r = t.rooted in omega arith;
     rising = λ i k h c. elim (l.children i k) [
       | inl e ↦ let r = t.rising i k h (sym e ∙ c) in let n = l.count in (r.0, omega arith)
-      | inr (p, q, e) ↦ let s : h ≡ j = some_one h j (child_number ms i k) c e in let n = l.count in let inside = get_inside ns j o.node o.there in (omega arith, omega arith)
+      | inr (p, q, e) ↦ let s : h ≡ j = some_one h j (child_number ms i k) c e in let n = l.count in
+          let inside = get_inside ns j o.node o.there in (omega arith, omega arith)
     ];
     one_parent = λ i s h u k c d. elim (l.children i s) [
       | inl e ↦ elim (l.children h u) [
@@ -70,14 +75,17 @@ module _ (at : ℕ) (key : Key) (j : ℕ) (ns ms : List Node) (l : Linked at key
       | inl e ↦ inl (sym e)
       | inr (h, s, e) ↦ inr (ap (λ x. child_number ns x k) h ∙ ap (child_number ns at) s ∙ l.absent, e)
     ]
-  moved_next p q (inr (e, f)) k = inl (ap (λ r. next_number ns r k) e ∙ sym (ap (λ r. next_number ms r k) f ∙ elim (l.children j k) [ inl g ↦ g ∙ barren k | inr (h, s, g) ↦ absurd (omega arith) ]))
+  moved_next p q (inr (e, f)) k = inl
+      (ap (λ r. next_number ns r k) e
+      ∙ sym (ap (λ r. next_number ms r k) f ∙ elim (l.children j k) [ inl g ↦ g ∙ barren k | inr (h, s, g) ↦ absurd (omega arith) ]))
 
   moved : (e : Element) → Moved (number ns e) (number ms e)
   moved Doc = inl refl
   moved (Field e n) = moved_next (number ns e) (number ms e) (moved e) (FieldKey n)
   moved (Item e a) = moved_next (number ns e) (number ms e) (moved e) (ItemKey a)
 
-  kept : {A : Type 0} (f g : Option Node → A) → f None ≡ g None → ((i : ℕ) → f (slice_get ns i) ≡ g (slice_get ms i)) → f None ≡ f (Some o.node) → (p q : Option ℕ) → Moved p q → f (node_in ns p) ≡ g (node_in ms q)
+  kept : {A : Type 0} (f g : Option Node → A) → f None ≡ g None → ((i : ℕ) → f (slice_get ns i) ≡ g (slice_get ms i))
+      → f None ≡ f (Some o.node) → (p q : Option ℕ) → Moved p q → f (node_in ns p) ≡ g (node_in ms q)
   kept f g z h e p q (inl m) = subst (λ r. f (node_in ns p) ≡ g (node_in ms r)) m (by p) where
     by : (p : Option ℕ) → f (node_in ns p) ≡ g (node_in ms p)
     by None = z
@@ -88,7 +96,8 @@ module _ (at : ℕ) (key : Key) (j : ℕ) (ns ms : List Node) (l : Linked at key
   linked_context = sym (context_same _ _
       (λ x. kept presence_of presence_of refl l.presence (ap tagged (sym o.empty.presence)) _ _ (moved x))
       (λ x. kept register_of register_of refl l.register (ap valued (sym o.empty.register)) _ _ (moved x))
-      (λ x. kept (λ k. names_in ns (links_of k).0) (λ k. names_in ms (links_of k).0) refl l.names (sym (ap (names_in ns) o.empty.fields)) _ _ (moved x))
+      (λ x. kept (λ k. names_in ns (links_of k).0) (λ k. names_in ms (links_of k).0) refl l.names
+      (sym (ap (names_in ns) o.empty.fields)) _ _ (moved x))
       (λ x. kept order_of order_of refl l.order (sym o.empty.order) _ _ (moved x)))
 
   linked_visible : (e : Element) → visible_of (node_at ms e) ≡ visible_of (node_at ns e)
@@ -100,7 +109,8 @@ module _ (at : ℕ) (key : Key) (j : ℕ) (ns ms : List Node) (l : Linked at key
     | inr (p, q, e) ↦ absurd (none_some h (child_number ns i k) (ap (λ x. child_number ns x k) p ∙ ap (child_number ns at) q ∙ l.absent) c)
   ]
 
-same_room : (room : Option Node → ℕ) (ns : List Node) (at : ℕ) (n m : Node) → slice_get ns at ≡ Some n → room (Some m) ≡ room (Some n) → (i : ℕ) → room (slice_get ns i) ≤ room (slice_get (set ns at m) i)
+same_room : (room : Option Node → ℕ) (ns : List Node) (at : ℕ) (n m : Node) → slice_get ns at ≡ Some n → room (Some m) ≡ room (Some n)
+    → (i : ℕ) → room (slice_get ns i) ≤ room (slice_get (set ns at m) i)
 same_room room ns at n m g h i = let e = same_set room ns at n m g h i in omega arith
 
 -- a write that changes nothing but the children
@@ -110,7 +120,8 @@ pub record OnlyLinks (n m : Node) : Type 0 where
   pub order : m.order ≡ n.order
   pub written : m.is_written ≡ n.is_written
 
-pub linked_kept : (at : ℕ) (key : Key) (j : ℕ) (ns : List Node) (n m : Node) → slice_get ns at ≡ Some n → OnlyLinks n m → Linked at key j ns (set ns at m) → IsTree ns → at < j → IsOrphan ns j → Kept ns (set ns at m)
+pub linked_kept : (at : ℕ) (key : Key) (j : ℕ) (ns : List Node) (n m : Node) → slice_get ns at ≡ Some n → OnlyLinks n m
+    → Linked at key j ns (set ns at m) → IsTree ns → at < j → IsOrphan ns j → Kept ns (set ns at m)
 linked_kept at key j ns n m g s l t above o = record {
   tree = linked_tree at key j ns (set ns at m) l t above o;
   same = linked_context at key j ns (set ns at m) l t above o;
@@ -122,6 +133,9 @@ linked_kept at key j ns n m g s l t above o = record {
     register = same_room register_room ns at n m g (ap (λ c. c.room) s.register);
     order = same_room order_room ns at n m g (ap (λ c. c.room) s.order);
   };
-  beside = λ table b. beside_set table ns at n m g b (let h = beside_at table ns at n g b in
-      (subst (λ c. StandBeside table c.entries c.indices) (sym s.presence) h.0, subst (λ c. StandBeside table c.entries c.indices) (sym s.register) h.1));
+  beside = λ table b. beside_set table ns at n m g b (let h = beside_at table ns at n g b in (
+    subst (λ c. StandBeside table c.entries c.indices) (sym s.presence) h.0,
+    subst (λ c. StandBeside table c.entries c.indices)
+        (sym s.register) h.1,
+  ));
 }

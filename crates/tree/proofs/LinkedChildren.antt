@@ -1,5 +1,6 @@
 -- What linking a child to a node by its name or its id changes.
-use Rattle.std.proofs.Common.{◌≡◌, ◌⊎◌, ℕ, true, false, cond, IsTrue, List, [], ◌∷◌, set, Option, Some, None, refl, sym, ap, ◌∙◌, subst, inl, inr, length-set}
+use Rattle.std.proofs.Common.{◌≡◌, ◌⊎◌, ℕ, true, false, cond, IsTrue, List, [], ◌∷◌, set, Option, Some, None, refl, sym, ap, ◌∙◌, subst}
+use Rattle.std.proofs.Common.{inl, inr, length-set}
 use Rattle.std.specs.declared.cmp.Ordering.{Ordering}
 use Rattle.std.specs.declared.cmp.Ordering.TheVariants.{Less, Equal, Greater}
 use Rattle.std.specs.Prelude.{slice_get}
@@ -15,7 +16,8 @@ use Rattle.semantics.specs.Paths.{Key, FieldKey, ItemKey}
 use Rattle.semantics.proofs.Orders.{Equal_from_test, id_total, name_total, same_ids, same_names}
 use Rattle.columns.proofs.Puts.{rising_put}
 use Rattle.tree.specs.declared.node.Node.{Node}
-use Rattle.tree.specs.Nodes.{IsOrphan, IsTree, child_number, is_written, links, links_of, names_in, order_of, presence_of, register_of, tagged, valued, visible_of}
+use Rattle.tree.specs.Nodes.{IsOrphan, IsTree, child_number, is_written, links, links_of, names_in, order_of, presence_of, register_of}
+use Rattle.tree.specs.Nodes.{tagged, valued, visible_of}
 use Rattle.tree.proofs.ListReads.{get_inside, get_other, get_same}
 use Rattle.tree.proofs.NodeWrites.{set_each}
 use Rattle.tree.proofs.Contexts.{names_same}
@@ -26,22 +28,29 @@ none_some : {A : Type 0} (x : A) → ◌≡◌ {A = Option A} (Some x) None → 
 none_some x e = cc
 
 -- what a put leaves to be found
-found_put : {K : Type 0} (R : K → K → Ordering) → IsTotalOrder R → ((a b : K) → R a b ≡ Equal → a ≡ b) → (k a : K) (j : ℕ) (es : List (K × ℕ))
+found_put : {K : Type 0} (R : K → K → Ordering) → IsTotalOrder R → ((a b : K) → R a b ≡ Equal → a ≡ b)
+    → (k a : K) (j : ℕ) (es : List (K × ℕ))
     → (find R k (put R a j es) ≡ find R k es) ⊎ ((k ≡ a) × (find R k (put R a j es) ≡ Some j))
 found_put R o same k a j es =
-    elim (eq_by_cmp R k a) as (λ b. eq_by_cmp R k a ≡ b → find R k (put R a j es) ≡ cond b (Some j) (find R k es) → (find R k (put R a j es) ≡ find R k es) ⊎ ((k ≡ a) × (find R k (put R a j es) ≡ Some j))) [
+    elim (eq_by_cmp R k a) as
+    (λ b. eq_by_cmp R k a ≡ b → find R k (put R a j es) ≡ cond b (Some j) (find R k es)
+    → (find R k (put R a j es) ≡ find R k es) ⊎ ((k ≡ a) × (find R k (put R a j es) ≡ Some j))) [
       | true ↦ λ q c. inr (same k a (Equal_from_test _ q), c)
       | false ↦ λ q c. inl c
     ] refl (find-put R o k a j es)
 
-pub put_there : {K : Type 0} (R : K → K → Ordering) → IsTotalOrder R → (a : K) (j : ℕ) (es : List (K × ℕ)) → find R a (put R a j es) ≡ Some j
+pub put_there : {K : Type 0} (R : K → K → Ordering) → IsTotalOrder R → (a : K) (j : ℕ) (es : List (K × ℕ))
+    → find R a (put R a j es) ≡ Some j
 put_there R o a j es = find-put R o a a j es ∙ ap (λ r. cond (is_eq r) (Some j) (find R a es)) (tied_itself o a)
 
 -- the name of a node that no write has reached isn't told
-names_unwritten : (ns : List Node) (n : Name) (j : ℕ) → is_written (slice_get ns j) ≡ false → (fs : List (Name × ℕ)) → find name_cmp n fs ≡ None → names_in ns (put name_cmp n j fs) ≡ names_in ns fs
+names_unwritten : (ns : List Node) (n : Name) (j : ℕ) → is_written (slice_get ns j) ≡ false → (fs : List (Name × ℕ))
+    → find name_cmp n fs ≡ None → names_in ns (put name_cmp n j fs) ≡ names_in ns fs
 names_unwritten ns n j d [] p = ap (λ b. cond b ((n, tt) ∷ []) []) d
 names_unwritten ns n j d (f ∷ fs) p =
-    elim (name_cmp n f.0) as (λ o. cond (is_eq o) (Some f.1) (find name_cmp n fs) ≡ None → names_in ns (by_order o ((n, j) ∷ f ∷ fs) ((f.0, j) ∷ fs) (f ∷ put name_cmp n j fs)) ≡ names_in ns (f ∷ fs)) [
+    elim (name_cmp n f.0) as
+    (λ o. cond (is_eq o) (Some f.1) (find name_cmp n fs) ≡ None
+    → names_in ns (by_order o ((n, j) ∷ f ∷ fs) ((f.0, j) ∷ fs) (f ∷ put name_cmp n j fs)) ≡ names_in ns (f ∷ fs)) [
       | Less ↦ λ q. ap (λ b. cond b ((n, tt) ∷ names_in ns (f ∷ fs)) (names_in ns (f ∷ fs))) d
       | Equal ↦ λ q. absurd (none_some f.1 q)
       | Greater ↦ λ q. ap (λ xs. cond (is_written (slice_get ns f.1)) ((f.0, tt) ∷ xs) xs) (names_unwritten ns n j d fs q)
@@ -56,19 +65,29 @@ module _ (ns : List Node) (at : ℕ) (n m : Node) (j : ℕ) (g : slice_get ns at
 
   module _ (key : Name) (put_field : m.fields.entries ≡ put name_cmp key j n.fields.entries) where
     pub field_linked : child_number (set ns at m) at (FieldKey key) ≡ Some j
-    field_linked = ap (λ o. find name_cmp key (links_of o).0) there ∙ ap (find name_cmp key) put_field ∙ put_there name_cmp name_total key j n.fields.entries
+    field_linked = ap (λ o. find name_cmp key (links_of o).0) there ∙ ap (find name_cmp key) put_field
+        ∙ put_there name_cmp name_total key j n.fields.entries
 
     module _ (t : IsTree ns) (o : IsOrphan ns j) (none : child_number ns at (FieldKey key) ≡ None) (same_items : m.items ≡ n.items) where
       items : (i : ℕ) → (links ns i).1 ≡ (links (set ns at m) i).1
       items = same_set (λ o. (links_of o).1) ns at n m g (ap (λ c. c.entries) same_items)
 
-      children : (i : ℕ) (k : Key) → (child_number (set ns at m) i k ≡ child_number ns i k) ⊎ ((i ≡ at) × (k ≡ FieldKey key) × (child_number (set ns at m) i k ≡ Some j))
+      children : (i : ℕ) (k : Key)
+          → (child_number (set ns at m) i k ≡ child_number ns i k)
+          ⊎ ((i ≡ at) × (k ≡ FieldKey key) × (child_number (set ns at m) i k ≡ Some j))
       children i (ItemKey a) = inl (sym (ap (find id_cmp a) (items i)))
       children i (FieldKey k) = elim (cases_eq i at) [
         | inl e ↦
-            let after : child_number (set ns at m) i (FieldKey k) ≡ find name_cmp k (put name_cmp key j n.fields.entries) = ap (λ h. child_number (set ns at m) h (FieldKey k)) e ∙ ap (λ o. find name_cmp k (links_of o).0) there ∙ ap (find name_cmp k) put_field in
-            let before : child_number ns i (FieldKey k) ≡ find name_cmp k n.fields.entries = ap (λ h. child_number ns h (FieldKey k)) e ∙ ap (λ o. find name_cmp k (links_of o).0) g in
-            elim (found_put name_cmp name_total same_names k key j n.fields.entries) [ inl f ↦ inl (after ∙ f ∙ sym before) | inr (q, f) ↦ inr (e, ap FieldKey q, after ∙ f) ]
+            let after : child_number (set ns at m) i (FieldKey k)
+            ≡ find name_cmp k (put name_cmp key j n.fields.entries) = ap (λ h. child_number (set ns at m) h (FieldKey k)) e
+            ∙ ap (λ o. find name_cmp k (links_of o).0) there ∙ ap (find name_cmp k) put_field in
+            let before : child_number ns i (FieldKey k) ≡ find name_cmp k n.fields.entries = ap (λ h. child_number ns h (FieldKey k)) e
+            ∙ ap (λ o. find name_cmp k (links_of o).0) g in
+            elim (found_put name_cmp name_total same_names k key j n.fields.entries) [
+              | inl f ↦ inl (after ∙ f ∙ sym before)
+              | inr
+                  (q, f) ↦ inr (e, ap FieldKey q, after ∙ f)
+            ]
         | inr d ↦ inl (ap (λ o. find name_cmp k (links_of o).0) (get_other ns at m i d))
       ]
 
@@ -77,7 +96,9 @@ module _ (ns : List Node) (at : ℕ) (n m : Node) (j : ℕ) (g : slice_get ns at
       names i =
           set_each (λ x h. names_in ns (links ns h).0 ≡ names_in ns (links_of x).0) ns at n m g
           (ap (λ x. names_in ns (links_of x).0) g
-          ∙ sym (names_unwritten ns key j (ap is_written o.there ∙ o.empty.unwritten) n.fields.entries (sym (ap (λ x. find name_cmp key (links_of x).0) g) ∙ none))
+          ∙ sym
+          (names_unwritten ns key j (ap is_written o.there ∙ o.empty.unwritten) n.fields.entries
+          (sym (ap (λ x. find name_cmp key (links_of x).0) g) ∙ none))
           ∙ ap (names_in ns) (sym put_field))
           (λ h. refl) i
           ∙ names_same ns (set ns at m) flags (links (set ns at m) i).0
@@ -93,7 +114,9 @@ module _ (ns : List Node) (at : ℕ) (n m : Node) (j : ℕ) (g : slice_get ns at
         visible = same_set visible_of ns at n m g (ap (λ c. c.visible) s.order);
         names = names;
         sorted_names = set_each (λ x i. IsTrue (is_sorted name_cmp (links_of x).0)) ns at n m g
-            (subst (λ xs. IsTrue (is_sorted name_cmp xs)) (sym put_field) (rising_put name_cmp name_total key j n.fields.entries (subst (λ x. IsTrue (is_sorted name_cmp (links_of x).0)) g (t.sorted_names at)))) t.sorted_names;
+            (subst (λ xs. IsTrue (is_sorted name_cmp xs)) (sym put_field)
+            (rising_put name_cmp name_total key j n.fields.entries
+            (subst (λ x. IsTrue (is_sorted name_cmp (links_of x).0)) g (t.sorted_names at)))) t.sorted_names;
         sorted_ids = λ i. subst (λ xs. IsTrue (is_sorted id_cmp xs)) (items i) (t.sorted_ids i);
       }
 
@@ -105,13 +128,22 @@ module _ (ns : List Node) (at : ℕ) (n m : Node) (j : ℕ) (g : slice_get ns at
       fields : (i : ℕ) → (links ns i).0 ≡ (links (set ns at m) i).0
       fields = same_set (λ o. (links_of o).0) ns at n m g (ap (λ c. c.entries) same_fields)
 
-      item_children : (i : ℕ) (k : Key) → (child_number (set ns at m) i k ≡ child_number ns i k) ⊎ ((i ≡ at) × (k ≡ ItemKey a) × (child_number (set ns at m) i k ≡ Some j))
+      item_children : (i : ℕ) (k : Key)
+          → (child_number (set ns at m) i k ≡ child_number ns i k)
+          ⊎ ((i ≡ at) × (k ≡ ItemKey a) × (child_number (set ns at m) i k ≡ Some j))
       item_children i (FieldKey k) = inl (sym (ap (find name_cmp k) (fields i)))
       item_children i (ItemKey b) = elim (cases_eq i at) [
         | inl e ↦
-            let after : child_number (set ns at m) i (ItemKey b) ≡ find id_cmp b (put id_cmp a j n.items.entries) = ap (λ h. child_number (set ns at m) h (ItemKey b)) e ∙ ap (λ o. find id_cmp b (links_of o).1) there ∙ ap (find id_cmp b) put_item in
-            let before : child_number ns i (ItemKey b) ≡ find id_cmp b n.items.entries = ap (λ h. child_number ns h (ItemKey b)) e ∙ ap (λ o. find id_cmp b (links_of o).1) g in
-            elim (found_put id_cmp id_total same_ids b a j n.items.entries) [ inl f ↦ inl (after ∙ f ∙ sym before) | inr (q, f) ↦ inr (e, ap ItemKey q, after ∙ f) ]
+            let after : child_number (set ns at m) i (ItemKey b)
+            ≡ find id_cmp b (put id_cmp a j n.items.entries) = ap (λ h. child_number (set ns at m) h (ItemKey b)) e
+            ∙ ap (λ o. find id_cmp b (links_of o).1) there ∙ ap (find id_cmp b) put_item in
+            let before : child_number ns i (ItemKey b) ≡ find id_cmp b n.items.entries = ap (λ h. child_number ns h (ItemKey b)) e
+            ∙ ap (λ o. find id_cmp b (links_of o).1) g in
+            elim (found_put id_cmp id_total same_ids b a j n.items.entries) [
+              | inl f ↦ inl (after ∙ f ∙ sym before)
+              | inr (q, f) ↦ inr
+                  (e, ap ItemKey q, after ∙ f)
+            ]
         | inr d ↦ inl (ap (λ o. find id_cmp b (links_of o).1) (get_other ns at m i d))
       ]
 
@@ -127,5 +159,7 @@ module _ (ns : List Node) (at : ℕ) (n m : Node) (j : ℕ) (g : slice_get ns at
         names = λ i. names_same ns (set ns at m) flags (links ns i).0 ∙ ap (names_in (set ns at m)) (fields i);
         sorted_names = λ i. subst (λ xs. IsTrue (is_sorted name_cmp xs)) (fields i) (t.sorted_names i);
         sorted_ids = set_each (λ x i. IsTrue (is_sorted id_cmp (links_of x).1)) ns at n m g
-            (subst (λ xs. IsTrue (is_sorted id_cmp xs)) (sym put_item) (rising_put id_cmp id_total a j n.items.entries (subst (λ x. IsTrue (is_sorted id_cmp (links_of x).1)) g (t.sorted_ids at)))) t.sorted_ids;
+            (subst (λ xs. IsTrue (is_sorted id_cmp xs)) (sym put_item)
+            (rising_put id_cmp id_total a j n.items.entries
+            (subst (λ x. IsTrue (is_sorted id_cmp (links_of x).1)) g (t.sorted_ids at)))) t.sorted_ids;
       }

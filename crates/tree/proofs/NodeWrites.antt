@@ -7,20 +7,26 @@ use Rattle.tree.specs.Nodes.{AreBeside, NodeBeside, MoreRoom, presence_room, reg
 use Rattle.tree.proofs.ListReads.{get_same, get_other, get_inside}
 
 -- what holds of the new node, and of each other one as before
-pub set_each : (P : Option Node → ℕ → Type 0) (ns : List Node) (i : ℕ) (n m : Node) → slice_get ns i ≡ Some n → P (Some m) i → ((j : ℕ) → P (slice_get ns j) j) → (j : ℕ) → P (slice_get (set ns i m) j) j
+pub set_each : (P : Option Node → ℕ → Type 0) (ns : List Node) (i : ℕ) (n m : Node) → slice_get ns i ≡ Some n → P (Some m) i
+    → ((j : ℕ) → P (slice_get ns j) j) → (j : ℕ) → P (slice_get (set ns i m) j) j
 set_each P ns i n m g here each j = elim (cases_eq j i) [
   | inl e ↦ subst (λ k. P (slice_get (set ns i m) k) k) (sym e) (subst (λ o. P o i) (sym (get_same ns i m (get_inside ns i n g))) here)
   | inr e ↦ subst (λ o. P o j) (sym (get_other ns i m j e)) (each j)
 ]
 
-pub beside_at : (table : List ℕ) (ns : List Node) (i : ℕ) (n : Node) → slice_get ns i ≡ Some n → AreBeside table ns → NodeBeside table (Some n)
+pub beside_at : (table : List ℕ) (ns : List Node) (i : ℕ) (n : Node) → slice_get ns i ≡ Some n → AreBeside table ns
+    → NodeBeside table (Some n)
 beside_at table ns i n g b = subst (NodeBeside table) g (b i)
 
-pub beside_set : (table : List ℕ) (ns : List Node) (i : ℕ) (n m : Node) → slice_get ns i ≡ Some n → AreBeside table ns → NodeBeside table (Some m) → AreBeside table (set ns i m)
+pub beside_set : (table : List ℕ) (ns : List Node) (i : ℕ) (n m : Node) → slice_get ns i ≡ Some n → AreBeside table ns
+    → NodeBeside table (Some m) → AreBeside table (set ns i m)
 beside_set table ns i n m g b h = set_each (λ o j. NodeBeside table o) ns i n m g h b
 
-pub room_set : (ns : List Node) (i : ℕ) (n m : Node) → slice_get ns i ≡ Some n → n.presence.room ≤ m.presence.room → n.register.room ≤ m.register.room → MoreRoom ns (set ns i m)
+pub room_set : (ns : List Node) (i : ℕ) (n m : Node) → slice_get ns i ≡ Some n → n.presence.room ≤ m.presence.room
+    → n.register.room ≤ m.register.room → MoreRoom ns (set ns i m)
 room_set ns i n m g p r = record {
-  presence = set_each (λ o j. presence_room (slice_get ns j) ≤ presence_room o) ns i n m g (subst (λ o. presence_room o ≤ m.presence.room) (sym g) p) (λ j. omega arith);
-  register = set_each (λ o j. register_room (slice_get ns j) ≤ register_room o) ns i n m g (subst (λ o. register_room o ≤ m.register.room) (sym g) r) (λ j. omega arith);
+  presence = set_each (λ o j. presence_room (slice_get ns j) ≤ presence_room o) ns i n m g
+      (subst (λ o. presence_room o ≤ m.presence.room) (sym g) p) (λ j. omega arith);
+  register = set_each (λ o j. register_room (slice_get ns j) ≤ register_room o) ns i n m g
+      (subst (λ o. register_room o ≤ m.register.room) (sym g) r) (λ j. omega arith);
 }

@@ -1,5 +1,6 @@
 -- An empty node at the end, which is the child of none.
-use Rattle.std.proofs.Common.{◌≡◌, ℕ, zero, suc, ◌+◌, ◌≤◌, IsTrue, List, [], ◌∷◌, ◌++◌, length, Option, Some, None, refl, sym, ap, ◌∙◌, subst, arith, length-append}
+use Rattle.std.proofs.Common.{◌≡◌, ℕ, zero, suc, ◌+◌, ◌≤◌, IsTrue, List, [], ◌∷◌, ◌++◌, length, Option, Some, None, refl, sym, ap, ◌∙◌}
+use Rattle.std.proofs.Common.{subst, arith, length-append}
 use Rattle.std.specs.Prelude.{slice_get}
 use Rattle.std.specs.FinMap.{is_sorted}
 use Rattle.semantics.specs.Ids.{id_cmp}
@@ -9,21 +10,26 @@ use Rattle.cursor.specs.declared.tag.Tag.{Tag}
 use Rattle.value.specs.declared.value.Scalar.{Scalar}
 use Rattle.columns.specs.Entries.{StandBeside}
 use Rattle.tree.specs.declared.node.Node.{Node}
-use Rattle.tree.specs.Nodes.{Grows, IsEmptyNode, IsOrphan, IsTree, Kept, Links, NodeBeside, SameView, child_room, is_written, linked_by, links_of, order_of, order_room, presence_of, presence_room, register_of, register_room, tagged, valued, visible_of, node_at}
+use Rattle.tree.specs.Nodes.{Grows, IsEmptyNode, IsOrphan, IsTree, Kept, Links, NodeBeside, SameView, child_room, is_written, linked_by}
+use Rattle.tree.specs.Nodes.{links_of, order_of, order_room, presence_of, presence_room, register_of, register_room, tagged, valued}
+use Rattle.tree.specs.Nodes.{visible_of, node_at}
 use Rattle.tree.proofs.SameViews.{context_view, visible_view}
 use Rattle.tree.proofs.Widened.{links_pair}
 
 -- what holds of each node, and of an empty one where it holds of none
-pub push_each : (P : Option Node → ℕ → Type 0) (n : Node) → ((i : ℕ) → P None i → P (Some n) i) → (ns : List Node) → ((i : ℕ) → P (slice_get ns i) i) → (i : ℕ) → P (slice_get (ns ++ n ∷ []) i) i
+pub push_each : (P : Option Node → ℕ → Type 0) (n : Node) → ((i : ℕ) → P None i → P (Some n) i) → (ns : List Node)
+    → ((i : ℕ) → P (slice_get ns i) i) → (i : ℕ) → P (slice_get (ns ++ n ∷ []) i) i
 push_each P n h [] each zero = h zero (each zero)
 push_each P n h [] each (suc i) = each (suc i)
 push_each P n h (m ∷ ns) each zero = each zero
 push_each P n h (m ∷ ns) each (suc i) = push_each (λ o j. P o (suc j)) n (λ j. h (suc j)) ns (λ j. each (suc j)) i
 
-pushed : {A : Type 0} (f : Option Node → A) (n : Node) → f None ≡ f (Some n) → (ns : List Node) (i : ℕ) → f (slice_get ns i) ≡ f (slice_get (ns ++ n ∷ []) i)
+pushed : {A : Type 0} (f : Option Node → A) (n : Node) → f None ≡ f (Some n) → (ns : List Node) (i : ℕ)
+    → f (slice_get ns i) ≡ f (slice_get (ns ++ n ∷ []) i)
 pushed f n h ns = push_each (λ o i. f (slice_get ns i) ≡ f o) n (λ i p. p ∙ h) ns (λ i. refl)
 
-room_push : (room : Option Node → ℕ) → room None ≡ 0 → (n : Node) (ns : List Node) (i : ℕ) → room (slice_get ns i) ≤ room (slice_get (ns ++ n ∷ []) i)
+room_push : (room : Option Node → ℕ) → room None ≡ 0 → (n : Node) (ns : List Node) (i : ℕ)
+    → room (slice_get ns i) ≤ room (slice_get (ns ++ n ∷ []) i)
 room_push room z n ns = push_each (λ o i. room (slice_get ns i) ≤ room o) n (λ i p. let z = z in omega arith) ns (λ i. omega arith)
 
 pub push_view : (ns : List Node) (n : Node) → IsEmptyNode n → SameView ns (ns ++ n ∷ [])
@@ -45,7 +51,8 @@ push_rooms ns n i k = room_push (λ o. child_room o k) refl n ns i
 pub empty_beside : (table : List ℕ) (n : Node) → IsEmptyNode n → NodeBeside table (Some n)
 empty_beside table n e = (
   subst (λ es. StandBeside table es n.presence.indices) (sym e.presence) (subst (StandBeside {X = Tag} table []) (sym e.no_presence) refl),
-  subst (λ es. StandBeside table es n.register.indices) (sym e.register) (subst (StandBeside {X = Scalar} table []) (sym e.no_register) refl),
+  subst (λ es. StandBeside table es n.register.indices) (sym e.register)
+      (subst (StandBeside {X = Scalar} table []) (sym e.no_register) refl),
 )
 
 module _ (ns : List Node) (n : Node) (e : IsEmptyNode n) where
@@ -59,7 +66,8 @@ module _ (ns : List Node) (n : Node) (e : IsEmptyNode n) where
       record {
         rooted = omega arith;
         rising = λ i k j c. let r = t.rising i k j (ap (λ l. linked_by l k) (v.links i) ∙ c) in (r.0, omega arith);
-        one_parent = λ i k h l j c d. t.one_parent i k h l j (ap (λ x. linked_by x k) (v.links i) ∙ c) (ap (λ x. linked_by x l) (v.links h) ∙ d);
+        one_parent = λ i k h l j c d. t.one_parent i k h l j (ap (λ x. linked_by x k) (v.links i) ∙ c)
+            (ap (λ x. linked_by x l) (v.links h) ∙ d);
         sorted_names = λ i. subst (λ (l : Links). IsTrue (is_sorted name_cmp l.0)) (v.links i) (t.sorted_names i);
         sorted_ids = λ i. subst (λ (l : Links). IsTrue (is_sorted id_cmp l.1)) (v.links i) (t.sorted_ids i);
       }

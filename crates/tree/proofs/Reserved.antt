@@ -18,7 +18,8 @@ use Rattle.tree.proofs.Applied.{end_is}
 -- an operation that writes v at a slot, or at the element of its place
 pub write_ready : (o : Op) (table : List ℕ) (ns : List Node) (s : Option Scalar) (v : Value) (slot : Option (Element × Option OpId))
     → value_of (mutation_of o.mutation) ≡ Some v → slot_of (mutation_of o.mutation) o.place ≡ slot
-    → RoomTo ns (target_in slot o.id o.place) → 0 < register_room (node_at ns (target_in slot o.id o.place)) → option_map scalar_of s ≡ scalar_in (Some v) → RoomToLink ns slot
+    → RoomTo ns (target_in slot o.id o.place) → 0 < register_room (node_at ns (target_in slot o.id o.place))
+    → option_map scalar_of s ≡ scalar_in (Some v) → RoomToLink ns slot
     → IsReady (record { table = table; nodes = ns; scalar = s }) (stamped_of table o)
 write_ready o table ns s v slot value there room register scalar link =
     let t : Planted = record { table = table; nodes = ns; scalar = s } in
@@ -30,14 +31,17 @@ write_ready o table ns s v slot value there room register scalar link =
 
 -- an operation that writes v at the end of its place's path
 pub place_ready : (o : Op) (table : List ℕ) (ns : List Node) (s : Option Scalar) (v : Value) (path : List Key)
-    → value_of (mutation_of o.mutation) ≡ Some v → slot_of (mutation_of o.mutation) o.place ≡ None → path ≡ keys_from_root (element_of o.place)
+    → value_of (mutation_of o.mutation) ≡ Some v → slot_of (mutation_of o.mutation) o.place ≡ None
+    → path ≡ keys_from_root (element_of o.place)
     → RoomTo ns (end_of path) → 0 < register_room (node_at ns (end_of path)) → option_map scalar_of s ≡ scalar_in (Some v)
     → IsReady (record { table = table; nodes = ns; scalar = s }) (stamped_of table o)
 place_ready o table ns s v path value there way room register scalar =
     let end : end_of path ≡ element_of o.place = end_is o.place path way in
-    write_ready o table ns s v None value there (subst (RoomTo ns) end room) (subst (λ e. 0 < register_room (node_at ns e)) end register) scalar tt
+    write_ready o table ns s v None value there (subst (RoomTo ns) end room)
+    (subst (λ e. 0 < register_room (node_at ns e)) end register) scalar tt
 
 -- where three facts give a fourth, and each holds of a value, if there is one
-pub if_ok_three : {X E : Type 0} (r : Result X E) (P Q R S : X → Type 0) → ((x : X) → P x → Q x → R x → S x) → IfOk r P → IfOk r Q → IfOk r R → IfOk r S
+pub if_ok_three : {X E : Type 0} (r : Result X E) (P Q R S : X → Type 0) → ((x : X) → P x → Q x → R x → S x) → IfOk r P → IfOk r Q
+    → IfOk r R → IfOk r S
 if_ok_three (Ok x) P Q R S h p q s = h x p q s
 if_ok_three (Err e) P Q R S h p q s = tt

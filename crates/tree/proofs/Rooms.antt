@@ -1,5 +1,6 @@
 -- Room along a path, by its keys and by its element.
-use Rattle.std.proofs.Common.{◌≡◌, ◌≢◌, ℕ, suc, ◌+◌, ◌<◌, ◌≤◌, List, [], ◌∷◌, length, take, drop, Option, Some, None, refl, sym, ap, ◌∙◌, subst, arith, length-take-le}
+use Rattle.std.proofs.Common.{◌≡◌, ◌≢◌, ℕ, suc, ◌+◌, ◌<◌, ◌≤◌, List, [], ◌∷◌, length, take, drop, Option, Some, None, refl, sym, ap, ◌∙◌}
+use Rattle.std.proofs.Common.{subst, arith, length-take-le}
 use Rattle.std.specs.Prelude.{IsSome}
 use Rattle.std.proofs.lemmas.List.{take-append-drop}
 use Rattle.semantics.specs.Elements.{Element, Doc, Field, Item, depth}
@@ -30,7 +31,8 @@ room_there ns None h = absurd (omega arith)
 room_there ns (Some i) h = refl
 
 -- where one node alone loses room, an element of another depth than its own keeps its room
-pub room_deeper : (now new : List Node) → IsTree now → SameLinks now new → (at : ℕ) → RoomElse at now new → (e f : Element) → number now e ≡ Some at → depth e ≢ depth f
+pub room_deeper : (now new : List Node) → IsTree now → SameLinks now new → (at : ℕ) → RoomElse at now new → (e f : Element)
+    → number now e ≡ Some at → depth e ≢ depth f
     → 0 < presence_room (node_at now f) → 0 < presence_room (node_at new f)
 room_deeper now new t l at r e f p d h =
     subst (λ o. 0 < presence_room (node_in new o)) (number_same now new l f) (by (number now f) refl h) where
@@ -40,7 +42,8 @@ room_deeper now new t l at r e f p d h =
           let apart : i ≢ at = λ s. d (ap depth (one_element now t e f at p (q ∙ ap Some s))) in
           let kept = r.presence i apart in omega arith
 
-pub more_room : (ns ms : List Node) → SameLinks ns ms → MoreRoom ns ms → (e : Element) → 0 < presence_room (node_at ns e) → 0 < presence_room (node_at ms e)
+pub more_room : (ns ms : List Node) → SameLinks ns ms → MoreRoom ns ms → (e : Element) → 0 < presence_room (node_at ns e)
+    → 0 < presence_room (node_at ms e)
 more_room ns ms l r e h = subst (λ o. 0 < presence_room (node_in ms o)) (number_same ns ms l e) (by (number ns e) h) where
   by : (o : Option ℕ) → 0 < presence_room (node_in ns o) → 0 < presence_room (node_in ms o)
   by None q = absurd (omega arith)
@@ -65,14 +68,16 @@ room_front ns e (k ∷ ks) r = room_up ns e k (room_front ns (child e k) ks r)
 -- room on the way down to an element is room along its path
 pub room_along : (ns : List Node) (path : List Key) → RoomTo ns (end_of path) → HasRoom ns path
 room_along ns path r = λ k h.
-    let whole : end_of path ≡ down (end_of (take k path)) (drop k path) = ap end_of (sym (take-append-drop k path)) ∙ down-append Doc (take k path) (drop k path) in
+    let whole : end_of path ≡ down (end_of (take k path)) (drop k path) = ap end_of (sym (take-append-drop k path))
+    ∙ down-append Doc (take k path) (drop k path) in
     room_last ns (end_of (take k path)) (room_front ns (end_of (take k path)) (drop k path) (subst (RoomTo ns) whole r))
 
 room_next : (ns : List Node) (e : Element) (k : Key) → RoomTo ns e → 0 < presence_room (node_at ns (child e k)) → RoomTo ns (child e k)
 room_next ns e (FieldKey n) r h = (r, h)
 room_next ns e (ItemKey a) r h = (r, h)
 
-room_from : (ns : List Node) (e : Element) (ks : List Key) → RoomTo ns e → ((i : ℕ) → i ≤ length ks → 0 < presence_room (node_at ns (down e (take i ks)))) → RoomTo ns (down e ks)
+room_from : (ns : List Node) (e : Element) (ks : List Key) → RoomTo ns e
+    → ((i : ℕ) → i ≤ length ks → 0 < presence_room (node_at ns (down e (take i ks)))) → RoomTo ns (down e ks)
 room_from ns e [] r h = r
 room_from ns e (k ∷ ks) r h = room_from ns (child e k) ks (room_next ns e k r (h 1 (omega arith))) (λ i l. h (suc i) (omega arith))
 

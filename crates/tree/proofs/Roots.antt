@@ -10,7 +10,8 @@ use Rattle.semantics.specs.Context.{empty}
 use Rattle.semantics.specs.DocumentAnswer.{visible_items}
 use Rattle.value.specs.declared.value.Scalar.{Scalar}
 use Rattle.tree.specs.declared.node.Node.{Node}
-use Rattle.tree.specs.Nodes.{IsEmptyNode, IsTree, Links, NodeBeside, child_number, context, linked_by, links, links_of, names_in, node_in, number, order_of, presence_of, register_of, visible_of}
+use Rattle.tree.specs.Nodes.{IsEmptyNode, IsTree, Links, NodeBeside, child_number, context, linked_by, links, links_of, names_in, node_in}
+use Rattle.tree.specs.Nodes.{number, order_of, presence_of, register_of, visible_of}
 use Rattle.tree.specs.Trees.{IsPlanted}
 use Rattle.tree.proofs.Contexts.{context_same}
 use Rattle.tree.proofs.SameViews.{context_view}
@@ -50,7 +51,8 @@ module _ (n : Node) (e : IsEmptyNode n) where
     sorted_ids = λ i. subst (λ (l : Links). IsTrue (is_sorted id_cmp l.1)) (no_links i) refl;
   }
 
-  pub root_planted : (table : List ℕ) (s : Option Scalar) → AreDistinct table → IsPlanted (record { table = table; nodes = n ∷ []; scalar = s })
+  pub root_planted : (table : List ℕ) (s : Option Scalar) → AreDistinct table
+      → IsPlanted (record { table = table; nodes = n ∷ []; scalar = s })
   root_planted table s d = record {
     distinct = d;
     tree = root_tree;

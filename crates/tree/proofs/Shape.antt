@@ -1,5 +1,6 @@
 -- Which node an element has.
-use Rattle.std.proofs.Common.{◌≡◌, ℕ, ◌<◌, true, false, cond, ◌||◌, IsTrue, List, [], ◌∷◌, length, set, take, drop, Option, Some, None, refl, sym, ap, ◌∙◌, subst, arith, inl, inr, length-set, true≢false}
+use Rattle.std.proofs.Common.{◌≡◌, ℕ, ◌<◌, true, false, cond, ◌||◌, IsTrue, List, [], ◌∷◌, length, set, take, drop, Option, Some, None}
+use Rattle.std.proofs.Common.{refl, sym, ap, ◌∙◌, subst, arith, inl, inr, length-set, true≢false}
 use Rattle.std.specs.Prelude.{slice_get}
 use Rattle.std.proofs.lemmas.Bool.{cases_eq}
 use Rattle.std.proofs.lemmas.List.{take-append-drop}
@@ -10,12 +11,14 @@ use Rattle.semantics.specs.Paths.{Key, FieldKey, ItemKey, child, down}
 use Rattle.semantics.proofs.Orders.{element_itself, same_elements}
 use Rattle.semantics.proofs.ElementPaths.{down-append}
 use Rattle.tree.specs.declared.node.Node.{Node}
-use Rattle.tree.specs.Nodes.{links_of, links, linked_by, child_number, next_number, number, node_in, node_at, visible_of, IsTree, SameLinks, MoreRoom}
+use Rattle.tree.specs.Nodes.{links_of, links, linked_by, child_number, next_number, number, node_in, node_at, visible_of, IsTree, SameLinks}
+use Rattle.tree.specs.Nodes.{MoreRoom}
 use Rattle.tree.specs.Writes.{end_of}
 use Rattle.tree.proofs.ListReads.{get_same, get_other, get_inside}
 
 -- where a step leads somewhere, it starts somewhere
-pub next_some : (ns : List Node) (o : Option ℕ) (s : Key) (j : ℕ) → next_number ns o s ≡ Some j → (i : ℕ) × (o ≡ Some i) × (child_number ns i s ≡ Some j)
+pub next_some : (ns : List Node) (o : Option ℕ) (s : Key) (j : ℕ) → next_number ns o s ≡ Some j
+    → (i : ℕ) × (o ≡ Some i) × (child_number ns i s ≡ Some j)
 next_some ns None s j e = cc
 next_some ns (Some i) s j e = (i, refl, e)
 
@@ -26,8 +29,10 @@ next_same ns ms h (Some i) s = ap (λ l. linked_by l s) (h i)
 -- where each number has the same children, each element has the same number
 pub number_links : (ns ms : List Node) → ((i : ℕ) → links ns i ≡ links ms i) → (e : Element) → number ns e ≡ number ms e
 number_links ns ms h Doc = refl
-number_links ns ms h (Field e n) = ap (λ o. next_number ns o (FieldKey n)) (number_links ns ms h e) ∙ next_same ns ms h (number ms e) (FieldKey n)
-number_links ns ms h (Item e a) = ap (λ o. next_number ns o (ItemKey a)) (number_links ns ms h e) ∙ next_same ns ms h (number ms e) (ItemKey a)
+number_links ns ms h (Field e n) = ap (λ o. next_number ns o (FieldKey n)) (number_links ns ms h e)
+    ∙ next_same ns ms h (number ms e) (FieldKey n)
+number_links ns ms h (Item e a) = ap (λ o. next_number ns o (ItemKey a)) (number_links ns ms h e)
+    ∙ next_same ns ms h (number ms e) (ItemKey a)
 
 pub number_same : (ns ms : List Node) → SameLinks ns ms → (e : Element) → number ns e ≡ number ms e
 number_same ns ms h e = number_links ns ms h.same e
@@ -91,19 +96,23 @@ one_element ns t (Item e a) (Field f m) i p q =
     absurd (apart m a (sym (t.one_parent k (ItemKey a) h (FieldKey m) i kc hc).1))
 
 -- a write to a node that leaves its children alone
-pub links_each : (ns : List Node) (i : ℕ) (n m : Node) → slice_get ns i ≡ Some n → links_of (Some m) ≡ links_of (Some n) → (j : ℕ) → links ns j ≡ links (set ns i m) j
+pub links_each : (ns : List Node) (i : ℕ) (n m : Node) → slice_get ns i ≡ Some n → links_of (Some m) ≡ links_of (Some n) → (j : ℕ)
+    → links ns j ≡ links (set ns i m) j
 links_each ns i n m g l j = elim (cases_eq j i) [
-  | inl e ↦ ap (λ k. links ns k) e ∙ ap links_of g ∙ sym l ∙ sym (ap links_of (get_same ns i m (get_inside ns i n g))) ∙ ap (λ k. links (set ns i m) k) (sym e)
+  | inl e ↦ ap (λ k. links ns k) e ∙ ap links_of g ∙ sym l ∙ sym (ap links_of (get_same ns i m (get_inside ns i n g)))
+      ∙ ap (λ k. links (set ns i m) k) (sym e)
   | inr n ↦ sym (ap links_of (get_other ns i m j n))
 ]
 
 -- and its flags
-pub links_set : (ns : List Node) (i : ℕ) (n m : Node) → slice_get ns i ≡ Some n → links_of (Some m) ≡ links_of (Some n) → visible_of (Some m) ≡ visible_of (Some n) → SameLinks ns (set ns i m)
+pub links_set : (ns : List Node) (i : ℕ) (n m : Node) → slice_get ns i ≡ Some n → links_of (Some m) ≡ links_of (Some n)
+    → visible_of (Some m) ≡ visible_of (Some n) → SameLinks ns (set ns i m)
 links_set ns i n m g l v = record {
   count = sym (length-set ns i m);
   same = links_each ns i n m g l;
   visible = λ j. elim (cases_eq j i) [
-    | inl e ↦ ap (λ k. visible_of (slice_get ns k)) e ∙ ap visible_of g ∙ sym v ∙ sym (ap visible_of (get_same ns i m (get_inside ns i n g))) ∙ ap (λ k. visible_of (slice_get (set ns i m) k)) (sym e)
+    | inl e ↦ ap (λ k. visible_of (slice_get ns k)) e ∙ ap visible_of g ∙ sym v
+        ∙ sym (ap visible_of (get_same ns i m (get_inside ns i n g))) ∙ ap (λ k. visible_of (slice_get (set ns i m) k)) (sym e)
     | inr n ↦ sym (ap visible_of (get_other ns i m j n))
   ];
 }
@@ -111,16 +120,19 @@ links_set ns i n m g l v = record {
 pub links_same : (ns : List Node) → SameLinks ns ns
 links_same ns = record { count = refl; same = λ i. refl; visible = λ i. refl }
 
-pub node_set : (ns : List Node) → IsTree ns → (e : Element) (i : ℕ) (n m : Node) → number ns e ≡ Some i → slice_get ns i ≡ Some n → links_of (Some m) ≡ links_of (Some n) → (x : Element) → node_at (set ns i m) x ≡ cond (is_same x e) (Some m) (node_at ns x)
+pub node_set : (ns : List Node) → IsTree ns → (e : Element) (i : ℕ) (n m : Node) → number ns e ≡ Some i → slice_get ns i ≡ Some n
+    → links_of (Some m) ≡ links_of (Some n) → (x : Element) → node_at (set ns i m) x ≡ cond (is_same x e) (Some m) (node_at ns x)
 node_set ns t e i n m at g l x =
     ap (node_in (set ns i m)) (sym (number_links ns (set ns i m) (links_each ns i n m g l) x)) ∙
     elim (is_same x e) as (λ b. is_same x e ≡ b → node_in (set ns i m) (number ns x) ≡ cond b (Some m) (node_at ns x)) [
-      | true ↦ λ p. ap (λ y. node_in (set ns i m) (number ns y)) (same_elements x e p) ∙ ap (node_in (set ns i m)) at ∙ get_same ns i m (get_inside ns i n g)
+      | true ↦ λ p. ap (λ y. node_in (set ns i m) (number ns y)) (same_elements x e p) ∙ ap (node_in (set ns i m)) at
+          ∙ get_same ns i m (get_inside ns i n g)
       | false ↦ λ p. elsewhere (number ns x) refl p
     ] refl where
       elsewhere : (o : Option ℕ) → number ns x ≡ o → is_same x e ≡ false → node_in (set ns i m) o ≡ node_in ns o
       elsewhere None q p = refl
-      elsewhere (Some j) q p = get_other ns i m j (λ k. absurd (true≢false (sym (ap (λ y. is_same y e) (one_element ns t x e i (q ∙ ap Some k) at) ∙ element_itself e) ∙ p)))
+      elsewhere (Some j) q p = get_other ns i m j
+          (λ k. absurd (true≢false (sym (ap (λ y. is_same y e) (one_element ns t x e i (q ∙ ap Some k) at) ∙ element_itself e) ∙ p)))
 
 pub node_found : (ns : List Node) (e : Element) (i : ℕ) (n : Node) → number ns e ≡ Some i → slice_get ns i ≡ Some n → node_at ns e ≡ Some n
 node_found ns e i n at g = ap (node_in ns) at ∙ g

@@ -11,11 +11,13 @@ use Rattle.cursor.specs.Places.{is_head}
 use Rattle.tree.specs.Writes.{end_of}
 use Rattle.tree.proofs.Writes.{after_place}
 
-pub head_slot : (p : Place) (path : List Key) → is_head p ≡ true → path ≡ keys_from_root (element_of p) → slot_of (Insert EmptyMap) p ≡ Some (end_of path, None)
+pub head_slot : (p : Place) (path : List Key) → is_head p ≡ true → path ≡ keys_from_root (element_of p)
+    → slot_of (Insert EmptyMap) p ≡ Some (end_of path, None)
 head_slot (At e) path h q = absurd (true≢false (sym h))
 head_slot (HeadOf l) path h q = ap (λ x. Some (x, None)) (sym (ap end_of q ∙ down-keys_from_root l))
 
-pub item_slot : (p : Place) (list : List Key) (a : OpId) → is_head p ≡ false → list ++ ItemKey a ∷ [] ≡ keys_from_root (element_of p) → slot_of (Insert EmptyMap) p ≡ Some (end_of list, Some a)
+pub item_slot : (p : Place) (list : List Key) (a : OpId) → is_head p ≡ false → list ++ ItemKey a ∷ [] ≡ keys_from_root (element_of p)
+    → slot_of (Insert EmptyMap) p ≡ Some (end_of list, Some a)
 item_slot (HeadOf l) list a h q = absurd (true≢false h)
 item_slot (At e) list a h q =
     let item : e ≡ Item (end_of list) a = sym (sym (down-append Doc list (ItemKey a ∷ [])) ∙ ap end_of q ∙ down-keys_from_root e) in
@@ -25,7 +27,8 @@ pub one_slot : (o : Option (Element × Option OpId)) (a b : Element × Option Op
 one_slot o a b p q = ap (λ o. unwrap_or o a) (sym p ∙ q)
 
 -- an insert at a place of the right form has a slot, and the place is what it goes after
-pub formed_slot : (v : Value) (p : Place) → IsFormed (Insert v) p → (l : Element) × (prev : Option OpId) × (slot_of (Insert EmptyMap) p ≡ Some (l, prev)) × (after_place prev l ≡ p)
+pub formed_slot : (v : Value) (p : Place) → IsFormed (Insert v) p
+    → (l : Element) × (prev : Option OpId) × (slot_of (Insert EmptyMap) p ≡ Some (l, prev)) × (after_place prev l ≡ p)
 formed_slot v (HeadOf l) f = (l, None, refl, refl)
 formed_slot v (At (Item l b)) f = (l, Some b, refl, refl)
 formed_slot v (At Doc) f = cc

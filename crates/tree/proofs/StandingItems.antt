@@ -1,5 +1,6 @@
 -- The items of a path, hop by hop.
-use Rattle.std.proofs.Common.{◌≡◌, ℕ, ◌+◌, ◌<◌, Bool, true, false, ◌&&◌, List, [], ◌∷◌, length, map, get_or, take, drop, Option, Some, None, refl, sym, ap, ◌∙◌}
+use Rattle.std.proofs.Common.{◌≡◌, ℕ, ◌+◌, ◌<◌, Bool, true, false, ◌&&◌, List, [], ◌∷◌, length, map, get_or, take, drop, Option, Some, None}
+use Rattle.std.proofs.Common.{refl, sym, ap, ◌∙◌}
 use Rattle.std.specs.Prelude.{IfSome}
 use Rattle.std.proofs.lemmas.Bool.{and_right}
 use Rattle.std.proofs.lemmas.List.{take-append-drop}
@@ -42,7 +43,8 @@ module _ (ns : List Node) (path : List Hop) (k : ℕ) (x : Hop) (inside : k < le
   here = end_of (take k (map hop_of path))
 
   -- whether the next hop stands decides
-  decided : (o : Option ℕ) → StandsSo ns here o → items_stand (context ns) (end_of (take (k + 1) (map hop_of path))) ≡ has_key (order_of (node_in ns o)) (hop_of x)
+  decided : (o : Option ℕ) → StandsSo ns here o
+      → items_stand (context ns) (end_of (take (k + 1) (map hop_of path))) ≡ has_key (order_of (node_in ns o)) (hop_of x)
   decided o h =
       ap (items_stand (context ns)) (end_more path k x inside is)
       ∙ items_child (context ns) here (hop_of x)
@@ -54,13 +56,16 @@ module _ (ns : List Node) (path : List Hop) (k : ℕ) (x : Hop) (inside : k < le
       whole true = refl
       whole false = refl
 
-  pub stands_more : (o p : Option ℕ) → StandsSo ns here o → has_key (order_of (node_in ns o)) (hop_of x) ≡ true → p ≡ next_number ns o (hop_of x) → StandsSo ns (end_of (take (k + 1) (map hop_of path))) p
+  pub stands_more : (o p : Option ℕ) → StandsSo ns here o → has_key (order_of (node_in ns o)) (hop_of x) ≡ true
+      → p ≡ next_number ns o (hop_of x) → StandsSo ns (end_of (take (k + 1) (map hop_of path))) p
   stands_more o p h there next = record {
-    node = ap (number ns) (end_more path k x inside is) ∙ number_extend ns here (hop_of x) ∙ ap (λ i. next_number ns i (hop_of x)) h.node ∙ sym next;
+    node = ap (number ns) (end_more path k x inside is) ∙ number_extend ns here (hop_of x) ∙ ap (λ i. next_number ns i (hop_of x)) h.node
+        ∙ sym next;
     stood = decided o h ∙ there;
   }
 
-  pub falls : (o : Option ℕ) → StandsSo ns here o → has_key (order_of (node_in ns o)) (hop_of x) ≡ false → items_stand (context ns) (end_of (map hop_of path)) ≡ false
+  pub falls : (o : Option ℕ) → StandsSo ns here o → has_key (order_of (node_in ns o)) (hop_of x) ≡ false
+      → items_stand (context ns) (end_of (map hop_of path)) ≡ false
   falls o h lacks =
       ap (λ xs. items_stand (context ns) (end_of xs)) (sym (take-append-drop (k + 1) (map hop_of path)))
       ∙ ap (items_stand (context ns)) (down-append Doc (take (k + 1) (map hop_of path)) (drop (k + 1) (map hop_of path)))

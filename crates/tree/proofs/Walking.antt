@@ -1,5 +1,6 @@
 -- One step of an expression, from where a walk stands.
-use Rattle.std.proofs.Common.{◌≡◌, ◌⊎◌, ℕ, ◌<◌, ◌≤◌, Bool, true, false, List, [], ◌∷◌, ◌++◌, length, map, Option, Some, None, Result, Ok, Err, refl, sym, ap, ◌∙◌, arith, filter, drop, get_or, ◌+◌, inr}
+use Rattle.std.proofs.Common.{◌≡◌, ◌⊎◌, ℕ, ◌<◌, ◌≤◌, Bool, true, false, List, [], ◌∷◌, ◌++◌, length, map, Option, Some, None, Result, Ok}
+use Rattle.std.proofs.Common.{Err, refl, sym, ap, ◌∙◌, arith, filter, drop, get_or, ◌+◌, inr}
 use Rattle.std.specs.Prelude.{nat_le, IfSome, IfOk, IfErr, ⊤}
 use Rattle.std.proofs.lemmas.List.{map-append, drop_all, drop_more}
 use Rattle.std.proofs.lemmas.Bool.{le-leb, le-ltb, lt-leb}
@@ -31,7 +32,8 @@ ok_err : {P : Type 0} (b : Refusal) → ◌≡◌ {A = Result ⊤ Refusal} (Ok t
 ok_err b e = cc
 
 -- where no key may follow, no step does
-pub step_refused : (items : Element → List OpId) (p : Place) (s : Step) (why : Refusal) → room_at p ≡ Err why → step_from items p s ≡ Err why
+pub step_refused : (items : Element → List OpId) (p : Place) (s : Step) (why : Refusal) → room_at p ≡ Err why
+    → step_from items p s ≡ Err why
 step_refused items (HeadOf l) s why r = ap Err (err_is AtHead why r)
 step_refused items (At e) s why r = by (nat_le 32 (depth e)) refl where
   by : (full : Bool) → nat_le 32 (depth e) ≡ full → step_from items (At e) s ≡ Err why
@@ -39,7 +41,8 @@ step_refused items (At e) s why r = by (nat_le 32 (depth e)) refl where
   by false is = let t : room_at (At e) ≡ Ok tt = rw is refl in ok_err why (sym t ∙ r)
 
 -- where one may, the step enters
-pub step_entered : (items : Element → List OpId) (e : Element) (s : Step) → room_at (At e) ≡ Ok tt → step_from items (At e) s ≡ enter items e s
+pub step_entered : (items : Element → List OpId) (e : Element) (s : Step) → room_at (At e) ≡ Ok tt
+    → step_from items (At e) s ≡ enter items e s
 step_entered items e s r = rw (lt-leb 32 (depth e) (depth_below (At e) r)) refl
 
 -- where one may, a walk doesn't stand at a head
@@ -76,13 +79,16 @@ pub placed : (w : Walker) → depth_of (stand_of w) ≤ 32 → place_from (map h
 placed w h = rw (le-ltb 32 (depth_of (stand_of w)) h) refl
 
 -- the next step, and those after it
-pub walked_next : (items : Element → List OpId) (steps : List Step') (k : ℕ) (s : Step') (p : Place) → k < length steps → s ≡ get_or steps k s
-    → walk_from items (map step_of (drop k steps)) (Ok p) ≡ walk_from items (map step_of (drop (k + 1) steps)) (step_from items p (step_of s))
+pub walked_next : (items : Element → List OpId) (steps : List Step') (k : ℕ) (s : Step') (p : Place) → k < length steps
+    → s ≡ get_or steps k s
+    → walk_from items (map step_of (drop k steps)) (Ok p)
+    ≡ walk_from items (map step_of (drop (k + 1) steps)) (step_from items p (step_of s))
 walked_next items steps k s p h is =
     ap (λ xs. walk_from items (map step_of xs) (Ok p)) (drop_more steps k s h)
     ∙ ap (λ x. walk_from items (map step_of (drop (k + 1) steps)) (step_from items p (step_of x))) (sym is)
 
-pub walked_to_end : (items : Element → List OpId) (steps : List Step') (k : ℕ) (p : Place) → length steps ≤ k → walk_from items (map step_of (drop k steps)) (Ok p) ≡ Ok p
+pub walked_to_end : (items : Element → List OpId) (steps : List Step') (k : ℕ) (p : Place) → length steps ≤ k
+    → walk_from items (map step_of (drop k steps)) (Ok p) ≡ Ok p
 walked_to_end items steps k p h = ap (λ xs. walk_from items (map step_of xs) (Ok p)) (drop_all k steps h)
 
 -- a result that is the one wanted
@@ -90,6 +96,7 @@ pub if_ok : (r : Result Place Refusal) {wanted : Result Place Refusal} → r ≡
 if_ok (Ok p) is = sym is
 if_ok (Err why) is = tt
 
-pub if_err : (r : Result Place Refusal) {wanted : Result Place Refusal} → r ≡ wanted → IfErr r (λ why. (why ≡ NoMemory) ⊎ (wanted ≡ Err why))
+pub if_err : (r : Result Place Refusal) {wanted : Result Place Refusal} → r ≡ wanted
+    → IfErr r (λ why. (why ≡ NoMemory) ⊎ (wanted ≡ Err why))
 if_err (Ok p) is = tt
 if_err (Err why) is = inr (sym is)

@@ -5,7 +5,8 @@ use Rattle.semantics.specs.Ids.{OpId}
 use Rattle.semantics.specs.Elements.{Name}
 use Rattle.columns.specs.Entries.{StandBeside}
 use Rattle.tree.specs.declared.node.Node.{Node}
-use Rattle.tree.specs.Nodes.{IsTree, Kept, Links, NodeBeside, SameView, is_written, linked_by, links, links_of, order_of, order_room, presence_of, presence_room, register_of, register_room, tagged, valued, visible_of}
+use Rattle.tree.specs.Nodes.{IsTree, Kept, Links, NodeBeside, SameView, is_written, linked_by, links, links_of, order_of, order_room}
+use Rattle.tree.specs.Nodes.{presence_of, presence_room, register_of, register_room, tagged, valued, visible_of}
 use Rattle.tree.proofs.Shape.{tree_links}
 use Rattle.tree.proofs.NodeWrites.{beside_at, beside_set, set_each}
 use Rattle.tree.proofs.SameViews.{context_view, visible_view}
@@ -29,20 +30,27 @@ pub links_pair : (fs gs : List (Name × ℕ)) (xs ys : List (OpId × ℕ)) → f
 links_pair fs gs xs ys p q = λ i. (p i, q i)
 
 -- what a node's write leaves alone, each node keeps
-pub same_set : {A : Type 0} (f : Option Node → A) (ns : List Node) (at : ℕ) (n m : Node) → slice_get ns at ≡ Some n → f (Some m) ≡ f (Some n) → (i : ℕ) → f (slice_get ns i) ≡ f (slice_get (set ns at m) i)
+pub same_set : {A : Type 0} (f : Option Node → A) (ns : List Node) (at : ℕ) (n m : Node) → slice_get ns at ≡ Some n
+    → f (Some m) ≡ f (Some n) → (i : ℕ) → f (slice_get ns i) ≡ f (slice_get (set ns at m) i)
 same_set f ns at n m g h = set_each (λ o i. f (slice_get ns i) ≡ f o) ns at n m g (ap f g ∙ sym h) (λ i. refl)
 
-room_set : (f : Option Node → ℕ) (ns : List Node) (at : ℕ) (n m : Node) → slice_get ns at ≡ Some n → f (Some n) ≤ f (Some m) → (i : ℕ) → f (slice_get ns i) ≤ f (slice_get (set ns at m) i)
-room_set f ns at n m g h = set_each (λ o i. f (slice_get ns i) ≤ f o) ns at n m g (subst (λ o. f o ≤ f (Some m)) (sym g) h) (λ i. omega arith)
+room_set : (f : Option Node → ℕ) (ns : List Node) (at : ℕ) (n m : Node) → slice_get ns at ≡ Some n → f (Some n) ≤ f (Some m) → (i : ℕ)
+    → f (slice_get ns i) ≤ f (slice_get (set ns at m) i)
+room_set f ns at n m g h = set_each (λ o i. f (slice_get ns i) ≤ f o) ns at n m g (subst (λ o. f o ≤ f (Some m)) (sym g) h)
+    (λ i. omega arith)
 
 wider_beside : (table : List ℕ) (n m : Node) → Wider n m → NodeBeside table (Some n) → NodeBeside table (Some m)
 wider_beside table n m w b = (
-  subst (λ es. StandBeside table es m.presence.indices) (sym w.presence) (subst (StandBeside table n.presence.entries) (sym w.presence_indices) b.0),
-  subst (λ es. StandBeside table es m.register.indices) (sym w.register) (subst (StandBeside table n.register.entries) (sym w.register_indices) b.1),
+  subst (λ es. StandBeside table es m.presence.indices) (sym w.presence)
+      (subst (StandBeside table n.presence.entries) (sym w.presence_indices) b.0),
+  subst (λ es. StandBeside table es m.register.indices) (sym w.register)
+      (subst (StandBeside table n.register.entries) (sym w.register_indices) b.1),
 )
 
-pub wider_links : (ns : List Node) (at : ℕ) (n m : Node) → slice_get ns at ≡ Some n → Wider n m → (i : ℕ) → links ns i ≡ links (set ns at m) i
-wider_links ns at n m g w = same_set links_of ns at n m g (links_pair m.fields.entries n.fields.entries m.items.entries n.items.entries w.fields w.items)
+pub wider_links : (ns : List Node) (at : ℕ) (n m : Node) → slice_get ns at ≡ Some n → Wider n m → (i : ℕ)
+    → links ns i ≡ links (set ns at m) i
+wider_links ns at n m g w = same_set links_of ns at n m g
+    (links_pair m.fields.entries n.fields.entries m.items.entries n.items.entries w.fields w.items)
 
 pub kept_set : (ns : List Node) (at : ℕ) (n m : Node) → slice_get ns at ≡ Some n → IsTree ns → Wider n m → Kept ns (set ns at m)
 kept_set ns at n m g t w =

@@ -97,14 +97,16 @@ context ns = record {
 pub record IsTree (ns : List Node) : Type 0 where
   pub rooted : 0 < length ns
   pub rising : (i : ℕ) (k : Key) (j : ℕ) → child_number ns i k ≡ Some j → (i < j) × (j < length ns)
-  pub one_parent : (i : ℕ) (k : Key) (h : ℕ) (l : Key) (j : ℕ) → child_number ns i k ≡ Some j → child_number ns h l ≡ Some j → (i ≡ h) × (k ≡ l)
+  pub one_parent : (i : ℕ) (k : Key) (h : ℕ) (l : Key) (j : ℕ) → child_number ns i k ≡ Some j → child_number ns h l ≡ Some j
+      → (i ≡ h) × (k ≡ l)
   pub sorted_names : (i : ℕ) → IsTrue (is_sorted name_cmp (links ns i).0)
   pub sorted_ids : (i : ℕ) → IsTrue (is_sorted id_cmp (links ns i).1)
 
 -- the index beside each id of a node is the index of its replica in the table
 abbrev pub NodeBeside : List ℕ → Option Node → Type 0
 NodeBeside table None = Unit {0}
-NodeBeside table (Some n) = StandBeside table n.presence.entries n.presence.indices × StandBeside table n.register.entries n.register.indices
+NodeBeside table (Some n) = StandBeside table n.presence.entries n.presence.indices
+    × StandBeside table n.register.entries n.register.indices
 
 -- the same of each node
 abbrev pub AreBeside : List ℕ → List Node → Type 0

@@ -41,7 +41,8 @@ target_of s = target_in (slot_of s.mutation s.place) s.id s.place
 -- room for what a value writes at t, and the copy of its scalar
 abbrev pub RoomToWrite : Planted → Element → Option Value → Type 0
 RoomToWrite p t None = Unit {0}
-RoomToWrite p t (Some v) = RoomTo p.nodes t × (option_map scalar_of p.scalar ≡ scalar_in (Some v)) × (IsSome (scalar_in (Some v)) → 0 < register_room (node_at p.nodes t))
+RoomToWrite p t (Some v) = RoomTo p.nodes t × (option_map scalar_of p.scalar ≡ scalar_in (Some v))
+    × (IsSome (scalar_in (Some v)) → 0 < register_room (node_at p.nodes t))
 
 -- room for a new item in the order of a slot's list
 abbrev pub RoomToLink : List Node → Option (Element × Option OpId) → Type 0

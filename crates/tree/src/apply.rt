@@ -33,7 +33,8 @@ pub fn apply(nodes: &mut [Node], op: &Op, stamp: &Stamp, scalar: Option<Scalar>)
     requires tree { IsTree nodes.old }
     requires beside { AreBeside stamp.now.table.now nodes.old }
     requires shown { AreShown nodes.old }
-    requires ready { IsReady (record { table = stamp.now.table.now; nodes = nodes.old; scalar = scalar }) (stamped_of stamp.now.table.now op.now) }
+    requires ready { IsReady (record { table = stamp.now.table.now; nodes = nodes.old; scalar = scalar })
+        (stamped_of stamp.now.table.now op.now) }
     requires placed { IsPlaced (context nodes.old) (stamped_of stamp.now.table.now op.now) }
     requires formed { IsFormed (mutation_of op.now.mutation) op.now.place }
     ensures tree { IsTree nodes.new }
@@ -52,7 +53,8 @@ fn run(nodes: &mut [Node], op: &Op, stamp: &Stamp, scalar: Option<Scalar>)
     requires vector { stamp.now.vector.now ≡ op.now.deps }
     requires tree { IsTree nodes.old }
     requires beside { AreBeside stamp.now.table.now nodes.old }
-    requires ready { IsReady (record { table = stamp.now.table.now; nodes = nodes.old; scalar = scalar }) (stamped_of stamp.now.table.now op.now) }
+    requires ready { IsReady (record { table = stamp.now.table.now; nodes = nodes.old; scalar = scalar })
+        (stamped_of stamp.now.table.now op.now) }
     requires placed { IsPlaced (context nodes.old) (stamped_of stamp.now.table.now op.now) }
     requires formed { IsFormed (mutation_of op.now.mutation) op.now.place }
     ensures tree { IsTree nodes.new }
@@ -73,11 +75,15 @@ fn insert_at(nodes: &mut [Node], place: &Place, stamp: &Stamp, tag: Tag, scalar:
     requires tree { IsTree nodes.old }
     requires beside { AreBeside stamp.now.table.now nodes.old }
     requires slot { IsSome (slot_of (Insert EmptyMap) place.now) }
-    requires fits { (l : Element) (p : Option TheId) → slot_of (Insert EmptyMap) place.now ≡ Some (l, p) → CanInsert nodes.old l p stamp.now.id scalar }
+    requires fits { (l : Element) (p : Option TheId) → slot_of (Insert EmptyMap) place.now ≡ Some (l, p)
+        → CanInsert nodes.old l p stamp.now.id scalar }
     ensures tree { IsTree nodes.new }
     ensures links { SameLinks nodes.old nodes.new }
     ensures beside { AreBeside stamp.now.table.now nodes.new }
-    ensures inserted { (l : Element) (p : Option TheId) → slot_of (Insert EmptyMap) place.now ≡ Some (l, p) → context nodes.new ≡ assigned (linked (context nodes.old) l p stamp.now.id) stamp.now.id (deps_of stamp.now) (Item l stamp.now.id) (tag_of tag) (option_map scalar_of scalar) }
+    ensures inserted { (l : Element) (p : Option TheId) → slot_of (Insert EmptyMap) place.now ≡ Some (l, p)
+        → context nodes.new
+        ≡ assigned (linked (context nodes.old) l p stamp.now.id) stamp.now.id (deps_of stamp.now) (Item l stamp.now.id) (tag_of tag)
+        (option_map scalar_of scalar) }
 {
     let Some(slot) = slot_of(place) else {
         unreachable!()

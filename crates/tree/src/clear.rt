@@ -21,7 +21,8 @@ fn clear_node(nodes: &mut [Node], at: NodeNumber, stamp: &Stamp)
     ensures links { SameLinks nodes.old nodes.new }
     ensures room { MoreRoom nodes.old nodes.new }
     ensures beside { AreBeside stamp.now.table.now nodes.new }
-    ensures cleared { (e : Element) → number nodes.old e ≡ Some at → context nodes.new ≡ clear_own (context nodes.old) e (deps_of stamp.now) }
+    ensures cleared { (e : Element) → number nodes.old e ≡ Some at
+        → context nodes.new ≡ clear_own (context nodes.old) e (deps_of stamp.now) }
 {
     let node = node_at_mut(nodes, at);
     node.presence.clear(stamp.vector);

@@ -5,7 +5,8 @@ ghost use Rattle.std.specs.Borrow.{sem};
 ghost use Rattle.semantics.specs.Paths.{Key as TheKey, FieldKey, ItemKey};
 ghost use Rattle.cursor.specs.Meanings.{hop_of};
 ghost use Rattle.tree.specs.Lending.{LendsNodeIn};
-ghost use Rattle.tree.specs.Nodes.{IsEmptyNode, IsOrphan, IsTree, Kept, child_number, child_room, links, order_room, presence_room, register_room};
+ghost use Rattle.tree.specs.Nodes.{IsEmptyNode, IsOrphan, IsTree, Kept, child_number, child_room, links, order_room, presence_room};
+ghost use Rattle.tree.specs.Nodes.{register_room};
 
 use crate::node::{Node, NodeNumber};
 use crate::walk::child_of;

@@ -90,7 +90,9 @@ pub fn insert(nodes: &mut [Node], slot: &Slot<'_>, stamp: &Stamp, tag: Tag, scal
     ensures tree { IsTree nodes.new }
     ensures links { SameLinks nodes.old nodes.new }
     ensures beside { AreBeside stamp.now.table.now nodes.new }
-    ensures inserted { context nodes.new ≡ assigned (linked (context nodes.old) (end_of (map hop_of slot.now.list.now)) slot.now.prev stamp.now.id) stamp.now.id (deps_of stamp.now) (Item (end_of (map hop_of slot.now.list.now)) stamp.now.id) (tag_of tag) (option_map scalar_of scalar) }
+    ensures inserted { context nodes.new
+        ≡ assigned (linked (context nodes.old) (end_of (map hop_of slot.now.list.now)) slot.now.prev stamp.now.id) stamp.now.id
+        (deps_of stamp.now) (Item (end_of (map hop_of slot.now.list.now)) stamp.now.id) (tag_of tag) (option_map scalar_of scalar) }
 {
     let item = link_list(nodes, slot, &stamp.id);
     clear_below(nodes, item, stamp);

@@ -27,7 +27,8 @@ fn reserve_path(
 ) -> Result<NodeNumber, AllocError>
     requires { IsTree nodes.old.items }
     ensures kept { Kept nodes.old.items nodes.new.items }
-    ensures room { IfOk result (λ at. HasRoom nodes.new.items (map hop_of path.now) × (number nodes.new.items (end_of (map hop_of path.now)) ≡ Some at)) }
+    ensures room { IfOk result
+        (λ at. HasRoom nodes.new.items (map hop_of path.now) × (number nodes.new.items (end_of (map hop_of path.now)) ≡ Some at)) }
 {
     let mut at = NodeNumber::ROOT;
     for hop in path {
@@ -77,8 +78,10 @@ fn reserve_item(
     requires tree { IsTree nodes.old.items }
     requires inside { at < length nodes.old.items }
     ensures kept { Kept nodes.old.items nodes.new.items }
-    ensures presence { OnOk result ((e : Element) → number nodes.new.items e ≡ Some at → 0 < presence_room (node_at nodes.new.items (Item e id))) }
-    ensures register { OnOk result ((e : Element) → number nodes.new.items e ≡ Some at → 0 < register_room (node_at nodes.new.items (Item e id))) }
+    ensures presence { OnOk result
+        ((e : Element) → number nodes.new.items e ≡ Some at → 0 < presence_room (node_at nodes.new.items (Item e id))) }
+    ensures register { OnOk result
+        ((e : Element) → number nodes.new.items e ≡ Some at → 0 < register_room (node_at nodes.new.items (Item e id))) }
 {
     let hop = Hop::Item(id);
     let item = reach(nodes, at, &hop, alloc)?;
@@ -117,7 +120,8 @@ fn reserve_slot(
     requires tree { IsTree nodes.old.items }
     requires insert { mutation_of op.now.mutation ≡ Insert (value_of value.now) }
     ensures kept { Kept nodes.old.items nodes.new.items }
-    ensures ready { IfOk result (λ s. (table : List ℕ) → IsReady (record { table = table; nodes = nodes.new.items; scalar = s }) (stamped_of table op.now)) }
+    ensures ready { IfOk result
+        (λ s. (table : List ℕ) → IsReady (record { table = table; nodes = nodes.new.items; scalar = s }) (stamped_of table op.now)) }
 {
     match slot_of(&op.place) {
         Some(slot) => reserve_insert(nodes, slot.list, op.id, value, alloc),
@@ -133,7 +137,8 @@ pub fn reserve_operation(
 ) -> Result<Option<Scalar>, AllocError>
     requires { IsTree nodes.old.items }
     ensures kept { Kept nodes.old.items nodes.new.items }
-    ensures ready { IfOk result (λ s. (table : List ℕ) → IsReady (record { table = table; nodes = nodes.new.items; scalar = s }) (stamped_of table op.now)) }
+    ensures ready { IfOk result
+        (λ s. (table : List ℕ) → IsReady (record { table = table; nodes = nodes.new.items; scalar = s }) (stamped_of table op.now)) }
 {
     match &op.mutation {
         Mutation::Assign(value) => reserve_assign(nodes, op.place.hops(), value, alloc),

@@ -62,8 +62,10 @@ impl Walker {
         requires shown { AreShown nodes.now }
         requires walking { IsWalking nodes.now self.old }
         ensures walking { OnOk result (IsWalking nodes.now self.new) }
-        ensures stand { OnOk result (step_from (visible_items (context nodes.now)) (stand_of self.old) (step_of step.now) ≡ Ok (stand_of self.new)) }
-        ensures err { IfErr result (λ why. (why ≡ NoMemory) ⊎ (step_from (visible_items (context nodes.now)) (stand_of self.old) (step_of step.now) ≡ Err why)) }
+        ensures stand { OnOk result
+            (step_from (visible_items (context nodes.now)) (stand_of self.old) (step_of step.now) ≡ Ok (stand_of self.new)) }
+        ensures err { IfErr result
+            (λ why. (why ≡ NoMemory) ⊎ (step_from (visible_items (context nodes.now)) (stand_of self.old) (step_of step.now) ≡ Err why)) }
     {
         self.check_room()?;
         match step {

@@ -24,7 +24,8 @@ use operation::{Mutation, Op};
 /// Shows an item, or hides it, if it is in the list. Binary search.
 fn set_flag(order: &mut ListOrder, id: &OpId, shown: bool)
     ensures items { order.new.items ≡ order.old.items }
-    ensures visible { (f : TheId → Bool) → order.old.visible ≡ filter f order.old.items → order.new.visible ≡ filter (λ a. cond (is_same_id a id.now) shown (f a)) order.old.items }
+    ensures visible { (f : TheId → Bool) → order.old.visible ≡ filter f order.old.items
+        → order.new.visible ≡ filter (λ a. cond (is_same_id a id.now) shown (f a)) order.old.items }
 {
     if order.contains(id) {
         order.set_shown(id, shown);
@@ -37,7 +38,8 @@ fn show_item(nodes: &mut [Node], at: NodeNumber, id: &OpId, item: NodeNumber)
     requires inside { at < length nodes.old }
     requires item { child_number nodes.old at (ItemKey id.now) ≡ Some item }
     ensures same { SameButFlags nodes.old nodes.new }
-    ensures shown { (e : Element) (off : Element → TheId → Bool) → number nodes.old e ≡ Some at → ShownBut nodes.old (λ l a. is_same (Item l a) (Item e id.now) || off l a) → ShownBut nodes.new off }
+    ensures shown { (e : Element) (off : Element → TheId → Bool) → number nodes.old e ≡ Some at
+        → ShownBut nodes.old (λ l a. is_same (Item l a) (Item e id.now) || off l a) → ShownBut nodes.new off }
 {
     let shown = is_present(nodes, item);
     let node = node_at_mut(nodes, at);
@@ -52,8 +54,11 @@ fn show_child(nodes: &mut [Node], at: NodeNumber, position: usize) -> NodeNumber
     ensures above { at < result }
     ensures within { result < length nodes.old }
     ensures same { SameButFlags nodes.old nodes.new }
-    ensures number { (e : Element) (d : TheId × ℕ) → number nodes.old e ≡ Some at → number nodes.old (Item e (slice_index_or (links nodes.old at).1 position d).0) ≡ Some result }
-    ensures shown { (e : Element) (off : Element → TheId → Bool) (d : TheId × ℕ) → number nodes.old e ≡ Some at → ShownBut nodes.old (λ l a. is_same (Item l a) (Item e (slice_index_or (links nodes.old at).1 position d).0) || off l a) → ShownBut nodes.new off }
+    ensures number { (e : Element) (d : TheId × ℕ) → number nodes.old e ≡ Some at
+        → number nodes.old (Item e (slice_index_or (links nodes.old at).1 position d).0) ≡ Some result }
+    ensures shown { (e : Element) (off : Element → TheId → Bool) (d : TheId × ℕ) → number nodes.old e ≡ Some at
+        → ShownBut nodes.old (λ l a. is_same (Item l a) (Item e (slice_index_or (links nodes.old at).1 position d).0) || off l a)
+        → ShownBut nodes.new off }
 {
     let (id, item) = node_at(nodes, at).items.at(position);
     let item = NodeNumber::new(item);
@@ -66,7 +71,8 @@ fn show_below(nodes: &mut [Node], at: NodeNumber)
     requires tree { IsTree nodes.old }
     requires inside { at < length nodes.old }
     ensures same { SameButFlags nodes.old nodes.new }
-    ensures shown { (e : Element) (off : Element → TheId → Bool) → number nodes.old e ≡ Some at → ShownBut nodes.old (λ l a. is_under l e || off l a) → ShownBut nodes.new off }
+    ensures shown { (e : Element) (off : Element → TheId → Bool) → number nodes.old e ≡ Some at
+        → ShownBut nodes.old (λ l a. is_under l e || off l a) → ShownBut nodes.new off }
 {
     let fields = count_fields(nodes, at);
     'fields: for position in 0..fields {
@@ -86,7 +92,8 @@ fn show_key(nodes: &mut [Node], at: NodeNumber, hop: &Hop, next: NodeNumber)
     requires inside { at < length nodes.old }
     requires next { child_number nodes.old at (hop_of hop.now) ≡ Some next }
     ensures same { SameButFlags nodes.old nodes.new }
-    ensures shown { (e : Element) (off : Element → TheId → Bool) → number nodes.old e ≡ Some at → ShownBut nodes.old (λ l a. is_same (Item l a) (child e (hop_of hop.now)) || off l a) → ShownBut nodes.new off }
+    ensures shown { (e : Element) (off : Element → TheId → Bool) → number nodes.old e ≡ Some at
+        → ShownBut nodes.old (λ l a. is_same (Item l a) (child e (hop_of hop.now)) || off l a) → ShownBut nodes.new off }
 {
     match hop {
         Hop::Field(_) => {}
@@ -100,7 +107,8 @@ fn show_hop(nodes: &mut [Node], at: NodeNumber, hop: &Hop) -> Option<NodeNumber>
     requires inside { at < length nodes.old }
     ensures same { SameButFlags nodes.old nodes.new }
     ensures number { result ≡ child_number nodes.old at (hop_of hop.now) }
-    ensures shown { (e : Element) (off : Element → TheId → Bool) → number nodes.old e ≡ Some at → ShownBut nodes.old (λ l a. is_same (Item l a) (child e (hop_of hop.now)) || off l a) → ShownBut nodes.new off }
+    ensures shown { (e : Element) (off : Element → TheId → Bool) → number nodes.old e ≡ Some at
+        → ShownBut nodes.old (λ l a. is_same (Item l a) (child e (hop_of hop.now)) || off l a) → ShownBut nodes.new off }
 {
     let next = child_of(nodes, at, hop)?;
     show_key(nodes, at, hop, next);
@@ -113,7 +121,8 @@ fn show_path(nodes: &mut [Node], path: &[Hop]) -> Option<NodeNumber>
     ensures same { SameButFlags nodes.old nodes.new }
     ensures number { result ≡ number nodes.old (end_of (map hop_of path.now)) }
     ensures inside { IfSome result (λ at. at < length nodes.new) }
-    ensures shown { (off : Element → TheId → Bool) → ShownBut nodes.old (λ l a. is_under (end_of (map hop_of path.now)) (Item l a) || off l a) → ShownBut nodes.new off }
+    ensures shown { (off : Element → TheId → Bool)
+        → ShownBut nodes.old (λ l a. is_under (end_of (map hop_of path.now)) (Item l a) || off l a) → ShownBut nodes.new off }
 {
     let mut at = NodeNumber::ROOT;
     for hop in path {
@@ -142,7 +151,8 @@ fn show_entry(nodes: &mut [Node], at: NodeNumber, id: &OpId)
     requires tree { IsTree nodes.old }
     requires inside { at < length nodes.old }
     ensures same { SameButFlags nodes.old nodes.new }
-    ensures shown { (e : Element) → number nodes.old e ≡ Some at → ShownBut nodes.old (λ l a. is_same (Item l a) (Item e id.now) || is_under l (Item e id.now)) → AreShown nodes.new }
+    ensures shown { (e : Element) → number nodes.old e ≡ Some at
+        → ShownBut nodes.old (λ l a. is_same (Item l a) (Item e id.now) || is_under l (Item e id.now)) → AreShown nodes.new }
 {
     match item_of(nodes, at, id) {
         Some(item) => {
@@ -181,7 +191,8 @@ fn show_insert(nodes: &mut [Node], place: &Place, id: &OpId)
 pub fn show(nodes: &mut [Node], op: &Op)
     requires { IsTree nodes.old }
     ensures same { SameButFlags nodes.old nodes.new }
-    ensures shown { ShownBut nodes.old (is_near (target_in (slot_of (mutation_of op.now.mutation) op.now.place) op.now.id op.now.place)) → AreShown nodes.new }
+    ensures shown { ShownBut nodes.old (is_near (target_in (slot_of (mutation_of op.now.mutation) op.now.place) op.now.id op.now.place))
+        → AreShown nodes.new }
 {
     match &op.mutation {
         Mutation::Assign(_) => show_at(nodes, op.place.hops()),

@@ -35,7 +35,8 @@ pub fn field_at(nodes: &[Node], at: NodeNumber, position: usize) -> NodeNumber
     requires within { position < length (links nodes.now at).0 }
     ensures above { at < result }
     ensures within { result < length nodes.now }
-    ensures number { (e : Element) (d : Name × ℕ) → number nodes.now e ≡ Some at → number nodes.now (Field e (slice_index_or (links nodes.now at).0 position d).0) ≡ Some result }
+    ensures number { (e : Element) (d : Name × ℕ) → number nodes.now e ≡ Some at
+        → number nodes.now (Field e (slice_index_or (links nodes.now at).0 position d).0) ≡ Some result }
 {
     NodeNumber::new(node_at(nodes, at).fields.at(position).1)
 }
@@ -47,7 +48,8 @@ pub fn item_at(nodes: &[Node], at: NodeNumber, position: usize) -> NodeNumber
     requires within { position < length (links nodes.now at).1 }
     ensures above { at < result }
     ensures within { result < length nodes.now }
-    ensures number { (e : Element) (d : TheId × ℕ) → number nodes.now e ≡ Some at → number nodes.now (Item e (slice_index_or (links nodes.now at).1 position d).0) ≡ Some result }
+    ensures number { (e : Element) (d : TheId × ℕ) → number nodes.now e ≡ Some at
+        → number nodes.now (Item e (slice_index_or (links nodes.now at).1 position d).0) ≡ Some result }
 {
     NodeNumber::new(node_at(nodes, at).items.at(position).1)
 }

@@ -4,7 +4,8 @@ ghost use Rattle.std.specs.Prelude.{◌≡◌, ◌<◌, ◌≤◌, ℕ, List, Op
 ghost use Rattle.semantics.specs.Elements.{Element, Field, Name, depth};
 ghost use Rattle.value.specs.Meanings.{scalar_of};
 ghost use Rattle.cursor.specs.Meanings.{hop_of, tag_of};
-ghost use Rattle.tree.specs.Nodes.{AreBeside, IsTree, MoreRoom, RoomElse, SameLinks, child_number, context, node_at, number, presence_room, register_room};
+ghost use Rattle.tree.specs.Nodes.{AreBeside, IsTree, MoreRoom, RoomElse, SameLinks, child_number, context, node_at, number, presence_room};
+ghost use Rattle.tree.specs.Nodes.{register_room};
 ghost use Rattle.tree.specs.Writes.{HasRoom, IsStamp, assigned, deps_of, end_of, entered, entered_by, mark, name_at, registered};
 
 use crate::clear::clear_at;
@@ -23,7 +24,8 @@ fn mark_node(nodes: &mut [Node], at: NodeNumber, stamp: &Stamp, tag: Tag)
     ensures links { SameLinks nodes.old nodes.new }
     ensures room { RoomElse at nodes.old nodes.new }
     ensures beside { AreBeside stamp.now.table.now nodes.old → AreBeside stamp.now.table.now nodes.new }
-    ensures marked { (e : Element) → number nodes.old e ≡ Some at → context nodes.new ≡ mark (context nodes.old) e stamp.now.id (tag_of tag) }
+    ensures marked { (e : Element) → number nodes.old e ≡ Some at
+        → context nodes.new ≡ mark (context nodes.old) e stamp.now.id (tag_of tag) }
 {
     let node = node_at_mut(nodes, at);
     node.presence.put(stamp.id, stamp.index(), tag);
@@ -36,7 +38,8 @@ fn name_node(nodes: &mut [Node], at: NodeNumber)
     ensures links { SameLinks nodes.old nodes.new }
     ensures room { MoreRoom nodes.old nodes.new }
     ensures beside { (table : List ℕ) → AreBeside table nodes.old → AreBeside table nodes.new }
-    ensures named { (e : Element) (n : Name) → number nodes.old (Field e n) ≡ Some at → context nodes.new ≡ name_at (context nodes.old) e n }
+    ensures named { (e : Element) (n : Name) → number nodes.old (Field e n) ≡ Some at
+        → context nodes.new ≡ name_at (context nodes.old) e n }
 {
     let node = node_at_mut(nodes, at);
     node.is_written = true;
@@ -53,7 +56,8 @@ fn enter(nodes: &mut [Node], at: NodeNumber, hop: &Hop, stamp: &Stamp) -> NodeNu
     ensures room { RoomElse at nodes.old nodes.new }
     ensures beside { AreBeside stamp.now.table.now nodes.old → AreBeside stamp.now.table.now nodes.new }
     ensures child { child_number nodes.old at (hop_of hop.now) ≡ Some result }
-    ensures entered { (e : Element) → number nodes.old e ≡ Some at → context nodes.new ≡ entered_by (context nodes.old) e (hop_of hop.now) stamp.now.id }
+    ensures entered { (e : Element) → number nodes.old e ≡ Some at
+        → context nodes.new ≡ entered_by (context nodes.old) e (hop_of hop.now) stamp.now.id }
 {
     let child = child_of(nodes, at, hop).unwrap();
     match hop {
@@ -73,11 +77,14 @@ pub fn write_path(nodes: &mut [Node], path: &[Hop], stamp: &Stamp, tag: Tag) -> 
     requires room { HasRoom nodes.old (map hop_of path.now) }
     ensures links { SameLinks nodes.old nodes.new }
     ensures register_room { (i : ℕ) → register_room (slice_get nodes.old i) ≤ register_room (slice_get nodes.new i) }
-    ensures deeper { (e : Element) → length path.now < depth e → 0 < presence_room (node_at nodes.old e) → 0 < presence_room (node_at nodes.new e) }
+    ensures deeper { (e : Element) → length path.now < depth e → 0 < presence_room (node_at nodes.old e)
+        → 0 < presence_room (node_at nodes.new e) }
     ensures beside { AreBeside stamp.now.table.now nodes.old → AreBeside stamp.now.table.now nodes.new }
     ensures inside { result < length nodes.new }
     ensures at { number nodes.old (end_of (map hop_of path.now)) ≡ Some result }
-    ensures written { context nodes.new ≡ mark (entered (context nodes.old) (end_of (map hop_of path.now)) stamp.now.id) (end_of (map hop_of path.now)) stamp.now.id (tag_of tag) }
+    ensures written { context nodes.new
+        ≡ mark (entered (context nodes.old) (end_of (map hop_of path.now)) stamp.now.id) (end_of (map hop_of path.now)) stamp.now.id
+        (tag_of tag) }
 {
     let mut at = NodeNumber::ROOT;
     for hop in path {
@@ -95,7 +102,8 @@ fn put_register(nodes: &mut [Node], at: NodeNumber, stamp: &Stamp, scalar: Scala
     requires room { 0 < register_room (slice_get nodes.old at) }
     ensures links { SameLinks nodes.old nodes.new }
     ensures beside { AreBeside stamp.now.table.now nodes.old → AreBeside stamp.now.table.now nodes.new }
-    ensures written { (e : Element) → number nodes.old e ≡ Some at → context nodes.new ≡ registered (context nodes.old) e stamp.now.id (Some (scalar_of scalar)) }
+    ensures written { (e : Element) → number nodes.old e ≡ Some at
+        → context nodes.new ≡ registered (context nodes.old) e stamp.now.id (Some (scalar_of scalar)) }
 {
     let node = node_at_mut(nodes, at);
     node.register.put(stamp.id, stamp.index(), scalar);
@@ -111,7 +119,8 @@ fn put_scalar(nodes: &mut [Node], at: NodeNumber, stamp: &Stamp, scalar: Option<
     ensures tree { IsTree nodes.new }
     ensures links { SameLinks nodes.old nodes.new }
     ensures beside { AreBeside stamp.now.table.now nodes.new }
-    ensures written { (e : Element) → number nodes.old e ≡ Some at → context nodes.new ≡ registered (context nodes.old) e stamp.now.id (option_map scalar_of scalar) }
+    ensures written { (e : Element) → number nodes.old e ≡ Some at
+        → context nodes.new ≡ registered (context nodes.old) e stamp.now.id (option_map scalar_of scalar) }
 {
     if let Some(scalar) = scalar {
         put_register(nodes, at, stamp, scalar);
@@ -129,7 +138,9 @@ pub fn settle(nodes: &mut [Node], at: NodeNumber, stamp: &Stamp, tag: Tag, scala
     ensures tree { IsTree nodes.new }
     ensures links { SameLinks nodes.old nodes.new }
     ensures beside { AreBeside stamp.now.table.now nodes.new }
-    ensures settled { (e : Element) → number nodes.old e ≡ Some at → context nodes.new ≡ registered (mark (context nodes.old) e stamp.now.id (tag_of tag)) e stamp.now.id (option_map scalar_of scalar) }
+    ensures settled { (e : Element) → number nodes.old e ≡ Some at
+        → context nodes.new
+        ≡ registered (mark (context nodes.old) e stamp.now.id (tag_of tag)) e stamp.now.id (option_map scalar_of scalar) }
 {
     mark_node(nodes, at, stamp, tag);
     put_scalar(nodes, at, stamp, scalar);
@@ -145,7 +156,9 @@ pub fn assign(nodes: &mut [Node], path: &[Hop], stamp: &Stamp, tag: Tag, scalar:
     ensures tree { IsTree nodes.new }
     ensures links { SameLinks nodes.old nodes.new }
     ensures beside { AreBeside stamp.now.table.now nodes.new }
-    ensures assigned { context nodes.new ≡ assigned (context nodes.old) stamp.now.id (deps_of stamp.now) (end_of (map hop_of path.now)) (tag_of tag) (option_map scalar_of scalar) }
+    ensures assigned { context nodes.new
+        ≡ assigned (context nodes.old) stamp.now.id (deps_of stamp.now) (end_of (map hop_of path.now)) (tag_of tag)
+        (option_map scalar_of scalar) }
 {
     clear_at(nodes, path, stamp);
     let at = write_path(nodes, path, stamp, tag);

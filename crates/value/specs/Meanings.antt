@@ -1,5 +1,6 @@
 -- Values of the program as those of the definitions.
-use Rattle.semantics.specs.Elements.{Scalar as TheScalar, Null as TheNull, Boolean as TheBoolean, Whole as TheWhole, Text as TheText, Value, Plain, EmptyMap as TheEmptyMap, EmptyList as TheEmptyList}
+use Rattle.semantics.specs.Elements.{Scalar as TheScalar, Null as TheNull, Boolean as TheBoolean, Whole as TheWhole, Text as TheText, Value}
+use Rattle.semantics.specs.Elements.{Plain, EmptyMap as TheEmptyMap, EmptyList as TheEmptyList}
 use Rattle.value.specs.declared.value.Scalar.{Scalar}
 use Rattle.value.specs.declared.value.Scalar.TheVariants as scalar
 use Rattle.value.specs.declared.value.Val.{Val}

@@ -21,7 +21,8 @@ impl Val {
     /// `BadLine` for a list or an object with parts, or `NoMemory` if allocation fails.
     pub fn from_json(alloc: Global, json: &Value) -> Result<Val, Refusal>
         ensures ok { IfOk result (λ v. value_form (view json.now) ≡ Ok (value_of v)) }
-        ensures err { IfErr result (λ why. (value_form (view json.now) ≡ Err why) ⊎ ((why ≡ NoMemory) × IsOkAnd (value_form (view json.now)) IsText)) }
+        ensures err { IfErr result
+            (λ why. (value_form (view json.now) ≡ Err why) ⊎ ((why ≡ NoMemory) × IsOkAnd (value_form (view json.now)) IsText)) }
     {
         match json {
             Value::Null => Ok(Val::Scalar(Scalar::Null)),

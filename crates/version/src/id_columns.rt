@@ -30,7 +30,11 @@ impl Model for IdColumns {
 
     ghost Value = { Columns };
 
-    ghost view = { λ c. record { ids = zip c.counters.items c.indices.items; room = min (min c.counters.room c.indices.room) (min (vec_capacity c.bounds - vec_len c.bounds) (vec_capacity c.mask - vec_len c.mask)) } };
+    ghost view = { λ c. record {
+      ids = zip c.counters.items c.indices.items;
+      room = min (min c.counters.room c.indices.room)
+          (min (vec_capacity c.bounds - vec_len c.bounds) (vec_capacity c.mask - vec_len c.mask));
+    } };
 
     ghost invariant = { λ c. AreBeside c.counters.items c.indices.items c.bounds.items c.mask.items };
 }
@@ -176,7 +180,8 @@ fn keep_ids(
     mask: &mut Vec<u64>,
 )
     requires { AreBeside counters.old.items indices.old.items bounds.old.items mask.old.items }
-    ensures ids { zip counters.new.items indices.new.items ≡ items_where_true (first_bits mask.old.items (length counters.old.items)) (zip counters.old.items indices.old.items) }
+    ensures ids { zip counters.new.items indices.new.items
+        ≡ items_where_true (first_bits mask.old.items (length counters.old.items)) (zip counters.old.items indices.old.items) }
     ensures beside { AreBeside counters.new.items indices.new.items bounds.new.items mask.new.items }
     ensures few { length counters.new.items ≤ length counters.old.items }
     ensures capacity_of_counters { counters.old.room ≤ counters.new.room }

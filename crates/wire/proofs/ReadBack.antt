@@ -170,7 +170,13 @@ mutation_back Delete h = refl
 
 pub operation_back : (table : List ℕ) (s : Stamped) → IsSent table s → operation_form table (operation_json s) ≡ Ok s
 operation_back table s h =
-    rw (id_back table s.id h.id, pairs_back table 0 s.vector h.vector, place_back table s.place h.keys h.few, mutation_back s.mutation h.mutation) refl
+    rw (
+      id_back table s.id h.id,
+      pairs_back table 0 s.vector h.vector,
+      place_back table s.place h.keys h.few,
+      mutation_back s.mutation
+          h.mutation,
+    ) refl
 
 pub hello_back : (table : List ℕ) (v : Vector) → IsSentVector table 0 v → and_then (hello_of table) (phrase_form (hello_json v)) ≡ Ok v
 hello_back table v h = rw (pairs_back table 0 v h) refl

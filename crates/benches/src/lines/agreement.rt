@@ -34,7 +34,10 @@ pub fn compare(rt: &impl Print, alloc: Global, samples: &[Sample]) -> io::Result
 /// `AllocError` if allocation fails.
 fn is_read_back(alloc: Global, ops: &[Op], table: &ReplicaTable) -> Result<bool, AllocError>
     ensures sent { All (λ o. CanBeSent table.now (stamped_of table.now o)) ops.now → IfOk result IsTrue }
-    ensures same { IfOk result (λ same. IsTrue same → (again : List Stamped) × (bundle_form table.now (bundle_text (map (stamped_of table.now) ops.now)) ≡ Ok again) × (bundle_text again ≡ bundle_text (map (stamped_of table.now) ops.now))) }
+    ensures same { IfOk result
+        (λ same. IsTrue same
+        → (again : List Stamped) × (bundle_form table.now (bundle_text (map (stamped_of table.now) ops.now)) ≡ Ok again)
+        × (bundle_text again ≡ bundle_text (map (stamped_of table.now) ops.now))) }
 {
     let text = write_bundle(alloc, ops, table)?;
     match read_bundle(alloc, text.as_slice(), table) {

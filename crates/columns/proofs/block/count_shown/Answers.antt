@@ -11,7 +11,8 @@ overflow_add-shown c =
     let xs = c.args.ids.now in
     let i = c.loop-at.at in
     let sum : c.loop-at.shown + suc (length (items_where_true (drop (i + 1) bs) (drop (i + 1) xs))) ≡ length (items_where_true bs xs) =
-    ap (λ zs. c.loop-at.shown + length zs) (sym (shown_here bs xs i (id_at 0 0) c.requires c.loop-at-test.true c.if-flags-at.true)) ∙ c.loop-at.invariant in
+    ap (λ zs. c.loop-at.shown + length zs) (sym (shown_here bs xs i (id_at 0 0) c.requires c.loop-at-test.true c.if-flags-at.true))
+    ∙ c.loop-at.invariant in
     let most = shown_most bs xs in
     search rules
 
@@ -22,9 +23,14 @@ loop-at-preserved c =
     let i = c.loop-at.at in
     elim c.if-flags-at.branch [
       | then-flags-at w ↦
-          let sum : c.loop-at.shown + suc (length (items_where_true (drop (i + 1) bs) (drop (i + 1) xs))) ≡ length (items_where_true bs xs) =
-          ap (λ zs. c.loop-at.shown + length zs) (sym (shown_here bs xs i (id_at 0 0) c.requires c.loop-at-test.true w.if-flags-at.true)) ∙ c.loop-at.invariant in
+          let sum : c.loop-at.shown + suc (length (items_where_true (drop (i + 1) bs) (drop (i + 1) xs)))
+          ≡ length (items_where_true bs xs) =
+          ap (λ zs. c.loop-at.shown + length zs) (sym (shown_here bs xs i (id_at 0 0) c.requires c.loop-at-test.true w.if-flags-at.true))
+          ∙ c.loop-at.invariant in
           rw w.shown-is (omega (arith, sum))
       | else-flags-at w ↦
-          rw w.shown-is (ap (λ zs. c.loop-at.shown + length zs) (sym (hidden_here bs xs i (id_at 0 0) c.requires c.loop-at-test.true w.if-flags-at.false)) ∙ c.loop-at.invariant)
+          rw w.shown-is
+          (ap (λ zs. c.loop-at.shown + length zs)
+          (sym (hidden_here bs xs i (id_at 0 0) c.requires c.loop-at-test.true w.if-flags-at.false))
+          ∙ c.loop-at.invariant)
     ]

@@ -11,14 +11,16 @@ pub returns-then-lt : goal.returns-then-lt
 returns-then-lt c =
     let xs = c.args.ids.now in
     let x = c.index-ids-index.result in
-    stop_here c.args.id.now xs c.args.from c.loop-index.index x (slice_get_read xs _ c.loop-index.index x refl c.loop-index-test.true c.index-ids-index.is)
+    stop_here c.args.id.now xs c.args.from c.loop-index.index x
+    (slice_get_read xs _ c.loop-index.index x refl c.loop-index-test.true c.index-ids-index.is)
     (let smaller : is_smaller_id x c.args.id.now ≡ true = search rules in smaller) c.loop-index.invariant
 
 pub loop-index-preserved : goal.loop-index-preserved
 loop-index-preserved c =
     let xs = c.args.ids.now in
     let x = c.index-ids-index.result in
-    pass_on c.args.id.now xs c.args.from c.loop-index.index x (slice_get_read xs _ c.loop-index.index x refl c.loop-index-test.true c.index-ids-index.is)
+    pass_on c.args.id.now xs c.args.from c.loop-index.index x
+    (slice_get_read xs _ c.loop-index.index x refl c.loop-index-test.true c.index-ids-index.is)
     (let greater : is_smaller_id x c.args.id.now ≡ false = search rules in greater) c.loop-index.invariant
 
 pub returns : goal.returns

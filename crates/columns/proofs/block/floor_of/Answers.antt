@@ -7,4 +7,5 @@ pub loop-id-preserved : goal.loop-id-preserved
 loop-id-preserved c =
     let xs = c.args.ids.now in
     let x = c.id-item.result in
-    floor_next c.lower-floor.result xs c.loop-id.id-index x (slice_get_read xs _ c.loop-id.id-index x refl c.loop-id-test.true c.id-item.is) (c.lower-floor.ensures (take c.loop-id.id-index xs) c.loop-id.invariant)
+    floor_next c.lower-floor.result xs c.loop-id.id-index x (slice_get_read xs _ c.loop-id.id-index x refl c.loop-id-test.true c.id-item.is)
+    (c.lower-floor.ensures (take c.loop-id.id-index xs) c.loop-id.invariant)

@@ -12,8 +12,12 @@ loop-at-preserved c =
     let i = c.loop-at.at in
     elim c.if-flags-at.branch [
       | else-flags-at w ↦
-          rw w.left-is (c.loop-at.invariant ∙ ap (λ zs. slice_get zs c.loop-at.left) (hidden_here bs xs i (id_at 0 0) c.requires c.loop-at-test.true w.if-flags-at.false))
+          rw w.left-is
+          (c.loop-at.invariant ∙ ap (λ zs. slice_get zs c.loop-at.left)
+          (hidden_here bs xs i (id_at 0 0) c.requires c.loop-at-test.true w.if-flags-at.false))
       | then-flags-at+else-left-eq0 w ↦
-          rw w.left-is (c.loop-at.invariant ∙ ap (λ zs. slice_get zs c.loop-at.left) (shown_here bs xs i (id_at 0 0) c.requires c.loop-at-test.true w.if-flags-at.true)
+          rw w.left-is
+          (c.loop-at.invariant ∙ ap (λ zs. slice_get zs c.loop-at.left)
+          (shown_here bs xs i (id_at 0 0) c.requires c.loop-at-test.true w.if-flags-at.true)
           ∙ get_next (get_or xs i (id_at 0 0)) (items_where_true (drop (i + 1) bs) (drop (i + 1) xs)) c.loop-at.left w.if-left-eq0.false)
     ]

@@ -16,7 +16,11 @@ loop-at-preserved c =
           let x = w.index-ids-at.result in
           let here = shown_here bs xs i x c.requires c.loop-at-test.true w.if-flags-at.true ∙ ap (λ y. y ∷ rest) (sym w.index-ids-at.is) in
           rw w.items-is
-          (ap (λ ys. ys ++ rest) w.in_ok-push.ensures.items ∙ append_assoc c.loop-at.items.items (x ∷ []) rest ∙ ap (λ zs. c.loop-at.items.items ++ zs) (sym here) ∙ c.loop-at.invariant)
+          (ap (λ ys. ys ++ rest) w.in_ok-push.ensures.items ∙ append_assoc c.loop-at.items.items (x ∷ []) rest
+          ∙ ap (λ zs. c.loop-at.items.items ++ zs) (sym here) ∙ c.loop-at.invariant)
       | else-flags-at w ↦
-          rw w.items-is (ap (λ zs. c.loop-at.items.items ++ zs) (sym (hidden_here bs xs i (id_at 0 0) c.requires c.loop-at-test.true w.if-flags-at.false)) ∙ c.loop-at.invariant)
+          rw w.items-is
+          (ap (λ zs. c.loop-at.items.items ++ zs)
+          (sym (hidden_here bs xs i (id_at 0 0) c.requires c.loop-at-test.true w.if-flags-at.false))
+          ∙ c.loop-at.invariant)
     ]

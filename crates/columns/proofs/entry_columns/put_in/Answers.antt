@@ -10,33 +10,40 @@ use Rattle.columns.proofs.entry_columns.put_in.Goals as goal
 
 pub replace-requires : goal.replace-requires
 replace-requires g c =
-    let s : StandsAt id_cmp c.args.id (keys_of (entries_of c.args.ids.now.ids c.args.beside.now.items)) c.in-Ok.position = c.in-Ok.ensures in
-    let w : c.in-Ok.position + 1 ≤ length c.args.beside.now.items = within-columns c.args.ids.now.ids c.args.beside.now.items (c.in-Ok.position + 1) c.requires.entries.long (let h = s.within in omega (arith, h)) in
+    let s : StandsAt id_cmp c.args.id
+    (keys_of (entries_of c.args.ids.now.ids c.args.beside.now.items)) c.in-Ok.position = c.in-Ok.ensures in
+    let w : c.in-Ok.position + 1 ≤ length c.args.beside.now.items = within-columns c.args.ids.now.ids c.args.beside.now.items
+    (c.in-Ok.position + 1) c.requires.entries.long (let h = s.within in omega (arith, h)) in
     omega (arith, w)
 
 pub insert-requires-clause-within : goal.insert-requires-clause-within
 insert-requires-clause-within g c =
-    let s : GoesTo id_cmp c.args.id (keys_of (entries_of c.args.ids.now.ids c.args.beside.now.items)) c.in-Err.position = c.in-Err.ensures in
-    let w : c.in-Err.position ≤ length c.args.beside.now.items = within-columns c.args.ids.now.ids c.args.beside.now.items c.in-Err.position c.requires.entries.long s.within in
+    let s : GoesTo id_cmp c.args.id
+    (keys_of (entries_of c.args.ids.now.ids c.args.beside.now.items)) c.in-Err.position = c.in-Err.ensures in
+    let w : c.in-Err.position ≤ length c.args.beside.now.items = within-columns c.args.ids.now.ids c.args.beside.now.items
+    c.in-Err.position c.requires.entries.long s.within in
     let e = c.requires.entries.long in
     omega (arith, w, e)
 
 pub insert-requires-in-Err-clause-within : goal.insert-requires-in-Err-clause-within
 insert-requires-in-Err-clause-within g c =
-    let s : GoesTo id_cmp c.args.id (keys_of (entries_of c.args.ids.now.ids c.args.beside.now.items)) c.in-Err.position = c.in-Err.ensures in
+    let s : GoesTo id_cmp c.args.id
+    (keys_of (entries_of c.args.ids.now.ids c.args.beside.now.items)) c.in-Err.position = c.in-Err.ensures in
     within-columns c.args.ids.now.ids c.args.beside.now.items c.in-Err.position c.requires.entries.long s.within
 
 pub returns-in-Ok-clause-entries : goal.returns-in-Ok-clause-entries
 returns-in-Ok-clause-entries g c =
     ap (λ bs. entries_of c.args.ids.now.ids bs) c.replace.ensures.items
-    ∙ put_there-columns c.args.ids.now.ids c.args.beside.now.items c.args.id c.args.value c.in-Ok.position c.requires.entries.long c.in-Ok.ensures
+    ∙ put_there-columns c.args.ids.now.ids c.args.beside.now.items c.args.id c.args.value c.in-Ok.position c.requires.entries.long
+    c.in-Ok.ensures
 
 pub returns-in-Ok-clause-indices : goal.returns-in-Ok-clause-indices
 returns-in-Ok-clause-indices g c =
     let ids = c.args.ids.now.ids in
     let keys = keys_of (entries_of ids c.args.beside.now.items) in
     let s : StandsAt id_cmp c.args.id keys c.in-Ok.position = c.in-Ok.ensures in
-    ap (λ b. cond b (indices_of ids) (insert (indices_of ids) (rank id_cmp c.args.id keys) c.args.index)) (sym (there_at id_cmp id_total c.args.id keys c.in-Ok.position c.args.id s.within (s.ties c.args.id)))
+    ap (λ b. cond b (indices_of ids) (insert (indices_of ids) (rank id_cmp c.args.id keys) c.args.index))
+    (sym (there_at id_cmp id_total c.args.id keys c.in-Ok.position c.args.id s.within (s.ties c.args.id)))
 
 pub returns-in-Err-clause-entries : goal.returns-in-Err-clause-entries
 returns-in-Err-clause-entries g c =

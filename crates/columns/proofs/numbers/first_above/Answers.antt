@@ -10,7 +10,8 @@ loop-low-preserved-then-id_at-counter c =
     let here : middle < c.loop-low.high = halfway c.loop-low.low c.loop-low.high c.loop-low-test.true in
     let most = inv.within in
     record {
-      before = not_above_to c.args.counter c.args.entries.now.items middle c.id_at.result c.requires (omega arith) c.id_at.ensures c.if-id_at-counter.true;
+      before = not_above_to c.args.counter c.args.entries.now.items middle c.id_at.result c.requires
+          (omega arith) c.id_at.ensures c.if-id_at-counter.true;
       from = inv.from;
       ordered = omega arith;
       within = most;
@@ -24,7 +25,8 @@ loop-low-preserved c =
     let most = inv.within in
     record {
       before = inv.before;
-      from = above_from c.args.counter c.args.entries.now.items middle c.id_at.result c.requires (omega arith) c.id_at.ensures (omega (arith, c.if-id_at-counter.false));
+      from = above_from c.args.counter c.args.entries.now.items middle c.id_at.result c.requires (omega arith) c.id_at.ensures
+          (omega (arith, c.if-id_at-counter.false));
       ordered = omega arith;
       within = omega arith;
     }
@@ -34,4 +36,5 @@ returns-clause-above c =
     let inv = c.loop-low.invariant in
     let least = inv.ordered in
     let same : c.loop-low.high ≡ c.loop-low.low = omega arith in
-    dropped_above c.args.counter c.args.entries.now.items c.loop-low.low inv.before (subst (AreAbove c.args.counter c.args.entries.now.items) same inv.from)
+    dropped_above c.args.counter c.args.entries.now.items c.loop-low.low inv.before
+    (subst (AreAbove c.args.counter c.args.entries.now.items) same inv.from)

@@ -11,7 +11,9 @@ split_off-requires c =
     let runs = c.args.blocks.now.items in
     let k = c.args.last.block in
     let r = c.index_mut.result.now in
-    let is : slice_get runs k ≡ Some r = slice_get_read runs _ k r refl c.requires.inside (c.index_mut.ensures.value ∙ ap (λ rs. get_or rs k r) c.reserve.ensures.items) in
+    let is : slice_get runs k
+    ≡ Some r = slice_get_read runs _ k r refl c.requires.inside
+    (c.index_mut.ensures.value ∙ ap (λ rs. get_or rs k r) c.reserve.ensures.items) in
     let full : 512 ≤ length r.items = subst (λ xs. 512 ≤ length xs) (items_here runs k r is) c.requires.full in
     search rules
 
@@ -21,17 +23,23 @@ returns-in_err-back-clause-same c =
     let k = c.args.last.block in
     let r = c.index_mut.result.now in
     let q = c.split_off.new.self in
-    let is : slice_get runs k ≡ Some r = slice_get_read runs _ k r refl c.requires.inside (c.index_mut.ensures.value ∙ ap (λ rs. get_or rs k r) c.reserve.ensures.items) in
+    let is : slice_get runs k
+    ≡ Some r = slice_get_read runs _ k r refl c.requires.inside
+    (c.index_mut.ensures.value ∙ ap (λ rs. get_or rs k r) c.reserve.ensures.items) in
     rw c.reserve.ensures.items
-    (same_list runs c.args.homes.now.entries k r q c.requires.blocks is c.split_off.ensures.number c.in_err-back.ensures.refused_items c.in_err-back.ensures.refused_flags c.split_off.ensures.kept)
+    (same_list runs c.args.homes.now.entries k r q c.requires.blocks is c.split_off.ensures.number c.in_err-back.ensures.refused_items
+    c.in_err-back.ensures.refused_flags c.split_off.ensures.kept)
 
 pub move_home-requires : goal.move_home-requires
 move_home-requires c =
     let runs = c.args.blocks.now.items in
     let k = c.args.last.block in
     let r = c.index_mut.result.now in
-    let is : slice_get runs k ≡ Some r = slice_get_read runs _ k r refl c.requires.inside (c.index_mut.ensures.value ∙ ap (λ rs. get_or rs k r) c.reserve.ensures.items) in
-    have_homes runs c.args.homes.now.entries k k c.clamp-at.result r c.in_ok-back.back.items c.requires.blocks is c.in_ok-back.ensures.back_items
+    let is : slice_get runs k
+    ≡ Some r = slice_get_read runs _ k r refl c.requires.inside
+    (c.index_mut.ensures.value ∙ ap (λ rs. get_or rs k r) c.reserve.ensures.items) in
+    have_homes runs c.args.homes.now.entries k k c.clamp-at.result r c.in_ok-back.back.items c.requires.blocks is
+    c.in_ok-back.ensures.back_items
 
 pub returns-clause-same : goal.returns-clause-same
 returns-clause-same c =
@@ -40,11 +48,15 @@ returns-clause-same c =
     let r = c.index_mut.result.now in
     let q = c.split_off.new.self in
     let b = c.in_ok-back.back in
-    let is : slice_get runs k ≡ Some r = slice_get_read runs _ k r refl c.requires.inside (c.index_mut.ensures.value ∙ ap (λ rs. get_or rs k r) c.reserve.ensures.items) in
+    let is : slice_get runs k
+    ≡ Some r = slice_get_read runs _ k r refl c.requires.inside
+    (c.index_mut.ensures.value ∙ ap (λ rs. get_or rs k r) c.reserve.ensures.items) in
     let inserted : c.insert.new.self.items ≡ insert (set c.reserve.new.self.items k q) (k + 1) b = search rules in
     rw (inserted ∙ ap (λ rs. insert (set rs k q) (k + 1) b) c.reserve.ensures.items)
-    (cut_list runs c.args.homes.now.entries c.move_home.new.homes.entries k c.clamp-at.result r q b c.requires.blocks is c.split_off.ensures.number c.in_ok-back.ensures.items c.in_ok-back.ensures.flags
-    c.in_ok-back.ensures.back_items c.in_ok-back.ensures.back_flags c.move_home.ensures.moved c.in_ok-back.ensures.back_room c.split_off.ensures.kept)
+    (cut_list runs c.args.homes.now.entries c.move_home.new.homes.entries k c.clamp-at.result r q b c.requires.blocks is
+    c.split_off.ensures.number c.in_ok-back.ensures.items c.in_ok-back.ensures.flags
+    c.in_ok-back.ensures.back_items c.in_ok-back.ensures.back_flags c.move_home.ensures.moved c.in_ok-back.ensures.back_room
+    c.split_off.ensures.kept)
 
 pub returns-clause-room : goal.returns-clause-room
 returns-clause-room c =
@@ -53,6 +65,10 @@ returns-clause-room c =
     let r = c.index_mut.result.now in
     let q = c.split_off.new.self in
     let b = c.in_ok-back.back in
-    let is : slice_get runs k ≡ Some r = slice_get_read runs _ k r refl c.requires.inside (c.index_mut.ensures.value ∙ ap (λ rs. get_or rs k r) c.reserve.ensures.items) in
+    let is : slice_get runs k
+    ≡ Some r = slice_get_read runs _ k r refl c.requires.inside
+    (c.index_mut.ensures.value ∙ ap (λ rs. get_or rs k r) c.reserve.ensures.items) in
     let inserted : c.insert.new.self.items ≡ insert (set c.reserve.new.self.items k q) (k + 1) b = search rules in
-    subst (λ n. 0 < n) (sym (ap (λ rs. room_at rs k) (inserted ∙ ap (λ rs. insert (set rs k q) (k + 1) b) c.reserve.ensures.items) ∙ room_cut runs k r q b is)) c.in_ok-back.ensures.room
+    subst (λ n. 0 < n)
+    (sym (ap (λ rs. room_at rs k) (inserted ∙ ap (λ rs. insert (set rs k q) (k + 1) b) c.reserve.ensures.items)
+    ∙ room_cut runs k r q b is)) c.in_ok-back.ensures.room

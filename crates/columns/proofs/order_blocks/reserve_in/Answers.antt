@@ -12,7 +12,8 @@ returns-clause-same c = λ homes are.
     let k = c.args.block in
     let r = c.index_mut.result.now in
     let is : slice_get runs k ≡ Some r = slice_get_read runs _ k r refl c.requires c.index_mut.ensures.value in
-    same_list runs homes k r c.reserve_one.new.self are is c.reserve_one.ensures.number c.reserve_one.ensures.items c.reserve_one.ensures.flags c.reserve_one.ensures.kept
+    same_list runs homes k r c.reserve_one.new.self are is c.reserve_one.ensures.number c.reserve_one.ensures.items
+    c.reserve_one.ensures.flags c.reserve_one.ensures.kept
 
 pub returns-clause-room : goal.returns-clause-room
 returns-clause-room c =

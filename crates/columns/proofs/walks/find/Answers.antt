@@ -31,13 +31,17 @@ loop-block-preserved c =
     elim c.if-number-home.branch [
       | then-number-home+in_default w ↦
           let r = w.index-blocks-block-then-number-home.result in
-          let is : slice_get runs k ≡ Some r = slice_get_read runs _ k r refl c.loop-block-test.true w.index-blocks-block-then-number-home.is in
+          let is : slice_get runs k
+          ≡ Some r = slice_get_read runs _ k r refl c.loop-block-test.true w.index-blocks-block-then-number-home.is in
           lacks_block runs k r is a c.loop-block.invariant w.in_default.ensures
       | else-number-home w ↦
           let r = c.index-blocks-block.result in
           let is : slice_get runs k ≡ Some r = slice_get_read runs _ k r refl c.loop-block-test.true c.index-blocks-block.is in
-          lacks_block runs k r is a c.loop-block.invariant (lacks_other a r.items (λ there. let home = c.requires k r is there in let other = w.if-number-home.false in absurd (search rules)))
+          lacks_block runs k r is a c.loop-block.invariant
+          (lacks_other a r.items
+          (λ there. let home = c.requires k r is there in let other = w.if-number-home.false in absurd (search rules)))
     ]
 
 pub returns : goal.returns
-returns c = ap (has_item c.args.id.now) (sym (before_end c.args.blocks.now c.loop-block.block 0 c.loop-block-test.false)) ∙ c.loop-block.invariant
+returns c = ap (has_item c.args.id.now) (sym (before_end c.args.blocks.now c.loop-block.block 0 c.loop-block-test.false))
+    ∙ c.loop-block.invariant

@@ -18,7 +18,8 @@ returns-in-Some c =
     let k = c.loop-block.block in
     let r = c.index-blocks-block.result in
     let is : slice_get runs k ≡ Some r = slice_get_read runs _ k r refl c.loop-block-test.true c.index-blocks-block.is in
-    come_in runs c.args.id.now c.args.from.block c.args.from.index k c.loop-block.start r is c.loop-block.invariant c.in-Some.index c.in-Some.ensures
+    come_in runs c.args.id.now c.args.from.block c.args.from.index k c.loop-block.start r is c.loop-block.invariant c.in-Some.index
+    c.in-Some.ensures
 
 pub loop-block-preserved : goal.loop-block-preserved
 loop-block-preserved c =
@@ -36,4 +37,5 @@ returns c =
     let inside : length runs - 1 < length runs = omega (arith, some) in
     let is : slice_get runs (length runs - 1) ≡ Some r = slice_get_read runs _ (length runs - 1) r refl inside c.index-blocks-last.is in
     rw c.len.ensures.items
-    (come_out runs c.args.id.now c.args.from.block c.args.from.index c.loop-block.block c.loop-block.start (length runs - 1) r c.loop-block-test.false is (omega (arith, some)) c.loop-block.invariant)
+    (come_out runs c.args.id.now c.args.from.block c.args.from.index c.loop-block.block c.loop-block.start
+    (length runs - 1) r c.loop-block-test.false is (omega (arith, some)) c.loop-block.invariant)

@@ -10,7 +10,8 @@ returns-then-left-shown c =
     let k = c.loop-block.block-index in
     let r = c.block-item.result in
     let is : slice_get runs k ≡ Some r = slice_get_read runs _ k r refl c.loop-block-test.true c.block-item.is in
-    let inside : c.loop-block.left < length (items_where_true r.flags r.items) = subst (λ n. c.loop-block.left < n) c.shown.ensures c.if-left-shown.true in
+    let inside : c.loop-block.left < length (items_where_true r.flags r.items) = subst
+    (λ n. c.loop-block.left < n) c.shown.ensures c.if-left-shown.true in
     c.nth_shown.ensures ∙ sym (shown_in runs k r is c.loop-block.left inside) ∙ sym c.loop-block.invariant
 
 pub loop-block-preserved : goal.loop-block-preserved
@@ -19,5 +20,6 @@ loop-block-preserved c =
     let k = c.loop-block.block-index in
     let r = c.block-item.result in
     let is : slice_get runs k ≡ Some r = slice_get_read runs _ k r refl c.loop-block-test.true c.block-item.is in
-    let past : length (items_where_true r.flags r.items) ≤ c.loop-block.left = subst (λ n. n ≤ c.loop-block.left) c.shown.ensures c.if-left-shown.false in
+    let past : length (items_where_true r.flags r.items) ≤ c.loop-block.left = subst
+    (λ n. n ≤ c.loop-block.left) c.shown.ensures c.if-left-shown.false in
     rw c.shown-left.ensures (c.loop-block.invariant ∙ shown_past runs k r is c.loop-block.left past)

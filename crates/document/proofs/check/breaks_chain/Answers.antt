@@ -13,10 +13,12 @@ returns-in-Some c =
     ∙ c.in-Some.ensures.found in
     (λ t. not (c.get.ensures t == c.get-in-Some.ensures t))
     ∙ ap not
-    (chain_there (applied c.args.log.now.entries) table c.args.op.now.deps c.args.applied.now c.requires.distinct c.requires.width c.requires.beside c.requires.applied c.in-Some.index c.args.op.now.id.replica there)
+    (chain_there (applied c.args.log.now.entries) table c.args.op.now.deps c.args.applied.now c.requires.distinct c.requires.width
+    c.requires.beside c.requires.applied c.in-Some.index c.args.op.now.id.replica there)
 
 pub returns-in-None : goal.returns-in-None
 returns-in-None c =
     sym (chain_absent
-    (applied c.args.log.now.entries) c.args.log.now.table c.args.op.now.deps c.args.applied.now c.requires.distinct c.requires.applied c.args.op.now.id.replica
+    (applied c.args.log.now.entries) c.args.log.now.table c.args.op.now.deps c.args.applied.now c.requires.distinct c.requires.applied
+    c.args.op.now.id.replica
     (ap (λ ps. is_member ps c.args.op.now.id.replica) (sym c.table.ensures) ∙ (c.in-None.ensures {u = tt}).none.0 refl))

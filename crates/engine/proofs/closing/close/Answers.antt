@@ -35,7 +35,8 @@ pub loop-client-preserved : goal.loop-client-preserved
 loop-client-preserved g c = (
   tt,
   tt,
-  gathering_more _ _ _ c.next.new.self.rest.items c.in-Some.client _ _ _ _ _ c.loop-client.invariant.2 c.in-Some.ensures.steps.0 c.end.ensures.taker.2 c.end.ensures.seen c.notice-notice.ensures.published,
+  gathering_more _ _ _ c.next.new.self.rest.items c.in-Some.client _ _ _ _ _ c.loop-client.invariant.2 c.in-Some.ensures.steps.0
+      c.end.ensures.taker.2 c.end.ensures.seen c.notice-notice.ensures.published,
   c.end.ensures.taker.1 ∙ c.loop-client.invariant.3,
   c.end.ensures.taker.0 ∙ c.loop-client.invariant.4,
 )

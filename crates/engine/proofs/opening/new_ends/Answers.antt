@@ -25,7 +25,8 @@ loop-number-preserved g c =
       known = c.sender.ensures.same.2 ∙ before.known;
       made = search rules;
       capacity = c.sender.ensures.capacity ∙ before.capacity;
-      are = clients_snoc c.sender.new.self.pass.table_id 0 c.loop-number.number c.loop-number.clients.items c.push_reserved.new.self.items client pushed
+      are = clients_snoc c.sender.new.self.pass.table_id 0 c.loop-number.number c.loop-number.clients.items c.push_reserved.new.self.items
+          client pushed
           (subst (λ (q : TableId). AreClients q 0 c.loop-number.clients.items) (sym queue) before.are) before.count (search rules)
           (search rules);
       count = search rules;

@@ -13,7 +13,8 @@ fill-requires g c =
     let own = g.N.EngineName.own in
     let table = g.N.EngineName.table in
     let y = answer_of c.handled.inside.reply in
-    let popped = answers_pop own table c.args.notice.now c.loop-handled.held.items c.pop.new.self.items c.in-Some.handled c.in-Some.ensures.items c.loop-handled.invariant.0 in
+    let popped = answers_pop own table c.args.notice.now c.loop-handled.held.items c.pop.new.self.items c.in-Some.handled
+    c.in-Some.ensures.items c.loop-handled.invariant.0 in
     subst (λ (a : Answered). IsAnswer own table c.again.result (submitted_of table a.item) y) (sym c.deref_mut.ensures.value)
     (subst (λ (G : List Entry). IsAnswer own table G (submitted_of table c.handled.inside.envelope.answer.value.item) y)
     (sym c.again.ensures)
@@ -21,7 +22,8 @@ fill-requires g c =
 
 pub loop-handled-preserved : goal.loop-handled-preserved
 loop-handled-preserved g c = (
-  (answers_pop g.N.EngineName.own g.N.EngineName.table c.args.notice.now c.loop-handled.held.items c.pop.new.self.items c.in-Some.handled c.in-Some.ensures.items c.loop-handled.invariant.0).0,
+  (answers_pop g.N.EngineName.own g.N.EngineName.table c.args.notice.now c.loop-handled.held.items c.pop.new.self.items c.in-Some.handled
+      c.in-Some.ensures.items c.loop-handled.invariant.0).0,
   c.pop.ensures.capacity ∙ c.loop-handled.invariant.1,
 )
 

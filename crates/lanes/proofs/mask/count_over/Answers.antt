@@ -25,7 +25,8 @@ loop-index-preserved c =
     c.mask_over.ensures l.invariant
 
 pub loop-index-2-init : goal.loop-index-2-init
-loop-index-2-init c = c.loop-index.invariant ∙ ap (λ m. count_true (take m (over c.args.counters.now c.args.bounds.now))) (omega (arith, c.as_chunks.ensures.front_len))
+loop-index-2-init c = c.loop-index.invariant
+    ∙ ap (λ m. count_true (take m (over c.args.counters.now c.args.bounds.now))) (omega (arith, c.as_chunks.ensures.front_len))
 
 pub overflow_add-count-in-loop-index-2 : goal.overflow_add-count-in-loop-index-2
 overflow_add-count-in-loop-index-2 c =

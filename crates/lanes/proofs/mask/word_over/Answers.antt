@@ -9,7 +9,8 @@ use Rattle.lanes.proofs.mask.word_over.Goals as goal
 pub loop-index-preserved : goal.loop-index-preserved
 loop-index-preserved c =
     let l = c.loop-index in
-    word_block l.index c.args.counters.now c.args.bounds.now _ _ l.word _ c.requires.columns (omega (arith, c.as_chunks.ensures.front_len)) c.requires.few
+    word_block l.index c.args.counters.now c.args.bounds.now _ _ l.word _ c.requires.columns
+    (omega (arith, c.as_chunks.ensures.front_len)) c.requires.few
     (block_is c.args.counters.now _ l.index c.as_chunks.ensures.front (omega (arith, c.as_chunks.ensures.front_len)))
     (block_is c.args.bounds.now _ l.index c.as_chunks-2.ensures.front (omega (arith, c.as_chunks.ensures.front_len)))
     c.mask_over.ensures l.invariant
@@ -28,7 +29,8 @@ loop-index-2-preserved c =
     let bit = bit_over p l.index counters bounds _ _ _ c.requires.columns within
     (c.as_chunks.ensures.back ∙ ap (λ m. drop m counters) (omega (arith, c.as_chunks.ensures.front_len)))
     (c.as_chunks-2.ensures.back ∙ ap (λ m. drop m bounds) (omega (arith, c.as_chunks.ensures.front_len))) c.from.ensures in
-    word_next (p + l.index) (over counters bounds) l.word _ (omega arith) (omega arith) bit l.invariant ∙ ap (λ m. mask_l (take m (over counters bounds))) (omega arith)
+    word_next (p + l.index) (over counters bounds) l.word _ (omega arith) (omega arith) bit l.invariant
+    ∙ ap (λ m. mask_l (take m (over counters bounds))) (omega arith)
 
 pub returns : goal.returns
 returns c =

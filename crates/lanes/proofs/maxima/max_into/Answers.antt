@@ -21,4 +21,5 @@ loop-index-2-preserved c =
 pub returns : goal.returns
 returns c =
     let l = c.loop-index-2 in
-    l.invariant ∙ raised_all l.index c.args.a.now c.args.b.now (omega (arith, c.as_chunks.ensures.front_len)) (omega (arith, c.as_chunks.ensures.front_len))
+    l.invariant ∙ raised_all l.index c.args.a.now c.args.b.now (omega (arith, c.as_chunks.ensures.front_len))
+    (omega (arith, c.as_chunks.ensures.front_len))

@@ -14,7 +14,8 @@ pub returns : goal.returns
 returns c =
     let v = by_table c.args.table.now c.args.vector.now in
     let all : c.all.result ≡ list_all (λ h. key_covered v (hop_of h)) c.hops.result.now =
-    all_from_yields_List (λ h. key_covered v (hop_of h)) _ _ c.all.result c.all.ensures.ran (YieldsList-from_slice c.hops.result.now cc) (λ x b q k. search (rules, tests)) in
+    all_from_yields_List (λ h. key_covered v (hop_of h)) _ _ c.all.result c.all.ensures.ran (YieldsList-from_slice c.hops.result.now cc)
+    (λ x b q k. search (rules, tests)) in
     all
     ∙ sym (list_all-map (key_covered v) hop_of c.hops.result.now)
     ∙ ap (list_all (key_covered v)) c.hops.ensures

@@ -17,7 +17,8 @@ returns-then-is_some c =
     let e = element_of c.args.op.now.place in
     let member : is_member ps c.args.op.now.id.replica ≡ true = search rules in
     let all : c.all.result ≡ list_all (λ h. key_of_member ps (hop_of h)) c.hops.result.now =
-    all_from_yields_List (λ h. key_of_member ps (hop_of h)) _ _ c.all.result c.all.ensures.ran (YieldsList-from_slice c.hops.result.now cc) (λ x b q k. search (rules, tests)) in
+    all_from_yields_List (λ h. key_of_member ps (hop_of h)) _ _ c.all.result c.all.ensures.ran (YieldsList-from_slice c.hops.result.now cc)
+    (λ x b q k. search (rules, tests)) in
     all
     ∙ sym (list_all-map (key_of_member ps) hop_of c.hops.result.now)
     ∙ ap (list_all (key_of_member ps)) c.hops.ensures

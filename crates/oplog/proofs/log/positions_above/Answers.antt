@@ -29,5 +29,6 @@ returns c =
     let ns = c.args.positions.now in
     let last : c.loop-index.index ≡ length ns = omega arith in
     sym (append-nil c.loop-index.above.items)
-    ∙ ap (λ l. c.loop-index.above.items ++ numbers_above (drop c.loop-index.index c.args.vector.now) (numbers_of l)) (sym (ap (λ i. drop i ns) last ∙ drop-length ns))
+    ∙ ap (λ l. c.loop-index.above.items ++ numbers_above (drop c.loop-index.index c.args.vector.now) (numbers_of l))
+    (sym (ap (λ i. drop i ns) last ∙ drop-length ns))
     ∙ c.loop-index.invariant

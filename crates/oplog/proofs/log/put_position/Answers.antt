@@ -21,7 +21,8 @@ returns-clause-numbers c =
     let f = λ (n : Numbered OpId). n.entries in
     map-set f ns c.args.index c.put.new.self
     ∙ ap (set (numbers_of ns) c.args.index) (c.put.ensures.entries
-    ∙ ap (put id_cmp c.args.id c.args.position) (ap f c.index_mut-numbers.ensures.value ∙ sym (get_or-map f ns c.args.index numbers [] c.requires.inside)))
+    ∙ ap (put id_cmp c.args.id c.args.position)
+    (ap f c.index_mut-numbers.ensures.value ∙ sym (get_or-map f ns c.args.index numbers [] c.requires.inside)))
 
 pub returns-clause-room : goal.returns-clause-room
 returns-clause-room c = λ n.

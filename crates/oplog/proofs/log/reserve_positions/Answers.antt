@@ -8,13 +8,15 @@ use Rattle.oplog.proofs.log.reserve_positions.Goals as goal
 
 pub returns-in_err-reserve_one-clause-same : goal.returns-in_err-reserve_one-clause-same
 returns-in_err-reserve_one-clause-same c =
-    numbers-kept c.loop-index.positions.items c.loop-index.index c.reserve_one.new.self c.index_mut-numbers.result.now c.index_mut-numbers.ensures.value c.reserve_one.ensures.same
+    numbers-kept c.loop-index.positions.items c.loop-index.index c.reserve_one.new.self c.index_mut-numbers.result.now
+    c.index_mut-numbers.ensures.value c.reserve_one.ensures.same
     ∙ c.loop-index.invariant.same
 
 pub returns-in_err-reserve_one-clause-kept : goal.returns-in_err-reserve_one-clause-kept
 returns-in_err-reserve_one-clause-kept c = λ n.
     let before = c.loop-index.invariant.kept n in
-    let grown = least_room-grown n c.loop-index.positions.items c.loop-index.index c.reserve_one.new.self c.index_mut-numbers.result.now c.index_mut-numbers.ensures.value c.reserve_one.ensures.kept in
+    let grown = least_room-grown n c.loop-index.positions.items c.loop-index.index c.reserve_one.new.self c.index_mut-numbers.result.now
+    c.index_mut-numbers.ensures.value c.reserve_one.ensures.kept in
     omega arith
 
 pub loop-index-preserved : goal.loop-index-preserved

@@ -24,7 +24,8 @@ loop-line-preserved g c =
     record {
       taken = omega (arith, c.in-Some.ensures.number.0, c.in-Some.ensures.number.1, c.loop-line.invariant.taken, counted);
       sent = subst (λ m. HasSubmitted table before text e c.take_line.new.self.rest.now m) (sym counted)
-          (submitted-more table before text d e c.loop-line.lines.rest.now c.in-Some.line.text.now c.take_line.new.self.rest.now n ok.0 c.loop-line.invariant.sent c.in-Some.ensures.line ok.1 ok.2 ok.3);
+          (submitted-more table before text d e c.loop-line.lines.rest.now c.in-Some.line.text.now c.take_line.new.self.rest.now n ok.0
+          c.loop-line.invariant.sent c.in-Some.ensures.line ok.1 ok.2 ok.3);
       first = first
           ∙ first_serial-next n c.count.new.self.submitted c.in-Ok.ticket.serial c.loop-line.received.first_serial
           (length before.kept) c.loop-line.invariant.first serial counted;
@@ -39,11 +40,14 @@ returns-in-Err-clause-stopped g c =
     let n : ℕ = c.loop-line.received.submitted in (
       omega (arith, c.in-Some.ensures.number.0, c.loop-line.invariant.taken),
       subst (λ (k : Client). StopsAfter (readable table text) n k c.in-Err.why) (sym c.in-Err.ensures.err.0)
-          (stops table before text c.loop-line.client c.loop-line.lines.rest.now c.in-Some.line.text.now c.take_line.new.self.rest.now n c.in-Err.why c.loop-line.invariant.sent c.in-Some.ensures.line c.in-Err.ensures.err.1),
+          (stops table before text c.loop-line.client c.loop-line.lines.rest.now c.in-Some.line.text.now c.take_line.new.self.rest.now n
+          c.in-Err.why c.loop-line.invariant.sent c.in-Some.ensures.line c.in-Err.ensures.err.1),
     )
 
 pub returns-clause-stopped : goal.returns-clause-stopped
 returns-clause-stopped g c =
-    stops-end g.N.EngineName.table c.args.client.now c.args.bundle.now c.loop-line.client c.loop-line.lines.rest.now c.take_line.new.self.rest.now
+    stops-end g.N.EngineName.table c.args.client.now c.args.bundle.now c.loop-line.client c.loop-line.lines.rest.now
+    c.take_line.new.self.rest.now
     c.loop-line.received.submitted c.loop-line.lines.taken c.take_line.new.self.taken c.cut_stop-received.result
-    c.loop-line.invariant.sent c.loop-line.invariant.taken c.in_default.ensures.none.0 c.in_default.ensures.none.1 c.in_default.ensures.none.2 c.cut_stop-received.ensures
+    c.loop-line.invariant.sent c.loop-line.invariant.taken c.in_default.ensures.none.0 c.in_default.ensures.none.1
+    c.in_default.ensures.none.2 c.cut_stop-received.ensures

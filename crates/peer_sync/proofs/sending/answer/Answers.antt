@@ -10,5 +10,6 @@ returns-clause-reads_back g c v form sent =
     let named : by_table table c.in_ok-vector.vector ≡ v =
     same_vector table c.table.result.now c.in_ok-vector.vector v
     (without_end c.args.hello.now) c.without_end.result.now c.table.ensures c.without_end.ensures c.in_ok-vector.ensures.read form in
-    answer_back table c.table-2.result.now c.in_ok-ops.ops.items c.as_slice.result.now _ c.in_ok-lines.lines.items c.table-2.ensures c.as_slice.ensures.value
+    answer_back table c.table-2.result.now c.in_ok-ops.ops.items c.as_slice.result.now _ c.in_ok-lines.lines.items c.table-2.ensures
+    c.as_slice.ensures.value
     (c.in_ok-ops.ensures.ops ∙ ap (lacked _) named) c.in_ok-lines.ensures.reads_back sent

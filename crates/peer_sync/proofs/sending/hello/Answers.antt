@@ -3,5 +3,6 @@ use Rattle.peer_sync.proofs.sending.hello.Goals as goal
 
 pub returns-clause-reads_back : goal.returns-clause-reads_back
 returns-clause-reads_back g c sent =
-    hello_back g.N.EngineName.table c.table.result.now c.in_ok-vector.vector _ c.in_ok-line.line.items _ c.table.ensures c.in_ok-vector.ensures.vector c.in_ok-push.ensures.items
+    hello_back g.N.EngineName.table c.table.result.now c.in_ok-vector.vector _ c.in_ok-line.line.items _ c.table.ensures
+    c.in_ok-vector.ensures.vector c.in_ok-push.ensures.items
     c.in_ok-line.ensures.reads_back sent

@@ -60,7 +60,8 @@ returns-clause-made c =
     let same_deps : c.in_ok-deps.deps ≡ c.applied-applied.result.now = c.in_ok-deps.ensures.cases in
     let counter : c.greatest-counter.result + 1 ≡ suc (greatest_of (λ a. true) (applied G)) =
     add-one c.greatest-counter.result ∙ ap suc (c.greatest-counter.ensures ∙ c.applied-applied.ensures.greatest) in
-    let vector : by_table table c.in_ok-deps.deps ≡ vector_of (applied G) = ap (by_table table) same_deps ∙ c.applied-applied.ensures.all in (
+    let vector : by_table table c.in_ok-deps.deps ≡ vector_of (applied G) = ap (by_table table)
+    same_deps ∙ c.applied-applied.ensures.all in (
       made_at (applied G) c.args.own command c.in_ok-place.place,
       make-placed (applied G) c.args.own command c.in_ok-place.place (Ok c.in_ok-place.place) room
           (ap (resolve (visible_items (doc (applied G)))) (sym c.expression.ensures)

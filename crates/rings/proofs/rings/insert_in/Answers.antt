@@ -16,11 +16,14 @@ returns-clause-items g c =
     let item = c.make_way-at.result.1 in
     let front = with_items_is c.args.slots.now slots (c.make_way-at.auto.slots ∙ c.deref_mut.ensures.len) in
     let done : is_ok c.insert.result ≡ true = is_ok_true _ (c.insert.ensures.succeeds c.requires.room) in
-    let put : c.insert.new.self.items ≡ insert slots at item = c.insert.ensures.items ∙ (λ t. cond (done t) (insert (front t) at item) (front t)) in
+    let put : c.insert.new.self.items ≡ insert slots at item = c.insert.ensures.items
+    ∙ (λ t. cond (done t) (insert (front t) at item) (front t)) in
     let closed : IsClosed 512 starts (starts_of c.close_ring.new.starts) c.len.result = c.close_ring.ensures.closed in
     let count : length c.insert.new.self.items ≡ c.len.result = search rules in
-    let full : length starts * 512 ≤ length slots = let a = c.make_way-at.ensures.starts in let b = c.make_way-at.ensures.slots in let d = ap length c.deref_mut.ensures.value in let h = c.requires.rings.full in omega (arith, a, b, d, h) in
-    let behind : length starts * 512 ≤ at = let a = c.make_way-at.ensures.starts in let h = c.make_way-at.ensures.behind in omega (arith, a, h) in
+    let full : length starts * 512 ≤ length slots = let a = c.make_way-at.ensures.starts in let b = c.make_way-at.ensures.slots in
+    let d = ap length c.deref_mut.ensures.value in let h = c.requires.rings.full in omega (arith, a, b, d, h) in
+    let behind : length starts * 512 ≤ at = let a = c.make_way-at.ensures.starts in let h = c.make_way-at.ensures.behind in
+    omega (arith, a, h) in
     closed_same starts (starts_of c.close_ring.new.starts) c.insert.new.self.items c.len.result count closed
     ∙ ap (λ xs. straight 512 starts xs) put
     ∙ straight-insert 512 starts slots at item full behind

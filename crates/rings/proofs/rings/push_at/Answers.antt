@@ -23,7 +23,8 @@ returns-clause-items g c =
     let first : in_ring 512 k 0 ≡ k * 512 = at_ring k 0 ∙ omega arith in
     let next : in_ring 512 (suc k) 0 ≡ k * 512 + 512 = at_ring (suc k) 0 ∙ omega arith in
     let here : in_ring 512 k o ≡ c.args.position = at_ring k o ∙ omega arith in
-    let many : length (take 512 (drop (k * 512) slots)) ≡ 512 = length-take-le 512 (drop (k * 512) slots) (let a = length-drop (k * 512) slots in omega (arith, a, inside, full)) in
+    let many : length (take 512 (drop (k * 512) slots))
+    ≡ 512 = length-take-le 512 (drop (k * 512) slots) (let a = length-drop (k * 512) slots in omega (arith, a, inside, full)) in
     let long : length ring ≡ 512 = c.push_into.ensures.length ∙ ap (λ m. length (take m (drop (k * 512) slots))) n ∙ many in
     let pushed : turned start ring ++ x ∷ [] ≡ insert (turned start (take 512 (drop (in_ring 512 k 0) slots))) o v =
     c.push_into.ensures.items ∙ (λ t. insert (turned start (take (n t) (drop (sym first t) slots))) o v) in

@@ -21,7 +21,9 @@ returns-then-position-count-clause-items g c =
     (λ t. turned s (S ++ (take o A ++ (F ++ none t))) ++ c.push_front.result ∷ [])
     ∙ (λ t. turned s (S ++ (take o A ++ append-nil F t)) ++ c.push_front.result ∷ [])
     ∙ (λ t. (drop_at S (take o A ++ F) s long t ++ take_at S (take o A ++ F) s long t) ++ c.push_front.result ∷ [])
-    ∙ pushed_round A B F S o c.args.value c.push_front-carried.result c.push_front.result (let h = c.if-position-count.true in omega (arith, h)) (c.push_front-carried.ensures ∙ ap (λ ys. c.args.value ∷ ys) whole) c.push_front.ensures
+    ∙ pushed_round A B F S o c.args.value c.push_front-carried.result c.push_front.result
+    (let h = c.if-position-count.true in omega (arith, h))
+    (c.push_front-carried.ensures ∙ ap (λ ys. c.args.value ∷ ys) whole) c.push_front.ensures
     ∙ (λ t. insert (sym (drop_at B A s same) t ++ sym (take_at B A s same) t) o c.args.value)
     ∙ ap (λ ys. insert (turned s ys) o c.args.value) (sym c.split_at_mut-back.ensures.value)
 

@@ -39,6 +39,7 @@ returns-clause-read c =
     ≡ Ok (asked_of (table_in (slice_get tables c.in_ok-engine.engine)) q) =
     subst (λ (o : Option (List ℕ)). question_form o (view z)
     ≡ Ok (asked_of (table_in o) q)) c.table.ensures c.in_ok-question.ensures.read in
-    asked tables c.args.parts.now c.engine-item.result c.token-item.result z c.in_ok-engine.engine c.in_ok-token.token _ three c.engine-item.is c.token-item.is c.question-item.is
+    asked tables c.args.parts.now c.engine-item.result c.token-item.result z c.in_ok-engine.engine c.in_ok-token.token _ three
+    c.engine-item.is c.token-item.is c.question-item.is
     (sym c.in_ok-engine.ensures) (sym c.in_ok-token.ensures)
     (read ∙ ap (λ table. Ok (asked_of table q)) (same_table tables c.in_ok-engine.engine))

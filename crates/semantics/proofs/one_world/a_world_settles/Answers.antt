@@ -6,4 +6,5 @@ use Rattle.semantics.proofs.Settled.{settled}
 use Rattle.semantics.proofs.one_world.a_world_settles.Goals as goal
 
 pub returns : goal.returns
-returns c = λ K r F l h e f w of there. settled K l r h e f w F of.legal of.within (λ s m. elim (cases_Bool (has_id (operations r) s.id)) [ inl t ↦ inl t | inr t ↦ inr (there s m t) ])
+returns c = λ K r F l h e f w of there. settled K l r h e f w F of.legal of.within
+    (λ s m. elim (cases_Bool (has_id (operations r) s.id)) [ inl t ↦ inl t | inr t ↦ inr (there s m t) ])

@@ -7,4 +7,5 @@ use Rattle.tree.proofs.answer.keys_at.Given as goal
 
 abbrev pub invariant-loop-position : goal.invariant-loop-position
 invariant-loop-position l = (e : Element) → number l.fn.nodes e ≡ Some l.fn.at →
-    l.keys.items ≡ filter (λ n. is_any ((context l.fn.nodes).presence (Field e n))) (map (λ x. x.0) (names_in l.fn.nodes (take l.position (links l.fn.nodes l.fn.at).0)))
+    l.keys.items ≡ filter (λ n. is_any ((context l.fn.nodes).presence (Field e n)))
+    (map (λ x. x.0) (names_in l.fn.nodes (take l.position (links l.fn.nodes l.fn.at).0)))

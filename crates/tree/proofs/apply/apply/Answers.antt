@@ -13,7 +13,9 @@ returns-clause-beside c = c.show.ensures.same.beside c.args.stamp.now.table.now 
 
 pub returns-clause-shown : goal.returns-clause-shown
 returns-clause-shown c =
-    c.show.ensures.shown (applied_shown c.args.nodes.now c.run.new.nodes (loose_operation (stamped_of c.args.stamp.now.table.now c.args.op.now)) c.run.ensures.links c.run.ensures.applied c.requires.placed c.requires.shown)
+    c.show.ensures.shown (applied_shown c.args.nodes.now c.run.new.nodes
+    (loose_operation (stamped_of c.args.stamp.now.table.now c.args.op.now)) c.run.ensures.links c.run.ensures.applied c.requires.placed
+    c.requires.shown)
 
 pub returns-clause-applied : goal.returns-clause-applied
 returns-clause-applied c = sym (flags_context c.run.new.nodes c.show.new.nodes c.show.ensures.same) ∙ c.run.ensures.applied

@@ -18,5 +18,7 @@ returns-clause-inserted c = λ l p q.
     let s = c.args.stamp.now in
     let slot : Element × Option OpId = (end_of (map hop_of c.in-Some.slot.list.now), c.in-Some.slot.prev) in
     c.insert.ensures.inserted
-    ∙ ap (λ (x : Element × Option OpId). assigned (linked (context c.args.nodes.now) x.0 x.1 s.id) s.id (deps_of s) (Item x.0 s.id) (tag_of c.args.tag) (option_map scalar_of c.args.scalar))
+    ∙ ap
+    (λ (x : Element × Option OpId). assigned (linked (context c.args.nodes.now) x.0 x.1 s.id) s.id (deps_of s) (Item x.0 s.id)
+    (tag_of c.args.tag) (option_map scalar_of c.args.scalar))
     (one_slot (slot_of (Insert EmptyMap) c.args.place.now) slot (l, p) (sym c.in-Some.ensures) q)

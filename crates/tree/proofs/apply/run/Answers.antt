@@ -7,7 +7,8 @@ use Rattle.tree.specs.Nodes.{context, node_at, register_room}
 use Rattle.tree.specs.Writes.{RoomTo}
 use Rattle.tree.specs.Trees.{Planted}
 use Rattle.tree.proofs.Rooms.{room_along}
-use Rattle.tree.proofs.Applied.{end_is, assign_ready, register_ready, scalar_ready, can_insert, assign_applied, insert_applied, delete_applied}
+use Rattle.tree.proofs.Applied.{end_is, assign_ready, register_ready, scalar_ready, can_insert, assign_applied, insert_applied}
+use Rattle.tree.proofs.Applied.{delete_applied}
 use Rattle.tree.proofs.apply.run.Goals as goal
 
 pub assign-requires-clause-room : goal.assign-requires-clause-room
@@ -15,7 +16,9 @@ assign-requires-clause-room c =
     let o = c.args.op.now in
     let t : Planted = record { table = c.args.stamp.now.table.now; nodes = c.args.nodes.now; scalar = c.args.scalar } in
     let path = map hop_of c.hops.result.now in
-    room_along c.args.nodes.now path (subst (RoomTo c.args.nodes.now) (sym (end_is o.place path c.hops.ensures)) (assign_ready o t c.requires.ready c.in-Assign.value c.in-Assign.is).0)
+    room_along c.args.nodes.now path
+    (subst (RoomTo c.args.nodes.now) (sym (end_is o.place path c.hops.ensures))
+    (assign_ready o t c.requires.ready c.in-Assign.value c.in-Assign.is).0)
 
 pub assign-requires-clause-register : goal.assign-requires-clause-register
 assign-requires-clause-register c = λ some.
@@ -30,7 +33,8 @@ returns-in-Assign-clause-applied c =
     let o = c.args.op.now in
     let t : Planted = record { table = c.args.stamp.now.table.now; nodes = c.args.nodes.now; scalar = c.args.scalar } in
     let v = c.in-Assign.value in
-    assign_applied o c.args.stamp.now c.requires.id c.requires.vector c.requires.formed (context c.args.nodes.now) (context c.assign.new.nodes)
+    assign_applied o c.args.stamp.now c.requires.id c.requires.vector c.requires.formed (context c.args.nodes.now)
+    (context c.assign.new.nodes)
     v c.in-Assign.is (map hop_of c.hops.result.now) c.hops.ensures (tag_of c.of.result) c.of.ensures
     (option_map scalar_of c.args.scalar) (assign_ready o t c.requires.ready v c.in-Assign.is).1 c.assign.ensures.assigned
 
@@ -43,11 +47,13 @@ pub returns-in-Insert-clause-applied : goal.returns-in-Insert-clause-applied
 returns-in-Insert-clause-applied c =
     let o = c.args.op.now in
     let t : Planted = record { table = c.args.stamp.now.table.now; nodes = c.args.nodes.now; scalar = c.args.scalar } in
-    insert_applied o c.args.stamp.now c.requires.id c.requires.vector c.requires.formed (context c.args.nodes.now) (context c.insert_at.new.nodes)
+    insert_applied o c.args.stamp.now c.requires.id c.requires.vector c.requires.formed (context c.args.nodes.now)
+    (context c.insert_at.new.nodes)
     c.in-Insert.value c.in-Insert.is (tag_of c.of-in-Insert.result) c.of-in-Insert.ensures
     (option_map scalar_of c.args.scalar) (scalar_ready o t c.requires.ready c.in-Insert.value c.in-Insert.is) c.insert_at.ensures.inserted
 
 pub returns-in-Delete-clause-applied : goal.returns-in-Delete-clause-applied
 returns-in-Delete-clause-applied c =
-    delete_applied c.args.op.now c.args.stamp.now c.requires.id c.requires.vector c.requires.formed (context c.args.nodes.now) (context c.clear_at.new.nodes)
+    delete_applied c.args.op.now c.args.stamp.now c.requires.id c.requires.vector c.requires.formed (context c.args.nodes.now)
+    (context c.clear_at.new.nodes)
     c.in-Delete.is (map hop_of c.hops-in-Delete.result.now) c.hops-in-Delete.ensures c.clear_at.ensures.cleared

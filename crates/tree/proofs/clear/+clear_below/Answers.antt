@@ -21,10 +21,15 @@ fields-preserved t c =
       beside = c.clear_below.ensures.beside;
       rest = λ e p.
           let at : number now e ≡ Some c.args.at = sym (number_same old now inv.shape e) ∙ p in
-          let child : number now (Field e (get_or fs c.fields.position ([], 0)).0) ≡ Some c.field_at-child.result = ap (λ (l : Links). number now (Field e (get_or l.0 c.fields.position ([], 0)).0)) (inv.shape.same c.args.at) ∙ c.field_at-child.ensures.number e ([], 0) at in
-          let count : length fs ≡ c.count_fields-fields.result = ap (λ (l : Links). length l.0) (c.clear_node.ensures.links.same c.args.at) ∙ sym c.count_fields-fields.ensures in
+          let child : number now (Field e (get_or fs c.fields.position ([], 0)).0)
+          ≡ Some c.field_at-child.result = ap (λ (l : Links). number now (Field e (get_or l.0 c.fields.position ([], 0)).0))
+          (inv.shape.same c.args.at)
+          ∙ c.field_at-child.ensures.number e ([], 0) at in
+          let count : length fs ≡ c.count_fields-fields.result = ap (λ (l : Links). length l.0) (c.clear_node.ensures.links.same c.args.at)
+          ∙ sym c.count_fields-fields.ensures in
           let within : c.fields.position < length fs = omega arith in
-          ap (λ C. clear_each C (fields_of e (drop (c.fields.position + 1) fs)) S) (c.clear_below.ensures.cleared (Field e (get_or fs c.fields.position ([], 0)).0) child)
+          ap (λ C. clear_each C (fields_of e (drop (c.fields.position + 1) fs)) S)
+          (c.clear_below.ensures.cleared (Field e (get_or fs c.fields.position ([], 0)).0) child)
           ∙ sym (turn_field (context now) e fs S c.fields.position ([], 0) within) ∙ inv.rest e p;
     }
 
@@ -47,10 +52,15 @@ items-preserved t c =
       beside = c.clear_below-in-items.ensures.beside;
       rest = λ e p.
           let at : number now e ≡ Some c.args.at = sym (number_same old now inv.shape e) ∙ p in
-          let child : number now (Item e (get_or xs c.items.position (id_at 0 0, 0)).0) ≡ Some c.item_at-child.result = ap (λ (l : Links). number now (Item e (get_or l.1 c.items.position (id_at 0 0, 0)).0)) (inv.shape.same c.args.at) ∙ c.item_at-child.ensures.number e (id_at 0 0, 0) at in
-          let count : length xs ≡ c.count_items-items.result = ap (λ (l : Links). length l.1) (c.fields.invariant.shape.same c.args.at) ∙ sym c.count_items-items.ensures in
+          let child : number now (Item e (get_or xs c.items.position (id_at 0 0, 0)).0)
+          ≡ Some c.item_at-child.result = ap (λ (l : Links). number now (Item e (get_or l.1 c.items.position (id_at 0 0, 0)).0))
+          (inv.shape.same c.args.at)
+          ∙ c.item_at-child.ensures.number e (id_at 0 0, 0) at in
+          let count : length xs ≡ c.count_items-items.result = ap (λ (l : Links). length l.1) (c.fields.invariant.shape.same c.args.at)
+          ∙ sym c.count_items-items.ensures in
           let within : c.items.position < length xs = omega arith in
-          ap (λ C. clear_each C (items_of e (drop (c.items.position + 1) xs)) S) (c.clear_below-in-items.ensures.cleared (Item e (get_or xs c.items.position (id_at 0 0, 0)).0) child)
+          ap (λ C. clear_each C (items_of e (drop (c.items.position + 1) xs)) S)
+          (c.clear_below-in-items.ensures.cleared (Item e (get_or xs c.items.position (id_at 0 0, 0)).0) child)
           ∙ sym (turn_item (context now) e xs S c.items.position (id_at 0 0, 0) within) ∙ inv.rest e p;
     }
 
@@ -58,6 +68,9 @@ pub returns-clause-cleared : goal.returns-clause-cleared
 returns-clause-cleared t c = λ e p.
     let old = c.args.nodes.now in
     let S = deps_of c.args.stamp.now in
-    let count : length (links old c.args.at).1 ≡ c.count_items-items.result = ap (λ (l : Links). length l.1) (c.fields.invariant.shape.same c.args.at) ∙ sym c.count_items-items.ensures in
+    let count : length (links old c.args.at).1
+    ≡ c.count_items-items.result = ap (λ (l : Links). length l.1) (c.fields.invariant.shape.same c.args.at)
+    ∙ sym c.count_items-items.ensures in
     let none : drop c.items.position (links old c.args.at).1 ≡ [] = drop_all c.items.position (links old c.args.at).1 (omega arith) in
-    ap (λ xs. clear_each (context c.items.nodes) (items_of e xs) S) (sym none) ∙ c.items.invariant.rest e p ∙ clear_whole old e c.args.at S p
+    ap (λ xs. clear_each (context c.items.nodes) (items_of e xs) S) (sym none) ∙ c.items.invariant.rest e p
+    ∙ clear_whole old e c.args.at S p

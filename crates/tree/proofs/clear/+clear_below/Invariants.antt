@@ -24,5 +24,7 @@ invariant-items l = record {
   beside : AreBeside l.stamp.table.now l.nodes;
   rest : (e : Element) → number l.fn.nodes e ≡ Some l.at →
       clear_each (context l.nodes) (items_of e (drop l.position (links l.fn.nodes l.at).1)) (deps_of l.stamp)
-      ≡ clear_each (clear_each (clear_own (context l.fn.nodes) e (deps_of l.stamp)) (fields_of e (links l.fn.nodes l.at).0) (deps_of l.stamp)) (items_of e (links l.fn.nodes l.at).1) (deps_of l.stamp);
+      ≡ clear_each
+      (clear_each (clear_own (context l.fn.nodes) e (deps_of l.stamp)) (fields_of e (links l.fn.nodes l.at).0) (deps_of l.stamp))
+      (items_of e (links l.fn.nodes l.at).1) (deps_of l.stamp);
 }

@@ -60,6 +60,8 @@ returns-clause-cleared c = λ e at.
     let width = sym c.requires.stamp.width in
     context_set ns c.requires.tree e c.args.at n m at g refl refl
     ∙ cleared_with ns e c.args.at n m (deps_of s) at g
-    (ap tagged (c.clear.ensures.without s.table.now c.requires.stamp.distinct width stands.0) ∙ without-mapped tag_of (deps_of s) n.presence.entries)
-    (ap valued (c.clear-2.ensures.without s.table.now c.requires.stamp.distinct width stands.1) ∙ without-mapped scalar_of (deps_of s) n.register.entries)
+    (ap tagged (c.clear.ensures.without s.table.now c.requires.stamp.distinct width stands.0)
+    ∙ without-mapped tag_of (deps_of s) n.presence.entries)
+    (ap valued (c.clear-2.ensures.without s.table.now c.requires.stamp.distinct width stands.1)
+    ∙ without-mapped scalar_of (deps_of s) n.register.entries)
     refl

@@ -15,7 +15,9 @@ returns-clause-kept c =
     let m : Node = record n { items = c.put.new.self } in
     let there : slice_get ns at ≡ Some n = c.node_in_vec-node.ensures.node in
     let only : OnlyLinks n m = record { presence = refl; register = refl; order = refl; written = refl } in
-    linked_kept at (ItemKey c.args.id) j ns n m there only (linked_item ns at n m j there only c.args.id (rw c.index.ensures at c.put.ensures.entries) c.requires.tree c.requires.absent refl) c.requires.tree c.requires.above c.requires.orphan
+    linked_kept at (ItemKey c.args.id) j ns n m there only
+    (linked_item ns at n m j there only c.args.id
+    (rw c.index.ensures at c.put.ensures.entries) c.requires.tree c.requires.absent refl) c.requires.tree c.requires.above c.requires.orphan
 
 pub returns-clause-child : goal.returns-clause-child
 returns-clause-child c =
@@ -25,4 +27,5 @@ returns-clause-child c =
     let n : Node = c.node_in_vec-node.result.now in
     let m : Node = record n { items = c.put.new.self } in
     let there : slice_get ns at ≡ Some n = c.node_in_vec-node.ensures.node in
-    item_linked ns at n m j there (record { presence = refl; register = refl; order = refl; written = refl }) c.args.id (rw c.index.ensures at c.put.ensures.entries)
+    item_linked ns at n m j there (record { presence = refl; register = refl; order = refl; written = refl }) c.args.id
+    (rw c.index.ensures at c.put.ensures.entries)

@@ -14,7 +14,21 @@ returns-in-Field-clause-kept c =
     let n : Node = c.node_in_vec-node.result.now in
     let m : Node = record n { fields = c.reserve_one.new.self } in
     let there = c.node_in_vec-node.ensures.node in
-    kept_set ns c.args.at n m there c.requires.tree (record { fields = c.reserve_one.ensures.same; items = refl; presence = refl; presence_indices = refl; register = refl; register_indices = refl; order = refl; visible = refl; written = refl; presence_room = omega arith; register_room = omega arith; order_room = omega arith })
+    kept_set ns c.args.at n m there c.requires.tree
+    (record {
+      fields = c.reserve_one.ensures.same;
+      items = refl;
+      presence = refl;
+      presence_indices = refl;
+      register = refl;
+      register_indices = refl;
+      order = refl;
+      visible = refl;
+      written = refl;
+      presence_room = omega arith;
+      register_room = omega arith;
+      order_room = omega arith;
+    })
 
 pub returns-in-Field-clause-shape : goal.returns-in-Field-clause-shape
 returns-in-Field-clause-shape c =
@@ -22,7 +36,21 @@ returns-in-Field-clause-shape c =
     let n : Node = c.node_in_vec-node.result.now in
     let m : Node = record n { fields = c.reserve_one.new.self } in
     let there = c.node_in_vec-node.ensures.node in
-    wider_links ns c.args.at n m there (record { fields = c.reserve_one.ensures.same; items = refl; presence = refl; presence_indices = refl; register = refl; register_indices = refl; order = refl; visible = refl; written = refl; presence_room = omega arith; register_room = omega arith; order_room = omega arith })
+    wider_links ns c.args.at n m there
+    (record {
+      fields = c.reserve_one.ensures.same;
+      items = refl;
+      presence = refl;
+      presence_indices = refl;
+      register = refl;
+      register_indices = refl;
+      order = refl;
+      visible = refl;
+      written = refl;
+      presence_room = omega arith;
+      register_room = omega arith;
+      order_room = omega arith;
+    })
 
 pub returns-in-Field-clause-room : goal.returns-in-Field-clause-room
 returns-in-Field-clause-room c =
@@ -30,7 +58,8 @@ returns-in-Field-clause-room c =
     let n : Node = c.node_in_vec-node.result.now in
     let m : Node = record n { fields = c.reserve_one.new.self } in
     subst (λ h. OnOk c.reserve_one.result (0 < child_room (slice_get (set ns c.args.at m) c.args.at) (hop_of h))) (sym c.in-Field.is)
-    (subst (λ o. OnOk c.reserve_one.result (0 < child_room o (FieldKey c.in-Field.field-0))) (sym (get_same ns c.args.at m c.requires.inside)) c.reserve_one.ensures.room)
+    (subst (λ o. OnOk c.reserve_one.result (0 < child_room o (FieldKey c.in-Field.field-0)))
+    (sym (get_same ns c.args.at m c.requires.inside)) c.reserve_one.ensures.room)
 
 pub returns-in-Item-clause-kept : goal.returns-in-Item-clause-kept
 returns-in-Item-clause-kept c =
@@ -38,7 +67,21 @@ returns-in-Item-clause-kept c =
     let n : Node = c.node_in_vec-node.result.now in
     let m : Node = record n { items = c.reserve_one-in-Item.new.self } in
     let there = c.node_in_vec-node.ensures.node in
-    kept_set ns c.args.at n m there c.requires.tree (record { fields = refl; items = c.reserve_one-in-Item.ensures.same; presence = refl; presence_indices = refl; register = refl; register_indices = refl; order = refl; visible = refl; written = refl; presence_room = omega arith; register_room = omega arith; order_room = omega arith })
+    kept_set ns c.args.at n m there c.requires.tree
+    (record {
+      fields = refl;
+      items = c.reserve_one-in-Item.ensures.same;
+      presence = refl;
+      presence_indices = refl;
+      register = refl;
+      register_indices = refl;
+      order = refl;
+      visible = refl;
+      written = refl;
+      presence_room = omega arith;
+      register_room = omega arith;
+      order_room = omega arith;
+    })
 
 pub returns-in-Item-clause-shape : goal.returns-in-Item-clause-shape
 returns-in-Item-clause-shape c =
@@ -46,7 +89,21 @@ returns-in-Item-clause-shape c =
     let n : Node = c.node_in_vec-node.result.now in
     let m : Node = record n { items = c.reserve_one-in-Item.new.self } in
     let there = c.node_in_vec-node.ensures.node in
-    wider_links ns c.args.at n m there (record { fields = refl; items = c.reserve_one-in-Item.ensures.same; presence = refl; presence_indices = refl; register = refl; register_indices = refl; order = refl; visible = refl; written = refl; presence_room = omega arith; register_room = omega arith; order_room = omega arith })
+    wider_links ns c.args.at n m there
+    (record {
+      fields = refl;
+      items = c.reserve_one-in-Item.ensures.same;
+      presence = refl;
+      presence_indices = refl;
+      register = refl;
+      register_indices = refl;
+      order = refl;
+      visible = refl;
+      written = refl;
+      presence_room = omega arith;
+      register_room = omega arith;
+      order_room = omega arith;
+    })
 
 pub returns-in-Item-clause-room : goal.returns-in-Item-clause-room
 returns-in-Item-clause-room c =
@@ -54,4 +111,5 @@ returns-in-Item-clause-room c =
     let n : Node = c.node_in_vec-node.result.now in
     let m : Node = record n { items = c.reserve_one-in-Item.new.self } in
     subst (λ h. OnOk c.reserve_one-in-Item.result (0 < child_room (slice_get (set ns c.args.at m) c.args.at) (hop_of h))) (sym c.in-Item.is)
-    (subst (λ o. OnOk c.reserve_one-in-Item.result (0 < child_room o (ItemKey c.in-Item.field-0))) (sym (get_same ns c.args.at m c.requires.inside)) c.reserve_one-in-Item.ensures.room)
+    (subst (λ o. OnOk c.reserve_one-in-Item.result (0 < child_room o (ItemKey c.in-Item.field-0)))
+    (sym (get_same ns c.args.at m c.requires.inside)) c.reserve_one-in-Item.ensures.room)

@@ -29,4 +29,5 @@ pub returns-clause-room : goal.returns-clause-room
 returns-clause-room c =
     let n : Node = c.node_in_vec-node.result.now in
     let m : Node = record n { register = c.reserve_one.new.self } in
-    subst (λ o. OnOk c.reserve_one.result (0 < register_room o)) (sym (get_same c.args.nodes.now.items c.args.at m c.requires.inside)) c.reserve_one.ensures.room
+    subst (λ o. OnOk c.reserve_one.result (0 < register_room o))
+    (sym (get_same c.args.nodes.now.items c.args.at m c.requires.inside)) c.reserve_one.ensures.room

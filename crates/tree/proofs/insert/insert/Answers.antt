@@ -23,7 +23,8 @@ clear_below-requires-clause-inside c =
 
 pub write_path-requires-clause-tree : goal.write_path-requires-clause-tree
 write_path-requires-clause-tree c =
-    tree_same c.link_list-item.new.nodes c.clear_below.new.nodes c.clear_below.ensures.links (tree_same c.args.nodes.now c.link_list-item.new.nodes c.link_list-item.ensures.links c.requires.tree)
+    tree_same c.link_list-item.new.nodes c.clear_below.new.nodes c.clear_below.ensures.links
+    (tree_same c.args.nodes.now c.link_list-item.new.nodes c.link_list-item.ensures.links c.requires.tree)
 
 pub write_path-requires-clause-room : goal.write_path-requires-clause-room
 write_path-requires-clause-room c =
@@ -39,7 +40,8 @@ write_path-requires-clause-room c =
 pub settle-requires-clause-tree : goal.settle-requires-clause-tree
 settle-requires-clause-tree c =
     tree_same c.clear_below.new.nodes c.write_path.new.nodes c.write_path.ensures.links
-    (tree_same c.link_list-item.new.nodes c.clear_below.new.nodes c.clear_below.ensures.links (tree_same c.args.nodes.now c.link_list-item.new.nodes c.link_list-item.ensures.links c.requires.tree))
+    (tree_same c.link_list-item.new.nodes c.clear_below.new.nodes c.clear_below.ensures.links
+    (tree_same c.args.nodes.now c.link_list-item.new.nodes c.link_list-item.ensures.links c.requires.tree))
 
 pub settle-requires-clause-inside : goal.settle-requires-clause-inside
 settle-requires-clause-inside c =
@@ -63,7 +65,8 @@ settle-requires-clause-room c =
     let deep = depth_whole path in
     let count = length-map c.args.slot.now.list.now hop_of in
     let still = c.write_path.ensures.deeper t (omega arith) (more_room n0 n2 links room t c.requires.fits.room.1) in
-    let at : number n3 t ≡ Some c.link_list-item.result = sym (number_same n0 n2 links t ∙ number_same n2 n3 c.write_path.ensures.links t) ∙ c.link_list-item.ensures.item in
+    let at : number n3 t ≡ Some c.link_list-item.result = sym (number_same n0 n2 links t ∙ number_same n2 n3 c.write_path.ensures.links t)
+    ∙ c.link_list-item.ensures.item in
     subst (λ o. 0 < presence_room (node_in n3 o)) at still
 
 pub settle-requires-clause-register : goal.settle-requires-clause-register
@@ -84,9 +87,14 @@ returns-clause-inserted c =
     let n1 = c.link_list-item.new.nodes in
     let n2 = c.clear_below.new.nodes in
     let n3 = c.write_path.new.nodes in
-    let at1 : number n1 t ≡ Some c.link_list-item.result = sym (number_same n0 n1 c.link_list-item.ensures.links t) ∙ c.link_list-item.ensures.item in
-    let at3 : number n3 t ≡ Some c.link_list-item.result = sym (number_same n1 n2 c.clear_below.ensures.links t ∙ number_same n2 n3 c.write_path.ensures.links t) ∙ at1 in
+    let at1 : number n1 t ≡ Some c.link_list-item.result = sym (number_same n0 n1 c.link_list-item.ensures.links t)
+    ∙ c.link_list-item.ensures.item in
+    let at3 : number n3 t
+    ≡ Some c.link_list-item.result = sym
+    (number_same n1 n2 c.clear_below.ensures.links t ∙ number_same n2 n3 c.write_path.ensures.links t)
+    ∙ at1 in
     c.settle.ensures.settled t at3
     ∙ ap (λ C. registered (mark C t s.id (tag_of c.args.tag)) t s.id (option_map scalar_of c.args.scalar))
     (c.write_path.ensures.written
-    ∙ ap (λ C. mark (entered C l s.id) l s.id AsList) (c.clear_below.ensures.cleared t at1 ∙ ap (λ C. clear C t (deps_of s)) c.link_list-item.ensures.linked))
+    ∙ ap (λ C. mark (entered C l s.id) l s.id AsList)
+    (c.clear_below.ensures.cleared t at1 ∙ ap (λ C. clear C t (deps_of s)) c.link_list-item.ensures.linked))

@@ -13,4 +13,5 @@ returns-in-Some-Item-default c =
     let a = c.in-Some-Item-default.prev in
     let last = ap (λ h. map hop_of list ++ hop_of h ∷ []) c.in-Some-Item-default.field-0-0-is in
     sym (item_slot c.args.place.now (map hop_of list) a (sym c.if-is_head.ensures)
-    (sym last ∙ sym (map-append hop_of list (c.in-Some-Item-default.field-0-0.now ∷ [])) ∙ sym (ap (map hop_of) c.in-Some-Item-default.ensures.cases.0) ∙ c.hops-path.ensures))
+    (sym last ∙ sym (map-append hop_of list (c.in-Some-Item-default.field-0-0.now ∷ []))
+    ∙ sym (ap (map hop_of) c.in-Some-Item-default.ensures.cases.0) ∙ c.hops-path.ensures))

@@ -8,10 +8,12 @@ use Rattle.tree.proofs.Grown.{grows_trans, kept_trans, room_here}
 use Rattle.tree.proofs.reserve.reserve_item.Goals as goal
 
 pub reserve_presence-requires-clause-inside : goal.reserve_presence-requires-clause-inside
-reserve_presence-requires-clause-inside c = (c.reach.ensures.kept.tree.rising c.args.at (ItemKey c.args.id) c.in_ok-item.item c.in_ok-item.ensures.child).1
+reserve_presence-requires-clause-inside c = (c.reach.ensures.kept.tree.rising c.args.at
+    (ItemKey c.args.id) c.in_ok-item.item c.in_ok-item.ensures.child).1
 
 pub returns-in_err-reserve_presence-clause-kept : goal.returns-in_err-reserve_presence-clause-kept
-returns-in_err-reserve_presence-clause-kept c = kept_trans c.args.nodes.now.items c.reach.new.nodes.items c.reserve_presence.new.nodes.items c.reach.ensures.kept c.reserve_presence.ensures.kept
+returns-in_err-reserve_presence-clause-kept c = kept_trans c.args.nodes.now.items c.reach.new.nodes.items
+    c.reserve_presence.new.nodes.items c.reach.ensures.kept c.reserve_presence.ensures.kept
 
 pub reserve_register-requires-clause-inside : goal.reserve_register-requires-clause-inside
 reserve_register-requires-clause-inside c =
@@ -23,7 +25,9 @@ pub returns-clause-kept : goal.returns-clause-kept
 returns-clause-kept c =
     let mid = c.reserve_presence.new.nodes.items in
     let new = c.reserve_register.new.nodes.items in
-    kept_trans c.args.nodes.now.items mid new (kept_trans c.args.nodes.now.items c.reach.new.nodes.items mid c.reach.ensures.kept c.reserve_presence.ensures.kept) c.reserve_register.ensures.kept
+    kept_trans c.args.nodes.now.items mid new
+    (kept_trans c.args.nodes.now.items c.reach.new.nodes.items mid c.reach.ensures.kept c.reserve_presence.ensures.kept)
+    c.reserve_register.ensures.kept
 
 pub returns-clause-presence : goal.returns-clause-presence
 returns-clause-presence c =
@@ -34,7 +38,9 @@ returns-clause-presence c =
     let child = grows.children c.args.at (ItemKey c.args.id) item c.in_ok-item.ensures.child in
     let got = c.in_ok-reserve_presence.ensures.room in
     let kept = c.reserve_register.ensures.kept.grows.presence item in
-    on_ok_weaker c.reserve_register.result (λ room e at. room_here presence_room new (Item e c.args.id) item (number_child new e c.args.at (ItemKey c.args.id) at ∙ child) (omega arith)) c.reserve_register.ensures.room
+    on_ok_weaker c.reserve_register.result
+    (λ room e at. room_here presence_room new (Item e c.args.id) item (number_child new e c.args.at (ItemKey c.args.id) at ∙ child)
+    (omega arith)) c.reserve_register.ensures.room
 
 pub returns-clause-register : goal.returns-clause-register
 returns-clause-register c =
@@ -43,4 +49,6 @@ returns-clause-register c =
     let item = c.in_ok-item.item in
     let grows = grows_trans c.reach.new.nodes.items mid new c.reserve_presence.ensures.kept.grows c.reserve_register.ensures.kept.grows in
     let child = grows.children c.args.at (ItemKey c.args.id) item c.in_ok-item.ensures.child in
-    on_ok_weaker c.reserve_register.result (λ room e at. room_here register_room new (Item e c.args.id) item (number_child new e c.args.at (ItemKey c.args.id) at ∙ child) room) c.reserve_register.ensures.room
+    on_ok_weaker c.reserve_register.result
+    (λ room e at. room_here register_room new (Item e c.args.id) item
+    (number_child new e c.args.at (ItemKey c.args.id) at ∙ child) room) c.reserve_register.ensures.room

@@ -11,7 +11,9 @@ pub returns-in-None-clause-ready : goal.returns-in-None-clause-ready
 returns-in-None-clause-ready c =
     let op = c.args.op.now in
     let v = meaning_of c.args.value.now in
-    let slot : slot_of (mutation_of op.mutation) op.place ≡ None = ap (λ m. slot_of m op.place) c.requires.insert ∙ slot_of_any v op.place ∙ sym c.in-None.ensures in
+    let slot : slot_of (mutation_of op.mutation) op.place ≡ None = ap (λ m. slot_of m op.place) c.requires.insert ∙ slot_of_any v op.place
+    ∙ sym c.in-None.ensures in
     if_ok_three c.reserve_assign.result _ _ _ _
-    (λ s room register scalar table. place_ready op table c.reserve_assign.new.nodes.items s v (map hop_of c.hops.result.now) (ap value_of c.requires.insert) slot c.hops.ensures room register scalar)
+    (λ s room register scalar table. place_ready op table c.reserve_assign.new.nodes.items s v (map hop_of c.hops.result.now)
+    (ap value_of c.requires.insert) slot c.hops.ensures room register scalar)
     c.reserve_assign.ensures.room c.reserve_assign.ensures.register c.reserve_assign.ensures.scalar

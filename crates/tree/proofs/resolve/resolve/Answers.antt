@@ -15,7 +15,8 @@ loop-step-init c =
     let items = visible_items (context c.args.nodes.now) in
     record {
       walking = c.new-walker.ensures.walking c.args.nodes.now;
-      rest = ap (λ xs. walk_from items xs (Ok (stand_of c.new-walker.result))) c.steps-step-items.ensures ∙ ap (λ p. walk_from items c.args.expression.now (Ok p)) c.new-walker.ensures.stand;
+      rest = ap (λ xs. walk_from items xs (Ok (stand_of c.new-walker.result))) c.steps-step-items.ensures
+          ∙ ap (λ p. walk_from items c.args.expression.now (Ok p)) c.new-walker.ensures.stand;
     }
 
 pub take-requires-clause-walking : goal.take-requires-clause-walking
@@ -25,11 +26,15 @@ pub returns-in_err-take-clause-err : goal.returns-in_err-take-clause-err
 returns-in_err-take-clause-err c =
     let items = visible_items (context c.args.nodes.now) in
     let why : Refusal = c.in_err-take.field-0.0 in
-    let same : (step_from items (stand_of c.loop-step.walker) (step_of c.step-item.result) ≡ Err why) → resolve items c.args.expression.now ≡ Err why = λ refused.
+    let same : (step_from items (stand_of c.loop-step.walker) (step_of c.step-item.result) ≡ Err why)
+    → resolve items c.args.expression.now ≡ Err why = λ refused.
     sym c.loop-step.invariant.rest
-    ∙ walked_next items c.steps-step-items.result.now c.loop-step.step-index c.step-item.result (stand_of c.loop-step.walker) c.loop-step-test.true c.step-item.is
+    ∙ walked_next items c.steps-step-items.result.now c.loop-step.step-index c.step-item.result
+    (stand_of c.loop-step.walker) c.loop-step-test.true c.step-item.is
     ∙ ap (walk_from items (map step_of (drop (c.loop-step.step-index + 1) c.steps-step-items.result.now))) refused in
-    let cause : (why ≡ NoMemory) ⊎ (resolve items c.args.expression.now ≡ Err why) = elim c.in_err-take.ensures.err [ inl none ↦ inl none | inr refused ↦ inr (same refused) ] in
+    let cause : (why ≡ NoMemory)
+    ⊎ (resolve items c.args.expression.now
+    ≡ Err why) = elim c.in_err-take.ensures.err [ inl none ↦ inl none | inr refused ↦ inr (same refused) ] in
     search rules
 
 pub loop-step-preserved : goal.loop-step-preserved
@@ -38,8 +43,11 @@ loop-step-preserved c =
     record {
       walking = c.in_ok-take.ensures.walking;
       rest =
-          ap (walk_from items (map step_of (drop (c.loop-step.step-index + 1) c.steps-step-items.result.now))) (sym c.in_ok-take.ensures.stand)
-          ∙ sym (walked_next items c.steps-step-items.result.now c.loop-step.step-index c.step-item.result (stand_of c.loop-step.walker) c.loop-step-test.true c.step-item.is)
+          ap (walk_from items (map step_of (drop (c.loop-step.step-index + 1) c.steps-step-items.result.now)))
+          (sym c.in_ok-take.ensures.stand)
+          ∙ sym
+          (walked_next items c.steps-step-items.result.now c.loop-step.step-index c.step-item.result
+          (stand_of c.loop-step.walker) c.loop-step-test.true c.step-item.is)
           ∙ c.loop-step.invariant.rest;
     }
 

@@ -24,11 +24,14 @@ fields-preserved t c =
       same = flags_trans old now c.show_below.new.nodes inv.same c.show_below.ensures.same;
       rest = λ e off at s.
           let here : number now e ≡ Some c.args.at = sym (flags_number old now inv.same e) ∙ at in
-          let child : number now (Field e (get_or fs k d).0) ≡ Some c.field_at-child.result = ap (λ (l : Links). number now (Field e (get_or l.0 k d).0)) (view.links c.args.at) ∙ c.field_at-child.ensures.number e d here in
+          let child : number now (Field e (get_or fs k d).0)
+          ≡ Some c.field_at-child.result = ap (λ (l : Links). number now (Field e (get_or l.0 k d).0)) (view.links c.args.at)
+          ∙ c.field_at-child.ensures.number e d here in
           let count = c.count_fields-fields.ensures in
           let within : k < length fs = omega arith in
           let others : Element → OpId → Bool = λ y a. list_any (is_under (Item y a)) (items_of e (links old c.args.at).1) || off y a in
-          c.show_below.ensures.shown (Field e (get_or fs k d).0) (λ y a. list_any (is_under (Item y a)) (fields_of e (drop (k + 1) fs)) || others y a) child
+          c.show_below.ensures.shown (Field e (get_or fs k d).0)
+          (λ y a. list_any (is_under (Item y a)) (fields_of e (drop (k + 1) fs)) || others y a) child
           (but_field now e fs k d others within (inv.rest e off at s));
     }
 
@@ -59,12 +62,17 @@ items-preserved t c =
       same = flags_trans old now new inv.same (flags_trans now mid new one.same two.same);
       rest = λ e off at s.
           let here : number now e ≡ Some c.args.at = sym (flags_number old now inv.same e) ∙ at in
-          let was = subst (λ (l : Links). ShownBut now (λ y a. list_any (is_under (Item y a)) (items_of e (drop k l.1)) || off y a)) (view.links c.args.at) (inv.rest e off at s) in
-          let count : length xs ≡ c.count_items-items.result = ap (λ (l : Links). length l.1) (sym (view.links c.args.at) ∙ (let v = c.fields.invariant.same.view in v.links c.args.at)) ∙ sym c.count_items-items.ensures in
+          let was = subst (λ (l : Links). ShownBut now (λ y a. list_any (is_under (Item y a)) (items_of e (drop k l.1)) || off y a))
+          (view.links c.args.at) (inv.rest e off at s) in
+          let count : length xs
+          ≡ c.count_items-items.result = ap (λ (l : Links). length l.1)
+          (sym (view.links c.args.at) ∙ (let v = c.fields.invariant.same.view in v.links c.args.at))
+          ∙ sym c.count_items-items.ensures in
           let within : k < length xs = omega arith in
           let item : Element = Item e (get_or xs k d).0 in
           let rest : Element → OpId → Bool = λ y a. list_any (is_under (Item y a)) (items_of e (drop (k + 1) xs)) || off y a in
           let shown = one.shown e (λ y a. is_under y item || rest y a) d here (but_item now e xs k d off within was) in
           let child : number mid item ≡ Some c.show_child-child.result = sym (flags_number now mid one.same item) ∙ one.number e d here in
-          subst (λ (l : Links). ShownBut new (λ y a. list_any (is_under (Item y a)) (items_of e (drop (k + 1) l.1)) || off y a)) (sym (view.links c.args.at)) (two.shown item rest child shown);
+          subst (λ (l : Links). ShownBut new (λ y a. list_any (is_under (Item y a)) (items_of e (drop (k + 1) l.1)) || off y a))
+          (sym (view.links c.args.at)) (two.shown item rest child shown);
     }

@@ -13,13 +13,17 @@ decreases-show_below l = length l.nodes.now - l.at
 abbrev pub invariant-fields : goal.invariant-fields
 invariant-fields l = record {
   same : SameButFlags l.fn.nodes l.nodes;
-  rest : (e : Element) (off : Element → OpId → Bool) → number l.fn.nodes e ≡ Some l.at → ShownBut l.fn.nodes (λ y a. is_under y e || off y a)
-      → ShownBut l.nodes (λ y a. list_any (is_under (Item y a)) (fields_of e (drop l.position (links l.fn.nodes l.at).0)) || (list_any (is_under (Item y a)) (items_of e (links l.fn.nodes l.at).1) || off y a));
+  rest : (e : Element) (off : Element → OpId → Bool) → number l.fn.nodes e ≡ Some l.at
+      → ShownBut l.fn.nodes (λ y a. is_under y e || off y a)
+      → ShownBut l.nodes
+      (λ y a. list_any (is_under (Item y a)) (fields_of e (drop l.position (links l.fn.nodes l.at).0))
+      || (list_any (is_under (Item y a)) (items_of e (links l.fn.nodes l.at).1) || off y a));
 }
 
 abbrev pub invariant-items : goal.invariant-items
 invariant-items l = record {
   same : SameButFlags l.fn.nodes l.nodes;
-  rest : (e : Element) (off : Element → OpId → Bool) → number l.fn.nodes e ≡ Some l.at → ShownBut l.fn.nodes (λ y a. is_under y e || off y a)
+  rest : (e : Element) (off : Element → OpId → Bool) → number l.fn.nodes e ≡ Some l.at
+      → ShownBut l.fn.nodes (λ y a. is_under y e || off y a)
       → ShownBut l.nodes (λ y a. list_any (is_under (Item y a)) (items_of e (drop l.position (links l.fn.nodes l.at).1)) || off y a);
 }

@@ -10,24 +10,33 @@ use Rattle.tree.proofs.show.show_child.Goals as goal
 
 pub show_item-requires-clause-item : goal.show_item-requires-clause-item
 show_item-requires-clause-item c =
-    item_number c.args.nodes.now c.requires.tree c.args.at c.args.position c.node_at.result.now c.at-id.result c.node_at.ensures c.at-id.ensures c.requires.within ∙ ap Some (sym c.new-item.ensures)
+    item_number c.args.nodes.now c.requires.tree c.args.at c.args.position c.node_at.result.now c.at-id.result c.node_at.ensures
+    c.at-id.ensures c.requires.within
+    ∙ ap Some (sym c.new-item.ensures)
 
 pub returns-clause-above : goal.returns-clause-above
 returns-clause-above c =
-    let there = item_number c.args.nodes.now c.requires.tree c.args.at c.args.position c.node_at.result.now c.at-id.result c.node_at.ensures c.at-id.ensures c.requires.within ∙ ap Some (sym c.new-item.ensures) in
+    let there = item_number c.args.nodes.now c.requires.tree c.args.at c.args.position c.node_at.result.now c.at-id.result
+    c.node_at.ensures c.at-id.ensures c.requires.within
+    ∙ ap Some (sym c.new-item.ensures) in
     (c.requires.tree.rising c.args.at (ItemKey c.at-id.result.0) c.new-item.result there).0
 
 pub returns-clause-within : goal.returns-clause-within
 returns-clause-within c =
-    let there = item_number c.args.nodes.now c.requires.tree c.args.at c.args.position c.node_at.result.now c.at-id.result c.node_at.ensures c.at-id.ensures c.requires.within ∙ ap Some (sym c.new-item.ensures) in
+    let there = item_number c.args.nodes.now c.requires.tree c.args.at c.args.position c.node_at.result.now c.at-id.result
+    c.node_at.ensures c.at-id.ensures c.requires.within
+    ∙ ap Some (sym c.new-item.ensures) in
     (c.requires.tree.rising c.args.at (ItemKey c.at-id.result.0) c.new-item.result there).1
 
 pub returns-clause-number : goal.returns-clause-number
 returns-clause-number c = λ e d at.
     let ns = c.args.nodes.now in
     let entry = item_entry ns c.args.at c.args.position c.node_at.result.now c.at-id.result c.node_at.ensures c.at-id.ensures d in
-    let there = item_number ns c.requires.tree c.args.at c.args.position c.node_at.result.now c.at-id.result c.node_at.ensures c.at-id.ensures c.requires.within ∙ ap Some (sym c.new-item.ensures) in
-    ap (λ (x : OpId × ℕ). next_number ns (number ns e) (ItemKey x.0)) entry ∙ number_child ns e c.args.at (ItemKey c.at-id.result.0) at ∙ there
+    let there = item_number ns c.requires.tree c.args.at c.args.position c.node_at.result.now c.at-id.result c.node_at.ensures
+    c.at-id.ensures c.requires.within
+    ∙ ap Some (sym c.new-item.ensures) in
+    ap (λ (x : OpId × ℕ). next_number ns (number ns e) (ItemKey x.0)) entry ∙ number_child ns e c.args.at (ItemKey c.at-id.result.0) at
+    ∙ there
 
 pub returns-clause-shown : goal.returns-clause-shown
 returns-clause-shown c = λ e off d at s.

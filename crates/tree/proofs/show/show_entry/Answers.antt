@@ -16,15 +16,18 @@ show_below-requires-clause-inside c =
     omega arith
 
 pub returns-in-Some-clause-same : goal.returns-in-Some-clause-same
-returns-in-Some-clause-same c = flags_trans c.args.nodes.now c.show_item.new.nodes c.show_below.new.nodes c.show_item.ensures.same c.show_below.ensures.same
+returns-in-Some-clause-same c = flags_trans c.args.nodes.now c.show_item.new.nodes c.show_below.new.nodes c.show_item.ensures.same
+    c.show_below.ensures.same
 
 pub returns-in-Some-clause-shown : goal.returns-in-Some-clause-shown
 returns-in-Some-clause-shown c = λ e at s.
     let old = c.args.nodes.now in
     let mid = c.show_item.new.nodes in
     let t : Element = Item e c.args.id.now in
-    let child : number mid t ≡ Some c.in-Some.item = sym (flags_number old mid c.show_item.ensures.same t) ∙ number_child old e c.args.at (ItemKey c.args.id.now) at ∙ sym c.item_of.ensures ∙ c.in-Some.is in
-    but_none c.show_below.new.nodes (c.show_below.ensures.shown t (λ l a. false) child (end_parts mid t (c.show_item.ensures.shown e (λ l a. is_under l t) at s)))
+    let child : number mid t ≡ Some c.in-Some.item = sym (flags_number old mid c.show_item.ensures.same t)
+    ∙ number_child old e c.args.at (ItemKey c.args.id.now) at ∙ sym c.item_of.ensures ∙ c.in-Some.is in
+    but_none c.show_below.new.nodes
+    (c.show_below.ensures.shown t (λ l a. false) child (end_parts mid t (c.show_item.ensures.shown e (λ l a. is_under l t) at s)))
 
 pub returns-in-None-clause-shown : goal.returns-in-None-clause-shown
 returns-in-None-clause-shown c = λ e at s.

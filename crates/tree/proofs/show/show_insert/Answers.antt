@@ -11,5 +11,7 @@ pub returns-in-None-clause-shown : goal.returns-in-None-clause-shown
 returns-in-None-clause-shown c = λ s.
     let p = c.args.place.now in
     let path = map hop_of c.hops.result.now in
-    let t : target_in (slot_of (Insert EmptyMap) p) c.args.id.now p ≡ end_of path = ap (λ o. target_in o c.args.id.now p) (sym c.in-None.ensures) ∙ sym (end_is p path c.hops.ensures) in
+    let t : target_in (slot_of (Insert EmptyMap) p) c.args.id.now p
+    ≡ end_of path = ap (λ o. target_in o c.args.id.now p) (sym c.in-None.ensures)
+    ∙ sym (end_is p path c.hops.ensures) in
     c.show_at.ensures.shown (subst (λ e. ShownBut c.args.nodes.now (is_near e)) t s)

@@ -20,4 +20,5 @@ returns-clause-shown c = λ e off at s.
     let m : Node = record n { order = c.set_flag.new.order } in
     let g = c.node_at_mut-node.ensures.node in
     let same = flag_same ns c.requires.tree c.args.at n m g refl c.set_flag.ensures.items refl refl refl in
-    flag_set ns c.requires.tree c.args.at n m g refl c.set_flag.ensures.items e at c.args.id.now c.args.item c.requires.item c.is_present-shown.result c.is_present-shown.ensures same c.set_flag.ensures.visible off s
+    flag_set ns c.requires.tree c.args.at n m g refl c.set_flag.ensures.items e at c.args.id.now c.args.item c.requires.item
+    c.is_present-shown.result c.is_present-shown.ensures same c.set_flag.ensures.visible off s

@@ -6,7 +6,9 @@ use Rattle.tree.specs.Shown.{ShownBut}
 use Rattle.tree.proofs.show.show_key.Goals as goal
 
 pub returns-in-Field-clause-shown : goal.returns-in-Field-clause-shown
-returns-in-Field-clause-shown c = λ e off at s. subst (λ h. ShownBut c.args.nodes.now (λ l a. is_same (Item l a) (child e (hop_of h)) || off l a)) c.in-Field.is s
+returns-in-Field-clause-shown c = λ e off at s. subst
+    (λ h. ShownBut c.args.nodes.now (λ l a. is_same (Item l a) (child e (hop_of h)) || off l a)) c.in-Field.is s
 
 pub returns-in-Item-clause-shown : goal.returns-in-Item-clause-shown
-returns-in-Item-clause-shown c = λ e off at s. c.show_item.ensures.shown e off at (subst (λ h. ShownBut c.args.nodes.now (λ l a. is_same (Item l a) (child e (hop_of h)) || off l a)) c.in-Item.is s)
+returns-in-Item-clause-shown c = λ e off at s. c.show_item.ensures.shown e off at
+    (subst (λ h. ShownBut c.args.nodes.now (λ l a. is_same (Item l a) (child e (hop_of h)) || off l a)) c.in-Item.is s)

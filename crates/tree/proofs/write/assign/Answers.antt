@@ -9,13 +9,15 @@ use Rattle.tree.proofs.Rooms.{path_room}
 use Rattle.tree.proofs.write.assign.Goals as goal
 
 pub write_path-at-requires-clause-room : goal.write_path-at-requires-clause-room
-write_path-at-requires-clause-room c = path_room c.args.nodes.now c.clear_at.new.nodes (map hop_of c.args.path.now) c.clear_at.ensures.links c.clear_at.ensures.room c.requires.room
+write_path-at-requires-clause-room c = path_room c.args.nodes.now c.clear_at.new.nodes
+    (map hop_of c.args.path.now) c.clear_at.ensures.links c.clear_at.ensures.room c.requires.room
 
 pub put_scalar-requires-clause-room : goal.put_scalar-requires-clause-room
 put_scalar-requires-clause-room c = λ some.
     let old = c.args.nodes.now in
     let t = end_of (map hop_of c.args.path.now) in
-    let at : number old t ≡ Some c.write_path-at.result = number_same old c.clear_at.new.nodes c.clear_at.ensures.links t ∙ c.write_path-at.ensures.at in
+    let at : number old t ≡ Some c.write_path-at.result = number_same old c.clear_at.new.nodes c.clear_at.ensures.links t
+    ∙ c.write_path-at.ensures.at in
     let room = subst (λ o. 0 < register_room (node_in old o)) at (c.requires.register some) in
     let a = c.clear_at.ensures.room.register c.write_path-at.result in
     let b = c.write_path-at.ensures.register_room c.write_path-at.result in
@@ -26,6 +28,9 @@ returns-clause-assigned c =
     let mid = c.clear_at.new.nodes in
     let t = end_of (map hop_of c.args.path.now) in
     let a = c.args.stamp.now.id in
-    let at : number c.write_path-at.new.nodes t ≡ Some c.write_path-at.result = sym (number_same mid c.write_path-at.new.nodes c.write_path-at.ensures.links t) ∙ c.write_path-at.ensures.at in
+    let at : number c.write_path-at.new.nodes t
+    ≡ Some c.write_path-at.result = sym (number_same mid c.write_path-at.new.nodes c.write_path-at.ensures.links t)
+    ∙ c.write_path-at.ensures.at in
     c.put_scalar.ensures.written t at
-    ∙ ap (λ C. registered C t a (option_map scalar_of c.args.scalar)) (c.write_path-at.ensures.written ∙ ap (λ C. mark (entered C t a) t a (tag_of c.args.tag)) c.clear_at.ensures.cleared)
+    ∙ ap (λ C. registered C t a (option_map scalar_of c.args.scalar))
+    (c.write_path-at.ensures.written ∙ ap (λ C. mark (entered C t a) t a (tag_of c.args.tag)) c.clear_at.ensures.cleared)

@@ -26,7 +26,8 @@ enter-at-requires-clause-child c =
     let path : List Key = map hop_of c.args.path.now in
     let here = sym (number_same c.args.nodes.now now c.loop-hop.invariant.shape (end_of (take k path))) ∙ c.loop-hop.invariant.here in
     subst IsSome (number_more c.args.path.now k c.hop-item.result c.loop-hop-test.true c.hop-item.is now c.loop-hop.at here)
-    (room_there now (number now (end_of (take (k + 1) path))) (c.loop-hop.invariant.room (k + 1) (omega arith) (let t = c.loop-hop-test.true in omega arith)))
+    (room_there now (number now (end_of (take (k + 1) path)))
+    (c.loop-hop.invariant.room (k + 1) (omega arith) (let t = c.loop-hop-test.true in omega arith)))
 
 pub loop-hop-preserved : goal.loop-hop-preserved
 loop-hop-preserved c =
@@ -49,14 +50,17 @@ loop-hop-preserved c =
       registers = λ i. let a = inv.registers i in let b = c.enter-at.ensures.room.register i in omega arith;
       kept = λ b. c.enter-at.ensures.beside (inv.kept b);
       here = ap (number old) more ∙ number_same old now inv.shape (child e x) ∙ there;
-      inside = number_inside new (tree_same now new c.enter-at.ensures.links tree) (child e x) c.enter-at.result (sym (number_same now new c.enter-at.ensures.links (child e x)) ∙ there);
+      inside = number_inside new (tree_same now new c.enter-at.ensures.links tree) (child e x) c.enter-at.result
+          (sym (number_same now new c.enter-at.ensures.links (child e x)) ∙ there);
       room = λ j lo hi.
           let apart : depth e ≢ depth (end_of (take j path)) = λ q. let b = depth_path path j (omega arith) in absurd (omega arith) in
-          room_deeper now new tree c.enter-at.ensures.links c.loop-hop.at c.enter-at.ensures.room e (end_of (take j path)) here apart (inv.room j (omega arith) hi);
+          room_deeper now new tree c.enter-at.ensures.links c.loop-hop.at c.enter-at.ensures.room e (end_of (take j path)) here apart
+          (inv.room j (omega arith) hi);
       deeper = λ f hi r.
           let apart : depth e ≢ depth f = λ q. absurd (omega arith) in
           room_deeper now new tree c.enter-at.ensures.links c.loop-hop.at c.enter-at.ensures.room e f here apart (inv.deeper f hi r);
-      done = c.enter-at.ensures.entered e here ∙ ap (λ C. entered_by C e x c.args.stamp.now.id) inv.done ∙ sym (entered_more (context old) e x c.args.stamp.now.id) ∙ ap (λ f. entered (context old) f c.args.stamp.now.id) (sym more);
+      done = c.enter-at.ensures.entered e here ∙ ap (λ C. entered_by C e x c.args.stamp.now.id) inv.done
+          ∙ sym (entered_more (context old) e x c.args.stamp.now.id) ∙ ap (λ f. entered (context old) f c.args.stamp.now.id) (sym more);
     }
 
 pub mark_node-requires-clause-room : goal.mark_node-requires-clause-room
@@ -75,8 +79,10 @@ returns-clause-written c =
     let inv = c.loop-hop.invariant in
     let a = c.args.stamp.now.id in
     let whole : end_of (take c.loop-hop.hop-index path) ≡ end_of path = ap end_of (take_all c.loop-hop.hop-index path (omega arith)) in
-    let here : number now (end_of path) ≡ Some c.loop-hop.at = sym (number_same old now inv.shape (end_of path)) ∙ ap (number old) (sym whole) ∙ inv.here in
-    c.mark_node.ensures.marked (end_of path) here ∙ ap (λ C. mark C (end_of path) a (tag_of c.args.tag)) (inv.done ∙ ap (λ f. entered (context old) f a) whole)
+    let here : number now (end_of path) ≡ Some c.loop-hop.at = sym (number_same old now inv.shape (end_of path))
+    ∙ ap (number old) (sym whole) ∙ inv.here in
+    c.mark_node.ensures.marked (end_of path) here
+    ∙ ap (λ C. mark C (end_of path) a (tag_of c.args.tag)) (inv.done ∙ ap (λ f. entered (context old) f a) whole)
 
 pub returns-clause-at : goal.returns-clause-at
 returns-clause-at c =
@@ -94,4 +100,6 @@ returns-clause-deeper c = λ f hi r.
     let e = end_of (take c.loop-hop.hop-index path) in
     let here : number now e ≡ Some c.loop-hop.at = sym (number_same old now inv.shape e) ∙ inv.here in
     let apart : depth e ≢ depth f = λ q. let a = depth_path path c.loop-hop.hop-index (omega arith) in absurd (omega arith) in
-    room_deeper now c.mark_node.new.nodes (tree_same old now inv.shape c.requires.tree) c.mark_node.ensures.links c.loop-hop.at c.mark_node.ensures.room e f here apart (inv.deeper f hi r)
+    room_deeper now c.mark_node.new.nodes
+    (tree_same old now inv.shape c.requires.tree) c.mark_node.ensures.links c.loop-hop.at c.mark_node.ensures.room e f here apart
+    (inv.deeper f hi r)

@@ -28,7 +28,8 @@ loop-index-preserved c =
     (elim c.if-counter-gt0.branch [
       | then-counter-gt0+in-Some+in_ok-pair_value+in_ok-push w ↦
           let next : here
-          ≡ id_at c.get-counter.result w.in-Some.replica ∷ left = listed_some ps cs i c.get-counter.result w.in-Some.replica c.len.ensures.rising
+          ≡ id_at c.get-counter.result w.in-Some.replica ∷ left = listed_some ps cs i c.get-counter.result w.in-Some.replica
+          c.len.ensures.rising
           (sym w.in-Some.ensures) within (sym c.get-counter.ensures) w.if-counter-gt0.true in
           record {
             json =

@@ -76,7 +76,8 @@ returns-in_err-push-clause-stopped c =
     (subst (λ k. StopsAfter W (map (step_in tables) steps) (k + 1) V) (sym c.loop-step.invariant.whole)
     (stops_whole W V (map (step_in tables) steps) (n + 1) c.requires.reached l
     (one_more W U V tables
-    (tables_of c.loop-step.engines.items) steps n o c.loop-step.invariant.tables at c.loop-step.invariant.so_far c.in_ok-reply.ensures.world)))
+    (tables_of c.loop-step.engines.items) steps n o c.loop-step.invariant.tables at c.loop-step.invariant.so_far
+    c.in_ok-reply.ensures.world)))
 
 pub loop-step-preserved : goal.loop-step-preserved
 loop-step-preserved c =

@@ -10,4 +10,5 @@ nothing_left i xs ys w p q left = (λ j. pointwise eqb (sym (drop_all i xs p) j)
 pub returns : goal.returns
 returns c =
     let l = c.loop-index in
-    equal_from_pointwise true c.args.a.now c.args.b.now (nothing_left l.index c.args.a.now c.args.b.now _ (omega arith) (omega arith) l.invariant)
+    equal_from_pointwise true c.args.a.now c.args.b.now
+    (nothing_left l.index c.args.a.now c.args.b.now _ (omega arith) (omega arith) l.invariant)

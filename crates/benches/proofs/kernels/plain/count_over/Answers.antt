@@ -14,7 +14,8 @@ overflow_add-count c =
     let l = c.loop-index in
     let long = length-over counters bounds c.requires in
     let bit = bit_over 0 l.index counters bounds counters bounds _ c.requires (omega arith) refl refl c.from-count.ensures in
-    let counted = count_next l.index (over counters bounds) l.count _ (omega arith) (bit ∙ at_first l.index (over counters bounds)) l.invariant in
+    let counted = count_next l.index (over counters bounds) l.count _ (omega arith)
+    (bit ∙ at_first l.index (over counters bounds)) l.invariant in
     omega (arith, counted, count_true-take-le (l.index + 1) (over counters bounds))
 
 pub loop-index-preserved : goal.loop-index-preserved

@@ -15,7 +15,8 @@ loop-index-preserved c =
     let l = c.loop-index in
     let long = length-over counters bounds c.requires.columns in
     let bit = bit_over 0 l.index counters bounds counters bounds _ c.requires.columns (omega arith) refl refl c.from.ensures in
-    word_next l.index (over counters bounds) l.word _ (omega arith) (omega arith) (bit ∙ at_first l.index (over counters bounds)) l.invariant
+    word_next l.index (over counters bounds) l.word _ (omega arith) (omega arith)
+    (bit ∙ at_first l.index (over counters bounds)) l.invariant
 
 pub returns : goal.returns
 returns c =

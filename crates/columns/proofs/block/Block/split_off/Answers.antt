@@ -14,17 +14,23 @@ overflow_sub-self c =
     let d = c.self.inside in
     let b = c.back.inside in
     let at = c.args.at in
-    let ids : b.ids.items ≡ drop at d.ids.items = ap (λ (r : Run). r.items) c.back.view_is ∙ c.in_ok-back.ensures.items ∙ rest_of c.deref.result.now at ∙ ap (drop at) c.deref.ensures.value in
-    let flags : b.flags.items ≡ drop at d.flags.items = ap (λ (r : Run). r.flags) c.back.view_is ∙ c.in_ok-back.ensures.flags ∙ rest_of c.deref-2.result.now at ∙ ap (drop at) c.deref-2.ensures.value in
-    (block_cut d.ids.items d.flags.items d.shown d.floor at b.shown b.floor d.floor c.self.invariant (rw (sym ids, sym flags) c.back.invariant) (search rules)).0
+    let ids : b.ids.items ≡ drop at d.ids.items = ap (λ (r : Run). r.items) c.back.view_is ∙ c.in_ok-back.ensures.items
+    ∙ rest_of c.deref.result.now at ∙ ap (drop at) c.deref.ensures.value in
+    let flags : b.flags.items ≡ drop at d.flags.items = ap (λ (r : Run). r.flags) c.back.view_is ∙ c.in_ok-back.ensures.flags
+    ∙ rest_of c.deref-2.result.now at ∙ ap (drop at) c.deref-2.ensures.value in
+    (block_cut d.ids.items d.flags.items d.shown d.floor at b.shown b.floor d.floor c.self.invariant
+    (rw (sym ids, sym flags) c.back.invariant) (search rules)).0
 
 pub invariant_of-self : goal.invariant_of-self
 invariant_of-self c =
     let d = c.self.inside in
     let b = c.back.inside in
     let at = c.args.at in
-    let ids : b.ids.items ≡ drop at d.ids.items = ap (λ (r : Run). r.items) c.back.view_is ∙ c.in_ok-back.ensures.items ∙ rest_of c.deref.result.now at ∙ ap (drop at) c.deref.ensures.value in
-    let flags : b.flags.items ≡ drop at d.flags.items = ap (λ (r : Run). r.flags) c.back.view_is ∙ c.in_ok-back.ensures.flags ∙ rest_of c.deref-2.result.now at ∙ ap (drop at) c.deref-2.ensures.value in
+    let ids : b.ids.items ≡ drop at d.ids.items = ap (λ (r : Run). r.items) c.back.view_is ∙ c.in_ok-back.ensures.items
+    ∙ rest_of c.deref.result.now at ∙ ap (drop at) c.deref.ensures.value in
+    let flags : b.flags.items ≡ drop at d.flags.items = ap (λ (r : Run). r.flags) c.back.view_is ∙ c.in_ok-back.ensures.flags
+    ∙ rest_of c.deref-2.result.now at ∙ ap (drop at) c.deref-2.ensures.value in
     let bounded : IsFloor c.floor_of-self-inside.result (take at d.ids.items) = search rules in
     rw (c.truncate.ensures.items, c.truncate-2.ensures.items)
-    (block_cut d.ids.items d.flags.items d.shown d.floor at b.shown b.floor c.floor_of-self-inside.result c.self.invariant (rw (sym ids, sym flags) c.back.invariant) bounded).1
+    (block_cut d.ids.items d.flags.items d.shown d.floor at b.shown b.floor c.floor_of-self-inside.result c.self.invariant
+    (rw (sym ids, sym flags) c.back.invariant) bounded).1

@@ -12,10 +12,13 @@ use Rattle.columns.proofs.Beside.{single_without}
 use Rattle.columns.proofs.by_id.ById.clear.Goals as goal
 
 -- what is left of a map with a single entry, by the test of its index
-left : {X : Type 0} (table v : List ℕ) (e : Entry X) (m : Entries X) (is_covered : Bool) → held_entries (Single e) ≡ m → is_covered ≡ nat_le e.id.counter (slice_index v e.index)
-    → AreDistinct table → length table ≡ length v → StandBeside table m.entries m.indices → cond is_covered [] ((e.id, e.value) ∷ []) ≡ without (covers (by_table table v)) m.entries
+left : {X : Type 0} (table v : List ℕ) (e : Entry X) (m : Entries X) (is_covered : Bool) → held_entries (Single e) ≡ m
+    → is_covered ≡ nat_le e.id.counter (slice_index v e.index)
+    → AreDistinct table → length table ≡ length v → StandBeside table m.entries m.indices
+    → cond is_covered [] ((e.id, e.value) ∷ []) ≡ without (covers (by_table table v)) m.entries
 left {X = X} table v e m is_covered seen is distinct wide stand =
-    let alone : StandBeside table ((e.id, e.value) ∷ []) (e.index ∷ []) = subst (λ (n : Entries X). StandBeside table n.entries n.indices) (sym seen) stand in
+    let alone : StandBeside table ((e.id, e.value) ∷ []) (e.index ∷ []) = subst (λ (n : Entries X). StandBeside table n.entries n.indices)
+    (sym seen) stand in
     ap (λ b. cond b [] ((e.id, e.value) ∷ [])) is
     ∙ sym (single_without table v e.id e.index e.value distinct wide alone)
     ∙ ap (λ (n : Entries X). without (covers (by_table table v)) n.entries) seen
@@ -23,7 +26,9 @@ left {X = X} table v e m is_covered seen is distinct wide stand =
 pub returns-then-covers-clause-without : goal.returns-then-covers-clause-without
 returns-then-covers-clause-without g c table distinct wide stand =
     let seen : held_entries (Single c.in-Single.entry) ≡ c.args.self.now = ap held_entries (sym c.in-Single.is) ∙ c.self.view_is in
-    rw c.take_single.ensures.empty (left table c.args.vector.now c.in-Single.entry c.args.self.now _ seen (sym c.if-covers.true ∙ c.covers.ensures) distinct wide stand)
+    rw c.take_single.ensures.empty
+    (left table c.args.vector.now c.in-Single.entry c.args.self.now _ seen
+    (sym c.if-covers.true ∙ c.covers.ensures) distinct wide stand)
 
 pub returns-else-covers-clause-without : goal.returns-else-covers-clause-without
 returns-else-covers-clause-without g c table distinct wide stand =

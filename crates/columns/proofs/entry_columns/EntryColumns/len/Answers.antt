@@ -8,7 +8,8 @@ pub returns-clause-length : goal.returns-clause-length
 returns-clause-length g c =
     let d = c.self.inside in
     let long : c.len.result ≡ length d.beside.items = search rules in
-    long ∙ sym (length-entries_of d.ids.ids d.beside.items c.self.invariant.long) ∙ ap (λ (m : Entries g.row.T.Denot). length m.entries) c.self.view_is
+    long ∙ sym (length-entries_of d.ids.ids d.beside.items c.self.invariant.long)
+    ∙ ap (λ (m : Entries g.row.T.Denot). length m.entries) c.self.view_is
 
 pub returns-clause-beside : goal.returns-clause-beside
 returns-clause-beside g c =

@@ -11,13 +11,15 @@ invariant_of-self g c =
     let d = c.self.inside in
     record {
       long = c.put_in.ensures.long;
-      rising = rw c.put_in.ensures.entries (rising_put id_cmp id_total c.args.id c.args.value (entries_of d.ids.ids d.beside.items) c.self.invariant.rising);
+      rising = rw c.put_in.ensures.entries
+          (rising_put id_cmp id_total c.args.id c.args.value (entries_of d.ids.ids d.beside.items) c.self.invariant.rising);
     }
 
 pub returns-clause-beside : goal.returns-clause-beside
 returns-clause-beside g c table at stand =
     let d = c.self.inside in
     let es = entries_of d.ids.ids d.beside.items in
-    let old : StandBeside table es (indices_of d.ids.ids) = subst (λ (m : Entries g.row.T.Denot). StandBeside table m.entries m.indices) (sym c.self.view_is) stand in
+    let old : StandBeside table es (indices_of d.ids.ids) = subst (λ (m : Entries g.row.T.Denot). StandBeside table m.entries m.indices)
+    (sym c.self.view_is) stand in
     let new = stand_beside-put table c.args.id c.args.index c.args.value es (indices_of d.ids.ids) c.self.invariant.rising at old in
     rw (c.put_in.ensures.entries, c.put_in.ensures.indices) new

@@ -12,7 +12,8 @@ pub at-requires : goal.at-requires
 at-requires c =
     let d = c.self.inside in
     let values = numbered 0 d.numbers.items d.keys.numbers in
-    let within : c.args.position < length (zip d.keys.keys values) = subst (λ (m : Numbered Name). c.args.position < length m.entries) (sym c.self.view_is) c.requires in
+    let within : c.args.position < length (zip d.keys.keys values) = subst (λ (m : Numbered Name). c.args.position < length m.entries)
+    (sym c.self.view_is) c.requires in
     let long = zip-length d.keys.keys values (values_long d.keys d.numbers.items c.self.invariant) in
     omega arith
 
@@ -27,5 +28,6 @@ returns c =
     let d = c.self.inside in
     let ns = d.numbers.items in
     ap (λ (m : Numbered Name). slice_get m.entries c.args.position) (sym c.self.view_is)
-    ∙ entry_at-zip name_cmp d.keys.keys (numbered 0 ns d.keys.numbers) (values_long d.keys ns c.self.invariant) c.args.position c.at.result.now c.index.result.now c.at.ensures
+    ∙ entry_at-zip name_cmp d.keys.keys (numbered 0 ns d.keys.numbers)
+    (values_long d.keys ns c.self.invariant) c.args.position c.at.result.now c.index.result.now c.at.ensures
     (value_at d.keys ns c.args.position c.number.result c.index.result.now c.self.invariant c.number.ensures.number c.index.ensures)

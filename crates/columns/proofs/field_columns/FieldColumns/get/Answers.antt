@@ -23,12 +23,16 @@ returns-in-Ok c =
     let d = c.self.inside in
     let ns = d.numbers.items in
     let at = c.in-Ok.ensures.position in
-    ap Some (value_at d.keys ns c.in-Ok.position c.number.result c.index.result.now c.self.invariant c.number.ensures.number c.index.ensures)
-    ∙ sym (find_there-zip name_cmp d.keys.keys (numbered 0 ns d.keys.numbers) (values_long d.keys ns c.self.invariant) name_total c.args.key.now c.in-Ok.position c.index.result.now at.0 at.1)
+    ap Some
+    (value_at d.keys ns c.in-Ok.position c.number.result c.index.result.now c.self.invariant c.number.ensures.number c.index.ensures)
+    ∙ sym
+    (find_there-zip name_cmp d.keys.keys (numbered 0 ns d.keys.numbers)
+    (values_long d.keys ns c.self.invariant) name_total c.args.key.now c.in-Ok.position c.index.result.now at.0 at.1)
     ∙ ap (λ (m : Numbered Name). find name_cmp c.args.key.now m.entries) c.self.view_is
 
 pub returns-in-Err : goal.returns-in-Err
 returns-in-Err c =
     let d = c.self.inside in
-    sym (find_absent-zip name_cmp d.keys.keys (numbered 0 d.numbers.items d.keys.numbers) (values_long d.keys d.numbers.items c.self.invariant) c.args.key.now c.in-Err.field-0 c.in-Err.ensures.position)
+    sym (find_absent-zip name_cmp d.keys.keys (numbered 0 d.numbers.items d.keys.numbers)
+    (values_long d.keys d.numbers.items c.self.invariant) c.args.key.now c.in-Err.field-0 c.in-Err.ensures.position)
     ∙ ap (λ (m : Numbered Name). find name_cmp c.args.key.now m.entries) c.self.view_is

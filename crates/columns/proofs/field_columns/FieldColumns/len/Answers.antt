@@ -11,9 +11,13 @@ use Rattle.columns.proofs.field_columns.FieldColumns.len.Goals as goal
 pub returns-clause-length : goal.returns-clause-length
 returns-clause-length c =
     let d = c.self.inside in
-    c.len.ensures.length ∙ sym (zip-length d.keys.keys (numbered 0 d.numbers.items d.keys.numbers) (values_long d.keys d.numbers.items c.self.invariant)) ∙ ap (λ (m : Numbered Name). length m.entries) c.self.view_is
+    c.len.ensures.length ∙ sym
+    (zip-length d.keys.keys (numbered 0 d.numbers.items d.keys.numbers) (values_long d.keys d.numbers.items c.self.invariant))
+    ∙ ap (λ (m : Numbered Name). length m.entries) c.self.view_is
 
 pub returns-clause-rising : goal.returns-clause-rising
 returns-clause-rising c =
     let d = c.self.inside in
-    ap (λ (m : Numbered Name). is_sorted name_cmp m.entries) (sym c.self.view_is) ∙ rising_zip name_cmp d.keys.keys (numbered 0 d.numbers.items d.keys.numbers) (values_long d.keys d.numbers.items c.self.invariant) c.len.ensures.rising
+    ap (λ (m : Numbered Name). is_sorted name_cmp m.entries) (sym c.self.view_is)
+    ∙ rising_zip name_cmp d.keys.keys (numbered 0 d.numbers.items d.keys.numbers)
+    (values_long d.keys d.numbers.items c.self.invariant) c.len.ensures.rising

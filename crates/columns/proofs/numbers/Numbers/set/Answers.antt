@@ -18,7 +18,8 @@ unreachable-requires c =
 pub invariant_of-self : goal.invariant_of-self
 invariant_of-self c =
     let es = c.self.inside.entries.items in
-    rw (c.replace.ensures.items ∙ put_own es c.args.id.now c.args.number c.in-Ok.position c.in-Ok.ensures) (rising_put id_cmp id_total c.args.id.now c.args.number es c.self.invariant)
+    rw (c.replace.ensures.items ∙ put_own es c.args.id.now c.args.number c.in-Ok.position c.in-Ok.ensures)
+    (rising_put id_cmp id_total c.args.id.now c.args.number es c.self.invariant)
 
 pub returns-clause-entries : goal.returns-clause-entries
 returns-clause-entries c =

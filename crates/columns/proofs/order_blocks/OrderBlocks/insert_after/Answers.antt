@@ -14,7 +14,8 @@ put-requires-2-clause-within c =
     let r = c.index_mut.result.now in
     let inside : k < length runs = subst (λ rs. k < length rs) c.deref-2.ensures.value c.goes_to-at.ensures.inside in
     let is : slice_get runs k ≡ Some r = slice_get_read runs _ k r refl inside c.index_mut.ensures.value in
-    subst (λ xs. c.goes_to-at.result.index ≤ length xs) (ap (λ rs. items_at rs k) c.deref-2.ensures.value ∙ items_here runs k r is) c.goes_to-at.ensures.within
+    subst (λ xs. c.goes_to-at.result.index ≤ length xs)
+    (ap (λ rs. items_at rs k) c.deref-2.ensures.value ∙ items_here runs k r is) c.goes_to-at.ensures.within
 
 pub put-requires-2-clause-room : goal.put-requires-2-clause-room
 put-requires-2-clause-room c =
@@ -24,7 +25,8 @@ put-requires-2-clause-room c =
     let r = c.index_mut.result.now in
     let inside : k < length runs = subst (λ rs. k < length rs) c.deref-2.ensures.value c.goes_to-at.ensures.inside in
     let is : slice_get runs k ≡ Some r = slice_get_read runs _ k r refl inside c.index_mut.ensures.value in
-    let room = (room_parts d.homes.room (room_at runs d.last.block) (subst (λ (o : Order). 0 < o.room) (sym c.self.view_is) c.requires.room)).1 in
+    let room = (room_parts d.homes.room (room_at runs d.last.block)
+    (subst (λ (o : Order). 0 < o.room) (sym c.self.view_is) c.requires.room)).1 in
     roomy runs d.homes.entries d.last.block c.self.invariant room k r is
 
 pub invariant_of-self : goal.invariant_of-self
@@ -34,14 +36,19 @@ invariant_of-self c =
     let a = c.args.id in
     let k = c.goes_to-at.result.block in
     let r = c.index_mut.result.now in
-    let goes : GoesIn runs a c.in-Some.from.block c.in-Some.from.index k c.goes_to-at.result.index = subst (λ rs. GoesIn rs a c.in-Some.from.block c.in-Some.from.index k c.goes_to-at.result.index) c.deref-2.ensures.value c.goes_to-at.ensures in
-    let behind : IsBehind runs c.args.prev c.in-Some.from.block c.in-Some.from.index = subst (λ rs. IsBehind rs c.args.prev c.in-Some.from.block c.in-Some.from.index) c.deref.ensures.value c.in-Some.ensures in
+    let goes : GoesIn runs a c.in-Some.from.block c.in-Some.from.index k c.goes_to-at.result.index = subst
+    (λ rs. GoesIn rs a c.in-Some.from.block c.in-Some.from.index k c.goes_to-at.result.index) c.deref-2.ensures.value
+    c.goes_to-at.ensures in
+    let behind : IsBehind runs c.args.prev c.in-Some.from.block c.in-Some.from.index = subst
+    (λ rs. IsBehind rs c.args.prev c.in-Some.from.block c.in-Some.from.index) c.deref.ensures.value c.in-Some.ensures in
     let is : slice_get runs k ≡ Some r = slice_get_read runs _ k r refl goes.inside c.index_mut.ensures.value in
     let is_too : slice_get runs k ≡ Some c.index.result.now = slice_get_read runs _ k c.index.result.now refl goes.inside c.index.ensures in
     let number = ap (λ (o : Run). o.number) (same_run runs k c.index.result.now r is_too is) in
     let absent : has_item a (joined runs) ≡ false = ap (λ (o : Order). has_item a o.items) c.self.view_is ∙ c.requires.id in
-    let room = (room_parts d.homes.room (room_at runs d.last.block) (subst (λ (o : Order). 0 < o.room) (sym c.self.view_is) c.requires.room)).1 in
-    let done = placed runs d.homes.entries d.last.block c.args.prev a c.in-Some.from.block c.in-Some.from.index k c.goes_to-at.result.index r c.put-2.new.self c.self.invariant absent room behind goes is
+    let room = (room_parts d.homes.room (room_at runs d.last.block)
+    (subst (λ (o : Order). 0 < o.room) (sym c.self.view_is) c.requires.room)).1 in
+    let done = placed runs d.homes.entries d.last.block c.args.prev a c.in-Some.from.block c.in-Some.from.index k
+    c.goes_to-at.result.index r c.put-2.new.self c.self.invariant absent room behind goes is
     c.put-2.ensures.number c.put-2.ensures.items c.put-2.ensures.flags in
     rw (c.put.ensures.entries, c.number.ensures, number) done.blocks
 
@@ -52,14 +59,19 @@ returns-clause-items c =
     let a = c.args.id in
     let k = c.goes_to-at.result.block in
     let r = c.index_mut.result.now in
-    let goes : GoesIn runs a c.in-Some.from.block c.in-Some.from.index k c.goes_to-at.result.index = subst (λ rs. GoesIn rs a c.in-Some.from.block c.in-Some.from.index k c.goes_to-at.result.index) c.deref-2.ensures.value c.goes_to-at.ensures in
-    let behind : IsBehind runs c.args.prev c.in-Some.from.block c.in-Some.from.index = subst (λ rs. IsBehind rs c.args.prev c.in-Some.from.block c.in-Some.from.index) c.deref.ensures.value c.in-Some.ensures in
+    let goes : GoesIn runs a c.in-Some.from.block c.in-Some.from.index k c.goes_to-at.result.index = subst
+    (λ rs. GoesIn rs a c.in-Some.from.block c.in-Some.from.index k c.goes_to-at.result.index) c.deref-2.ensures.value
+    c.goes_to-at.ensures in
+    let behind : IsBehind runs c.args.prev c.in-Some.from.block c.in-Some.from.index = subst
+    (λ rs. IsBehind rs c.args.prev c.in-Some.from.block c.in-Some.from.index) c.deref.ensures.value c.in-Some.ensures in
     let is : slice_get runs k ≡ Some r = slice_get_read runs _ k r refl goes.inside c.index_mut.ensures.value in
     let is_too : slice_get runs k ≡ Some c.index.result.now = slice_get_read runs _ k c.index.result.now refl goes.inside c.index.ensures in
     let number = ap (λ (o : Run). o.number) (same_run runs k c.index.result.now r is_too is) in
     let absent : has_item a (joined runs) ≡ false = ap (λ (o : Order). has_item a o.items) c.self.view_is ∙ c.requires.id in
-    let room = (room_parts d.homes.room (room_at runs d.last.block) (subst (λ (o : Order). 0 < o.room) (sym c.self.view_is) c.requires.room)).1 in
-    let done = placed runs d.homes.entries d.last.block c.args.prev a c.in-Some.from.block c.in-Some.from.index k c.goes_to-at.result.index r c.put-2.new.self c.self.invariant absent room behind goes is
+    let room = (room_parts d.homes.room (room_at runs d.last.block)
+    (subst (λ (o : Order). 0 < o.room) (sym c.self.view_is) c.requires.room)).1 in
+    let done = placed runs d.homes.entries d.last.block c.args.prev a c.in-Some.from.block c.in-Some.from.index k
+    c.goes_to-at.result.index r c.put-2.new.self c.self.invariant absent room behind goes is
     c.put-2.ensures.number c.put-2.ensures.items c.put-2.ensures.flags in
     done.items ∙ ap (λ (o : Order). insert_after c.args.prev a o.items) c.self.view_is
 
@@ -70,13 +82,18 @@ returns-clause-visible c =
     let a = c.args.id in
     let k = c.goes_to-at.result.block in
     let r = c.index_mut.result.now in
-    let goes : GoesIn runs a c.in-Some.from.block c.in-Some.from.index k c.goes_to-at.result.index = subst (λ rs. GoesIn rs a c.in-Some.from.block c.in-Some.from.index k c.goes_to-at.result.index) c.deref-2.ensures.value c.goes_to-at.ensures in
-    let behind : IsBehind runs c.args.prev c.in-Some.from.block c.in-Some.from.index = subst (λ rs. IsBehind rs c.args.prev c.in-Some.from.block c.in-Some.from.index) c.deref.ensures.value c.in-Some.ensures in
+    let goes : GoesIn runs a c.in-Some.from.block c.in-Some.from.index k c.goes_to-at.result.index = subst
+    (λ rs. GoesIn rs a c.in-Some.from.block c.in-Some.from.index k c.goes_to-at.result.index) c.deref-2.ensures.value
+    c.goes_to-at.ensures in
+    let behind : IsBehind runs c.args.prev c.in-Some.from.block c.in-Some.from.index = subst
+    (λ rs. IsBehind rs c.args.prev c.in-Some.from.block c.in-Some.from.index) c.deref.ensures.value c.in-Some.ensures in
     let is : slice_get runs k ≡ Some r = slice_get_read runs _ k r refl goes.inside c.index_mut.ensures.value in
     let is_too : slice_get runs k ≡ Some c.index.result.now = slice_get_read runs _ k c.index.result.now refl goes.inside c.index.ensures in
     let number = ap (λ (o : Run). o.number) (same_run runs k c.index.result.now r is_too is) in
     let absent : has_item a (joined runs) ≡ false = ap (λ (o : Order). has_item a o.items) c.self.view_is ∙ c.requires.id in
-    let room = (room_parts d.homes.room (room_at runs d.last.block) (subst (λ (o : Order). 0 < o.room) (sym c.self.view_is) c.requires.room)).1 in
-    let done = placed runs d.homes.entries d.last.block c.args.prev a c.in-Some.from.block c.in-Some.from.index k c.goes_to-at.result.index r c.put-2.new.self c.self.invariant absent room behind goes is
+    let room = (room_parts d.homes.room (room_at runs d.last.block)
+    (subst (λ (o : Order). 0 < o.room) (sym c.self.view_is) c.requires.room)).1 in
+    let done = placed runs d.homes.entries d.last.block c.args.prev a c.in-Some.from.block c.in-Some.from.index k
+    c.goes_to-at.result.index r c.put-2.new.self c.self.invariant absent room behind goes is
     c.put-2.ensures.number c.put-2.ensures.items c.put-2.ensures.flags in
     done.shown ∙ ap (λ (o : Order). o.visible) c.self.view_is

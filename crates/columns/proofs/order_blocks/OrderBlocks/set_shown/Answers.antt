@@ -14,7 +14,8 @@ use Rattle.columns.proofs.order_blocks.OrderBlocks.set_shown.Goals as goal
 pub unwrap-home-requires : goal.unwrap-home-requires
 unwrap-home-requires c =
     let d = c.self.inside in
-    let there : has_item c.args.id.now (joined d.blocks.items) ≡ true = ap (λ (o : Order). has_item c.args.id.now o.items) c.self.view_is ∙ c.requires in
+    let there : has_item c.args.id.now (joined d.blocks.items) ≡ true = ap (λ (o : Order). has_item c.args.id.now o.items) c.self.view_is
+    ∙ c.requires in
     ap is_some c.get.ensures ∙ is_some-find id_cmp c.args.id.now d.homes.entries ∙ c.self.invariant.at_home.only c.args.id.now ∙ there
 
 pub set_shown-requires : goal.set_shown-requires
@@ -23,7 +24,8 @@ set_shown-requires c =
     let id = c.args.id.now in
     let at = c.unwrap-at.result in
     let r = c.index_mut.result.now in
-    let stands : StandsAt runs id at.block at.index = subst (λ rs. StandsAt rs id at.block at.index) c.deref.ensures.value (subst (IsFound c.deref.result.now id) c.unwrap-at.ensures c.find.ensures) in
+    let stands : StandsAt runs id at.block at.index = subst (λ rs. StandsAt rs id at.block at.index) c.deref.ensures.value
+    (subst (IsFound c.deref.result.now id) c.unwrap-at.ensures c.find.ensures) in
     let is : slice_get runs at.block ≡ Some r = slice_get_read runs _ at.block r refl stands.inside c.index_mut.ensures.value in
     slice_get_within r.items at.index id (ap (λ xs. slice_get xs at.index) (sym (items_here runs at.block r is)) ∙ stands.there)
 
@@ -35,11 +37,14 @@ invariant_of-self c =
     let at = c.unwrap-at.result in
     let r = c.index_mut.result.now in
     let q = c.set_shown.new.self in
-    let stands : StandsAt runs id at.block at.index = subst (λ rs. StandsAt rs id at.block at.index) c.deref.ensures.value (subst (IsFound c.deref.result.now id) c.unwrap-at.ensures c.find.ensures) in
+    let stands : StandsAt runs id at.block at.index = subst (λ rs. StandsAt rs id at.block at.index) c.deref.ensures.value
+    (subst (IsFound c.deref.result.now id) c.unwrap-at.ensures c.find.ensures) in
     let is : slice_get runs at.block ≡ Some r = slice_get_read runs _ at.block r refl stands.inside c.index_mut.ensures.value in
-    let long : length q.flags ≡ length q.items = ap length c.set_shown.ensures.flags ∙ length-set r.flags at.index c.args.shown ∙ c.self.invariant.long at.block r is ∙ ap length (sym c.set_shown.ensures.items) in
+    let long : length q.flags ≡ length q.items = ap length c.set_shown.ensures.flags ∙ length-set r.flags at.index c.args.shown
+    ∙ c.self.invariant.long at.block r is ∙ ap length (sym c.set_shown.ensures.items) in
     let same = c.set_shown.ensures.room in
-    blocks_same runs at.block r q is d.homes.entries d.last.block c.self.invariant c.set_shown.ensures.number c.set_shown.ensures.items long (omega (arith, same))
+    blocks_same runs at.block r q is d.homes.entries d.last.block c.self.invariant c.set_shown.ensures.number c.set_shown.ensures.items long
+    (omega (arith, same))
 
 pub returns-clause-items : goal.returns-clause-items
 returns-clause-items c =
@@ -48,7 +53,8 @@ returns-clause-items c =
     let at = c.unwrap-at.result in
     let r = c.index_mut.result.now in
     let q = c.set_shown.new.self in
-    let stands : StandsAt runs id at.block at.index = subst (λ rs. StandsAt rs id at.block at.index) c.deref.ensures.value (subst (IsFound c.deref.result.now id) c.unwrap-at.ensures c.find.ensures) in
+    let stands : StandsAt runs id at.block at.index = subst (λ rs. StandsAt rs id at.block at.index) c.deref.ensures.value
+    (subst (IsFound c.deref.result.now id) c.unwrap-at.ensures c.find.ensures) in
     let is : slice_get runs at.block ≡ Some r = slice_get_read runs _ at.block r refl stands.inside c.index_mut.ensures.value in
     joined_same runs at.block r q is c.set_shown.ensures.items ∙ ap (λ (o : Order). o.items) c.self.view_is
 
@@ -60,14 +66,21 @@ returns-clause-visible c = λ f e.
     let at = c.unwrap-at.result in
     let r = c.index_mut.result.now in
     let q = c.set_shown.new.self in
-    let stands : StandsAt runs id at.block at.index = subst (λ rs. StandsAt rs id at.block at.index) c.deref.ensures.value (subst (IsFound c.deref.result.now id) c.unwrap-at.ensures c.find.ensures) in
+    let stands : StandsAt runs id at.block at.index = subst (λ rs. StandsAt rs id at.block at.index) c.deref.ensures.value
+    (subst (IsFound c.deref.result.now id) c.unwrap-at.ensures c.find.ensures) in
     let is : slice_get runs at.block ≡ Some r = slice_get_read runs _ at.block r refl stands.inside c.index_mut.ensures.value in
-    let there : slice_get r.items at.index ≡ Some id = ap (λ xs. slice_get xs at.index) (sym (items_here runs at.block r is)) ∙ stands.there in
-    let long : length q.flags ≡ length q.items = ap length c.set_shown.ensures.flags ∙ length-set r.flags at.index c.args.shown ∙ c.self.invariant.long at.block r is ∙ ap length (sym c.set_shown.ensures.items) in
+    let there : slice_get r.items at.index ≡ Some id = ap (λ xs. slice_get xs at.index) (sym (items_here runs at.block r is))
+    ∙ stands.there in
+    let long : length q.flags ≡ length q.items = ap length c.set_shown.ensures.flags ∙ length-set r.flags at.index c.args.shown
+    ∙ c.self.invariant.long at.block r is ∙ ap length (sym c.set_shown.ensures.items) in
     let same = c.set_shown.ensures.room in
-    let after = blocks_same runs at.block r q is d.homes.entries d.last.block c.self.invariant c.set_shown.ensures.number c.set_shown.ensures.items long (omega (arith, same)) in
-    shown_changed r q at.index id c.args.shown c.set_shown.ensures.items c.set_shown.ensures.flags runs at.block f c.self.invariant.long after.long c.self.invariant.apart
-    (joined_same runs at.block r q is c.set_shown.ensures.items) is there (ap (λ (o : Order). o.visible) c.self.view_is ∙ e ∙ ap (λ (o : Order). filter f o.items) (sym c.self.view_is))
+    let after = blocks_same runs at.block r q is d.homes.entries d.last.block c.self.invariant c.set_shown.ensures.number
+    c.set_shown.ensures.items long
+    (omega (arith, same)) in
+    shown_changed r q at.index id c.args.shown c.set_shown.ensures.items c.set_shown.ensures.flags runs at.block f c.self.invariant.long
+    after.long c.self.invariant.apart
+    (joined_same runs at.block r q is c.set_shown.ensures.items) is there
+    (ap (λ (o : Order). o.visible) c.self.view_is ∙ e ∙ ap (λ (o : Order). filter f o.items) (sym c.self.view_is))
     ∙ ap (λ (o : Order). filter (λ x. cond (is_same_id x id) c.args.shown (f x)) o.items) c.self.view_is
 
 pub returns-clause-room : goal.returns-clause-room
@@ -78,6 +91,8 @@ returns-clause-room c =
     let at = c.unwrap-at.result in
     let r = c.index_mut.result.now in
     let q = c.set_shown.new.self in
-    let stands : StandsAt runs id at.block at.index = subst (λ rs. StandsAt rs id at.block at.index) c.deref.ensures.value (subst (IsFound c.deref.result.now id) c.unwrap-at.ensures c.find.ensures) in
+    let stands : StandsAt runs id at.block at.index = subst (λ rs. StandsAt rs id at.block at.index) c.deref.ensures.value
+    (subst (IsFound c.deref.result.now id) c.unwrap-at.ensures c.find.ensures) in
     let is : slice_get runs at.block ≡ Some r = slice_get_read runs _ at.block r refl stands.inside c.index_mut.ensures.value in
-    ap (λ n. min d.homes.room (min 1 n)) (room_same runs at.block r q is c.set_shown.ensures.room d.last.block) ∙ ap (λ (o : Order). o.room) c.self.view_is
+    ap (λ n. min d.homes.room (min 1 n)) (room_same runs at.block r q is c.set_shown.ensures.room d.last.block)
+    ∙ ap (λ (o : Order). o.room) c.self.view_is

@@ -21,4 +21,5 @@ invariant_of-result c =
 
 pub returns : goal.returns
 returns c items =
-    inl (ap (λ e. Ok (HeadOf e)) (leads_to c) ∙ sym (step_from-Idx items c.args.self.now (sym c.check_room.ensures ∙ c.in_ok-check_room.was)))
+    inl (ap (λ e. Ok (HeadOf e)) (leads_to c)
+    ∙ sym (step_from-Idx items c.args.self.now (sym c.check_room.ensures ∙ c.in_ok-check_room.was)))

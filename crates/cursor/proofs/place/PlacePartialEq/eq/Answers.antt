@@ -15,7 +15,8 @@ use Rattle.cursor.specs.Places.{is_head}
 use Rattle.cursor.specs.Equality.{is_same_place, key_decides}
 use Rattle.cursor.proofs.place.PlacePartialEq.eq.Goals as goal
 
-paths_of_hops : (hs ks : List Hop) → pointwise (λ h k. is_same_key (hop_of h) (hop_of k)) hs ks ≡ pointwise is_same_key (map hop_of hs) (map hop_of ks)
+paths_of_hops : (hs ks : List Hop)
+    → pointwise (λ h k. is_same_key (hop_of h) (hop_of k)) hs ks ≡ pointwise is_same_key (map hop_of hs) (map hop_of ks)
 paths_of_hops [] [] = refl
 paths_of_hops [] (k ∷ ks) = refl
 paths_of_hops (h ∷ hs) [] = refl
@@ -25,7 +26,8 @@ same_paths : (e f : Element) → pointwise is_same_key (keys_from_root e) (keys_
 same_paths e f =
     let decides = pointwise_decides key_decides (keys_from_root e) (keys_from_root f) in
     both_ways _ _
-    (λ h. let is : e ≡ f = sym (down-keys_from_root e) ∙ ap (down Doc) (decides.0 h) ∙ down-keys_from_root f in rw (← is) (element_itself e))
+    (λ h. let is : e ≡ f = sym (down-keys_from_root e) ∙ ap (down Doc) (decides.0 h) ∙ down-keys_from_root f in
+    rw (← is) (element_itself e))
     (λ h. decides.1 (ap keys_from_root (same_elements e f h)))
 
 same_tests : (a b : Bool) → beq a b ≡ true → a ≡ b

@@ -59,4 +59,5 @@ invariant_of-self c =
     (c.apply.ensures.applied ∙ ap (λ (s : Stamped). apply (document d.tree) (loose_operation s)) same)
     (ap length c.raise.ensures ∙ length-set d.applied c.in-Some.index _)
     (λ p. ap (λ next. component table next p) c.raise.ensures
-    ∙ component-raised table d.applied c.in-Some.index id.counter p id.replica c.self.invariant.distinct within c.self.invariant.width there))
+    ∙ component-raised table d.applied c.in-Some.index id.counter p id.replica c.self.invariant.distinct within c.self.invariant.width
+    there))

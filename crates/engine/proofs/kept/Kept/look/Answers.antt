@@ -19,5 +19,6 @@ returns-clause-answer g c =
           ∙ c.in_ok-given.ensures.0
           ∙ ap (λ (G : List Entry). Some (record { reply = reply; history = G })) (sym c.again.ensures),
       subst (λ (x : Item). IsAnswer own table c.again.result (submitted_of table x) (reply_of reply)) here
-          (subst (λ (G : List Entry). IsAnswer own table G (submitted_of table item) (reply_of reply)) (sym c.again.ensures) c.in_ok-given.ensures.1),
+          (subst (λ (G : List Entry). IsAnswer own table G (submitted_of table item) (reply_of reply)) (sym c.again.ensures)
+          c.in_ok-given.ensures.1),
     )

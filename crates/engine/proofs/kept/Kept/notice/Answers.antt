@@ -14,5 +14,6 @@ returns g c =
       record { reply = given.reply; history = given.notice },
       refl,
       subst
-          (λ (x : Item). IsAnswer own table given.notice (submitted_of table x) (reply_of given.reply)) (c.deref-2.ensures ∙ here) c.in_ok-given.ensures.1,
+          (λ (x : Item). IsAnswer own table given.notice (submitted_of table x) (reply_of given.reply)) (c.deref-2.ensures ∙ here)
+          c.in_ok-given.ensures.1,
     )

@@ -19,5 +19,6 @@ close-last-requires g c =
     let are : AreClients queue 0 opened = search rules in
     let kept : AreClients queue 0 once = are_set queue 0 0 opened c.index_mut.result.now c.submit-one.new.self first one.0 one.1 are in
     let again : AreClients queue 0
-    (slice_set once 0 c.submit-two.new.self) = are_set queue 0 0 once c.index_mut-2.result.now c.submit-two.new.self second other.0 other.1 kept in
+    (slice_set once 0 c.submit-two.new.self) = are_set queue 0 0 once c.index_mut-2.result.now c.submit-two.new.self second other.0
+    other.1 kept in
     subst (λ q. AreClients q 0 (slice_set once 0 c.submit-two.new.self)) (search rules) again

@@ -52,7 +52,8 @@ returns-clause-kept c table kept =
     ap (λ es. waiting_in table (ops_at c.insert.new.self es))
     (c.put.ensures.entries ∙ ap (put id_cmp c.args.op.id c.in-Ok.key) c.reserve_one.ensures.same)
     ∙ ap (waiting_in table)
-    (put-ops_at d.ops c.insert.new.self d.keys.entries c.in-Ok.key c.args.op c.in-Ok.ensures.was_vacant c.in-Ok.ensures.updates none c.self.invariant.at_keys)
+    (put-ops_at d.ops c.insert.new.self d.keys.entries c.in-Ok.key c.args.op c.in-Ok.ensures.was_vacant c.in-Ok.ensures.updates none
+    c.self.invariant.at_keys)
     ∙ waiting-put table c.args.op (ops_at d.ops d.keys.entries)
     ∙ ap (λ ops. put_waiting (stamped_of table c.args.op) (waiting_in table ops)) c.self.view_is
 
@@ -64,6 +65,7 @@ returns-clause-among c o m =
     (ap (λ ops. is_waiting (waiting_in table ops) c.args.op.id) c.self.view_is ∙ sym (c.contains.ensures table)
     ∙ c.if-contains.false) in
     let now = ap (ops_at c.insert.new.self) (c.put.ensures.entries ∙ ap (put id_cmp c.args.op.id c.in-Ok.key) c.reserve_one.ensures.same)
-    ∙ put-ops_at d.ops c.insert.new.self d.keys.entries c.in-Ok.key c.args.op c.in-Ok.ensures.was_vacant c.in-Ok.ensures.updates none c.self.invariant.at_keys in
+    ∙ put-ops_at d.ops c.insert.new.self d.keys.entries c.in-Ok.key c.args.op c.in-Ok.ensures.was_vacant c.in-Ok.ensures.updates none
+    c.self.invariant.at_keys in
     subst (λ ops. (o ≡ c.args.op) ⊎ IsAmong o ops) c.self.view_is
     (in_put c.args.op (ops_at d.ops d.keys.entries) o (subst (IsAmong o) now m))

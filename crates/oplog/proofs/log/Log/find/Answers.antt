@@ -11,13 +11,16 @@ pub returns-in_err-index : goal.returns-in_err-index
 returns-in_err-index c =
     let d = c.self.inside in
     c.from_residual.ensures
-    ∙ sym (absent_elsewhere d.table (history d.table d.entries.items) c.args.id (c.in_err-index.ensures.none.0 refl) c.self.invariant.members)
+    ∙ sym
+    (absent_elsewhere d.table (history d.table d.entries.items) c.args.id (c.in_err-index.ensures.none.0 refl) c.self.invariant.members)
     ∙ ap (λ (l : Logged). position_of c.args.id l.entries) c.self.view_is
 
 pub index-requires : goal.index-requires
 index-requires c =
     let d = c.self.inside in
-    let h = positions_inside (history d.table d.entries.items) d.table d.positions.items c.in_ok-index.index c.args.id.replica c.in_ok-index.ensures.found c.self.invariant.positions_are in
+    let h = positions_inside
+    (history d.table d.entries.items) d.table d.positions.items c.in_ok-index.index c.args.id.replica c.in_ok-index.ensures.found
+    c.self.invariant.positions_are in
     omega arith
 
 pub returns : goal.returns
@@ -31,6 +34,7 @@ returns c =
     let inside = positions_inside G d.table d.positions.items i a.replica found c.self.invariant.positions_are in
     c.get.ensures
     ∙ ap (find id_cmp a)
-    (ap f c.index.ensures ∙ sym (get_or-map f d.positions.items i c.index.result.now [] inside) ∙ ap (λ ms. get_or ms i []) c.self.invariant.positions_are ∙ all_at G d.table i a.replica found)
+    (ap f c.index.ensures ∙ sym (get_or-map f d.positions.items i c.index.result.now [] inside)
+    ∙ ap (λ ms. get_or ms i []) c.self.invariant.positions_are ∙ all_at G d.table i a.replica found)
     ∙ positions_by-find a.replica G a refl
     ∙ ap (λ (l : Logged). position_of a l.entries) c.self.view_is

@@ -12,6 +12,7 @@ returns c =
     let positions = c.sort_unstable.new.self.items in
     let wide : length cs ≡ length d.table = c.requires ∙ ap (λ (l : Logged). length l.table) (sym c.self.view_is) in
     let above = c.in_ok-positions.ensures ∙ ap (numbers_above cs) (ap numbers_of c.deref.ensures.value ∙ c.self.invariant.positions_are) in
-    sorted-missing d.table cs (history d.table d.entries.items) positions c.self.invariant.distinct wide c.self.invariant.members c.self.invariant.own_ids
+    sorted-missing d.table cs
+    (history d.table d.entries.items) positions c.self.invariant.distinct wide c.self.invariant.members c.self.invariant.own_ids
     (subst (λ l. IsPermutation l positions) above c.sort_unstable.ensures.permutation) c.sort_unstable.ensures.sorted
     ∙ ap (λ (l : Logged). missing_positions (by_table l.table cs) l.entries) c.self.view_is

@@ -1,4 +1,5 @@
-use Rattle.std.proofs.Common.{◌≡◌, ◌-◌, sym, ap, ◌∙◌, ◌∷◌, [], IsTrue, map, length, get_or, set, Some, false, subst, arith, vec_len, vec_capacity}
+use Rattle.std.proofs.Common.{◌≡◌, ◌-◌, sym, ap, ◌∙◌, ◌∷◌, [], IsTrue, map, length, get_or, set, Some, false, subst, arith, vec_len}
+use Rattle.std.proofs.Common.{vec_capacity}
 use Rattle.std.specs.List.{All}
 use Rattle.std.specs.FinMap.{put}
 use Rattle.std.proofs.lemmas.List.Elements.{All-push}
@@ -18,7 +19,8 @@ use Rattle.oplog.proofs.log.Log.push.Goals as goal
 pub put_position-requires-clause-inside : goal.put_position-requires-clause-inside
 put_position-requires-clause-inside c =
     let d = c.self.inside in
-    positions_inside (history d.table d.entries.items) d.table d.positions.items c.in-Some.index c.op.result.now.id.replica c.in-Some.ensures.found c.self.invariant.positions_are
+    positions_inside (history d.table d.entries.items) d.table d.positions.items c.in-Some.index c.op.result.now.id.replica
+    c.in-Some.ensures.found c.self.invariant.positions_are
 
 pub put_position-requires-clause-room : goal.put_position-requires-clause-room
 put_position-requires-clause-room c =
@@ -43,21 +45,31 @@ invariant_of-self c =
     let own : c.op.result.now.id ≡ (stamped_in x).id = ap (λ (s : Stamped). s.id) (c.op.ensures.stamped d.table) in
     let position : c.len-position.result ≡ length G = let count = history-length d.table d.entries.items in omega arith in
     let columns = numbers_of d.positions.items in
-    let more : history d.table c.push_reserved.new.self.items ≡ x ∷ G = ap (history d.table) c.push_reserved.ensures.items ∙ history-more d.table d.entries.items e in
+    let more : history d.table c.push_reserved.new.self.items ≡ x ∷ G = ap (history d.table) c.push_reserved.ensures.items
+    ∙ history-more d.table d.entries.items e in
     record {
       distinct = c.self.invariant.distinct;
       positions_are =
           c.put_position.ensures.numbers
-          ∙ (λ t. set (c.self.invariant.positions_are t) i (put id_cmp (own t) (position t) (get_or (c.self.invariant.positions_are t) i [])))
+          ∙ (λ t. set (c.self.invariant.positions_are t) i
+          (put id_cmp (own t) (position t) (get_or (c.self.invariant.positions_are t) i [])))
           ∙ all_more G x d.table i c.self.invariant.distinct (c.in-Some.ensures.found ∙ ap (λ (a : OpId). Some a.replica) own)
           ∙ ap (λ H. map (λ p. positions_by p H) d.table) (sym more);
       members =
-          subst (AreOfMembers d.table) (sym more)
-          (c.self.invariant.members, subst (λ (l : Logged). IsTrue (is_member l.table (stamped_in (entry_of l.table e)).id.replica)) (sym c.self.view_is) c.requires.member);
+          subst (AreOfMembers d.table) (sym more) (
+            c.self.invariant.members,
+            subst (λ (l : Logged). IsTrue (is_member l.table (stamped_in (entry_of l.table e)).id.replica))
+                (sym c.self.view_is) c.requires.member,
+          );
       own_ids =
-          subst HaveOwnIds (sym more)
-          (c.self.invariant.own_ids, unplaced G (stamped_in x).id (subst (λ (l : Logged). has_id (applied l.entries) (stamped_in (entry_of l.table e)).id ≡ false) (sym c.self.view_is) c.requires.new));
+          subst HaveOwnIds (sym more) (
+            c.self.invariant.own_ids,
+            unplaced G (stamped_in x).id
+                (subst (λ (l : Logged). has_id (applied l.entries) (stamped_in (entry_of l.table e)).id ≡ false)
+                (sym c.self.view_is) c.requires.new),
+          );
       wide =
           subst (All (λ f. length (op_in f).deps ≡ length d.table)) (sym c.push_reserved.ensures.items)
-          (All-push (λ f. length (op_in f).deps ≡ length d.table) d.entries.items e c.self.invariant.wide (c.requires.width ∙ ap (λ (l : Logged). length l.table) (sym c.self.view_is)));
+          (All-push (λ f. length (op_in f).deps ≡ length d.table) d.entries.items e c.self.invariant.wide
+          (c.requires.width ∙ ap (λ (l : Logged). length l.table) (sym c.self.view_is)));
     }

@@ -22,7 +22,8 @@ copied c =
     let h = kept_ready n.0 _ _ c.self.view_is n.2 in
     let table = ap (λ (r : Running). r.document.table) c.self.view_is in
     (λ i. stamped_of (sym table i) (c.in_ok-clone.ensures.cases i))
-    ∙ has_its_id _ n.0 c.self.invariant h.next c.in-Some.id n.1 c.in-Some-get.op.now c.in-Some-get.ensures.some.0 c.in-Some-get.ensures.some.1
+    ∙ has_its_id _ n.0 c.self.invariant h.next c.in-Some.id n.1 c.in-Some-get.op.now c.in-Some-get.ensures.some.0
+    c.in-Some-get.ensures.some.1
 
 pub returns-clause-next : goal.returns-clause-next
 returns-clause-next c =

@@ -16,7 +16,9 @@ pub next_of-self-requires : goal.next_of-self-requires
 next_of-self-requires c = walker_inside c.args.nodes.now c.requires.tree c.args.self.now c.requires.walking
 
 -- the element one hop down
-stands : (c : goal.In_ok-push) → place_at (map hop_of c.push.new.self.items) c.args.self.now.is_head ≡ At (child (end_of (map hop_of c.args.self.now.hops.items)) (hop_of c.args.hop))
+stands : (c : goal.In_ok-push)
+    → place_at (map hop_of c.push.new.self.items) c.args.self.now.is_head
+    ≡ At (child (end_of (map hop_of c.args.self.now.hops.items)) (hop_of c.args.hop))
 stands c =
     ap (λ (hops : List Hop). place_at (map hop_of hops) c.args.self.now.is_head) c.in_ok-push.ensures.items
     ∙ ap (place_at (map hop_of (c.args.self.now.hops.items ++ c.args.hop ∷ []))) (no_head c.args.self.now c.requires.room)
@@ -28,11 +30,15 @@ returns-clause-walking c =
     let ns = c.args.nodes.now in
     let e = end_of (map hop_of w.hops.items) in
     record {
-      node = ap (λ (hops : List Hop). number ns (end_of (map hop_of hops))) c.in_ok-push.ensures.items ∙ ap (number ns) (end_further w.hops.items c.args.hop)
-          ∙ number_extend ns e (hop_of c.args.hop) ∙ ap (λ o. next_number ns o (hop_of c.args.hop)) c.requires.walking.node ∙ sym c.next_of-self.ensures;
+      node = ap (λ (hops : List Hop). number ns (end_of (map hop_of hops))) c.in_ok-push.ensures.items
+          ∙ ap (number ns) (end_further w.hops.items c.args.hop)
+          ∙ number_extend ns e (hop_of c.args.hop) ∙ ap (λ o. next_number ns o (hop_of c.args.hop)) c.requires.walking.node
+          ∙ sym c.next_of-self.ensures;
       short =
           let d = ap depth_of (stands c) in
-          let h = depth_below (At e) (ap (λ b. Rattle.cursor.specs.Places.room_at (place_at (map hop_of w.hops.items) b)) (sym (no_head w c.requires.room)) ∙ c.requires.room) in
+          let h = depth_below (At e)
+          (ap (λ b. Rattle.cursor.specs.Places.room_at (place_at (map hop_of w.hops.items) b)) (sym (no_head w c.requires.room))
+          ∙ c.requires.room) in
           let k = depth-child e (hop_of c.args.hop) in
           omega arith;
     }

@@ -9,4 +9,5 @@ use Rattle.tree.proofs.tree.Tree.apply.Goals as goal
 pub returns-clause-applied : goal.returns-clause-applied
 returns-clause-applied c = rw (← c.self.view_is)
     (ap context (with_items_is c.self.inside.nodes c.apply.new.nodes (c.apply.auto.nodes ∙ c.deref_mut.ensures.len))
-    ∙ c.apply.ensures.applied ∙ ap (λ ns. apply (context ns) (loose_operation (stamped_of c.self.inside.table c.args.op.now))) c.deref_mut.ensures.value)
+    ∙ c.apply.ensures.applied
+    ∙ ap (λ ns. apply (context ns) (loose_operation (stamped_of c.self.inside.table c.args.op.now))) c.deref_mut.ensures.value)

@@ -10,10 +10,13 @@ pub invariant_of-result : goal.invariant_of-result
 invariant_of-result c =
     let table = c.in_ok-table.table in
     let distinct : AreDistinct table = subst AreDistinct c.table.view_is (distinct_from_rising _ c.table.invariant.rising) in
-    let one : c.push.new.self.items ≡ c.new.result ∷ [] = c.in_ok-push.ensures.items ∙ ap (λ ns. ns ++ c.new.result ∷ []) c.new-nodes.ensures.items in
-    subst (λ ns. IsPlanted (record { table = table; nodes = ns; scalar = None })) (sym one) (root_planted c.new.result c.new.ensures table None distinct)
+    let one : c.push.new.self.items ≡ c.new.result ∷ [] = c.in_ok-push.ensures.items
+    ∙ ap (λ ns. ns ++ c.new.result ∷ []) c.new-nodes.ensures.items in
+    subst (λ ns. IsPlanted (record { table = table; nodes = ns; scalar = None })) (sym one)
+    (root_planted c.new.result c.new.ensures table None distinct)
 
 pub returns-clause-empty : goal.returns-clause-empty
 returns-clause-empty c =
-    let one : c.push.new.self.items ≡ c.new.result ∷ [] = c.in_ok-push.ensures.items ∙ ap (λ ns. ns ++ c.new.result ∷ []) c.new-nodes.ensures.items in
+    let one : c.push.new.self.items ≡ c.new.result ∷ [] = c.in_ok-push.ensures.items
+    ∙ ap (λ ns. ns ++ c.new.result ∷ []) c.new-nodes.ensures.items in
     ap context one ∙ root_empty c.new.result c.new.ensures

@@ -35,7 +35,8 @@ returns-in-Array-clause-ok c =
 pub returns-in-Array-2-clause-err : goal.returns-in-Array-2-clause-err
 returns-in-Array-2-clause-err c =
     let v = c.in-Array.items in
-    inl (ap (λ j. value_form (view j)) c.in-Array.is ∙ rw (view-Array v) (form_of_items v.items (rw (← v.ok.0) (sym c.if-is_empty.ensures))))
+    inl (ap (λ j. value_form (view j)) c.in-Array.is
+    ∙ rw (view-Array v) (form_of_items v.items (rw (← v.ok.0) (sym c.if-is_empty.ensures))))
 
 pub returns-in-Object-clause-ok : goal.returns-in-Object-clause-ok
 returns-in-Object-clause-ok c =
@@ -45,4 +46,5 @@ returns-in-Object-clause-ok c =
 pub returns-in-Object-2-clause-err : goal.returns-in-Object-2-clause-err
 returns-in-Object-2-clause-err c =
     let m = c.in-Object.members in
-    inl (ap (λ j. value_form (view j)) c.in-Object.is ∙ rw (view-Object m) (form_of_members m.entries (λ e. let t : false ≡ true = c.if-is_empty-2.ensures.1 e in absurd (cc))))
+    inl (ap (λ j. value_form (view j)) c.in-Object.is
+    ∙ rw (view-Object m) (form_of_members m.entries (λ e. let t : false ≡ true = c.if-is_empty-2.ensures.1 e in absurd (cc))))
