@@ -9,7 +9,7 @@ use cursor::Expr;
 use ids::Refusal;
 use items::{Item, Request};
 use once_cell::race::OnceBox;
-use operation::Command;
+use operation::{Command, Shared};
 use published::EngineName;
 use std::alloc::Global;
 use std::marker::Brand;
@@ -134,11 +134,13 @@ fn serial_taken<N: EngineName, R: Wait>(rt: &R, taker: &mut Taker<N>) -> Option<
 fn envelope<N: EngineName>(alloc: Global, serial: u64) -> Result<Envelope<N>, Refusal>
     ensures { IfOk result (λ e. (e.answer.value.item.client ≡ 0) × (e.answer.value.item.serial ≡ serial)) }
 {
+    let command = Command::Delete(Expr::new(Vec::new(alloc)));
+    let command = Shared::new(alloc, command)?;
     let item = Item {
         client: 0,
         serial,
         floor: 0,
-        request: Request::Command(Command::Delete(Expr::new(Vec::new(alloc)))),
+        request: Request::Command(command),
     };
     Ok(Envelope {
         answer: Box::new(alloc, Answer::blank(Arc::new(alloc, item)?))?,

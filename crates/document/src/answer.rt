@@ -16,7 +16,7 @@ ghost use Rattle.document.specs.Documents.{IsBeside, IsKept, asked_of, said_by};
 use crate::question::{Question, Reading};
 use cursor::{ElementPlace, Expr};
 use ids::Refusal;
-use operation::Op;
+use operation::{Op, Shared};
 use oplog::Log;
 use std::alloc::{AllocError, Global};
 use tree::Tree;
@@ -72,8 +72,12 @@ fn find(alloc: Global, tree: &Tree, expression: &Expr) -> Result<ElementPlace, R
     place.into_element().ok_or(Refusal::AtHead)
 }
 
-/// Copies of the operations that the vector doesn't cover, the oldest first.
-pub fn missing(alloc: Global, log: &Log, vector: &VersionVector) -> Result<Vec<Op>, AllocError>
+/// The operations that the vector doesn't cover, the oldest first.
+pub fn missing(
+    alloc: Global,
+    log: &Log,
+    vector: &VersionVector,
+) -> Result<Vec<Shared<Op>>, AllocError>
     requires { length vector.now ≡ length log.now.table }
     ensures ok { IfOk result
         (λ ops. reverse (map (stamped_of log.now.table) ops.items)
@@ -83,13 +87,13 @@ pub fn missing(alloc: Global, log: &Log, vector: &VersionVector) -> Result<Vec<O
     let positions = log.missing(alloc, vector)?;
     let mut ops = Vec::with_capacity(alloc, positions.len())?;
     for position in &positions {
-        push_copy(&mut ops, log, *position)?;
+        push_op(&mut ops, log, *position)?;
     }
     Ok(ops)
 }
 
-/// Appends a copy of the operation at a position, if there is one.
-fn push_copy(ops: &mut Vec<Op>, log: &Log, position: usize) -> Result<(), AllocError>
+/// Appends the operation at a position, if there is one.
+fn push_op(ops: &mut Vec<Shared<Op>>, log: &Log, position: usize) -> Result<(), AllocError>
     ensures op { OnOk result (map (stamped_of log.now.table) ops.new.items
         ≡ map (stamped_of log.now.table) ops.old.items ++ cons_option (option_map stamped_in (entry_at position log.now.entries)) []) }
     ensures width { OnOk result (All (λ o. length o.deps ≡ length log.now.table) ops.old.items

@@ -26,7 +26,7 @@ use crate::check::check;
 use crate::question::{Question, Reading};
 use cursor::{Expr, Place};
 use ids::{OpId, Refusal, ReplicaTable};
-use operation::{Entry, Op};
+use operation::{Entry, Op, Shared};
 use oplog::Log;
 use std::alloc::{AllocError, Global};
 use std::marker::Model;
@@ -209,11 +209,15 @@ impl Document {
         answer(alloc, &self.log, &self.applied, &self.tree, question)
     }
 
-    /// Copies of the operations that the vector doesn't cover, the oldest first.
+    /// The operations that the vector doesn't cover, the oldest first.
     ///
     /// # Errors
     /// `AllocError` if allocation fails.
-    pub fn missing(&self, alloc: Global, vector: &VersionVector) -> Result<Vec<Op>, AllocError>
+    pub fn missing(
+        &self,
+        alloc: Global,
+        vector: &VersionVector,
+    ) -> Result<Vec<Shared<Op>>, AllocError>
         requires { length vector.now ≡ length self.now.table }
         ensures ops { IfOk result
             (λ ops. reverse (map (stamped_of self.now.table) ops.items)

@@ -2,7 +2,7 @@
 
 use cursor::{Expr, Tag};
 use ids::OpId;
-use operation::Op;
+use operation::{Op, Shared};
 use value::{Key, Scalar};
 use version::VersionVector;
 
@@ -35,7 +35,7 @@ pub enum Reading {
     /// The ids of what stands there, each with its tag, rising by id.
     Conflicts(Vec<(OpId, Tag)>),
     /// The operations, the oldest first.
-    Missing(Vec<Op>),
+    Missing(Vec<Shared<Op>>),
     /// For each replica the greatest counter that was applied.
     Vector(VersionVector),
 }

@@ -8,7 +8,7 @@ use cursor::{Place, Tag};
 use document::Document;
 use fixtures::{Pair, id_of};
 use ids::{Refusal, ReplicaId};
-use operation::{Mutation, Op};
+use operation::{Mutation, Op, Shared};
 use playing::Does::{Assign, Insert};
 use playing::Hop::{Field, Head, Item};
 use playing::Step::{Get, Idx};
@@ -20,13 +20,14 @@ use std::test::Fail;
 use value::Val;
 
 /// The operation 1@1 that assigns an empty map at the root, with the vector of all that was applied.
-fn first_op(alloc: Global, document: &Document) -> Result<Op, Fail> {
-    Ok(Op {
+fn first_op(alloc: Global, document: &Document) -> Result<Shared<Op>, Fail> {
+    let op = Op {
         id: id_of((1, 1))?,
         deps: document.applied().clone()?,
         place: Place::doc(alloc),
         mutation: Mutation::Assign(Val::EmptyMap),
-    })
+    };
+    Ok(Shared::new(alloc, op)?)
 }
 
 #[test]

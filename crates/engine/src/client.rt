@@ -26,7 +26,7 @@ use document::{Question, Reading};
 use ids::{Refusal, ReplicaId, ReplicaTable};
 use items::{Item, Reply, Request};
 use once_cell::race::OnceBox;
-use operation::{Command, Op};
+use operation::{Command, Op, Shared};
 use published::{EngineName, Notice, Seat};
 use std::alloc::Global;
 use std::marker::Model;
@@ -95,7 +95,7 @@ impl<N: EngineName> Client<N> {
     }
 
     /// Submits a command to the writer. The floor is what the client has seen: no answer names a length below it. The command
-    /// isn't cloned: the client and the answer share the item, for as long as the client lives. Waits for the queue.
+    /// is kept once, for as long as the client lives or an entry has it. Waits for the queue.
     ///
     /// # Errors
     /// `SerialEnd` if all serials are used, else `NoMemory` if allocation fails, else `QueueFull` if the queue was full at one
@@ -114,14 +114,21 @@ impl<N: EngineName> Client<N> {
         ensures end { (result ≡ Err SerialEnd) ↔ (self.old.serials ≤ length self.old.kept) }
         ensures err { IfErr result (λ why. (why ≡ SerialEnd) ⊎ (why ≡ NoMemory) ⊎ (why ≡ QueueFull)) }
     {
-        self.send(rt, alloc, Request::Command(command))
+        let serial = self.next_serial()?;
+        let command = Shared::new(alloc, command)?;
+        self.send(rt, alloc, serial, Request::Command(command))
     }
 
     /// Submits an operation that a peer sent, as `submit` does a command.
     ///
     /// # Errors
     /// As `submit`.
-    pub fn deliver(&mut self, rt: &impl Wait, alloc: Global, op: Op) -> Result<Ticket, Refusal>
+    pub fn deliver(
+        &mut self,
+        rt: &impl Wait,
+        alloc: Global,
+        op: Shared<Op>,
+    ) -> Result<Ticket, Refusal>
         ensures ticket { IfOk result
             (λ t. t ≡ record { replica = self.old.replica; client = self.old.number; serial = length self.old.kept + 1 }) }
         ensures kept { MatchResult result (λ _. self.new ≡ with_request self.old (OfPeer op)) (λ _. self.new ≡ self.old) }
@@ -130,23 +137,42 @@ impl<N: EngineName> Client<N> {
         ensures end { (result ≡ Err SerialEnd) ↔ (self.old.serials ≤ length self.old.kept) }
         ensures err { IfErr result (λ why. (why ≡ SerialEnd) ⊎ (why ≡ NoMemory) ⊎ (why ≡ QueueFull)) }
     {
-        self.send(rt, alloc, Request::Peer(op))
+        let serial = self.next_serial()?;
+        self.send(rt, alloc, serial, Request::Peer(op))
     }
 
-    /// Submits a request under the next serial.
-    fn send(&mut self, rt: &impl Wait, alloc: Global, request: Request) -> Result<Ticket, Refusal>
+    /// The serial of the next submission.
+    ///
+    /// # Errors
+    /// `SerialEnd` if all serials are used.
+    fn next_serial(&self) -> Result<u64, Refusal>
+        ensures ok { IfOk result (λ serial. serial ≡ length self.now.kept + 1) }
+        ensures end { (result ≡ Err SerialEnd) ↔ (self.now.serials ≤ length self.now.kept) }
+        ensures err { IfErr result (λ why. why ≡ SerialEnd) }
+    {
+        let used = self.kept.len() as u64;
+        if used >= self.serials {
+            return Err(Refusal::SerialEnd);
+        }
+        Ok(used + 1)
+    }
+
+    /// Submits a request under the next serial, which is this one.
+    fn send(
+        &mut self,
+        rt: &impl Wait,
+        alloc: Global,
+        serial: u64,
+        request: Request,
+    ) -> Result<Ticket, Refusal>
+        requires { serial ≡ length self.old.kept + 1 }
         ensures ticket { IfOk result
             (λ t. t ≡ record { replica = self.old.replica; client = self.old.number; serial = length self.old.kept + 1 }) }
         ensures kept { MatchResult result (λ _. self.new ≡ with_request self.old request) (λ _. self.new ≡ self.old) }
         ensures full { result ≡ Err QueueFull
             → (items : List AnItem) × (length items ≡ self.old.capacity) × Moment (sender_hand self.old.number (items_by self.old)) items }
-        ensures end { (result ≡ Err SerialEnd) ↔ (self.old.serials ≤ length self.old.kept) }
-        ensures err { IfErr result (λ why. (why ≡ SerialEnd) ⊎ (why ≡ NoMemory) ⊎ (why ≡ QueueFull)) }
+        ensures err { IfErr result (λ why. (why ≡ NoMemory) ⊎ (why ≡ QueueFull)) }
     {
-        if self.kept.len() as u64 >= self.serials {
-            return Err(Refusal::SerialEnd);
-        }
-        let serial = self.kept.len() as u64 + 1;
         let item = Item {
             client: self.number,
             serial,

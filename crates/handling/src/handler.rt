@@ -19,7 +19,7 @@ ghost use Rattle.handling.specs.Meanings.{outcome_of, handler_of};
 
 use ids::Refusal;
 use items::{Item, Publish, Reply, Request};
-use operation::{Command, Delivered, Entry, Op};
+use operation::{Command, Delivered, Entry, Op, Shared};
 use replica::Replica;
 use std::alloc::Global;
 
@@ -56,7 +56,8 @@ impl Handler {
     }
 
     /// Handles a submission: appends what the rules make of a command, or delivers a peer's operation and drains the inbox.
-    /// The reply says what was made or kept, or why not. Clones a command twice and its operation once, a peer's operation twice.
+    /// The reply says what was made or kept, or why not. A command and an operation are kept as they came,
+    /// however many keep them.
     ///
     /// If allocation fails for a command or for the delivery, the reply is `Refused(NoMemory, ..)` and nothing has changed. If it
     /// fails in the drain after the delivery, the drain ends early; the next delivery's drain, or `resume`, goes on with it.
@@ -88,7 +89,7 @@ impl Handler {
         publisher: &mut P,
         client: usize,
         serial: u64,
-        command: &Command,
+        command: &Shared<Command>,
     ) -> Reply
         requires holds { Holds (P.publication publisher.old) (replica_of self.old.replica) }
         requires running { IsRunning (replica_of self.old.replica) }
@@ -112,7 +113,7 @@ impl Handler {
     }
 
     /// Delivers a peer's operation, and drains the inbox.
-    fn receive<P: Publish>(&mut self, alloc: Global, publisher: &mut P, op: &Op) -> Reply
+    fn receive<P: Publish>(&mut self, alloc: Global, publisher: &mut P, op: &Shared<Op>) -> Reply
         requires holds { Holds (P.publication publisher.old) (replica_of self.old.replica) }
         requires running { IsRunning (replica_of self.old.replica) }
         ensures handled { (x : Submitted) → x.request ≡ OfPeer (received_of self.old.replica.document.table op.now)
@@ -130,11 +131,11 @@ impl Handler {
     }
 }
 
-/// Delivers a clone of a peer's operation.
+/// Delivers a peer's operation.
 ///
 /// # Errors
 /// The refusal that the rules have, or `NoMemory` if allocation fails; then nothing has changed.
-fn deliver(replica: &mut Replica, op: &Op) -> Result<Delivered, Refusal>
+fn deliver(replica: &mut Replica, op: &Shared<Op>) -> Result<Delivered, Refusal>
     ensures delivered { let s = received_of replica.old.document.table op.now in
         result ≢ Err NoMemory
         → (answer_to (replica_of replica.old) s ≡ outcome_of result) × (replica_of replica.new ≡ deliver (replica_of replica.old) s) }
@@ -154,7 +155,7 @@ fn reply_to(answer: Result<Delivered, Refusal>, length: u64) -> Reply
     }
 }
 
-/// Appends what was made of a command, a clone of it to the publisher first.
+/// Appends what was made of a command, the entry to the publisher first.
 ///
 /// # Errors
 /// `NoMemory` if allocation fails. Nothing has changed then.
@@ -163,8 +164,8 @@ fn append_own<P: Publish>(
     publisher: &mut P,
     client: usize,
     serial: u64,
-    command: &Command,
-    op: Op,
+    command: &Shared<Command>,
+    op: Shared<Op>,
 ) -> Result<(), Refusal>
     requires holds { Holds (P.publication publisher.old) (replica_of replica.old) }
     requires running { IsRunning (replica_of replica.old) }
@@ -194,7 +195,7 @@ fn append_own<P: Publish>(
 }
 
 /// Drains the inbox: appends or drops what is ready, the smallest id first, and what becomes ready by that, until nothing
-/// is or the history is full. A clone of each that is appended goes to the publisher first.
+/// is or the history is full. Each that is appended goes to the publisher first.
 ///
 /// # Errors
 /// `NoMemory` if allocation fails. The drain has ended early then, and another goes on with it.

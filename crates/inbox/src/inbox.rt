@@ -15,7 +15,7 @@ ghost use Rattle.inbox.specs.Inboxes.{answer_to_put, delivered_of, is_crowded, w
 use columns::Numbers;
 use document::Document;
 use ids::{OpId, Refusal};
-use operation::{Delivered, Op};
+use operation::{Delivered, Op, Shared};
 use slab::Slab;
 use std::alloc::Global;
 use std::marker::Model;
@@ -26,7 +26,7 @@ const MOST_WAITING: usize = 4096;
 /// A set of operations that wait to become causally ready. Contracts see them by rising id, each id once.
 #[derive(Debug, Drop)]
 pub struct Inbox {
-    ops: Slab<Op>,
+    ops: Slab<Shared<Op>>,
     /// The slab's key of each operation, by its id.
     keys: Numbers,
     /// The furthest that the counter of an operation put here was above the greatest of its vector: 1 if each passed `check_alone`.
@@ -77,7 +77,7 @@ impl Inbox {
     }
 
     /// The operation with this id, if it waits. Binary search.
-    pub fn get(&self, id: OpId) -> Option<&Op>
+    pub fn get(&self, id: OpId) -> Option<&Shared<Op>>
         ensures some { IfSome result (λ o. (o.now.id ≡ id) × IsAmong o.now self.now) }
         ensures none { (table : List ℕ) → IfNone result (is_waiting (waiting_in table self.now) id ≡ false) }
     {
@@ -102,7 +102,7 @@ impl Inbox {
     ///
     /// # Errors
     /// `InboxFull` if no more may wait, else `NoMemory` if allocation fails. What waited stays, and the operation is dropped.
-    pub fn put(&mut self, op: Op, document: &Document) -> Result<Delivered, Refusal>
+    pub fn put(&mut self, op: Shared<Op>, document: &Document) -> Result<Delivered, Refusal>
         requires width { length op.deps ≡ length document.now.table }
         ensures answer { let table = document.now.table in
             let answer = answer_to_put (is_ready (applied document.now.entries) (stamped_of table op)) (waiting_in table self.old)
@@ -133,7 +133,7 @@ impl Inbox {
     /// The smallest operation that is causally ready, if there is one. Looks from the smallest on, and stops at a
     /// counter so far above the greatest that was applied that nothing from there on is ready: if nothing smaller is
     /// stuck, it looks at one operation.
-    pub fn smallest_ready(&self, document: &Document) -> Option<&Op>
+    pub fn smallest_ready(&self, document: &Document) -> Option<&Shared<Op>>
         requires width { AreAsWide document.now.table self.now }
         ensures some { IfSome result (λ o. IsLeastReady (applied document.now.entries) document.now.table self.now o.now) }
         ensures none { IfNone result (AreNotReady (applied document.now.entries) document.now.table self.now) }
@@ -158,7 +158,7 @@ impl Inbox {
     }
 
     /// Takes an operation out. A binary search; moves the keys of greater ids.
-    pub fn take(&mut self, id: OpId) -> Option<Op>
+    pub fn take(&mut self, id: OpId) -> Option<Shared<Op>>
         ensures some { IfSome result (λ o. (o.id ≡ id) × IsAmong o self.old) }
         ensures none { (table : List ℕ) → IfNone result (is_waiting (waiting_in table self.old) id ≡ false) }
         ensures left { (table : List ℕ) → waiting_in table self.new ≡ without_waiting id (waiting_in table self.old) }

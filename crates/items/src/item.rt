@@ -4,16 +4,16 @@ ghost use Rattle.std.specs.Prelude.{◌≡◌};
 ghost use Rattle.items.specs.Same.{is_same_item, is_same_request};
 
 use ids::{OpId, Refusal};
-use operation::{Command, Op};
+use operation::{Command, Op, Shared};
 use std::alloc::AllocError;
 
-/// What a client asks of the writer.
+/// What a client asks of the writer. Clones share the command, or the operation.
 #[derive(Debug, Drop)]
 pub enum Request {
     /// To make an operation of the command.
-    Command(Command),
+    Command(Shared<Command>),
     /// To take an operation of a peer.
-    Peer(Op),
+    Peer(Shared<Op>),
 }
 
 impl Clone for Request {

@@ -6,6 +6,7 @@ ghost use Rattle.operation.specs.Equality.{is_same_command, same_command_equiv};
 ghost use Rattle.operation.specs.Meanings.{command_of};
 
 use crate::op::{Mutation, Op};
+use crate::shared::Shared;
 use cursor::Expr;
 use std::alloc::AllocError;
 use value::Val;
@@ -87,18 +88,18 @@ impl Eq for Command {
     ghost laws = { Cmp.on_equiv command_of same_command_equiv };
 }
 
-/// An operation of a history, with where it came from.
+/// An operation of a history, with where it came from. Clones share the operation and the command.
 #[derive(Debug, Drop)]
 pub enum Entry {
     /// Made of the command of an own client, under this serial.
     Own {
         client: usize,
         serial: u64,
-        command: Command,
-        op: Op,
+        command: Shared<Command>,
+        op: Shared<Op>,
     },
     /// Delivered by a peer.
-    Peer(Op),
+    Peer(Shared<Op>),
 }
 
 impl Entry {
@@ -106,7 +107,7 @@ impl Entry {
     ghost use Rattle.semantics.specs.Entries.{stamped_in};
     ghost use Rattle.std.specs.Prelude.{ℕ, List};
 
-    pub fn op(&self) -> &Op
+    pub fn op(&self) -> &Shared<Op>
         ensures op { result.now ≡ op_in self.now }
         ensures stamped { (table : List ℕ) → stamped_of table result.now ≡ stamped_in (entry_of table self.now) }
     {

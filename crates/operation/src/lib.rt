@@ -5,6 +5,7 @@ mod alone;
 mod command;
 mod misplaced;
 mod op;
+mod shared;
 #[cfg(test)]
 mod tests;
 
@@ -12,3 +13,4 @@ pub use alone::{check_alone, names_members};
 pub use command::{Command, Delivered, Entry};
 pub use misplaced::Misplaced;
 pub use op::{Mutation, Op};
+pub use shared::Shared;

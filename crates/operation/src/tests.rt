@@ -372,11 +372,12 @@ fn keeps_first(rt: &impl Abort, alloc: Global, entry: &Entry) -> Result<(), Refu
 #[test]
 fn own_entries_keep_their_operations(rt: HostRuntime) -> Result<(), Fail> {
     let op = first_op(rt.alloc())?;
+    let command = Command::Assign(Expr::new(Vec::new(rt.alloc())), Val::EmptyMap);
     let own = Entry::Own {
         client: 0,
         serial: 1,
-        command: Command::Assign(Expr::new(Vec::new(rt.alloc())), Val::EmptyMap),
-        op,
+        command: Shared::new(rt.alloc(), command)?,
+        op: Shared::new(rt.alloc(), op)?,
     };
     Ok(keeps_first(&rt, rt.alloc(), &own)?)
 }
@@ -384,6 +385,6 @@ fn own_entries_keep_their_operations(rt: HostRuntime) -> Result<(), Fail> {
 #[test]
 fn entries_of_peers_keep_their_operations(rt: HostRuntime) -> Result<(), Fail> {
     let alloc = rt.alloc();
-    let peer = Entry::Peer(first_op(alloc)?);
+    let peer = Entry::Peer(Shared::new(alloc, first_op(alloc)?)?);
     Ok(keeps_first(&rt, alloc, &peer)?)
 }

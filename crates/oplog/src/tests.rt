@@ -8,7 +8,7 @@ ghost use Rattle.semantics.specs.Entries.{applied};
 use super::*;
 use cursor::{Expr, Place};
 use ids::{OpId, ReplicaId, ReplicaTable};
-use operation::{Command, Entry, Mutation, Op};
+use operation::{Command, Entry, Mutation, Op, Shared};
 use std::alloc::Global;
 use std::process::Abort;
 use std::test::Fail;
@@ -36,25 +36,28 @@ fn vector(alloc: Global, counters: &[u64; 3]) -> Result<VersionVector, Fail> {
 }
 
 /// An assign at the root, for a table of three.
-fn op(alloc: Global, pair: Pair, counters: &[u64; 3]) -> Result<Op, Fail> {
+fn op(alloc: Global, pair: Pair, counters: &[u64; 3]) -> Result<Shared<Op>, Fail> {
     let id = id(pair)?;
     let deps = vector(alloc, counters)?;
-    Ok(Op {
+    let op = Op {
         id,
         deps,
         place: Place::doc(alloc),
         mutation: Mutation::Assign(Val::Scalar(Scalar::Whole(7))),
-    })
+    };
+    Ok(Shared::new(alloc, op)?)
 }
 
 /// An own entry of client 0.
 fn own(alloc: Global, serial: u64, pair: Pair, counters: &[u64; 3]) -> Result<Entry, Fail> {
     let op = op(alloc, pair, counters)?;
     let root = Expr::new(Vec::new(alloc));
+    let command = Command::Assign(root, Val::Scalar(Scalar::Whole(7)));
+    let command = Shared::new(alloc, command)?;
     Ok(Entry::Own {
         client: 0,
         serial,
-        command: Command::Assign(root, Val::Scalar(Scalar::Whole(7))),
+        command,
         op,
     })
 }

@@ -17,7 +17,7 @@ ghost use Rattle.peer_sync.specs.Sending.{hello_text, lacked, without_end};
 use document::{Question, Reading};
 use engine::{EngineName, ReaderToken};
 use ids::Refusal;
-use operation::Op;
+use operation::{Op, Shared};
 use std::alloc::Global;
 use version::VersionVector;
 use wire::{read_vector, write_bundle, write_vector};
@@ -106,7 +106,7 @@ fn missing<N: EngineName>(
     alloc: Global,
     token: &mut ReaderToken<N>,
     vector: VersionVector,
-) -> Result<Vec<Op>, Refusal>
+) -> Result<Vec<Shared<Op>>, Refusal>
     requires { length vector ≡ length N.table }
     ensures grows { BeginsWith token.new.seen token.old.seen }
     ensures legal { IsEntryHistory N.own token.new.seen }

@@ -12,7 +12,7 @@ use cursor::{Expr, Step};
 use document::{Document, Question, Reading};
 use fixtures::{field, id_of};
 use ids::Refusal;
-use operation::{Entry, Mutation, Op, check_alone};
+use operation::{Entry, Mutation, Op, Shared, check_alone};
 use published::*;
 use std::alloc::Global;
 use std::marker::Brand;
@@ -326,15 +326,21 @@ fn write<N: EngineName, R: Abort>(
 }
 
 /// Replica 1 assigns the number at the key `a`, after all that was applied.
-fn assign(alloc: Global, document: &Document, counter: u64, number: i64) -> Result<Op, Refusal> {
+fn assign(
+    alloc: Global,
+    document: &Document,
+    counter: u64,
+    number: i64,
+) -> Result<Shared<Op>, Refusal> {
     let id = id_of((counter, 1))?;
     let place = field(alloc, "a")?;
-    Ok(Op {
+    let op = Op {
         id,
         deps: document.applied().clone()?,
         place,
         mutation: Mutation::Assign(Val::Scalar(Scalar::Whole(number))),
-    })
+    };
+    Ok(Shared::new(alloc, op)?)
 }
 
 /// Whether the operation has no fault alone.

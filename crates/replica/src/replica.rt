@@ -23,7 +23,7 @@ use crate::waiting::{Turn, check_wanted, next_turn};
 use document::Document;
 use ids::{OpId, Refusal, ReplicaId};
 use inbox::Inbox;
-use operation::{Command, Delivered, Entry, Op, check_alone};
+use operation::{Command, Delivered, Entry, Op, Shared, check_alone};
 use std::alloc::{AllocError, Global};
 use std::marker::Model;
 
@@ -110,7 +110,7 @@ impl Replica {
     /// # Errors
     /// In this order: `HistoryFull`; the refusal of the expression; `NotInList` for an insert that would stand neither at a head
     /// nor at an item, `AtHead` for another command at a head. Or `NoMemory` if allocation fails.
-    pub fn make(&mut self, alloc: Global, command: &Command) -> Result<Op, Refusal>
+    pub fn make(&mut self, alloc: Global, command: &Command) -> Result<Shared<Op>, Refusal>
         ensures same { replica_of self.new ≡ replica_of self.old }
         ensures made { IfOk result
             (λ op. IsMade self.old.document.entries self.old.own (command_of command.now) (stamped_of self.old.document.table op)) }
@@ -121,12 +121,19 @@ impl Replica {
             (λ why. (why ≡ NoMemory) ⊎ (make (applied self.old.document.entries) self.old.own (command_of command.now) ≡ Err why)) }
     {
         let op = make(alloc, self.own, &self.document, command)?;
+        let op = Shared::new(alloc, op)?;
         self.document.reserve(alloc, &op)?;
         Ok(op)
     }
 
     /// Appends what the last `make` returned, under a serial above each that the client had. Takes no memory.
-    pub fn commit_own(&mut self, client: usize, serial: u64, command: Command, op: Op)
+    pub fn commit_own(
+        &mut self,
+        client: usize,
+        serial: u64,
+        command: Shared<Command>,
+        op: Shared<Op>,
+    )
         requires made { IsMade self.old.document.entries self.old.own (command_of command) (stamped_of self.old.document.table op) }
         requires width { length op.deps ≡ length self.old.document.table }
         requires room { HasRoomFor self.old.document (stamped_of self.old.document.table op) }
@@ -151,7 +158,7 @@ impl Replica {
     /// The first of these that holds, and then the replica is as it was: those of `check_alone`; then, unless the operation is
     /// known, `OwnName` for the own number, `HistoryFull`, and `InboxFull`; and those of `Document::check` if it is ready. Or
     /// `NoMemory` if allocation fails.
-    pub fn deliver(&mut self, op: Op) -> Result<Delivered, Refusal>
+    pub fn deliver(&mut self, op: Shared<Op>) -> Result<Delivered, Refusal>
         ensures answer { MatchResult result
             (λ d. answer_to (replica_of self.old) op ≡ delivered_of d)
             (λ why. ((why ≡ NoMemory) × (answer_to (replica_of self.old) op ≡ ToBeKept))
@@ -167,12 +174,12 @@ impl Replica {
         self.inbox.put(op, &self.document)
     }
 
-    /// A copy of the next operation of a peer that `commit_peer` appends: the smallest one that is ready, or `None` if there is
+    /// The next operation of a peer that `commit_peer` appends: the smallest one that is ready, or `None` if there is
     /// none or the history is full. Drops and counts what is smaller, ready and unlawful. Reserves all that committing it needs.
     ///
     /// # Errors
     /// `AllocError` if allocation fails. What was dropped stays dropped then, and nothing else has changed.
-    pub fn next_ready(&mut self, alloc: Global) -> Result<Option<Op>, AllocError>
+    pub fn next_ready(&mut self, alloc: Global) -> Result<Option<Shared<Op>>, AllocError>
         ensures dropped { (n : ℕ) × (replica_of self.new ≡ counted (drain_for n (replica_of self.old)))
             × (self.new.document.entries ≡ self.old.document.entries) }
         ensures next { IfOk result (λ o. option_map (stamped_of self.new.document.table) o ≡ next_of (replica_of self.new)) }
@@ -188,7 +195,7 @@ impl Replica {
         Ok(Some(op.clone()?))
     }
 
-    /// Appends what the last `next_ready` returned a copy of, which has this id. A binary search in the inbox. Takes no memory.
+    /// Appends what the last `next_ready` returned, which has this id. A binary search in the inbox. Takes no memory.
     pub fn commit_peer(&mut self, id: OpId)
         requires { (s : Stamped) × (s.id ≡ id) × IsNextReady self.old s }
         ensures { replica_of self.new ≡ drain_for 1 (replica_of self.old) }

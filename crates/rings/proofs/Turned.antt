@@ -75,17 +75,17 @@ zero_more k ss inside before i d lt = by_cases (cases_lt i k)
         let same : i ≡ k = omega (arith, h, lt) in
         ap (λ j. get_or (set ss k 0) j d) same ∙ get_or-set_same ss k 0 d inside
 
-pub all_zeroed : (k : ℕ) (ss : List ℕ) → All (λ s. s < 512) ss → k < length ss → All (λ s. s < 512) (set ss k 0)
+pub all_zeroed : (k : ℕ) (ss : List ℕ) → All (λ s. s < 2048) ss → k < length ss → All (λ s. s < 2048) (set ss k 0)
 all_zeroed k ss all inside i d lt = by_cases (cases_lt i k)
   where
-    other : (i ≡ k → ⊥) → get_or (set ss k 0) i d < 512
+    other : (i ≡ k → ⊥) → get_or (set ss k 0) i d < 2048
     other ne = rw (get_or-set_other ss k i 0 d ne) (all i d (let a = length-set ss k 0 in omega (arith, a, lt)))
 
-    by_cases : (i < k) ⊎ (k ≤ i) → get_or (set ss k 0) i d < 512
+    by_cases : (i < k) ⊎ (k ≤ i) → get_or (set ss k 0) i d < 2048
     by_cases (inl h) = other (λ e. omega (arith, e, h))
     by_cases (inr h) = at_most (cases_lt k i)
       where
-        at_most : (k < i) ⊎ (i ≤ k) → get_or (set ss k 0) i d < 512
+        at_most : (k < i) ⊎ (i ≤ k) → get_or (set ss k 0) i d < 2048
         at_most (inl g) = other (λ e. omega (arith, e, g))
         at_most (inr g) =
             let same : i ≡ k = omega (arith, h, g) in
@@ -94,9 +94,9 @@ all_zeroed k ss all inside i d lt = by_cases (cases_lt i k)
 -- two items in one another's position, by their slots
 pub swapped : {X : Type 0} (starts : List ℕ) (xs : List X) (a b i j : ℕ) (d : X) → MeetsSlot starts xs a i
     → MeetsSlot starts (set xs i (get_or xs j d)) b j → MeetsSlot starts xs b j
-    → straight 512 starts (set (set xs i (get_or xs j d)) j (get_or xs i d))
-    ≡ set (set (straight 512 starts xs) a (get_or (straight 512 starts xs) b d)) b (get_or (straight 512 starts xs) a d)
+    → straight 2048 starts (set (set xs i (get_or xs j d)) j (get_or xs i d))
+    ≡ set (set (straight 2048 starts xs) a (get_or (straight 2048 starts xs) b d)) b (get_or (straight 2048 starts xs) a d)
 swapped starts xs a b i j d first after second =
     after.set (get_or xs i d)
     ∙ ap (λ ys. set ys b (get_or xs i d)) (first.set (get_or xs j d))
-    ∙ (λ t. set (set (straight 512 starts xs) a (sym (second.get d) t)) b (sym (first.get d) t))
+    ∙ (λ t. set (set (straight 2048 starts xs) a (sym (second.get d) t)) b (sym (first.get d) t))

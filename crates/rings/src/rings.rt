@@ -12,13 +12,13 @@ use std::marker::Model;
 use std::mem::replace;
 
 /// How many slots a ring has.
-const RING: usize = 512;
+const RING: usize = 2_048;
 
 /// A list that stays fast at a million items: one is read at any position in constant time, and one that goes in moves at most
 /// those of its own ring and one of each later ring.
 ///
-/// All items stand in one vector: first the full rings of 512 slots, each of which begins at one of its slots and goes round, and
-/// then fewer than 512 items in their order. So a list below 512 items is a vector. Contracts see the items, how many more fit
+/// All items stand in one vector: first the full rings of 2,048 slots, each of which begins at one of its slots and goes round, and
+/// then fewer than 2,048 items in their order. So a list below 2,048 items is a vector. Contracts see the items, how many more fit
 /// without memory, and whether all rings begin at their first slots.
 #[derive(Debug, Drop)]
 pub struct Rings<T> {
@@ -34,12 +34,12 @@ impl<T> Model for Rings<T> {
     ghost Value = { Sequence T };
 
     ghost view = { λ r. record {
-      items = straight 512 (starts_of r.starts) r.slots.items;
-      room = min (vec_capacity r.slots - vec_len r.slots) (capacity_of r.starts * 512 + 511 - vec_len r.slots);
+      items = straight 2048 (starts_of r.starts) r.slots.items;
+      room = min (vec_capacity r.slots - vec_len r.slots) (capacity_of r.starts * 2048 + 2047 - vec_len r.slots);
       is_straight = are_zero (starts_of r.starts);
     } };
 
-    ghost invariant = { λ r. AreRings 512 (starts_of r.starts) (length r.slots.items) };
+    ghost invariant = { λ r. AreRings 2048 (starts_of r.starts) (length r.slots.items) };
 }
 
 impl<T> Rings<T> {
@@ -161,8 +161,8 @@ impl<T: Drop> Rings<T> {
 
 /// Returns the slot of a position.
 fn slot_of(starts: &[usize], position: usize) -> usize
-    requires { All (λ s. s < 512) starts.now }
-    ensures { IsSlot 512 starts.now position result }
+    requires { All (λ s. s < 2048) starts.now }
+    ensures { IsSlot 2048 starts.now position result }
 {
     let ring = position / RING;
     if ring >= starts.len() {
@@ -173,19 +173,19 @@ fn slot_of(starts: &[usize], position: usize) -> usize
 
 /// Returns the item at a position.
 fn item<'a, T>(slots: &'a [T], starts: &[usize], position: usize) -> &'a T
-    requires rings { AreRings 512 starts.now (length slots.now) }
+    requires rings { AreRings 2048 starts.now (length slots.now) }
     requires within { position < length slots.now }
-    ensures { slice_get (straight 512 starts.now slots.now) position ≡ Some result.now }
+    ensures { slice_get (straight 2048 starts.now slots.now) position ≡ Some result.now }
 {
     &slots[slot_of(starts, position)]
 }
 
 /// Puts the value where another item stands, and returns that item.
 fn write<T>(slots: &mut [T], starts: &[usize], position: usize, value: T) -> T
-    requires rings { AreRings 512 starts.now (length slots.old) }
+    requires rings { AreRings 2048 starts.now (length slots.old) }
     requires within { position < length slots.old }
-    ensures items { straight 512 starts.now slots.new ≡ slice_set (straight 512 starts.now slots.old) position value }
-    ensures value { slice_get (straight 512 starts.now slots.old) position ≡ Some result }
+    ensures items { straight 2048 starts.now slots.new ≡ slice_set (straight 2048 starts.now slots.old) position value }
+    ensures value { slice_get (straight 2048 starts.now slots.old) position ≡ Some result }
     ensures length { length slots.new ≡ length slots.old }
 {
     let slot = slot_of(starts, position);
@@ -194,12 +194,12 @@ fn write<T>(slots: &mut [T], starts: &[usize], position: usize, value: T) -> T
 
 /// Turns a ring back by one slot, so that the value comes first. Returns its last item, which falls out.
 fn turn<T>(slots: &mut [T], starts: &mut [usize], ring: usize, value: T) -> T
-    requires within { All (λ s. s < 512) starts.old }
-    requires full { length starts.old * 512 ≤ length slots.old }
+    requires within { All (λ s. s < 2048) starts.old }
+    requires full { length starts.old * 2048 ≤ length slots.old }
     requires ring { ring < length starts.old }
-    ensures items { insert (straight 512 starts.new slots.new) (ring * 512 + 512) result
-        ≡ insert (straight 512 starts.old slots.old) (ring * 512) value }
-    ensures within { All (λ s. s < 512) starts.new }
+    ensures items { insert (straight 2048 starts.new slots.new) (ring * 2048 + 2048) result
+        ≡ insert (straight 2048 starts.old slots.old) (ring * 2048) value }
+    ensures within { All (λ s. s < 2048) starts.new }
     ensures starts { length starts.new ≡ length starts.old }
     ensures slots { length slots.new ≡ length slots.old }
 {
@@ -240,10 +240,10 @@ fn push_into<T>(ring: &mut [T], start: usize, position: usize, value: T) -> T
 
 /// Puts an item at a position that lies in a ring. Returns that ring's last item, which falls out.
 fn push_at<T>(slots: &mut [T], starts: &[usize], position: usize, value: T) -> T
-    requires rings { AreRings 512 starts.now (length slots.old) }
-    requires position { position < length starts.now * 512 }
-    ensures items { insert (straight 512 starts.now slots.new) (position / 512 * 512 + 512) result
-        ≡ insert (straight 512 starts.now slots.old) position value }
+    requires rings { AreRings 2048 starts.now (length slots.old) }
+    requires position { position < length starts.now * 2048 }
+    ensures items { insert (straight 2048 starts.now slots.new) (position / 2048 * 2048 + 2048) result
+        ≡ insert (straight 2048 starts.now slots.old) position value }
     ensures slots { length slots.new ≡ length slots.old }
 {
     let ring = position / RING;
@@ -259,11 +259,11 @@ fn push_at<T>(slots: &mut [T], starts: &[usize], position: usize, value: T) -> T
 /// Puts an item at a position that lies in a ring. Each ring from there on passes its last item on to the next; returns that of
 /// the last ring.
 fn carry<T>(slots: &mut [T], starts: &mut [usize], position: usize, value: T) -> T
-    requires rings { AreRings 512 starts.old (length slots.old) }
-    requires position { position < length starts.old * 512 }
-    ensures items { insert (straight 512 starts.new slots.new) (length starts.old * 512) result
-        ≡ insert (straight 512 starts.old slots.old) position value }
-    ensures within { All (λ s. s < 512) starts.new }
+    requires rings { AreRings 2048 starts.old (length slots.old) }
+    requires position { position < length starts.old * 2048 }
+    ensures items { insert (straight 2048 starts.new slots.new) (length starts.old * 2048) result
+        ≡ insert (straight 2048 starts.old slots.old) position value }
+    ensures within { All (λ s. s < 2048) starts.new }
     ensures starts { length starts.new ≡ length starts.old }
     ensures slots { length slots.new ≡ length slots.old }
 {
@@ -276,13 +276,13 @@ fn carry<T>(slots: &mut [T], starts: &mut [usize], position: usize, value: T) ->
 
 /// Lets the rings from a position on take the value, and returns which item is then left and where it goes behind the rings.
 fn make_way<T>(slots: &mut [T], starts: &mut Starts, position: usize, value: T) -> (usize, T)
-    requires rings { AreRings 512 (starts_of starts.old) (length slots.old) }
+    requires rings { AreRings 2048 (starts_of starts.old) (length slots.old) }
     requires position { position ≤ length slots.old }
-    ensures items { insert (straight 512 (starts_of starts.new) slots.new) result.0 result.1
-        ≡ insert (straight 512 (starts_of starts.old) slots.old) position value }
-    ensures behind { length (starts_of starts.old) * 512 ≤ result.0 }
+    ensures items { insert (straight 2048 (starts_of starts.new) slots.new) result.0 result.1
+        ≡ insert (straight 2048 (starts_of starts.old) slots.old) position value }
+    ensures behind { length (starts_of starts.old) * 2048 ≤ result.0 }
     ensures position { result.0 ≤ length slots.old }
-    ensures within { All (λ s. s < 512) (starts_of starts.new) }
+    ensures within { All (λ s. s < 2048) (starts_of starts.new) }
     ensures starts { length (starts_of starts.new) ≡ length (starts_of starts.old) }
     ensures capacity { capacity_of starts.new ≡ capacity_of starts.old }
     ensures slots { length slots.new ≡ length slots.old }
@@ -295,13 +295,13 @@ fn make_way<T>(slots: &mut [T], starts: &mut Starts, position: usize, value: T) 
 
 /// The same for rings that begin at these slots.
 fn make_way_in<T>(slots: &mut [T], starts: &mut [usize], position: usize, value: T) -> (usize, T)
-    requires rings { AreRings 512 starts.old (length slots.old) }
+    requires rings { AreRings 2048 starts.old (length slots.old) }
     requires position { position ≤ length slots.old }
-    ensures items { insert (straight 512 starts.new slots.new) result.0 result.1
-        ≡ insert (straight 512 starts.old slots.old) position value }
-    ensures behind { length starts.old * 512 ≤ result.0 }
+    ensures items { insert (straight 2048 starts.new slots.new) result.0 result.1
+        ≡ insert (straight 2048 starts.old slots.old) position value }
+    ensures behind { length starts.old * 2048 ≤ result.0 }
     ensures position { result.0 ≤ length slots.old }
-    ensures within { All (λ s. s < 512) starts.new }
+    ensures within { All (λ s. s < 2048) starts.new }
     ensures starts { length starts.new ≡ length starts.old }
     ensures slots { length slots.new ≡ length slots.old }
 {
@@ -315,12 +315,12 @@ fn make_way_in<T>(slots: &mut [T], starts: &mut [usize], position: usize, value:
 
 /// Makes a ring of the items behind the rings if they fill one.
 fn close_ring(starts: &mut Starts, count: usize)
-    requires within { All (λ s. s < 512) (starts_of starts.old) }
-    requires full { length (starts_of starts.old) * 512 ≤ count }
-    requires rest { count ≤ length (starts_of starts.old) * 512 + 512 }
-    requires room { count ≤ capacity_of starts.old * 512 + 511 }
-    ensures closed { IsClosed 512 (starts_of starts.old) (starts_of starts.new) count }
-    ensures rings { AreRings 512 (starts_of starts.new) count }
+    requires within { All (λ s. s < 2048) (starts_of starts.old) }
+    requires full { length (starts_of starts.old) * 2048 ≤ count }
+    requires rest { count ≤ length (starts_of starts.old) * 2048 + 2048 }
+    requires room { count ≤ capacity_of starts.old * 2048 + 2047 }
+    ensures closed { IsClosed 2048 (starts_of starts.old) (starts_of starts.new) count }
+    ensures rings { AreRings 2048 (starts_of starts.new) count }
     ensures capacity { capacity_of starts.new ≡ capacity_of starts.old }
 {
     if count - starts.as_slice().len() * RING == RING {
@@ -330,13 +330,13 @@ fn close_ring(starts: &mut Starts, count: usize)
 
 /// Puts an item at a position. Takes no memory.
 fn insert_in<T: Drop>(slots: &mut Vec<T>, starts: &mut Starts, position: usize, value: T)
-    requires rings { AreRings 512 (starts_of starts.old) (length slots.old.items) }
+    requires rings { AreRings 2048 (starts_of starts.old) (length slots.old.items) }
     requires within { position ≤ length slots.old.items }
     requires room { vec_len slots.old < vec_capacity slots.old }
-    requires room_for_start { vec_len slots.old < capacity_of starts.old * 512 + 511 }
-    ensures items { straight 512 (starts_of starts.new) slots.new.items
-        ≡ insert (straight 512 (starts_of starts.old) slots.old.items) position value }
-    ensures rings { AreRings 512 (starts_of starts.new) (length slots.new.items) }
+    requires room_for_start { vec_len slots.old < capacity_of starts.old * 2048 + 2047 }
+    ensures items { straight 2048 (starts_of starts.new) slots.new.items
+        ≡ insert (straight 2048 (starts_of starts.old) slots.old.items) position value }
+    ensures rings { AreRings 2048 (starts_of starts.new) (length slots.new.items) }
     ensures length { vec_len slots.new ≡ vec_len slots.old + 1 }
     ensures slots { vec_capacity slots.new ≡ vec_capacity slots.old }
     ensures starts { capacity_of starts.new ≡ capacity_of starts.old }
@@ -349,13 +349,13 @@ fn insert_in<T: Drop>(slots: &mut Vec<T>, starts: &mut Starts, position: usize, 
 
 /// Swaps the items at two positions.
 fn swap_in<T>(slots: &mut [T], starts: &[usize], a: usize, b: usize)
-    requires rings { AreRings 512 starts.now (length slots.old) }
+    requires rings { AreRings 2048 starts.now (length slots.old) }
     requires a { a < length slots.old }
     requires b { b < length slots.old }
     ensures items { (d : T)
-        → straight 512 starts.now slots.new
-        ≡ slice_set (slice_set (straight 512 starts.now slots.old) a (slice_index_or (straight 512 starts.now slots.old) b d)) b
-        (slice_index_or (straight 512 starts.now slots.old) a d) }
+        → straight 2048 starts.now slots.new
+        ≡ slice_set (slice_set (straight 2048 starts.now slots.old) a (slice_index_or (straight 2048 starts.now slots.old) b d)) b
+        (slice_index_or (straight 2048 starts.now slots.old) a d) }
     ensures length { length slots.new ≡ length slots.old }
 {
     let first = slot_of(starts, a);
@@ -365,10 +365,10 @@ fn swap_in<T>(slots: &mut [T], starts: &[usize], a: usize, b: usize)
 
 /// Turns a ring so that it begins at its first slot.
 fn straighten_ring<T>(slots: &mut [T], starts: &mut [usize], ring: usize)
-    requires within { All (λ s. s < 512) starts.old }
-    requires full { length starts.old * 512 ≤ length slots.old }
+    requires within { All (λ s. s < 2048) starts.old }
+    requires full { length starts.old * 2048 ≤ length slots.old }
     requires ring { ring < length starts.old }
-    ensures same { straight 512 starts.new slots.new ≡ straight 512 starts.old slots.old }
+    ensures same { straight 2048 starts.new slots.new ≡ straight 2048 starts.old slots.old }
     ensures starts { starts.new ≡ slice_set starts.old ring 0 }
     ensures length { length slots.new ≡ length slots.old }
 {
@@ -380,13 +380,13 @@ fn straighten_ring<T>(slots: &mut [T], starts: &mut [usize], ring: usize)
 
 /// Turns all rings so that they begin at their first slots.
 fn straighten_all<T>(slots: &mut [T], starts: &mut Starts)
-    requires { AreRings 512 (starts_of starts.old) (length slots.old) }
-    ensures same { straight 512 (starts_of starts.new) slots.new ≡ straight 512 (starts_of starts.old) slots.old }
+    requires { AreRings 2048 (starts_of starts.old) (length slots.old) }
+    ensures same { straight 2048 (starts_of starts.new) slots.new ≡ straight 2048 (starts_of starts.old) slots.old }
     ensures straight { IsTrue (are_zero (starts_of starts.new)) }
     ensures starts { length (starts_of starts.new) ≡ length (starts_of starts.old) }
     ensures length { length slots.new ≡ length slots.old }
     ensures capacity { capacity_of starts.new ≡ capacity_of starts.old }
-    ensures rings { AreRings 512 (starts_of starts.new) (length slots.new) }
+    ensures rings { AreRings 2048 (starts_of starts.new) (length slots.new) }
 {
     if let Some(begun) = &mut starts.begun {
         straighten_rings(slots, begun);
@@ -395,12 +395,12 @@ fn straighten_all<T>(slots: &mut [T], starts: &mut Starts)
 
 /// Turns the rings, which begin at these slots, so that they begin at their first ones.
 fn straighten_rings<T>(slots: &mut [T], starts: &mut [usize])
-    requires { AreRings 512 starts.old (length slots.old) }
-    ensures same { straight 512 starts.new slots.new ≡ straight 512 starts.old slots.old }
+    requires { AreRings 2048 starts.old (length slots.old) }
+    ensures same { straight 2048 starts.new slots.new ≡ straight 2048 starts.old slots.old }
     ensures straight { IsTrue (are_zero starts.new) }
     ensures starts { length starts.new ≡ length starts.old }
     ensures length { length slots.new ≡ length slots.old }
-    ensures rings { AreRings 512 starts.new (length slots.new) }
+    ensures rings { AreRings 2048 starts.new (length slots.new) }
 {
     for ring in 0..starts.len() {
         straighten_ring(slots, starts, ring);
@@ -409,10 +409,10 @@ fn straighten_rings<T>(slots: &mut [T], starts: &mut [usize])
 
 /// Keeps this many items where all rings begin at their first slots.
 fn truncate_in<T: Drop>(slots: &mut Vec<T>, starts: &mut Starts, count: usize)
-    requires rings { AreRings 512 (starts_of starts.old) (length slots.old.items) }
+    requires rings { AreRings 2048 (starts_of starts.old) (length slots.old.items) }
     requires straight { IsTrue (are_zero (starts_of starts.old)) }
-    ensures items { straight 512 (starts_of starts.new) slots.new.items ≡ take count (straight 512 (starts_of starts.old) slots.old.items) }
-    ensures rings { AreRings 512 (starts_of starts.new) (length slots.new.items) }
+    ensures items { straight 2048 (starts_of starts.new) slots.new.items ≡ take count (straight 2048 (starts_of starts.old) slots.old.items) }
+    ensures rings { AreRings 2048 (starts_of starts.new) (length slots.new.items) }
     ensures few { vec_len slots.new ≤ vec_len slots.old }
     ensures slots { vec_capacity slots.new ≡ vec_capacity slots.old }
     ensures starts { capacity_of starts.new ≡ capacity_of starts.old }
@@ -423,13 +423,13 @@ fn truncate_in<T: Drop>(slots: &mut Vec<T>, starts: &mut Starts, count: usize)
 
 /// Removes the item at a position where all rings begin at their first slots, and returns it.
 fn remove_in<T>(slots: &mut Vec<T>, starts: &mut Starts, position: usize) -> T
-    requires rings { AreRings 512 (starts_of starts.old) (length slots.old.items) }
+    requires rings { AreRings 2048 (starts_of starts.old) (length slots.old.items) }
     requires straight { IsTrue (are_zero (starts_of starts.old)) }
     requires within { position < length slots.old.items }
-    ensures items { straight 512 (starts_of starts.new) slots.new.items
-        ≡ remove (straight 512 (starts_of starts.old) slots.old.items) position }
-    ensures value { slice_get (straight 512 (starts_of starts.old) slots.old.items) position ≡ Some result }
-    ensures rings { AreRings 512 (starts_of starts.new) (length slots.new.items) }
+    ensures items { straight 2048 (starts_of starts.new) slots.new.items
+        ≡ remove (straight 2048 (starts_of starts.old) slots.old.items) position }
+    ensures value { slice_get (straight 2048 (starts_of starts.old) slots.old.items) position ≡ Some result }
+    ensures rings { AreRings 2048 (starts_of starts.new) (length slots.new.items) }
     ensures fewer { vec_len slots.new + 1 ≡ vec_len slots.old }
     ensures slots { vec_capacity slots.new ≡ vec_capacity slots.old }
     ensures starts { capacity_of starts.new ≡ capacity_of starts.old }

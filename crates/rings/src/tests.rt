@@ -63,14 +63,14 @@ fn items_go_where_they_are_put(rt: HostRuntime) -> Result<(), Fail> {
     const ROWS: &[Row] = &[
         (0, 0),
         (1, 0),
-        (511, 0),
-        (512, 0),
-        (513, 0),
-        (1024, 0),
-        (1025, 0),
-        (1600, 1),
-        (1600, 513),
-        (1600, 1_000_003),
+        (2047, 0),
+        (2048, 0),
+        (2049, 0),
+        (4096, 0),
+        (4097, 0),
+        (6400, 1),
+        (6400, 2049),
+        (6400, 1_000_003),
     ];
     for row in ROWS {
         assert_filled(&rt, rt.alloc(), row)?;
@@ -93,7 +93,7 @@ fn change(rt: &impl Abort, numbers: &mut Rings<usize>, beside: &mut [usize], a: 
 fn assert_changed(rt: &impl Abort, alloc: Global, a: usize, b: usize) -> Result<(), Fail> {
     let mut numbers = Rings::new(alloc);
     let mut beside = Vec::new(alloc);
-    fill(&mut numbers, &mut beside, &(1800, 1_000_003))?;
+    fill(&mut numbers, &mut beside, &(7200, 1_000_003))?;
     change(rt, &mut numbers, &mut beside, a, b);
     assert_items(rt, &numbers, &beside);
     numbers.truncate(b);
@@ -106,11 +106,11 @@ fn assert_changed(rt: &impl Abort, alloc: Global, a: usize, b: usize) -> Result<
 fn items_change_and_go(rt: HostRuntime) -> Result<(), Fail> {
     for (a, b) in [
         (0, 0),
-        (0, 511),
-        (600, 512),
-        (1023, 513),
-        (1799, 1600),
-        (3, 1799),
+        (0, 2047),
+        (2400, 2048),
+        (4095, 2049),
+        (7199, 6400),
+        (3, 7199),
     ] {
         assert_changed(&rt, rt.alloc(), a, b)?;
     }
@@ -121,13 +121,13 @@ fn items_change_and_go(rt: HostRuntime) -> Result<(), Fail> {
 fn assert_removed(rt: &impl Abort, alloc: Global, positions: &[usize]) -> Result<(), Fail> {
     let mut numbers = Rings::new(alloc);
     let mut beside = Vec::new(alloc);
-    fill(&mut numbers, &mut beside, &(1026, 1_000_003))?;
+    fill(&mut numbers, &mut beside, &(4098, 1_000_003))?;
     for position in positions {
         assert!(rt; *position < numbers.len() && *position < beside.len());
         assert_eq!(rt; numbers.remove(*position), beside.remove(*position));
         assert_items(rt, &numbers, &beside);
     }
-    put(&mut numbers, &mut beside, 600, 7)?;
+    put(&mut numbers, &mut beside, 2400, 7)?;
     assert_items(rt, &numbers, &beside);
     Ok(())
 }
@@ -135,5 +135,5 @@ fn assert_removed(rt: &impl Abort, alloc: Global, positions: &[usize]) -> Result
 #[test]
 fn items_are_removed(rt: HostRuntime) -> Result<(), Fail> {
     // The last ring closes again once it isn't whole.
-    assert_removed(&rt, rt.alloc(), &[1025, 0, 512, 0])
+    assert_removed(&rt, rt.alloc(), &[4097, 0, 2048, 0])
 }

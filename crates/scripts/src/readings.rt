@@ -14,7 +14,7 @@ ghost use Rattle.wire.specs.Vectors.{count};
 use cursor::Tag;
 use document::Reading;
 use ids::{OpId, ReplicaTable};
-use operation::Op;
+use operation::{Op, Shared};
 use serde_json::{Value, json};
 use std::alloc::{AllocError, Global};
 use value::{Key, Scalar};
@@ -115,7 +115,11 @@ fn name_of(tag: Tag) -> &'static str
 }
 
 /// The operations in their order.
-fn operations_value(alloc: Global, table: &ReplicaTable, ops: &[Op]) -> Result<Value, AllocError>
+fn operations_value(
+    alloc: Global,
+    table: &ReplicaTable,
+    ops: &[Shared<Op>],
+) -> Result<Value, AllocError>
     ensures { IfOk result (λ v. view v ≡ array (items_of (map (λ o. operation_json (stamped_of table.now o)) ops.now))) }
 {
     let mut list = Vec::new(alloc);

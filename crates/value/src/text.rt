@@ -11,6 +11,7 @@ use ids::Refusal;
 use std::alloc::{AllocError, Global};
 use std::cmp::Ordering;
 use std::marker::Model;
+use std::sync::ArcStr;
 
 /// The most bytes that a key may have.
 pub const MOST_KEY_BYTES: usize = 256;
@@ -18,10 +19,10 @@ pub const MOST_KEY_BYTES: usize = 256;
 /// The most bytes that a text may have.
 pub const MOST_TEXT_BYTES: usize = 4096;
 
-/// A text of at most `MOST` bytes of UTF-8, ordered by bytes. Contracts see its bytes.
+/// A text of at most `MOST` bytes of UTF-8, ordered by bytes, whose clones share it. Contracts see its bytes.
 #[derive(Debug, Drop)]
 pub struct BoundedText<const MOST: usize> {
-    text: String,
+    text: ArcStr,
 }
 
 /// A map key.
@@ -31,13 +32,14 @@ pub type Key = BoundedText<MOST_KEY_BYTES>;
 pub type Text = BoundedText<MOST_TEXT_BYTES>;
 
 impl<const MOST: usize> Model for BoundedText<MOST> {
-    ghost use Rattle.std.specs.Prelude.{ℕ, List, ◌≤◌, length, string_bytes};
+    ghost use Rattle.std.specs.Prelude.{ℕ, List, ◌≤◌, length};
+    ghost use Rattle.std.specs.Arc.{arc_str_bytes};
 
     ghost Value = { List ℕ };
 
-    ghost view = { λ k. string_bytes k.text };
+    ghost view = { λ k. arc_str_bytes k.text };
 
-    ghost invariant = { λ k. length (string_bytes k.text) ≤ MOST };
+    ghost invariant = { λ k. length (arc_str_bytes k.text) ≤ MOST };
 }
 
 impl Key {
@@ -84,7 +86,7 @@ impl<const MOST: usize> BoundedText<MOST> {
         if text.len() > MOST {
             return Err(too_long);
         }
-        let text = String::from_str(alloc, text)?;
+        let text = ArcStr::from_str(alloc, text)?;
         Ok(BoundedText { text })
     }
 }

@@ -16,7 +16,7 @@ ghost use Rattle.wire.specs.Sent.{CanBeSent};
 use crate::messages::{read_op, write_op};
 use ids::{Refusal, ReplicaTable};
 use json_lines::{LINE_END, Lines};
-use operation::Op;
+use operation::{Op, Shared};
 use std::alloc::{AllocError, Global};
 
 /// The lines of the operations, in order. An empty bundle has no byte. Where all names are of members, and all counters those of
@@ -24,7 +24,11 @@ use std::alloc::{AllocError, Global};
 ///
 /// # Errors
 /// `AllocError` if allocation fails.
-pub fn write_bundle(alloc: Global, ops: &[Op], table: &ReplicaTable) -> Result<Vec<u8>, AllocError>
+pub fn write_bundle(
+    alloc: Global,
+    ops: &[Shared<Op>],
+    table: &ReplicaTable,
+) -> Result<Vec<u8>, AllocError>
     ensures text { IfOk result (λ text. text.items ≡ bundle_text (map (stamped_of table.now) ops.now)) }
     ensures reads_back { IfOk result
         (λ text. All (λ o. CanBeSent table.now (stamped_of table.now o)) ops.now
@@ -43,7 +47,7 @@ pub fn write_bundle(alloc: Global, ops: &[Op], table: &ReplicaTable) -> Result<V
 #[derive(Debug, Drop)]
 pub struct LinesRead {
     /// The operations of the lines before the first bad one, in their order.
-    pub ops: Vec<Op>,
+    pub ops: Vec<Shared<Op>>,
     /// Why the line after those is bad, or `None` where the whole text was read.
     pub stopped: Option<Refusal>,
 }
@@ -95,7 +99,7 @@ pub fn read_bundle(
     alloc: Global,
     text: &[u8],
     table: &ReplicaTable,
-) -> Result<Vec<Op>, (u64, Refusal)>
+) -> Result<Vec<Shared<Op>>, (u64, Refusal)>
     ensures read { MatchResult result
         (λ ops. bundle_form table.now text.now ≡ Ok (map (stamped_of table.now) ops.items)) (IsBadOf (bundle_form table.now text.now)) }
     ensures width { IfOk result (λ ops. All (λ o. length o.deps ≡ length table.now) ops.items) }

@@ -18,7 +18,7 @@ use crate::reading::operation_in;
 use crate::vectors::{vector_in, vector_value};
 use ids::{Refusal, ReplicaTable};
 use json_lines::{json_of, phrase_in};
-use operation::Op;
+use operation::{Op, Shared};
 use serde_json::{Value, json};
 use std::alloc::{AllocError, Global};
 use version::VersionVector;
@@ -75,12 +75,13 @@ fn hello_value(
 /// id, the vector, the path with its last key, and the mutation with its value. A part of another form is `BadLine`; a replica that
 /// isn't a member is `UnknownReplica`; a path of more than 32 parts is `TooDeep`, a key of more than 256 bytes `KeyTooLong`, a text
 /// of more than 4,096 bytes `TextTooLong`, and a number as a value that isn't whole `NotWhole`. `NoMemory` if allocation fails.
-pub fn read_op(alloc: Global, text: &[u8], table: &ReplicaTable) -> Result<Op, Refusal>
+pub fn read_op(alloc: Global, text: &[u8], table: &ReplicaTable) -> Result<Shared<Op>, Refusal>
     ensures read { IsRead (stamped_of table.now) result (op_form table.now text.now) }
     ensures width { IfOk result (λ o. length o.deps ≡ length table.now) }
 {
     let value = json_of(alloc, text)?;
-    operation_in(alloc, table, &value)
+    let op = operation_in(alloc, table, &value)?;
+    Ok(Shared::new(alloc, op)?)
 }
 
 /// The vector on a line.

@@ -7,7 +7,7 @@ mod vectors;
 use cursor::Place;
 use fixtures::{field, id_of, text, vector};
 use ids::Refusal;
-use operation::{Mutation, Op};
+use operation::{Mutation, Op, Shared};
 use std::alloc::{AllocError, Global};
 use value::Val;
 
@@ -81,21 +81,22 @@ fn mutation(alloc: Global, does: Does) -> Result<Mutation, Refusal> {
 }
 
 /// The operation of a row.
-fn op(alloc: Global, row: &Row) -> Result<Op, Refusal> {
+fn op(alloc: Global, row: &Row) -> Result<Shared<Op>, Refusal> {
     let (before, at, does) = *row;
     let id = id_of((before.saturating_add(1), 1))?;
     let deps = vector(alloc, &[before, 0])?;
     let place = place(alloc, at)?;
-    Ok(Op {
+    let op = Op {
         id,
         deps,
         place,
         mutation: mutation(alloc, does)?,
-    })
+    };
+    Ok(Shared::new(alloc, op)?)
 }
 
 /// The operations of the five lines.
-fn list_of_five(alloc: Global) -> Result<Vec<Op>, Refusal> {
+fn list_of_five(alloc: Global) -> Result<Vec<Shared<Op>>, Refusal> {
     let mut ops = Vec::new(alloc);
     for row in FIVE {
         ops.push(op(alloc, row)?)?;

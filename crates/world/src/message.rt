@@ -4,7 +4,7 @@ ghost use Rattle.std.specs.Prelude.{◌≡◌, length};
 ghost use Rattle.std.specs.List.{All};
 
 use ids::ReplicaTable;
-use operation::Op;
+use operation::{Op, Shared};
 use version::VersionVector;
 
 /// A vector, with the table that indexes it.
@@ -19,7 +19,7 @@ pub struct NamedVector {
 #[derive(Debug, Drop)]
 pub struct NamedOps {
     pub table: ReplicaTable,
-    pub ops: Vec<Op>,
+    pub ops: Vec<Shared<Op>>,
     ghost width: { All (λ o. length o.deps ≡ length table) ops.items },
 }
 

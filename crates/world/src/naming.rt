@@ -11,7 +11,7 @@ ghost use Rattle.operation.specs.Meanings.{stamped_of};
 
 use crate::message::NamedOps;
 use ids::{Refusal, ReplicaTable};
-use operation::{Op, names_members};
+use operation::{Op, Shared, names_members};
 use std::alloc::Global;
 use version::VersionVector;
 use wire::LinesRead;
@@ -58,7 +58,7 @@ pub fn op_beside(
     from: &ReplicaTable,
     op: &Op,
     to: &ReplicaTable,
-) -> Result<Op, Refusal>
+) -> Result<Shared<Op>, Refusal>
     requires { length op.now.deps ≡ length from.now }
     ensures { MatchResult result
         (λ o. (stamped_of to.now o ≡ stamped_of from.now op.now) × (length o.deps ≡ length to.now)
@@ -68,12 +68,13 @@ pub fn op_beside(
     if !names_members(op, to) {
         return Err(Refusal::UnknownReplica);
     }
-    Ok(Op {
+    let named = Op {
         id: op.id,
         deps: vector_beside(alloc, from, &op.deps, to)?,
         place: op.place.clone()?,
         mutation: op.mutation.clone()?,
-    })
+    };
+    Ok(Shared::new(alloc, named)?)
 }
 
 /// Copies of the operations for another table, up to the first that names a replica which isn't in it. A failed allocation stops it

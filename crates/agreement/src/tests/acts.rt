@@ -7,7 +7,7 @@ use super::dice::Dice;
 use cursor::{Expr, Place, Step as Hop};
 use document::Question;
 use ids::{OpId, Refusal, ReplicaId};
-use operation::{Command, Mutation, Op};
+use operation::{Command, Mutation, Op, Shared};
 use std::alloc::Global;
 use value::{Key, Scalar, Text, Val};
 use version::VersionVector;
@@ -26,7 +26,7 @@ pub enum Act {
     },
     Deliver {
         client: usize,
-        op: Op,
+        op: Shared<Op>,
     },
     Step,
     /// A step whose batch is one, which is a take, a publish and a give.
@@ -209,16 +209,17 @@ fn mutation(alloc: Global, dice: &mut Dice) -> Result<Mutation, Refusal> {
 }
 
 /// An operation of any replica, most of them ready one after another, some too early, some known, some forged.
-fn op(alloc: Global, dice: &mut Dice) -> Result<Op, Refusal> {
+fn op(alloc: Global, dice: &mut Dice) -> Result<Shared<Op>, Refusal> {
     let number = dice.roll(REPLICAS) as u32 + 1;
     let replica = ReplicaId::new(number).ok_or(Refusal::UnknownReplica)?;
     let deps = vector(alloc, dice)?;
     let counter = counter(&deps, dice);
     let place = key_place(alloc, dice)?;
-    Ok(Op {
+    let op = Op {
         id: OpId { counter, replica },
         deps,
         place,
         mutation: mutation(alloc, dice)?,
-    })
+    };
+    Ok(Shared::new(alloc, op)?)
 }

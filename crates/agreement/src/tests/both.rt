@@ -13,7 +13,7 @@ use engine::{
 };
 use ids::{Config, Refusal, ReplicaId, ReplicaTable};
 use items::Reply;
-use operation::{Command, Op};
+use operation::{Command, Op, Shared};
 use std::alloc::{AllocError, Global};
 use std::marker::Brand;
 use std::process::Abort;
@@ -187,7 +187,7 @@ fn deliver<N: EngineName, R: Wait>(
     world: &mut World,
     engine: &mut Engine<N>,
     client: usize,
-    op: &Op,
+    op: &Shared<Op>,
 ) -> Result<bool, Fail> {
     let ticket = delivered(rt, alloc, engine, client, op)?;
     let act = WorldAct::Line {
@@ -204,7 +204,7 @@ fn delivered<N: EngineName, R: Wait>(
     alloc: Global,
     engine: &mut Engine<N>,
     client: usize,
-    op: &Op,
+    op: &Shared<Op>,
 ) -> Result<Result<Ticket, Refusal>, Fail> {
     let client = client_of(engine, client)?;
     Ok(client.deliver(rt, alloc, op.clone()?))

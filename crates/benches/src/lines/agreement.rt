@@ -9,7 +9,7 @@ ghost use Rattle.wire.specs.Sent.{CanBeSent};
 
 use crate::lines::samples::Sample;
 use ids::{Refusal, ReplicaTable};
-use operation::Op;
+use operation::{Op, Shared};
 use std::alloc::{AllocError, Global};
 use std::io;
 use wire::{read_bundle, write_bundle};
@@ -32,7 +32,7 @@ pub fn compare(rt: &impl Print, alloc: Global, samples: &[Sample]) -> io::Result
 ///
 /// # Errors
 /// `AllocError` if allocation fails.
-fn is_read_back(alloc: Global, ops: &[Op], table: &ReplicaTable) -> Result<bool, AllocError>
+fn is_read_back(alloc: Global, ops: &[Shared<Op>], table: &ReplicaTable) -> Result<bool, AllocError>
     ensures sent { All (λ o. CanBeSent table.now (stamped_of table.now o)) ops.now → IfOk result IsTrue }
     ensures same { IfOk result
         (λ same. IsTrue same

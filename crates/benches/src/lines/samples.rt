@@ -3,7 +3,7 @@
 ghost use Rattle.std.specs.Prelude.{◌≡◌, length, IfOk};
 
 use ids::{Refusal, ReplicaTable};
-use operation::Op;
+use operation::{Op, Shared};
 use std::alloc::{AllocError, Global};
 use version::VersionVector;
 use wire::read_op;
@@ -13,7 +13,7 @@ use wire::read_op;
 pub struct Sample {
     pub name: &'static str,
     pub table: ReplicaTable,
-    pub ops: Vec<Op>,
+    pub ops: Vec<Shared<Op>>,
 }
 
 /// A map, a list in it, and three items.
@@ -69,10 +69,15 @@ fn insert_after_all(alloc: Global) -> Result<Sample, Refusal>
         members.push(number + 1)?;
     }
     let table = ReplicaTable::new(alloc, members.as_slice())?;
-    let mut op = read_op(alloc, INSERT.as_bytes(), &table)?;
-    op.deps = after_all(alloc, table.len())?;
+    let insert = read_op(alloc, INSERT.as_bytes(), &table)?;
+    let op = Op {
+        id: insert.id,
+        deps: after_all(alloc, table.len())?,
+        place: insert.place.clone()?,
+        mutation: insert.mutation.clone()?,
+    };
     let mut ops = Vec::new(alloc);
-    ops.push(op)?;
+    ops.push(Shared::new(alloc, op)?)?;
     Ok(Sample {
         name: "an insert beside 64 members",
         table,

@@ -15,7 +15,7 @@ use cursor::{Expr, Place, Tag};
 use document::{Document, Question, Reading};
 use fixtures::{Pair, id_of, pair_of, text, vector};
 use ids::{OpId, Refusal};
-use operation::{Entry, Mutation, Op, check_alone};
+use operation::{Entry, Mutation, Op, Shared, check_alone};
 use std::alloc::{AllocError, Global};
 use std::process::Abort;
 use std::test::Fail;
@@ -127,19 +127,20 @@ fn mutation(alloc: Global, does: Does) -> Result<Mutation, Refusal> {
 }
 
 /// The operation, or `NoMemory` if an allocation is refused.
-fn try_op(alloc: Global, sent: Sent) -> Result<Op, Refusal> {
+fn try_op(alloc: Global, sent: Sent) -> Result<Shared<Op>, Refusal> {
     let (pair, counters, hops, does) = sent;
     let id = id_of(pair)?;
-    Ok(Op {
+    let op = Op {
         id,
         deps: vector(alloc, &counters)?,
         place: place(alloc, hops)?,
         mutation: mutation(alloc, does)?,
-    })
+    };
+    Ok(Shared::new(alloc, op)?)
 }
 
 /// The operation, at the second attempt if an allocation of the first is refused.
-fn op(alloc: Global, sent: Sent) -> Result<Op, Refusal> {
+fn op(alloc: Global, sent: Sent) -> Result<Shared<Op>, Refusal> {
     match try_op(alloc, sent) {
         Err(Refusal::NoMemory) => try_op(alloc, sent),
         made => made,
@@ -325,7 +326,7 @@ fn are_conflicts(conflicts: &[(OpId, Tag)], wanted: &[(Pair, Tag)]) -> bool {
 }
 
 /// Whether the operations have these ids.
-fn are_ops(ops: &[Op], wanted: &[Pair]) -> bool {
+fn are_ops(ops: &[Shared<Op>], wanted: &[Pair]) -> bool {
     for (op, pair) in ops.iter().zip(wanted) {
         if pair_of(op.id) != *pair {
             return false;
@@ -360,13 +361,21 @@ fn assert_answer(
 }
 
 /// The operations that a vector of these counters doesn't cover, or `NoMemory` if an allocation is refused.
-fn try_missing(alloc: Global, document: &Document, counters: [u64; 3]) -> Result<Vec<Op>, Refusal> {
+fn try_missing(
+    alloc: Global,
+    document: &Document,
+    counters: [u64; 3],
+) -> Result<Vec<Shared<Op>>, Refusal> {
     let vector = beside(alloc, document, counters)?;
     Ok(document.missing(alloc, &vector)?)
 }
 
 /// The operations that a vector of these counters doesn't cover, at the second attempt if an allocation of the first is refused.
-fn missing(alloc: Global, document: &Document, counters: [u64; 3]) -> Result<Vec<Op>, Refusal> {
+fn missing(
+    alloc: Global,
+    document: &Document,
+    counters: [u64; 3],
+) -> Result<Vec<Shared<Op>>, Refusal> {
     match try_missing(alloc, document, counters) {
         Err(Refusal::NoMemory) => try_missing(alloc, document, counters),
         answer => answer,

@@ -9,7 +9,7 @@ use cursor::{Expr, Place, Step as Hop};
 use document::{Question, Reading};
 use ids::{OpId, ReplicaId};
 use items::Reply;
-use operation::{Command, Mutation, Op};
+use operation::{Command, Mutation, Op, Shared};
 use std::marker::Brand;
 use std::process::Abort;
 use std::sync::Wait;
@@ -168,17 +168,20 @@ fn delete_head(alloc: Global) -> Result<Command, Fail> {
     Ok(Command::Delete(Expr::new(vec![in alloc; Hop::Idx(0)]?)))
 }
 
-fn op_of_two(alloc: Global, number: u32) -> Result<Op, Fail> {
+fn op_of_two(alloc: Global, number: u32) -> Result<Shared<Op>, Fail> {
     let replica = ReplicaId::new(2).ok_or("numbered 0")?;
     let counter = u64::from(number);
     let mut deps = VersionVector::zero(alloc, 3)?;
     deps.raise(1, counter.saturating_sub(1));
-    Ok(Op {
+    let key = Key::new(alloc, "b")?;
+    let place = Place::doc(alloc).get(alloc, key)?;
+    let op = Op {
         id: OpId { counter, replica },
         deps,
-        place: Place::doc(alloc).get(alloc, Key::new(alloc, "b")?)?,
+        place,
         mutation: Mutation::Assign(Val::Scalar(Scalar::Whole(i64::from(number)))),
-    })
+    };
+    Ok(Shared::new(alloc, op)?)
 }
 
 /// Submits a command: the serial of its ticket, or why it is refused.

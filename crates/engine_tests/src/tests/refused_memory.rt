@@ -10,7 +10,7 @@ use cursor::{Expr, Place, Step as Hop};
 use document::{Question, Reading};
 use ids::{OpId, ReplicaId};
 use items::Reply;
-use operation::{Command, Mutation, Op};
+use operation::{Command, Mutation, Op, Shared};
 use std::marker::Brand;
 use std::process::Abort;
 use std::sync::Wait;
@@ -245,18 +245,19 @@ fn deliver<N: EngineName, R: Wait>(
 }
 
 /// The operation of replica 2 with this counter, which assigns an empty map at the root and depends on its earlier ones.
-fn op_of_two(alloc: Global, counter: u64) -> Result<Op, Refusal> {
+fn op_of_two(alloc: Global, counter: u64) -> Result<Shared<Op>, Refusal> {
     let Some(replica) = ReplicaId::new(2) else {
         return Err(Refusal::BadLine);
     };
     let mut deps = VersionVector::zero(alloc, 2)?;
     deps.raise(1, counter.saturating_sub(1));
-    Ok(Op {
+    let op = Op {
         id: OpId { counter, replica },
         deps,
         place: Place::doc(alloc),
         mutation: Mutation::Assign(Val::EmptyMap),
-    })
+    };
+    Ok(Shared::new(alloc, op)?)
 }
 
 /// Whether the number 4 stands at the key `a`.

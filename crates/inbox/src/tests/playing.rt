@@ -7,7 +7,7 @@ use super::*;
 use cursor::Place;
 use document::Document;
 use ids::{OpId, ReplicaId};
-use operation::{Mutation, Op};
+use operation::{Mutation, Op, Shared};
 use std::alloc::Global;
 use std::process::Abort;
 use value::Val;
@@ -59,10 +59,10 @@ fn vector(alloc: Global, counters: [u64; 3]) -> Result<VersionVector, Fail> {
 }
 
 /// An operation at the root.
-fn op(alloc: Global, pair: Pair, counters: [u64; 3], writes: Writes) -> Result<Op, Fail> {
+fn op(alloc: Global, pair: Pair, counters: [u64; 3], writes: Writes) -> Result<Shared<Op>, Fail> {
     let id = id_of(pair)?;
     let deps = vector(alloc, counters)?;
-    Ok(Op {
+    let op = Op {
         id,
         deps,
         place: Place::doc(alloc),
@@ -70,11 +70,16 @@ fn op(alloc: Global, pair: Pair, counters: [u64; 3], writes: Writes) -> Result<O
             Writes::Map => Mutation::Assign(Val::EmptyMap),
             Writes::Delete => Mutation::Delete,
         },
-    })
+    };
+    Ok(Shared::new(alloc, op)?)
 }
 
 /// Puts an operation, whose vector is as wide as the table.
-fn put(inbox: &mut Inbox, op: Op, document: &Document) -> Result<Result<Delivered, Refusal>, Fail>
+fn put(
+    inbox: &mut Inbox,
+    op: Shared<Op>,
+    document: &Document,
+) -> Result<Result<Delivered, Refusal>, Fail>
     requires { AreAsWide document.now.table inbox.old }
     ensures { AreAsWide document.now.table inbox.new }
 {
@@ -88,7 +93,7 @@ fn put(inbox: &mut Inbox, op: Op, document: &Document) -> Result<Result<Delivere
 fn answers(
     rt: &impl Abort,
     inbox: &mut Inbox,
-    op: Op,
+    op: Shared<Op>,
     document: &Document,
     want: Result<Delivered, Refusal>,
 ) -> Result<(), Fail>

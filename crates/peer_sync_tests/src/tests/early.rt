@@ -2,15 +2,16 @@
 
 use fixtures::{field, id_of, vector};
 use ids::Refusal;
-use operation::{Mutation, Op};
+use operation::{Mutation, Op, Shared};
 use std::alloc::Global;
 
 /// The operation of replica 2 with this counter that deletes a key and depends on replica 3's operation of the counter before.
-pub fn early_op(alloc: Global, counter: u64) -> Result<Op, Refusal> {
-    Ok(Op {
+pub fn early_op(alloc: Global, counter: u64) -> Result<Shared<Op>, Refusal> {
+    let op = Op {
         id: id_of((counter, 2))?,
         deps: vector(alloc, &[0, 0, counter.saturating_sub(1)])?,
         place: field(alloc, "a")?,
         mutation: Mutation::Delete,
-    })
+    };
+    Ok(Shared::new(alloc, op)?)
 }

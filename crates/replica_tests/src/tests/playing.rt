@@ -11,7 +11,7 @@ use cursor::{Expr, Place, Step};
 use document::{Question, Reading};
 use fixtures::{Pair, field, id_of, pair_of, text, vector};
 use ids::Refusal;
-use operation::{Command, Mutation, Op};
+use operation::{Command, Mutation, Op, Shared};
 use std::alloc::Global;
 use std::process::Abort;
 use std::test::Fail;
@@ -96,16 +96,22 @@ fn mutation(alloc: Global, writes: Writes<'_>) -> Result<Mutation, Refusal> {
 }
 
 /// An operation with this id, and with these counters in its vector.
-fn op(alloc: Global, pair: Pair, counters: &[u64], writes: Writes<'_>) -> Result<Op, Refusal> {
+fn op(
+    alloc: Global,
+    pair: Pair,
+    counters: &[u64],
+    writes: Writes<'_>,
+) -> Result<Shared<Op>, Refusal> {
     let id = id_of(pair)?;
     let deps = vector(alloc, counters)?;
     let place = place(alloc, writes)?;
-    Ok(Op {
+    let op = Op {
         id,
         deps,
         place,
         mutation: mutation(alloc, writes)?,
-    })
+    };
+    Ok(Shared::new(alloc, op)?)
 }
 
 /// Makes the operation of an assign, which has this id and is not committed.
@@ -137,12 +143,18 @@ fn assign(
     let command = assigning(alloc, at.0, at.1)?;
     let op = replica.make(alloc, &command)?;
     assert_eq!(rt; pair_of(op.id), want);
+    let command = Shared::new(alloc, command)?;
     replica.commit_own(0, serial, command, op);
     Ok(serial + 1)
 }
 
 /// Delivers an operation, and asserts the answer.
-fn deliver(rt: &impl Abort, replica: &mut Replica, op: Op, want: Answer) -> Result<(), Refusal>
+fn deliver(
+    rt: &impl Abort,
+    replica: &mut Replica,
+    op: Shared<Op>,
+    want: Answer,
+) -> Result<(), Refusal>
     ensures { replica.new.document.entries ≡ replica.old.document.entries }
 {
     let id = op.id;
@@ -162,7 +174,7 @@ fn drain(alloc: Global, replica: &mut Replica) -> Result<(), Refusal>
     Ok(replica.drain(alloc)?)
 }
 
-/// The id of a copy of the next one, if there is one.
+/// The id of the next one, if there is one.
 fn copy(alloc: Global, replica: &mut Replica) -> Result<Option<Pair>, Refusal>
     ensures { replica.new.document.entries ≡ replica.old.document.entries }
 {

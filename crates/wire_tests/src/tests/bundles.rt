@@ -2,7 +2,7 @@
 
 use super::{LINES, joined, list_of_five};
 use ids::{Refusal, ReplicaTable};
-use operation::Op;
+use operation::{Op, Shared};
 use std::alloc::{AllocError, Global};
 use std::process::Abort;
 use std::test::Fail;
@@ -24,7 +24,12 @@ fn table(alloc: Global) -> Result<ReplicaTable, Refusal> {
 }
 
 /// Asserts that the operations are written as this text.
-fn are_written(rt: &impl Abort, alloc: Global, ops: &[Op], want: &str) -> Result<(), Refusal> {
+fn are_written(
+    rt: &impl Abort,
+    alloc: Global,
+    ops: &[Shared<Op>],
+    want: &str,
+) -> Result<(), Refusal> {
     let table = table(alloc)?;
     let text = write_bundle(alloc, ops, &table)?;
     assert_eq!(rt; text.as_slice(), want.as_bytes());
@@ -32,7 +37,7 @@ fn are_written(rt: &impl Abort, alloc: Global, ops: &[Op], want: &str) -> Result
 }
 
 /// The operations of a bundle, or why it isn't one.
-fn read(alloc: Global, text: &str) -> Result<Vec<Op>, Refusal> {
+fn read(alloc: Global, text: &str) -> Result<Vec<Shared<Op>>, Refusal> {
     let table = table(alloc)?;
     read_bundle(alloc, text.as_bytes(), &table).map_err(|stopped| stopped.1)
 }

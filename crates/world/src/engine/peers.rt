@@ -22,7 +22,7 @@ use crate::naming::{ops_beside, vector_beside};
 use crate::step::WorldReply;
 use ids::Refusal;
 use items::Request;
-use operation::Op;
+use operation::{Op, Shared};
 use std::alloc::{AllocError, Global};
 use wire::{LinesRead, read_lines};
 
@@ -212,7 +212,7 @@ impl Engine {
     fn submit_all(
         &mut self,
         client: usize,
-        ops: Vec<Op>,
+        ops: Vec<Shared<Op>>,
     ) -> Result<(u64, Option<Refusal>), AllocError>
         requires reached { IsReachedEngine self.old }
         requires there { client < length self.old.clients }

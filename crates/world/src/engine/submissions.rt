@@ -14,16 +14,21 @@ use crate::engine::Engine;
 use crate::step::WorldReply;
 use ids::Refusal;
 use items::{Item, Request};
-use operation::Command;
-use std::alloc::AllocError;
+use operation::{Command, Shared};
+use std::alloc::{AllocError, Global};
 use std::collections::VecDeque;
 
 impl Engine {
-    /// A client submits a command. Copies it for the client and for the queue.
+    /// A client submits a clone of the command, which is kept once.
     ///
     /// # Errors
     /// `AllocError` if allocation fails.
-    pub fn push(&mut self, client: usize, command: &Command) -> Result<WorldReply, AllocError>
+    pub fn push(
+        &mut self,
+        alloc: Global,
+        client: usize,
+        command: &Command,
+    ) -> Result<WorldReply, AllocError>
         ensures engine { OnOk result (self.new ≡ (push self.old client (OfCommand (command_of command.now))).engine) }
         ensures reply { IfOk result (λ r. reply_of r ≡ (push self.old client (OfCommand (command_of command.now))).reply) }
         ensures unchanged { OnErr result (self.new ≡ self.old) }
@@ -32,7 +37,8 @@ impl Engine {
             return Ok(WorldReply::Idle);
         }
         let serial = self.next_serial(client);
-        match self.submit(client, Request::Command(command.clone()?))? {
+        let command = Shared::new(alloc, command.clone()?)?;
+        match self.submit(client, Request::Command(command))? {
             Some(why) => Ok(WorldReply::Denied(why)),
             None => Ok(WorldReply::Ticket(serial)),
         }
@@ -76,7 +82,7 @@ impl Engine {
     }
 }
 
-/// Keeps a submission for its client, and puts it at the back of the queue. Copies it once.
+/// Keeps a submission for its client, and puts it at the back of the queue. Both share what was submitted.
 ///
 /// # Errors
 /// `AllocError` if allocation fails. Nothing is kept or queued then.

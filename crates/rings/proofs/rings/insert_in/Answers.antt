@@ -18,14 +18,14 @@ returns-clause-items g c =
     let done : is_ok c.insert.result ≡ true = is_ok_true _ (c.insert.ensures.succeeds c.requires.room) in
     let put : c.insert.new.self.items ≡ insert slots at item = c.insert.ensures.items
     ∙ (λ t. cond (done t) (insert (front t) at item) (front t)) in
-    let closed : IsClosed 512 starts (starts_of c.close_ring.new.starts) c.len.result = c.close_ring.ensures.closed in
+    let closed : IsClosed 2048 starts (starts_of c.close_ring.new.starts) c.len.result = c.close_ring.ensures.closed in
     let count : length c.insert.new.self.items ≡ c.len.result = search rules in
-    let full : length starts * 512 ≤ length slots = let a = c.make_way-at.ensures.starts in let b = c.make_way-at.ensures.slots in
+    let full : length starts * 2048 ≤ length slots = let a = c.make_way-at.ensures.starts in let b = c.make_way-at.ensures.slots in
     let d = ap length c.deref_mut.ensures.value in let h = c.requires.rings.full in omega (arith, a, b, d, h) in
-    let behind : length starts * 512 ≤ at = let a = c.make_way-at.ensures.starts in let h = c.make_way-at.ensures.behind in
+    let behind : length starts * 2048 ≤ at = let a = c.make_way-at.ensures.starts in let h = c.make_way-at.ensures.behind in
     omega (arith, a, h) in
     closed_same starts (starts_of c.close_ring.new.starts) c.insert.new.self.items c.len.result count closed
-    ∙ ap (λ xs. straight 512 starts xs) put
-    ∙ straight-insert 512 starts slots at item full behind
+    ∙ ap (λ xs. straight 2048 starts xs) put
+    ∙ straight-insert 2048 starts slots at item full behind
     ∙ c.make_way-at.ensures.items
-    ∙ ap (λ xs. insert (straight 512 (starts_of c.args.starts.now) xs) c.args.position c.args.value) c.deref_mut.ensures.value
+    ∙ ap (λ xs. insert (straight 2048 (starts_of c.args.starts.now) xs) c.args.position c.args.value) c.deref_mut.ensures.value

@@ -23,6 +23,6 @@ returns g c =
     let slots = c.args.slots.now in
     let x = c.index-slots-slot_of.result in
     let meets = meets_slot starts slots c.args.position c.slot_of.result c.requires.rings c.requires.within c.slot_of.ensures in
-    let long = length-straight 512 starts slots in
-    slice_get_read (straight 512 starts slots) (length (straight 512 starts slots)) c.args.position x refl
+    let long = length-straight 2048 starts slots in
+    slice_get_read (straight 2048 starts slots) (length (straight 2048 starts slots)) c.args.position x refl
     (let w = c.requires.within in omega (arith, long, w)) (c.index-slots-slot_of.is ∙ sym (meets.get x))

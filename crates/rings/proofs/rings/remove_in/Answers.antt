@@ -11,13 +11,13 @@ returns-clause-items g c =
     let starts = starts_of c.args.starts.now in
     let slots = c.args.slots.now.items in
     let i = c.args.position in
-    let cut = c.len.result / 512 in
-    (λ t. straight 512 (c.truncate.ensures.starts t) (c.remove-item.ensures.items t))
-    ∙ zero_straight 512 (take cut starts) (remove slots i) (zero_take cut starts c.requires.straight)
-    ∙ ap (λ xs. remove xs i) (sym (zero_straight 512 starts slots c.requires.straight))
+    let cut = c.len.result / 2048 in
+    (λ t. straight 2048 (c.truncate.ensures.starts t) (c.remove-item.ensures.items t))
+    ∙ zero_straight 2048 (take cut starts) (remove slots i) (zero_take cut starts c.requires.straight)
+    ∙ ap (λ xs. remove xs i) (sym (zero_straight 2048 starts slots c.requires.straight))
 
 pub returns-clause-value : goal.returns-clause-value
 returns-clause-value g c =
     let slots = c.args.slots.now.items in
-    ap (λ xs. slice_get xs c.args.position) (zero_straight 512 (starts_of c.args.starts.now) slots c.requires.straight)
+    ap (λ xs. slice_get xs c.args.position) (zero_straight 2048 (starts_of c.args.starts.now) slots c.requires.straight)
     ∙ slice_get_read slots (length slots) c.args.position c.remove-item.result refl c.requires.within c.remove-item.ensures.value

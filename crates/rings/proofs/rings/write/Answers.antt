@@ -21,7 +21,7 @@ pub returns-clause-items : goal.returns-clause-items
 returns-clause-items g c =
     let meets = meets_slot c.args.starts.now c.args.slots.now c.args.position c.slot_of-slot.result c.requires.rings c.requires.within
     c.slot_of-slot.ensures in
-    ap (λ x. straight 512 c.args.starts.now (set c.args.slots.now c.slot_of-slot.result x)) c.replace.ensures.after ∙ meets.set c.args.value
+    ap (λ x. straight 2048 c.args.starts.now (set c.args.slots.now c.slot_of-slot.result x)) c.replace.ensures.after ∙ meets.set c.args.value
 
 pub returns-clause-value : goal.returns-clause-value
 returns-clause-value g c =
@@ -29,7 +29,7 @@ returns-clause-value g c =
     let slots = c.args.slots.now in
     let x = c.replace.result in
     let meets = meets_slot starts slots c.args.position c.slot_of-slot.result c.requires.rings c.requires.within c.slot_of-slot.ensures in
-    let long = length-straight 512 starts slots in
+    let long = length-straight 2048 starts slots in
     let read : x ≡ get_or slots c.slot_of-slot.result x = search rules in
-    slice_get_read (straight 512 starts slots) (length (straight 512 starts slots)) c.args.position x refl
+    slice_get_read (straight 2048 starts slots) (length (straight 2048 starts slots)) c.args.position x refl
     (let w = c.requires.within in omega (arith, long, w)) (read ∙ sym (meets.get x))
