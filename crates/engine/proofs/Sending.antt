@@ -8,8 +8,8 @@ use Rattle.engine.specs.Clients.{Keeps, Client}
 abbrev pub next_item : Client → Request → Item
 next_item c r = record { client = c.number; serial = length c.kept + 1; floor = length c.seen; request = r }
 
-pub as_next : (c : Client) (n s f : ℕ) (r : Request) → n ≡ c.number → s ≡ length c.kept → f ≡ length c.seen → (x : Item)
-    → x ≡ record { client = n; serial = s + 1; floor = f; request = r } → x ≡ next_item c r
+pub as_next : (c : Client) (n s f : ℕ) (r : Request) → n ≡ c.number → s ≡ length c.kept + 1 → f ≡ length c.seen → (x : Item)
+    → x ≡ record { client = n; serial = s; floor = f; request = r } → x ≡ next_item c r
 as_next c n s f r en es ef x is = cc
 
 pub keeps_next : (k : Keeps) (x : Item) → k.item ≡ x → k.known ≡ None → k ≡ record { item = x; known = None }
@@ -60,5 +60,5 @@ sent_none c d replica number serials queue capacity seen read kept =
     cc
 
 -- serials are left, so the answer isn't that they ended
-pub goes_on : (c : Client) (n m : ℕ) {P : Type 0} → n < m → n ≡ length c.kept → m ≡ c.serials → (P → ⊥) → P ↔ (c.serials ≤ length c.kept)
-goes_on c n m lt kept serials other = (λ p. absurd (other p), λ le. absurd (omega (arith, lt, kept, serials, le)))
+pub goes_on : (c : Client) {P : Type 0} → length c.kept < c.serials → (P → ⊥) → P ↔ (c.serials ≤ length c.kept)
+goes_on c left other = (λ p. absurd (other p), λ le. absurd (omega (arith, left, le)))

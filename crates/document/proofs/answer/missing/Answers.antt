@@ -19,16 +19,16 @@ loop-position-preserved c =
     let x : ℕ = slice_index_or positions n 0 in
     let next : drop n positions ≡ x ∷ drop (n + 1) positions = drop-cons positions n 0 c.loop-position-test.true
     ∙ (λ i. x ∷ drop (sym (add-one n) i) positions) in
-    let op : map (stamped_of table) c.push_copy.new.ops.items
+    let op : map (stamped_of table) c.push_op.new.ops.items
     ≡ map (stamped_of table) c.loop-position.ops.items
-    ++ cons_option (option_map stamped_in (entry_at x G)) [] = c.in_ok-push_copy.ensures.op in
+    ++ cons_option (option_map stamped_in (entry_at x G)) [] = c.in_ok-push_op.ensures.op in
     record {
       found =
           ap (λ (ss : List Stamped). ss ++ found G (drop (n + 1) positions)) op
           ∙ found_next G x (drop (n + 1) positions) (map (stamped_of table) c.loop-position.ops.items)
           ∙ ap (λ ns. map (stamped_of table) c.loop-position.ops.items ++ found G ns) (sym next)
           ∙ c.loop-position.invariant.found;
-      wide = c.in_ok-push_copy.ensures.width c.loop-position.invariant.wide;
+      wide = c.in_ok-push_op.ensures.width c.loop-position.invariant.wide;
     }
 
 pub returns-clause-ok : goal.returns-clause-ok

@@ -1,6 +1,9 @@
-use Rattle.std.proofs.Common.{◌≡◌, Bool, false, cond, Option, Some, None, refl, sym, ap, ◌∙◌}
+use Rattle.std.proofs.Common.{◌≡◌, Bool, false, cond, Option, Some, None, sym, ap, ◌∙◌, subst}
+use Rattle.semantics.specs.Entries.{stamped_of as stamped_entries}
+use Rattle.semantics.specs.Faults.{fault_of}
 use Rattle.semantics.specs.Making.{is_full}
 use Rattle.semantics.specs.Stamped.{Stamped}
+use Rattle.operation.specs.declared.op.Op.{Op}
 use Rattle.operation.specs.Meanings.{stamped_of}
 use Rattle.replica.proofs.waiting.next_turn.Goals as goal
 
@@ -14,7 +17,8 @@ returns-in-Err-clause-turn c =
     record {
       next = stamped_of d.table c.in-Some.op.now;
       is_next = with_room (is_full d.entries) _ _ (sym c.is_full.ensures ∙ c.if-is_full.false) c.in-Some.ensures.first;
-      id = refl;
+      id = ap (λ (o : Op). o.id) (sym c.deref-in-Err.ensures);
       why = c.in-Err.field-0;
-      fault = c.in-Err.ensures;
+      fault = subst (λ (o : Op). fault_of (stamped_entries d.entries) (stamped_of d.table o) ≡ Some c.in-Err.field-0)
+          c.deref.ensures c.in-Err.ensures;
     }

@@ -1,5 +1,5 @@
 use Rattle.std.proofs.Common.{◌≡◌, ◌+◌, ◌++◌, ℕ, [], ◌∷◌, List, map, drop, drop-cons, add-one, sym, ap, ◌∙◌, subst, append_assoc}
-use Rattle.std.proofs.Common.{append-nil}
+use Rattle.std.proofs.Common.{append-nil, Ok}
 use Rattle.std.specs.List.{All}
 use Rattle.std.proofs.lemmas.List.{drop_all, take_all}
 use Rattle.std.proofs.lemmas.List.Elements.{All-map, All-more}
@@ -8,6 +8,7 @@ use Rattle.operation.specs.declared.op.Op.{Op}
 use Rattle.operation.specs.Meanings.{stamped_of}
 use Rattle.wire.specs.Bundles.{bundle_form, bundle_text}
 use Rattle.wire.specs.Messages.{op_line}
+use Rattle.wire.specs.Reading.{op_form}
 use Rattle.wire.specs.Sent.{CanBeSent}
 use Rattle.wire.proofs.BundleBack.{IsBackIfSent, sent_bundle_back}
 use Rattle.wire.proofs.bundles.write_bundle.Goals as goal
@@ -20,7 +21,7 @@ loop-op-preserved c =
     let i : ℕ = c.loop-op.op-index in
     let o = c.op-item.result in
     let before = c.loop-op.text.items in
-    let line : c.in_ok-line.line.items ≡ op_line (f o) = c.in_ok-line.ensures.line in
+    let line : c.in_ok-line.line.items ≡ op_line (f o) = c.in_ok-line.ensures.line ∙ ap (λ (x : Op). op_line (f x)) c.deref.ensures in
     let rest : List ℕ = bundle_text (map f (drop (i + 1) ops)) in
     let pushed : c.push.new.self.items ≡ (before ++ op_line (f o)) ++ 10 ∷ [] = c.in_ok-push.ensures.items
     ∙ ap (λ bs. bs ++ 10 ∷ []) (c.in_ok-extend_from_slice.ensures.items ∙ ap (λ bs. before ++ bs) (c.as_slice.ensures.value ∙ line)) in
@@ -35,7 +36,10 @@ loop-op-preserved c =
           ∙ c.loop-op.invariant.left;
       back = All-more (λ (x : Op). IsBackIfSent table (f x)) ops i o c.loop-op-test.true c.loop-op.invariant.back
           (subst (λ (x : Op). IsBackIfSent table (f x)) c.op-item.is
-          (record { back = λ sent. rw (← line) (c.in_ok-line.ensures.reads_back sent) }));
+          (record {
+            back = λ sent. rw (← line) (subst (λ (x : Op). CanBeSent table (f x) → op_form table c.in_ok-line.line.items ≡ Ok (f x))
+                c.deref.ensures c.in_ok-line.ensures.reads_back sent);
+          }));
     }
 
 pub returns-clause-reads_back : goal.returns-clause-reads_back

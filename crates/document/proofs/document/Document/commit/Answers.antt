@@ -5,6 +5,7 @@ use Rattle.semantics.specs.Entries.{stamped_in}
 use Rattle.semantics.specs.Tables.{component}
 use Rattle.semantics.specs.Stamped.{Stamped, loose_operation}
 use Rattle.operation.specs.declared.command.Entry.{Entry}
+use Rattle.operation.specs.declared.op.Op.{Op}
 use Rattle.operation.specs.Meanings.{entry_of, stamped_of}
 use Rattle.tree.specs.Trees.{IsPlaced, document}
 use Rattle.document.specs.Documents.{Kept, MayFollowEntries}
@@ -21,7 +22,8 @@ lawful k l e is may = subst (λ (k : Kept). MayFollowEntries k.entries (entry_of
 pub apply-requires-clause-placed : goal.apply-requires-clause-placed
 apply-requires-clause-placed c =
     let d = c.self.inside in
-    let same = ap (λ table. stamped_of table c.op-op.result.now) c.self.invariant.beside ∙ c.op-op.ensures.stamped d.log.table in
+    let same = ap (stamped_of d.tree.table) c.deref-2.ensures
+    ∙ ap (λ table. stamped_of table c.op-op.result.now) c.self.invariant.beside ∙ c.op-op.ensures.stamped d.log.table in
     subst (IsPlaced (document d.tree)) (sym same)
     (fits d.log.table d.applied d.log.entries d.tree (stamped_in (entry_of d.log.table c.args.entry)) c.self.invariant
     (lawful _ _ c.args.entry c.self.view_is c.requires.lawful))
@@ -35,9 +37,9 @@ pub raise-requires : goal.raise-requires
 raise-requires c =
     let table = c.self.inside.log.table in
     let found : slice_get table c.in-Some.index
-    ≡ Some c.op-op.result.now.id.replica = ap (λ ps. slice_get ps c.in-Some.index) (sym c.table.ensures)
+    ≡ Some c.deref.result.now.id.replica = ap (λ ps. slice_get ps c.in-Some.index) (sym c.table.ensures)
     ∙ c.in-Some.ensures.found in
-    let i = slice_get_within table c.in-Some.index c.op-op.result.now.id.replica found in
+    let i = slice_get_within table c.in-Some.index c.deref.result.now.id.replica found in
     let w = c.self.invariant.width in
     omega arith
 
@@ -45,15 +47,16 @@ pub invariant_of-self : goal.invariant_of-self
 invariant_of-self c =
     let d = c.self.inside in
     let table = d.log.table in
-    let id = c.op-op.result.now.id in
-    let same = ap (λ table. stamped_of table c.op-op.result.now) c.self.invariant.beside ∙ c.op-op.ensures.stamped table in
+    let id = c.deref.result.now.id in
+    let same = ap (stamped_of d.tree.table) c.deref-2.ensures
+    ∙ ap (λ table. stamped_of table c.op-op.result.now) c.self.invariant.beside ∙ c.op-op.ensures.stamped table in
     let found : slice_get table c.in-Some.index ≡ Some id.replica = ap (λ ps. slice_get ps c.in-Some.index) (sym c.table.ensures)
     ∙ c.in-Some.ensures.found in
     let within : c.in-Some.index < length table = slice_get_within table c.in-Some.index id.replica found in
     let there : get_or table c.in-Some.index 0 ≡ id.replica = get_or_from_slice_get table c.in-Some.index id.replica 0 found in
     rw (c.push.ensures.table, c.push.ensures.entries)
     (kept_next table d.applied c.raise.new.self d.log.entries (entry_of table c.args.entry) id d.tree c.apply.new.self
-    (sym (ap (λ (s : Stamped). s.id) (c.op-op.ensures.stamped table))) c.self.invariant
+    (sym (ap (λ (o : Op). o.id) c.deref.ensures ∙ ap (λ (s : Stamped). s.id) (c.op-op.ensures.stamped table))) c.self.invariant
     (lawful _ _ c.args.entry c.self.view_is c.requires.lawful)
     c.apply.ensures.table
     (c.apply.ensures.applied ∙ ap (λ (s : Stamped). apply (document d.tree) (loose_operation s)) same)

@@ -3,7 +3,7 @@ use Rattle.std.specs.Arc.{arc_value}
 use Rattle.crossbeam_queue.specs.Passes.{ruled_capacity}
 use Rattle.items.specs.declared.item.Item.{Item}
 use Rattle.engine.specs.Clients.{Client}
-use Rattle.engine.proofs.Sending.{next_item, as_next, keeps_next, sent_one, goes_on}
+use Rattle.engine.proofs.Sending.{next_item, as_next, keeps_next, sent_one}
 use Rattle.engine.proofs.client.Client.send.Goals as goal
 
 pub returns-in-Ok-send-clause-kept : goal.returns-in-Ok-send-clause-kept
@@ -11,9 +11,8 @@ returns-in-Ok-send-clause-kept g c =
     let me : Client = c.args.self.now in
     let room : ruled_capacity (arc_value c.send.new.self.queue) ≡ ruled_capacity (arc_value c.self.inside.sender.queue) = search rules in
     let x : Item = next_item me c.args.request in
-    let many : c.len-2.result ≡ length me.kept = search rules in
     let item : c.in-Ok.kept.item
-    ≡ x = as_next me _ _ _ _ (ap (λ (z : Client). z.number) c.self.view_is) many
+    ≡ x = as_next me _ _ _ _ (ap (λ (z : Client). z.number) c.self.view_is) c.requires
     (c.seen_len.ensures.length ∙ ap (λ (z : Client). length z.seen) c.self.view_is) _ c.in-Ok.ensures.item.1 in
     let kept : c.in-Ok.kept ≡ record { item = x; known = None } = keeps_next _ x item c.in-Ok.ensures.item.2 in
     sent_one me _ c.reserve.new.self.items c.in-Ok.kept (record { item = x; known = None }) (ap (λ (z : Client). z.replica) c.self.view_is)
@@ -21,23 +20,3 @@ returns-in-Ok-send-clause-kept g c =
     (c.send.ensures.same.0 ∙ ap (λ (z : Client). z.queue) c.self.view_is) (room ∙ ap (λ (z : Client). z.capacity) c.self.view_is)
     (ap (λ (z : Client). z.seen) c.self.view_is) (ap (λ (z : Client). z.read) c.self.view_is)
     c.push_reserved.ensures.items (c.reserve.ensures.items ∙ ap (λ (z : Client). z.kept) c.self.view_is) kept
-
-pub returns-then-is_err-clause-end : goal.returns-then-is_err-clause-end
-returns-then-is_err-clause-end g c =
-    let kept : c.len.result ≡ length c.args.self.now.kept = search rules in
-    goes_on c.args.self.now _ _ c.if-len-self.false kept (ap (λ (z : Client). z.serials) c.self.view_is) (search rules)
-
-pub returns-in_default-clause-end : goal.returns-in_default-clause-end
-returns-in_default-clause-end g c =
-    let kept : c.len.result ≡ length c.args.self.now.kept = search rules in
-    goes_on c.args.self.now _ _ c.if-len-self.false kept (ap (λ (z : Client). z.serials) c.self.view_is) (search rules)
-
-pub returns-in-Err-clause-end : goal.returns-in-Err-clause-end
-returns-in-Err-clause-end g c =
-    let kept : c.len.result ≡ length c.args.self.now.kept = search rules in
-    goes_on c.args.self.now _ _ c.if-len-self.false kept (ap (λ (z : Client). z.serials) c.self.view_is) (search rules)
-
-pub returns-in-Ok-send-clause-end : goal.returns-in-Ok-send-clause-end
-returns-in-Ok-send-clause-end g c =
-    let kept : c.len.result ≡ length c.args.self.now.kept = search rules in
-    goes_on c.args.self.now _ _ c.if-len-self.false kept (ap (λ (z : Client). z.serials) c.self.view_is) (search rules)

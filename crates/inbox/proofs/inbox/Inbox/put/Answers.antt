@@ -35,22 +35,32 @@ invariant_of-self-2 c =
     let d = c.self.inside in
     let none = absent c.args.document.now.table d.ops d.keys.entries c.args.op.id c.self.invariant.at_keys
     (ap (λ ops. is_waiting (waiting_in c.args.document.now.table ops) c.args.op.id) c.self.view_is
+    ∙ ap (λ (o : Op). is_waiting (waiting_in c.args.document.now.table c.args.self.now) o.id) (sym c.deref.ensures)
     ∙ sym (c.contains.ensures c.args.document.now.table) ∙ c.if-contains.false) in
-    let lead : c.args.op.id.counter ≤ greatest_in c.args.op.deps + c.max-self-inside.result = omega
-    (arith, c.greatest.ensures, c.saturating_sub-lead.ensures, c.max-self-inside.ensures) in
+    let lead : c.args.op.id.counter ≤ greatest_in c.args.op.deps + c.max-self-inside.result = omega (
+      arith,
+      ap (λ (o : Op). o.id.counter) c.deref-3.ensures,
+      ap (λ (o : Op). greatest_in o.deps) c.deref-4.ensures,
+      c.greatest.ensures,
+      c.saturating_sub-lead.ensures,
+      c.max-self-inside.ensures,
+    ) in
     let more : d.lead ≤ c.max-self-inside.result = omega (arith, c.max-self-inside.ensures) in
     kept_put d.ops c.insert.new.self d.keys.entries _ c.in-Ok.key c.args.op d.lead c.max-self-inside.result
-    (c.put.ensures.entries ∙ ap (put id_cmp c.args.op.id c.in-Ok.key) c.reserve_one.ensures.same)
+    (c.put.ensures.entries ∙ ap (put id_cmp c.deref-3.result.now.id c.in-Ok.key) c.reserve_one.ensures.same
+    ∙ ap (λ (o : Op). put id_cmp o.id c.in-Ok.key d.keys.entries) c.deref-3.ensures)
     c.in-Ok.ensures.was_vacant c.in-Ok.ensures.updates none lead more c.self.invariant
 
 pub returns-clause-kept : goal.returns-clause-kept
 returns-clause-kept c table kept =
     let d = c.self.inside in
     let none = absent table d.ops d.keys.entries c.args.op.id c.self.invariant.at_keys
-    (ap (λ ops. is_waiting (waiting_in table ops) c.args.op.id) c.self.view_is ∙ sym (c.contains.ensures table)
-    ∙ c.if-contains.false) in
+    (ap (λ ops. is_waiting (waiting_in table ops) c.args.op.id) c.self.view_is
+    ∙ ap (λ (o : Op). is_waiting (waiting_in table c.args.self.now) o.id) (sym c.deref.ensures)
+    ∙ sym (c.contains.ensures table) ∙ c.if-contains.false) in
     ap (λ es. waiting_in table (ops_at c.insert.new.self es))
-    (c.put.ensures.entries ∙ ap (put id_cmp c.args.op.id c.in-Ok.key) c.reserve_one.ensures.same)
+    (c.put.ensures.entries ∙ ap (put id_cmp c.deref-3.result.now.id c.in-Ok.key) c.reserve_one.ensures.same
+    ∙ ap (λ (o : Op). put id_cmp o.id c.in-Ok.key d.keys.entries) c.deref-3.ensures)
     ∙ ap (waiting_in table)
     (put-ops_at d.ops c.insert.new.self d.keys.entries c.in-Ok.key c.args.op c.in-Ok.ensures.was_vacant c.in-Ok.ensures.updates none
     c.self.invariant.at_keys)
@@ -62,9 +72,11 @@ returns-clause-among c o m =
     let d = c.self.inside in
     let table = c.args.document.now.table in
     let none = absent table d.ops d.keys.entries c.args.op.id c.self.invariant.at_keys
-    (ap (λ ops. is_waiting (waiting_in table ops) c.args.op.id) c.self.view_is ∙ sym (c.contains.ensures table)
-    ∙ c.if-contains.false) in
-    let now = ap (ops_at c.insert.new.self) (c.put.ensures.entries ∙ ap (put id_cmp c.args.op.id c.in-Ok.key) c.reserve_one.ensures.same)
+    (ap (λ ops. is_waiting (waiting_in table ops) c.args.op.id) c.self.view_is
+    ∙ ap (λ (o : Op). is_waiting (waiting_in table c.args.self.now) o.id) (sym c.deref.ensures)
+    ∙ sym (c.contains.ensures table) ∙ c.if-contains.false) in
+    let now = ap (ops_at c.insert.new.self) (c.put.ensures.entries ∙ ap (put id_cmp c.deref-3.result.now.id c.in-Ok.key) c.reserve_one.ensures.same
+    ∙ ap (λ (o : Op). put id_cmp o.id c.in-Ok.key d.keys.entries) c.deref-3.ensures)
     ∙ put-ops_at d.ops c.insert.new.self d.keys.entries c.in-Ok.key c.args.op c.in-Ok.ensures.was_vacant c.in-Ok.ensures.updates none
     c.self.invariant.at_keys in
     subst (λ ops. (o ≡ c.args.op) ⊎ IsAmong o ops) c.self.view_is

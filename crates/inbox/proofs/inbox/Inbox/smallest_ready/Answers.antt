@@ -1,8 +1,9 @@
-use Rattle.std.proofs.Common.{◌≡◌, ◌<◌, ◌+◌, ◌∙◌, ℕ, List, [], drop, ap, sym, subst, arith, true, Some, None}
+use Rattle.std.proofs.Common.{◌≡◌, ◌<◌, ◌+◌, ◌∙◌, ℕ, List, [], length, drop, ap, sym, subst, arith, true, Some, None}
 use Rattle.std.proofs.lemmas.List.{drop_all}
 use Rattle.semantics.specs.Ids.{OpId}
 use Rattle.semantics.specs.Entries.{applied}
 use Rattle.semantics.specs.LegalHistory.{IsAmong, greatest_of}
+use Rattle.semantics.specs.Faults.{is_ready}
 use Rattle.semantics.specs.Drain.{first_ready}
 use Rattle.operation.specs.declared.op.Op.{Op}
 use Rattle.operation.specs.Meanings.{stamped_of}
@@ -52,7 +53,10 @@ ready-requires c =
     let left = subst (IsLeft (applied c.args.document.now.entries) c.args.document.now.table d.ops es)
     (drop_at es c.loop-position.position c.at-id.result c.at-id.ensures) c.loop-position.invariant in
     let among = next_among _ c.args.document.now.table d.ops es _ c.at-id.result c.in-Some.op.now left (sym c.in-Some.ensures) in
-    record { width = c.requires.width c.in-Some.op.now (subst (IsAmong c.in-Some.op.now) c.self.view_is among) }
+    record {
+      width = ap (λ (o : Op). length o.deps) c.deref.ensures
+          ∙ c.requires.width c.in-Some.op.now (subst (IsAmong c.in-Some.op.now) c.self.view_is among);
+    }
 
 found : (c : goal.Then-ready)
     → Some (stamped_of c.args.document.now.table c.in-Some.op.now)
@@ -65,7 +69,7 @@ found c =
     let left = subst (IsLeft H table d.ops es)
     (drop_at es c.loop-position.position c.at-id.result c.at-id.ensures) c.loop-position.invariant in
     sym (found_ready H table d.ops es _ c.at-id.result c.in-Some.op.now left (sym c.in-Some.ensures)
-    (sym c.ready.ensures ∙ c.if-ready.true))
+    (ap (λ (o : Op). is_ready H (stamped_of table o)) (sym c.deref.ensures) ∙ sym c.ready.ensures ∙ c.if-ready.true))
     ∙ ap (λ ops. first_ready H (waiting_in table ops)) c.self.view_is
 
 pub returns-then-ready-clause-some : goal.returns-then-ready-clause-some
@@ -89,7 +93,8 @@ loop-position-preserved c =
     let es = d.keys.entries in
     let left = subst (IsLeft H table d.ops es)
     (drop_at es c.loop-position.position c.at-id.result c.at-id.ensures) c.loop-position.invariant in
-    one_less H table d.ops es _ c.at-id.result c.in-Some.op.now left (sym c.in-Some.ensures) (sym c.ready.ensures ∙ c.if-ready.false)
+    one_less H table d.ops es _ c.at-id.result c.in-Some.op.now left (sym c.in-Some.ensures)
+    (ap (λ (o : Op). is_ready H (stamped_of table o)) (sym c.deref.ensures) ∙ sym c.ready.ensures ∙ c.if-ready.false)
 
 -- ---- none is left
 

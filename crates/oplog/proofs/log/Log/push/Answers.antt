@@ -8,6 +8,7 @@ use Rattle.semantics.specs.Ids.{OpId, id_cmp}
 use Rattle.semantics.specs.Stamped.{Stamped}
 use Rattle.semantics.specs.LegalHistory.{has_id}
 use Rattle.semantics.specs.Entries.{applied, stamped_in}
+use Rattle.operation.specs.declared.op.Op.{Op}
 use Rattle.operation.specs.Meanings.{entry_of, op_in}
 use Rattle.oplog.specs.Logs.{AreOfMembers, HaveOwnIds, Logged, history, numbers_of, positions_by}
 use Rattle.oplog.proofs.Oldest.{history-length, history-more}
@@ -19,7 +20,7 @@ use Rattle.oplog.proofs.log.Log.push.Goals as goal
 pub put_position-requires-clause-inside : goal.put_position-requires-clause-inside
 put_position-requires-clause-inside c =
     let d = c.self.inside in
-    positions_inside (history d.table d.entries.items) d.table d.positions.items c.in-Some.index c.op.result.now.id.replica
+    positions_inside (history d.table d.entries.items) d.table d.positions.items c.in-Some.index c.deref.result.now.id.replica
     c.in-Some.ensures.found c.self.invariant.positions_are
 
 pub put_position-requires-clause-room : goal.put_position-requires-clause-room
@@ -42,7 +43,8 @@ invariant_of-self c =
     let G = history d.table d.entries.items in
     let x = entry_of d.table e in
     let i = c.in-Some.index in
-    let own : c.op.result.now.id ≡ (stamped_in x).id = ap (λ (s : Stamped). s.id) (c.op.ensures.stamped d.table) in
+    let own : c.deref.result.now.id ≡ (stamped_in x).id = ap (λ (o : Op). o.id) c.deref.ensures
+    ∙ ap (λ (s : Stamped). s.id) (c.op.ensures.stamped d.table) in
     let position : c.len-position.result ≡ length G = let count = history-length d.table d.entries.items in omega arith in
     let columns = numbers_of d.positions.items in
     let more : history d.table c.push_reserved.new.self.items ≡ x ∷ G = ap (history d.table) c.push_reserved.ensures.items

@@ -1,15 +1,26 @@
-use Rattle.std.proofs.Common.{sym, ap, ◌∙◌}
+use Rattle.std.proofs.Common.{◌≡◌, None, false, sym, ap, ◌∙◌, subst}
+use Rattle.semantics.specs.Entries.{applied}
+use Rattle.semantics.specs.LegalHistory.{has_id}
+use Rattle.semantics.specs.Delivery.{Kept as IsKept, is_waiting}
+use Rattle.operation.specs.declared.op.Op.{Op}
 use Rattle.operation.specs.Alone.{fault_alone}
+use Rattle.operation.specs.Meanings.{stamped_of}
+use Rattle.inbox.specs.Inboxes.{waiting_in}
+use Rattle.replica.specs.Replicas.{answer_to_new, replica_with}
 use Rattle.replica.proofs.KeptOperations.{after_put}
 use Rattle.replica.proofs.replica.Replica.deliver.Goals as goal
 
 pub invariant_of-self : goal.invariant_of-self
 invariant_of-self c =
+    let d = c.self.inside.document in
     after_put _ c.args.op c.put.new.self c.put.result c.self.invariant
-    (ap (λ table. fault_alone table c.args.op) (sym c.table.ensures) ∙ c.in_ok-check_alone.ensures)
-    (sym c.contains.ensures ∙ c.if-contains.false)
-    (sym (c.contains-else-contains.ensures c.self.inside.document.table) ∙ c.if-contains-2.false)
-    c.in_ok-check_wanted.ensures
+    (ap (λ table. fault_alone table c.args.op) (sym c.table.ensures)
+    ∙ subst (λ (o : Op). fault_alone c.table.result.now o ≡ None) c.deref.ensures c.in_ok-check_alone.ensures)
+    (subst (λ (o : Op). has_id (applied d.entries) o.id ≡ false) c.deref-2.ensures (sym c.contains.ensures ∙ c.if-contains.false))
+    (subst (λ (o : Op). is_waiting (waiting_in d.table c.self.inside.inbox) o.id ≡ false) c.deref-else-contains.ensures
+    (sym (c.contains-else-contains.ensures d.table) ∙ c.if-contains-2.false))
+    (subst (λ (o : Op). answer_to_new (replica_with c.self.inside.own d c.self.inside.inbox) (stamped_of d.table o) ≡ IsKept) c.deref-3.ensures
+    c.in_ok-check_wanted.ensures)
     (c.put.ensures.kept c.self.inside.document.table)
     c.put.ensures.among
     c.put.ensures.same
