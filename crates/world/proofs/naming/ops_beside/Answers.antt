@@ -1,9 +1,10 @@
 use Rattle.std.proofs.Common.{rules, ◌≡◌, ◌∷◌, ◌++◌, ◌+◌, [], ℕ, List, Some, inl, inr, length, map, drop, drop-cons, add-one, append_assoc}
-use Rattle.std.proofs.Common.{append-nil, sym, ap, ◌∙◌, subst}
+use Rattle.std.proofs.Common.{append-nil, sym, ap, ◌∙◌, subst, true, false}
 use Rattle.std.specs.List.{All}
 use Rattle.std.proofs.lemmas.List.{drop_all, map-append}
 use Rattle.std.proofs.lemmas.List.Elements.{All-push}
 use Rattle.semantics.specs.Stamped.{Stamped}
+use Rattle.semantics.specs.Faults.{is_of_members}
 use Rattle.semantics.specs.PeerSteps.{before_stranger, stranger_fault}
 use Rattle.operation.specs.declared.op.Op.{Op}
 use Rattle.operation.specs.Meanings.{stamped_of}
@@ -25,7 +26,8 @@ loop-op-preserved c =
     let next : drop n xs ≡ o ∷ drop (n + 1) xs = ap (drop n) (sym all) ∙ drop-cons c.deref-op-items.result.now n o c.loop-op-test.true
     ∙ (λ i. sym c.op-item.is i ∷ drop (sym (add-one n) i) (all i)) in
     let pushed : c.push.new.self.items ≡ old ++ x ∷ [] = search rules in
-    let made = c.in-Ok.ensures in
+    let made = subst (λ (y : Op). (g x ≡ f y) × (length x.deps ≡ length to) × (is_of_members to (f y) ≡ true)) c.deref.ensures
+    c.in-Ok.ensures in
     record {
       named =
           ap (λ (ys : List Op). map g ys ++ before_stranger to rest) pushed
@@ -57,13 +59,13 @@ returns-in-Err-clause-read c =
     ∙ (λ i. sym c.op-item.is i ∷ drop (sym (add-one n) i) (all i)) in
     elim c.in-Err.ensures [
       | inl e ↦ inl (ap Some e)
-      | inr h ↦ inr (
+      | inr h ↦ let stranger = subst (λ (y : Op). is_of_members to (f y) ≡ false) c.deref.ensures h.1 in inr (
         sym (append-nil done)
-            ∙ ap (λ (ss : List Stamped). done ++ ss) (sym (before-none to (f o) rest h.1))
+            ∙ ap (λ (ss : List Stamped). done ++ ss) (sym (before-none to (f o) rest stranger))
             ∙ ap (λ (ys : List Op). done ++ before_stranger to (map f ys)) (sym next)
             ∙ c.loop-op.invariant.named,
         ap Some h.0
-            ∙ sym (fault-stranger to (f o) rest h.1)
+            ∙ sym (fault-stranger to (f o) rest stranger)
             ∙ ap (λ (ys : List Op). stranger_fault to (map f ys)) (sym next)
             ∙ c.loop-op.invariant.fault,
       )
