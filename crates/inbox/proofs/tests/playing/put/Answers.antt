@@ -4,7 +4,8 @@ use Rattle.inbox.proofs.tests.playing.put.Goals as goal
 
 pub returns : goal.returns
 returns c o m =
-    let wide : length c.args.op.deps ≡ length c.args.document.now.table = omega (arith, ap length c.table.ensures) in
+    let wide : length c.args.op.deps ≡ length c.args.document.now.table = omega
+    (arith, ap length c.table.ensures, ap (λ (o : Op). length o.deps) c.deref.ensures) in
     elim (c.put.ensures.among o m) [
       | inl new ↦ ap (λ (p : Op). length p.deps) new ∙ wide
       | inr old ↦ c.requires o old
