@@ -177,17 +177,17 @@ ROWS = {
 }
 
 
-def measured(jdoc, path):
-    """Seconds of the processor and the most bytes that a run took. Children are counted by a process of their own."""
+def measured(command):
+    """Seconds of the processor and the most bytes that a command took. Children are counted by a process of their own."""
     code = (
         "import resource, subprocess, sys\n"
-        "done = subprocess.run([sys.argv[1], 'run', sys.argv[2]], stdout=subprocess.DEVNULL)\n"
+        "done = subprocess.run(sys.argv[1:], stdout=subprocess.DEVNULL)\n"
         "used = resource.getrusage(resource.RUSAGE_CHILDREN)\n"
         "print(used.ru_utime + used.ru_stime, used.ru_maxrss * 1024, done.returncode)\n"
     )
-    told = subprocess.run([sys.executable, "-c", code, jdoc, path], capture_output=True, text=True).stdout.split()
+    told = subprocess.run([sys.executable, "-c", code, *command], capture_output=True, text=True).stdout.split()
     if told[2] != "0":
-        sys.exit(f"{jdoc} ended with {told[2]}")
+        sys.exit(f"{command[0]} ended with {told[2]}")
     return float(told[0]), int(told[1])
 
 
@@ -205,7 +205,7 @@ def main():
                 for line in lines(size):
                     file.write(line + "\n")
                 file.flush()
-                seconds, bytes_taken = measured(words[0], file.name)
+                seconds, bytes_taken = measured([words[0], "run", file.name])
             print(f" | {size:,}: {seconds:.2f} s, {bytes_taken / size:,.0f} bytes", end="", flush=True)
             if seconds > LONGEST / 10:
                 break
