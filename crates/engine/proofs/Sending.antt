@@ -1,5 +1,5 @@
--- What a client is once it has sent, or was refused.
-use Rattle.std.proofs.Common.{◌≡◌, ℕ, ◌+◌, ◌<◌, ◌≤◌, ◌↔◌, ◌++◌, None, List, [], ◌∷◌, length, refl, arith}
+-- What a client is once it has sent.
+use Rattle.std.proofs.Common.{◌≡◌, ℕ, ◌+◌, ◌++◌, None, List, [], ◌∷◌, length, refl}
 use Rattle.items.specs.declared.item.Item.{Item}
 use Rattle.items.specs.declared.item.Request.{Request}
 use Rattle.engine.specs.Clients.{Keeps, Client}
@@ -31,34 +31,3 @@ sent_one c d ks k l replica number serials queue capacity seen read kept before 
       kept = d.kept;
     } = refl in
     cc
-
-pub sent_none : (c d : Client) → d.replica ≡ c.replica → d.number ≡ c.number → d.serials ≡ c.serials → d.queue ≡ c.queue
-    → d.capacity ≡ c.capacity → d.seen ≡ c.seen → d.read ≡ c.read → d.kept ≡ c.kept → d ≡ c
-sent_none c d replica number serials queue capacity seen read kept =
-    let whole : d
-    ≡ record {
-      replica = d.replica;
-      number = d.number;
-      serials = d.serials;
-      queue = d.queue;
-      capacity = d.capacity;
-      seen = d.seen;
-      read = d.read;
-      kept = d.kept;
-    } = refl in
-    let other : c
-    ≡ record {
-      replica = c.replica;
-      number = c.number;
-      serials = c.serials;
-      queue = c.queue;
-      capacity = c.capacity;
-      seen = c.seen;
-      read = c.read;
-      kept = c.kept;
-    } = refl in
-    cc
-
--- serials are left, so the answer isn't that they ended
-pub goes_on : (c : Client) {P : Type 0} → length c.kept < c.serials → (P → ⊥) → P ↔ (c.serials ≤ length c.kept)
-goes_on c left other = (λ p. absurd (other p), λ le. absurd (omega (arith, left, le)))

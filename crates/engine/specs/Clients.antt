@@ -1,5 +1,6 @@
 -- What contracts see of a client.
-use Rattle.std.specs.Prelude.{ℕ, ◌≡◌, ◌+◌, ◌<◌, ◌≤◌, ⊤, cond, Option, Some, None, IfSome, List, [], ◌∷◌, ◌++◌, length, map, option_map, slice_get, slice_set}
+use Rattle.std.specs.Prelude.{ℕ, ◌≡◌, ◌+◌, ◌<◌, ◌≤◌, ⊤, cond, Option, Some, None, IfSome, List, [], ◌∷◌, ◌++◌, length, map, option_map}
+use Rattle.std.specs.Prelude.{slice_get, slice_set}
 use Rattle.atomic_table.specs.Seated.{TableId}
 use Rattle.ids.specs.Configurations.{Configuration}
 use Rattle.semantics.specs.Entries.{Entry}

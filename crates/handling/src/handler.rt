@@ -56,8 +56,7 @@ impl Handler {
     }
 
     /// Handles a submission: appends what the rules make of a command, or delivers a peer's operation and drains the inbox.
-    /// The reply says what was made or kept, or why not. A command and an operation are kept as they came,
-    /// however many keep them.
+    /// The reply says what was made or kept, or why not. A command and an operation are kept as they came, however many keep them.
     ///
     /// If allocation fails for a command or for the delivery, the reply is `Refused(NoMemory, ..)` and nothing has changed. If it
     /// fails in the drain after the delivery, the drain ends early; the next delivery's drain, or `resume`, goes on with it.

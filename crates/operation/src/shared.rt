@@ -7,7 +7,8 @@ use std::marker::Model;
 use std::ops::Deref;
 use std::sync::Arc;
 
-/// A value that never changes, and that all its clones share: a clone takes no memory. Contracts see the value.
+/// A value that never changes, and that all its clones share. A clone takes no memory: its `AllocError` says that the count of
+/// those that share is full. Contracts see the value.
 #[derive(Debug, Drop)]
 pub struct Shared<T> {
     value: Arc<T>,

@@ -411,7 +411,8 @@ fn straighten_rings<T>(slots: &mut [T], starts: &mut [usize])
 fn truncate_in<T: Drop>(slots: &mut Vec<T>, starts: &mut Starts, count: usize)
     requires rings { AreRings 2048 (starts_of starts.old) (length slots.old.items) }
     requires straight { IsTrue (are_zero (starts_of starts.old)) }
-    ensures items { straight 2048 (starts_of starts.new) slots.new.items ≡ take count (straight 2048 (starts_of starts.old) slots.old.items) }
+    ensures items { straight 2048 (starts_of starts.new) slots.new.items
+        ≡ take count (straight 2048 (starts_of starts.old) slots.old.items) }
     ensures rings { AreRings 2048 (starts_of starts.new) (length slots.new.items) }
     ensures few { vec_len slots.new ≤ vec_len slots.old }
     ensures slots { vec_capacity slots.new ≡ vec_capacity slots.old }

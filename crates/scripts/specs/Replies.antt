@@ -6,7 +6,8 @@ use Rattle.ids.specs.declared.refusal.Refusal.{Refusal}
 use Rattle.semantics.specs.Elements.{Scalar, Tag, AsRegister, AsMap, AsList}
 use Rattle.semantics.specs.Questions.{Answer, ValuesAre, KeysAre, ItemsAre, ConflictsAre, VectorIs, Refused}
 use Rattle.semantics.specs.LegalAnswer.{Reply, Made, NotMade, KeptAt, KnownAt, Reading, Answered, MissingAre}
-use Rattle.semantics.specs.Engine.{StepReply, Ticket, Denied, Took, Published, Gave, Idle, Unanswered, Replied, Read, Seen, SentHello, SentBundle, NoMessage, Received, Dropped}
+use Rattle.semantics.specs.Engine.{StepReply, Ticket, Denied, Took, Published, Gave, Idle, Unanswered, Replied, Read, Seen, SentHello}
+use Rattle.semantics.specs.Engine.{SentBundle, NoMessage, Received, Dropped}
 use Rattle.serde_json.specs.Data.{Data, string, array}
 use Rattle.serde_json.specs.View.{items_of}
 use Rattle.serde_json.specs.Written.{compact_text}

@@ -58,7 +58,7 @@ impl Engine {
         })
     }
 
-    /// A token answers a hello with a bundle of what the sender lacks. Copies those operations.
+    /// A token answers a hello with a bundle of what the sender lacks. Shares those operations.
     ///
     /// # Errors
     /// `AllocError` if allocation fails.

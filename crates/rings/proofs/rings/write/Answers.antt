@@ -21,7 +21,8 @@ pub returns-clause-items : goal.returns-clause-items
 returns-clause-items g c =
     let meets = meets_slot c.args.starts.now c.args.slots.now c.args.position c.slot_of-slot.result c.requires.rings c.requires.within
     c.slot_of-slot.ensures in
-    ap (λ x. straight 2048 c.args.starts.now (set c.args.slots.now c.slot_of-slot.result x)) c.replace.ensures.after ∙ meets.set c.args.value
+    ap (λ x. straight 2048 c.args.starts.now (set c.args.slots.now c.slot_of-slot.result x)) c.replace.ensures.after
+    ∙ meets.set c.args.value
 
 pub returns-clause-value : goal.returns-clause-value
 returns-clause-value g c =

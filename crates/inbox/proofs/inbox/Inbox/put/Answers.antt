@@ -75,7 +75,8 @@ returns-clause-among c o m =
     (ap (λ ops. is_waiting (waiting_in table ops) c.args.op.id) c.self.view_is
     ∙ ap (λ (o : Op). is_waiting (waiting_in table c.args.self.now) o.id) (sym c.deref.ensures)
     ∙ sym (c.contains.ensures table) ∙ c.if-contains.false) in
-    let now = ap (ops_at c.insert.new.self) (c.put.ensures.entries ∙ ap (put id_cmp c.deref-3.result.now.id c.in-Ok.key) c.reserve_one.ensures.same
+    let now = ap (ops_at c.insert.new.self)
+    (c.put.ensures.entries ∙ ap (put id_cmp c.deref-3.result.now.id c.in-Ok.key) c.reserve_one.ensures.same
     ∙ ap (λ (o : Op). put id_cmp o.id c.in-Ok.key d.keys.entries) c.deref-3.ensures)
     ∙ put-ops_at d.ops c.insert.new.self d.keys.entries c.in-Ok.key c.args.op c.in-Ok.ensures.was_vacant c.in-Ok.ensures.updates none
     c.self.invariant.at_keys in

@@ -19,7 +19,8 @@ invariant_of-self c =
     (subst (λ (o : Op). has_id (applied d.entries) o.id ≡ false) c.deref-2.ensures (sym c.contains.ensures ∙ c.if-contains.false))
     (subst (λ (o : Op). is_waiting (waiting_in d.table c.self.inside.inbox) o.id ≡ false) c.deref-else-contains.ensures
     (sym (c.contains-else-contains.ensures d.table) ∙ c.if-contains-2.false))
-    (subst (λ (o : Op). answer_to_new (replica_with c.self.inside.own d c.self.inside.inbox) (stamped_of d.table o) ≡ IsKept) c.deref-3.ensures
+    (subst (λ (o : Op). answer_to_new (replica_with c.self.inside.own d c.self.inside.inbox) (stamped_of d.table o)
+    ≡ IsKept) c.deref-3.ensures
     c.in_ok-check_wanted.ensures)
     (c.put.ensures.kept c.self.inside.document.table)
     c.put.ensures.among
