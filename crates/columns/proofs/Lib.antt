@@ -4,6 +4,7 @@ pub mod Puts
 pub mod Zipped
 pub mod Halves
 pub mod Sought
+pub mod Prefixes
 pub mod Placed
 pub mod Columns
 pub mod Above

@@ -3,6 +3,7 @@ pub mod Rank
 pub mod Entries
 pub mod Held
 pub mod Keys
+pub mod Prefix
 pub mod Numbered
 pub mod Orders
 pub mod Blocks

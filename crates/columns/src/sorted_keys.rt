@@ -5,8 +5,10 @@ ghost use Rattle.std.specs.List.{insert};
 ghost use Rattle.std.specs.FinMap.{put, is_sorted};
 ghost use Rattle.semantics.specs.Elements.{Name, name_cmp};
 ghost use Rattle.columns.specs.Keys.{AreNumbers, AreOrdered, numbered};
+ghost use Rattle.columns.specs.Prefix.{AreBytes, first_bytes};
 ghost use Rattle.columns.specs.Rank.{GoesTo, as_set, rank};
 
+use crate::prefix::prefix_of;
 use rings::Rings;
 use std::alloc::{AllocError, Global};
 use std::cmp::Ordering;
@@ -15,29 +17,34 @@ use value::Key;
 
 /// Distinct keys in byte order. What belongs to each key is in columns of the caller's.
 ///
-/// A key stays where it was put, and only its number moves, which is a third of a key's size. Contracts see the keys, the number of
-/// each, and for how many more there is room.
+/// A key stays where it was put, and only its number and its prefix move: its first eight bytes, beside its number, so that a search
+/// reads a key itself only where these tie (databases call them abbreviated keys). Contracts see the keys, the number of each, and
+/// for how many more there is room.
 #[derive(Debug, Drop)]
 pub struct SortedKeys {
     /// In the order in which they were put.
     keys: Vec<Key>,
     /// The number of the key at each position in byte order.
     order: Rings<usize>,
+    /// The prefix of the key at each position in byte order.
+    prefixes: Rings<u64>,
 }
 
 impl Model for SortedKeys {
     ghost use Rattle.std.specs.Prelude.{[], min, vec_len, vec_capacity, ◌-◌};
     ghost use Rattle.columns.specs.Keys.{AreOrdered, Keys, numbered};
+    ghost use Rattle.columns.specs.Prefix.{ArePrefixes};
 
     ghost Value = { Keys };
 
     ghost view = { λ k. record {
       keys = numbered [] k.keys.items k.order.items;
       numbers = k.order.items;
-      room = min (vec_capacity k.keys - vec_len k.keys) k.order.room;
+      room = min (vec_capacity k.keys - vec_len k.keys) (min k.order.room k.prefixes.room);
     } };
 
-    ghost invariant = { λ k. AreOrdered k.keys.items k.order.items };
+    ghost invariant = { λ k. AreOrdered k.keys.items k.order.items
+        × ArePrefixes (numbered [] k.keys.items k.order.items) k.prefixes.items };
 }
 
 impl SortedKeys {
@@ -48,6 +55,7 @@ impl SortedKeys {
         SortedKeys {
             keys: Vec::new(alloc),
             order: Rings::new(alloc),
+            prefixes: Rings::new(alloc),
         }
     }
 
@@ -87,7 +95,8 @@ impl SortedKeys {
         ensures kept { self.old.room ≤ self.new.room }
     {
         self.keys.reserve(1)?;
-        self.order.reserve_one()
+        self.order.reserve_one()?;
+        self.prefixes.reserve_one()
     }
 
     /// The position of a key, or `Err` with the one where it would be inserted. A binary search that compares the key with at most
@@ -101,10 +110,22 @@ impl SortedKeys {
         ensures any_probe { 0 < length self.now.keys → probes.old < probes.new }
         ensures counted { probes.old ≤ probes.new }
     {
-        find_in(&self.keys, &self.order, key, probes)
+        let prefix = prefix_of(key.as_str().as_bytes());
+        let mut low = 0;
+        let mut high = self.len();
+        while low < high {
+            let middle = low + (high - low) / 2;
+            *probes += 1;
+            match self.compare(key, prefix, middle) {
+                Ordering::Less => high = middle,
+                Ordering::Equal => return Ok(middle),
+                Ordering::Greater => low = middle + 1,
+            }
+        }
+        Err(low)
     }
 
-    /// Puts a key that isn't there yet at the position that `find` gives for it. Takes no memory. One insert into `Rings`.
+    /// Puts a key that isn't there yet at the position that `find` gives for it. Takes no memory. Two inserts into `Rings`.
     pub fn put(&mut self, position: usize, key: Key)
         requires position { GoesTo name_cmp key self.old.keys position }
         requires room { 0 < self.old.room }
@@ -113,8 +134,23 @@ impl SortedKeys {
         ensures numbers { self.new.numbers ≡ insert self.old.numbers position (length self.old.keys) }
         ensures room { self.old.room ≤ self.new.room + 1 }
     {
+        let prefix = prefix_of(key.as_str().as_bytes());
         self.order.insert(position, self.keys.len());
+        self.prefixes.insert(position, prefix);
         self.keys.push_reserved(key);
+    }
+
+    /// Compares a key, of which this is the prefix, with the one at a position.
+    fn compare(&self, key: &Key, prefix: u64, position: usize) -> Ordering
+        requires prefix { prefix ≡ first_bytes 8 key.now }
+        requires bytes { AreBytes key.now }
+        requires within { position < length self.now.keys }
+        ensures { (d : Name) → result ≡ name_cmp key.now (slice_index_or self.now.keys position d) }
+    {
+        match prefix.cmp(self.prefixes.get(position)) {
+            Ordering::Equal => key.cmp(self.at(position)),
+            apart => apart,
+        }
     }
 }
 
@@ -125,30 +161,4 @@ fn key_at<'a>(keys: &'a [Key], order: &Rings<usize>, position: usize) -> &'a Key
     ensures { (d : Name) → slice_index_or (numbered [] keys.now order.now.items) position d ≡ result.now }
 {
     &keys[*order.get(position)]
-}
-
-/// The position of a key, or `Err` with the one where it would be inserted. Binary search.
-fn find_in(keys: &[Key], order: &Rings<usize>, key: &Key, probes: &mut u64) -> Result<usize, usize>
-    requires ordered { AreOrdered keys.now order.now.items }
-    requires fits { length order.now.items < 2 ^ 64 }
-    requires probes { probes.old ≤ 18446744073709551551 }
-    ensures position { let sorted = numbered [] keys.now order.now.items in
-        MatchResult result (λ position. (slice_get sorted position ≡ Some key.now) × (position ≡ rank name_cmp key.now sorted))
-        (GoesTo name_cmp key.now sorted) }
-    ensures few_probes { (k : ℕ) → length order.now.items < 2 ^ k → probes.new ≤ probes.old + k }
-    ensures any_probe { 0 < length order.now.items → probes.old < probes.new }
-    ensures counted { probes.old ≤ probes.new }
-{
-    let mut low = 0;
-    let mut high = order.len();
-    while low < high {
-        let middle = low + (high - low) / 2;
-        *probes += 1;
-        match key.cmp(key_at(keys, order, middle)) {
-            Ordering::Less => high = middle,
-            Ordering::Equal => return Ok(middle),
-            Ordering::Greater => low = middle + 1,
-        }
-    }
-    Err(low)
 }

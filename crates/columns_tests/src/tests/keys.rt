@@ -132,6 +132,50 @@ fn keys_stand_in_byte_order(rt: HostRuntime) -> Result<(), Fail> {
     )
 }
 
+/// Keys that share their first eight bytes, or have them alone, are told apart by what follows, and by their lengths.
+#[test]
+fn keys_with_one_beginning_stand_in_byte_order(rt: HostRuntime) -> Result<(), Fail> {
+    let keys = keys_of(
+        rt.alloc(),
+        &[
+            "12345678b",
+            "12345678",
+            "a\0",
+            "12345678a",
+            "a",
+            "1234567",
+            "12345678a\0",
+        ],
+    )?;
+    assert_keys(
+        &rt,
+        &keys,
+        &[
+            ("1234567", 5),
+            ("12345678", 1),
+            ("12345678a", 3),
+            ("12345678a\0", 6),
+            ("12345678b", 0),
+            ("a", 4),
+            ("a\0", 2),
+        ],
+    );
+    assert_found(
+        &rt,
+        rt.alloc(),
+        &keys,
+        &[
+            ("1234567\0", Err(1)),
+            ("12345678", Ok(1)),
+            ("12345678\0", Err(2)),
+            ("12345678b", Ok(4)),
+            ("12345678c", Err(5)),
+            ("a\0", Ok(6)),
+            ("a\0\0", Err(7)),
+        ],
+    )
+}
+
 #[test]
 fn searches_look_at_few_keys(rt: HostRuntime) -> Result<(), Fail> {
     for (count, most) in [(0, 0), (1, 1), (2, 2), (3, 2), (255, 8), (256, 9)] {

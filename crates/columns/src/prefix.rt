@@ -1,0 +1,24 @@
+//! The first eight bytes of a key as a number, which decide most comparisons without a read of the key.
+
+ghost use Rattle.std.specs.Prelude.{◌≡◌, slice_index_or};
+ghost use Rattle.columns.specs.Prefix.{AreBytes, first_bytes};
+
+/// Returns the first eight bytes of a name, the first of them the highest; a byte behind the end is 0. Names whose numbers differ are
+/// in the order of these numbers. Names with the same number may differ.
+pub fn prefix_of(name: &[u8]) -> u64
+    ensures prefix { result ≡ first_bytes 8 name.now }
+    ensures bytes { AreBytes name.now }
+{
+    let mut prefix = 0;
+    for position in 0..8 {
+        prefix = prefix * 256 + u64::from(byte_at(name, position));
+    }
+    prefix
+}
+
+/// Returns the byte at a position, or 0 behind the end.
+fn byte_at(name: &[u8], position: usize) -> u8
+    ensures { result ≡ slice_index_or name.now position 0 }
+{
+    name.get(position).copied().unwrap_or(0)
+}
