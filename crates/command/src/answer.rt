@@ -1,14 +1,13 @@
 //! Answers: by its type each is legal for the item that it names, in the history of its notice.
 
 ghost use Rattle.std.specs.Prelude.{◌≡◌, Some, None, MatchOption};
-ghost use Rattle.std.specs.Arc.{arc_value};
 ghost use Rattle.semantics.specs.Receipts.{IsAnswer};
 ghost use Rattle.items.specs.Meanings.{answer_of, submitted_of};
 
 use items::{Item, Reply};
+use operation::Shared;
 use published::{EngineName, Notice};
 use std::marker::Model;
-use std::sync::Arc;
 
 /// A reply, with a notice of the history in which it is legal.
 #[derive(Drop)]
@@ -21,13 +20,12 @@ pub struct Given<N: EngineName> {
 /// history; an answer that isn't legal for its item can't be made. The item is shared with the client that waits for the answer.
 #[derive(Drop)]
 pub struct Answer<N: EngineName> {
-    item: Arc<Item>,
+    item: Shared<Item>,
     given: Option<Given<N>>,
 }
 
 impl<N: EngineName> Model for Answer<N> {
     ghost use Rattle.std.specs.Prelude.{IfSome, option_map};
-    ghost use Rattle.std.specs.Arc.{arc_value};
     ghost use Rattle.std.specs.Coded.{codes};
     ghost use Rattle.semantics.specs.Codes.{coded_element};
     ghost use Rattle.semantics.specs.Receipts.{IsAnswer};
@@ -39,19 +37,19 @@ impl<N: EngineName> Model for Answer<N> {
     ghost coded = { Prim.hlevel (codes, coded_element) };
 
     ghost view = { λ a. record {
-      item = arc_value a.item;
+      item = a.item;
       given = option_map
           (λ g. record { reply = g.reply; history = g.notice }) a.given;
     } };
 
     ghost invariant = { λ a. IfSome a.given
-        (λ g. IsAnswer N.own N.table g.notice (submitted_of N.table (arc_value a.item)) (answer_of g.reply)) };
+        (λ g. IsAnswer N.own N.table g.notice (submitted_of N.table a.item) (answer_of g.reply)) };
 }
 
 impl<N: EngineName> Answer<N> {
     /// The answer to an item, not filled in yet.
-    pub fn blank(item: Arc<Item>) -> Answer<N>
-        ensures { (result.item ≡ arc_value item) × (result.given ≡ None) }
+    pub fn blank(item: Shared<Item>) -> Answer<N>
+        ensures { (result.item ≡ item) × (result.given ≡ None) }
     {
         Answer { item, given: None }
     }

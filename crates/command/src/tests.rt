@@ -143,7 +143,7 @@ fn envelope<N: EngineName>(alloc: Global, serial: u64) -> Result<Envelope<N>, Re
         request: Request::Command(command),
     };
     Ok(Envelope {
-        answer: Box::new(alloc, Answer::blank(Arc::new(alloc, item)?))?,
+        answer: Box::new(alloc, Answer::blank(Shared::new(alloc, item)?))?,
         cell: Arc::new(alloc, OnceBox::new(alloc))?,
     })
 }

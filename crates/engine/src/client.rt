@@ -94,12 +94,13 @@ impl<N: EngineName> Client<N> {
         }
     }
 
-    /// Submits a command to the writer. The floor is what the client has seen: no answer names a length below it. The command
-    /// is kept once, for as long as the client lives or an entry has it. Waits for the queue.
+    /// Submits a command to the writer. The floor is what the client has seen: no answer but BadFloor names a length below it. The
+    /// command is kept once, for as long as the client lives or an entry has it. Waits for the queue. Four allocations, and room for
+    /// the serial, which is kept for good.
     ///
     /// # Errors
     /// `SerialEnd` if all serials are used, else `NoMemory` if allocation fails, else `QueueFull` if the queue was full at one
-    /// moment of the call. A refused call takes no serial.
+    /// moment of the call. A refused call takes no serial; the command is gone with it.
     pub fn submit(
         &mut self,
         rt: &impl Wait,
@@ -119,7 +120,7 @@ impl<N: EngineName> Client<N> {
         self.send(rt, alloc, serial, Request::Command(command))
     }
 
-    /// Submits an operation that a peer sent, as `submit` does a command.
+    /// Submits an operation that a peer sent, as `submit` does a command, which it shares.
     ///
     /// # Errors
     /// As `submit`.
@@ -244,7 +245,8 @@ impl<N: EngineName> Client<N> {
         Ok(Some(reply))
     }
 
-    /// The notice of the ticket's answer once the writer has answered it, else `None`. Never waits; takes no memory.
+    /// The notice of the ticket's answer once the writer has answered it, else `None`. Never waits; takes no memory. Linear in the
+    /// size of what was submitted.
     ///
     /// # Errors
     /// `Foreign`, as `poll`.
@@ -259,6 +261,25 @@ impl<N: EngineName> Client<N> {
             return Err(Refusal::Foreign);
         }
         Ok(self.kept[ticket.serial as usize - 1].notice())
+    }
+
+    /// The ticket of a serial that this client took, as `submit` and `deliver` return it: what `receive` submitted has serials alone.
+    ///
+    /// # Errors
+    /// `Foreign` if the serial wasn't taken.
+    pub fn ticket_of(&self, serial: u64) -> Result<Ticket, Refusal>
+        ensures { MatchResult result (λ t. IsMine self.now t × (t.serial ≡ serial))
+            (λ e. (e ≡ Foreign) × ((0 < serial) × (serial ≤ length self.now.kept) → ⊥)) }
+    {
+        let ticket = Ticket {
+            replica: self.replica,
+            client: self.number,
+            serial,
+        };
+        if !self.is_mine(&ticket) {
+            return Err(Refusal::Foreign);
+        }
+        Ok(ticket)
     }
 
     /// Whether the ticket is one of this client's.
@@ -330,8 +351,8 @@ fn envelope_for<N: EngineName>(alloc: Global, item: Item) -> Result<(Envelope<N>
     ensures item { IfOk result (λ r. (r.0.answer.value.item ≡ item) × (r.1.item ≡ item) × (r.1.known ≡ None)) }
     ensures err { IfErr result (λ why. why ≡ NoMemory) }
 {
-    let item = Arc::new(alloc, item)?;
-    let answer = Box::new(alloc, Answer::blank(Arc::try_clone(&item)?))?;
+    let item = Shared::new(alloc, item)?;
+    let answer = Box::new(alloc, Answer::blank(item.clone()?))?;
     let cell = Arc::new(alloc, OnceBox::new(alloc))?;
     let again = Arc::try_clone(&cell)?;
     let envelope = Envelope {

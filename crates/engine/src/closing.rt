@@ -18,16 +18,20 @@ use operation::Entry;
 use published::EngineName;
 use std::sync::Wait;
 
-/// What is left of an engine: the published history, the oldest entry first, and how many items weren't answered.
+/// What is left of an engine: the published history, the oldest entry first, and how many submissions weren't answered.
 #[derive(Drop)]
 pub struct Final {
     pub history: Vec<Entry>,
     pub left: u64,
 }
 
-/// Closes the engine of this writer and these clients, which are all that it has, in the order of their numbers. Waits for
-/// readers that still read. Takes no memory, and copies nothing. If a client had seen more than is published, this would wait
-/// for good. Nothing lets that happen: each notice is of what was published. But no contract says so yet.
+/// Closes the engine of this writer. What is queued, or held and unanswered, is dropped and counted in `left`; operations of peers that
+/// wait for others are dropped too, and come again by an exchange. To leave nothing behind, step until `Idle` before.
+///
+/// `clients` are the engine's clients 0, 1, 2 and so on, as far as they are still at hand; there may be none. The contract says what
+/// became of all that these submitted, and nothing of the others. Waits for readers that still read. Takes no memory, copies nothing,
+/// and is linear in what the clients keep. If a client had seen more than is published, this would wait for good. Nothing lets that
+/// happen: each notice is of what was published. But no contract says so yet.
 pub fn close<N: EngineName>(rt: &impl Wait, writer: Writer<N>, clients: Vec<Client<N>>) -> Final
     requires { AreClients writer.queue 0 clients.items }
     ensures history { (history N.table result.history.items ≡ writer.published) × IsEntryHistory N.own writer.published }

@@ -1,7 +1,6 @@
 //! What a client keeps for a serial.
 
 ghost use Rattle.std.specs.Prelude.{◌≡◌, Some, None, MatchOption, IfSome};
-ghost use Rattle.std.specs.Arc.{arc_value};
 ghost use Rattle.items.specs.Meanings.{answer_of as reply_of, submitted_of};
 ghost use Rattle.semantics.specs.Receipts.{IsAnswer};
 ghost use Rattle.command.specs.Answers.{Given as TheGiven};
@@ -10,6 +9,7 @@ ghost use Rattle.engine.specs.Clients.{answer_in, answer_of};
 use command::{Answer, Given};
 use items::{Item, Reply};
 use once_cell::race::{Note, OnceBox};
+use operation::Shared;
 use published::{EngineName, Notice};
 use std::marker::Model;
 use std::sync::Arc;
@@ -17,7 +17,7 @@ use std::sync::Arc;
 /// What was submitted under a serial, and the cell of its answer. Contracts see the item, and what the cell is known to hold.
 #[derive(Drop)]
 pub struct Kept<N: EngineName> {
-    item: Arc<Item>,
+    item: Shared<Item>,
     cell: Arc<OnceBox<Answer<N>>>,
     note: Note<Answer<N>>,
 }
@@ -34,15 +34,15 @@ impl<N: EngineName> Model for Kept<N> {
 
     ghost coded = { Prim.hlevel (codes, coded_element) };
 
-    ghost view = { λ k. record { item = arc_value k.item; known = k.note.known } };
+    ghost view = { λ k. record { item = k.item; known = k.note.known } };
 
     ghost invariant = { λ k. k.note.cell ≡ cell_name (arc_value k.cell) };
 }
 
 impl<N: EngineName> Kept<N> {
     /// Keeps an item whose answer the cell will hold.
-    pub fn new(item: Arc<Item>, cell: Arc<OnceBox<Answer<N>>>) -> Kept<N>
-        ensures { (result.item ≡ arc_value item) × (result.known ≡ None) }
+    pub fn new(item: Shared<Item>, cell: Arc<OnceBox<Answer<N>>>) -> Kept<N>
+        ensures { (result.item ≡ item) × (result.known ≡ None) }
     {
         let note = cell.note();
         Kept { item, cell, note }

@@ -135,7 +135,8 @@ impl<N: EngineName> Writer<N> {
 
     /// Goes on with a drain that ended early; takes up to a batch of items and handles them one after another; publishes all
     /// entries at once; and then answers the items, the oldest first. If a batch is held, publishes and answers that, and does
-    /// nothing else. Waits for the queue and for readers of the copy that is brought up to date.
+    /// nothing else. Waits for the queue and for readers of the copy that is brought up to date. Applies each new entry three times:
+    /// to the replica and to both copies.
     pub fn step(&mut self, rt: &impl Wait, alloc: Global) -> Step
         ensures same { (self.new.queue ≡ self.old.queue) × (self.new.batch ≡ self.old.batch) × (0 < self.new.batch) }
         ensures fresh { length self.old.held ≡ 0
@@ -290,7 +291,8 @@ fn handle_one<N: EngineName>(
     Handled { envelope, reply }
 }
 
-/// Answers the batch, the oldest item first, with a notice of the published history.
+/// Answers the batch, the oldest item first, with a notice of the published history. The contract says that an answer may be set; that it
+/// stands in its cell is tested.
 fn give<N: EngineName>(held: &mut Vec<Handled<N>>, notice: &Notice<N>)
     requires { AreAnswers N.own N.table notice.now held.old.items }
     ensures held { held.new.items ≡ [] }

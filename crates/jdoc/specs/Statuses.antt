@@ -8,7 +8,7 @@ use Rattle.jdoc.specs.declared.fault.Status.TheVariants as status
 abbrev pub status_of : Fault → Status
 status_of (Script (script.BadLine line refusal)) = status.BadInput
 status_of (Script script.NoMemory) = status.NoMemory
-status_of (CannotRead name) = status.BadInput
+status_of (CannotRead name kind) = status.BadInput
 status_of BadWord = status.BadInput
 status_of OutOfRange = status.BadInput
 status_of NoMemory = status.NoMemory

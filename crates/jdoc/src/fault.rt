@@ -31,8 +31,8 @@ pub enum Fault<'a> {
     /// A line of the script is bad, or there was no memory for it.
     #[error("jdoc: {0}")]
     Script(#[from] ScriptError),
-    #[error("jdoc: cannot read {0}")]
-    CannotRead(&'a str),
+    #[error("jdoc: cannot read {0}: {1}")]
+    CannotRead(&'a str, ErrorKind),
     #[error("jdoc: a word is no text")]
     BadWord,
     #[error("jdoc: a number of bench is out of range")]
@@ -47,11 +47,11 @@ impl<'a> Fault<'a> {
     /// The fault of a file or stream of this name that can't be read.
     pub fn of_read(name: &'a str, error: &io::Error) -> Fault<'a>
         ensures memory { error_kind error.now ≡ ErrorKind.OutOfMemory → result ≡ NoMemory }
-        ensures other { error_kind error.now ≢ ErrorKind.OutOfMemory → result ≡ CannotRead name.entry }
+        ensures other { error_kind error.now ≢ ErrorKind.OutOfMemory → result ≡ CannotRead name.entry (error_kind error.now) }
     {
         match error.kind() {
             ErrorKind::OutOfMemory => Fault::NoMemory,
-            _ => Fault::CannotRead(name),
+            kind => Fault::CannotRead(name, kind),
         }
     }
 

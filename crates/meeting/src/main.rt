@@ -135,19 +135,23 @@ fn write<N: EngineName, R: Wait>(
     let text = Val::Scalar(Scalar::Text(Text::new(alloc, text)?));
     let command = Command::Assign(title(alloc)?, text);
     let _ticket = engine.client.submit(rt, alloc, command)?;
-    step(rt, alloc, engine)
+    step_all(rt, alloc, engine)
 }
 
-/// Lets the writer handle all that was submitted.
-fn step<N: EngineName, R: Wait>(
+/// Lets the writer handle all that was submitted, a batch at a step.
+fn step_all<N: EngineName, R: Wait>(
     rt: &R,
     alloc: Global,
     engine: &mut Engine<N>,
 ) -> Result<(), Refusal> {
-    match engine.writer.step(rt, alloc) {
-        Step::Published(_) | Step::Idle => Ok(()),
-        Step::Held => Err(Refusal::NoMemory),
+    for _ in rt.forever() {
+        match engine.writer.step(rt, alloc) {
+            Step::Published(_) => {}
+            Step::Idle => break,
+            Step::Held => return Err(Refusal::NoMemory),
+        }
     }
+    Ok(())
 }
 
 /// The first engine takes what it lacks of the second one's operations. What passes between them is bytes.
@@ -162,7 +166,7 @@ fn pull<A: EngineName, B: EngineName, R: Wait>(
     let received = receive(rt, alloc, &mut to.client, bundle.as_slice());
     match received.stopped {
         Some((_, refusal)) => Err(refusal),
-        None => step(rt, alloc, to),
+        None => step_all(rt, alloc, to),
     }
 }
 

@@ -11,7 +11,7 @@ use thiserror::Error;
 #[derive(Debug, Drop, Error)]
 pub enum ScriptError {
     /// The first line that is bad, counted from 1, and why.
-    #[error("line {line}: {refusal}")]
+    #[error("line {line}: {refusal} (docs/FORMATS.md, 'Bad lines')")]
     BadLine { line: u64, refusal: Refusal },
     #[error("no memory")]
     NoMemory,

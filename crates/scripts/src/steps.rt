@@ -13,6 +13,7 @@ use crate::presence::is_there;
 use crate::requests::{command_in, question_in};
 use ids::{Config, Refusal};
 use json_lines::{json_of, phrase_in, text_in};
+use operation::Shared;
 use serde_json::Value;
 use std::alloc::Global;
 use world::{World, WorldAct, WorldStep};
@@ -59,7 +60,7 @@ fn push_in(alloc: Global, parts: &[Value]) -> Result<WorldStep, Refusal>
     };
     let engine = index_in(engine)?;
     let client = index_in(client)?;
-    let command = command_in(alloc, command)?;
+    let command = Shared::new(alloc, command_in(alloc, command)?)?;
     Ok(WorldStep {
         engine,
         act: WorldAct::Push { client, command },

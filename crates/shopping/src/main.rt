@@ -14,6 +14,7 @@ use std::alloc::Global;
 use std::io;
 use std::marker::Brand;
 use std::sync::Wait;
+use std::sync::atomic::{AtomicBool, Ordering};
 use std::thread::{Threads, join, yield_now};
 use value::{Key, Scalar, Text, Val};
 
@@ -61,7 +62,8 @@ fn shop_in<N: EngineName + Send + Sync, R: Threads + Wait + Sync>(
     Ok((read?, history.len()))
 }
 
-/// Alice and Bob write, the writer steps, and the reader reads, each in a thread.
+/// Alice and Bob write, the writer steps, and the reader reads, each in a thread. The last two end after the first two, which also
+/// end where they are refused.
 fn together<N: EngineName + Send + Sync, R: Threads + Wait + Sync>(
     rt: &R,
     alloc: Global,
@@ -70,19 +72,23 @@ fn together<N: EngineName + Send + Sync, R: Threads + Wait + Sync>(
     bob: Client<N>,
     reader: ReaderToken<N>,
 ) -> Result<usize, Refusal> {
+    let ended = AtomicBool::new(false);
+    let ended = &ended;
     let (_, (read, (first, second))) = join(
         rt,
-        move || step_until(rt, alloc, writer, 4),
+        move || step_until(rt, alloc, writer, ended),
         move || {
             join(
                 rt,
-                move || read_until(rt, alloc, reader, 4),
+                move || read_until(rt, alloc, reader, ended),
                 move || {
-                    join(
+                    let written = join(
                         rt,
                         move || write(rt, alloc, alice, &[("milk", "2 l"), ("eggs", "six")]),
                         move || write(rt, alloc, bob, &[("cheese", "any"), ("milk", "1 l")]),
-                    )
+                    );
+                    ended.store(true, Ordering::Release);
+                    written
                 },
             )
         },
@@ -92,21 +98,18 @@ fn together<N: EngineName + Send + Sync, R: Threads + Wait + Sync>(
     read
 }
 
-/// Steps until this many submissions are answered.
+/// Steps until the clients have ended and nothing that they submitted is left.
 fn step_until<N: EngineName, R: Wait>(
     rt: &R,
     alloc: Global,
     writer: &mut Writer<N>,
-    wanted: usize,
+    ended: &AtomicBool,
 ) {
-    let mut answered = 0usize;
     for _ in rt.forever() {
-        if answered >= wanted {
-            break;
-        }
+        let is_last = ended.load(Ordering::Acquire);
         match writer.step(rt, alloc) {
-            Step::Published(count) => answered = answered.saturating_add(count),
-            Step::Idle | Step::Held => yield_now(),
+            Step::Idle if is_last => break,
+            Step::Published(_) | Step::Idle | Step::Held => yield_now(),
         }
     }
 }
@@ -149,18 +152,20 @@ fn wait_for<N: EngineName, R: Wait>(
     Ok(())
 }
 
-/// Reads the keys of the document until this many entries are seen. Never waits for the writer or for a client.
+/// Reads the keys of the document again and again, the last time once the clients have ended. Returns how many entries were seen then.
+/// No reading waits for the writer or for a client.
 fn read_until<N: EngineName, R: Wait>(
     rt: &R,
     alloc: Global,
     reader: ReaderToken<N>,
-    wanted: usize,
+    ended: &AtomicBool,
 ) -> Result<usize, Refusal> {
     let mut reader = reader;
     for _ in rt.forever() {
+        let is_last = ended.load(Ordering::Acquire);
         let question = Question::Keys(Expr::new(Vec::new(alloc)));
         if let Reading::Keys(_keys) = reader.ask(alloc, &question)? {
-            if reader.seen_len() >= wanted {
+            if is_last {
                 break;
             }
         }

@@ -137,7 +137,7 @@ impl Engine {
             (IsInPart (map message_of messages.old.items) (act_of self.old.replica.members act.now) self.old self.new) }
     {
         match act {
-            WorldAct::Push { client, command } => self.push(alloc, *client, command),
+            WorldAct::Push { client, command } => self.push(*client, command),
             WorldAct::Take => self.take(alloc),
             WorldAct::Publish => self.publish(alloc),
             WorldAct::Give => Ok(self.give()),

@@ -3,7 +3,7 @@
 use document::{Question, Reading};
 use ids::{Refusal, ReplicaTable};
 use items::Reply;
-use operation::Command;
+use operation::{Command, Shared};
 use version::VersionVector;
 
 /// A step of a world: what the engine with this number does. Engines are numbered from 0.
@@ -20,7 +20,7 @@ pub enum WorldAct {
     /// A client submits a command.
     Push {
         client: usize,
-        command: Command,
+        command: Shared<Command>,
     },
     /// The writer takes one submission and handles it.
     Take,

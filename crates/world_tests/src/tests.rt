@@ -17,7 +17,7 @@ use cursor::{Expr, Step as PathStep};
 use document::{Question, Reading};
 use fixtures::{text, vector};
 use ids::{Config, Refusal};
-use operation::Command;
+use operation::{Command, Shared};
 use shown::is_shown;
 use std::alloc::Global;
 use std::process::Abort;
@@ -210,6 +210,7 @@ fn act_of(alloc: Global, act: Act) -> Result<WorldAct, Refusal>
         return Ok(other);
     }
     if let Some((client, command)) = command(alloc, act)? {
+        let command = Shared::new(alloc, command)?;
         return Ok(WorldAct::Push { client, command });
     }
     if let Some((token, question)) = question(alloc, act)? {

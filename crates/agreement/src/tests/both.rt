@@ -154,7 +154,7 @@ fn submit<N: EngineName, R: Wait>(
     let ticket = submitted(rt, alloc, engine, client, command)?;
     let act = WorldAct::Push {
         client,
-        command: command.clone()?,
+        command: Shared::new(alloc, command.clone()?)?,
     };
     let told = reply(alloc, world, act)?;
     Ok(is_same_ticket(&told, &ticket))

@@ -152,12 +152,7 @@ fn submit<N: EngineName, R: Wait>(
 
 /// The answer to a serial of the one client.
 fn answer<N: EngineName>(client: &mut Client<N>, serial: u64) -> Result<Option<Reply>, Fail> {
-    let replica = ReplicaId::new(1).ok_or("numbered 0")?;
-    let ticket = Ticket {
-        replica,
-        client: 0,
-        serial,
-    };
+    let ticket = client.ticket_of(serial)?;
     Ok(client.poll(&ticket)?)
 }
 

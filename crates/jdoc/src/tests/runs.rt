@@ -27,7 +27,7 @@ const RUNS: &[Run] = &[
 ["push",0,0,["assign",["a"],1.5]]
 "#,
         "",
-        "jdoc: line 3: E21\n",
+        "jdoc: line 3: E21 (docs/FORMATS.md, 'Bad lines')\n",
         2,
     ),
 ];

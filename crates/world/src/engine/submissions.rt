@@ -15,19 +15,18 @@ use crate::step::WorldReply;
 use ids::Refusal;
 use items::{Item, Request};
 use operation::{Command, Shared};
-use std::alloc::{AllocError, Global};
+use std::alloc::AllocError;
 use std::collections::VecDeque;
 
 impl Engine {
-    /// A client submits a clone of the command, which is kept once.
+    /// A client submits the command, which the step and the history share.
     ///
     /// # Errors
     /// `AllocError` if allocation fails.
     pub fn push(
         &mut self,
-        alloc: Global,
         client: usize,
-        command: &Command,
+        command: &Shared<Command>,
     ) -> Result<WorldReply, AllocError>
         ensures engine { OnOk result (self.new ≡ (push self.old client (OfCommand (command_of command.now))).engine) }
         ensures reply { IfOk result (λ r. reply_of r ≡ (push self.old client (OfCommand (command_of command.now))).reply) }
@@ -37,8 +36,7 @@ impl Engine {
             return Ok(WorldReply::Idle);
         }
         let serial = self.next_serial(client);
-        let command = Shared::new(alloc, command.clone()?)?;
-        match self.submit(client, Request::Command(command))? {
+        match self.submit(client, Request::Command(command.clone()?))? {
             Some(why) => Ok(WorldReply::Denied(why)),
             None => Ok(WorldReply::Ticket(serial)),
         }
