@@ -4,7 +4,7 @@
 ghost use Rattle.std.specs.Prelude.{◌≡◌};
 ghost use Rattle.ids.specs.Members.{in_order};
 
-use cursor::{Expr, Step as Hop};
+use cursor::{Expr, Step as ExprStep};
 use document::{Question, Reading};
 use engine::{Client, EngineName, Parts, ReaderToken, Step, Writer, close, open, prepare};
 use ids::{Config, Refusal};
@@ -121,7 +121,7 @@ fn edit_and_meet<A: EngineName, B: EngineName, R: Wait>(
 }
 
 fn title(alloc: Global) -> Result<Expr, Refusal> {
-    let step = Hop::Get(Key::new(alloc, "title")?);
+    let step = ExprStep::Get(Key::new(alloc, "title")?);
     Ok(Expr::new(vec![in alloc; step]?))
 }
 

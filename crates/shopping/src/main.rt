@@ -4,7 +4,7 @@
 ghost use Rattle.std.specs.Prelude.{◌≡◌};
 ghost use Rattle.ids.specs.Members.{in_order};
 
-use cursor::{Expr, Step as Hop};
+use cursor::{Expr, Step as ExprStep};
 use document::{Question, Reading};
 use engine::{Client, EngineName, Parts, ReaderToken, Step, Ticket, Writer, close, open, prepare};
 use ids::{Config, Refusal};
@@ -131,7 +131,7 @@ fn write<N: EngineName, R: Wait>(
 
 /// The command that writes how much to buy of it.
 fn wish(alloc: Global, what: &str, how_much: &str) -> Result<Command, Refusal> {
-    let step = Hop::Get(Key::new(alloc, what)?);
+    let step = ExprStep::Get(Key::new(alloc, what)?);
     let text = Val::Scalar(Scalar::Text(Text::new(alloc, how_much)?));
     Ok(Command::Assign(Expr::new(vec![in alloc; step]?), text))
 }
