@@ -14,7 +14,7 @@ returns-clause-answer g c =
     let reply = c.in_ok-given.given.now.reply in
     let item = c.deref-2.result.now in
     let here : item ≡ c.args.self.now.item = c.deref-2.ensures ∙ ap (λ (k : Keeps). k.item) c.self.view_is in (
-      answer_found _ c.in_ok-answer.answer.now c.self.inside.item.value c.in_ok-answer.ensures.value.0 refl
+      answer_found _ c.in_ok-answer.answer.now c.self.inside.item c.in_ok-answer.ensures.value.0 refl
           ∙ ap (λ (x : Item). answer_in x (Some c.in_ok-answer.answer.now)) (sym c.deref-2.ensures)
           ∙ c.in_ok-given.ensures.0
           ∙ ap (λ (G : List Entry). Some (record { reply = reply; history = G })) (sym c.again.ensures),

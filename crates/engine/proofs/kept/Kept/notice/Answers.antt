@@ -10,7 +10,7 @@ returns g c =
     let own = g.N.EngineName.own in
     let table = g.N.EngineName.table in
     let given = c.in_ok-given.given.now in
-    let here : c.self.inside.item.value ≡ c.args.self.now.item = ap (λ (k : Keeps). k.item) c.self.view_is in (
+    let here : c.self.inside.item ≡ c.args.self.now.item = ap (λ (k : Keeps). k.item) c.self.view_is in (
       record { reply = given.reply; history = given.notice },
       refl,
       subst

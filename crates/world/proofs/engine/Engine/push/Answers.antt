@@ -22,7 +22,7 @@ returns-in-Some-clause-reply c =
     let k = found A.clients at there in
     sym (c.in_ok-why.ensures.reply k.0 k.1 ∙ ap (taken_or_denied (length k.0.cells + 1)) c.in-Some.is)
     ∙ ap (λ (d : Command). (push A at (OfCommand (command_of d))).reply)
-    (c.in_ok-command.ensures ∙ c.in_ok-clone.ensures.cases)
+    c.in_ok-clone.ensures.cases
 
 pub returns-in-None-clause-reply : goal.returns-in-None-clause-reply
 returns-in-None-clause-reply c =
@@ -38,4 +38,4 @@ returns-in-None-clause-reply c =
     ap Ticket (c.next_serial-serial.ensures k.0 k.1)
     ∙ sym (c.in_ok-why.ensures.reply k.0 k.1 ∙ ap (taken_or_denied (length k.0.cells + 1)) c.in-None.is)
     ∙ ap (λ (d : Command). (push A at (OfCommand (command_of d))).reply)
-    (c.in_ok-command.ensures ∙ c.in_ok-clone.ensures.cases)
+    c.in_ok-clone.ensures.cases
