@@ -19,3 +19,4 @@ pub mod Changed
 pub mod ShownItems
 pub mod CutBlocks
 pub mod MovedHomes
+pub mod BlockPlaces

@@ -108,6 +108,30 @@ pub record AreBlocks (runs : List Run) (homes : List (OpId × ℕ)) (last : ℕ)
   pub within : last ≤ length runs - 1
   pub spare : (block : ℕ) (r : Run) → slice_get runs block ≡ Some r → block ≢ last → 0 < r.room
 
+-- the indices of blocks by their numbers, and for how many more there is room
+pub record Indices : Type 0 where
+  pub indices : List ℕ
+  pub room : ℕ
+
+-- each block's index stands at its number, and there is no other number
+pub record ArePlaced (runs : List Run) (indices : List ℕ) : Type 0 where
+  pub beside : length indices ≡ length runs
+  pub within : All (λ k. k < length runs) indices
+  pub placed : (block : ℕ) (r : Run) → slice_get runs block ≡ Some r → slice_get indices r.number ≡ Some block
+
+-- a block came in at this index: what stood before it stays, and the others stand one further
+pub record AreMovedOn (old : List ℕ) (index : ℕ) (new : List ℕ) : Type 0 where
+  pub long : length new ≡ length old
+  pub kept : (number k : ℕ) → slice_get old number ≡ Some k → k < index → slice_get new number ≡ Some k
+  pub moved : (number k : ℕ) → slice_get old number ≡ Some k → index ≤ k → slice_get new number ≡ Some (suc k)
+
+-- and it has the next number
+pub record IsMadeAt (old : List ℕ) (index : ℕ) (new : List ℕ) : Type 0 where
+  pub long : length new ≡ suc (length old)
+  pub kept : (number k : ℕ) → slice_get old number ≡ Some k → k < index → slice_get new number ≡ Some k
+  pub moved : (number k : ℕ) → slice_get old number ≡ Some k → index ≤ k → slice_get new number ≡ Some (suc k)
+  pub made : slice_get new (length old) ≡ Some index
+
 -- a stands there, and not before
 pub record StandsAt (runs : List Run) (a : OpId) (block index : ℕ) : Type 0 where
   pub inside : block < length runs

@@ -11,6 +11,7 @@ mod held;
 mod list_order;
 mod numbers;
 mod order_blocks;
+mod places;
 mod prefix;
 mod sorted_keys;
 mod walks;

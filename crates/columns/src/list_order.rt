@@ -68,7 +68,7 @@ impl ListOrder {
     /// Puts a new item after `prev`, or after the head, past each next item with a greater id: the skipping rule of RGA. It isn't
     /// shown yet.
     ///
-    /// Takes no memory. Finds `prev` by a binary search, a look at each block and a walk in one, and goes past a block of greater items
+    /// Takes no memory. Finds `prev` by a binary search and a walk in one block, and goes past a block of greater items
     /// by a look at one id. Moves the items behind the new one in its block.
     pub fn insert_after(&mut self, prev: Option<OpId>, id: OpId)
         requires prev { IsTrue (has_position prev self.old.items) }
@@ -84,7 +84,7 @@ impl ListOrder {
         }
     }
 
-    /// Shows an item, or hides it. A binary search, a look at each block and a walk in one.
+    /// Shows an item, or hides it. A binary search and a walk in one block.
     pub fn set_shown(&mut self, id: &OpId, shown: bool)
         requires { IsTrue (has_item id.now self.old.items) }
         ensures items { self.new.items ≡ self.old.items }

@@ -2,10 +2,11 @@
 
 ghost use Rattle.std.specs.Prelude.{◌≡◌, ◌<◌, ◌≤◌, ℕ, length, Some, true, false, slice_get, IfOk, MatchOption};
 ghost use Rattle.columns.specs.Orders.{has_item, has_position};
-ghost use Rattle.columns.specs.Blocks.{AreHomes, GoesIn, IsBehind, IsFound, Run, items_at, joined, joined_shown};
+ghost use Rattle.columns.specs.Blocks.{ArePlaced, AreHomes, GoesIn, IsBehind, IsFound, Run, items_at, joined, joined_shown};
 
 use crate::block::Block;
 use crate::numbers::Numbers;
+use crate::places::Places;
 use ids::OpId;
 use std::alloc::{AllocError, Global};
 
@@ -16,32 +17,33 @@ pub(crate) struct Position {
     pub index: usize,
 }
 
-/// The position of an item whose home is this block's number. Looks at the number of each block, and at the items of those that have
-/// it.
-pub(crate) fn find(blocks: &[Block], home: usize, id: &OpId) -> Option<Position>
-    requires { (block : ℕ) (r : Run) → slice_get blocks.now block ≡ Some r → has_item id.now r.items ≡ true → r.number ≡ home }
+/// The position of an item whose home is this block's number. Looks at the items of that block.
+pub(crate) fn find(blocks: &[Block], places: &Places, home: usize, id: &OpId) -> Option<Position>
+    requires placed { ArePlaced blocks.now places.now.indices }
+    requires home { (block : ℕ) (r : Run) → slice_get blocks.now block ≡ Some r → has_item id.now r.items ≡ true → r.number ≡ home }
     ensures { IsFound blocks.now id.now result }
 {
-    for block in 0..blocks.len() {
-        if blocks[block].number() == home {
-            if let Some(index) = blocks[block].position(id) {
-                return Some(Position { block, index });
-            }
-        }
-    }
-    None
+    let block = places.of(home)?;
+    let index = blocks[block].position(id)?;
+    Some(Position { block, index })
 }
 
 /// The position behind an item, or behind the head, where what goes in after it comes in.
-pub(crate) fn behind(blocks: &[Block], homes: &Numbers, item: Option<OpId>) -> Option<Position>
-    requires { AreHomes blocks.now homes.now.entries }
+pub(crate) fn behind(
+    blocks: &[Block],
+    places: &Places,
+    homes: &Numbers,
+    item: Option<OpId>,
+) -> Option<Position>
+    requires homes { AreHomes blocks.now homes.now.entries }
+    requires placed { ArePlaced blocks.now places.now.indices }
     ensures { MatchOption result (has_position item (joined blocks.now) ≡ false) (λ at. IsBehind blocks.now item at.block at.index) }
 {
     let Some(id) = item else {
         return Some(Position { block: 0, index: 0 });
     };
     let home = homes.get(&id)?;
-    let at = find(blocks, home, &id)?;
+    let at = find(blocks, places, home, &id)?;
     prove!(at.index < blocks[at.block].len());
     Some(Position {
         block: at.block,

@@ -4,7 +4,7 @@ use Rattle.columns.proofs.Runs.{items_here}
 use Rattle.columns.proofs.order_blocks.make_room.Goals as goal
 
 pub returns-then-len-lt-MOST-clause-same : goal.returns-then-len-lt-MOST-clause-same
-returns-then-len-lt-MOST-clause-same c = c.reserve_in.ensures.same c.args.homes.now.entries c.requires
+returns-then-len-lt-MOST-clause-same c = c.reserve_in.ensures.same c.args.homes.now.entries c.requires.blocks
 
 pub cut-requires-clause-full : goal.cut-requires-clause-full
 cut-requires-clause-full c =

@@ -12,7 +12,8 @@ returns-in_default c = subst (λ o. IsBehind c.args.blocks.now o 0 0) (sym (none
 
 pub returns-in_err-home : goal.returns-in_err-home
 returns-in_err-home c =
-    let absent = homeless c.args.blocks.now c.args.homes.now.entries c.in-Some.id c.requires (sym c.get.ensures ∙ c.in_err-home.was) in
+    let absent = homeless c.args.blocks.now c.args.homes.now.entries c.in-Some.id c.requires.homes
+    (sym c.get.ensures ∙ c.in_err-home.was) in
     rw c.from_residual.ensures (ap (λ o. has_position o (joined c.args.blocks.now)) c.in-Some.is ∙ absent)
 
 pub prove-unreachable-requires : goal.prove-unreachable-requires

@@ -10,5 +10,5 @@ returns c =
     c.is_some.ensures
     ∙ ap is_some c.get.ensures
     ∙ is_some-find id_cmp c.args.id.now d.homes.entries
-    ∙ c.self.invariant.at_home.only c.args.id.now
+    ∙ c.self.invariant.0.at_home.only c.args.id.now
     ∙ ap (λ (o : Order). has_item c.args.id.now o.items) c.self.view_is

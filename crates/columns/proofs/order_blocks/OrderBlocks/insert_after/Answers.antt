@@ -3,6 +3,7 @@ use Rattle.std.proofs.lemmas.Option.{slice_get_read}
 use Rattle.semantics.specs.Context.{insert_after}
 use Rattle.columns.specs.Orders.{Order, has_item}
 use Rattle.columns.specs.Blocks.{GoesIn, IsBehind, Run, items_at, joined, room_at}
+use Rattle.columns.proofs.BlockPlaces.{placed_same}
 use Rattle.columns.proofs.Runs.{items_here}
 use Rattle.columns.proofs.Changed.{placed, room_parts, roomy, same_run}
 use Rattle.columns.proofs.order_blocks.OrderBlocks.insert_after.Goals as goal
@@ -27,7 +28,7 @@ put-requires-2-clause-room c =
     let is : slice_get runs k ≡ Some r = slice_get_read runs _ k r refl inside c.index_mut.ensures.value in
     let room = (room_parts d.homes.room (room_at runs d.last.block)
     (subst (λ (o : Order). 0 < o.room) (sym c.self.view_is) c.requires.room)).1 in
-    roomy runs d.homes.entries d.last.block c.self.invariant room k r is
+    roomy runs d.homes.entries d.last.block c.self.invariant.0 room k r is
 
 pub invariant_of-self : goal.invariant_of-self
 invariant_of-self c =
@@ -48,9 +49,11 @@ invariant_of-self c =
     let room = (room_parts d.homes.room (room_at runs d.last.block)
     (subst (λ (o : Order). 0 < o.room) (sym c.self.view_is) c.requires.room)).1 in
     let done = placed runs d.homes.entries d.last.block c.args.prev a c.in-Some.from.block c.in-Some.from.index k
-    c.goes_to-at.result.index r c.put-2.new.self c.self.invariant absent room behind goes is
-    c.put-2.ensures.number c.put-2.ensures.items c.put-2.ensures.flags in
-    rw (c.put.ensures.entries, c.number.ensures, number) done.blocks
+    c.goes_to-at.result.index r c.put-2.new.self c.self.invariant.0 absent room behind goes is
+    c.put-2.ensures.number c.put-2.ensures.items c.put-2.ensures.flags in (
+      rw (c.put.ensures.entries, c.number.ensures, number) done.blocks,
+      placed_same runs d.places.indices k r c.put-2.new.self is c.put-2.ensures.number c.self.invariant.1,
+    )
 
 pub returns-clause-items : goal.returns-clause-items
 returns-clause-items c =
@@ -71,7 +74,7 @@ returns-clause-items c =
     let room = (room_parts d.homes.room (room_at runs d.last.block)
     (subst (λ (o : Order). 0 < o.room) (sym c.self.view_is) c.requires.room)).1 in
     let done = placed runs d.homes.entries d.last.block c.args.prev a c.in-Some.from.block c.in-Some.from.index k
-    c.goes_to-at.result.index r c.put-2.new.self c.self.invariant absent room behind goes is
+    c.goes_to-at.result.index r c.put-2.new.self c.self.invariant.0 absent room behind goes is
     c.put-2.ensures.number c.put-2.ensures.items c.put-2.ensures.flags in
     done.items ∙ ap (λ (o : Order). insert_after c.args.prev a o.items) c.self.view_is
 
@@ -94,6 +97,6 @@ returns-clause-visible c =
     let room = (room_parts d.homes.room (room_at runs d.last.block)
     (subst (λ (o : Order). 0 < o.room) (sym c.self.view_is) c.requires.room)).1 in
     let done = placed runs d.homes.entries d.last.block c.args.prev a c.in-Some.from.block c.in-Some.from.index k
-    c.goes_to-at.result.index r c.put-2.new.self c.self.invariant absent room behind goes is
+    c.goes_to-at.result.index r c.put-2.new.self c.self.invariant.0 absent room behind goes is
     c.put-2.ensures.number c.put-2.ensures.items c.put-2.ensures.flags in
     done.shown ∙ ap (λ (o : Order). o.visible) c.self.view_is

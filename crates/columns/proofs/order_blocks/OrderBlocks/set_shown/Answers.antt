@@ -6,6 +6,7 @@ use Rattle.std.proofs.lemmas.Option.{slice_get_read, slice_get_within}
 use Rattle.semantics.specs.Ids.{id_cmp, is_same_id}
 use Rattle.columns.specs.Orders.{Order, has_item}
 use Rattle.columns.specs.Blocks.{IsFound, StandsAt, joined}
+use Rattle.columns.proofs.BlockPlaces.{placed_same}
 use Rattle.columns.proofs.Runs.{items_here}
 use Rattle.columns.proofs.Changed.{blocks_same, joined_same, room_same}
 use Rattle.columns.proofs.ShownItems.{shown_changed}
@@ -16,7 +17,7 @@ unwrap-home-requires c =
     let d = c.self.inside in
     let there : has_item c.args.id.now (joined d.blocks.items) ≡ true = ap (λ (o : Order). has_item c.args.id.now o.items) c.self.view_is
     ∙ c.requires in
-    ap is_some c.get.ensures ∙ is_some-find id_cmp c.args.id.now d.homes.entries ∙ c.self.invariant.at_home.only c.args.id.now ∙ there
+    ap is_some c.get.ensures ∙ is_some-find id_cmp c.args.id.now d.homes.entries ∙ c.self.invariant.0.at_home.only c.args.id.now ∙ there
 
 pub set_shown-requires : goal.set_shown-requires
 set_shown-requires c =
@@ -41,10 +42,13 @@ invariant_of-self c =
     (subst (IsFound c.deref.result.now id) c.unwrap-at.ensures c.find.ensures) in
     let is : slice_get runs at.block ≡ Some r = slice_get_read runs _ at.block r refl stands.inside c.index_mut.ensures.value in
     let long : length q.flags ≡ length q.items = ap length c.set_shown.ensures.flags ∙ length-set r.flags at.index c.args.shown
-    ∙ c.self.invariant.long at.block r is ∙ ap length (sym c.set_shown.ensures.items) in
-    let same = c.set_shown.ensures.room in
-    blocks_same runs at.block r q is d.homes.entries d.last.block c.self.invariant c.set_shown.ensures.number c.set_shown.ensures.items long
-    (omega (arith, same))
+    ∙ c.self.invariant.0.long at.block r is ∙ ap length (sym c.set_shown.ensures.items) in
+    let same = c.set_shown.ensures.room in (
+      blocks_same runs at.block r q is d.homes.entries d.last.block c.self.invariant.0 c.set_shown.ensures.number
+          c.set_shown.ensures.items long
+          (omega (arith, same)),
+      placed_same runs d.places.indices at.block r q is c.set_shown.ensures.number c.self.invariant.1,
+    )
 
 pub returns-clause-items : goal.returns-clause-items
 returns-clause-items c =
@@ -72,13 +76,13 @@ returns-clause-visible c = λ f e.
     let there : slice_get r.items at.index ≡ Some id = ap (λ xs. slice_get xs at.index) (sym (items_here runs at.block r is))
     ∙ stands.there in
     let long : length q.flags ≡ length q.items = ap length c.set_shown.ensures.flags ∙ length-set r.flags at.index c.args.shown
-    ∙ c.self.invariant.long at.block r is ∙ ap length (sym c.set_shown.ensures.items) in
+    ∙ c.self.invariant.0.long at.block r is ∙ ap length (sym c.set_shown.ensures.items) in
     let same = c.set_shown.ensures.room in
-    let after = blocks_same runs at.block r q is d.homes.entries d.last.block c.self.invariant c.set_shown.ensures.number
+    let after = blocks_same runs at.block r q is d.homes.entries d.last.block c.self.invariant.0 c.set_shown.ensures.number
     c.set_shown.ensures.items long
     (omega (arith, same)) in
-    shown_changed r q at.index id c.args.shown c.set_shown.ensures.items c.set_shown.ensures.flags runs at.block f c.self.invariant.long
-    after.long c.self.invariant.apart
+    shown_changed r q at.index id c.args.shown c.set_shown.ensures.items c.set_shown.ensures.flags runs at.block f c.self.invariant.0.long
+    after.long c.self.invariant.0.apart
     (joined_same runs at.block r q is c.set_shown.ensures.items) is there
     (ap (λ (o : Order). o.visible) c.self.view_is ∙ e ∙ ap (λ (o : Order). filter f o.items) (sym c.self.view_is))
     ∙ ap (λ (o : Order). filter (λ x. cond (is_same_id x id) c.args.shown (f x)) o.items) c.self.view_is
