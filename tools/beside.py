@@ -4,15 +4,16 @@
     tools/beside.py crates/jdoc/out/jdoc            names the rows
     tools/beside.py crates/jdoc/out/jdoc time       measures them all
 
-Each row prints for each number of commands the seconds of the processor that jdoc, SQLite and Node.js take for the same script, and
-tests that the three end with the same keys or items."""
+Each row prints for each number of commands the seconds of the processor and the bytes a command that jdoc, plain maps (floor.rs, which
+`rustc` compiles) and SQLite take for the same script. Tests that the plain maps print the same lines as jdoc, and that SQLite ends with
+the same keys, or with as many items."""
 import json
 import os
 import subprocess
 import sys
 import tempfile
 
-from measure import LIST, after_last, asked, assign, heads, in_turn, keys, measured, mixed, one, paths
+from measure import LIST, after_last, apart, asked, assign, heads, in_turn, keys, measured, mixed, one, own_heads, own_keys, paths
 
 KEYS = asked('["keys",[]]', 1)
 ITEMS = asked('["items",["l"]]', 1)
@@ -25,12 +26,14 @@ BESIDE = {
     "inserts at a list's head": (one(heads, before=LIST, after=ITEMS), (10_000, 100_000), 10_000),
     "inserts after the last item, by its position": (one(after_last, each=1, before=LIST, after=ITEMS), (10_000, 100_000), 10_000),
     "assigns and deletes in turn": (one(in_turn, after=KEYS), (100_000,), 100_000),
+    "two write keys apart, and meet once at the end": (apart(own_keys, after=KEYS), (10_000, 100_000), 0),
+    "two insert at heads apart, and meet once at the end": (apart(own_heads), (10_000, 100_000), 0),
 }
 TOOLS = os.path.dirname(os.path.abspath(__file__))
 
 
-def last_line(command):
-    return json.loads(subprocess.run(command, capture_output=True, text=True).stdout.splitlines()[-1])
+def printed(command):
+    return subprocess.run(command, capture_output=True, text=True, check=True).stdout
 
 
 def shown(document):
@@ -48,24 +51,29 @@ def main():
     words = sys.argv[1:]
     if not words:
         sys.exit(__doc__)
-    for name, (lines, sizes, most) in BESIDE.items():
-        print(name)
-        for size in sizes if "time" in words[1:2] else ():
-            with tempfile.NamedTemporaryFile("w", suffix=".jsonl") as file:
-                file.writelines(line + "\n" for line in lines(size))
-                file.flush()
-                row(words[0], file.name, size, size <= most)
+    with tempfile.TemporaryDirectory() as folder:
+        floor, script = f"{folder}/floor", f"{folder}/script.jsonl"
+        subprocess.run(["rustc", "-O", "--edition", "2024", f"{TOOLS}/floor.rs", "-o", floor], check=True)
+        for name, (lines, sizes, most) in BESIDE.items():
+            print(name)
+            for size in sizes if "time" in words[1:2] else ():
+                with open(script, "w", encoding="utf-8") as file:
+                    file.writelines(line + "\n" for line in lines(size))
+                row(words[0], floor, script, size, size <= most)
 
 
-def row(jdoc, path, size, with_sqlite):
-    commands = {"jdoc": [jdoc, "run", path], "plain objects": ["node", f"{TOOLS}/plain.js", path]}
+def row(jdoc, floor, path, size, with_sqlite):
+    commands = {"jdoc": [jdoc, "run", path], "plain maps": [floor, path]}
+    replies = printed(commands["jdoc"])
+    if printed(commands["plain maps"]) != replies:
+        sys.exit(f"plain maps print something else: {path}")
     if with_sqlite:
         commands["SQLite"] = [sys.executable, f"{TOOLS}/in_sqlite.py", path]
-    times = {who: measured(command)[0] for who, command in commands.items()}
-    ends = [shown(last_line(command)) for who, command in commands.items() if who != "jdoc"]
-    if any(end != told(last_line(commands["jdoc"])) for end in ends):
-        sys.exit(f"they end differently: {path}")
-    print(f"  {size:,}: " + ", ".join(f"{who} {seconds:.2f}" for who, seconds in times.items()), flush=True)
+        if shown(json.loads(printed(commands["SQLite"]))) != told(json.loads(replies.splitlines()[-1])):
+            sys.exit(f"SQLite ends differently: {path}")
+    told_of = {who: measured(command) for who, command in commands.items()}
+    said = (f"{who} {seconds:.2f}, {room / size:,.0f} B" for who, (seconds, room) in told_of.items())
+    print(f"  {size:,}: " + "; ".join(said), flush=True)
 
 
 if __name__ == "__main__":

@@ -170,6 +170,7 @@ ROWS = {
     "two insert at heads apart, and meet once at the end": apart(own_heads),
     "two delete apart, and meet once at the end": apart(own_deletes),
     "keys apart, and then a clear of all of them": apart(own_keys, after=['["push",0,0,["delete",[]]]', '["step",0]']),
+    "inserts at a list's head, and then a clear of the list": one(heads, before=LIST, after=list(pushes(0, ['["assign",["l"],[]]']))),
     "keys, read once as a whole": one(keys, after=asked('["keys",[]]', 1)),
     "items of a list, read once as a whole": one(heads, before=LIST, after=asked('["items",["l"]]', 1)),
     "keys, and a hundred thousand readings of one": one(keys, after=asked('["values",["k0000007"]]', 100_000)),
