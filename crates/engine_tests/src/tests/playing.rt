@@ -123,24 +123,19 @@ fn take_turn<N: EngineName, R: Wait + Abort>(
 ) -> Result<(), Fail> {
     match turn {
         Turn::Assign(client, number, want) => {
-            let serial = submit(rt, alloc, stage, client, assign(alloc, number)?)?;
-            assert_eq!(rt; serial, want);
+            assert_eq!(rt; assign(rt, alloc, stage, client, number)?, want);
         }
         Turn::AssignAll(client, count) => {
             for number in 1..=count {
-                let serial = submit(rt, alloc, stage, client, assign(alloc, i64::from(number))?)?;
+                let serial = assign(rt, alloc, stage, client, i64::from(number))?;
                 assert_eq!(rt; serial, Ok(u64::from(number)));
             }
         }
         Turn::DeleteHead(client, want) => {
-            let serial = submit(rt, alloc, stage, client, delete_head(alloc)?)?;
-            assert_eq!(rt; serial, want);
+            assert_eq!(rt; delete_head(rt, alloc, stage, client)?, want);
         }
         Turn::Deliver(client, counter, want) => {
-            let op = op_of_two(alloc, counter)?;
-            let client = stage.clients.get_mut(client).ok_or("no such client")?;
-            let serial = client.deliver(rt, alloc, op).map(|ticket| ticket.serial);
-            assert_eq!(rt; serial, want);
+            assert_eq!(rt; deliver(rt, alloc, stage, client, counter)?, want);
         }
         Turn::Step(want) => assert_eq!(rt; stage.writer.step(rt, alloc), want),
         Turn::Poll(client, of, want) => assert_eq!(rt; poll(stage, client, of)?, want),
@@ -160,12 +155,57 @@ fn take_turn<N: EngineName, R: Wait + Abort>(
     Ok(())
 }
 
-fn assign(alloc: Global, number: i64) -> Result<Command, Fail> {
-    Ok(Command::Assign(at(alloc, "a")?, Val::Scalar(Scalar::Whole(number))))
+fn client_of<'a, N: EngineName>(
+    stage: &'a mut Stage<'_, N>,
+    number: usize,
+) -> Result<&'a mut Client<N>, Fail> {
+    Ok(stage.clients.get_mut(number).ok_or("no such client")?)
 }
 
-fn delete_head(alloc: Global) -> Result<Command, Fail> {
-    Ok(Command::Delete(Expr::new(vec![in alloc; Hop::Idx(0)]?)))
+/// A client assigns a number at the key `a`: the serial of its ticket, or why it is refused.
+fn assign<N: EngineName, R: Wait>(
+    rt: &R,
+    alloc: Global,
+    stage: &mut Stage<N>,
+    client: usize,
+    number: i64,
+) -> Result<Result<u64, Refusal>, Fail> {
+    let client = client_of(stage, client)?;
+    let command = Command::Assign(at(alloc, "a")?, Val::Scalar(Scalar::Whole(number)));
+    Ok(
+        client
+            .submit(rt, alloc, command)
+            .map(|ticket| ticket.serial),
+    )
+}
+
+/// A client deletes at the head of the root's list.
+fn delete_head<N: EngineName, R: Wait>(
+    rt: &R,
+    alloc: Global,
+    stage: &mut Stage<N>,
+    client: usize,
+) -> Result<Result<u64, Refusal>, Fail> {
+    let client = client_of(stage, client)?;
+    let command = Command::Delete(Expr::new(vec![in alloc; Hop::Idx(0)]?));
+    Ok(
+        client
+            .submit(rt, alloc, command)
+            .map(|ticket| ticket.serial),
+    )
+}
+
+/// A client delivers the operation of replica 2 with this counter.
+fn deliver<N: EngineName, R: Wait>(
+    rt: &R,
+    alloc: Global,
+    stage: &mut Stage<N>,
+    client: usize,
+    counter: u32,
+) -> Result<Result<u64, Refusal>, Fail> {
+    let client = client_of(stage, client)?;
+    let op = op_of_two(alloc, counter)?;
+    Ok(client.deliver(rt, alloc, op).map(|ticket| ticket.serial))
 }
 
 fn op_of_two(alloc: Global, number: u32) -> Result<Shared<Op>, Fail> {
@@ -182,22 +222,6 @@ fn op_of_two(alloc: Global, number: u32) -> Result<Shared<Op>, Fail> {
         mutation: Mutation::Assign(Val::Scalar(Scalar::Whole(i64::from(number)))),
     };
     Ok(Shared::new(alloc, op)?)
-}
-
-/// Submits a command: the serial of its ticket, or why it is refused.
-fn submit<N: EngineName, R: Wait>(
-    rt: &R,
-    alloc: Global,
-    stage: &mut Stage<N>,
-    client: usize,
-    command: Command,
-) -> Result<Result<u64, Refusal>, Fail> {
-    let client = stage.clients.get_mut(client).ok_or("no such client")?;
-    Ok(
-        client
-            .submit(rt, alloc, command)
-            .map(|ticket| ticket.serial),
-    )
 }
 
 fn ticket(of: (usize, u64)) -> Result<Ticket, Fail> {
