@@ -5,7 +5,7 @@ ghost use Rattle.clap.specs.Words.{app_of, found_of, has_subcommand, kind_of, ro
 ghost use Rattle.clap.specs.Faults.{fault_of};
 ghost use Rattle.clap.specs.declared.builder.command.Command.TheViews.{out-Command as fields_of};
 ghost use Rattle.clap.specs.Kinds.{FailsBy};
-ghost use Rattle.jdoc.specs.declared.fault.Status.TheVariants.{BadInput, NoMemory, NotWritten};
+ghost use Rattle.jdoc.specs.declared.fault.Status.TheVariants.{BadInput, Done, NoMemory, NotWritten};
 
 use crate::fault::{Fault, Status};
 use bench::Plan;
@@ -33,7 +33,7 @@ pub enum BadWords {
     OutOfRange,
 }
 
-ghost use Rattle.jdoc.specs.Words.{IsJobOf, IsNumber, IsOutOfMemory, IsPlanOf, IsRefusedBy, bench_app, jdoc_app, number_rule, queue_rule};
+ghost use Rattle.jdoc.specs.Words.{IsHelp, IsJobOf, IsNumber, IsOutOfMemory, IsPlanOf, IsRefusedBy, bench_app, jdoc_app, number_rule, queue_rule};
 ghost use Rattle.jdoc.specs.Words.{run_app};
 ghost use Rattle.jdoc.specs.declared.words.BadWords.TheVariants.{Refused as RefusedBy};
 
@@ -161,28 +161,40 @@ fn queue_option<'a>(alloc: Global) -> Arg<'a>
 }
 
 impl BadWords {
-    /// Tells what is wrong with the words, or the help that they ask for, and returns the status of the run.
-    pub fn report<W: Write>(&self, faults: &mut W) -> Status
+    /// Tells the help that the words ask for on standard output, or what is wrong with them on standard error. Returns the status of
+    /// the run.
+    pub fn report<O: Write, W: Write>(&self, out: &mut O, faults: &mut W) -> Status
+        ensures help { IsHelp self.now → (result ≡ Done) ⊎ (result ≡ NotWritten) }
         ensures memory { IsOutOfMemory self.now → (result ≡ NoMemory) ⊎ (result ≡ NotWritten) }
-        ensures other { (IsOutOfMemory self.now → ⊥) → (result ≡ BadInput) ⊎ (result ≡ NotWritten) }
+        ensures other { (IsHelp self.now → ⊥) → (IsOutOfMemory self.now → ⊥) → (result ≡ BadInput) ⊎ (result ≡ NotWritten) }
     {
         match self {
-            BadWords::Refused(error) => report(error, faults),
+            BadWords::Refused(error) => report(error, out, faults),
             BadWords::OutOfRange => Fault::OutOfRange.report(faults),
         }
     }
 }
 
 /// Tells what `clap` says, and returns the status of the run.
-fn report<W: Write>(error: &Error, faults: &mut W) -> Status
+fn report<O: Write, W: Write>(error: &Error, out: &mut O, faults: &mut W) -> Status
+    ensures help { kind_of error.now ≡ ErrorKind.DisplayHelp → (result ≡ Done) ⊎ (result ≡ NotWritten) }
     ensures memory { kind_of error.now ≡ ErrorKind.OutOfMemory → (result ≡ NoMemory) ⊎ (result ≡ NotWritten) }
-    ensures other { kind_of error.now ≢ ErrorKind.OutOfMemory → (result ≡ BadInput) ⊎ (result ≡ NotWritten) }
+    ensures other { kind_of error.now ≢ ErrorKind.DisplayHelp → kind_of error.now ≢ ErrorKind.OutOfMemory
+        → (result ≡ BadInput) ⊎ (result ≡ NotWritten) }
 {
-    if error.kind() == ErrorKind::OutOfMemory {
-        return Fault::NoMemory.report(faults);
+    match error.kind() {
+        ErrorKind::DisplayHelp => tell(error, out, Status::Done),
+        ErrorKind::OutOfMemory => Fault::NoMemory.report(faults),
+        _ => tell(error, faults, Status::BadInput),
     }
-    match write!(faults, "{error}") {
-        Ok(()) => Status::BadInput,
-        Err(_) => Status::NotWritten,
+}
+
+/// Writes the text of an error, and returns this status where that was written.
+fn tell<W: Write>(error: &Error, to: &mut W, status: Status) -> Status
+    ensures { (result ≡ status) ⊎ (result ≡ NotWritten) }
+{
+    if write!(to, "{error}").is_err() || to.flush().is_err() {
+        return Status::NotWritten;
     }
+    status
 }

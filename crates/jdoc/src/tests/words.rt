@@ -67,15 +67,41 @@ fn a_plan(rt: HostRuntime) -> Result<(), Fail> {
     Ok(())
 }
 
-/// Why there is no job, the status of that, and whether whole lines are told.
-fn refusal(alloc: Global, words: &[&str]) -> Option<(ErrorKind, Status, bool)> {
+/// Why there is no job, the status of that, and whether whole lines are told on standard output and on standard error.
+fn refusal(alloc: Global, words: &[&str]) -> Option<(ErrorKind, Status, bool, bool)> {
     let why = read_words(alloc, words).err()?;
+    let mut out = Vec::new(alloc);
     let mut faults = Vec::new(alloc);
-    let status = why.report(&mut faults);
+    let status = why.report(&mut out, &mut faults);
     let BadWords::Refused(error) = why else {
         return None;
     };
-    Some((error.kind(), status, faults.last().copied() == Some(b'\n')))
+    Some((
+        error.kind(),
+        status,
+        ends_a_line(&out),
+        ends_a_line(&faults),
+    ))
+}
+
+fn ends_a_line(text: &[u8]) -> bool {
+    text.last().copied() == Some(b'\n')
+}
+
+/// Words that ask for help.
+const HELPS: &[&[&str]] = &[
+    &["--help", "run"],
+    &["-h", "run"],
+    &["help", "run"],
+    &["run", "--help"],
+];
+
+#[test]
+fn help_is_told_on_the_output(rt: HostRuntime) {
+    for words in HELPS {
+        let told = Some((ErrorKind::DisplayHelp, Status::Done, true, false));
+        assert_eq!(rt; refusal(rt.alloc(), words), told, "{words:?}");
+    }
 }
 
 /// Words that are no job, and why.
@@ -87,10 +113,6 @@ const OTHERS: &[(&[&str], ErrorKind)] = &[
     (&["run", "--fast"], ErrorKind::UnknownArgument),
     (&["run", "-x"], ErrorKind::UnknownArgument),
     (&["run", "a", "b"], ErrorKind::UnknownArgument),
-    (&["--help", "run"], ErrorKind::DisplayHelp),
-    (&["-h", "run"], ErrorKind::DisplayHelp),
-    (&["help", "run"], ErrorKind::DisplayHelp),
-    (&["run", "--help"], ErrorKind::DisplayHelp),
     (&["bench", "a"], ErrorKind::UnknownArgument),
     (
         &["bench", "--replicas=1", "--ops=1"],
@@ -153,7 +175,7 @@ const OTHERS: &[(&[&str], ErrorKind)] = &[
 #[test]
 fn other_words(rt: HostRuntime) {
     for (words, kind) in OTHERS {
-        let told = Some((*kind, Status::BadInput, true));
+        let told = Some((*kind, Status::BadInput, false, true));
         assert_eq!(rt; refusal(rt.alloc(), words), told, "{words:?}");
     }
 }
