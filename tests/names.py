@@ -1,6 +1,7 @@
 #!/usr/bin/env python3
 """Tests that the names which documents cite are there: laws and contracts as `file::function` or `Type::method`, definitions as
-`Module.word`, and in docs/BEHAVIOURS.md tests and wrong edits, each with its crate. Says how many are missing, and fails if any is.
+`Module.word`, and in docs/BEHAVIOURS.md and docs/RULES.md tests and wrong edits, each with its crate. Says how many are missing, and
+fails if any is.
 """
 import glob
 import pathlib
@@ -8,7 +9,7 @@ import re
 import sys
 
 TOP = pathlib.Path(__file__).resolve().parent.parent
-CITING = ["README.md", *(f"docs/{name}.md" for name in ("RULES", "PROVED", "PROMISES", "BEHAVIOURS", "GLOSSARY", "ARCHITECTURE"))]
+CITING = ["README.md", *(f"docs/{name}.md" for name in ("EMBEDDING", "RULES", "PROVED", "PROMISES", "BEHAVIOURS", "GLOSSARY", "ARCHITECTURE"))]
 # What is no definition though it looks like one: files.
 FILE_ENDINGS = {"md", "antt", "rt"}
 
@@ -50,7 +51,7 @@ def faults_of(name):
 
 
 def missing_tests(text):
-    """Yields what BEHAVIOURS.md names with a crate, where the crate and its tests have no such test, file, function or edit."""
+    """Yields what a text names with a crate, where the crate and its tests have no such test, file, function or edit."""
     for names, crates in re.findall(r"((?:`\w+`(?:, )?)+) \(((?:`\w+`(?:, )?)+)\)", text):
         for crate in re.findall(r"`(\w+)`", crates):
             folders = [it for it in (TOP / "crates" / crate, TOP / "crates" / f"{crate}_tests") if it.is_dir()]
@@ -72,6 +73,8 @@ def main():
         faults += [(path, name, why) for name in sorted(names) for why in faults_of(name)]
     behaviours = (TOP / "docs/BEHAVIOURS.md").read_text(encoding="utf-8")
     faults += [("docs/BEHAVIOURS.md", name, why) for name, why in missing_tests(behaviours)]
+    tests = "\n".join(re.findall(r" Tests: (.*)", (TOP / "docs/RULES.md").read_text(encoding="utf-8")))
+    faults += [("docs/RULES.md", name, why) for name, why in missing_tests(tests)]
     for path, name, why in faults:
         print(f"names: FAILED: {path}: {name}: {why}")
     print(f"names: {cited} names in documents, {len(faults)} that aren't there")

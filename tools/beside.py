@@ -4,11 +4,13 @@
     tools/beside.py crates/jdoc/out/jdoc            names the rows
     tools/beside.py crates/jdoc/out/jdoc time       measures them all
 
-Each row prints for each number of commands the seconds of the processor and the bytes a command that jdoc, plain maps (floor.rs, which
-`rustc` compiles) and SQLite take for the same script. Tests that the plain maps print the same lines as jdoc, and that SQLite ends with
-the same keys, or with as many items."""
+Each row prints for each number of commands the seconds of the processor and the bytes a command that jdoc, plain maps (floor.rs), Yjs
+(in_yjs.js) and SQLite (in_sqlite.py) take for the same script. The plain maps are compiled twice: with a parser of their own, by `rustc`,
+and with serde_json, by `cargo`. Tests that both print the same lines as jdoc, and that Yjs and SQLite end with the same keys, or with
+as many items. It wants Debian's packages librust-serde-json-dev and node-yjs."""
 import json
 import os
+import shutil
 import subprocess
 import sys
 import tempfile
@@ -17,18 +19,21 @@ from measure import LIST, after_last, apart, asked, assign, heads, in_turn, keys
 
 KEYS = asked('["keys",[]]', 1)
 ITEMS = asked('["items",["l"]]', 1)
-# What is asked at the end, and up to how many commands SQLite is tried.
+# Each with up to how many commands SQLite and Yjs are tried.
 BESIDE = {
-    "assigns at one key": (one(lambda n: (assign("k", i) for i in range(n)), after=KEYS), (100_000,), 100_000),
-    "assigns at new keys, in mixed order": (one(mixed, after=KEYS), (10_000, 100_000), 10_000),
-    "the same, in rising order": (one(keys, after=KEYS), (100_000,), 0),
-    "assigns at ten paths of four keys, in turn": (one(paths, after=KEYS), (100_000,), 0),
-    "inserts at a list's head": (one(heads, before=LIST, after=ITEMS), (10_000, 100_000), 10_000),
-    "inserts after the last item, by its position": (one(after_last, each=1, before=LIST, after=ITEMS), (10_000, 100_000), 10_000),
-    "assigns and deletes in turn": (one(in_turn, after=KEYS), (100_000,), 100_000),
-    "two write keys apart, and meet once at the end": (apart(own_keys, after=KEYS), (10_000, 100_000), 0),
-    "two insert at heads apart, and meet once at the end": (apart(own_heads), (10_000, 100_000), 0),
+    "assigns at one key": (one(lambda n: (assign("k", i) for i in range(n)), after=KEYS), (100_000,), 100_000, 100_000),
+    "assigns at new keys, in mixed order": (one(mixed, after=KEYS), (10_000, 100_000), 10_000, 100_000),
+    "the same, in rising order": (one(keys, after=KEYS), (100_000,), 0, 100_000),
+    "assigns at ten paths of four keys, in turn": (one(paths, after=KEYS), (100_000,), 0, 100_000),
+    "inserts at a list's head": (one(heads, before=LIST, after=ITEMS), (10_000, 100_000), 10_000, 100_000),
+    "inserts after the last item, by its position": (one(after_last, each=1, before=LIST, after=ITEMS), (10_000, 100_000), 10_000, 10_000),
+    "assigns and deletes in turn": (one(in_turn, after=KEYS), (100_000,), 100_000, 100_000),
+    "two write keys apart, and meet once at the end": (apart(own_keys, after=KEYS), (10_000, 100_000), 0, 100_000),
+    "two insert at heads apart, and meet once at the end": (apart(own_heads), (10_000, 100_000), 0, 10_000),
 }
+# Where Debian's packages put the source of serde_json, and Yjs.
+CRATES = "/usr/share/cargo/registry"
+os.environ["NODE_PATH"] = "/usr/share/nodejs"
 TOOLS = os.path.dirname(os.path.abspath(__file__))
 
 
@@ -42,34 +47,58 @@ def shown(document):
 
 
 def told(reply):
-    """The same of jdoc's answer to it."""
+    """The same of the answer to it: keys are texts, and whatever else is listed are items."""
     said = reply[-1]
-    return len(said) if said and isinstance(said[0], list) else said
+    return len(said) if said and not isinstance(said[0], str) else said
+
+
+def by_cargo(folder):
+    """The plain maps, compiled with serde_json."""
+    os.makedirs(f"{folder}/floor_serde/src")
+    shutil.copy(f"{TOOLS}/floor.rs", f"{folder}/floor_serde/src/main.rs")
+    with open(f"{folder}/floor_serde/Cargo.toml", "w", encoding="utf-8") as file:
+        file.write('[package]\nname = "floor"\nversion = "0.0.0"\nedition = "2024"\n[dependencies]\nserde_json = "1"\n')
+    source = ["--config", 'source.crates-io.replace-with="debian"', "--config", f'source.debian.directory="{CRATES}"']
+    command = ["cargo", "build", "--release", "--offline", "--quiet", *source]
+    subprocess.run(command, cwd=f"{folder}/floor_serde", env={**os.environ, "RUSTFLAGS": "--cfg serde -A unexpected_cfgs"}, check=True)
+    return f"{folder}/floor_serde/target/release/floor"
 
 
 def main():
     words = sys.argv[1:]
     if not words:
         sys.exit(__doc__)
+    if "time" not in words[1:2]:
+        print("\n".join(BESIDE))
+        return
     with tempfile.TemporaryDirectory() as folder:
-        floor, script = f"{folder}/floor", f"{folder}/script.jsonl"
-        subprocess.run(["rustc", "-O", "--edition", "2024", f"{TOOLS}/floor.rs", "-o", floor], check=True)
-        for name, (lines, sizes, most) in BESIDE.items():
+        script = f"{folder}/script.jsonl"
+        rustc = ["rustc", "-O", "--edition", "2024", "-A", "unexpected_cfgs"]
+        subprocess.run([*rustc, f"{TOOLS}/floor.rs", "-o", f"{folder}/floor"], check=True)
+        floors = {"plain maps": [f"{folder}/floor", script], "plain maps with serde_json": [by_cargo(folder), script]}
+        for name, (lines, sizes, in_sqlite, in_yjs) in BESIDE.items():
             print(name)
-            for size in sizes if "time" in words[1:2] else ():
+            for size in sizes:
                 with open(script, "w", encoding="utf-8") as file:
                     file.writelines(line + "\n" for line in lines(size))
-                row(words[0], floor, script, size, size <= most)
+                row(words[0], floors, script, size, size <= in_sqlite, size <= in_yjs)
 
 
-def row(jdoc, floor, path, size, with_sqlite):
-    commands = {"jdoc": [jdoc, "run", path], "plain maps": [floor, path]}
-    replies = printed(commands["jdoc"])
-    if printed(commands["plain maps"]) != replies:
-        sys.exit(f"plain maps print something else: {path}")
+def row(jdoc, floors, path, size, with_sqlite, with_yjs):
+    replies = printed([jdoc, "run", path])
+    last = json.loads(replies.splitlines()[-1])
+    asks = last[0] == "reading"
+    for who, command in floors.items():
+        if printed(command) != replies:
+            sys.exit(f"{who} print something else: {path}")
+    commands = {"jdoc": [jdoc, "run", path], **floors}
+    if with_yjs:
+        commands["Yjs"] = ["node", f"{TOOLS}/in_yjs.js", path]
+        if asks and told(json.loads(printed(commands["Yjs"]).splitlines()[-1])) != told(last):
+            sys.exit(f"Yjs ends differently: {path}")
     if with_sqlite:
         commands["SQLite"] = [sys.executable, f"{TOOLS}/in_sqlite.py", path]
-        if shown(json.loads(printed(commands["SQLite"]))) != told(json.loads(replies.splitlines()[-1])):
+        if shown(json.loads(printed(commands["SQLite"]))) != told(last):
             sys.exit(f"SQLite ends differently: {path}")
     told_of = {who: measured(command) for who, command in commands.items()}
     said = (f"{who} {seconds:.2f}, {room / size:,.0f} B" for who, (seconds, room) in told_of.items())

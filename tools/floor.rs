@@ -1,73 +1,104 @@
 //! rustc -O tools/floor.rs, then `floor SCRIPT`: does what a script says on plain maps and vectors, and prints what jdoc prints.
 //! It keeps the last value of a key by its id, and operations as they were written; neither conflicts, nor what a delete has seen.
 //! It knows the steps that tools/measure.py writes: push, step, hello, bundle, deliver, and questions for keys and items.
+//! It reads lines by a parser of its own, which knows no escapes, or, with `--cfg serde` and that library, by serde_json.
 use std::collections::{BTreeMap, VecDeque};
 use std::fmt::Write as _;
 use std::io::{BufRead, BufReader, BufWriter, Write};
 
-#[derive(Clone, Debug)]
-enum Json {
-    Int(i64),
-    Text(String),
-    List(Vec<Json>),
-    Map,
-}
+#[cfg(serde)]
+mod json {
+    pub use serde_json::Value as Json;
 
-impl Json {
-    fn int(&self) -> i64 {
-        match self {
-            Json::Int(number) => *number,
-            _ => panic!("no number"),
-        }
-    }
-
-    fn text(&self) -> &str {
-        match self {
-            Json::Text(text) => text,
-            _ => panic!("no text"),
-        }
-    }
-
-    fn list(&self) -> &[Json] {
-        match self {
-            Json::List(list) => list,
-            _ => panic!("no list"),
-        }
+    pub fn parse(line: &[u8]) -> Json {
+        serde_json::from_slice(line).unwrap()
     }
 }
 
-/// Reads a value, and leaves what comes behind it. Texts have no escapes in the scripts that are measured.
-fn parse(rest: &mut &[u8]) -> Json {
-    match rest[0] {
-        b'[' => {
-            *rest = &rest[1..];
-            let mut list = Vec::new();
-            while rest[0] != b']' {
-                if rest[0] == b',' {
-                    *rest = &rest[1..];
-                }
-                list.push(parse(rest));
+#[cfg(not(serde))]
+mod json {
+    #[derive(Clone, Debug)]
+    pub enum Json {
+        Int(i64),
+        Text(String),
+        List(Vec<Json>),
+        Map,
+    }
+
+    impl Json {
+        pub fn as_i64(&self) -> Option<i64> {
+            match self {
+                Json::Int(number) => Some(*number),
+                _ => None,
             }
-            *rest = &rest[1..];
-            Json::List(list)
         }
-        b'{' => {
-            *rest = &rest[2..];
-            Json::Map
+
+        pub fn as_str(&self) -> Option<&str> {
+            match self {
+                Json::Text(text) => Some(text),
+                _ => None,
+            }
         }
-        b'"' => {
-            let end = rest[1..].iter().position(|byte| *byte == b'"').unwrap() + 1;
-            let text = String::from_utf8(rest[1..end].to_vec()).unwrap();
-            *rest = &rest[end + 1..];
-            Json::Text(text)
-        }
-        _ => {
-            let end = rest.iter().position(|byte| !matches!(byte, b'-' | b'0'..=b'9')).unwrap();
-            let number = std::str::from_utf8(&rest[..end]).unwrap().parse().unwrap();
-            *rest = &rest[end..];
-            Json::Int(number)
+
+        pub fn as_array(&self) -> Option<&Vec<Json>> {
+            match self {
+                Json::List(list) => Some(list),
+                _ => None,
+            }
         }
     }
+
+    pub fn parse(line: &[u8]) -> Json {
+        value(&mut &line[..])
+    }
+
+    /// Reads a value, and leaves what comes behind it.
+    fn value(rest: &mut &[u8]) -> Json {
+        match rest[0] {
+            b'[' => {
+                *rest = &rest[1..];
+                let mut list = Vec::new();
+                while rest[0] != b']' {
+                    if rest[0] == b',' {
+                        *rest = &rest[1..];
+                    }
+                    list.push(value(rest));
+                }
+                *rest = &rest[1..];
+                Json::List(list)
+            }
+            b'{' => {
+                *rest = &rest[2..];
+                Json::Map
+            }
+            b'"' => {
+                let end = rest[1..].iter().position(|byte| *byte == b'"').unwrap() + 1;
+                let text = String::from_utf8(rest[1..end].to_vec()).unwrap();
+                *rest = &rest[end + 1..];
+                Json::Text(text)
+            }
+            _ => {
+                let end = rest.iter().position(|byte| !matches!(byte, b'-' | b'0'..=b'9')).unwrap();
+                let number = std::str::from_utf8(&rest[..end]).unwrap().parse().unwrap();
+                *rest = &rest[end..];
+                Json::Int(number)
+            }
+        }
+    }
+}
+
+use json::{Json, parse};
+
+fn int(value: &Json) -> i64 {
+    value.as_i64().unwrap()
+}
+
+fn text(value: &Json) -> &str {
+    value.as_str().unwrap()
+}
+
+fn list(value: &Json) -> &[Json] {
+    value.as_array().unwrap()
 }
 
 type Id = (u64, u64);
@@ -130,33 +161,33 @@ impl Engine {
 }
 
 fn apply(document: &mut Node, op: &Op) {
-    let (id, command) = (op.0, op.1.list());
-    let path = command[1].list();
+    let (id, command) = (op.0, list(&op.1));
+    let path = list(&command[1]);
     let (last, way) = path.split_last().unwrap();
     let mut at = document;
     for key in way {
-        at = at.fields.entry(key.text().to_owned()).or_default();
+        at = at.fields.entry(text(key).to_owned()).or_default();
     }
-    match (command[0].text(), last) {
-        ("insert", Json::Int(index)) => at.items.insert(*index as usize, (id, command[2].clone())),
-        ("assign", Json::Text(key)) => {
-            let node = at.fields.entry(key.clone()).or_default();
+    match (text(&command[0]), last) {
+        ("insert", index) => at.items.insert(int(index) as usize, (id, command[2].clone())),
+        ("assign", key) => {
+            let node = at.fields.entry(text(key).to_owned()).or_default();
             if node.value.as_ref().is_none_or(|(old, _)| *old < id) {
                 node.value = Some((id, command[2].clone()));
             }
         }
-        ("delete", Json::Text(key)) => {
-            at.fields.remove(key);
+        ("delete", key) => {
+            at.fields.remove(text(key));
         }
         _ => panic!("another command"),
     }
 }
 
 fn engine(row: &Json) -> Engine {
-    let row = row.list();
+    let row = list(row);
     Engine {
-        own: row[0].int() as u64,
-        batch: row[5].int() as usize,
+        own: int(&row[0]) as u64,
+        batch: int(&row[5]) as usize,
         ..Engine::default()
     }
 }
@@ -172,9 +203,9 @@ fn pairs(ids: impl Iterator<Item = Id>) -> String {
 }
 
 fn answer(engine: &Engine, question: &[Json]) -> String {
-    let path = question[1].list();
-    let at = path.iter().fold(&engine.document, |at, key| &at.fields[key.text()]);
-    match question[0].text() {
+    let path = list(&question[1]);
+    let at = path.iter().fold(&engine.document, |at, key| &at.fields[text(key)]);
+    match text(&question[0]) {
         "keys" => {
             let keys: Vec<String> = at.fields.keys().map(|key| format!("\"{key}\"")).collect();
             format!("[{}]", keys.join(","))
@@ -192,14 +223,14 @@ enum Message {
 fn main() {
     let file = std::fs::File::open(std::env::args().nth(1).unwrap()).unwrap();
     let mut out = BufWriter::new(std::io::stdout().lock());
-    let mut lines = BufReader::new(file).split(b'\n').map(|line| parse(&mut &line.unwrap()[..]));
+    let mut lines = BufReader::new(file).split(b'\n').map(|line| parse(&line.unwrap()));
     let world = lines.next().unwrap();
-    let mut engines: Vec<Engine> = world.list()[1].list().iter().map(engine).collect();
+    let mut engines: Vec<Engine> = list(&list(&world)[1]).iter().map(engine).collect();
     let mut messages = Vec::new();
     for line in lines {
-        let step = line.list();
-        let engine = &mut engines[step[1].int() as usize];
-        match step[0].text() {
+        let step = list(&line);
+        let engine = &mut engines[int(&step[1]) as usize];
+        match text(&step[0]) {
             "push" => writeln!(out, "[\"ticket\",{}]", engine.submit(Item::Command(step[3].clone()))),
             "step" => match engine.step() {
                 0 => writeln!(out, "[\"idle\"]"),
@@ -211,7 +242,7 @@ fn main() {
                 writeln!(out, "[\"message\",{},{vector}]", messages.len() - 1)
             }
             "bundle" => {
-                let Message::Hello(seen) = &messages[step[3].int() as usize] else { panic!("no hello") };
+                let Message::Hello(seen) = &messages[int(&step[3]) as usize] else { panic!("no hello") };
                 let lacks = |op: &&Op| seen.get(&op.0.1).is_none_or(|counter| *counter < op.0.0);
                 let bundle: Vec<Op> = engine.log.iter().filter(lacks).cloned().collect();
                 let count = bundle.len();
@@ -219,7 +250,7 @@ fn main() {
                 writeln!(out, "[\"message\",{},{count}]", messages.len() - 1)
             }
             "deliver" => {
-                let Message::Bundle(bundle) = &messages[step[3].int() as usize] else { panic!("no bundle") };
+                let Message::Bundle(bundle) = &messages[int(&step[3]) as usize] else { panic!("no bundle") };
                 let first = if bundle.is_empty() { 0 } else { engine.serial + 1 };
                 for op in bundle {
                     engine.submit(Item::Peer(op.clone()));
@@ -228,7 +259,7 @@ fn main() {
             }
             "ask" => {
                 let length = engine.log.len();
-                writeln!(out, "[\"reading\",{length},{}]", answer(engine, step[3].list()))
+                writeln!(out, "[\"reading\",{length},{}]", answer(engine, list(&step[3])))
             }
             _ => panic!("another step"),
         }

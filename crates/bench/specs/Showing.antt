@@ -14,6 +14,7 @@ pub record View : Type 0 where
   pub keys : List (List ℕ)
   pub values : List (List (OpId × Scalar))
 
+-- what an engine shows, as a view
 abbrev pub view_of : Shown → View
 view_of s = record { length = s.length; keys = s.keys.items; values = map (λ vs. map (λ p. (p.0, scalar_of p.1)) vs.items) s.values.items }
 

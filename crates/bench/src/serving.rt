@@ -119,7 +119,7 @@ fn look<N: EngineName>(alloc: Global, reader: &mut ReaderToken<N>) -> Result<Sho
 
 /// The keys of the document.
 fn keys<N: EngineName>(alloc: Global, reader: &mut ReaderToken<N>) -> Result<Vec<Key>, Refusal> {
-    match reader.ask(alloc, &Question::Keys(Expr::new(Vec::new(alloc))))? {
+    match reader.ask(alloc, &Question::Keys(Expr::root(alloc)))? {
         Reading::Keys(keys) => Ok(keys),
         _ => Err(Refusal::NoReading),
     }

@@ -13,9 +13,8 @@ use Rattle.std.proofs.lemmas.Option.{slice_get_within}
 use Rattle.semantics.specs.Ids.{OpId, id_cmp, is_same_id}
 use Rattle.semantics.proofs.Orders.{id_total, ids_from_test}
 use Rattle.semantics.proofs.SetElements.{get-set_other, get-set_same}
-use Rattle.semantics.specs.Context.{insert_after}
+use Rattle.semantics.specs.Context.{insert_after, has_item}
 use Rattle.columns.specs.Rank.{has_key, keys_of}
-use Rattle.columns.specs.Orders.{has_item}
 use Rattle.columns.specs.Blocks.{AreApart, AreBlocks, AreHomed, GoesIn, IsBehind, Run, items_before, items_from, joined, joined_shown}
 use Rattle.columns.specs.Blocks.{room_at}
 use Rattle.columns.proofs.InBlock.{has_item-append}
@@ -252,12 +251,12 @@ pub record IsPlaced (runs : List Run) (homes : List (OpId × ℕ)) (prev : Optio
   pub shown : joined_shown (set runs k q) ≡ joined_shown runs
   pub blocks : AreBlocks (set runs k q) (put id_cmp a r.number homes) k
 
-pub placed : (runs : List Run) (homes : List (OpId × ℕ)) (last : ℕ) (prev : Option OpId) (a : OpId) (from_block from_index k i : ℕ)
+pub item_put : (runs : List Run) (homes : List (OpId × ℕ)) (last : ℕ) (prev : Option OpId) (a : OpId) (from_block from_index k i : ℕ)
     (r q : Run)
     → AreBlocks runs homes last → has_item a (joined runs) ≡ false → 0 < room_at runs last → IsBehind runs prev from_block from_index
     → GoesIn runs a from_block from_index k i → slice_get runs k ≡ Some r
     → q.number ≡ r.number → q.items ≡ insert r.items i a → q.flags ≡ insert r.flags i false → IsPlaced runs homes prev a k r q
-placed runs homes last prev a from_block from_index k i r q are absent room behind goes is number items flags =
+item_put runs homes last prev a from_block from_index k i r q are absent room behind goes is number items flags =
     let within : i ≤ length r.items = subst (λ xs. i ≤ length xs) (items_here runs k r is) goes.within in
     record {
       items = joined_put runs k i r q a is within items flags ∙ sym goes.same ∙ sym (behind.inserts a);

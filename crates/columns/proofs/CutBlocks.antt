@@ -10,17 +10,17 @@ use Rattle.std.proofs.lemmas.Bool.{or_right}
 use Rattle.std.proofs.lemmas.List.{length-drop, length-take, take-append-drop}
 use Rattle.std.proofs.lemmas.List.Edits.{length-insert}
 use Rattle.std.proofs.lemmas.Option.{slice_get_within}
-use Rattle.semantics.specs.Ids.{OpId, id_cmp, is_same_id}
-use Rattle.semantics.proofs.Orders.{ids_from_test}
+use Rattle.semantics.specs.Ids.{OpId, id_cmp}
 use Rattle.semantics.proofs.SetElements.{get-set_same}
 use Rattle.columns.specs.Rank.{has_key, keys_of}
-use Rattle.columns.specs.Orders.{has_item}
+use Rattle.semantics.specs.Context.{has_item}
 use Rattle.columns.specs.Blocks.{AreApart, AreBlocks, AreHomed, AreMoved, IsSameList, Run, joined, joined_shown, room_at}
-use Rattle.columns.proofs.Same.{or_parts, some_is}
+use Rattle.columns.proofs.Same.{some_is}
 use Rattle.columns.proofs.InBlock.{has_item-append}
 use Rattle.columns.proofs.Flags.{shown_append}
+use Rattle.columns.proofs.Apart.{apart_append, apart_block, apart_blocks}
 use Rattle.columns.proofs.Walked.{lacks_other}
-use Rattle.columns.proofs.Changed.{blocks_same, has_in, joined_same, room_here, set_cases, shown_same}
+use Rattle.columns.proofs.Changed.{blocks_same, joined_same, room_here, set_cases, shown_same}
 
 -- what stands at an index of a list into which one came
 insert_cases : {X : Type 0} (xs : List X) (i j : ℕ) (y z : X) → i ≤ length xs → slice_get (insert xs i y) j ≡ Some z
@@ -36,51 +36,6 @@ insert_cases (x ∷ xs) (suc i) (suc j) y z within at = elim (insert_cases xs i 
   | inr (h, is, inl (lt, e)) ↦ inr (suc h, is, inl (omega (arith, lt), ap suc e))
   | inr (h, is, inr (lt, e)) ↦ inr (suc h, is, inr (omega (arith, lt), ap suc e))
 ]
-
--- an item of the first part of different ones is none of the second
-apart_append : (a : OpId) (xs ys : List OpId) → AreApart (xs ++ ys) → has_item a xs ≡ true → has_item a ys ≡ false
-apart_append a [] ys apart has = absurd (true≢false (sym has))
-apart_append a (x ∷ xs) ys apart has = at_test (is_same_id a x) refl (apart_append a xs ys apart.1) has
-  where
-    at_test : (b : Bool) → is_same_id a x ≡ b → (has_item a xs ≡ true → has_item a ys ≡ false) → (b || has_item a xs) ≡ true
-        → has_item a ys ≡ false
-    at_test true e rest has = ap (λ y. has_item y ys) (ids_from_test a x e)
-        ∙ (or_parts (has_item x xs) (has_item x ys) (sym (has_item-append x xs ys) ∙ apart.0)).1
-    at_test false e rest has = rest has
-
-apart_first : (xs ys : List OpId) → AreApart (xs ++ ys) → AreApart xs
-apart_first [] ys apart = tt
-apart_first (x ∷ xs) ys apart = (
-  (or_parts (has_item x xs) (has_item x ys)
-      (sym (has_item-append x xs ys) ∙ apart.0)).0,
-  apart_first xs ys apart.1,
-)
-
-apart_rest : (xs ys : List OpId) → AreApart (xs ++ ys) → AreApart ys
-apart_rest [] ys apart = apart
-apart_rest (x ∷ xs) ys apart = apart_rest xs ys apart.1
-
--- two blocks have no item in common
-apart_blocks : (runs : List Run) (j k : ℕ) (s r : Run) (a : OpId) → AreApart (joined runs) → slice_get runs j ≡ Some s
-    → slice_get runs k ≡ Some r → (j ≡ k → ⊥) → has_item a s.items ≡ true → has_item a r.items ≡ false
-apart_blocks [] j k s r a apart at is other has = absurd (cc at)
-apart_blocks (t ∷ runs) zero zero s r a apart at is other has = absurd (other refl)
-apart_blocks (t ∷ runs) zero (suc k) s r a apart at is other has =
-    let here : has_item a t.items ≡ true = ap (λ (o : Run). has_item a o.items) (some_is t s at) ∙ has in
-    lacks_other a r.items (λ there. true≢false (sym (has_in runs k r a is there) ∙ apart_append a t.items (joined runs) apart here))
-apart_blocks (t ∷ runs) (suc j) zero s r a apart at is other has =
-    lacks_other a r.items
-    (λ there. true≢false
-    (sym (has_in runs j s a at has)
-    ∙ apart_append a t.items (joined runs) apart (ap (λ (o : Run). has_item a o.items) (some_is t r is) ∙ there)))
-apart_blocks (t ∷ runs) (suc j) (suc k) s r a apart at is other has = apart_blocks runs j k s r a
-    (apart_rest t.items (joined runs) apart) at is (λ e. other (ap suc e)) has
-
--- the items of one block are different
-apart_block : (runs : List Run) (k : ℕ) (r : Run) → AreApart (joined runs) → slice_get runs k ≡ Some r → AreApart r.items
-apart_block [] k r apart is = absurd (cc is)
-apart_block (t ∷ runs) zero r apart is = subst (λ (o : Run). AreApart o.items) (some_is t r is) (apart_first t.items (joined runs) apart)
-apart_block (t ∷ runs) (suc k) r apart is = apart_block runs k r (apart_rest t.items (joined runs) apart) is
 
 module _ (runs : List Run) (k at : ℕ) (r q b : Run) (is : slice_get runs k ≡ Some r) (items : q.items ≡ take at r.items)
     (flags : q.flags ≡ take at r.flags) (back_items : b.items ≡ drop at r.items) (back_flags : b.flags ≡ drop at r.flags) where

@@ -9,10 +9,9 @@ use Rattle.std.proofs.lemmas.Option.{get_or_from_slice_get, slice_get_within}
 use Rattle.std.proofs.lemmas.List.{drop_all, length-take, take-append-drop}
 use Rattle.std.proofs.lemmas.List.Elements.{All-append, All-cons, All-drop, All-head, All-tail, All-take}
 use Rattle.semantics.specs.Ids.{OpId, is_same_id, is_smaller_id}
-use Rattle.semantics.specs.Context.{skip}
+use Rattle.semantics.specs.Context.{skip, has_item}
 use Rattle.semantics.proofs.Orders.{id_itself}
 use Rattle.semantics.proofs.SkipOrder.{smaller_chain}
-use Rattle.columns.specs.Orders.{has_item}
 use Rattle.std.proofs.lemmas.List.Edits.{length-insert}
 use Rattle.columns.specs.Blocks.{AreGreater, IsBlock, IsFirstSmaller, IsFloor}
 use Rattle.columns.proofs.Same.{some_is}

@@ -4,6 +4,7 @@ pub mod Puts
 pub mod Zipped
 pub mod Halves
 pub mod Sought
+pub mod Near
 pub mod Prefixes
 pub mod Placed
 pub mod Columns
@@ -17,6 +18,7 @@ pub mod Runs
 pub mod Walked
 pub mod Changed
 pub mod ShownItems
+pub mod Apart
 pub mod CutBlocks
 pub mod MovedHomes
-pub mod BlockPlaces
+pub mod IndexedBlocks

@@ -4,7 +4,7 @@ use Rattle.std.specs.FinMap.{find, put}
 use Rattle.std.specs.FinMap.Entries.{find-put}
 use Rattle.semantics.specs.Ids.{OpId, id_cmp, is_same_id}
 use Rattle.semantics.proofs.Orders.{id_total}
-use Rattle.columns.specs.Orders.{has_item}
+use Rattle.semantics.specs.Context.{has_item}
 use Rattle.columns.specs.Blocks.{AreMoved}
 use Rattle.columns.proofs.InBlock.{has_at, has_item-append, taken}
 

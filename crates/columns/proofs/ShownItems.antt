@@ -6,7 +6,7 @@ use Rattle.std.proofs.lemmas.List.{set-append_left, set-append_right}
 use Rattle.std.proofs.lemmas.Option.{slice_get_within}
 use Rattle.semantics.specs.Ids.{OpId, is_same_id}
 use Rattle.semantics.proofs.Orders.{id_itself, ids_from_test}
-use Rattle.columns.specs.Orders.{has_item}
+use Rattle.semantics.specs.Context.{has_item}
 use Rattle.columns.specs.Blocks.{AreApart, Run, joined, joined_shown}
 use Rattle.columns.proofs.Same.{or_parts, some_is, turned_ids}
 use Rattle.columns.proofs.Flags.{shown_append}

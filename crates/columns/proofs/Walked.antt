@@ -9,9 +9,8 @@ use Rattle.std.proofs.lemmas.Option.{slice_get_within}
 use Rattle.std.proofs.Math.Seq.{drop-cons}
 use Rattle.std.proofs.lemmas.Option.{get_or_from_slice_get}
 use Rattle.semantics.specs.Ids.{OpId, id_cmp, is_same_id}
-use Rattle.semantics.specs.Context.{insert_after, skip}
+use Rattle.semantics.specs.Context.{insert_after, skip, has_item}
 use Rattle.semantics.proofs.Orders.{id_itself}
-use Rattle.columns.specs.Orders.{has_item}
 use Rattle.columns.specs.Blocks.{AreHomes, GoesIn, IsBehind, IsFirstSmaller, Run, StandsAt, items_at, items_before, items_from, joined}
 use Rattle.columns.specs.Blocks.{joined_shown}
 use Rattle.columns.proofs.InBlock.{has_item-append, taken, dropped}

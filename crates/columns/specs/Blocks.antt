@@ -4,9 +4,8 @@ use Rattle.std.specs.Prelude.{drop, Option, Some, None, slice_get}
 use Rattle.std.specs.List.{All, items_where_true}
 use Rattle.std.specs.FinMap.{find}
 use Rattle.semantics.specs.Ids.{OpId, id_cmp, is_smaller_id}
-use Rattle.semantics.specs.Context.{skip, insert_after}
+use Rattle.semantics.specs.Context.{skip, insert_after, has_item}
 use Rattle.columns.specs.Rank.{has_key, keys_of}
-use Rattle.columns.specs.Orders.{has_item}
 use Rattle.columns.specs.declared.walks.Position.{Position}
 
 -- a block
@@ -110,14 +109,14 @@ pub record AreBlocks (runs : List Run) (homes : List (OpId × ℕ)) (last : ℕ)
 
 -- the indices of blocks by their numbers, and for how many more there is room
 pub record Indices : Type 0 where
-  pub indices : List ℕ
+  pub by_number : List ℕ
   pub room : ℕ
 
 -- each block's index stands at its number, and there is no other number
-pub record ArePlaced (runs : List Run) (indices : List ℕ) : Type 0 where
+pub record AreIndexed (runs : List Run) (indices : List ℕ) : Type 0 where
   pub beside : length indices ≡ length runs
   pub within : All (λ k. k < length runs) indices
-  pub placed : (block : ℕ) (r : Run) → slice_get runs block ≡ Some r → slice_get indices r.number ≡ Some block
+  pub indexed : (block : ℕ) (r : Run) → slice_get runs block ≡ Some r → slice_get indices r.number ≡ Some block
 
 -- a block came in at this index: what stood before it stays, and the others stand one further
 pub record AreMovedOn (old : List ℕ) (index : ℕ) (new : List ℕ) : Type 0 where
@@ -127,10 +126,9 @@ pub record AreMovedOn (old : List ℕ) (index : ℕ) (new : List ℕ) : Type 0 w
 
 -- and it has the next number
 pub record IsMadeAt (old : List ℕ) (index : ℕ) (new : List ℕ) : Type 0 where
-  pub long : length new ≡ suc (length old)
-  pub kept : (number k : ℕ) → slice_get old number ≡ Some k → k < index → slice_get new number ≡ Some k
-  pub moved : (number k : ℕ) → slice_get old number ≡ Some k → index ≤ k → slice_get new number ≡ Some (suc k)
-  pub made : slice_get new (length old) ≡ Some index
+  pub moved : List ℕ
+  pub on : AreMovedOn old index moved
+  pub made : new ≡ moved ++ index ∷ []
 
 -- a stands there, and not before
 pub record StandsAt (runs : List Run) (a : OpId) (block index : ℕ) : Type 0 where

@@ -4,7 +4,7 @@ ghost use Rattle.std.specs.Prelude.{◌≡◌, ◌≤◌, ◌<◌, ◌+◌, ℕ,
 ghost use Rattle.std.specs.Prelude.{false, IsTrue, OnOk, OnErr, IfOk};
 ghost use Rattle.std.specs.List.{insert, items_where_true};
 ghost use Rattle.semantics.specs.Ids.{OpId as TheId};
-ghost use Rattle.columns.specs.Blocks.{AreGreater, IsFirstSmaller, IsFloor, IsPositionOf};
+ghost use Rattle.columns.specs.Blocks.{AreApart, AreGreater, IsFirstSmaller, IsFloor, IsPositionOf};
 
 use ids::OpId;
 use std::alloc::{AllocError, Global};
@@ -89,11 +89,15 @@ impl Block {
         self.ids[index]
     }
 
-    /// The index of an item. Looks at each one before it.
-    pub fn position(&self, id: &OpId) -> Option<usize>
+    /// The index of an item. Looks at the one at `near`, and then at each one before it.
+    pub fn position(&self, id: &OpId, near: usize) -> Option<usize>
+        requires { AreApart self.now.items }
         ensures { IsPositionOf id.now self.now.items result }
     {
-        position_in(&self.ids, id)
+        match self.ids.get(near) {
+            Some(other) if other == id => Some(near),
+            _ => position_in(&self.ids, id),
+        }
     }
 
     /// The item at which so many shown ones stand before. Looks at each flag up to there.

@@ -17,6 +17,8 @@ pub struct FieldColumns {
     keys: SortedKeys,
     /// The number of each key, in the order in which the keys were put.
     numbers: Vec<usize>,
+    /// Where the last key went in. What is asked for next is often that one, or goes in behind it.
+    last: usize,
 }
 
 impl Model for FieldColumns {
@@ -43,6 +45,7 @@ impl FieldColumns {
         FieldColumns {
             keys: SortedKeys::new(alloc),
             numbers: Vec::new(alloc),
+            last: 0,
         }
     }
 
@@ -65,12 +68,11 @@ impl FieldColumns {
         )
     }
 
-    /// The number of a key. Binary search.
+    /// The number of a key. Binary search, unless it is the last one that was put.
     pub fn get(&self, key: &Key) -> Option<usize>
         ensures { result ≡ find name_cmp key.now self.now.entries }
     {
-        let mut probes = 0;
-        match self.keys.find(key, &mut probes) {
+        match self.keys.find_near(key, self.last) {
             Ok(position) => Some(self.numbers[self.keys.number(position)]),
             Err(_) => None,
         }
@@ -89,18 +91,19 @@ impl FieldColumns {
         self.numbers.reserve(1)
     }
 
-    /// Puts a key that isn't there yet, with its number. Takes no memory. A binary search and one insert into `Rings`.
+    /// Puts a key that isn't there yet, with its number. Takes no memory. A binary search, unless it goes in behind the last one that
+    /// was put, and three inserts into `Rings`.
     pub fn put(&mut self, key: Key, number: usize)
         requires new { find name_cmp key self.old.entries ≡ None }
         requires room { 0 < self.old.room }
         ensures entries { self.new.entries ≡ put name_cmp key number self.old.entries }
         ensures room { self.old.room ≤ self.new.room + 1 }
     {
-        let mut probes = 0;
-        let Err(position) = self.keys.find(&key, &mut probes) else {
+        let Err(position) = self.keys.find_near(&key, self.last) else {
             unreachable!()
         };
         self.keys.put(position, key);
         self.numbers.push_reserved(number);
+        self.last = position;
     }
 }

@@ -3,6 +3,7 @@
 #![tactic(auto)]
 
 mod block;
+mod block_indices;
 mod by_id;
 mod entry_columns;
 mod field_columns;
@@ -11,7 +12,6 @@ mod held;
 mod list_order;
 mod numbers;
 mod order_blocks;
-mod places;
 mod prefix;
 mod sorted_keys;
 mod walks;

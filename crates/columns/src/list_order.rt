@@ -3,8 +3,7 @@
 ghost use Rattle.std.specs.Prelude.{◌≡◌, ◌≤◌, ◌<◌, ◌+◌, Bool, cond, [], IsTrue, IsFalse, IfOk, OnOk, slice_get};
 ghost use Rattle.std.specs.List.{filter};
 ghost use Rattle.semantics.specs.Ids.{OpId as TheId, is_same_id};
-ghost use Rattle.semantics.specs.Context.{insert_after};
-ghost use Rattle.columns.specs.Orders.{has_item, has_position};
+ghost use Rattle.semantics.specs.Context.{insert_after, has_item, has_position};
 
 use crate::order_blocks::OrderBlocks;
 use ids::OpId;
@@ -45,7 +44,7 @@ impl ListOrder {
     }
 
     /// Makes room for one more item. Cuts the block that the last one went into where that is full, which costs a binary search for
-    /// each item that gets another block.
+    /// each item that gets another block, and a look at each block's index.
     ///
     /// # Errors
     /// `AllocError` if allocation fails.
@@ -68,8 +67,8 @@ impl ListOrder {
     /// Puts a new item after `prev`, or after the head, past each next item with a greater id: the skipping rule of RGA. It isn't
     /// shown yet.
     ///
-    /// Takes no memory. Finds `prev` by a binary search and a walk in one block, and goes past a block of greater items
-    /// by a look at one id. Moves the items behind the new one in its block.
+    /// Takes no memory. Finds `prev` by a binary search and a walk in one block, unless it was inserted last, and goes past a block
+    /// of greater items by a look at one id. Moves the items behind the new one in its block.
     pub fn insert_after(&mut self, prev: Option<OpId>, id: OpId)
         requires prev { IsTrue (has_position prev self.old.items) }
         requires id { IsFalse (has_item id self.old.items) }
@@ -84,7 +83,7 @@ impl ListOrder {
         }
     }
 
-    /// Shows an item, or hides it. A binary search and a walk in one block.
+    /// Shows an item, or hides it. A binary search and a walk in one block, unless the item was inserted last.
     pub fn set_shown(&mut self, id: &OpId, shown: bool)
         requires { IsTrue (has_item id.now self.old.items) }
         ensures items { self.new.items ≡ self.old.items }

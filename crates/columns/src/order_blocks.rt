@@ -5,13 +5,12 @@ ghost use Rattle.std.specs.Prelude.{slice_get};
 ghost use Rattle.std.specs.List.{filter};
 ghost use Rattle.std.specs.FinMap.{find};
 ghost use Rattle.semantics.specs.Ids.{OpId as TheId, id_cmp, is_same_id};
-ghost use Rattle.semantics.specs.Context.{insert_after};
-ghost use Rattle.columns.specs.Orders.{has_item, has_position};
-ghost use Rattle.columns.specs.Blocks.{AreBlocks, AreMoved, ArePlaced, IsSameList, items_at, room_at};
+ghost use Rattle.semantics.specs.Context.{insert_after, has_item, has_position};
+ghost use Rattle.columns.specs.Blocks.{AreBlocks, AreMoved, AreIndexed, IsSameList, items_at, room_at};
 
 use crate::block::Block;
+use crate::block_indices::BlockIndices;
 use crate::numbers::Numbers;
-use crate::places::Places;
 use crate::walks::{Position, behind, find, goes_to, nth_shown, shown_items};
 use ids::OpId;
 use std::alloc::{AllocError, Global};
@@ -31,7 +30,7 @@ pub(crate) struct OrderBlocks {
     /// The number of each item's block.
     homes: Numbers,
     /// The index of each block, by its number.
-    places: Places,
+    indices: BlockIndices,
     /// Where the last item went in. No other block is full.
     last: Position,
 }
@@ -39,7 +38,7 @@ pub(crate) struct OrderBlocks {
 impl Model for OrderBlocks {
     ghost use Rattle.std.specs.Prelude.{min};
     ghost use Rattle.columns.specs.Orders.{Order};
-    ghost use Rattle.columns.specs.Blocks.{AreBlocks, ArePlaced, joined, joined_shown, room_at};
+    ghost use Rattle.columns.specs.Blocks.{AreBlocks, AreIndexed, joined, joined_shown, room_at};
 
     ghost Value = { Order };
 
@@ -49,7 +48,7 @@ impl Model for OrderBlocks {
       room = min o.homes.room (min 1 (room_at o.blocks.items o.last.block));
     } };
 
-    ghost invariant = { λ o. AreBlocks o.blocks.items o.homes.entries o.last.block × ArePlaced o.blocks.items o.places.indices };
+    ghost invariant = { λ o. AreBlocks o.blocks.items o.homes.entries o.last.block × AreIndexed o.blocks.items o.indices.by_number };
 }
 
 impl OrderBlocks {
@@ -61,13 +60,13 @@ impl OrderBlocks {
         OrderBlocks {
             blocks: Vec::new(alloc),
             homes: Numbers::new(alloc),
-            places: Places::new(alloc),
+            indices: BlockIndices::new(alloc),
             last: Position { block: 0, index: 0 },
         }
     }
 
     /// Makes room for one more item. Cuts the block that the last one went into where that is full, which costs a binary search for
-    /// each item that gets another block.
+    /// each item that gets another block, and a look at each block's index.
     ///
     /// # Errors
     /// `AllocError` if allocation fails.
@@ -81,7 +80,7 @@ impl OrderBlocks {
         make_room(
             &mut self.blocks,
             &mut self.homes,
-            &mut self.places,
+            &mut self.indices,
             self.last,
         )
     }
@@ -89,8 +88,8 @@ impl OrderBlocks {
     /// Puts a new item after `prev`, or after the head, past each next item with a greater id: the skipping rule of RGA. It isn't
     /// shown yet.
     ///
-    /// Takes no memory. Finds `prev` by a binary search and a walk in one block, and goes past a block of greater items
-    /// by a look at one id. Moves the items behind the new one in its block.
+    /// Takes no memory. Finds `prev` by a binary search and a walk in one block, unless it was inserted last, and goes past a block
+    /// of greater items by a look at one id. Moves the items behind the new one in its block.
     pub fn insert_after(&mut self, prev: Option<OpId>, id: OpId)
         requires prev { IsTrue (has_position prev self.old.items) }
         requires id { IsFalse (has_item id self.old.items) }
@@ -99,7 +98,13 @@ impl OrderBlocks {
         ensures visible { self.new.visible ≡ self.old.visible }
         ensures room { self.old.room ≤ self.new.room + 1 }
     {
-        let Some(from) = behind(&self.blocks, &self.places, &self.homes, prev) else {
+        let Some(from) = behind(
+            &self.blocks,
+            &self.indices,
+            &self.homes,
+            prev,
+            self.last.index,
+        ) else {
             unreachable!()
         };
         let at = goes_to(&self.blocks, from, &id);
@@ -108,7 +113,7 @@ impl OrderBlocks {
         self.last = at;
     }
 
-    /// Shows an item, or hides it. A binary search and a walk in one block.
+    /// Shows an item, or hides it. A binary search and a walk in one block, unless the item was inserted last.
     pub fn set_shown(&mut self, id: &OpId, shown: bool)
         requires { IsTrue (has_item id.now self.old.items) }
         ensures items { self.new.items ≡ self.old.items }
@@ -117,7 +122,7 @@ impl OrderBlocks {
         ensures room { self.new.room ≡ self.old.room }
     {
         let home = self.homes.get(id).unwrap();
-        let at = find(&self.blocks, &self.places, home, id).unwrap();
+        let at = find(&self.blocks, &self.indices, home, id, self.last.index).unwrap();
         self.blocks[at.block].set_shown(at.index, shown);
     }
 
@@ -154,33 +159,33 @@ impl OrderBlocks {
 fn make_room(
     blocks: &mut Vec<Block>,
     homes: &mut Numbers,
-    places: &mut Places,
+    indices: &mut BlockIndices,
     last: Position,
 ) -> Result<(), AllocError>
     requires blocks { AreBlocks blocks.old.items homes.old.entries last.block }
-    requires placed { ArePlaced blocks.old.items places.old.indices }
+    requires indexed { AreIndexed blocks.old.items indices.old.by_number }
     ensures same { IsSameList blocks.old.items blocks.new.items homes.new.entries last.block }
-    ensures placed { ArePlaced blocks.new.items places.new.indices }
+    ensures indexed { AreIndexed blocks.new.items indices.new.by_number }
     ensures room { OnOk result (0 < room_at blocks.new.items last.block) }
     ensures homes { homes.new.room ≡ homes.old.room }
 {
     if blocks.is_empty() {
-        return open(blocks, places);
+        return open(blocks, indices);
     }
     if blocks[last.block].len() < MOST {
         return reserve_in(blocks, last.block);
     }
-    cut(blocks, homes, places, last)
+    cut(blocks, homes, indices, last)
 }
 
 /// Gives an empty list its first block, with room for an item.
 ///
 /// # Errors
 /// `AllocError` if allocation fails.
-fn open(blocks: &mut Vec<Block>, places: &mut Places) -> Result<(), AllocError>
+fn open(blocks: &mut Vec<Block>, indices: &mut BlockIndices) -> Result<(), AllocError>
     requires none { blocks.old.items ≡ [] }
-    requires placed { ArePlaced blocks.old.items places.old.indices }
-    ensures placed { ArePlaced blocks.new.items places.new.indices }
+    requires indexed { AreIndexed blocks.old.items indices.old.by_number }
+    ensures indexed { AreIndexed blocks.new.items indices.new.by_number }
     ensures same { (homes : List (TheId × ℕ)) (last : ℕ) → AreBlocks blocks.old.items homes last
         → IsSameList blocks.old.items blocks.new.items homes last }
     ensures room { (homes : List (TheId × ℕ)) (last : ℕ) → AreBlocks blocks.old.items homes last
@@ -190,9 +195,9 @@ fn open(blocks: &mut Vec<Block>, places: &mut Places) -> Result<(), AllocError>
     first.reserve_one()?;
     // Most lists are short, so there is room for this block alone.
     blocks.reserve_exact(1)?;
-    places.reserve_one()?;
+    indices.reserve_one()?;
     blocks.push_reserved(first);
-    places.make(0);
+    indices.make(0);
     Ok(())
 }
 
@@ -204,7 +209,7 @@ fn reserve_in(blocks: &mut Vec<Block>, block: usize) -> Result<(), AllocError>
     requires { block < length blocks.old.items }
     ensures same { (homes : List (TheId × ℕ)) → AreBlocks blocks.old.items homes block
         → IsSameList blocks.old.items blocks.new.items homes block }
-    ensures placed { (indices : List ℕ) → ArePlaced blocks.old.items indices → ArePlaced blocks.new.items indices }
+    ensures indexed { (indices : List ℕ) → AreIndexed blocks.old.items indices → AreIndexed blocks.new.items indices }
     ensures room { OnOk result (0 < room_at blocks.new.items block) }
 {
     blocks[block].reserve_one()
@@ -218,27 +223,27 @@ fn reserve_in(blocks: &mut Vec<Block>, block: usize) -> Result<(), AllocError>
 fn cut(
     blocks: &mut Vec<Block>,
     homes: &mut Numbers,
-    places: &mut Places,
+    indices: &mut BlockIndices,
     last: Position,
 ) -> Result<(), AllocError>
     requires blocks { AreBlocks blocks.old.items homes.old.entries last.block }
     requires inside { last.block < length blocks.old.items }
     requires full { 512 ≤ length (items_at blocks.old.items last.block) }
-    requires placed { ArePlaced blocks.old.items places.old.indices }
-    ensures placed { ArePlaced blocks.new.items places.new.indices }
+    requires indexed { AreIndexed blocks.old.items indices.old.by_number }
+    ensures indexed { AreIndexed blocks.new.items indices.new.by_number }
     ensures same { IsSameList blocks.old.items blocks.new.items homes.new.entries last.block }
     ensures room { OnOk result (0 < room_at blocks.new.items last.block) }
     ensures homes { homes.new.room ≡ homes.old.room }
 {
     blocks.reserve(1)?;
-    places.reserve_one()?;
+    indices.reserve_one()?;
     let at = last.index.clamp(MOST / 2, MOST - 1);
     let number = blocks.len();
     let back = blocks[last.block].split_off(at, number)?;
     move_home(homes, &back);
     // There is room, so it isn't refused.
     let _ = blocks.insert(last.block + 1, back);
-    places.make(last.block + 1);
+    indices.make(last.block + 1);
     Ok(())
 }
 

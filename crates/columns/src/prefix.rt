@@ -9,6 +9,17 @@ pub fn prefix_of(name: &[u8]) -> u64
     ensures prefix { result ≡ first_bytes 8 name.now }
     ensures bytes { AreBytes name.now }
 {
+    match name.split_first_chunk::<8>() {
+        Some((bytes, _)) => u64::from_be_bytes(*bytes),
+        None => short_prefix_of(name),
+    }
+}
+
+/// The same of any name, byte by byte.
+fn short_prefix_of(name: &[u8]) -> u64
+    ensures prefix { result ≡ first_bytes 8 name.now }
+    ensures bytes { AreBytes name.now }
+{
     let mut prefix = 0;
     for position in 0..8 {
         prefix = prefix * 256 + u64::from(byte_at(name, position));

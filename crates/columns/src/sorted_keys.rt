@@ -1,10 +1,10 @@
 //! The keys of a map, in byte order.
 
-ghost use Rattle.std.specs.Prelude.{◌≡◌, ◌≤◌, ◌<◌, ◌+◌, ◌^◌, ℕ, [], length, Some, slice_get, slice_index_or, IsTrue, OnOk, MatchResult};
+ghost use Rattle.std.specs.Prelude.{◌≡◌, ◌≤◌, ◌<◌, ◌+◌, ◌^◌, ℕ, [], length, Some, slice_get, slice_index_or, IsTrue, IfSome, OnOk};
 ghost use Rattle.std.specs.List.{insert};
 ghost use Rattle.std.specs.FinMap.{put, is_sorted};
 ghost use Rattle.semantics.specs.Elements.{Name, name_cmp};
-ghost use Rattle.columns.specs.Keys.{AreNumbers, AreOrdered, numbered};
+ghost use Rattle.columns.specs.Keys.{AreNumbers, AreOrdered, Finds, numbered};
 ghost use Rattle.columns.specs.Prefix.{AreBytes, first_bytes};
 ghost use Rattle.columns.specs.Rank.{GoesTo, as_set, rank};
 
@@ -103,14 +103,72 @@ impl SortedKeys {
     /// as many others as their number has binary digits: at most k of fewer than 2 to the k. Each comparison adds 1 to `probes`.
     pub fn find(&self, key: &Key, probes: &mut u64) -> Result<usize, usize>
         requires { probes.old ≤ 18446744073709551551 }
-        ensures position { MatchResult result
-            (λ position. (slice_get self.now.keys position ≡ Some key.now) × (position ≡ rank name_cmp key.now self.now.keys))
-            (GoesTo name_cmp key.now self.now.keys) }
+        ensures position { Finds self.now.keys key.now result }
         ensures few_probes { (k : ℕ) → length self.now.keys < 2 ^ k → probes.new ≤ probes.old + k }
         ensures any_probe { 0 < length self.now.keys → probes.old < probes.new }
         ensures counted { probes.old ≤ probes.new }
     {
         let prefix = prefix_of(key.as_str().as_bytes());
+        self.search(key, prefix, probes)
+    }
+
+    /// What `find` answers. Looks first at the key at `near` and at the next one, which decide where the key is that one, or goes in
+    /// behind it: two comparisons then, and else two more than `find` needs.
+    pub fn find_near(&self, key: &Key, near: usize) -> Result<usize, usize>
+        ensures { Finds self.now.keys key.now result }
+    {
+        let prefix = prefix_of(key.as_str().as_bytes());
+        if let Some(found) = self.look_near(key, prefix, near) {
+            return found;
+        }
+        let mut probes = 0;
+        self.search(key, prefix, &mut probes)
+    }
+
+    /// What the keys at `near` and behind it say of where the key is, of which this is the prefix.
+    fn look_near(&self, key: &Key, prefix: u64, near: usize) -> Option<Result<usize, usize>>
+        requires prefix { prefix ≡ first_bytes 8 key.now }
+        requires bytes { AreBytes key.now }
+        ensures { IfSome result (Finds self.now.keys key.now) }
+    {
+        if near >= self.len() {
+            return None;
+        }
+        match self.compare(key, prefix, near) {
+            Ordering::Less => None,
+            Ordering::Equal => Some(Ok(near)),
+            Ordering::Greater => self.look_behind(key, prefix, near + 1),
+        }
+    }
+
+    /// The same, where the key is greater than the one before `next`.
+    fn look_behind(&self, key: &Key, prefix: u64, next: usize) -> Option<Result<usize, usize>>
+        requires prefix { prefix ≡ first_bytes 8 key.now }
+        requires bytes { AreBytes key.now }
+        requires within { next ≤ length self.now.keys }
+        requires passed { next ≤ rank name_cmp key.now self.now.keys }
+        ensures { IfSome result (Finds self.now.keys key.now) }
+    {
+        if next == self.len() {
+            return Some(Err(next));
+        }
+        match self.compare(key, prefix, next) {
+            Ordering::Less => Some(Err(next)),
+            Ordering::Equal => Some(Ok(next)),
+            Ordering::Greater => None,
+        }
+    }
+
+    /// The search of `find` for a key of which this is the prefix.
+    fn search(&self, key: &Key, prefix: u64, probes: &mut u64) -> Result<usize, usize>
+        requires prefix { prefix ≡ first_bytes 8 key.now }
+        requires bytes { AreBytes key.now }
+        requires few { probes.old ≤ 18446744073709551551 }
+        ensures position { Finds self.now.keys key.now result }
+        ensures few_probes { (k : ℕ) → length self.now.keys < 2 ^ k → probes.new ≤ probes.old + k }
+        ensures any_probe { 0 < length self.now.keys → probes.old < probes.new }
+        ensures counted { probes.old ≤ probes.new }
+    {
         let mut low = 0;
         let mut high = self.len();
         while low < high {

@@ -1,12 +1,12 @@
 //! Walks over the blocks of a list.
 
 ghost use Rattle.std.specs.Prelude.{◌≡◌, ◌<◌, ◌≤◌, ℕ, length, Some, true, false, slice_get, IfOk, MatchOption};
-ghost use Rattle.columns.specs.Orders.{has_item, has_position};
-ghost use Rattle.columns.specs.Blocks.{ArePlaced, AreHomes, GoesIn, IsBehind, IsFound, Run, items_at, joined, joined_shown};
+ghost use Rattle.semantics.specs.Context.{has_item, has_position};
+ghost use Rattle.columns.specs.Blocks.{AreApart, AreIndexed, AreHomes, GoesIn, IsBehind, IsFound, Run, items_at, joined, joined_shown};
 
 use crate::block::Block;
+use crate::block_indices::BlockIndices;
 use crate::numbers::Numbers;
-use crate::places::Places;
 use ids::OpId;
 use std::alloc::{AllocError, Global};
 
@@ -17,33 +17,42 @@ pub(crate) struct Position {
     pub index: usize,
 }
 
-/// The position of an item whose home is this block's number. Looks at the items of that block.
-pub(crate) fn find(blocks: &[Block], places: &Places, home: usize, id: &OpId) -> Option<Position>
-    requires placed { ArePlaced blocks.now places.now.indices }
+/// The position of an item whose home is this block's number. Looks at the item of that block at `near`, and then at the others.
+pub(crate) fn find(
+    blocks: &[Block],
+    indices: &BlockIndices,
+    home: usize,
+    id: &OpId,
+    near: usize,
+) -> Option<Position>
+    requires apart { AreApart (joined blocks.now) }
+    requires indexed { AreIndexed blocks.now indices.now.by_number }
     requires home { (block : ℕ) (r : Run) → slice_get blocks.now block ≡ Some r → has_item id.now r.items ≡ true → r.number ≡ home }
     ensures { IsFound blocks.now id.now result }
 {
-    let block = places.of(home)?;
-    let index = blocks[block].position(id)?;
+    let block = indices.of(home)?;
+    let index = blocks[block].position(id, near)?;
     Some(Position { block, index })
 }
 
-/// The position behind an item, or behind the head, where what goes in after it comes in.
+/// The position behind an item, or behind the head, where what goes in after it comes in. Looks for the item as `find` does.
 pub(crate) fn behind(
     blocks: &[Block],
-    places: &Places,
+    indices: &BlockIndices,
     homes: &Numbers,
     item: Option<OpId>,
+    near: usize,
 ) -> Option<Position>
+    requires apart { AreApart (joined blocks.now) }
     requires homes { AreHomes blocks.now homes.now.entries }
-    requires placed { ArePlaced blocks.now places.now.indices }
+    requires indexed { AreIndexed blocks.now indices.now.by_number }
     ensures { MatchOption result (has_position item (joined blocks.now) ≡ false) (λ at. IsBehind blocks.now item at.block at.index) }
 {
     let Some(id) = item else {
         return Some(Position { block: 0, index: 0 });
     };
     let home = homes.get(&id)?;
-    let at = find(blocks, places, home, &id)?;
+    let at = find(blocks, indices, home, &id, near)?;
     prove!(at.index < blocks[at.block].len());
     Some(Position {
         block: at.block,

@@ -2,7 +2,7 @@
 
 ghost use Rattle.std.specs.Prelude.{◌≡◌, Some, None, MatchOption};
 ghost use Rattle.semantics.specs.Receipts.{IsAnswer};
-ghost use Rattle.items.specs.Meanings.{answer_of, submitted_of};
+ghost use Rattle.items.specs.Meanings.{reply_of, submitted_of};
 
 use items::{Item, Reply};
 use operation::Shared;
@@ -29,7 +29,7 @@ impl<N: EngineName> Model for Answer<N> {
     ghost use Rattle.std.specs.Coded.{codes};
     ghost use Rattle.semantics.specs.Codes.{coded_element};
     ghost use Rattle.semantics.specs.Receipts.{IsAnswer};
-    ghost use Rattle.items.specs.Meanings.{answer_of, submitted_of};
+    ghost use Rattle.items.specs.Meanings.{reply_of, submitted_of};
     ghost use Rattle.command.specs.Answers.{Answered};
 
     ghost Value = { Answered };
@@ -43,7 +43,7 @@ impl<N: EngineName> Model for Answer<N> {
     } };
 
     ghost invariant = { λ a. IfSome a.given
-        (λ g. IsAnswer N.own N.table g.notice (submitted_of N.table a.item) (answer_of g.reply)) };
+        (λ g. IsAnswer N.own N.table g.notice (submitted_of N.table a.item) (reply_of g.reply)) };
 }
 
 impl<N: EngineName> Answer<N> {
@@ -63,7 +63,7 @@ impl<N: EngineName> Answer<N> {
 
     /// Fills in a reply that is legal in the notice's history.
     pub fn fill(&mut self, reply: Reply, notice: Notice<N>)
-        requires { IsAnswer N.own N.table notice (submitted_of N.table self.old.item) (answer_of reply) }
+        requires { IsAnswer N.own N.table notice (submitted_of N.table self.old.item) (reply_of reply) }
         ensures { (self.new.item ≡ self.old.item) × (self.new.given ≡ Some (record { reply = reply; history = notice })) }
     {
         self.given = Some(Given { reply, notice });
@@ -73,7 +73,7 @@ impl<N: EngineName> Answer<N> {
     pub fn given(&self) -> Option<&Given<N>>
         ensures { MatchOption result (self.now.given ≡ None)
             (λ g. (self.now.given ≡ Some (record { reply = g.now.reply; history = g.now.notice }))
-            × IsAnswer N.own N.table g.now.notice (submitted_of N.table self.now.item) (answer_of g.now.reply)) }
+            × IsAnswer N.own N.table g.now.notice (submitted_of N.table self.now.item) (reply_of g.now.reply)) }
     {
         self.given.as_ref()
     }

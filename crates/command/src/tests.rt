@@ -134,7 +134,7 @@ fn serial_taken<N: EngineName, R: Wait>(rt: &R, taker: &mut Taker<N>) -> Option<
 fn envelope<N: EngineName>(alloc: Global, serial: u64) -> Result<Envelope<N>, Refusal>
     ensures { IfOk result (λ e. (e.answer.value.item.client ≡ 0) × (e.answer.value.item.serial ≡ serial)) }
 {
-    let command = Command::Delete(Expr::new(Vec::new(alloc)));
+    let command = Command::Delete(Expr::root(alloc));
     let command = Shared::new(alloc, command)?;
     let item = Item {
         client: 0,

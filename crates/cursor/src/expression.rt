@@ -1,12 +1,16 @@
 //! Expressions, as clients write them.
 
-ghost use Rattle.std.specs.Prelude.{◌≡◌, map};
+ghost use Rattle.std.specs.Prelude.{◌≡◌, ◌⊎◌, ◌<◌, ◌≤◌, ◌++◌, ◌∷◌, [], length, map, IfOk, MatchResult};
 ghost use Rattle.std.specs.Cmp;
 ghost use Rattle.std.specs.Cmp.Lexicographic.{pointwise};
+ghost use Rattle.ids.specs.declared.refusal.Refusal.TheVariants.{NoMemory, KeyTooLong};
+ghost use Rattle.semantics.specs.Limits.{most_key_bytes};
+ghost use Rattle.semantics.specs.Questions.{Get as GetOf, Idx as IdxOf};
 ghost use Rattle.cursor.specs.Equality.{is_same_step, same_expression_equiv, same_step_equiv};
 ghost use Rattle.cursor.specs.Meanings.{step_of};
 
-use std::alloc::AllocError;
+use ids::Refusal;
+use std::alloc::{AllocError, Global};
 use std::marker::Model;
 use value::Key;
 
@@ -48,7 +52,8 @@ impl Eq for Step {
     ghost laws = { Cmp.on_equiv step_of same_step_equiv };
 }
 
-/// The steps from the root to an element. Contracts see the list of steps.
+/// The steps from the root to an element: `Expr::root(alloc).get(alloc, "items")?.idx(1)?` leads to the first visible item of the
+/// list at the key `items`. Contracts see the list of steps.
 #[derive(Debug, Drop)]
 pub struct Expr {
     steps: Vec<Step>,
@@ -68,12 +73,48 @@ impl Model for Expr {
 }
 
 impl Expr {
+    /// The expression of the root, without steps. Takes no memory.
+    pub fn root(alloc: Global) -> Expr
+        ensures { result ≡ [] }
+    {
+        Expr {
+            steps: Vec::new(alloc),
+        }
+    }
+
+    /// One step further: into the map there, to the field with this key.
+    ///
+    /// # Errors
+    /// `KeyTooLong` for a key of more than 256 bytes, else `NoMemory` if allocation fails.
+    pub fn get(mut self, alloc: Global, key: &str) -> Result<Expr, Refusal>
+        ensures { MatchResult result
+            (λ e. (e ≡ self ++ GetOf key.now ∷ []) × (length key.now ≤ most_key_bytes))
+            (λ why. ((why ≡ NoMemory) × (length key.now ≤ most_key_bytes)) ⊎ ((why ≡ KeyTooLong) × (most_key_bytes < length key.now))) }
+    {
+        let key = Key::new(alloc, key)?;
+        self.steps.push(Step::Get(key))?;
+        Ok(self)
+    }
+
+    /// One step further: into the list there, to its head at 0, to its first visible item at 1, and so on.
+    ///
+    /// # Errors
+    /// `AllocError` if allocation fails.
+    pub fn idx(mut self, index: u64) -> Result<Expr, AllocError>
+        ensures { IfOk result (λ e. e ≡ self ++ IdxOf index ∷ []) }
+    {
+        self.steps.push(Step::Idx(index))?;
+        Ok(self)
+    }
+
+    /// The expression of these steps, taken from the root on. Takes no memory.
     pub fn new(steps: Vec<Step>) -> Expr
         ensures { result ≡ map step_of steps.items }
     {
         Expr { steps }
     }
 
+    /// The steps from the root on.
     pub fn steps(&self) -> &[Step]
         ensures { map step_of result.now ≡ self.now }
     {

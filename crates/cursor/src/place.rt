@@ -103,7 +103,10 @@ impl Place {
         self.with_hop(alloc, Hop::Field(key))
     }
 
-    /// The head of the list here, with the errors of `get`.
+    /// The head of the list here.
+    ///
+    /// # Errors
+    /// Those of `get`.
     pub fn head(&self, alloc: Global) -> Result<Place, Refusal>
         ensures { (items : Element → List TheId) → IsUnlessMemory result (step_from items self.now (Idx 0)) }
     {
@@ -114,7 +117,10 @@ impl Place {
         })
     }
 
-    /// The item with this id of the list here, with the errors of `get`.
+    /// The item with this id of the list here.
+    ///
+    /// # Errors
+    /// Those of `get`.
     pub fn item(&self, alloc: Global, id: OpId) -> Result<Place, Refusal>
         ensures { (items : Element → List TheId) (i : ℕ) → slice_get (items (element_of self.now)) i ≡ Some id →
             IsUnlessMemory result (step_from items self.now (Idx (suc i))) }
@@ -122,6 +128,7 @@ impl Place {
         self.with_hop(alloc, Hop::Item(id))
     }
 
+    /// Whether this is the head of a list.
     pub fn is_head(&self) -> bool
         ensures { result ≡ is_head self.now }
     {
@@ -153,6 +160,7 @@ impl Place {
         &self.hops
     }
 
+    /// The last key of the way here, or what stands for it at the root and at a head.
     pub fn last(&self) -> Last<'_>
         ensures { last_key result ≡ last_of self.now }
     {

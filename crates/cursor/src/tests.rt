@@ -263,3 +263,11 @@ fn expressions_keep_their_steps(rt: HostRuntime) -> Result<(), Fail> {
     let copy = expression.clone()?;
     assert_steps(&rt, &copy)
 }
+
+#[test]
+fn expressions_are_made_step_by_step(rt: HostRuntime) -> Result<(), Fail> {
+    let alloc = rt.alloc();
+    assert_eq!(rt; Expr::root(alloc).steps().len(), 0);
+    let expression = Expr::root(alloc).get(alloc, "tête")?.idx(u64::MAX)?;
+    assert_steps(&rt, &expression)
+}

@@ -1,5 +1,5 @@
 -- Lemmas on documents.
-pub mod KeptFacts
+pub mod Consistent
 pub mod MissingOps
 pub mod NamedOfColumns
 pub mod PositionsOfIds

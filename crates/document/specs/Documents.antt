@@ -12,23 +12,23 @@ use Rattle.semantics.specs.LegalAnswer.{Asked, OfDocument, Missing as AskMissing
 use Rattle.value.specs.Meanings.{scalar_of}
 use Rattle.cursor.specs.Meanings.{tag_of}
 use Rattle.operation.specs.Meanings.{stamped_of}
-use Rattle.tree.specs.Trees.{Planted, IsReady, document}
+use Rattle.tree.specs.Trees.{Planted, IsReserved, document}
 use Rattle.document.specs.declared.question.Question.{Question}
 use Rattle.document.specs.declared.question.Question.TheVariants.{Values, Keys, Items, Conflicts, Missing, Vector}
 use Rattle.document.specs.declared.question.Reading.{Reading}
 use Rattle.document.specs.declared.question.Reading.TheVariants as reading
 
 -- a document: the table of replicas, the entries with the newest first, for how many more there is room, and the tree of what they leave
-pub record Kept : Type 0 where
+pub record Contents : Type 0 where
   pub table : List ℕ
   pub entries : List TheEntry
   pub room : ℕ
   pub tree : Planted
 
 -- the operation can be committed with no memory taken
-pub record HasRoomFor (kept : Kept) (s : Stamped) : Type 0 where
-  pub room : 0 < kept.room
-  pub ready : IsReady kept.tree s
+pub record HasRoomFor (contents : Contents) (s : Stamped) : Type 0 where
+  pub room : 0 < contents.room
+  pub reserved : IsReserved contents.tree s
 
 -- the entry's operation may follow the history
 abbrev pub MayFollowEntries : List TheEntry → TheEntry → Type 0
@@ -62,7 +62,7 @@ said_by table (reading.Missing ops) = MissingAre (reverse (map (stamped_of table
 said_by table (reading.Vector v) = Answered (VectorIs (by_table table v))
 
 -- the column has the greatest counter of each replica in a legal history, and the tree holds the history's document
-pub record IsKept (table column : List ℕ) (G : List TheEntry) (t : Planted) : Type 0 where
+pub record IsConsistent (table column : List ℕ) (G : List TheEntry) (t : Planted) : Type 0 where
   pub distinct : AreDistinct table
   pub width : length column ≡ length table
   pub greatest : (p : ℕ) → component table column p ≡ greatest_counter (applied G) p

@@ -11,7 +11,7 @@ ghost use Rattle.semantics.specs.Questions.{answer_at, resolve, Answer, Refused}
 ghost use Rattle.semantics.specs.LegalAnswer.{reading_of, Answered};
 ghost use Rattle.operation.specs.Meanings.{stamped_of};
 ghost use Rattle.tree.specs.Trees.{document};
-ghost use Rattle.document.specs.Documents.{IsBeside, IsKept, asked_of, said_by};
+ghost use Rattle.document.specs.Documents.{IsBeside, IsConsistent, asked_of, said_by};
 
 use crate::question::{Question, Reading};
 use cursor::{ElementPlace, Expr};
@@ -30,7 +30,7 @@ pub fn answer(
     tree: &Tree,
     question: &Question,
 ) -> Result<Reading, Refusal>
-    requires kept { IsKept log.now.table applied.now log.now.entries tree.now }
+    requires kept { IsConsistent log.now.table applied.now log.now.entries tree.now }
     requires beside { IsBeside log.now.table question.now }
     ensures answer { IfOk result (λ r. said_by log.now.table r ≡ reading_of log.now.entries (asked_of log.now.table question.now)) }
     ensures err { IfErr result

@@ -8,7 +8,7 @@ ghost use Rattle.semantics.specs.Stamped.{Stamped, IsLegalStamped};
 ghost use Rattle.semantics.specs.Entries.{applied as operations_in, stamped_of as stamped_entries};
 ghost use Rattle.semantics.specs.Faults.{breaks_chain, fault_of, is_open, names_nothing};
 ghost use Rattle.operation.specs.Meanings.{stamped_of};
-ghost use Rattle.document.specs.Documents.{IsKept};
+ghost use Rattle.document.specs.Documents.{IsConsistent};
 ghost use Rattle.document.specs.Checks.{is_unknown, named_at, opens};
 
 use ids::{OpId, Refusal};
@@ -19,7 +19,7 @@ use version::VersionVector;
 
 /// The first fault of an operation against the history, where the tree holds its document.
 pub fn check(log: &Log, applied: &VersionVector, tree: &Tree, op: &Op) -> Result<(), Refusal>
-    requires kept { IsKept log.now.table applied.now log.now.entries tree.now }
+    requires kept { IsConsistent log.now.table applied.now log.now.entries tree.now }
     requires width { length op.now.deps ≡ length log.now.table }
     ensures { let fault = fault_of (stamped_entries log.now.entries) (stamped_of log.now.table op.now) in
         MatchResult result (λ _. fault ≡ None) (λ why. fault ≡ Some why) }

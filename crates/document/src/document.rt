@@ -44,15 +44,15 @@ pub struct Document {
 impl Model for Document {
     ghost use Rattle.std.specs.Coded.{codes};
     ghost use Rattle.semantics.specs.Codes.{coded_element};
-    ghost use Rattle.document.specs.Documents.{Kept, IsKept};
+    ghost use Rattle.document.specs.Documents.{Contents, IsConsistent};
 
-    ghost Value = { Kept };
+    ghost Value = { Contents };
 
     ghost coded = { Prim.hlevel (codes, coded_element) };
 
     ghost view = { λ d. record { table = d.log.table; entries = d.log.entries; room = d.log.room; tree = d.tree } };
 
-    ghost invariant = { λ d. IsKept d.log.table d.applied d.log.entries d.tree };
+    ghost invariant = { λ d. IsConsistent d.log.table d.applied d.log.entries d.tree };
 }
 
 impl Document {
@@ -78,6 +78,7 @@ impl Document {
         })
     }
 
+    /// The members that each vector is indexed by.
     pub fn table(&self) -> &ReplicaTable
         ensures { result.now ≡ self.now.table }
     {
@@ -130,8 +131,8 @@ impl Document {
     ///
     /// # Errors
     /// In this order: `BrokenChain` where its vector doesn't name all that was applied of its own replica; `NamesNothing` where a
-    /// counter of its vector is that of no applied operation; `NotClosed` where an operation that its vector names has a vector
-    /// that isn't at most this; `BadPlace` where an item of its place was not inserted into that very list.
+    /// counter of its vector that is above 0 is that of no applied operation; `NotClosed` where an operation that its vector names
+    /// has a vector that isn't at most this; `BadPlace` where an item of its place was not inserted into that very list.
     pub fn check(&self, op: &Op) -> Result<(), Refusal>
         requires width { length op.now.deps ≡ length self.now.table }
         ensures fault { let fault = fault_of (stamped_entries self.now.entries) (stamped_of self.now.table op.now) in
@@ -188,7 +189,8 @@ impl Document {
     }
 
     /// The answer to a question: the history's, which for a question to the document is the view of its operations as a set. Copies
-    /// what it returns.
+    /// what it returns. Costs a walk along the expression and what is answered; for keys and items, a look at each that ever stood
+    /// there.
     ///
     /// # Errors
     /// The refusal of the expression: those of `resolve`, and `AtHead` where it leads to a head. The history and the view of its

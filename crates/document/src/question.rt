@@ -6,14 +6,14 @@ use operation::{Op, Shared};
 use value::{Key, Scalar};
 use version::VersionVector;
 
-/// A question to a document.
+/// A question to a document. Where nothing stands, or something of another type, the answer is empty. `peer_sync` asks the last two.
 #[derive(Debug, Drop)]
 pub enum Question {
-    /// For what stands in the register at the element.
+    /// For the values at the element: none, one, or one for each of several concurrent assigns.
     Values(Expr),
-    /// For the keys of the map at the element.
+    /// For the keys of the map at the element. Costs a look at each that ever stood there.
     Keys(Expr),
-    /// For the items of the list at the element.
+    /// For the items of the list at the element. Costs a look at each that ever stood there.
     Items(Expr),
     /// For what stands at the element, and as what.
     Conflicts(Expr),
@@ -23,10 +23,11 @@ pub enum Question {
     Vector,
 }
 
-/// The answer to a question (ANSWER of a script). Vectors are indexed by the document's table.
+/// The answer to a question. Vectors are indexed by the document's table.
 #[derive(Debug, Drop)]
 pub enum Reading {
-    /// The values with the ids of the operations that wrote them, rising by id.
+    /// The values with the ids of the operations that wrote them, rising by id. To show a single one take the last: replicas with the
+    /// same operations take the same.
     Values(Vec<(OpId, Scalar)>),
     /// The keys at which something stands, rising by bytes.
     Keys(Vec<Key>),

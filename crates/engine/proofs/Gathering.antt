@@ -3,12 +3,18 @@ use Rattle.std.proofs.Common.{◌≡◌, ℕ, zero, suc, ◌+◌, Some, List, []
 use Rattle.std.proofs.Common.{append_assoc, arith, length-append}
 use Rattle.std.proofs.lemmas.List.{append-nil}
 use Rattle.std.proofs.lemmas.Option.{slice_get-map}
+use Rattle.std.specs.Prelude.{⊤}
 use Rattle.std.specs.Option.{option_map}
 use Rattle.atomic_table.specs.Seated.{TableId}
 use Rattle.semantics.specs.Entries.{Entry}
 use Rattle.semantics.specs.WorldHistory.{BeginsWith}
 use Rattle.items.specs.declared.item.Item.{Item}
-use Rattle.engine.specs.Clients.{Client, items_by, AreClients, AllBegin}
+use Rattle.engine.specs.Clients.{Client, items_by, AreClients}
+
+-- the history begins with what each of them had seen
+abbrev pub AllBegin : List Entry → List Client → Type 0
+AllBegin G [] = ⊤
+AllBegin G (c ∷ cs) = BeginsWith G c.seen × AllBegin G cs
 
 pub record Gathering (all done rest : List Client) (known : List (List Item)) (queue : TableId) (G : List Entry) : Type 0 where
   pub whole : done ++ rest ≡ all

@@ -3,7 +3,7 @@ use Rattle.std.proofs.Common.{◌≡◌, ◌↔◌, ◌⊎◌, inl, inr, ℕ, �
 use Rattle.std.proofs.Common.{true≢false}
 use Rattle.std.specs.Prelude.{IfErr}
 use Rattle.std.specs.List.{list_all}
-use Rattle.std.proofs.Common.{eqb, ◌||◌, ◌+◌, subst, List, [], ◌∷◌, length}
+use Rattle.std.proofs.Common.{eqb, ◌||◌, subst, List, [], ◌∷◌, length}
 use Rattle.std.proofs.lemmas.Bool.{cases_Bool, eqb-true, leb-true}
 use Rattle.ids.specs.declared.refusal.Refusal.{Refusal}
 use Rattle.ids.specs.declared.refusal.Refusal.TheVariants.{BadConfig, NoMemory}
@@ -13,15 +13,6 @@ use Rattle.ids.specs.Configurations.{Configuration, are_members, is_from_one_to,
 both : (a b : Bool) → (a && b) ≡ true → (a ≡ true) × (b ≡ true)
 both true b h = (refl, h)
 both false b h = absurd (true≢false (sym h))
-
-pub queue_fits : (c : Configuration) → is_within_limits c ≡ true → (0 < c.queue) × (c.queue ≤ 65536)
-queue_fits c h =
-    let t = both _ (is_from_one_to 4294967295 c.serials) h in
-    let u = both _ (is_from_one_to 256 c.batch) t.0 in
-    let v = both _ (is_from_one_to 65536 c.queue) u.0 in
-    let w = both (nat_le 1 c.queue) (nat_le c.queue 65536) v.1 in
-    let low = leb-true 1 c.queue w.0 in
-    (omega (arith, low), leb-true c.queue 65536 w.1)
 
 pub no_memory_alone : {X : Type 0} (r : Result X Refusal) (n : ℕ) → 0 < n → n ≤ 65536 → (r ≡ Err BadConfig) ↔ ((n ≡ 0) ⊎ (65536 < n))
     → IfErr r (λ why. (why ≡ BadConfig) ⊎ (why ≡ NoMemory)) → IfErr r (λ why. why ≡ NoMemory)
@@ -43,8 +34,24 @@ member_above_zero (p ∷ ps) q all m =
     by (inl e) above rest = subst (λ k. nat_le 1 k ≡ true) (eqb-true p q e) above
     by (inr e) above rest = rest (subst (λ b. (b || is_member ps q) ≡ true) e m)
 
-pub own_above_zero : (c : Configuration) → is_within_limits c ≡ true → c.own ≡ 0 → ⊥
-own_above_zero c h none =
+-- n is from 1 to the limit
+abbrev pub IsFromOneTo : ℕ → ℕ → Type 0
+IsFromOneTo limit n = (1 ≤ n) × (n ≤ limit)
+
+from_one_to : (limit n : ℕ) → is_from_one_to limit n ≡ true → IsFromOneTo limit n
+from_one_to limit n h =
+    let parts = both (nat_le 1 n) (nat_le n limit) h in (leb-true 1 n parts.0, leb-true n limit parts.1)
+
+-- what the limits say
+pub record HasLimits (c : Configuration) : Type 0 where
+  pub own : 1 ≤ c.own
+  pub clients : IsFromOneTo 64 c.clients
+  pub readers : IsFromOneTo 64 c.readers
+  pub queue : IsFromOneTo 65536 c.queue
+  pub batch : IsFromOneTo 256 c.batch
+
+pub limits : (c : Configuration) → is_within_limits c ≡ true → HasLimits c
+limits c h =
     let t = both _ (is_from_one_to 4294967295 c.serials) h in
     let u = both _ (is_from_one_to 256 c.batch) t.0 in
     let v = both _ (is_from_one_to 65536 c.queue) u.0 in
@@ -53,24 +60,10 @@ own_above_zero c h none =
     let y = both (are_members c.members) (is_member c.members c.own) x.0 in
     let numbers = both (is_from_one_to 64 (length c.members) && list_all (λ p. nat_le 1 p) c.members) (are_distinct c.members) y.0 in
     let all = both (is_from_one_to 64 (length c.members)) (list_all (λ p. nat_le 1 p) c.members) numbers.0 in
-    let above = leb-true 1 c.own (member_above_zero c.members c.own all.1 y.1) in
-    omega (arith, above, none)
-
-pub seats_fit : (c : Configuration) → is_within_limits c ≡ true → (0 < c.clients + c.readers) × (c.clients + c.readers < 4294967296)
-seats_fit c h =
-    let t = both _ (is_from_one_to 4294967295 c.serials) h in
-    let u = both _ (is_from_one_to 256 c.batch) t.0 in
-    let v = both _ (is_from_one_to 65536 c.queue) u.0 in
-    let w = both _ (is_from_one_to 64 c.readers) v.0 in
-    let x = both _ (is_from_one_to 64 c.clients) w.0 in
-    let readers = both (nat_le 1 c.readers) (nat_le c.readers 64) w.1 in
-    let clients = both (nat_le 1 c.clients) (nat_le c.clients 64) x.1 in
-    let low = leb-true 1 c.clients clients.0 in
-    (omega (arith, low), omega (arith, leb-true c.clients 64 clients.1, leb-true c.readers 64 readers.1))
-
-pub batch_is_positive : (c : Configuration) → is_within_limits c ≡ true → 0 < c.batch
-batch_is_positive c h =
-    let t = both _ (is_from_one_to 4294967295 c.serials) h in
-    let u = both _ (is_from_one_to 256 c.batch) t.0 in
-    let low = leb-true 1 c.batch (both (nat_le 1 c.batch) (nat_le c.batch 256) u.1).0 in
-    omega (arith, low)
+    record {
+      own = leb-true 1 c.own (member_above_zero c.members c.own all.1 y.1);
+      clients = from_one_to 64 c.clients x.1;
+      readers = from_one_to 64 c.readers w.1;
+      queue = from_one_to 65536 c.queue v.1;
+      batch = from_one_to 256 c.batch u.1;
+    }

@@ -2,12 +2,12 @@
 use Rattle.std.proofs.Common.{◌≡◌, ◌<◌, ℕ, List, [], length, refl, sym, ap, subst, arith}
 use Rattle.semantics.specs.Entries.{Entry}
 use Rattle.semantics.specs.Engine.{Handled}
-use Rattle.engine.specs.Turns.{Writer, IsTurn, Ends, Shows, WasEmpty}
+use Rattle.engine.specs.Turns.{Writer, IsTurn, Ends, Shows, MayBeEmpty}
 use Rattle.engine.specs.declared.writer.Step.{Step}
 use Rattle.engine.specs.declared.writer.Step.TheVariants.{Idle, Published, Held}
 
 module _ (table : List ℕ) (w m : Writer) (t : IsTurn table w m.held m) (published : m.published ≡ w.published) (batch : m.batch ≡ w.batch)
-    (early : length m.held < m.batch → WasEmpty m.took) where
+    (early : length m.held < m.batch → MayBeEmpty m.took) where
   -- nothing was done that is to be shown
   pub idle : m.held ≡ [] → m.published ≡ m.handler.replica.entries → 0 < m.batch
       → (hs : List Handled) × IsTurn table w hs m × Ends w hs Idle m
@@ -23,7 +23,15 @@ module _ (table : List ℕ) (w m : Writer) (t : IsTurn table w m.held m) (publis
   shown more (Published n) v s =
       subst (λ (u : Writer). (hs : List Handled) × IsTurn table w hs u × Ends w hs (Published n) u) (sym s.1) (
         m.held,
-        record { rested = t.rested; resumes = t.resumes; runs = t.runs; items = t.items; took = t.took; handled = t.handled },
+        record {
+          rested = t.rested;
+          resumes = t.resumes;
+          runs = t.runs;
+          items = t.items;
+          took = t.took;
+          handled = t.handled;
+          few = t.few;
+        },
         (
           s.0,
           refl,

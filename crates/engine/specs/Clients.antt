@@ -4,7 +4,6 @@ use Rattle.std.specs.Prelude.{slice_get, slice_set}
 use Rattle.atomic_table.specs.Seated.{TableId}
 use Rattle.ids.specs.Configurations.{Configuration}
 use Rattle.semantics.specs.Entries.{Entry}
-use Rattle.semantics.specs.WorldHistory.{BeginsWith}
 use Rattle.items.specs.declared.item.Item.{Item}
 use Rattle.items.specs.declared.item.Reply.{Reply}
 use Rattle.items.specs.declared.item.Request.{Request}
@@ -48,6 +47,7 @@ abbrev pub answer_in : Item → Option Answered → Option Given
 answer_in x None = None
 answer_in x (Some a) = cond (is_same_item a.item x) a.given None
 
+-- what the cell of a serial is known to give to its own item
 abbrev pub answer_of : Keeps → Option Given
 answer_of k = answer_in k.item k.known
 
@@ -77,8 +77,3 @@ pub record IsNewClient (config : Configuration) (c : Client) : Type 0 where
 abbrev pub AreClients : TableId → ℕ → List Client → Type 0
 AreClients queue n [] = ⊤
 AreClients queue n (c ∷ cs) = (c.number ≡ n) × (c.queue ≡ queue) × AreClients queue (n + 1) cs
-
--- the history begins with what each of them had seen
-abbrev pub AllBegin : List Entry → List Client → Type 0
-AllBegin G [] = ⊤
-AllBegin G (c ∷ cs) = BeginsWith G c.seen × AllBegin G cs

@@ -11,7 +11,7 @@ use Rattle.semantics.specs.Publication.{Publication, Holds}
 use Rattle.items.specs.declared.item.Item.{Item}
 use Rattle.items.specs.Meanings.{submitted_of}
 use Rattle.command.specs.declared.hand.Hand.{Hand}
-use Rattle.command.specs.Fifo.{taker_hand, Moment}
+use Rattle.command.specs.Fifo.{taker_hand, IsAllowed}
 use Rattle.engine.specs.declared.writer.Step.{Step}
 use Rattle.engine.specs.declared.writer.Step.TheVariants.{Idle, Published, Held}
 
@@ -44,12 +44,12 @@ pub record IsWriter (own : ℕ) (table : List ℕ) (publication : Publication) (
   pub fits : batch ≤ room
   pub positive : 0 < batch
 
--- when this much had been taken, there was a moment at which the queue was empty
-abbrev pub WasEmpty : List Item → Type 0
-WasEmpty took = (made : ℕ) × (known : List (List Item)) × Moment (taker_hand took made known) []
+-- where these had been taken, the rule allows an empty queue; that the queue was empty isn't said
+abbrev pub MayBeEmpty : List Item → Type 0
+MayBeEmpty took = (made : ℕ) × (known : List (List Item)) × IsAllowed (taker_hand took made known) []
 
--- a step that began with nothing held went on with a drain that had ended early, and then took these items, which it handled one
--- after another, none skipped
+-- a step that began with nothing held went on with a drain that had ended early, and then took these items, at most a batch, which it
+-- handled one after another, none skipped
 pub record IsTurn (table : List ℕ) (w : Writer) (hs : List Handled) (v : Writer) : Type 0 where
   pub rested : Handler
   pub resumes : Resumes w.handler rested
@@ -57,11 +57,12 @@ pub record IsTurn (table : List ℕ) (w : Writer) (hs : List Handled) (v : Write
   pub items : List Item
   pub took : v.took ≡ w.took ++ items
   pub handled : items_of hs ≡ submitted_in table items
+  pub few : length hs ≤ w.batch
 
 -- how such a step ends
 abbrev pub Ends : Writer → List Handled → Step → Writer → Type 0
-Ends w hs Idle v = (hs ≡ []) × (v.held ≡ []) × (v.published ≡ w.published) × (v.published ≡ v.handler.replica.entries) × WasEmpty v.took
-Ends w hs (Published n) v = (n ≡ length hs) × (v.held ≡ []) × (v.published ≡ v.handler.replica.entries) × (n < w.batch → WasEmpty v.took)
+Ends w hs Idle v = (hs ≡ []) × (v.held ≡ []) × (v.published ≡ w.published) × (v.published ≡ v.handler.replica.entries) × MayBeEmpty v.took
+Ends w hs (Published n) v = (n ≡ length hs) × (v.held ≡ []) × (v.published ≡ v.handler.replica.entries) × (n < w.batch → MayBeEmpty v.took)
     × (n ≡ 0 → length w.published < length v.published)
 Ends w hs Held v = (v.held ≡ hs) × (v.published ≡ w.published) × (length hs ≡ 0 → length v.published < length v.handler.replica.entries)
 

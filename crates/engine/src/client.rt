@@ -15,8 +15,8 @@ ghost use Rattle.document.specs.Documents.{IsBeside, asked_of, said_by};
 ghost use Rattle.items.specs.declared.item.Item.{Item as AnItem};
 ghost use Rattle.items.specs.declared.item.Request.{Request as ARequest};
 ghost use Rattle.items.specs.declared.item.Request.TheVariants.{Command as OfCommand, Peer as OfPeer};
-ghost use Rattle.items.specs.Meanings.{answer_of as reply_of, submitted_of};
-ghost use Rattle.command.specs.Fifo.{Moment, sender_hand};
+ghost use Rattle.items.specs.Meanings.{reply_of, submitted_of};
+ghost use Rattle.command.specs.Fifo.{IsAllowed, sender_hand};
 ghost use Rattle.command.specs.Answers.{Given};
 ghost use Rattle.engine.specs.Clients.{IsMine, Polls, items_by, with_request};
 
@@ -94,9 +94,9 @@ impl<N: EngineName> Client<N> {
         }
     }
 
-    /// Submits a command to the writer. The floor is what the client has seen: no answer but BadFloor names a length below it. The
-    /// command is kept once, for as long as the client lives or an entry has it. Waits for the queue. Four allocations, and room for
-    /// the serial, which is kept for good.
+    /// Submits a command to the writer, and returns its ticket: the answer comes by `poll`, after a step. No answer but `BadFloor` names a
+    /// position or a length below what this client has seen at this call. The command is kept once, for as long as the client lives or an
+    /// entry has it. Waits for the queue. Four allocations, and room for the serial, which is kept for good.
     ///
     /// # Errors
     /// `SerialEnd` if all serials are used, else `NoMemory` if allocation fails, else `QueueFull` if the queue was full at one
@@ -111,7 +111,8 @@ impl<N: EngineName> Client<N> {
             (λ t. t ≡ record { replica = self.old.replica; client = self.old.number; serial = length self.old.kept + 1 }) }
         ensures kept { MatchResult result (λ _. self.new ≡ with_request self.old (OfCommand command)) (λ _. self.new ≡ self.old) }
         ensures full { result ≡ Err QueueFull
-            → (items : List AnItem) × (length items ≡ self.old.capacity) × Moment (sender_hand self.old.number (items_by self.old)) items }
+            → (items : List AnItem) × (length items ≡ self.old.capacity)
+            × IsAllowed (sender_hand self.old.number (items_by self.old)) items }
         ensures end { (result ≡ Err SerialEnd) ↔ (self.old.serials ≤ length self.old.kept) }
         ensures err { IfErr result (λ why. (why ≡ SerialEnd) ⊎ (why ≡ NoMemory) ⊎ (why ≡ QueueFull)) }
     {
@@ -120,7 +121,7 @@ impl<N: EngineName> Client<N> {
         self.send(rt, alloc, serial, Request::Command(command))
     }
 
-    /// Submits an operation that a peer sent, as `submit` does a command, which it shares.
+    /// Submits an operation that a peer sent, as `submit` does a command. What is passed is shared, and not copied.
     ///
     /// # Errors
     /// As `submit`.
@@ -134,7 +135,8 @@ impl<N: EngineName> Client<N> {
             (λ t. t ≡ record { replica = self.old.replica; client = self.old.number; serial = length self.old.kept + 1 }) }
         ensures kept { MatchResult result (λ _. self.new ≡ with_request self.old (OfPeer op)) (λ _. self.new ≡ self.old) }
         ensures full { result ≡ Err QueueFull
-            → (items : List AnItem) × (length items ≡ self.old.capacity) × Moment (sender_hand self.old.number (items_by self.old)) items }
+            → (items : List AnItem) × (length items ≡ self.old.capacity)
+            × IsAllowed (sender_hand self.old.number (items_by self.old)) items }
         ensures end { (result ≡ Err SerialEnd) ↔ (self.old.serials ≤ length self.old.kept) }
         ensures err { IfErr result (λ why. (why ≡ SerialEnd) ⊎ (why ≡ NoMemory) ⊎ (why ≡ QueueFull)) }
     {
@@ -171,7 +173,8 @@ impl<N: EngineName> Client<N> {
             (λ t. t ≡ record { replica = self.old.replica; client = self.old.number; serial = length self.old.kept + 1 }) }
         ensures kept { MatchResult result (λ _. self.new ≡ with_request self.old request) (λ _. self.new ≡ self.old) }
         ensures full { result ≡ Err QueueFull
-            → (items : List AnItem) × (length items ≡ self.old.capacity) × Moment (sender_hand self.old.number (items_by self.old)) items }
+            → (items : List AnItem) × (length items ≡ self.old.capacity)
+            × IsAllowed (sender_hand self.old.number (items_by self.old)) items }
         ensures err { IfErr result (λ why. (why ≡ NoMemory) ⊎ (why ≡ QueueFull)) }
     {
         let item = Item {
@@ -218,7 +221,8 @@ impl<N: EngineName> Client<N> {
     }
 
     /// The reply to the ticket's submission once the writer has answered it, else `None`. From then on the client has seen all that was
-    /// published with the answer. Never waits; takes no memory. Linear in the size of what was submitted.
+    /// published with the answer, and the reply stays the same. A ticket that wasn't answered before `close` stays `None`. Never waits;
+    /// takes no memory. Linear in the size of what was submitted.
     ///
     /// # Errors
     /// `Foreign` if the ticket is of another replica number or another client, or of a serial that wasn't taken.

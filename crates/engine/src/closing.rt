@@ -28,6 +28,10 @@ pub struct Final {
 /// Closes the engine of this writer. What is queued, or held and unanswered, is dropped and counted in `left`; operations of peers that
 /// wait for others are dropped too, and come again by an exchange. To leave nothing behind, step until `Idle` before.
 ///
+/// Clients and readers that are still at hand aren't told. From then on `ask`, `hello` and `answer` are refused with `NoReading`, a ticket
+/// that wasn't answered polls `None`, and `submit` and `receive` give tickets until the queue is full, which `left` doesn't count: all of
+/// it for good. So let the threads of clients and readers end before.
+///
 /// `clients` are the engine's clients 0, 1, 2 and so on, as far as they are still at hand; there may be none. The contract says what
 /// became of all that these submitted, and nothing of the others. Waits for readers that still read. Takes no memory, copies nothing,
 /// and is linear in what the clients keep. If a client had seen more than is published, this would wait for good. Nothing lets that

@@ -18,3 +18,11 @@ pub use command::Ticket;
 pub use opening::{Parts, open, prepare};
 pub use published::{EngineName, Notice, Seat as ReaderToken};
 pub use writer::{Step, Writer};
+
+// What else an application names: commands and questions, and what they are answered.
+pub use cursor::{Expr, Step as ExprStep, Tag};
+pub use document::{Question, Reading};
+pub use ids::{Config, OpId, Refusal};
+pub use items::Reply;
+pub use operation::{Command, Entry};
+pub use value::{Key, Scalar, Text, Val};

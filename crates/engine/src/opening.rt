@@ -89,12 +89,13 @@ fn two_documents(alloc: Global, members: &[u32]) -> Result<(Document, Document),
     Ok((first, second))
 }
 
-/// Opens an engine: returns its writer, its clients numbered from 0, and its readers. `N` names the engine: the caller picks it for
-/// these parts, and what carries it is of this engine. If opening is refused halfway the copies are ended again, which needs the
-/// permission to wait, although no reader is there yet to wait for.
+/// Opens an engine: returns its writer, its clients numbered from 0, and its readers, as many of each as the configuration says. `N`
+/// names the engine: the caller picks it for these parts, and what carries it is of this engine. If opening is refused halfway the copies
+/// are ended again, which needs the permission to wait, although no reader is there yet to wait for.
 ///
 /// # Errors
-/// `NoReaderPlace` if the copies have no seat for a reader, which may come without cause; `NoMemory` if allocation fails.
+/// `NoReaderPlace` if the copies have no seat for a reader: no contract says when that is, and tests never met it. `NoMemory` if allocation
+/// fails. The parts are gone then: `prepare` others.
 pub fn open<N: EngineName>(
     rt: &impl Wait,
     alloc: Global,

@@ -12,7 +12,7 @@ ghost use Rattle.items.specs.declared.item.Item.{Item as AnItem};
 ghost use Rattle.items.specs.Meanings.{submitted_of};
 ghost use Rattle.replica.specs.Replicas.{replica_of};
 ghost use Rattle.handling.specs.Meanings.{handler_of};
-ghost use Rattle.engine.specs.Turns.{Ends, IsTurn, Shows, WasEmpty, publication_of, submitted_in};
+ghost use Rattle.engine.specs.Turns.{Ends, IsTurn, Shows, MayBeEmpty, publication_of, submitted_in};
 
 use command::{Envelope, Taker};
 use handling::Handler;
@@ -32,9 +32,10 @@ mod tests;
 pub enum Step {
     /// Nothing was taken, and there was nothing to publish.
     Idle,
-    /// All entries are published, and this many submissions were answered.
+    /// All entries are published, and this many submissions were answered, which may be none.
     Published(usize),
-    /// Allocation failed in the publish. The batch is held whole, and none of it is answered.
+    /// Allocation failed in the publish. The batch is held whole, and none of it is answered. Step again: until then nothing else is
+    /// handled.
     Held,
 }
 
@@ -49,13 +50,13 @@ impl<N: EngineName> Model for Handled<N> {
     ghost use Rattle.std.specs.Coded.{codes};
     ghost use Rattle.semantics.specs.Codes.{coded_element};
     ghost use Rattle.semantics.specs.Engine.{Handled};
-    ghost use Rattle.items.specs.Meanings.{answer_of, submitted_of};
+    ghost use Rattle.items.specs.Meanings.{reply_of, submitted_of};
 
     ghost Value = { Handled };
 
     ghost coded = { Prim.hlevel (codes, coded_element) };
 
-    ghost view = { λ h. record { submitted = submitted_of N.table h.envelope.answer.value.item; reply = answer_of h.reply } };
+    ghost view = { λ h. record { submitted = submitted_of N.table h.envelope.answer.value.item; reply = reply_of h.reply } };
 }
 
 /// The one writer of an engine, which owns the replica. It isn't `Drop`: call `close`.
@@ -133,10 +134,10 @@ impl<N: EngineName> Writer<N> {
         self.handler.replica.dropped()
     }
 
-    /// Goes on with a drain that ended early; takes up to a batch of items and handles them one after another; publishes all
-    /// entries at once; and then answers the items, the oldest first. If a batch is held, publishes and answers that, and does
-    /// nothing else. Waits for the queue and for readers of the copy that is brought up to date. Applies each new entry three times:
-    /// to the replica and to both copies.
+    /// Goes on with the drain of peers' operations that a failed allocation ended early; takes up to a batch of items and handles them
+    /// one after another; publishes all entries at once; and then answers the items, the oldest first. If a batch is held, publishes and
+    /// answers that, and does nothing else. Returns at once where nothing waits. Waits for the queue, and for readers of the copy that is
+    /// brought up to date. Applies each new entry three times: to the replica and to both copies.
     pub fn step(&mut self, rt: &impl Wait, alloc: Global) -> Step
         ensures same { (self.new.queue ≡ self.old.queue) × (self.new.batch ≡ self.old.batch) × (0 < self.new.batch) }
         ensures fresh { length self.old.held ≡ 0
@@ -169,7 +170,7 @@ impl<N: EngineName> Writer<N> {
         ensures same { (self.new.queue ≡ self.old.queue) × (self.new.batch ≡ self.old.batch) × (self.new.published ≡ self.old.published)
             × (0 < self.new.batch) }
         ensures turn { IsTurn N.table self.old self.new.held self.new }
-        ensures early { length self.new.held < self.new.batch → WasEmpty self.new.took }
+        ensures early { length self.new.held < self.new.batch → MayBeEmpty self.new.took }
     {
         self.handler.resume(alloc, &mut self.publisher);
         fill(
@@ -260,7 +261,8 @@ fn fill<N: EngineName>(
     ensures holds { Holds (publication_of N.own N.table publisher.new) (replica_of handler.new.replica) }
     ensures published { publisher.new.published ≡ publisher.old.published }
     ensures room { batch ≤ vec_capacity held.new }
-    ensures early { length held.new.items < batch → WasEmpty (view taker.new.pass).got }
+    ensures few { length held.new.items ≤ batch }
+    ensures early { length held.new.items < batch → MayBeEmpty (view taker.new.pass).got }
 {
     for _ in 0..batch {
         let Some(envelope) = taker.take(rt) else {

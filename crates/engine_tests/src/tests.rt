@@ -7,13 +7,13 @@ mod polls;
 mod refused_memory;
 mod schedules;
 mod threads;
+mod whole_batches;
 
-use cursor::{Expr, Step as Hop};
+use cursor::Expr;
 use engine::*;
 use ids::{Config, Refusal};
 use std::alloc::Global;
 use std::test::Fail;
-use value::Key;
 
 /// An engine of replica 1 among 1, 2 and 3, with two clients and one reader.
 fn config(alloc: Global, queue: u32, batch: u32) -> Result<Config, Fail> {
@@ -30,6 +30,5 @@ fn config(alloc: Global, queue: u32, batch: u32) -> Result<Config, Fail> {
 
 /// The expression for a key of the document.
 fn at(alloc: Global, key: &str) -> Result<Expr, Refusal> {
-    let step = Hop::Get(Key::new(alloc, key)?);
-    Ok(Expr::new(vec![in alloc; step]?))
+    Expr::root(alloc).get(alloc, key)
 }

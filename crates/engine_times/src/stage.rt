@@ -1,6 +1,6 @@
 //! An engine's ends, and what is done with them.
 
-use cursor::{Expr, Step as Hop};
+use cursor::Expr;
 use document::{Question, Reading};
 use engine::{Client, EngineName, ReaderToken, Step, Writer};
 use ids::Refusal;
@@ -9,7 +9,7 @@ use operation::Command;
 use peer_sync::{answer, hello, receive};
 use std::alloc::Global;
 use std::sync::Wait;
-use value::{Key, Scalar, Val};
+use value::{Scalar, Val};
 
 /// An engine with one client and one reader.
 #[derive(Drop)]
@@ -62,8 +62,7 @@ fn assignment(alloc: Global, number: u32) -> Result<Command, Refusal> {
 }
 
 fn place(alloc: Global) -> Result<Expr, Refusal> {
-    let step = Hop::Get(Key::new(alloc, "n")?);
-    Ok(Expr::new(vec![in alloc; step]?))
+    Expr::root(alloc).get(alloc, "n")
 }
 
 /// Reads the value again and again until this many operations are seen. Returns how many were seen, and how often it was read.

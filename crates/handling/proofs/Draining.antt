@@ -1,5 +1,5 @@
 -- A drain each of whose entries is published.
-use Rattle.std.proofs.Common.{◌≡◌, ℕ, suc, min, ◌+◌, ◌≤◌, false, ◌∷◌, length, Some, None, refl, sym, ap, ◌∙◌, subst, arith}
+use Rattle.std.proofs.Common.{◌≡◌, ℕ, ◌+◌, ◌≤◌, false, ◌∷◌, length, Some, None, refl, sym, ap, ◌∙◌, subst, arith}
 use Rattle.semantics.specs.Stamped.{Stamped}
 use Rattle.semantics.specs.Faults.{fault_of}
 use Rattle.semantics.specs.Making.{is_full}
@@ -9,7 +9,7 @@ use Rattle.semantics.specs.Drain.{counted, drain, drain_for, taken_with}
 use Rattle.semantics.proofs.Taken.{taken_running}
 use Rattle.semantics.proofs.Waiting.{ready_first}
 use Rattle.semantics.specs.Publication.{Publication, Holds, with_entry}
-use Rattle.semantics.proofs.HandledAnswers.{IsPart, part}
+use Rattle.semantics.proofs.HandledAnswers.{part}
 use Rattle.replica.specs.Replicas.{next_of}
 use Rattle.replica.proofs.Turns.{appending, count_stays, counted_for, ended, ended_by_count, next_some}
 
@@ -24,22 +24,24 @@ pub record IsUnderWay (r : Replica) (h0 h : Publication) (q : Replica) (least : 
 pub begun : (r : Replica) (h : Publication) → counted r ≡ r → Holds h r → IsUnderWay r h h r 0
 begun r h e k = record { turns = 0; enough = omega arith; after = sym e; holds = k; published = refl }
 
-module _ (r : Replica) (h0 h : Publication) (q : Replica) (least : ℕ) (w : IsUnderWay r h0 h q least) where
+-- a drain that is under way
+module _ {r : Replica} {h0 h : Publication} {q : Replica} {least : ℕ} (w : IsUnderWay r h0 h q least) where
   pub running : IsRunning r → IsRunning q
   running k = (part w.turns r q k w.after).running
 
   -- what is unlawful is dropped
-  pub dropping_on : (t : Replica) (n : ℕ) → IsRunning r → t ≡ counted (drain_for n q) → t.entries ≡ q.entries → IsUnderWay r h0 h t least
-  dropping_on t n k e same =
-      let p = part n q t (running k) e in record {
-        turns = w.turns + n;
+  pub dropping_on : {t : Replica} → IsRunning r → (n : ℕ) × (t ≡ counted (drain_for n q)) × (t.entries ≡ q.entries)
+      → IsUnderWay r h0 h t least
+  dropping_on {t = t} k d =
+      let p = part d.0 q t (running k) d.1 in record {
+        turns = w.turns + d.0;
         enough = omega (arith, w.enough);
-        after = e ∙ counted_for w.turns n r q w.after;
-        holds = record { own = w.holds.own ∙ sym p.own; members = w.holds.members ∙ sym p.members; appended = w.holds.appended ∙ sym same };
+        after = d.1 ∙ counted_for w.turns d.0 r q w.after;
+        holds = record { own = w.holds.own ∙ sym p.own; members = w.holds.members ∙ sym p.members; appended = w.holds.appended ∙ sym d.2 };
         published = w.published;
       }
 
-  module _ (s : Stamped) (next : next_of q ≡ Some s) (faultless : fault_of (stamped_of q.entries) s ≡ None) where
+  module _ {s : Stamped} (next : next_of q ≡ Some s) (faultless : fault_of (stamped_of q.entries) s ≡ None) where
     pub may_follow : IsRunning r → IsEntryHistory h.own (Peer s ∷ h.appended)
     may_follow k =
         let run = running k in

@@ -1,5 +1,5 @@
 -- What a replica makes of a command, as what publishes its entries takes it.
-use Rattle.std.proofs.Common.{◌≡◌, ℕ, Bool, true, false, cond, nat_le, List, [], ◌∷◌, length, Result, Ok, Err, refl, sym, ap, ◌∙◌, subst}
+use Rattle.std.proofs.Common.{◌≡◌, ℕ, Bool, true, false, cond, nat_le, List, [], ◌∷◌, Result, Ok, Err, refl, sym, ap, ◌∙◌, subst}
 use Rattle.ids.specs.declared.refusal.Refusal.{Refusal}
 use Rattle.ids.specs.declared.refusal.Refusal.TheVariants.{HistoryFull}
 use Rattle.semantics.specs.Operations.{Operation}
@@ -7,7 +7,7 @@ use Rattle.semantics.specs.NamedIds.{NamesAll}
 use Rattle.semantics.specs.Stamped.{Stamped, operation_after}
 use Rattle.semantics.specs.Making.{Command, is_full, make}
 use Rattle.semantics.specs.Entries.{Entry, Own, applied, IsAbove, IsEntryHistory}
-use Rattle.semantics.specs.Replica.{Replica, IsRunning, operations}
+use Rattle.semantics.specs.Replica.{Replica, IsRunning}
 use Rattle.semantics.proofs.AppliedVectors.{at-vector_of}
 use Rattle.semantics.proofs.EntryHistories.{length-applied}
 use Rattle.semantics.proofs.HandledItems.{as_stamped}

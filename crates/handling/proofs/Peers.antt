@@ -1,10 +1,10 @@
 -- What the delivery of a peer's operation and the drain after it leave.
-use Rattle.std.proofs.Common.{◌≡◌, inl, inr, ℕ, ◌≤◌, Bool, true, false, nat_lt, length, Result, Ok, Err, is_err, refl, sym, ap, ◌∙◌, subst}
+use Rattle.std.proofs.Common.{◌≡◌, inl, inr, ℕ, ◌≤◌, Bool, true, false, nat_lt, length, Result, Ok, Err, is_err, refl, sym, ap, ◌∙◌}
 use Rattle.std.specs.Prelude.{OnOk}
 use Rattle.std.proofs.lemmas.Bool.{le-ltb}
 use Rattle.ids.specs.declared.refusal.Refusal.{Refusal}
 use Rattle.semantics.specs.Stamped.{Stamped}
-use Rattle.semantics.specs.LegalAnswer.{Request, OfCommand, OfPeer, Submitted, Reply}
+use Rattle.semantics.specs.LegalAnswer.{Request, OfPeer, Submitted, Reply}
 use Rattle.semantics.specs.Replica.{Replica}
 use Rattle.semantics.specs.Delivery.{Delivered, answer_to, deliver}
 use Rattle.semantics.specs.Drain.{counted, drain, drain_for}

@@ -14,7 +14,7 @@ ghost use Rattle.document.specs.Documents.{HasRoomFor};
 ghost use Rattle.replica.specs.Replicas.{IsMade, replica_of};
 ghost use Rattle.semantics.specs.Handling.{Handles, Resumes};
 ghost use Rattle.semantics.specs.Publication.{Holds};
-ghost use Rattle.items.specs.Meanings.{answer_of, received_of, submitted_of};
+ghost use Rattle.items.specs.Meanings.{reply_of, received_of, submitted_of};
 ghost use Rattle.handling.specs.Meanings.{outcome_of, handler_of};
 
 use ids::Refusal;
@@ -64,7 +64,7 @@ impl Handler {
         requires holds { Holds (P.publication publisher.old) (replica_of self.old.replica) }
         requires running { IsRunning (replica_of self.old.replica) }
         requires above { IsAbove item.now.client item.now.serial self.old.replica.document.entries }
-        ensures handled { Handles (handler_of self.old) (submitted_of self.old.replica.document.table item.now) (answer_of result)
+        ensures handled { Handles (handler_of self.old) (submitted_of self.old.replica.document.table item.now) (reply_of result)
             (handler_of self.new) }
         ensures holds { Holds (P.publication publisher.new) (replica_of self.new.replica) }
         ensures published { (P.publication publisher.new).published ≡ (P.publication publisher.old).published }
@@ -95,7 +95,7 @@ impl Handler {
         requires above { IsAbove client serial self.old.replica.document.entries }
         ensures handled { (x : Submitted) → x.client ≡ client → x.serial ≡ serial → x.request ≡ OfCommand (command_of command.now)
             → x.floor ≤ length self.old.replica.document.entries →
-            Handles (handler_of self.old) x (answer_of result) (handler_of self.new) }
+            Handles (handler_of self.old) x (reply_of result) (handler_of self.new) }
         ensures holds { Holds (P.publication publisher.new) (replica_of self.new.replica) }
         ensures published { (P.publication publisher.new).published ≡ (P.publication publisher.old).published }
     {
@@ -117,7 +117,7 @@ impl Handler {
         requires running { IsRunning (replica_of self.old.replica) }
         ensures handled { (x : Submitted) → x.request ≡ OfPeer (received_of self.old.replica.document.table op.now)
             → x.floor ≤ length self.old.replica.document.entries →
-            Handles (handler_of self.old) x (answer_of result) (handler_of self.new) }
+            Handles (handler_of self.old) x (reply_of result) (handler_of self.new) }
         ensures holds { Holds (P.publication publisher.new) (replica_of self.new.replica) }
         ensures published { (P.publication publisher.new).published ≡ (P.publication publisher.old).published }
     {
@@ -145,7 +145,7 @@ fn deliver(replica: &mut Replica, op: &Shared<Op>) -> Result<Delivered, Refusal>
 
 /// The reply to a delivery, for a history that has this length afterwards.
 fn reply_to(answer: Result<Delivered, Refusal>, length: u64) -> Reply
-    ensures { answer_of result ≡ reply_delivered length (outcome_of answer) }
+    ensures { reply_of result ≡ reply_delivered length (outcome_of answer) }
 {
     match answer {
         Ok(Delivered::Kept) => Reply::Kept(length),

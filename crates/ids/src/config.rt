@@ -15,15 +15,16 @@ pub struct Config {
     pub own: u32,
     /// From 1 to 64 distinct replica numbers above 0.
     pub members: Vec<u32>,
-    /// How many clients there are, from 1 to 64.
+    /// How many clients there are, from 1 to 64: one for each thread that submits or receives.
     pub clients: u32,
-    /// How many readers there are, from 1 to 64.
+    /// How many readers there are, from 1 to 64: one for each thread that only reads, or says hello and answers.
     pub readers: u32,
-    /// The capacity of the queue, from 1 to 65,536.
+    /// How many submissions may wait, from 1 to 65,536; one more is refused with `QueueFull`.
     pub queue: u32,
-    /// The most submissions that one step of the writer takes, from 1 to 256.
+    /// The most submissions that one step of the writer takes and publishes, from 1 to 256.
     pub batch: u32,
-    /// How many serials each client has, at least 1.
+    /// How many serials each client has in its whole life, at least 1: a command takes one, and so does each received operation. They
+    /// take no memory: `u32::MAX` unless a bound is wanted.
     pub serials: u32,
 }
 

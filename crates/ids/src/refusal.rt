@@ -6,7 +6,8 @@ use std::alloc::{AllocError, AllocFailed};
 use std::error::Error;
 use std::fmt;
 
-/// Why a call is refused. A refused call leaves its object as it was, unless its documentation says otherwise.
+/// Why a call is refused. A refused call leaves its object as it was, unless its documentation says otherwise. Prints as its number
+/// (`E9`), and by `{:?}` as its name. `docs/RULES.md`, 'Refusals', says what to do then.
 #[derive(Clone, Copy, Debug, PartialEq, Eq)]
 pub enum Refusal {
     /// An allocation failed.
@@ -39,7 +40,7 @@ pub enum Refusal {
     BadCounter = 14,
     /// The own counter of the vector isn't the greatest that was applied.
     BrokenChain = 15,
-    /// A counter in the vector is that of no applied operation.
+    /// A counter in the vector that is above 0 is that of no applied operation.
     NamesNothing = 16,
     /// An operation that the vector names has a vector that isn't at most this.
     NotClosed = 17,
@@ -157,7 +158,7 @@ mod tests {
     }
 
     #[test]
-    fn want_of_memory_is_a_refusal(rt: HostRuntime) {
+    fn a_refused_allocation_is_no_memory(rt: HostRuntime) {
         assert_eq!(rt; Refusal::from(AllocError), Refusal::NoMemory);
     }
 }

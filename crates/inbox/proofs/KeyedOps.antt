@@ -1,7 +1,7 @@
 -- Operations at keys: those of a slab, by a map from ids to its keys.
 use Rattle.std.proofs.Common.{◌≡◌, ◌⊎◌, inl, inr, ℕ, suc, Bool, true, false, not, cond, ◌||◌, List, [], ◌∷◌, length, Some, None, is_some}
-use Rattle.std.proofs.Common.{refl, sym, ap, ◌∙◌, true≢false}
-use Rattle.std.specs.Prelude.{Option}
+use Rattle.std.proofs.Common.{refl, sym, ap, subst, ◌∙◌, true≢false}
+use Rattle.std.specs.Prelude.{IfNone, Option}
 use Rattle.std.specs.List.{filter, cons_option}
 use Rattle.std.specs.declared.cmp.Ordering.{Ordering}
 use Rattle.std.specs.declared.cmp.Ordering.TheVariants.{Less, Equal, Greater}
@@ -76,10 +76,10 @@ pub record IsFound (s : Slab Op) (ops : List Op) (a : OpId) (k : ℕ) : Type 0 w
   pub among : IsAmong op ops
 
 -- at the key that the map has for an id stands the operation with that id
-pub found : (s : Slab Op) (es : List (OpId × ℕ)) (a : OpId) (k : ℕ) → AreAtKeys s es → find id_cmp a es ≡ Some k
+found_at : (s : Slab Op) (es : List (OpId × ℕ)) (a : OpId) (k : ℕ) → AreAtKeys s es → find id_cmp a es ≡ Some k
     → IsFound s (ops_at s es) a k
-found s [] a k h f = cc
-found s (e ∷ es) a k h f = at_test (λ g. found s es a k h.1 g) (is_same_id a e.0) refl f
+found_at s [] a k h f = cc
+found_at s (e ∷ es) a k h f = at_test (λ g. found_at s es a k h.1 g) (is_same_id a e.0) refl f
   where
     at_test : (find id_cmp a es ≡ Some k → IsFound s (ops_at s es) a k) → (t : Bool) → is_same_id a e.0 ≡ t
         → cond t (Some e.1) (find id_cmp a es) ≡ Some k → IsFound s (ops_at s (e ∷ es)) a k
@@ -90,6 +90,19 @@ found s (e ∷ es) a k h f = at_test (λ g. found s es a k h.1 g) (is_same_id a 
     at_test rest false other g =
         let r = rest g in
         rw (ops_at-first s e es h.0.0 h.0.1) (record { op = r.op; at_key = r.at_key; id = r.id; among = inr r.among })
+
+-- these are the operations at the keys
+module _ (s : Slab Op) (es : List (OpId × ℕ)) (ops : List Op) (a : OpId) (h : AreAtKeys s es) (are : ops_at s es ≡ ops) where
+  -- at the key of an id stands one of them
+  pub found : (k : ℕ) → find id_cmp a es ≡ Some k → IsFound s ops a k
+  found k at_key = subst (λ os. IsFound s os a k) are (found_at s es a k h at_key)
+
+  -- an id with no key doesn't wait
+  pub not_found : {X : Type 0} (r : Option X) (table : List ℕ) → find id_cmp a es ≡ None
+      → IfNone r (is_waiting (waiting_in table ops) a ≡ false)
+  not_found None table none =
+      ap (λ os. is_waiting (waiting_in table os) a) (sym are) ∙ waiting-found table s es a h ∙ ap is_some none
+  not_found (Some x) table none = tt
 
 -- ---- what is left
 

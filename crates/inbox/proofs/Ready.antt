@@ -104,58 +104,65 @@ pub all_left : (H : List Operation) (table : List ℕ) (s : Slab Op) (es : List 
     → IsLeft H table s es es
 all_left H table s es h rising = record { first = refl; among = λ o m. m; at_keys = h; rising = rising }
 
-pub drop_at : (es : List (OpId × ℕ)) (i : ℕ) (e : OpId × ℕ) → slice_get es i ≡ Some e → drop i es ≡ e ∷ drop (i + 1) es
+drop_at : (es : List (OpId × ℕ)) (i : ℕ) (e : OpId × ℕ) → slice_get es i ≡ Some e → drop i es ≡ e ∷ drop (i + 1) es
 drop_at es i e h =
     let first : get_or es i e ≡ e = get_or_from_slice_get es i e e h in
     let next : suc i ≡ i + 1 = omega arith in
     drop-cons es i e (slice_get_within es i e h) ∙ (λ j. first j ∷ drop (next j) es)
 
--- what stands at the first key that is left is one of all
-pub next_among : (H : List Operation) (table : List ℕ) (s : Slab Op) (es rest : List (OpId × ℕ)) (e : OpId × ℕ) (o : Op)
-    → IsLeft H table s es (e ∷ rest) → get s e.1 ≡ Some o → IsAmong o (ops_at s es)
-next_among H table s es rest e o l at_key = l.among o (subst (IsAmong o) (sym (ops_at-first s e rest o at_key)) (inl refl))
+-- what is left from this entry on
+module _ (H : List Operation) (table : List ℕ) (s : Slab Op) (es : List (OpId × ℕ)) (i : ℕ) (e : OpId × ℕ)
+    (left : IsLeft H table s es (drop i es)) (there : slice_get es i ≡ Some e) where
+  l : IsLeft H table s es (e ∷ drop (i + 1) es)
+  l = subst (IsLeft H table s es) (drop_at es i e there) left
 
-pub found_ready : (H : List Operation) (table : List ℕ) (s : Slab Op) (es rest : List (OpId × ℕ)) (e : OpId × ℕ) (o : Op)
-    → IsLeft H table s es (e ∷ rest) → get s e.1 ≡ Some o → is_ready H (stamped_of table o) ≡ true
-    → first_ready H (waiting_in table (ops_at s es)) ≡ Some (stamped_of table o)
-found_ready H table s es rest e o l at_key ready =
-    l.first
-    ∙ ap (λ ops. first_ready H (waiting_in table ops)) (ops_at-first s e rest o at_key)
-    ∙ ap (λ b. cond b (Some (stamped_of table o)) (first_ready H (waiting_in table (ops_at s rest)))) ready
+  -- an operation stands at the key
+  pub next_stands : (o : Op) × (get s e.1 ≡ Some o) × (o.id ≡ e.0)
+  next_stands = l.at_keys.0
 
-pub one_less : (H : List Operation) (table : List ℕ) (s : Slab Op) (es rest : List (OpId × ℕ)) (e : OpId × ℕ) (o : Op)
-    → IsLeft H table s es (e ∷ rest) → get s e.1 ≡ Some o → is_ready H (stamped_of table o) ≡ false
-    → IsLeft H table s es rest
-one_less H table s es rest e o l at_key ready =
-    let head = ops_at-first s e rest o at_key in
-    record {
-      first = l.first ∙ ap (λ ops. first_ready H (waiting_in table ops)) head
-          ∙ ap (λ b. cond b (Some (stamped_of table o)) (first_ready H (waiting_in table (ops_at s rest)))) ready;
-      among = λ x m. l.among x (subst (IsAmong x) (sym head) (inr m));
-      at_keys = l.at_keys.1;
-      rising = (and_parts (below_all id_cmp e.0 rest) (is_sorted id_cmp rest) l.rising).1;
-    }
+  -- which is one of all
+  pub next_among : (o : Op) → get s e.1 ≡ Some o → IsAmong o (ops_at s es)
+  next_among o at_key = l.among o (subst (IsAmong o) (sym (ops_at-first s e (drop (i + 1) es) o at_key)) (inl refl))
 
--- where the first that is left is too far ahead, none is ready
-pub none_left : (H : List Operation) (table : List ℕ) (s : Slab Op) (es rest : List (OpId × ℕ)) (e : OpId × ℕ) (lead : ℕ)
-    → IsLeft H table s es (e ∷ rest) → AreAsWide table (ops_at s es) → AreWithin lead (ops_at s es)
-    → greatest_of (λ a. true) H + lead < e.0.counter → first_ready H (waiting_in table (ops_at s es)) ≡ None
-none_left H table s es rest e lead l wide within far =
-    l.first ∙ none_ready H table (ops_at s (e ∷ rest))
-    (λ o m. too_far H table o lead (wide o (l.among o m)) (within o (l.among o m)) (above o m))
-  where
-    above : (o : Op) → IsAmong o (ops_at s (e ∷ rest)) → greatest_of (λ a. true) H + lead < o.id.counter
-    above o m =
-        let here = l.at_keys.0 in
-        elim (subst (IsAmong o) (ops_at-first s e rest here.0 here.1) m) [
-          | inl is ↦
-              let same : o.id.counter ≡ e.0.counter = ap (λ (x : Op). x.id.counter) is ∙ ap (λ (x : OpId). x.counter) here.2 in
-              omega arith
-          | inr there ↦
-              let behind = counters_above s e.0 rest
-              (and_parts (below_all id_cmp e.0 rest) (is_sorted id_cmp rest) l.rising).0 l.at_keys.1 o there in
-              omega arith
-        ]
+  -- where it is ready, it is the first
+  pub found_ready : (o : Op) → get s e.1 ≡ Some o → is_ready H (stamped_of table o) ≡ true
+      → first_ready H (waiting_in table (ops_at s es)) ≡ Some (stamped_of table o)
+  found_ready o at_key ready =
+      l.first
+      ∙ ap (λ ops. first_ready H (waiting_in table ops)) (ops_at-first s e (drop (i + 1) es) o at_key)
+      ∙ ap (λ b. cond b (Some (stamped_of table o)) (first_ready H (waiting_in table (ops_at s (drop (i + 1) es))))) ready
+
+  -- where it isn't, one less is left
+  pub one_less : (o : Op) → get s e.1 ≡ Some o → is_ready H (stamped_of table o) ≡ false → IsLeft H table s es (drop (i + 1) es)
+  one_less o at_key ready =
+      let head = ops_at-first s e (drop (i + 1) es) o at_key in
+      record {
+        first = l.first ∙ ap (λ ops. first_ready H (waiting_in table ops)) head
+            ∙ ap (λ b. cond b (Some (stamped_of table o)) (first_ready H (waiting_in table (ops_at s (drop (i + 1) es))))) ready;
+        among = λ x m. l.among x (subst (IsAmong x) (sym head) (inr m));
+        at_keys = l.at_keys.1;
+        rising = (and_parts (below_all id_cmp e.0 (drop (i + 1) es)) (is_sorted id_cmp (drop (i + 1) es)) l.rising).1;
+      }
+
+  -- where it is too far ahead, none is ready
+  pub none_left : (lead : ℕ) → AreAsWide table (ops_at s es) → AreWithin lead (ops_at s es)
+      → greatest_of (λ a. true) H + lead < e.0.counter → first_ready H (waiting_in table (ops_at s es)) ≡ None
+  none_left lead wide within far =
+      l.first ∙ none_ready H table (ops_at s (e ∷ drop (i + 1) es))
+      (λ o m. too_far H table o lead (wide o (l.among o m)) (within o (l.among o m)) (above o m))
+    where
+      above : (o : Op) → IsAmong o (ops_at s (e ∷ drop (i + 1) es)) → greatest_of (λ a. true) H + lead < o.id.counter
+      above o m =
+          let here = l.at_keys.0 in
+          elim (subst (IsAmong o) (ops_at-first s e (drop (i + 1) es) here.0 here.1) m) [
+            | inl is ↦
+                let same : o.id.counter ≡ e.0.counter = ap (λ (x : Op). x.id.counter) is ∙ ap (λ (x : OpId). x.counter) here.2 in
+                omega arith
+            | inr behind ↦
+                let least = counters_above s e.0 (drop (i + 1) es)
+                (and_parts (below_all id_cmp e.0 (drop (i + 1) es)) (is_sorted id_cmp (drop (i + 1) es)) l.rising).0 l.at_keys.1 o behind in
+                omega arith
+          ]
 
 -- ---- the least ready one
 

@@ -1,7 +1,6 @@
 -- The operations that wait in an inbox.
-use Rattle.std.specs.Prelude.{◌≡◌, ◌≤◌, ◌+◌, ◌-◌, ℕ, Bool, true, false, ⊤, cond, nat_lt, List, [], ◌∷◌, length, map, filter_map, Some, None}
+use Rattle.std.specs.Prelude.{◌≡◌, ◌≤◌, ◌+◌, ℕ, Bool, true, false, ⊤, cond, List, [], ◌∷◌, length, map, filter_map, Some, None}
 use Rattle.ids.specs.declared.refusal.Refusal.TheVariants.{InboxFull}
-use Rattle.semantics.specs.Limits.{most_waiting}
 use Rattle.semantics.specs.Ids.{OpId, is_smaller_id}
 use Rattle.semantics.specs.Operations.{Operation}
 use Rattle.semantics.specs.LegalHistory.{IsAmong}
@@ -9,7 +8,7 @@ use Rattle.semantics.specs.Stamped.{Stamped}
 use Rattle.semantics.specs.Tables.{greatest_in}
 use Rattle.semantics.specs.Faults.{is_ready}
 use Rattle.semantics.specs.Replica.{IsRising}
-use Rattle.semantics.specs.Delivery.{is_waiting}
+use Rattle.semantics.specs.Delivery.{is_crowded, is_waiting}
 use Rattle.semantics.specs.Delivery as delivery
 use Rattle.operation.specs.declared.op.Op.{Op}
 use Rattle.operation.specs.declared.command.Delivered.{Delivered}
@@ -49,10 +48,6 @@ pub record IsLeastReady (H : List Operation) (table : List ℕ) (ops : List Op) 
 abbrev pub AreNotReady : List Operation → List ℕ → List Op → Type 0
 AreNotReady H table ops = (o : Op) → IsAmong o ops → is_ready H (stamped_of table o) ≡ false
 
--- as many wait as may: one more slot is held for what is ready
-abbrev pub is_crowded : Bool → ℕ → Bool
-is_crowded ready n = nat_lt (cond ready most_waiting (most_waiting - 1)) n
-
 -- the answer to what is put where these wait
 abbrev pub answer_to_put : Bool → List Stamped → Stamped → delivery.Delivered
 answer_to_put ready W s = cond (is_waiting W s.id) delivery.Known
@@ -72,7 +67,7 @@ abbrev pub AreWithin : ℕ → List Op → Type 0
 AreWithin n ops = (o : Op) → IsAmong o ops → o.id.counter ≤ greatest_in o.deps + n
 
 -- what an inbox keeps
-pub record IsKept (s : Slab Op) (entries : List (OpId × ℕ)) (lead : ℕ) : Type 0 where
+pub record IsStored (s : Slab Op) (entries : List (OpId × ℕ)) (lead : ℕ) : Type 0 where
   pub at_keys : AreAtKeys s entries
   pub rising : AreRising (ops_at s entries)
   pub within : AreWithin lead (ops_at s entries)

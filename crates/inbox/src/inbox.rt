@@ -5,12 +5,12 @@ ghost use Rattle.ids.specs.declared.refusal.Refusal.TheVariants.{NoMemory};
 ghost use Rattle.semantics.specs.LegalHistory.{IsAmong};
 ghost use Rattle.semantics.specs.Entries.{applied};
 ghost use Rattle.semantics.specs.Faults.{is_ready};
-ghost use Rattle.semantics.specs.Delivery.{Kept as ToBeKept, NotKept, is_waiting, put_waiting};
+ghost use Rattle.semantics.specs.Delivery.{Kept as ToBeKept, NotKept, is_crowded, is_waiting, put_waiting};
 ghost use Rattle.semantics.specs.Drain.{first_ready, without_waiting};
 ghost use Rattle.operation.specs.declared.op.Op.{Op as AnOp};
 ghost use Rattle.operation.specs.declared.command.Delivered.TheVariants.{Kept};
 ghost use Rattle.operation.specs.Meanings.{stamped_of};
-ghost use Rattle.inbox.specs.Inboxes.{answer_to_put, delivered_of, is_crowded, waiting_in, AreAsWide, AreNotReady, AreRising, IsLeastReady};
+ghost use Rattle.inbox.specs.Inboxes.{answer_to_put, delivered_of, waiting_in, AreAsWide, AreNotReady, AreRising, IsLeastReady};
 
 use columns::Numbers;
 use document::Document;
@@ -38,7 +38,7 @@ impl Model for Inbox {
     ghost use Rattle.std.specs.Coded.{codes};
     ghost use Rattle.semantics.specs.Codes.{coded_element};
     ghost use Rattle.operation.specs.declared.op.Op.{Op as AnOp};
-    ghost use Rattle.inbox.specs.Inboxes.{IsKept, ops_at};
+    ghost use Rattle.inbox.specs.Inboxes.{IsStored, ops_at};
 
     ghost Value = { List AnOp };
 
@@ -46,7 +46,7 @@ impl Model for Inbox {
 
     ghost view = { λ w. ops_at w.ops w.keys.entries };
 
-    ghost invariant = { λ w. IsKept w.ops w.keys.entries w.lead };
+    ghost invariant = { λ w. IsStored w.ops w.keys.entries w.lead };
 }
 
 impl Inbox {

@@ -31,8 +31,8 @@ abbrev pub submitted_of : List ℕ → Item → Submitted
 submitted_of table x = record { client = x.client; serial = x.serial; request = request_of table x.request; floor = x.floor }
 
 -- the reply to what was submitted
-abbrev pub answer_of : Reply → TheReply
-answer_of (reply.Made a n) = MadeAs a n
-answer_of (reply.Kept m) = KeptAt m
-answer_of (reply.Known m) = KnownAt m
-answer_of (reply.Refused why m) = NotMade why m
+abbrev pub reply_of : Reply → TheReply
+reply_of (reply.Made a n) = MadeAs a n
+reply_of (reply.Kept m) = KeptAt m
+reply_of (reply.Known m) = KnownAt m
+reply_of (reply.Refused why m) = NotMade why m

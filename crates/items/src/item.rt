@@ -77,7 +77,7 @@ impl Clone for Item {
 pub enum Reply {
     /// The operation of this id is the entry at this position of the history, counted from 0.
     Made(OpId, u64),
-    /// The peer's operation was kept, and applied if it was ready. The history had this length then.
+    /// The peer's operation was new. The drain after its delivery applied it, or it waits. The history had this length then.
     Kept(u64),
     /// The peer's operation was known: applied already, or waiting. The history had this length then.
     Known(u64),

@@ -5,6 +5,7 @@ use Rattle.jdoc.specs.declared.fault.Fault.TheVariants.{Script, CannotRead, BadW
 use Rattle.jdoc.specs.declared.fault.Status.{Status}
 use Rattle.jdoc.specs.declared.fault.Status.TheVariants as status
 
+-- the status of a run that ends by this fault
 abbrev pub status_of : Fault → Status
 status_of (Script (script.BadLine line refusal)) = status.BadInput
 status_of (Script script.NoMemory) = status.NoMemory

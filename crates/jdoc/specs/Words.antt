@@ -18,6 +18,7 @@ use Rattle.jdoc.specs.declared.words.Job.TheVariants.{Run, Bench}
 abbrev pub script_rule : Rule
 script_rule = new_rule (codes "SCRIPT")
 
+-- `run`, and the script that may follow it
 abbrev pub run_app : App
 run_app = with_rule (new_app (codes "run")) script_rule
 
@@ -33,11 +34,13 @@ queue_rule = record (new_rule (codes "queue")) {
   defaults = codes "65536" ∷ [];
 }
 
+-- `bench` with the options that have to be given
 abbrev pub required_app : App
 required_app = with_rule
     (with_rule (with_rule (new_app (codes "bench")) (number_rule (codes "replicas") 16)) (number_rule (codes "writers") 16))
     (number_rule (codes "ops") 4096)
 
+-- `bench` with all its options
 abbrev pub bench_app : App
 bench_app = with_rule required_app queue_rule
 
@@ -45,6 +48,7 @@ bench_app = with_rule required_app queue_rule
 abbrev pub with_settings : Shape → Shape
 with_settings s = record s { no_binary_name = true; subcommand_required = true }
 
+-- the words of the program: `run` or `bench`, each with its own
 abbrev pub jdoc_app : App
 jdoc_app = with_subcommand (with_subcommand (on_top with_settings (new_app (codes "jdoc"))) run_app.top) bench_app.top
 
@@ -75,6 +79,7 @@ abbrev pub IsRefusedBy : List Text → BadWords → Type 0
 IsRefusedBy words (Refused error) = HasKind (fault_of jdoc_app words) error
 IsRefusedBy words OutOfRange = (job : Job) → IsJobOf words job → ⊥
 
+-- memory ran out while the words were read
 abbrev pub IsOutOfMemory : BadWords → Type 0
 IsOutOfMemory (Refused error) = kind_of error ≡ kind.OutOfMemory
 IsOutOfMemory OutOfRange = ⊥

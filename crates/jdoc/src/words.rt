@@ -33,8 +33,8 @@ pub enum BadWords {
     OutOfRange,
 }
 
-ghost use Rattle.jdoc.specs.Words.{IsHelp, IsJobOf, IsNumber, IsOutOfMemory, IsPlanOf, IsRefusedBy, bench_app, jdoc_app, number_rule, queue_rule};
-ghost use Rattle.jdoc.specs.Words.{run_app};
+ghost use Rattle.jdoc.specs.Words.{IsHelp, IsJobOf, IsNumber, IsOutOfMemory, IsPlanOf, IsRefusedBy, bench_app, jdoc_app, number_rule};
+ghost use Rattle.jdoc.specs.Words.{queue_rule, run_app};
 ghost use Rattle.jdoc.specs.declared.words.BadWords.TheVariants.{Refused as RefusedBy};
 
 impl From<Error> for BadWords {

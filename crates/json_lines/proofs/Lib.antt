@@ -1,2 +1,2 @@
-pub mod UnlessMemory
+pub mod OrNoMemory
 pub mod JsonTexts

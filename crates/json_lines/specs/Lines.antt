@@ -12,6 +12,7 @@ abbrev pub lengthened : ℕ → List (List ℕ) → List ℕ → Cut
 lengthened b [] tail = record { lines = []; tail = b ∷ tail }
 lengthened b (l ∷ ls) tail = record { lines = (b ∷ l) ∷ ls; tail = tail }
 
+-- the text at its line feeds
 abbrev pub cut : List ℕ → Cut
 cut [] = record { lines = []; tail = [] }
 cut (b ∷ bs) =

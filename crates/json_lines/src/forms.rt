@@ -3,7 +3,7 @@
 ghost use Rattle.std.specs.Prelude.{◌≡◌, Ok, Err, MatchResult};
 ghost use Rattle.ids.specs.declared.refusal.Refusal.TheVariants.{BadLine};
 ghost use Rattle.serde_json.specs.View.{view, items_view};
-ghost use Rattle.json_lines.specs.Forms.{IsUnlessMemory, json_form, list_form, number_form, phrase_form, text_form};
+ghost use Rattle.json_lines.specs.Forms.{IsOrNoMemory, json_form, list_form, number_form, phrase_form, text_form};
 
 use ids::Refusal;
 use serde_json::Value;
@@ -14,7 +14,7 @@ use std::alloc::Global;
 /// # Errors
 /// `BadLine` if the text is no JSON, or `NoMemory` if allocation fails.
 pub fn json_of(alloc: Global, text: &[u8]) -> Result<Value, Refusal>
-    ensures { MatchResult result (λ v. json_form text.now ≡ Ok (view v)) (λ why. IsUnlessMemory (Err why) (json_form text.now)) }
+    ensures { MatchResult result (λ v. json_form text.now ≡ Ok (view v)) (λ why. IsOrNoMemory (Err why) (json_form text.now)) }
 {
     match Value::from_slice(alloc, text) {
         Ok(value) => Ok(value),
@@ -28,6 +28,9 @@ pub fn json_of(alloc: Global, text: &[u8]) -> Result<Value, Refusal>
 }
 
 /// A list's parts.
+///
+/// # Errors
+/// `BadLine` if it isn't a list.
 pub fn list_in(value: &Value) -> Result<&[Value], Refusal>
     ensures { MatchResult result (λ parts. list_form (view value.now) ≡ Ok (items_view parts.now))
         (λ why. list_form (view value.now) ≡ Err why) }
@@ -39,6 +42,9 @@ pub fn list_in(value: &Value) -> Result<&[Value], Refusal>
 }
 
 /// A list's first word and its other parts.
+///
+/// # Errors
+/// `BadLine` if it isn't a list that begins with a text.
 pub fn phrase_in(value: &Value) -> Result<(&str, &[Value]), Refusal>
     ensures { MatchResult result (λ p. phrase_form (view value.now) ≡ Ok (p.0.now, items_view p.1.now))
         (λ why. phrase_form (view value.now) ≡ Err why) }
@@ -47,6 +53,10 @@ pub fn phrase_in(value: &Value) -> Result<(&str, &[Value]), Refusal>
     Ok((text_in(first)?, others))
 }
 
+/// A text.
+///
+/// # Errors
+/// `BadLine` if it isn't a text.
 pub fn text_in(value: &Value) -> Result<&str, Refusal>
     ensures { MatchResult result (λ text. text_form (view value.now) ≡ Ok text.now) (λ why. text_form (view value.now) ≡ Err why) }
 {
@@ -54,6 +64,9 @@ pub fn text_in(value: &Value) -> Result<&str, Refusal>
 }
 
 /// A whole number from 0 to 18,446,744,073,709,551,615.
+///
+/// # Errors
+/// `BadLine` if it isn't such a number.
 pub fn number_in(value: &Value) -> Result<u64, Refusal>
     ensures { result ≡ number_form (view value.now) }
 {

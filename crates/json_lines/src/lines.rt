@@ -3,6 +3,8 @@
 ghost use Rattle.std.specs.Prelude.{◌≡◌, ◌≢◌, ◌+◌, ◌<◌, ◌^◌, [], length, IfNone, IfSome, MatchOption};
 ghost use Rattle.json_lines.specs.Lines.{HasNoEnd, IsFirstLine};
 
+use memchr::memchr;
+
 /// The byte that ends each line.
 pub const LINE_END: u8 = b'\n';
 
@@ -46,7 +48,7 @@ impl<'a> Lines<'a> {
             (HasNoEnd self.old.rest.now × (self.new.rest.now ≡ self.old.rest.now) × (self.new.taken ≡ self.old.taken)) }
     {
         let rest = self.rest;
-        let end = rest.iter().position(|byte| *byte == LINE_END)?;
+        let end = memchr(LINE_END, rest)?;
         self.rest = &rest[end + 1..];
         self.taken += 1;
         Some(Line {

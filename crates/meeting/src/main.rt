@@ -4,17 +4,15 @@
 ghost use Rattle.std.specs.Prelude.{◌≡◌};
 ghost use Rattle.ids.specs.Members.{in_order};
 
-use cursor::{Expr, Step as ExprStep};
-use document::{Question, Reading};
-use engine::{Client, EngineName, Parts, ReaderToken, Step, Writer, close, open, prepare};
-use ids::{Config, Refusal};
-use operation::Command;
-use peer_sync::{answer, hello, receive};
+use engine::{
+    Client, Command, Config, EngineName, Expr, Parts, Question, ReaderToken, Reading, Refusal,
+    Reply, Scalar, Step, Val, Writer, close, open, prepare,
+};
+use peer_sync::{Received, answer, hello, receive};
 use std::alloc::Global;
 use std::io;
 use std::marker::Brand;
 use std::sync::Wait;
-use value::{Key, Scalar, Text, Val};
 
 fn main(rt: HostRuntime) -> io::Result<()> {
     match meet(&rt, rt.alloc()) {
@@ -22,7 +20,7 @@ fn main(rt: HostRuntime) -> io::Result<()> {
             println!(rt; "Alice reads {alice}")?;
             println!(rt; "Bob reads {bob}")
         }
-        Err(refusal) => println!(rt; "no meeting: {refusal}"),
+        Err(refusal) => println!(rt; "no meeting: {refusal:?}"),
     }
 }
 
@@ -42,7 +40,7 @@ fn configuration(alloc: Global, own: u32) -> Result<Config, Refusal> {
         readers: 1,
         queue: 16,
         batch: 8,
-        serials: 1_000,
+        serials: u32::MAX,
     })
 }
 
@@ -56,17 +54,10 @@ fn open_alice<A: EngineName, R: Wait>(
     requires own { alice.config.own ≡ A.own }
     requires table { in_order alice.config.members ≡ A.table }
 {
-    let (mut writer, mut clients, mut readers) = open::<A>(rt, alloc, alice)?;
-    let read = match (clients.pop(), readers.pop()) {
-        (Some(client), Some(reader)) => {
-            let mut alice = Engine {
-                writer: &mut writer,
-                client,
-                reader,
-            };
-            open_bob::<Brand, A, R>(rt, alloc, &mut alice, bob)
-        }
-        _ => Err(Refusal::NoReaderPlace),
+    let (mut writer, clients, readers) = open::<A>(rt, alloc, alice)?;
+    let read = match engine_of(&mut writer, clients, readers) {
+        Ok(mut alice) => open_bob::<Brand, A, R>(rt, alloc, &mut alice, bob),
+        Err(refusal) => Err(refusal),
     };
     let _history = close(rt, writer, Vec::new(alloc)).history;
     read
@@ -82,20 +73,23 @@ fn open_bob<B: EngineName, A: EngineName, R: Wait>(
     requires own { bob.config.own ≡ B.own }
     requires table { in_order bob.config.members ≡ B.table }
 {
-    let (mut writer, mut clients, mut readers) = open::<B>(rt, alloc, bob)?;
-    let read = match (clients.pop(), readers.pop()) {
-        (Some(client), Some(reader)) => {
-            let mut bob = Engine {
-                writer: &mut writer,
-                client,
-                reader,
-            };
-            edit_and_meet(rt, alloc, alice, &mut bob)
-        }
-        _ => Err(Refusal::NoReaderPlace),
-    };
+    let (mut writer, clients, readers) = open::<B>(rt, alloc, bob)?;
+    let read = with_bob(rt, alloc, alice, &mut writer, clients, readers);
     let _history = close(rt, writer, Vec::new(alloc)).history;
     read
+}
+
+/// What both read, with the ends of Bob's engine.
+fn with_bob<B: EngineName, A: EngineName, R: Wait>(
+    rt: &R,
+    alloc: Global,
+    alice: &mut Engine<A>,
+    writer: &mut Writer<B>,
+    clients: Vec<Client<B>>,
+    readers: Vec<ReaderToken<B>>,
+) -> Result<(String, String), Refusal> {
+    let mut bob = engine_of(writer, clients, readers)?;
+    edit_and_meet(rt, alloc, alice, &mut bob)
 }
 
 /// An engine with one client and one reader, on one thread.
@@ -104,6 +98,21 @@ struct Engine<'a, N: EngineName> {
     writer: &'a mut Writer<N>,
     client: Client<N>,
     reader: ReaderToken<N>,
+}
+
+fn engine_of<'a, N: EngineName>(
+    writer: &'a mut Writer<N>,
+    mut clients: Vec<Client<N>>,
+    mut readers: Vec<ReaderToken<N>>,
+) -> Result<Engine<'a, N>, Refusal> {
+    match (clients.pop(), readers.pop()) {
+        (Some(client), Some(reader)) => Ok(Engine {
+            writer,
+            client,
+            reader,
+        }),
+        _ => Err(Refusal::NoReaderPlace),
+    }
 }
 
 /// Both write at one key before they have seen the other's value. Then each takes what it lacks.
@@ -121,8 +130,7 @@ fn edit_and_meet<A: EngineName, B: EngineName, R: Wait>(
 }
 
 fn title(alloc: Global) -> Result<Expr, Refusal> {
-    let step = ExprStep::Get(Key::new(alloc, "title")?);
-    Ok(Expr::new(vec![in alloc; step]?))
+    Expr::root(alloc).get(alloc, "title")
 }
 
 /// Writes a title.
@@ -132,8 +140,7 @@ fn write<N: EngineName, R: Wait>(
     engine: &mut Engine<N>,
     text: &str,
 ) -> Result<(), Refusal> {
-    let text = Val::Scalar(Scalar::Text(Text::new(alloc, text)?));
-    let command = Command::Assign(title(alloc)?, text);
+    let command = Command::Assign(title(alloc)?, Val::text(alloc, text)?);
     let _ticket = engine.client.submit(rt, alloc, command)?;
     step_all(rt, alloc, engine)
 }
@@ -166,8 +173,23 @@ fn pull<A: EngineName, B: EngineName, R: Wait>(
     let received = receive(rt, alloc, &mut to.client, bundle.as_slice());
     match received.stopped {
         Some((_, refusal)) => Err(refusal),
-        None => step_all(rt, alloc, to),
+        None => {
+            step_all(rt, alloc, to)?;
+            all_taken(to, &received)
+        }
     }
+}
+
+/// Tests that none of the operations that were received was refused.
+fn all_taken<N: EngineName>(engine: &mut Engine<N>, received: &Received) -> Result<(), Refusal> {
+    for number in 0..received.submitted {
+        let serial = received.first_serial.saturating_add(number);
+        let ticket = engine.client.ticket_of(serial)?;
+        if let Some(Reply::Refused(refusal, _)) = engine.client.poll(&ticket)? {
+            return Err(refusal);
+        }
+    }
+    Ok(())
 }
 
 /// The titles, one after another: more than one if writers conflicted.

@@ -10,10 +10,10 @@ use Rattle.semantics.specs.Ids.{OpId, id_at}
 use Rattle.semantics.specs.Operations.{Misplaced, element_of, misplaced}
 use Rattle.semantics.specs.Vectors.{Vector, raise}
 use Rattle.semantics.specs.Tables.{by_table, greatest_in}
-use Rattle.semantics.specs.Faults.{first_failed, alone_fault, is_of_members, has_counter, items_covered, items_of_members}
+use Rattle.semantics.specs.Faults.{first_failed, alone_fault, is_of_members, has_counter, is_next_counter, items_covered, items_of_members}
 use Rattle.semantics.proofs.TableVectors.{greatest-by_table}
 use Rattle.operation.specs.declared.op.Op.{Op}
-use Rattle.operation.specs.Alone.{fault_alone, is_next_counter}
+use Rattle.operation.specs.Alone.{fault_alone}
 use Rattle.operation.specs.Meanings.{mutation_of, stamped_of}
 
 module _ (f : ℕ → Bool) where

@@ -1,9 +1,8 @@
 -- What can be seen of an operation with no history at hand.
-use Rattle.std.specs.Prelude.{ℕ, suc, Bool, true, ◌&&◌, nat_eq, nat_lt, if◌then◌else◌, List, length, Option, Some}
+use Rattle.std.specs.Prelude.{ℕ, Bool, true, nat_eq, if◌then◌else◌, List, length, Option, Some}
 use Rattle.ids.specs.Members.{is_member}
 use Rattle.ids.specs.declared.refusal.Refusal.{Refusal}
 use Rattle.ids.specs.declared.refusal.Refusal.TheVariants.{UnknownReplica}
-use Rattle.semantics.specs.Limits.{most_counter}
 use Rattle.semantics.specs.Vectors.{Vector, covers}
 use Rattle.semantics.specs.Paths.{Key, FieldKey, ItemKey}
 use Rattle.semantics.specs.Faults.{alone_fault}
@@ -13,10 +12,6 @@ use Rattle.operation.specs.Meanings.{stamped_of}
 -- the first fault of an operation alone; one whose vector has another width than the table names unknown replicas
 abbrev pub fault_alone : List ℕ → Op → Option Refusal
 fault_alone table o = if nat_eq (length o.deps) (length table) then alone_fault table (stamped_of table o) else Some UnknownReplica
-
--- the counter is the one after the greatest, and there is one
-abbrev pub is_next_counter : ℕ → ℕ → Bool
-is_next_counter greatest counter = nat_eq counter (suc greatest) && nat_lt greatest most_counter
 
 -- the key is a field's, or that of a member's item
 abbrev pub key_of_member : List ℕ → Key → Bool

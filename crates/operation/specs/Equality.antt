@@ -33,6 +33,7 @@ pub record Counted : Type 0 where
   pub place : Place
   pub mutation : Mutation
 
+-- an operation in memory, as one with counters
 abbrev pub counted_of : Op → Counted
 counted_of o = record { id = o.id; counters = o.deps; place = o.place; mutation = mutation_of o.mutation }
 

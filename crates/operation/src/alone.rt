@@ -3,11 +3,11 @@
 ghost use Rattle.std.specs.Prelude.{◌≡◌, ◌&&◌, None, Some, MatchResult, length};
 ghost use Rattle.ids.specs.Members.{AreDistinct, is_member};
 ghost use Rattle.semantics.specs.Operations.{element_of};
-ghost use Rattle.semantics.specs.Faults.{items_covered, items_of_members};
+ghost use Rattle.semantics.specs.Faults.{is_next_counter, items_covered, items_of_members};
 ghost use Rattle.semantics.specs.Tables.{by_table, greatest_in};
 ghost use Rattle.semantics.specs.Vectors.{at};
 ghost use Rattle.cursor.specs.Meanings.{hop_of};
-ghost use Rattle.operation.specs.Alone.{fault_alone, is_next_counter, key_covered, key_of_member};
+ghost use Rattle.operation.specs.Alone.{fault_alone, key_covered, key_of_member};
 
 use crate::misplaced::Misplaced;
 use crate::op::Op;

@@ -11,14 +11,18 @@ use cursor::Expr;
 use std::alloc::AllocError;
 use value::Val;
 
-/// What a client wants done: a mutation, and the expression of where.
+/// What a client wants done: a mutation, and the expression of where. Each may be refused with `HistoryFull`, `AtHead`, `PastEnd` or
+/// `TooDeep`, in its reply. Maps and lists come into being as a path goes through them.
 #[derive(Debug, Drop)]
 pub enum Command {
-    /// The value is to stand at the element.
+    /// Clears the element, with all beneath it, of what this engine had applied, and writes the value. What a peer wrote at the same
+    /// time stays beside it. So assigning `EmptyMap` or `EmptyList` empties what stands there. Refused with `AtHead` at a head.
     Assign(Expr, Val),
-    /// A new item with the value is to stand after the item, or first where the expression leads to a head.
+    /// Puts a new item with the value after the item, or first where the expression leads to a head. Refused with `NotInList` where it
+    /// leads to neither.
     InsertAfter(Expr, Val),
-    /// The element is to be cleared.
+    /// Clears the element, with all beneath it, as an assign does, and writes nothing. An operation is made of it also where nothing
+    /// stands. Refused with `AtHead` at a head.
     Delete(Expr),
 }
 
@@ -36,10 +40,10 @@ impl Command {
         }
     }
 
-    /// The mutation that the command asks for. Copies the value.
+    /// The mutation that the command asks for. A text is shared.
     ///
     /// # Errors
-    /// `AllocError` if allocation fails, which can happen only for a text.
+    /// `AllocError` if no one more can share the text.
     pub fn mutation(&self) -> Result<Mutation, AllocError>
         ensures { IfOk result (λ m. mutation_of m ≡ (command_of self.now).mutation) }
     {
@@ -107,6 +111,7 @@ impl Entry {
     ghost use Rattle.semantics.specs.Entries.{stamped_in};
     ghost use Rattle.std.specs.Prelude.{ℕ, List};
 
+    /// The operation, whoever made it.
     pub fn op(&self) -> &Shared<Op>
         ensures op { result.now ≡ op_in self.now }
         ensures stamped { (table : List ℕ) → stamped_of table result.now ≡ stamped_in (entry_of table self.now) }

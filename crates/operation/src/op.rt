@@ -26,6 +26,7 @@ impl Mutation {
     ghost use Rattle.semantics.specs.Operations.{is_insert};
     ghost use Rattle.operation.specs.Meanings.{mutation_of};
 
+    /// Whether it is an insert.
     pub fn is_insert(&self) -> bool
         ensures { result ≡ is_insert (mutation_of self.now) }
     {

@@ -372,7 +372,7 @@ fn keeps_first(rt: &impl Abort, alloc: Global, entry: &Entry) -> Result<(), Refu
 #[test]
 fn own_entries_keep_their_operations(rt: HostRuntime) -> Result<(), Fail> {
     let op = first_op(rt.alloc())?;
-    let command = Command::Assign(Expr::new(Vec::new(rt.alloc())), Val::EmptyMap);
+    let command = Command::Assign(Expr::root(rt.alloc()), Val::EmptyMap);
     let own = Entry::Own {
         client: 0,
         serial: 1,

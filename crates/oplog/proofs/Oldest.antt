@@ -5,11 +5,12 @@ use Rattle.std.specs.Option.{option_map}
 use Rattle.std.proofs.lemmas.Bool.{eq-eqb, eqb-true, eqb-false, ne_eqb}
 use Rattle.std.proofs.lemmas.List.{map-append, reverse-append, length-reverse, length-map}
 use Rattle.std.proofs.lemmas.Option.{slice_get-map}
+use Rattle.ids.specs.declared.id.OpId.{OpId}
 use Rattle.semantics.specs.Entries.{Entry as TheEntry, entry_at, stamped_in}
 use Rattle.operation.specs.declared.command.Entry.{Entry}
 use Rattle.operation.specs.declared.command.Entry.TheVariants.{Own, Peer}
 use Rattle.operation.specs.Meanings.{entry_of}
-use Rattle.oplog.specs.Logs.{history, id_in}
+use Rattle.oplog.specs.Logs.{history}
 
 pub reverse-twice : {X : Type 0} (xs : List X) → reverse (reverse xs) ≡ xs
 reverse-twice [] = refl
@@ -51,6 +52,11 @@ history-more table entries e = ap reverse (map-append (entry_of table) entries (
 
 pub history-length : (table : List ℕ) (entries : List Entry) → length (history table entries) ≡ length entries
 history-length table entries = length-reverse (map (entry_of table) entries) ∙ length-map entries (entry_of table)
+
+-- the id of an entry's operation
+abbrev pub id_in : Entry → OpId
+id_in (Own client serial command op) = op.id
+id_in (Peer op) = op.id
 
 pub same-id : (table : List ℕ) (e : Entry) → (stamped_in (entry_of table e)).id ≡ id_in e
 same-id table (Own client serial command op) = refl

@@ -9,7 +9,6 @@ use Rattle.semantics.specs.Ids.{id_cmp, is_same_id}
 use Rattle.semantics.specs.Vectors.{Vector, covers}
 use Rattle.semantics.specs.Entries.{Entry as TheEntry, stamped_in}
 use Rattle.operation.specs.declared.command.Entry.{Entry}
-use Rattle.operation.specs.declared.command.Entry.TheVariants.{Own, Peer}
 use Rattle.columns.specs.Numbered.{Numbered}
 use Rattle.operation.specs.Meanings.{entry_of, op_in}
 
@@ -22,11 +21,6 @@ pub record Logged : Type 0 where
 -- the entries of a list that begins with the oldest
 abbrev pub history : List ℕ → List Entry → List TheEntry
 history table entries = reverse (map (entry_of table) entries)
-
--- the id of an entry's operation
-abbrev pub id_in : Entry → OpId
-id_in (Own client serial command op) = op.id
-id_in (Peer op) = op.id
 
 -- the position of the operation with this id, where the oldest is at 0; the newest where there are several
 abbrev pub position_of : OpId → List TheEntry → Option ℕ

@@ -68,6 +68,7 @@ impl Log {
         })
     }
 
+    /// The members that each vector is indexed by.
     pub fn table(&self) -> &ReplicaTable
         ensures { result.now ≡ self.now.table }
     {

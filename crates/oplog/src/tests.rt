@@ -51,7 +51,7 @@ fn op(alloc: Global, pair: Pair, counters: &[u64; 3]) -> Result<Shared<Op>, Fail
 /// An own entry of client 0.
 fn own(alloc: Global, serial: u64, pair: Pair, counters: &[u64; 3]) -> Result<Entry, Fail> {
     let op = op(alloc, pair, counters)?;
-    let root = Expr::new(Vec::new(alloc));
+    let root = Expr::root(alloc);
     let command = Command::Assign(root, Val::Scalar(Scalar::Whole(7)));
     let command = Shared::new(alloc, command)?;
     Ok(Entry::Own {

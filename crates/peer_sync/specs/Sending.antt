@@ -1,18 +1,12 @@
 -- What an engine sends to a peer, from the entries that its token sees.
-use Rattle.std.specs.Prelude.{ℕ, ◌==◌, if◌then◌else◌, List, [], ◌∷◌, ◌++◌, reverse}
-use Rattle.semantics.specs.Stamped.{Stamped}
-use Rattle.semantics.specs.Vectors.{Vector}
+use Rattle.std.specs.Prelude.{ℕ, ◌==◌, if◌then◌else◌, List, [], ◌∷◌, ◌++◌}
 use Rattle.semantics.specs.NamedIds.{vector_of}
-use Rattle.semantics.specs.Entries.{Entry, applied, missing, stamped_of}
+use Rattle.semantics.specs.Entries.{Entry, applied}
 use Rattle.wire.specs.Messages.{vector_line}
 
 -- a hello: the line of the vector of all that was applied, with its line feed
 abbrev pub hello_text : List Entry → List ℕ
 hello_text G = vector_line (vector_of (applied G)) ++ 10 ∷ []
-
--- the operations that a vector doesn't cover, the oldest first
-abbrev pub lacked : List Entry → Vector → List Stamped
-lacked G v = reverse (missing v (stamped_of G))
 
 -- a line without the line feed that may end it
 abbrev pub without_end : List ℕ → List ℕ

@@ -31,8 +31,10 @@ pub struct Received {
 /// Submits the operations of a bundle, line by line, and stops at the first line that is bad or that the client refuses. What
 /// came before that line stays submitted. The bytes may be of any origin. Waits for the queue, as `Client::deliver`.
 ///
-/// The result's stop is a line's own fault, as `read_op` has it, with `BadLine` for bytes after the last line feed; or a refusal
-/// of `Client::deliver`: `SerialEnd`, `QueueFull`; or `NoMemory` if allocation fails.
+/// The result's stop is a fault of the line itself: `BadLine`, also for bytes after the last line feed, `UnknownReplica`, `TooDeep`,
+/// `KeyTooLong`, `TextTooLong` or `NotWhole`; such a line is refused each time. Or it is a refusal of `Client::deliver`: `QueueFull` (give
+/// what is left once the writer has stepped) or `SerialEnd`; or `NoMemory` if allocation fails (give what is left again). Reads each line
+/// whole before it is judged: bound its length. What becomes of each operation is told by its reply alone.
 pub fn receive<N: EngineName>(
     rt: &impl Wait,
     alloc: Global,

@@ -3,7 +3,7 @@
 ghost use Rattle.std.specs.Prelude.{◌≡◌, ◌⊎◌, IfOk, IfErr, IsTrue, Ok, Err, length, map};
 ghost use Rattle.std.specs.List.{All};
 ghost use Rattle.ids.specs.declared.refusal.Refusal.TheVariants.{NoMemory, NoReading};
-ghost use Rattle.semantics.specs.Entries.{IsEntryHistory, applied};
+ghost use Rattle.semantics.specs.Entries.{IsEntryHistory, applied, lacked_of};
 ghost use Rattle.semantics.specs.NamedIds.{vector_of};
 ghost use Rattle.semantics.specs.Tables.{by_table};
 ghost use Rattle.semantics.specs.Vectors.{Vector};
@@ -12,7 +12,7 @@ ghost use Rattle.operation.specs.Meanings.{stamped_of};
 ghost use Rattle.wire.specs.Bundles.{bundle_form, bundle_text};
 ghost use Rattle.wire.specs.Messages.{hello_form};
 ghost use Rattle.wire.specs.Sent.{CanBeSent, are_counters};
-ghost use Rattle.peer_sync.specs.Sending.{hello_text, lacked, without_end};
+ghost use Rattle.peer_sync.specs.Sending.{hello_text, without_end};
 
 use document::{Question, Reading};
 use engine::{EngineName, ReaderToken};
@@ -22,11 +22,11 @@ use std::alloc::Global;
 use version::VersionVector;
 use wire::{read_vector, write_bundle, write_vector};
 
-/// The line, with its line feed, of the vector of all that the token sees in this read, which it has then seen. Where its
-/// counters are those of the wire, a peer with the same members reads it as that vector.
+/// The line, with its line feed, of the vector of all that the token sees in this read, which it has then seen. Where its counters are
+/// at most 4,611,686,018,427,387,904, as all that an engine makes are, a peer with the same members reads it as that vector.
 ///
 /// # Errors
-/// `NoReading` if the copies gave none, `NoMemory` if allocation fails. The token may then have seen more than before, never
+/// `NoReading` if the copies gave no reading, `NoMemory` if allocation fails. The token may then have seen more than before, never
 /// less.
 pub fn hello<N: EngineName>(alloc: Global, token: &mut ReaderToken<N>) -> Result<Vec<u8>, Refusal>
     ensures grows { BeginsWith token.new.seen token.old.seen }
@@ -66,11 +66,12 @@ fn applied<N: EngineName>(
 
 /// The answer to a hello, which is given with its line feed or without it: the lines, each with its line feed, of the operations that
 /// its vector doesn't cover, the oldest first, of all that the token sees in this one read. The token has then seen that. Where all
-/// names are of members, and all counters those of the wire, a peer with the same members reads the same operations.
+/// names are of members, and all counters as `hello` has them, a peer with the same members reads the same operations. Takes time and
+/// memory in proportion to what is lacked: for the empty vector the whole history as one text.
 ///
 /// # Errors
 /// First those of the hello: `BadLine` if it is no such line, `UnknownReplica` if it names a replica that isn't a member, as
-/// `read_vector` has them; the token is as before then. Then `NoReading` if the copies gave none: the token may have seen more,
+/// `read_vector` has them; the token is as before then. Then `NoReading` if the copies gave no reading: the token may have seen more,
 /// never less. `NoMemory`, at any moment, if allocation fails.
 pub fn answer<N: EngineName>(
     alloc: Global,
@@ -81,10 +82,10 @@ pub fn answer<N: EngineName>(
     ensures legal { IsEntryHistory N.own token.new.seen }
     ensures lines { IfOk result
         (λ text. (v : Vector) × (hello_form N.table (without_end hello.now) ≡ Ok v)
-        × (text.items ≡ bundle_text (lacked token.new.seen v))) }
+        × (text.items ≡ bundle_text (lacked_of token.new.seen v))) }
     ensures reads_back { IfOk result
-        (λ text. (v : Vector) → hello_form N.table (without_end hello.now) ≡ Ok v → All (CanBeSent N.table) (lacked token.new.seen v)
-        → bundle_form N.table text.items ≡ Ok (lacked token.new.seen v)) }
+        (λ text. (v : Vector) → hello_form N.table (without_end hello.now) ≡ Ok v → All (CanBeSent N.table) (lacked_of token.new.seen v)
+        → bundle_form N.table text.items ≡ Ok (lacked_of token.new.seen v)) }
     ensures published { IfOk result (λ _. token.new.read ≡ token.new.seen) }
     ensures err { IfErr result (λ why. (why ≡ NoMemory) ⊎ (why ≡ NoReading) ⊎ (hello_form N.table (without_end hello.now) ≡ Err why)) }
     ensures bad { IfErr (hello_form N.table (without_end hello.now))
@@ -101,7 +102,7 @@ pub fn answer<N: EngineName>(
 /// The operations that the vector doesn't cover, of all that the token sees in this read, the oldest first.
 ///
 /// # Errors
-/// `NoReading` if the copies gave none, `NoMemory` if allocation fails.
+/// `NoReading` if the copies gave no reading, `NoMemory` if allocation fails.
 fn missing<N: EngineName>(
     alloc: Global,
     token: &mut ReaderToken<N>,
@@ -110,7 +111,7 @@ fn missing<N: EngineName>(
     requires { length vector ≡ length N.table }
     ensures grows { BeginsWith token.new.seen token.old.seen }
     ensures legal { IsEntryHistory N.own token.new.seen }
-    ensures ops { IfOk result (λ ops. map (stamped_of N.table) ops.items ≡ lacked token.new.seen (by_table N.table vector)) }
+    ensures ops { IfOk result (λ ops. map (stamped_of N.table) ops.items ≡ lacked_of token.new.seen (by_table N.table vector)) }
     ensures published { IfOk result (λ _. token.new.read ≡ token.new.seen) }
     ensures err { IfErr result (λ why. (why ≡ NoMemory) ⊎ (why ≡ NoReading)) }
 {

@@ -37,6 +37,7 @@ applied_to s w = cond (is_lawful s.table s.entries (op_in w.entry)) (appended_to
 abbrev pub snapshot : Book → List ℕ → List Entry → Snapshot
 snapshot book table log = record { table = table; entries = history table log; log = log; book = book }
 
+-- the view of a reader that last read these entries
 abbrev pub reader_of : List Entry → View
 reader_of read = record { read = read }
 

@@ -12,6 +12,7 @@ pub record Seated : Type 0 where
   pub read : List TheEntry
 
 module _ {T P A : Type 0} where
+  -- what a reader read last; nothing, where there is no reader
   abbrev pub read_of : Option (Reader T View P A) → List Entry
   read_of None = []
   read_of (Some r) = (view r.place).read

@@ -14,9 +14,9 @@ pub struct Law;
 impl Rule<Entry, u64> for Law {
     ghost use Rattle.std.specs.Prelude.{[]};
     ghost use base.Fml.{ftrue};
-    ghost use Rattle.published.specs.Rules.{IsKept};
+    ghost use Rattle.published.specs.Rules.{CountsEntries};
 
-    ghost holds = { λ cells log. IsKept cells log };
+    ghost holds = { λ cells log. CountsEntries cells log };
 
     ghost first = { [] };
 

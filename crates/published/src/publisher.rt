@@ -217,7 +217,8 @@ impl<N: EngineName> Publisher<N> {
     /// Appends the entry, which readers see from the next `publish` on. Amortized O(1); what was appended is never lost.
     ///
     /// # Errors
-    /// `NoMemory` if allocation fails. Nothing was appended then, and the entry is dropped.
+    /// `NoMemory` if allocation fails, or if the history were longer than the publisher knows, which only its own appends make it.
+    /// Nothing was appended then, and the entry is dropped.
     pub fn append(&mut self, entry: Entry) -> Result<(), Refusal>
         requires follows { IsEntryHistory N.own (entry_of N.table entry ∷ self.old.appended) }
         requires room { IsFalse (is_full self.old.appended) }

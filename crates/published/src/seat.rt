@@ -46,8 +46,9 @@ impl<N: EngineName> Outcome<Copy, View> for Sees<N> {
     ghost then = { Sees N.book N.own N.table };
 }
 
-/// A reader of the copies, and the longest history that it has read or learnt of. Contracts see both histories: what it has
-/// seen, and what was published at the step of its last read.
+/// A reader of an engine, for one thread at a time: the `ReaderToken` of `engine`. It takes no lock and never waits, and never sees
+/// less than before. Contracts see two histories: the longest that it has read or learnt of, and what was published at the step of its
+/// last read.
 #[derive(Drop)]
 pub struct Seat<N: EngineName> {
     reader: Option<Reader<Copy, View, Shown<N>>>,
@@ -115,7 +116,7 @@ impl<N: EngineName> Seat<N> {
         self.seen.len() <= point.len()
     }
 
-    /// Learns of a notice: has seen the longer of the two histories from then on. Both are beginnings of one history.
+    /// Learns of a notice: has seen the longer of the two histories from then on. Both are beginnings of one history. Never waits.
     pub fn learn(&mut self, notice: &Notice<N>)
         ensures grows { BeginsWith self.new.seen self.old.seen }
         ensures learns { BeginsWith self.new.seen notice.now }
@@ -129,13 +130,14 @@ impl<N: EngineName> Seat<N> {
         }
     }
 
-    /// Answers a question from the history that is published at the one step of this read, which the seat has then seen.
-    /// Copies what is answered and nothing of the history. The answer is also that of the operations as a set (`view`).
+    /// Answers a question from the history that is published at the one step of this read, which the seat has then seen. Never waits.
+    /// Costs a walk along the expression, and a copy of what is answered; for keys and items a look at each that ever stood there. The
+    /// answer is also that of the operations as a set (`view`). The vector of a question has a counter for each member.
     ///
     /// # Errors
-    /// `AtHead`, `PastEnd` or `TooDeep` as the expression's steps have it: these are answers at that step too. `NoMemory` if
-    /// allocation fails. `NoReading` if the copies gave none that begins with all that the seat has seen. After the last two
-    /// the seat may have seen more, never less.
+    /// `AtHead` for a step from a head, or where the expression ends at one; `PastEnd`; `TooDeep`: these are answers at that step too.
+    /// `NoMemory` if allocation fails. `NoReading` if the copies gave no reading that begins with all that the seat has seen, which is
+    /// always so once the engine is closed. After the last two the seat may have seen more, never less.
     pub fn ask(&mut self, alloc: Global, question: &Question) -> Result<Reading, Refusal>
         requires { IsBeside N.table question.now }
         ensures grows { BeginsWith self.new.seen self.old.seen }

@@ -11,7 +11,7 @@ use Rattle.semantics.proofs.Taken.{taken_running}
 use Rattle.semantics.proofs.Waiting.{without_one}
 use Rattle.operation.specs.declared.op.Op.{Op}
 use Rattle.operation.specs.Meanings.{stamped_of}
-use Rattle.document.specs.Documents.{Kept}
+use Rattle.document.specs.Documents.{Contents}
 use Rattle.inbox.specs.Inboxes.{StandAlone, waiting_in}
 use Rattle.replica.specs.Replicas.{Running, IsReplica, replica_of}
 use Rattle.replica.specs.Turns.{IsDropped}
@@ -38,7 +38,7 @@ none_dropped r h = record {
     all = let c = h.count in omega arith
 
 -- what is reserved changes nothing of it
-pub reserved : (r q : Running) → IsDropping r q → (k : Kept) → k.table ≡ q.document.table → k.entries ≡ q.document.entries
+pub reserved : (r q : Running) → IsDropping r q → (k : Contents) → k.table ≡ q.document.table → k.entries ≡ q.document.entries
     → IsDropping r (record q { document = k })
 reserved r q d k table entries = record {
   turns = d.turns;

@@ -5,7 +5,7 @@ use Rattle.semantics.specs.LegalHistory.{has_id, IsAmong}
 use Rattle.semantics.specs.Stamped.{Stamped}
 use Rattle.semantics.specs.Faults.{alone_fault}
 use Rattle.semantics.specs.Replica.{Replica, IsRunning, operations}
-use Rattle.semantics.specs.Delivery.{Kept as IsKept, Known, answer_after, deliver, is_waiting, kept_by, put_waiting}
+use Rattle.semantics.specs.Delivery.{Kept as IsKept, Known, answer_after, answer_to_new, deliver, is_waiting, kept_by, put_waiting}
 use Rattle.semantics.proofs.Delivered.{delivered}
 use Rattle.operation.specs.declared.op.Op.{Op}
 use Rattle.operation.specs.declared.command.Delivered.{Delivered}
@@ -14,7 +14,7 @@ use Rattle.operation.specs.Alone.{fault_alone}
 use Rattle.operation.specs.Meanings.{stamped_of}
 use Rattle.operation.proofs.PassedAlone.{alone}
 use Rattle.inbox.specs.Inboxes.{waiting_in}
-use Rattle.replica.specs.Replicas.{Running, IsReplica, answer_to_new, replica_of}
+use Rattle.replica.specs.Replicas.{Running, IsReplica, replica_of}
 
 -- an operation that passed all tests is kept
 passed : (r : Replica) (s : Stamped) → alone_fault r.members s ≡ None → has_id (operations r) s.id ≡ false

@@ -1,11 +1,10 @@
 -- What leaves the inbox of a replica, and what the replica holds then.
-use Rattle.std.proofs.Common.{◌≡◌, ◌∷◌, inl, inr, ℕ, true, List, [], Some, None, sym, ap, ◌∙◌, subst, true≢false}
+use Rattle.std.proofs.Common.{◌≡◌, ◌∷◌, inl, inr, ℕ, true, List, [], Some, sym, ap, ◌∙◌, subst, true≢false}
 use Rattle.std.proofs.lemmas.Bool.{or_left, or_right}
 use Rattle.ids.specs.Members.{is_member}
 use Rattle.semantics.specs.Ids.{OpId, is_same_id, is_smaller_id}
 use Rattle.semantics.specs.LegalHistory.{IsAmong}
 use Rattle.semantics.specs.Stamped.{Stamped, MayFollow}
-use Rattle.semantics.specs.Faults.{fault_of}
 use Rattle.semantics.specs.Entries.{Peer, applied, stamped_of as stamped_entries}
 use Rattle.semantics.specs.Replica.{IsRunning, IsRising, operations}
 use Rattle.semantics.specs.Delivery.{is_waiting}
@@ -18,7 +17,7 @@ use Rattle.semantics.proofs.Taken.{taken_running}
 use Rattle.semantics.proofs.Waiting.{ready_first}
 use Rattle.operation.specs.declared.op.Op.{Op}
 use Rattle.operation.specs.Meanings.{stamped_of}
-use Rattle.document.specs.Documents.{Kept}
+use Rattle.document.specs.Documents.{Contents, HasRoomFor}
 use Rattle.inbox.specs.Inboxes.{StandAlone, waiting_in}
 use Rattle.inbox.proofs.Ready.{among_stamped}
 use Rattle.replica.specs.Replicas.{Running, IsReplica, IsNextReady, next_of, replica_of}
@@ -41,55 +40,72 @@ waits_once (x ∷ W) s t h (inl m) (inr n) e = absurd (not_smaller x.id t.id (ap
 waits_once (x ∷ W) s t h (inr m) (inl n) e = absurd (not_smaller x.id s.id (ap (λ (y : Stamped). y.id) (sym n) ∙ sym e) (h.0 s m))
 waits_once (x ∷ W) s t h (inr m) (inr n) e = waits_once W s t h.1 m n e
 
-module _ (r : Running) (s : Stamped) (h : IsReplica r) (next : next_of (replica_of r) ≡ Some s) where
-  abbrev W : List Stamped
-  W = waiting_in r.document.table r.waiting
-
-  -- the next one is among what waits
-  pub next_among : IsAmong s W
-  next_among = (ready_first (operations (replica_of r)) W h.running.rising s (next_some (replica_of r) s next).1).0
-
-  pub next_waits : (a : OpId) → s.id ≡ a → is_waiting W a ≡ true
-  next_waits a e = subst (λ a. is_waiting W a ≡ true) e (waits W s next_among)
-
-  -- what has its id is that
-  pub has_its_id : (a : OpId) → s.id ≡ a → (o : Op) → o.id ≡ a → IsAmong o r.waiting → stamped_of r.document.table o ≡ s
-  has_its_id a e o f m = waits_once W (stamped_of r.document.table o) s h.running.rising
-      (among_stamped r.document.table r.waiting o m) next_among (f ∙ sym e)
-
-  -- it may follow, where it has no fault
-  pub next_may_follow : fault_of (stamped_entries r.document.entries) s ≡ None → MayFollow (applied r.document.entries) s
-  next_may_follow = follows_without_fault (stamped_entries r.document.entries) s (entries_legal r.own r.document.entries h.running.history)
-      (h.running.alone s next_among)
-
--- the next ready one of a replica is that of the same
-pub kept_ready : (s : Stamped) (r q : Running) → r ≡ q → IsNextReady q s → IsNextReady r s
-kept_ready s r q e h = subst (λ r. IsNextReady r s) (sym e) h
+-- the next one is among what waits
+pub next_among : (r : Running) (s : Stamped) → IsReplica r → next_of (replica_of r) ≡ Some s
+    → IsAmong s (waiting_in r.document.table r.waiting)
+next_among r s h next = (ready_first (operations (replica_of r)) (waiting_in r.document.table r.waiting) h.running.rising s
+    (next_some (replica_of r) s next).1).0
 
 -- what stood alone still does where others left
 pub still_alone : (r : Running) (ws : List Op) → IsReplica r → ((o : Op) → IsAmong o ws → IsAmong o r.waiting)
     → StandAlone r.document.table ws
 still_alone r ws h left o m = h.alone o (left o m)
 
-module _ (r : Running) (s : Stamped) (d : Kept) (ws : List Op) (h : IsReplica r) (next : next_of (replica_of r) ≡ Some s)
-    (among : IsAmong s (waiting_in r.document.table r.waiting))
-    (without : waiting_in r.document.table ws ≡ without_waiting s.id (waiting_in r.document.table r.waiting))
-    (left : (o : Op) → IsAmong o ws → IsAmong o r.waiting) where
-  -- the replica after the next one was appended is that after one turn
-  pub appended_is : fault_of (stamped_entries r.document.entries) s ≡ None → d.table ≡ r.document.table
-      → d.entries ≡ Peer s ∷ r.document.entries → replica_of (record r { document = d; waiting = ws }) ≡ drain_for 1 (replica_of r)
-  appended_is faultless table entries =
-      (λ i. record { own = r.own; members = table i; entries = entries i; waiting = waiting_in (table i) ws; dropped = r.dropped })
-      ∙ ap (λ W. record (replica_of r) { entries = Peer s ∷ r.document.entries; waiting = W }) without
-      ∙ sym (appending (replica_of r) s next faultless)
+-- q is r after one turn, and a replica
+pub record IsTurned (r q : Running) : Type 0 where
+  pub after : replica_of q ≡ drain_for 1 (replica_of r)
+  pub good : IsReplica q
 
-  -- and it is one
-  pub appended : fault_of (stamped_entries r.document.entries) s ≡ None → d.table ≡ r.document.table
-      → d.entries ≡ Peer s ∷ r.document.entries → IsReplica (record r { document = d; waiting = ws })
-  appended faultless table entries = record {
-    running = subst IsRunning (sym (appended_is faultless table entries ∙ turn (replica_of r) s next))
-        (taken_running (replica_of r) s h.running among);
-    member = ap (λ ps. is_member ps r.own) table ∙ h.member;
-    alone = rw table (still_alone r ws h left);
-    count = h.count;
-  }
+-- r is q, whose next one has this id
+module _ (r q : Running) (h : IsReplica r) (is : r ≡ q) (a : OpId) (n : (s : Stamped) × (s.id ≡ a) × IsNextReady q s) where
+  here : IsNextReady r n.0
+  here = subst (λ r. IsNextReady r n.0) (sym is) n.2
+
+  among : IsAmong n.0 (waiting_in r.document.table r.waiting)
+  among = next_among r n.0 h here.next
+
+  -- it waits
+  pub next_waits : is_waiting (waiting_in r.document.table r.waiting) a ≡ true
+  next_waits = subst (λ a. is_waiting (waiting_in r.document.table r.waiting) a ≡ true) n.1
+      (waits (waiting_in r.document.table r.waiting) n.0 among)
+
+  -- what has its id is that
+  pub has_its_id : (o : Op) → (o.id ≡ a) × IsAmong o r.waiting → stamped_of r.document.table o ≡ n.0
+  has_its_id o got = waits_once (waiting_in r.document.table r.waiting) (stamped_of r.document.table o) n.0 h.running.rising
+      (among_stamped r.document.table r.waiting o got.1) among (got.0 ∙ sym n.1)
+
+  -- there is room for it
+  pub next_room : (o : Op) → (o.id ≡ a) × IsAmong o r.waiting → HasRoomFor r.document (stamped_of r.document.table o)
+  next_room o got = subst (HasRoomFor r.document) (sym (has_its_id o got)) here.room
+
+  -- it may follow
+  pub next_may_follow : (o : Op) → (o.id ≡ a) × IsAmong o r.waiting
+      → MayFollow (applied r.document.entries) (stamped_of r.document.table o)
+  next_may_follow o got = subst (MayFollow (applied r.document.entries)) (sym (has_its_id o got))
+      (follows_without_fault (stamped_entries r.document.entries) n.0 (entries_legal r.own r.document.entries h.running.history)
+      (h.running.alone n.0 among) here.faultless)
+
+  -- where it was taken and appended, one turn was made
+  pub appended : (o : Op) → (o.id ≡ a) × IsAmong o r.waiting → (d : Contents) (ws : List Op)
+      → ((table : List ℕ) → waiting_in table ws ≡ without_waiting a (waiting_in table r.waiting))
+      → ((o : Op) → IsAmong o ws → IsAmong o r.waiting) → d.table ≡ r.document.table
+      → d.entries ≡ Peer (stamped_of r.document.table o) ∷ r.document.entries → IsTurned q (record r { document = d; waiting = ws })
+  appended o got d ws left kept table entries =
+      record { after = turned ∙ ap (λ (r : Running). drain_for 1 (replica_of r)) is; good = good }
+    where
+      turned : replica_of (record r { document = d; waiting = ws }) ≡ drain_for 1 (replica_of r)
+      turned =
+          (λ i. record { own = r.own; members = table i; entries = entries i; waiting = waiting_in (table i) ws; dropped = r.dropped })
+          ∙ (λ i. record (replica_of r) {
+            entries = Peer (has_its_id o got i) ∷ r.document.entries;
+            waiting = (left r.document.table ∙ ap (λ a. without_waiting a (waiting_in r.document.table r.waiting)) (sym n.1)) i;
+          })
+          ∙ sym (appending (replica_of r) n.0 here.next here.faultless)
+
+      good : IsReplica (record r { document = d; waiting = ws })
+      good = record {
+        running = subst IsRunning (sym (turned ∙ turn (replica_of r) n.0 here.next)) (taken_running (replica_of r) n.0 h.running among);
+        member = ap (λ ps. is_member ps r.own) table ∙ h.member;
+        alone = rw table (still_alone r ws h kept);
+        count = h.count;
+      }

@@ -12,7 +12,7 @@ use Rattle.semantics.proofs.EntryHistories.{entries_legal}
 use Rattle.semantics.proofs.NamedOperations.{legal}
 use Rattle.semantics.proofs.MadeLawful.{made_lawful}
 use Rattle.semantics.proofs.HandledItems.{as_stamped}
-use Rattle.document.specs.Documents.{Kept}
+use Rattle.document.specs.Documents.{Contents}
 use Rattle.replica.specs.Replicas.{Running, IsMade, IsReplica, replica_of}
 use Rattle.inbox.specs.Inboxes.{waiting_in}
 
@@ -35,7 +35,7 @@ module _ (p client serial : ℕ) (c : Command) (G : List Entry) (s : Stamped) (h
       ∙ (made_lawful (applied G) (legal (stamped_of G) (entries_legal p G h)) p c made.0 made.1).1
 
 -- the replica after its document got an own entry
-pub own_appended : (r : Running) (d : Kept) (client serial : ℕ) (c : Command) (s : Stamped) → IsReplica r
+pub own_appended : (r : Running) (d : Contents) (client serial : ℕ) (c : Command) (s : Stamped) → IsReplica r
     → IsMade r.document.entries r.own c s → IsAbove client serial r.document.entries
     → d.table ≡ r.document.table → d.entries ≡ Own client serial c s ∷ r.document.entries → IsReplica (record r { document = d })
 own_appended r d client serial c s h made above table entries =

@@ -1,5 +1,5 @@
 -- A replica as contracts see it, and when it can append.
-use Rattle.std.specs.Prelude.{◌≡◌, ◌≤◌, ◌==◌, ℕ, cond, IsTrue, List, Ok, Option, Some, None}
+use Rattle.std.specs.Prelude.{◌≡◌, ◌≤◌, ℕ, cond, IsTrue, List, Ok, Option, Some, None}
 use Rattle.ids.specs.Members.{is_member}
 use Rattle.semantics.specs.Operations.{Operation}
 use Rattle.semantics.specs.Stamped.{Stamped}
@@ -7,20 +7,19 @@ use Rattle.semantics.specs.Faults.{fault_of}
 use Rattle.semantics.specs.Making.{Command as TheCommand, is_full, make}
 use Rattle.semantics.specs.Entries.{Entry as TheEntry, applied, stamped_of as stamped_entries}
 use Rattle.semantics.specs.Replica.{Replica as TheReplica, IsRunning, operations}
-use Rattle.ids.specs.declared.refusal.Refusal.TheVariants.{HistoryFull, OwnName}
-use Rattle.semantics.specs.Delivery.{Delivered, NotKept, answer_after, room_answer}
+use Rattle.semantics.specs.Delivery.{Delivered, answer_after}
 use Rattle.semantics.specs.Drain.{first_ready}
 use Rattle.semantics.specs.WriteSteps.{stamp}
 use Rattle.operation.specs.declared.op.Op.{Op}
 use Rattle.operation.specs.Alone.{fault_alone}
-use Rattle.document.specs.Documents.{HasRoomFor, Kept}
+use Rattle.document.specs.Documents.{HasRoomFor, Contents}
 use Rattle.operation.specs.Meanings.{stamped_of}
 use Rattle.inbox.specs.Inboxes.{StandAlone, waiting_in}
 
 -- a replica: its own number, its document, what waits by rising id, and how many operations were dropped
 pub record Running : Type 0 where
   pub own : ℕ
-  pub document : Kept
+  pub document : Contents
   pub waiting : List Op
   pub dropped : ℕ
 
@@ -60,16 +59,10 @@ pub record IsNextReady (r : Running) (s : Stamped) : Type 0 where
 abbrev pub answer_to : TheReplica → Op → Delivered
 answer_to r o = answer_after r (stamped_of r.members o) (fault_alone r.members o)
 
--- the answer to an operation that passed the tests that need no history, and is neither applied nor waits
-abbrev pub answer_to_new : TheReplica → Stamped → Delivered
-answer_to_new r s =
-    cond (s.id.replica == r.own) (NotKept OwnName)
-    (cond (is_full r.entries) (NotKept HistoryFull) (room_answer r s))
-
 -- the replica of these parts
-abbrev pub replica_with : ℕ → Kept → List Op → TheReplica
+abbrev pub replica_with : ℕ → Contents → List Op → TheReplica
 replica_with own document waiting = replica_of (record { own = own; document = document; waiting = waiting; dropped = 0 })
 
 -- the next one that leaves, where these wait beside the document
-abbrev pub next_in : Kept → List Op → Option Stamped
+abbrev pub next_in : Contents → List Op → Option Stamped
 next_in d ws = next_of (replica_with 0 d ws)

@@ -6,13 +6,13 @@ use Rattle.semantics.specs.Stamped.{Stamped}
 use Rattle.semantics.specs.Faults.{fault_of}
 use Rattle.semantics.specs.Entries.{stamped_of}
 use Rattle.operation.specs.declared.op.Op.{Op}
-use Rattle.document.specs.Documents.{HasRoomFor, Kept}
+use Rattle.document.specs.Documents.{HasRoomFor, Contents}
 use Rattle.replica.specs.Replicas.{next_in}
 use Rattle.replica.specs.declared.waiting.Turn.{Turn}
 use Rattle.replica.specs.declared.waiting.Turn.TheVariants.{Append, Drop}
 
 -- the next one that leaves has this id and no fault, and can be appended with no memory taken
-pub record IsAppended (d : Kept) (ws : List Op) (a : OpId) : Type 0 where
+pub record IsAppended (d : Contents) (ws : List Op) (a : OpId) : Type 0 where
   pub next : Stamped
   pub is_next : next_in d ws ≡ Some next
   pub id : next.id ≡ a
@@ -20,7 +20,7 @@ pub record IsAppended (d : Kept) (ws : List Op) (a : OpId) : Type 0 where
   pub room : HasRoomFor d next
 
 -- the next one that leaves has this id and a fault
-pub record IsDropped (d : Kept) (ws : List Op) (a : OpId) : Type 0 where
+pub record IsDropped (d : Contents) (ws : List Op) (a : OpId) : Type 0 where
   pub next : Stamped
   pub is_next : next_in d ws ≡ Some next
   pub id : next.id ≡ a
@@ -28,7 +28,7 @@ pub record IsDropped (d : Kept) (ws : List Op) (a : OpId) : Type 0 where
   pub fault : fault_of (stamped_of d.entries) next ≡ Some why
 
 -- what a turn does where these wait beside the document
-abbrev pub IsNextTurn : Kept → List Op → Option Turn → Type 0
+abbrev pub IsNextTurn : Contents → List Op → Option Turn → Type 0
 IsNextTurn d ws None = next_in d ws ≡ None
 IsNextTurn d ws (Some (Append a)) = IsAppended d ws a
 IsNextTurn d ws (Some (Drop a)) = IsDropped d ws a

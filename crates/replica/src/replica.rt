@@ -153,6 +153,7 @@ impl Replica {
     /// `commit_peer`, or `drain`.
     ///
     /// `Known` if an operation with its id was applied or waits, whatever else it holds. The operation is dropped, unless it is `Kept`.
+    /// Costs binary searches in the log and the inbox, for a ready one also what `Document::check` does.
     ///
     /// # Errors
     /// The first of these that holds, and then the replica is as it was: those of `check_alone`; then, unless the operation is
@@ -176,6 +177,7 @@ impl Replica {
 
     /// The next operation of a peer that `commit_peer` appends: the smallest one that is ready, or `None` if there is
     /// none or the history is full. Drops and counts what is smaller, ready and unlawful. Reserves all that committing it needs.
+    /// A search of the inbox for each that is dropped, and one more.
     ///
     /// # Errors
     /// `AllocError` if allocation fails. What was dropped stays dropped then, and nothing else has changed.
@@ -207,6 +209,7 @@ impl Replica {
     }
 
     /// Appends or drops all that is ready, and all that becomes ready by that, the smallest id first, until the history is full.
+    /// A search of the inbox for each of them.
     ///
     /// # Errors
     /// `AllocError` if allocation fails. The drain has ended early then, and another goes on.

@@ -3,10 +3,10 @@
 ghost use Rattle.std.specs.Prelude.{◌≡◌, Some, None, length, IfOk, MatchResult};
 ghost use Rattle.semantics.specs.Entries.{stamped_of as stamped_entries};
 ghost use Rattle.semantics.specs.Faults.{fault_of};
-ghost use Rattle.semantics.specs.Delivery.{Kept as IsKept, NotKept};
+ghost use Rattle.semantics.specs.Delivery.{Kept as IsKept, NotKept, answer_to_new};
 ghost use Rattle.operation.specs.Meanings.{stamped_of};
 ghost use Rattle.inbox.specs.Inboxes.{StandAlone};
-ghost use Rattle.replica.specs.Replicas.{answer_to_new, replica_with};
+ghost use Rattle.replica.specs.Replicas.{replica_with};
 ghost use Rattle.replica.specs.Turns.{IsNextTurn};
 
 use crate::make::is_full;

@@ -2,4 +2,6 @@
 pub mod Straight
 pub mod Slots
 pub mod Turned
+pub mod Around
 pub mod Pushed
+pub mod Sunk

@@ -1,13 +1,11 @@
 -- A ring that takes an item in its midst and lets its last one fall out.
-use Rattle.std.proofs.Common.{◌≡◌, ℕ, zero, suc, ◌+◌, ◌-◌, ◌*◌, ◌<◌, ◌≤◌, List, [], ◌∷◌, ◌++◌, length, get_or, take, drop, refl, sym, ap}
+use Rattle.std.proofs.Common.{◌≡◌, ℕ, ◌+◌, ◌-◌, ◌<◌, ◌≤◌, List, [], ◌∷◌, ◌++◌, length, get_or, take, drop, refl, sym, ap}
 use Rattle.std.proofs.Common.{◌∙◌, arith, append_assoc}
 use Rattle.std.specs.List.{insert}
-use Rattle.std.proofs.lemmas.List.{take_at, drop_at}
 use Rattle.std.proofs.lemmas.List.Edits.{insert-append_left, insert-append_right}
-use Rattle.std.proofs.Math.Seq.{take-add}
-use Rattle.std.proofs.lemmas.List.{drop-drop}
 use Rattle.rings.specs.Rings.{turned, straight}
-use Rattle.rings.proofs.Straight.{in_ring, length-turned, ring_full, rest_full}
+use Rattle.rings.proofs.Straight.{length-turned}
+use Rattle.rings.proofs.Around.{Around, around_now, insert_behind, insert_within}
 
 module _ {X : Type 0} where
   -- the end of the first part and all of the second one take an item each
@@ -31,43 +29,16 @@ module _ {X : Type 0} where
       ∙ sym (insert-append_right A B (length A) o v refl le)
 
   -- what one ring takes, and what falls out of it, as the list sees it
-  pub straight_pushed : (n : ℕ) (starts : List ℕ) (xs ring : List X) (k o : ℕ) (v x : X) → k < length starts → length starts * n ≤ length xs
-      → o < n → length ring ≡ n
-      → turned (get_or starts k 0) ring ++ x ∷ [] ≡ insert (turned (get_or starts k 0) (take n (drop (in_ring n k 0) xs))) o v
-      → insert (straight n starts (take (in_ring n k 0) xs ++ (ring ++ drop n (drop (in_ring n k 0) xs)))) (in_ring n (suc k) 0) x
-      ≡ insert (straight n starts xs) (in_ring n k o) v
-  straight_pushed n [] xs ring k o v x lt full inside long pushed = absurd (omega (arith, lt))
-  straight_pushed n (s ∷ starts) xs ring zero o v x lt full inside long pushed =
-      let rest = straight n starts (drop n xs) in
-      let many : length (turned s ring) ≡ n = length-turned s ring ∙ long in
-      let old : length (turned s (take n xs)) ≡ n = length-turned s (take n xs) ∙ ring_full n (length starts) xs full in
-      let none : n + 0 - n ≡ 0 = omega arith in
-      (λ t. insert (turned s (take_at ring (drop n xs) n long t) ++ straight n starts (drop_at ring (drop n xs) n long t)) (n + 0) x)
-      ∙ insert-append_right (turned s ring) rest n (n + 0) x many (omega arith)
-      ∙ ap (λ i. turned s ring ++ insert rest i x) none
-      ∙ sym (append_assoc (turned s ring) (x ∷ []) rest)
-      ∙ ap (λ ys. ys ++ rest) pushed
-      ∙ sym (insert-append_left (turned s (take n xs)) rest o v (omega (arith, old, inside)))
-  straight_pushed n (s ∷ starts) xs ring (suc k) o v x lt full inside long pushed =
-      let q = in_ring n k 0 in
-      let front = take n xs in
-      let back = drop n xs in
-      let mid = ring ++ drop n (drop q back) in
-      let inner = take q back ++ mid in
-      let size : length front ≡ n = ring_full n (length starts) xs full in
-      let many : length (turned s front) ≡ n = length-turned s front ∙ size in
-      let there : drop (n + q) xs ≡ drop q back = sym (drop-drop q n xs) in
-      let split : take (n + q) xs ++ (ring ++ drop n (drop (n + q) xs)) ≡ front ++ inner =
-      (λ t. take-add n q xs t ++ (ring ++ drop n (there t))) ∙ append_assoc front (take q back) mid in
-      let here : n + in_ring n (suc k) 0 - n ≡ in_ring n (suc k) 0 = omega arith in
-      let at : n + in_ring n k o - n ≡ in_ring n k o = omega arith in
-      (λ t. insert (turned s (take n (split t)) ++ straight n starts (drop n (split t))) (n + in_ring n (suc k) 0) x)
-      ∙ (λ t. insert (turned s (take_at front inner n size t) ++ straight n starts (drop_at front inner n size t))
-      (n + in_ring n (suc k) 0) x)
-      ∙ insert-append_right (turned s front) (straight n starts inner) n (n + in_ring n (suc k) 0) x many (omega arith)
-      ∙ ap (λ i. turned s front ++ insert (straight n starts inner) i x) here
-      ∙ ap (λ ys. turned s front ++ ys)
-      (straight_pushed n starts back ring k o v x (omega (arith, lt)) (rest_full n (length starts) xs full) inside long
-      (pushed ∙ ap (λ ys. insert (turned (get_or starts k 0) (take n ys)) o v) there))
-      ∙ ap (λ i. turned s front ++ insert (straight n starts back) i v) (sym at)
-      ∙ sym (insert-append_right (turned s front) (straight n starts back) n (n + in_ring n k o) v many (omega arith))
+  pub straight_pushed : (n : ℕ) (starts : List ℕ) (xs ring : List X) (k p m o : ℕ) (v x : X) → Around n starts xs k p m → o < n
+      → length ring ≡ length (take m (drop p xs))
+      → turned (get_or starts k 0) ring ++ x ∷ [] ≡ insert (turned (get_or starts k 0) (take m (drop p xs))) o v
+      → insert (straight n starts (take p xs ++ (ring ++ drop m (drop p xs)))) (p + n) x ≡ insert (straight n starts xs) (p + o) v
+  straight_pushed n starts xs ring k p m o v x a inside same pushed =
+      let s = get_or starts k 0 in
+      let was = turned s (take m (drop p xs)) in
+      let many : length was ≡ n = length-turned s (take m (drop p xs)) ∙ a.full in
+      (λ t. insert (a.with_ring ring (same ∙ a.full) t) (p + n) x)
+      ∙ insert_behind a.before (turned s ring) a.behind p n x a.place (length-turned s ring ∙ same ∙ a.full)
+      ∙ ap (λ ys. a.before ++ (ys ++ a.behind)) pushed
+      ∙ sym (insert_within a.before was a.behind p o v a.place (omega (arith, many, inside)))
+      ∙ ap (λ ys. insert ys (p + o) v) (sym (around_now n starts xs k p m a))

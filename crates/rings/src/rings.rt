@@ -1,7 +1,7 @@
 //! A list whose items lie in rings, and the moves that keep them there.
 
 ghost use Rattle.std.specs.Prelude.{◌≡◌, ◌<◌, ◌≤◌, ◌+◌, ◌*◌, ◌/◌, ◌++◌, ◌∷◌, [], length, Some, slice_get, slice_index_or, slice_set, take};
-ghost use Rattle.std.specs.Prelude.{IsTrue, OnOk, vec_len, vec_capacity};
+ghost use Rattle.std.specs.Prelude.{IsTrue, List, OnOk, vec_len, vec_capacity};
 ghost use Rattle.std.specs.List.{All, insert, remove};
 ghost use Rattle.rings.specs.Rings.{AreRings, IsClosed, IsSlot, are_zero, straight, turned};
 ghost use Rattle.rings.specs.Starts.{capacity_of, starts_of};
@@ -9,13 +9,13 @@ ghost use Rattle.rings.specs.Starts.{capacity_of, starts_of};
 use crate::starts::Starts;
 use std::alloc::{AllocError, Global};
 use std::marker::Model;
-use std::mem::replace;
+use std::mem::{replace, swap};
 
 /// How many slots a ring has.
 const RING: usize = 2_048;
 
 /// A list that stays fast at a million items: one is read at any position in constant time, and one that goes in moves at most
-/// those of its own ring and one of each later ring.
+/// half of its ring, one item of each later ring, and what stands behind the rings.
 ///
 /// All items stand in one vector: first the full rings of 2,048 slots, each of which begins at one of its slots and goes round, and
 /// then fewer than 2,048 items in their order. So a list below 2,048 items is a vector. Contracts see the items, how many more fit
@@ -147,8 +147,9 @@ impl<T: Drop> Rings<T> {
         truncate_in(&mut self.slots, &mut self.starts, count);
     }
 
-    /// Puts an item at this position; those from there on come one later. Takes no memory. Moves those behind it in its ring at
-    /// once, and one item of each later ring.
+    /// Puts an item at this position; those from there on come one later. Takes no memory. In its ring it moves those before it at
+    /// once, or those from there on, whichever are fewer, so at most half of the ring. It moves one item of each later ring, and
+    /// those behind the rings at once.
     pub fn insert(&mut self, position: usize, value: T)
         requires within { position ≤ length self.old.items }
         requires room { 0 < self.old.room }
@@ -238,22 +239,49 @@ fn push_into<T>(ring: &mut [T], start: usize, position: usize, value: T) -> T
     push_front(&mut back[position - count..], value)
 }
 
-/// Puts an item at a position that lies in a ring. Returns that ring's last item, which falls out.
-fn push_at<T>(slots: &mut [T], starts: &[usize], position: usize, value: T) -> T
-    requires rings { AreRings 2048 starts.now (length slots.old) }
-    requires position { position < length starts.now * 2048 }
-    ensures items { insert (straight 2048 starts.now slots.new) (position / 2048 * 2048 + 2048) result
-        ≡ insert (straight 2048 starts.now slots.old) position value }
+/// Lets a ring's first item sink to a position, so that those on its way come one earlier, by one move of memory, or two where
+/// they go round.
+fn sink<T>(ring: &mut [T], start: usize, position: usize)
+    requires start { start < length ring.old }
+    requires position { position < length ring.old }
+    ensures items { (value : T) (rest : List T)
+        → turned start ring.old ≡ value ∷ rest
+        → turned start ring.new ≡ insert rest position value }
+    ensures length { length ring.new ≡ length ring.old }
+{
+    let (back, front) = ring.split_at_mut(start);
+    let count = front.len();
+    if position < count {
+        front[..=position].rotate_left(1);
+        return;
+    }
+    let behind = position - count;
+    front.rotate_left(1);
+    back[..=behind].rotate_left(1);
+    // The first of each part is now the last that moved there, and belongs in the other's slot.
+    swap(&mut front[count - 1], &mut back[behind]);
+}
+
+/// Puts an item at a position that lies in a ring: in its first half by moving those before it, and else by moving those from
+/// there on, so at most half of the ring. Returns that ring's last item, which falls out.
+fn push_at<T>(slots: &mut [T], starts: &mut [usize], position: usize, value: T) -> T
+    requires rings { AreRings 2048 starts.old (length slots.old) }
+    requires position { position < length starts.old * 2048 }
+    ensures items { insert (straight 2048 starts.new slots.new) (position / 2048 * 2048 + 2048) result
+        ≡ insert (straight 2048 starts.old slots.old) position value }
+    ensures within { All (λ s. s < 2048) starts.new }
+    ensures starts { length starts.new ≡ length starts.old }
     ensures slots { length slots.new ≡ length slots.old }
 {
     let ring = position / RING;
+    let place = position % RING;
     let first = ring * RING;
-    push_into(
-        &mut slots[first..first + RING],
-        starts[ring],
-        position % RING,
-        value,
-    )
+    if place < RING / 2 {
+        let last = turn(slots, starts, ring, value);
+        sink(&mut slots[first..first + RING], starts[ring], place);
+        return last;
+    }
+    push_into(&mut slots[first..first + RING], starts[ring], place, value)
 }
 
 /// Puts an item at a position that lies in a ring. Each ring from there on passes its last item on to the next; returns that of

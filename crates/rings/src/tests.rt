@@ -78,6 +78,40 @@ fn items_go_where_they_are_put(rt: HostRuntime) -> Result<(), Fail> {
     Ok(())
 }
 
+/// Puts a number that stands in neither yet at a position of both.
+fn put_next(
+    numbers: &mut Rings<usize>,
+    beside: &mut Vec<usize>,
+    position: usize,
+) -> Result<(), Fail> {
+    let number = numbers.len();
+    put(numbers, beside, position, number)
+}
+
+/// Numbers go in at the ends and about the middle of two rings, which begin this many slots before the ends of their memory.
+fn assert_halves(rt: &impl Abort, alloc: Global, turns: usize) -> Result<(), Fail> {
+    let mut numbers = Rings::new(alloc);
+    let mut beside = Vec::new(alloc);
+    fill(&mut numbers, &mut beside, &(4096, 1))?;
+    for _ in 0..turns {
+        put_next(&mut numbers, &mut beside, 0)?;
+    }
+    for position in [1, 0, 1023, 1024, 2047, 2049, 3071, 3072, 4095] {
+        put_next(&mut numbers, &mut beside, position)?;
+        assert_items(rt, &numbers, &beside);
+    }
+    Ok(())
+}
+
+#[test]
+fn items_go_into_both_halves_of_a_ring(rt: HostRuntime) -> Result<(), Fail> {
+    // What moves ends with the memory, goes round by one item, or by nearly all.
+    for turns in [0, 1, 1020, 1021, 1022, 2045, 2046, 2047] {
+        assert_halves(&rt, rt.alloc(), turns)?;
+    }
+    Ok(())
+}
+
 /// Swaps two items of both, and writes over the first of them.
 fn change(rt: &impl Abort, numbers: &mut Rings<usize>, beside: &mut [usize], a: usize, b: usize) {
     assert!(rt; a < numbers.len() && b < numbers.len());

@@ -8,6 +8,7 @@ use Rattle.ids.specs.declared.refusal.Refusal.TheVariants.{BadLine, BadConfig}
 use Rattle.serde_json.specs.Data.{Data, Items, no_items, item}
 use Rattle.json_lines.specs.Forms.{and_then, json_form, number_form, list_form, phrase_form}
 
+-- each part as a number
 abbrev pub numbers_of : Items → Result (List ℕ) Refusal
 numbers_of no_items = Ok []
 numbers_of (item part parts) = and_then (λ n. and_then (λ ns. Ok (n ∷ ns)) (numbers_of parts)) (number_form part)
@@ -16,6 +17,7 @@ numbers_of (item part parts) = and_then (λ n. and_then (λ ns. Ok (n ∷ ns)) (
 abbrev pub numbers_form : Data → Result (List ℕ) Refusal
 numbers_form d = and_then numbers_of (list_form d)
 
+-- seven parts as an engine: its number, its members, how many clients and readers, and the limits of queue, batch and serials
 abbrev pub engine_of : Items → Result Configuration Refusal
 engine_of (item own (item members (item clients (item readers (item queue (item batch (item serials no_items))))))) =
     and_then (λ o. and_then (λ ms. and_then (λ c. and_then (λ r. and_then (λ q. and_then (λ b. and_then (λ s.
@@ -42,6 +44,7 @@ abbrev pub only_engines : Items → Result (List Configuration) Refusal
 only_engines (item engines no_items) = and_then if_so_many (and_then engines_of (list_form engines))
 only_engines _ = Err BadLine
 
+-- the word `world`, and its engines
 abbrev pub world_of : List ℕ × Items → Result (List Configuration) Refusal
 world_of p = if bytes_eq p.0 (codes "world") then only_engines p.1 else Err BadLine
 
@@ -53,6 +56,7 @@ world_form d = and_then world_of (phrase_form d)
 abbrev pub fits : ℕ → Bool
 fits n = nat_lt n (2 ^ 32)
 
+-- each number of the configuration fits
 abbrev pub all_fit : Configuration → Bool
 all_fit g = fits g.own && (list_all fits g.members && (fits g.clients && (fits g.readers
     && (fits g.queue && (fits g.batch && fits g.serials)))))
@@ -65,6 +69,7 @@ if_fit gs = if list_all all_fit gs then Ok gs else Err BadConfig
 abbrev pub said_engines : List ℕ → Result (List Configuration) Refusal
 said_engines text = and_then if_fit (and_then world_form (json_form text))
 
+-- each engine is within the limits
 abbrev pub if_within_limits : List Configuration → Result (List Configuration) Refusal
 if_within_limits gs = if list_all is_within_limits gs then Ok gs else Err BadConfig
 

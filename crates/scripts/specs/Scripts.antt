@@ -18,6 +18,7 @@ steps_from engines number (l ∷ ls) tail =
 abbrev pub steps_left : List Configuration → ℕ → List ℕ → Result (List WorldStep) Bad
 steps_left engines taken rest = steps_from engines (taken + 1) (cut rest).lines (cut rest).tail
 
+-- the first line has the engines, and each line after it a step; where there is none, line 1 is bad
 abbrev pub script_of : List (List ℕ) → List ℕ → Result (List Configuration × List WorldStep) Bad
 script_of [] tail = Err (1, BadLine)
 script_of (l ∷ ls) tail =

@@ -5,7 +5,7 @@ ghost use Rattle.std.specs.Prelude.{◌≡◌, ◌⊎◌, Ok, Err, IfOk, IfErr, 
 ghost use Rattle.std.specs.List.{list_all};
 ghost use Rattle.ids.specs.declared.refusal.Refusal.TheVariants.{NoMemory, BadConfig};
 ghost use Rattle.serde_json.specs.View.{view, items_view};
-ghost use Rattle.json_lines.specs.Forms.{IsRead, IsUnlessMemory};
+ghost use Rattle.json_lines.specs.Forms.{IsRead, IsOrNoMemory};
 ghost use Rattle.scripts.specs.Engines.{all_fit, engine_form, engines_of, fits, numbers_of, only_engines, said_engines, world_form};
 
 use ids::{Config, Refusal};
@@ -104,7 +104,7 @@ fn engine_in(alloc: Global, value: &Value) -> Result<Engine, Refusal>
 
 fn numbers_in(alloc: Global, parts: &[Value]) -> Result<Vec<u64>, Refusal>
     ensures { MatchResult result (λ v. numbers_of (items_view parts.now) ≡ Ok v.items)
-        (λ why. IsUnlessMemory (Err why) (numbers_of (items_view parts.now))) }
+        (λ why. IsOrNoMemory (Err why) (numbers_of (items_view parts.now))) }
 {
     let mut numbers = Vec::new(alloc);
     for part in parts {

@@ -4,7 +4,7 @@ ghost use Rattle.std.specs.Prelude.{map};
 ghost use Rattle.cursor.specs.Meanings.{step_of};
 ghost use Rattle.serde_json.specs.View.{view, items_view};
 ghost use Rattle.scripts.specs.Expressions.{expression_form, path_step_form, path_steps_of};
-ghost use Rattle.json_lines.specs.Forms.{IsRead, IsUnlessMemory};
+ghost use Rattle.json_lines.specs.Forms.{IsRead, IsOrNoMemory};
 
 use cursor::{Expr, Step};
 use ids::Refusal;
@@ -15,7 +15,7 @@ use value::Key;
 
 /// An expression: a list of keys and of indices in lists.
 pub fn expression_in(alloc: Global, value: &Value) -> Result<Expr, Refusal>
-    ensures { IsUnlessMemory result (expression_form (view value.now)) }
+    ensures { IsOrNoMemory result (expression_form (view value.now)) }
 {
     Ok(Expr::new(steps_in(alloc, list_in(value)?)?))
 }

@@ -6,8 +6,8 @@ ghost use Rattle.semantics.specs.LegalAnswer.{Made, NotMade};
 ghost use Rattle.semantics.specs.Tables.{by_table};
 ghost use Rattle.serde_json.specs.Written.{compact_text};
 ghost use Rattle.serde_json.specs.View.{view};
-ghost use Rattle.items.specs.Meanings.{answer_of};
-ghost use Rattle.world.specs.Meanings.{reply_of};
+ghost use Rattle.items.specs.Meanings.{reply_of};
+ghost use Rattle.world.specs.Meanings.{step_reply_of};
 ghost use Rattle.wire.specs.Operations.{phrase};
 ghost use Rattle.wire.specs.Vectors.{count};
 ghost use Rattle.scripts.specs.Replies.{received_json, refusal_name, reply_json, reply_text, step_reply_json};
@@ -22,7 +22,7 @@ use world::{Reply, WorldReply};
 
 /// The replies, one a line.
 pub fn reply_lines(alloc: Global, replies: &[WorldReply]) -> Result<String, AllocError>
-    ensures { IfOk result (λ s. string_bytes s ≡ reply_text (map reply_of replies.now)) }
+    ensures { IfOk result (λ s. string_bytes s ≡ reply_text (map step_reply_of replies.now)) }
 {
     let mut lines = String::new(alloc);
     for reply in replies {
@@ -34,13 +34,13 @@ pub fn reply_lines(alloc: Global, replies: &[WorldReply]) -> Result<String, Allo
 }
 
 fn reply_line(alloc: Global, reply: &WorldReply) -> Result<String, AllocError>
-    ensures { IfOk result (λ s. string_bytes s ≡ compact_text (step_reply_json (reply_of reply.now))) }
+    ensures { IfOk result (λ s. string_bytes s ≡ compact_text (step_reply_json (step_reply_of reply.now))) }
 {
     world_reply(alloc, reply)?.to_string(alloc)
 }
 
 fn world_reply(alloc: Global, reply: &WorldReply) -> Result<Value, AllocError>
-    ensures { IfOk result (λ v. view v ≡ step_reply_json (reply_of reply.now)) }
+    ensures { IfOk result (λ v. view v ≡ step_reply_json (step_reply_of reply.now)) }
 {
     match reply {
         WorldReply::Ticket(serial) => one(alloc, "ticket", *serial),
@@ -79,7 +79,7 @@ fn world_reply(alloc: Global, reply: &WorldReply) -> Result<Value, AllocError>
 
 /// The answer to a submission.
 fn request_reply(alloc: Global, reply: Reply) -> Result<Value, AllocError>
-    ensures { IfOk result (λ v. view v ≡ reply_json (answer_of reply)) }
+    ensures { IfOk result (λ v. view v ≡ reply_json (reply_of reply)) }
 {
     match reply {
         Reply::Made(id, position) => made(alloc, id, position),

@@ -1,6 +1,6 @@
--- A claim on an engine that is kept as it goes on is kept by each step of a world but one that receives lines of any origin.
+-- A claim on an engine that is kept as it goes on is kept by each step of a world.
 use Rattle.std.proofs.Common.{◌≡◌, inl, inr, ℕ, zero, suc, Bool, true, false, cond, List, [], ◌∷◌, length, Option, Some, None, refl}
-use Rattle.std.proofs.Common.{slice_get}
+use Rattle.std.proofs.Common.{sym, ap, ◌∙◌, slice_get, true≢false}
 use Rattle.ids.specs.declared.refusal.Refusal.{Refusal}
 use Rattle.semantics.specs.LegalHistory.{IsAmong}
 use Rattle.semantics.specs.Stamped.{Stamped}
@@ -94,25 +94,35 @@ module _ (P : Request → Type 0) (Claim : Engine → Type 0) (kept : IsKeptOn P
 
   -- ---- each step
 
+  -- what is submitted is as P says: each command, and each operation of a bundle and of the lines
+  pub kept_by_act : (ms : List Message) (w : WorldAct) (E : Engine) → IsSound E
+      → ((command : Command) → P (OfCommand command))
+      → ((k : ℕ) (ss : List Stamped) (s : Stamped) → slice_get ms k ≡ Some (Bundle ss) → IsAmong s ss → P (OfPeer s))
+      → ((c : ℕ) (ss : List Stamped) (bad : Option Refusal) (s : Stamped) → w ≡ Lines c ss bad → IsAmong s ss → P (OfPeer s)) → Claim E
+      → Claim (engine_step ms w E).engine
+  kept_by_act ms (Push c command) E s p q o h = kept_by_push P Claim kept E c (OfCommand command) s (p command) h
+  kept_by_act ms Take E s p q o h = kept_by_take P Claim kept E s h
+  kept_by_act ms Publish E s p q o h = kept.still E (publish E).engine (published E s) (still_published E) h
+  kept_by_act ms Give E s p q o h = kept.still E (give E).engine (answer_given E s) (still_given E) h
+  kept_by_act ms Whole E s p q o h = kept_by_whole E s h
+  kept_by_act ms (Poll c serial) E s p q o h = kept.still E (engine_step ms (Poll c serial) E).engine (stepped ms (Poll c serial) E s)
+      (still_polled E c serial) h
+  kept_by_act ms (Ask t x) E s p q o h = kept.still E (engine_step ms (Ask t x) E).engine (stepped ms (Ask t x) E s)
+      (still_seen E t E.published) h
+  kept_by_act ms (Learn t c serial) E s p q o h = kept.still E (engine_step ms (Learn t c serial) E).engine
+      (stepped ms (Learn t c serial) E s) (still_learnt E t c serial) h
+  kept_by_act ms (SayHello t) E s p q o h = kept.still E (engine_step ms (SayHello t) E).engine (stepped ms (SayHello t) E s)
+      (still_seen E t E.published) h
+  kept_by_act ms (AnswerHello t k) E s p q o h = kept.still E (engine_step ms (AnswerHello t k) E).engine
+      (stepped ms (AnswerHello t k) E s) (still_answered E t (length ms) (slice_get ms k)) h
+  kept_by_act ms (Deliver c k) E s p q o h = kept_by_message E c (slice_get ms k) s (λ ss x m n. q k ss x m n) h
+  kept_by_act ms (Lines c ss bad) E s p q o h = kept_by_lines E c ss bad s (λ x m. o c ss bad x refl m) h
+  kept_by_act ms CountDropped E s p q o h = h
+
+  -- the same of a step that receives no lines
   pub kept_by_step : (ms : List Message) (w : WorldAct) (E : Engine) → is_of_lines w ≡ false → IsSound E
       → ((command : Command) → P (OfCommand command))
       → ((k : ℕ) (ss : List Stamped) (s : Stamped) → slice_get ms k ≡ Some (Bundle ss) → IsAmong s ss → P (OfPeer s)) → Claim E
       → Claim (engine_step ms w E).engine
-  kept_by_step ms (Push c command) E l s p q h = kept_by_push P Claim kept E c (OfCommand command) s (p command) h
-  kept_by_step ms Take E l s p q h = kept_by_take P Claim kept E s h
-  kept_by_step ms Publish E l s p q h = kept.still E (publish E).engine (published E s) (still_published E) h
-  kept_by_step ms Give E l s p q h = kept.still E (give E).engine (answer_given E s) (still_given E) h
-  kept_by_step ms Whole E l s p q h = kept_by_whole E s h
-  kept_by_step ms (Poll c serial) E l s p q h = kept.still E (engine_step ms (Poll c serial) E).engine (stepped ms (Poll c serial) E s)
-      (still_polled E c serial) h
-  kept_by_step ms (Ask t x) E l s p q h = kept.still E (engine_step ms (Ask t x) E).engine (stepped ms (Ask t x) E s)
-      (still_seen E t E.published) h
-  kept_by_step ms (Learn t c serial) E l s p q h = kept.still E (engine_step ms (Learn t c serial) E).engine
-      (stepped ms (Learn t c serial) E s) (still_learnt E t c serial) h
-  kept_by_step ms (SayHello t) E l s p q h = kept.still E (engine_step ms (SayHello t) E).engine (stepped ms (SayHello t) E s)
-      (still_seen E t E.published) h
-  kept_by_step ms (AnswerHello t k) E l s p q h = kept.still E (engine_step ms (AnswerHello t k) E).engine
-      (stepped ms (AnswerHello t k) E s) (still_answered E t (length ms) (slice_get ms k)) h
-  kept_by_step ms (Deliver c k) E l s p q h = kept_by_message E c (slice_get ms k) s (λ ss x m n. q k ss x m n) h
-  kept_by_step ms (Lines c ss bad) E l s p q h = cc
-  kept_by_step ms CountDropped E l s p q h = h
+  kept_by_step ms w E l s p q h =
+      kept_by_act ms w E s p q (λ c ss bad x is m. absurd (true≢false (sym (ap is_of_lines is) ∙ l))) h

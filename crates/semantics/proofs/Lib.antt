@@ -116,6 +116,9 @@ pub mod StartedReceipts
 pub mod HandledReceipts
 pub mod CompleteMessages
 pub mod WholeExchanges
+-- what stands in the history was replied Made
+pub mod RepliedEntries
+pub mod OneReply
 -- items that are handled where an allocation may fail
 pub mod HandledAnswers
 pub mod HandledBatches

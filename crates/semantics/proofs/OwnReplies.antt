@@ -7,7 +7,7 @@ use Rattle.semantics.specs.Making.{Command, make}
 use Rattle.semantics.specs.Entries.{Entry, Own, Peer, applied, entry_at, first_entries, IsAbove}
 use Rattle.semantics.specs.LegalAnswer.{Submitted, Made, NotMade, LacksSerial, IsLegalAnswer}
 
-newest_at : (e : Entry) (G : List Entry) → entry_at (length G) (e ∷ G) ≡ Some e
+pub newest_at : (e : Entry) (G : List Entry) → entry_at (length G) (e ∷ G) ≡ Some e
 newest_at e G = ap (λ b. cond b (Some e) (entry_at (length G) G)) (eq-eqb (length G) (length G) refl)
 
 pub own_made : (p : ℕ) (G : List Entry) (x : Submitted) (c : Command) (s : Stamped)

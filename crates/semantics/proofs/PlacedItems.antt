@@ -1,80 +1,71 @@
 -- Which items stand in the lists of a legal history.
 use Rattle.std.proofs.Common.{◌≡◌, ◌⊎◌, inl, inr, Bool, true, false, cond, ◌&&◌, ◌||◌, List, [], ◌∷◌, Option, Some, None, is_some, refl}
 use Rattle.std.proofs.Common.{sym, ap, ◌∙◌, true≢false}
-use Rattle.std.specs.List.{list_any}
 use Rattle.std.specs.Cmp.{both_ways}
 use Rattle.std.proofs.lemmas.Bool.{and_from, or_cases, or_left, or_right}
 use Rattle.semantics.specs.Ids.{OpId, is_same_id, is_smaller_id}
 use Rattle.semantics.specs.Elements.{Element, Doc, Field, Item, Place, At, HeadOf}
 use Rattle.semantics.specs.Operations.{Operation, Mutation, Assign, Insert, Delete, slot_of, after_in, inserted_after, element_of}
 use Rattle.semantics.specs.LegalHistory.{has_id, IsItemOf, ItemsStand, Follows, IsLegal}
-use Rattle.semantics.specs.Context.{skip, insert_after, insert_some, doc}
+use Rattle.semantics.specs.Context.{has_item, has_position, skip, insert_after, insert_some, doc}
 use Rattle.semantics.specs.Faults.{is_item_of}
 use Rattle.semantics.proofs.ItemTests.{item_from}
 use Rattle.semantics.proofs.Orders.{element_itself, id_itself, ids_from_test}
 
--- a is one of the items
-abbrev pub has : OpId → List OpId → Bool
-has a bs = list_any (is_same_id a) bs
-
--- what a new item goes after is one of the items, or the head
-abbrev pub has_prev : Option OpId → List OpId → Bool
-has_prev None bs = true
-has_prev (Some p) bs = has p bs
-
 -- an item is still there where x stands before it in both, or it is x
-keeps_first : (a x : OpId) (xs ys : List OpId) → (has a xs ≡ true → has a ys ≡ true) → has a (x ∷ xs) ≡ true → has a (x ∷ ys) ≡ true
+keeps_first : (a x : OpId) (xs ys : List OpId) → (has_item a xs ≡ true → has_item a ys ≡ true) → has_item a (x ∷ xs) ≡ true
+    → has_item a (x ∷ ys) ≡ true
 keeps_first a x xs ys k h = elim
-    (or_cases (is_same_id a x) (has a xs) h) [
-      | inl f ↦ or_left (is_same_id a x) (has a ys) f
-      | inr r ↦ or_right (is_same_id a x) (has a ys)
+    (or_cases (is_same_id a x) (has_item a xs) h) [
+      | inl f ↦ or_left (is_same_id a x) (has_item a ys) f
+      | inr r ↦ or_right (is_same_id a x) (has_item a ys)
           (k r)
     ]
 
 -- an item stays where another goes in
-skip_keeps : (a b : OpId) (xs : List OpId) → has a xs ≡ true → has a (skip b xs) ≡ true
+skip_keeps : (a b : OpId) (xs : List OpId) → has_item a xs ≡ true → has_item a (skip b xs) ≡ true
 skip_keeps a b [] h = or_right (is_same_id a b) false h
 skip_keeps a b (x ∷ xs) h = by (is_smaller_id x b) (keeps_first a x xs (skip b xs) (skip_keeps a b xs) h) where
-  by : (s : Bool) → has a (x ∷ skip b xs) ≡ true → has a (cond s (b ∷ x ∷ xs) (x ∷ skip b xs)) ≡ true
-  by true k = or_right (is_same_id a b) (has a (x ∷ xs)) h
+  by : (s : Bool) → has_item a (x ∷ skip b xs) ≡ true → has_item a (cond s (b ∷ x ∷ xs) (x ∷ skip b xs)) ≡ true
+  by true k = or_right (is_same_id a b) (has_item a (x ∷ xs)) h
   by false k = k
 
-insert_keeps : (p : Option OpId) (a b : OpId) (xs : List OpId) → has a xs ≡ true → has a (insert_after p b xs) ≡ true
+insert_keeps : (p : Option OpId) (a b : OpId) (xs : List OpId) → has_item a xs ≡ true → has_item a (insert_after p b xs) ≡ true
 insert_keeps None a b xs h = skip_keeps a b xs h
 insert_keeps (Some p) a b [] h = absurd (true≢false (sym h))
 insert_keeps (Some p) a b (x ∷ xs) h = by (is_same_id p x) (keeps_first a x xs (skip b xs) (skip_keeps a b xs) h)
     (keeps_first a x xs (insert_after (Some p) b xs) (insert_keeps (Some p) a b xs) h) where
-      by : (s : Bool) → has a (x ∷ skip b xs) ≡ true → has a (x ∷ insert_after (Some p) b xs) ≡ true
-          → has a (cond s (x ∷ skip b xs) (x ∷ insert_after (Some p) b xs)) ≡ true
+      by : (s : Bool) → has_item a (x ∷ skip b xs) ≡ true → has_item a (x ∷ insert_after (Some p) b xs) ≡ true
+          → has_item a (cond s (x ∷ skip b xs) (x ∷ insert_after (Some p) b xs)) ≡ true
       by true j k = j
       by false j k = k
 
 -- a new item is there, where what it goes after is
-skip_has : (b : OpId) (xs : List OpId) → has b (skip b xs) ≡ true
+skip_has : (b : OpId) (xs : List OpId) → has_item b (skip b xs) ≡ true
 skip_has b [] = or_left (is_same_id b b) false (id_itself b)
 skip_has b (x ∷ xs) = by (is_smaller_id x b) (skip_has b xs) where
-  by : (s : Bool) → has b (skip b xs) ≡ true → has b (cond s (b ∷ x ∷ xs) (x ∷ skip b xs)) ≡ true
-  by true k = or_left (is_same_id b b) (has b (x ∷ xs)) (id_itself b)
-  by false k = or_right (is_same_id b x) (has b (skip b xs)) k
+  by : (s : Bool) → has_item b (skip b xs) ≡ true → has_item b (cond s (b ∷ x ∷ xs) (x ∷ skip b xs)) ≡ true
+  by true k = or_left (is_same_id b b) (has_item b (x ∷ xs)) (id_itself b)
+  by false k = or_right (is_same_id b x) (has_item b (skip b xs)) k
 
-insert_has : (p : Option OpId) (b : OpId) (xs : List OpId) → has_prev p xs ≡ true → has b (insert_after p b xs) ≡ true
+insert_has : (p : Option OpId) (b : OpId) (xs : List OpId) → has_position p xs ≡ true → has_item b (insert_after p b xs) ≡ true
 insert_has None b xs h = skip_has b xs
 insert_has (Some p) b [] h = absurd (true≢false (sym h))
 insert_has (Some p) b (x ∷ xs) h = by (is_same_id p x) refl (insert_has (Some p) b xs) where
-  by : (s : Bool) → is_same_id p x ≡ s → (has p xs ≡ true → has b (insert_after (Some p) b xs) ≡ true)
-      → has b (cond s (x ∷ skip b xs) (x ∷ insert_after (Some p) b xs)) ≡ true
-  by true e k = or_right (is_same_id b x) (has b (skip b xs)) (skip_has b xs)
-  by false e k = or_right (is_same_id b x) (has b (insert_after (Some p) b xs)) (k (ap (λ s. s || has p xs) (sym e) ∙ h))
+  by : (s : Bool) → is_same_id p x ≡ s → (has_item p xs ≡ true → has_item b (insert_after (Some p) b xs) ≡ true)
+      → has_item b (cond s (x ∷ skip b xs) (x ∷ insert_after (Some p) b xs)) ≡ true
+  by true e k = or_right (is_same_id b x) (has_item b (skip b xs)) (skip_has b xs)
+  by false e k = or_right (is_same_id b x) (has_item b (insert_after (Some p) b xs)) (k (ap (λ s. s || has_item p xs) (sym e) ∙ h))
 
 -- and no other is
 Adds : OpId → OpId → List OpId → List OpId → Type 0
-Adds a b xs ys = has a ys ≡ true → (is_same_id a b ≡ true) ⊎ (has a xs ≡ true)
+Adds a b xs ys = has_item a ys ≡ true → (is_same_id a b ≡ true) ⊎ (has_item a xs ≡ true)
 
 adds_first : (a b x : OpId) (xs ys : List OpId) → Adds a b xs ys → Adds a b (x ∷ xs) (x ∷ ys)
 unfolding Adds
-adds_first a b x xs ys k h = elim (or_cases (is_same_id a x) (has a ys) h) [
-  | inl f ↦ inr (or_left (is_same_id a x) (has a xs) f)
-  | inr r ↦ elim (k r) [ inl f ↦ inl f | inr i ↦ inr (or_right (is_same_id a x) (has a xs) i) ]
+adds_first a b x xs ys k h = elim (or_cases (is_same_id a x) (has_item a ys) h) [
+  | inl f ↦ inr (or_left (is_same_id a x) (has_item a xs) f)
+  | inr r ↦ elim (k r) [ inl f ↦ inl f | inr i ↦ inr (or_right (is_same_id a x) (has_item a xs) i) ]
 ]
 
 skip_adds : (a b : OpId) (xs : List OpId) → Adds a b xs (skip b xs)
@@ -82,7 +73,7 @@ unfolding Adds
 skip_adds a b [] h = or_cases (is_same_id a b) false h
 skip_adds a b (x ∷ xs) h = by (is_smaller_id x b) (adds_first a b x xs (skip b xs) (skip_adds a b xs)) h where
   by : (s : Bool) → Adds a b (x ∷ xs) (x ∷ skip b xs) → Adds a b (x ∷ xs) (cond s (b ∷ x ∷ xs) (x ∷ skip b xs))
-  by true k g = or_cases (is_same_id a b) (has a (x ∷ xs)) g
+  by true k g = or_cases (is_same_id a b) (has_item a (x ∷ xs)) g
   by false k g = k g
 
 insert_adds : (p : Option OpId) (a b : OpId) (xs : List OpId) → Adds a b xs (insert_after p b xs)
@@ -102,7 +93,7 @@ some_adds None a b xs h = inr h
 some_adds (Some p) a b xs h = insert_adds p a b xs h
 
 -- the items of lists are operations of the history
-pub item_among : (H : List Operation) (l : Element) (a : OpId) → has a ((doc H).order l) ≡ true → has_id H a ≡ true
+pub item_among : (H : List Operation) (l : Element) (a : OpId) → has_item a ((doc H).order l) ≡ true → has_id H a ≡ true
 unfolding Adds
 item_among [] l a h = h
 item_among (o ∷ H) l a h = elim (some_adds (inserted_after o l) a o.id ((doc H).order l) h) [
@@ -115,14 +106,14 @@ slot_is a b e = cc
 
 -- what stands where an insert goes after it, where each item of the history stands in its list
 AreThere : List Operation → Type 0
-AreThere H = (l : Element) (a : OpId) → IsItemOf H l a → has a ((doc H).order l) ≡ true
+AreThere H = (l : Element) (a : OpId) → IsItemOf H l a → has_item a ((doc H).order l) ≡ true
 
 prev_in : (H : List Operation) (S : OpId → Bool) → AreThere H → (m : Mutation) (place : Place) (l : Element) (p : Option OpId)
-    → ItemsStand H S (element_of place) → slot_of m place ≡ Some (l, p) → has_prev p ((doc H).order l) ≡ true
+    → ItemsStand H S (element_of place) → slot_of m place ≡ Some (l, p) → has_position p ((doc H).order l) ≡ true
 unfolding AreThere
-prev_in H S there (Insert v) (HeadOf m) l p stand is = ap (λ (s : Element × Option OpId). has_prev s.1 ((doc H).order s.0))
+prev_in H S there (Insert v) (HeadOf m) l p stand is = ap (λ (s : Element × Option OpId). has_position s.1 ((doc H).order s.0))
     (sym (slot_is (m, None) (l, p) is))
-prev_in H S there (Insert v) (At (Item m q)) l p stand is = ap (λ (s : Element × Option OpId). has_prev s.1 ((doc H).order s.0))
+prev_in H S there (Insert v) (At (Item m q)) l p stand is = ap (λ (s : Element × Option OpId). has_position s.1 ((doc H).order s.0))
     (sym (slot_is (m, Some q) (l, p) is))
     ∙ there m q stand.1
 prev_in H S there (Insert v) (At Doc) l p stand is = cc
@@ -136,26 +127,26 @@ items_there [] legal l a (x, among, id, slot) = absurd among
 items_there (o ∷ H) legal l a (x, inl same, id, (after, slot)) =
     let here : slot_of o.mutation o.place ≡ Some (l, after) = ap (λ (y : Operation). slot_of y.mutation y.place) (sym same) ∙ slot in
     let goes : inserted_after o l ≡ Some after = ap (after_in l) here ∙ ap (λ b. cond b (Some after) None) (element_itself l) in
-    ap (λ b. has b ((doc (o ∷ H)).order l)) (sym id ∙ ap (λ (y : Operation). y.id) same)
-    ∙ ap (λ g. has o.id (insert_some g o.id ((doc H).order l))) goes
+    ap (λ b. has_item b ((doc (o ∷ H)).order l)) (sym id ∙ ap (λ (y : Operation). y.id) same)
+    ∙ ap (λ g. has_item o.id (insert_some g o.id ((doc H).order l))) goes
     ∙ insert_has after o.id ((doc H).order l) (prev_in H o.deps (items_there H legal.0) o.mutation o.place l after legal.1.items here)
 items_there (o ∷ H) legal l a (x, inr among, id, slot) = by (inserted_after o l) (items_there H legal.0 l a (x, among, id, slot)) where
-  by : (g : Option (Option OpId)) → has a ((doc H).order l) ≡ true → has a (insert_some g o.id ((doc H).order l)) ≡ true
+  by : (g : Option (Option OpId)) → has_item a ((doc H).order l) ≡ true → has_item a (insert_some g o.id ((doc H).order l)) ≡ true
   by None h = h
   by (Some p) h = insert_keeps p a o.id ((doc H).order l) h
 
 -- what an insert that may follow goes after stands in its list, if it isn't the head
 pub prev_there : (H : List Operation) (o : Operation) → IsLegal H → Follows H o → (l : Element) (p : Option OpId)
-    → slot_of o.mutation o.place ≡ Some (l, p) → has_prev p ((doc H).order l) ≡ true
+    → slot_of o.mutation o.place ≡ Some (l, p) → has_position p ((doc H).order l) ≡ true
 prev_there H o legal follows l p is = prev_in H o.deps (items_there H legal) o.mutation o.place l p follows.items is
 
 -- what stands in a list was inserted into it
-item_listed : (H : List Operation) (l : Element) (a : OpId) → has a ((doc H).order l) ≡ true → is_item_of H l a ≡ true
+item_listed : (H : List Operation) (l : Element) (a : OpId) → has_item a ((doc H).order l) ≡ true → is_item_of H l a ≡ true
 unfolding Adds
 item_listed [] l a h = absurd (true≢false (sym h))
 item_listed (o ∷ H) l a h = by (inserted_after o l) refl (item_listed H l a) h where
-  by : (g : Option (Option OpId)) → inserted_after o l ≡ g → (has a ((doc H).order l) ≡ true → is_item_of H l a ≡ true)
-      → has a (insert_some g o.id ((doc H).order l)) ≡ true → is_item_of (o ∷ H) l a ≡ true
+  by : (g : Option (Option OpId)) → inserted_after o l ≡ g → (has_item a ((doc H).order l) ≡ true → is_item_of H l a ≡ true)
+      → has_item a (insert_some g o.id ((doc H).order l)) ≡ true → is_item_of (o ∷ H) l a ≡ true
   by None e rest h = or_right (is_same_id o.id a && is_some (inserted_after o l)) (is_item_of H l a) (rest h)
   by (Some p) e rest h = elim (insert_adds p a o.id ((doc H).order l) h) [
     | inl s ↦ or_left (is_same_id o.id a && is_some (inserted_after o l)) (is_item_of H l a)
@@ -165,7 +156,7 @@ item_listed (o ∷ H) l a h = by (inserted_after o l) refl (item_listed H l a) h
   ]
 
 -- the items of a list in a legal history are those that were inserted into it
-pub items_inserted : (H : List Operation) → IsLegal H → (l : Element) (a : OpId) → has a ((doc H).order l) ≡ is_item_of H l a
+pub items_inserted : (H : List Operation) → IsLegal H → (l : Element) (a : OpId) → has_item a ((doc H).order l) ≡ is_item_of H l a
 unfolding AreThere
-items_inserted H legal l a = both_ways (has a ((doc H).order l)) (is_item_of H l a) (item_listed H l a)
+items_inserted H legal l a = both_ways (has_item a ((doc H).order l)) (is_item_of H l a) (item_listed H l a)
     (λ h. items_there H legal l a (item_from H l a h))

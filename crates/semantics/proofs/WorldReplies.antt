@@ -88,7 +88,7 @@ submitted_once E c serial x y h k =
     sym h.2 ∙ ap (λ (cell : Cell). cell.submitted) same ∙ k.2
 
 -- only a command is answered Made
-made_of : (p : ℕ) (G : List Entry) (x : Submitted) (a : OpId) (n : ℕ) → IsLegalReply p G x (Made a n)
+pub made_of : (p : ℕ) (G : List Entry) (x : Submitted) (a : OpId) (n : ℕ) → IsLegalReply p G x (Made a n)
     → (c : Command) × (s : Stamped) × (x.request ≡ OfCommand c) × (entry_at n G ≡ Some (Own x.client x.serial c s)) × (s.id ≡ a)
 made_of p G x a n h = of_request x.request refl h
   where

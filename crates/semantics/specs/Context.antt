@@ -1,7 +1,7 @@
 -- The document that a history leaves.
-use Rattle.std.specs.Prelude.{cond, not, List, [], ◌∷◌, Option, Some, None}
+use Rattle.std.specs.Prelude.{Bool, true, cond, not, List, [], ◌∷◌, Option, Some, None}
 use Rattle.std.specs.declared.cmp.Ordering.{Ordering}
-use Rattle.std.specs.List.{filter}
+use Rattle.std.specs.List.{filter, list_any}
 use Rattle.std.specs.FinMap.{put}
 use Rattle.semantics.specs.Ids.{OpId, IdSet, id_cmp, is_same_id, is_smaller_id}
 use Rattle.semantics.specs.Elements.{Element, Scalar, Tag, Name, name_cmp, is_under}
@@ -39,6 +39,15 @@ clear C e S = record C {
   presence = λ x. cond (is_under x e) (without S (C.presence x)) (C.presence x);
   register = λ x. cond (is_under x e) (without S (C.register x)) (C.register x);
 }
+
+-- a is one of the items
+abbrev pub has_item : OpId → List OpId → Bool
+has_item a bs = list_any (is_same_id a) bs
+
+-- p is one of the items, or the head
+abbrev pub has_position : Option OpId → List OpId → Bool
+has_position None bs = true
+has_position (Some p) bs = has_item p bs
 
 -- a goes before the first of these that is smaller, or at the end
 abbrev pub skip : OpId → List OpId → List OpId

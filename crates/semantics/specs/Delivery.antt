@@ -1,5 +1,5 @@
 -- The delivery of an operation to a replica.
-use Rattle.std.specs.Prelude.{◌-◌, Bool, cond, ◌||◌, ◌==◌, nat_lt, List, [], ◌∷◌, length, Option, Some, None}
+use Rattle.std.specs.Prelude.{ℕ, ◌-◌, Bool, true, false, cond, ◌||◌, ◌==◌, nat_lt, List, [], ◌∷◌, length, Option, Some, None}
 use Rattle.std.specs.List.{list_any}
 use Rattle.semantics.specs.Ids.{OpId, is_same_id, is_smaller_id}
 use Rattle.ids.specs.declared.refusal.Refusal.{Refusal}
@@ -32,19 +32,26 @@ abbrev pub kept_unless : Option Refusal → Delivered
 kept_unless None = Kept
 kept_unless (Some f) = NotKept f
 
--- the answer to what is ready, for which one more slot is held, and to what is not
+-- as many wait as may: one more slot is held for what is ready
+abbrev pub is_crowded : (ready : Bool) → (waiting : ℕ) → Bool
+is_crowded ready n = nat_lt (cond ready most_waiting (most_waiting - 1)) n
+
+-- the answer to what is ready, and to what is not
 abbrev pub room_answer : Replica → Stamped → Delivered
 room_answer r s = cond (is_ready (operations r) s)
-    (cond (nat_lt most_waiting (length r.waiting)) (NotKept InboxFull) (kept_unless (fault_of (stamped_of r.entries) s)))
-    (cond (nat_lt (most_waiting - 1) (length r.waiting)) (NotKept InboxFull) Kept)
+    (cond (is_crowded true (length r.waiting)) (NotKept InboxFull) (kept_unless (fault_of (stamped_of r.entries) s)))
+    (cond (is_crowded false (length r.waiting)) (NotKept InboxFull) Kept)
+
+-- the answer to an operation that passed the tests that need no history, and is neither applied nor waits
+abbrev pub answer_to_new : Replica → Stamped → Delivered
+answer_to_new r s =
+    cond (s.id.replica == r.own) (NotKept OwnName)
+    (cond (is_full r.entries) (NotKept HistoryFull) (room_answer r s))
 
 -- the answer after the tests that need no history
 abbrev pub answer_after : Replica → Stamped → Option Refusal → Delivered
 answer_after r s (Some f) = NotKept f
-answer_after r s None =
-    cond (has_id (operations r) s.id || is_waiting r.waiting s.id) Known
-    (cond (s.id.replica == r.own) (NotKept OwnName)
-    (cond (is_full r.entries) (NotKept HistoryFull) (room_answer r s)))
+answer_after r s None = cond (has_id (operations r) s.id || is_waiting r.waiting s.id) Known (answer_to_new r s)
 
 -- the first that holds, in the order of the tests
 abbrev pub answer_to : Replica → Stamped → Delivered

@@ -1,5 +1,5 @@
 -- Entry histories: what a replica made of its clients' commands, and what peers sent, the newest first.
-use Rattle.std.specs.Prelude.{◌≡◌, ◌≢◌, ℕ, ◌<◌, cond, not, ◌==◌, nat_lt, ⊤, List, [], ◌∷◌, length, Option, Some, None, Ok}
+use Rattle.std.specs.Prelude.{◌≡◌, ◌≢◌, ℕ, ◌<◌, cond, not, ◌==◌, nat_lt, ⊤, List, [], ◌∷◌, length, reverse, Option, Some, None, Ok}
 use Rattle.std.specs.List.{filter}
 use Rattle.semantics.specs.Operations.{Operation}
 use Rattle.semantics.specs.Vectors.{Vector, covers}
@@ -54,3 +54,7 @@ first_entries m (e ∷ G) = cond (nat_lt (length G) m) (e ∷ G) (first_entries 
 -- the operations of the history that v doesn't cover
 abbrev pub missing : Vector → List Stamped → List Stamped
 missing v G = filter (λ s. not (covers v s.id)) G
+
+-- the operations of the entries that v doesn't cover, the oldest first
+abbrev pub lacked_of : List Entry → Vector → List Stamped
+lacked_of G v = reverse (missing v (stamped_of G))

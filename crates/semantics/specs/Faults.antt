@@ -37,9 +37,13 @@ abbrev pub is_of_members : List ℕ → Stamped → Bool
 is_of_members ps s = is_member ps s.id.replica && list_all (λ a. is_member ps a.replica) s.vector
     && items_of_members ps (element_of s.place)
 
--- the counter is 1 plus the greatest of the vector, and isn't past the last one
+-- the counter is 1 plus the greatest, and isn't past the last one
+abbrev pub is_next_counter : (greatest counter : ℕ) → Bool
+is_next_counter g counter = (counter == suc g) && nat_lt g most_counter
+
+-- the counter is the one after the greatest of the vector
 abbrev pub has_counter : Stamped → Bool
-has_counter s = (s.id.counter == suc (greatest s.vector)) && nat_lt (greatest s.vector) most_counter
+has_counter s = is_next_counter (greatest s.vector) s.id.counter
 
 -- the first of these tests that fails: the names, the counter, what may stand at the place, and the ids on the way to it
 abbrev pub first_failed : Bool → Bool → Option Misplaced → Bool → Option Refusal

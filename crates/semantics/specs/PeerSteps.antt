@@ -1,5 +1,5 @@
 -- The steps of one engine by which it says what it has, sends what a peer lacks, and receives what a peer sent.
-use Rattle.std.specs.Prelude.{ℕ, suc, cond, ◌==◌, Bool, List, [], ◌∷◌, length, reverse, Option, Some, None, option_map, slice_get}
+use Rattle.std.specs.Prelude.{ℕ, suc, cond, ◌==◌, Bool, List, [], ◌∷◌, length, Option, Some, None, option_map, slice_get}
 use Rattle.std.specs.List.{list_all}
 use Rattle.ids.specs.Members.{is_member}
 use Rattle.ids.specs.declared.refusal.Refusal.{Refusal}
@@ -8,7 +8,7 @@ use Rattle.semantics.specs.Vectors.{Vector}
 use Rattle.semantics.specs.NamedIds.{vector_of}
 use Rattle.semantics.specs.Stamped.{Stamped}
 use Rattle.semantics.specs.Faults.{is_of_members}
-use Rattle.semantics.specs.Entries.{applied, missing, stamped_of}
+use Rattle.semantics.specs.Entries.{applied, lacked_of}
 use Rattle.semantics.specs.LegalAnswer.{OfPeer}
 use Rattle.semantics.specs.Engine.{Engine, Client, Message, Hello, Bundle, published_entries, StepReply, Denied, Idle, SentHello}
 use Rattle.semantics.specs.Engine.{SentBundle, NoMessage, Received, Turn}
@@ -23,7 +23,7 @@ published_vector e = vector_of (applied (published_entries e))
 
 -- the published operations that the vector doesn't cover, the oldest first
 abbrev pub lacked : Engine → Vector → List Stamped
-lacked e v = reverse (missing v (stamped_of (published_entries e)))
+lacked e v = lacked_of (published_entries e) v
 
 -- each replica of the vector is a member
 abbrev pub names_members : Engine → Vector → Bool

@@ -38,6 +38,7 @@ poll_cell e c k (Some cell) = at_answer cell.answer
       reply = Replied g.reply;
     }
 
+-- a client polls for the answer to one of its serials
 abbrev pub poll : Engine → (client serial : ℕ) → Turn
 poll e c serial = at_client (slice_get e.clients c)
   where

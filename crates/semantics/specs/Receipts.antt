@@ -9,12 +9,13 @@ use Rattle.semantics.specs.Making.{is_full}
 use Rattle.semantics.specs.Entries.{Entry, applied, first_entries, stamped_of}
 use Rattle.semantics.specs.LegalAnswer.{Request, OfCommand, OfPeer, Submitted, Reply, Made, NotMade, KeptAt, KnownAt, IsLegalAnswer}
 use Rattle.semantics.specs.Delivery.{Delivered, Kept, Known, NotKept, answer_to}
+use Rattle.semantics.specs.WorldHistory.{IsNotBelow}
 
 -- the answer to a delivery of s to replica p, with these members and entries, where W waits
 abbrev pub answer_with : (own : ℕ) (members : List ℕ) → List Entry → List Stamped → Stamped → Delivered
 answer_with p ps G W s = answer_to (record { own = p; members = ps; entries = G; waiting = W; dropped = 0 }) s
 
--- d was the answer after the first k entries of G, for some k from the floor to m, whatever waited then
+-- d was the answer after the first k entries of G, for some k from the floor to m and some inbox
 pub record WasAnswered (p : ℕ) (ps : List ℕ) (G : List Entry) (s : Stamped) (floor m : ℕ) (d : Delivered) : Type 0 where
   pub k : ℕ
   pub from : floor ≤ k
@@ -35,10 +36,8 @@ IsReceipt p ps G x s (NotMade e m) =
 
 -- the position or the length that a reply to a command names isn't below the floor, unless it is refused for that
 abbrev pub IsFromFloor : (floor : ℕ) → Reply → Type 0
-IsFromFloor floor (Made a n) = floor ≤ n
-IsFromFloor floor (NotMade e m) = (floor ≤ m) ⊎ (e ≡ BadFloor)
-IsFromFloor floor (KeptAt m) = floor ≤ m
-IsFromFloor floor (KnownAt m) = floor ≤ m
+IsFromFloor floor (NotMade e m) = IsNotBelow floor (NotMade e m) ⊎ (e ≡ BadFloor)
+IsFromFloor floor y = IsNotBelow floor y
 
 -- y is a reply to what was submitted that the history G of replica p, with these members, allows
 abbrev pub IsAnswer : (own : ℕ) (members : List ℕ) → List Entry → Submitted → Reply → Type 0

@@ -65,7 +65,7 @@ abbrev pub beside : OpId → Forest → Forest
 beside a Bare = Tree a Bare Bare
 beside a (Tree b beneath next) = cond (is_smaller_id b a) (Tree a Bare (Tree b beneath next)) (Tree b beneath (beside a next))
 
--- a stands right beneath p
+-- a stands right beneath p; where p isn't there nothing changes
 abbrev pub beneath_node : OpId → OpId → Forest → Forest
 beneath_node p a Bare = Bare
 beneath_node p a (Tree b beneath next) =

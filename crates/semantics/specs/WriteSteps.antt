@@ -80,7 +80,7 @@ after_item r x = cond (nat_lt (length r.entries) x.floor) r (after_request r x x
 abbrev pub reply_to : Replica → Submitted → Reply
 reply_to r x = cond (nat_lt (length r.entries) x.floor) (NotMade BadFloor (length r.entries)) (reply_requested r x.request)
 
--- the writer takes the oldest submission and handles it, while fewer than a batch are handled and none of them is published
+-- the writer takes the oldest submission and handles it, while fewer than a batch are handled and none is due
 abbrev pub take_oldest : Engine → List Submitted → Turn
 take_oldest e [] = record { engine = e; reply = Idle }
 take_oldest e (x ∷ queue) =
@@ -94,6 +94,7 @@ take_oldest e (x ∷ queue) =
       reply = Took;
     })
 
+-- the writer takes and handles the next submission, if it may
 abbrev pub take_item : Engine → Turn
 take_item e = take_oldest e e.queue
 
@@ -137,6 +138,7 @@ give_oldest e (h ∷ due) =
       reply = Gave h.submitted.client h.submitted.serial;
     }
 
+-- the writer sets the next answer that is due, if one is
 abbrev pub give : Engine → Turn
 give e = give_oldest e e.due
 

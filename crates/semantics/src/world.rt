@@ -12,15 +12,16 @@ ghost use Rattle.semantics.specs.View.{view};
 ghost use Rattle.semantics.specs.Stamped.{Stamped};
 ghost use Rattle.semantics.specs.Making.{Command};
 ghost use Rattle.semantics.specs.Entries.{IsEntryHistory, Own, applied, entry_at, first_entries, stamped_of};
-ghost use Rattle.semantics.specs.LegalAnswer.{Request, OfCommand, OfPeer, Submitted, Reply, Made, Asked, OfDocument, Reading, Answered};
-ghost use Rattle.semantics.specs.LegalAnswer.{IsLegalReply, reading_of};
+ghost use Rattle.semantics.specs.LegalAnswer.{Request, OfCommand, OfPeer, Submitted, Reply, Made, NotMade, Asked, OfDocument, Reading};
+ghost use Rattle.semantics.specs.LegalAnswer.{Answered, LacksSerial, IsLegalReply, reading_of};
 ghost use Rattle.semantics.specs.Engine.{Engine, Client, Given, Message, Hello, Bundle, Ticket, Replied, Read, SentBundle, Received};
 ghost use Rattle.semantics.specs.Engine.{published_entries};
 ghost use Rattle.semantics.specs.WriteSteps.{next_item, push};
 ghost use Rattle.semantics.specs.ReadSteps.{poll, ask, learn, seen_by};
 ghost use Rattle.semantics.specs.PeerSteps.{say_hello, answer_hello, receive_lines};
 ghost use Rattle.semantics.specs.World.{WorldAct, WorldStep, Push, step_by, sent_by};
-ghost use Rattle.semantics.specs.WorldHistory.{IsEngineAfter, BeginsWith, WasSubmitted, WasGiven, IsNotBelow, HasGrown, HasAllSubmitted};
+ghost use Rattle.semantics.specs.WorldHistory.{IsEngineAfter, BeginsWith, WasSubmitted, WasGiven, WasReplied, IsNotBelow, HasGrown};
+ghost use Rattle.semantics.specs.WorldHistory.{HasAllSubmitted};
 
 /// Each history is an entry history of its replica. What is published is a beginning of it, and no token has seen more than that.
 pub fn histories_are_entry_histories()
@@ -73,6 +74,18 @@ pub fn made_commands_stand_once()
         (command : Command) × (s : Stamped) × (x.request ≡ OfCommand command)
         × (entry_at n (published_entries E) ≡ Some (Own c serial command s)) × (s.id ≡ a)
         × ((m : ℕ) (other : Command) (t : Stamped) → entry_at m E.replica.entries ≡ Some (Own c serial other t) → m ≡ n) }
+{}
+
+/// Each own entry of the history is of the command that its client submitted under its serial, to which the writer replied Made, with
+/// the entry's id and position. No serial has two replies, so a command that was refused stands nowhere in the history.
+pub fn refused_commands_stand_nowhere()
+    ensures made { (cs : List Configuration) (steps : List WorldStep) (e : ℕ) (E : Engine) → IsEngineAfter cs steps e E →
+        (m c serial : ℕ) (command : Command) (s : Stamped) → entry_at m E.replica.entries ≡ Some (Own c serial command s) →
+        (x : Submitted) × WasSubmitted E c serial x × (x.request ≡ OfCommand command) × WasReplied E c serial (Made s.id m) }
+    ensures once { (cs : List Configuration) (steps : List WorldStep) (e : ℕ) (E : Engine) → IsEngineAfter cs steps e E →
+        (c serial : ℕ) (q r : Reply) → WasReplied E c serial q → WasReplied E c serial r → q ≡ r }
+    ensures refused { (cs : List Configuration) (steps : List WorldStep) (e : ℕ) (E : Engine) → IsEngineAfter cs steps e E →
+        (c serial : ℕ) (why : Refusal) (n : ℕ) → WasReplied E c serial (NotMade why n) → LacksSerial c serial E.replica.entries }
 {}
 
 /// Each reading is what a published history answers that begins with what its token had seen: the document's answer, and the view

@@ -4,24 +4,21 @@
 ghost use Rattle.std.specs.Prelude.{◌≡◌};
 ghost use Rattle.ids.specs.Members.{in_order};
 
-use cursor::{Expr, Step as ExprStep};
-use document::{Question, Reading};
-use engine::{Client, EngineName, Parts, ReaderToken, Step, Ticket, Writer, close, open, prepare};
-use ids::{Config, Refusal};
-use items::Reply;
-use operation::Command;
+use engine::{
+    Client, Command, Config, EngineName, Expr, Parts, Question, ReaderToken, Reading, Refusal,
+    Reply, Step, Ticket, Val, Writer, close, open, prepare,
+};
 use std::alloc::Global;
 use std::io;
 use std::marker::Brand;
 use std::sync::Wait;
 use std::sync::atomic::{AtomicBool, Ordering};
 use std::thread::{Threads, join, yield_now};
-use value::{Key, Scalar, Text, Val};
 
 fn main(rt: HostRuntime) -> io::Result<()> {
     match shop(&rt, rt.alloc()) {
         Ok((read, kept)) => println!(rt; "the reader saw {read} of {kept} entries"),
-        Err(refusal) => println!(rt; "no shopping: {refusal}"),
+        Err(refusal) => println!(rt; "no shopping: {refusal:?}"),
     }
 }
 
@@ -36,7 +33,7 @@ fn shop<R: Threads + Wait + Sync>(rt: &R, alloc: Global) -> Result<(usize, usize
             readers: 1,
             queue: 16,
             batch: 8,
-            serials: 1_000,
+            serials: u32::MAX,
         },
     )?;
     shop_in::<Brand, R>(rt, alloc, parts)
@@ -56,7 +53,7 @@ fn shop_in<N: EngineName + Send + Sync, R: Threads + Wait + Sync>(
         (Some(bob), Some(alice), Some(reader)) => {
             together(rt, alloc, &mut writer, alice, bob, reader)
         }
-        _ => Ok(0),
+        _ => Err(Refusal::NoReaderPlace),
     };
     let history = close(rt, writer, Vec::new(alloc)).history;
     Ok((read?, history.len()))
@@ -123,33 +120,52 @@ fn write<N: EngineName, R: Wait>(
 ) -> Result<(), Refusal> {
     let mut client = client;
     for (what, how_much) in wishes {
-        let ticket = client.submit(rt, alloc, wish(alloc, what, how_much)?)?;
-        wait_for(rt, &mut client, &ticket)?;
+        let command = wish(alloc, what, how_much)?;
+        write_one(rt, alloc, &mut client, &command)?;
     }
     Ok(())
 }
 
 /// The command that writes how much to buy of it.
 fn wish(alloc: Global, what: &str, how_much: &str) -> Result<Command, Refusal> {
-    let step = ExprStep::Get(Key::new(alloc, what)?);
-    let text = Val::Scalar(Scalar::Text(Text::new(alloc, how_much)?));
-    Ok(Command::Assign(Expr::new(vec![in alloc; step]?), text))
+    let place = Expr::root(alloc).get(alloc, what)?;
+    Ok(Command::Assign(place, Val::text(alloc, how_much)?))
 }
 
-/// Polls until the writer has answered.
-fn wait_for<N: EngineName, R: Wait>(
+/// Submits the command until it is answered: again where the queue is full, or where memory ran out before it was handled.
+fn write_one<N: EngineName, R: Wait>(
     rt: &R,
+    alloc: Global,
     client: &mut Client<N>,
-    ticket: &Ticket,
+    command: &Command,
 ) -> Result<(), Refusal> {
     for _ in rt.forever() {
-        match client.poll(ticket)? {
-            Some(Reply::Refused(refusal, _)) => return Err(refusal),
-            Some(_) => break,
-            None => yield_now(),
+        match client.submit(rt, alloc, command.clone()?) {
+            Ok(ticket) => match reply_to(rt, client, &ticket)? {
+                Reply::Refused(Refusal::NoMemory, _) => yield_now(),
+                Reply::Refused(refusal, _) => return Err(refusal),
+                _ => break,
+            },
+            Err(Refusal::QueueFull) => yield_now(),
+            Err(refusal) => return Err(refusal),
         }
     }
     Ok(())
+}
+
+/// Polls until the writer has answered.
+fn reply_to<N: EngineName, R: Wait>(
+    rt: &R,
+    client: &mut Client<N>,
+    ticket: &Ticket,
+) -> Result<Reply, Refusal> {
+    for _ in rt.forever() {
+        match client.poll(ticket)? {
+            Some(reply) => return Ok(reply),
+            None => yield_now(),
+        }
+    }
+    unreachable!()
 }
 
 /// Reads the keys of the document again and again, the last time once the clients have ended. Returns how many entries were seen then.
@@ -163,7 +179,7 @@ fn read_until<N: EngineName, R: Wait>(
     let mut reader = reader;
     for _ in rt.forever() {
         let is_last = ended.load(Ordering::Acquire);
-        let question = Question::Keys(Expr::new(Vec::new(alloc)));
+        let question = Question::Keys(Expr::root(alloc));
         if let Reading::Keys(_keys) = reader.ask(alloc, &question)? {
             if is_last {
                 break;

@@ -8,6 +8,7 @@ use Rattle.std.proofs.lemmas.List.Elements.{filter-append}
 use Rattle.semantics.specs.Elements.{Element, Field, Name}
 use Rattle.semantics.specs.Paths.{FieldKey}
 use Rattle.semantics.specs.DocumentAnswer.{is_any}
+use Rattle.columns.proofs.Same.{some_is}
 use Rattle.tree.specs.declared.node.Node.{Node}
 use Rattle.tree.specs.Nodes.{IsTree, context, is_written, links, names_in, next_number, node_in, number, presence_of}
 use Rattle.tree.proofs.Links.{field_there}
@@ -20,9 +21,7 @@ take_next [] zero x e = absurd (none_some x e) where
 take_next [] (suc k) x e = absurd (none_some x e) where
   none_some : {X : Type 0} (x : X) → ◌≡◌ {A = Option X} None (Some x) → ⊥
   none_some x e = cc
-take_next (y ∷ xs) zero x e = ap (λ z. z ∷ []) (some_is y x e) where
-  some_is : {X : Type 0} (y x : X) → Some y ≡ Some x → y ≡ x
-  some_is y x e = cc
+take_next (y ∷ xs) zero x e = ap (λ z. z ∷ []) (some_is y x e)
 take_next (y ∷ xs) (suc k) x e = ap (λ n. take n (y ∷ xs)) (next_is k) ∙ ap (λ zs. y ∷ zs) (take_next xs k x e) where
   next_is : (k : ℕ) → suc k + 1 ≡ suc (k + 1)
   next_is k = omega arith
@@ -56,9 +55,6 @@ wanted_next ns p fs k d h =
     ∙ ap (filter p) (map-append (λ x. x.0) (names_in ns (take k fs)) (names_in ns (get_or fs k d ∷ [])))
     ∙ filter-append p (map (λ x. x.0) (names_in ns (take k fs))) (map (λ x. x.0) (names_in ns (get_or fs k d ∷ [])))
     ∙ ap (λ xs. filter p (map (λ x. x.0) (names_in ns (take k fs))) ++ xs) (wanted_is ns p (get_or fs k d))
-
-some_is : (x y : ℕ) → Some x ≡ Some y → x ≡ y
-some_is x y e = cc
 
 -- whether a field shows is seen at its node
 pub field_shows : (ns : List Node) → IsTree ns → (e : Element) (i k j : ℕ) (d : Name × ℕ) → number ns e ≡ Some i → k < length (links ns i).0

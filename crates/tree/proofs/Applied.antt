@@ -19,7 +19,7 @@ use Rattle.operation.specs.Meanings.{mutation_of, stamped_of}
 use Rattle.tree.specs.declared.stamp.Stamp.{Stamp}
 use Rattle.tree.specs.Nodes.{context, node_at, register_room}
 use Rattle.tree.specs.Writes.{assigned, deps_of, end_of, linked}
-use Rattle.tree.specs.Trees.{CanInsert, FitsIn, IsPlaced, IsReady, Planted, RoomToLink, RoomToWrite}
+use Rattle.tree.specs.Trees.{CanInsert, FitsIn, IsPlaced, IsReserved, Planted, RoomToLink, RoomToWrite}
 use Rattle.tree.proofs.Writes.{assign_is, delete_is, insert_is}
 use Rattle.tree.proofs.Slots.{formed_slot, slot_of_any}
 
@@ -76,36 +76,36 @@ some_mapped : {X Y : Type 0} (f : X → Y) (o : Option X) → IsSome o → IsSom
 some_mapped f None h = h
 some_mapped f (Some x) h = refl
 
--- what is there where the operation is ready
-module _ (o : Op) (t : Planted) (ready : IsReady t (stamped_of t.table o)) (v : Val) where
-  pub assign_ready : o.mutation ≡ mutation.Assign v → RoomToWrite t (element_of o.place) (Some (meaning_of v))
-  assign_ready m = subst
-      (λ c. RoomToWrite t (target_in (slot_of (mutation_of c) o.place) o.id o.place) (value_of (mutation_of c))) m ready.write
+-- what is there where the operation is reserved
+module _ (o : Op) (t : Planted) (reserved : IsReserved t (stamped_of t.table o)) (v : Val) where
+  pub assign_reserved : o.mutation ≡ mutation.Assign v → RoomToWrite t (element_of o.place) (Some (meaning_of v))
+  assign_reserved m = subst
+      (λ c. RoomToWrite t (target_in (slot_of (mutation_of c) o.place) o.id o.place) (value_of (mutation_of c))) m reserved.write
 
-  insert_ready : o.mutation ≡ mutation.Insert v → (l : Element) (p : Option OpId) → slot_of (Insert EmptyMap) o.place ≡ Some (l, p)
+  insert_reserved : o.mutation ≡ mutation.Insert v → (l : Element) (p : Option OpId) → slot_of (Insert EmptyMap) o.place ≡ Some (l, p)
       → RoomToWrite t (Item l o.id) (Some (meaning_of v))
-  insert_ready m l p q =
+  insert_reserved m l p q =
       subst (λ x. RoomToWrite t (target_in x o.id o.place) (Some (meaning_of v))) (slot_of_any (meaning_of v) o.place ∙ q)
-      (subst (λ c. RoomToWrite t (target_in (slot_of (mutation_of c) o.place) o.id o.place) (value_of (mutation_of c))) m ready.write)
+      (subst (λ c. RoomToWrite t (target_in (slot_of (mutation_of c) o.place) o.id o.place) (value_of (mutation_of c))) m reserved.write)
 
-  pub scalar_ready : o.mutation ≡ mutation.Insert v → option_map scalar_of t.scalar ≡ scalar_in (Some (meaning_of v))
-  scalar_ready m = (subst (λ c. RoomToWrite t (target_in (slot_of (mutation_of c) o.place) o.id o.place)
-      (value_of (mutation_of c))) m ready.write).1
+  pub scalar_reserved : o.mutation ≡ mutation.Insert v → option_map scalar_of t.scalar ≡ scalar_in (Some (meaning_of v))
+  scalar_reserved m = (subst (λ c. RoomToWrite t (target_in (slot_of (mutation_of c) o.place) o.id o.place)
+      (value_of (mutation_of c))) m reserved.write).1
 
-  pub register_ready : (e : Element) → RoomToWrite t e (Some (meaning_of v)) → IsSome t.scalar → 0 < register_room (node_at t.nodes e)
-  register_ready e write some = write.2 (subst IsSome write.1 (some_mapped scalar_of t.scalar some))
+  pub register_reserved : (e : Element) → RoomToWrite t e (Some (meaning_of v)) → IsSome t.scalar → 0 < register_room (node_at t.nodes e)
+  register_reserved e write some = write.2 (subst IsSome write.1 (some_mapped scalar_of t.scalar some))
 
   pub can_insert : (a : OpId) → a ≡ o.id → o.mutation ≡ mutation.Insert v → IsPlaced (context t.nodes) (stamped_of t.table o)
       → (l : Element) (p : Option OpId) → slot_of (Insert EmptyMap) o.place ≡ Some (l, p) → CanInsert t.nodes l p a t.scalar
   can_insert a same m placed l p q =
-      let write = insert_ready m l p q in
+      let write = insert_reserved m l p q in
       let slot : slot_of (mutation_of o.mutation) o.place ≡ Some (l, p) = ap (λ c. slot_of (mutation_of c) o.place) m
       ∙ slot_of_any (meaning_of v) o.place ∙ q in
       let fits : FitsIn (context t.nodes) o.id (Some (l, p)) = subst (FitsIn (context t.nodes) o.id) slot placed in
       subst (λ b. CanInsert t.nodes l p b t.scalar) (sym same) (record {
         room = write.0;
-        register = register_ready (Item l o.id) write;
-        order = subst (RoomToLink t.nodes) slot ready.link;
+        register = register_reserved (Item l o.id) write;
+        order = subst (RoomToLink t.nodes) slot reserved.link;
         position = fits.0;
         fresh = fits.1;
       })

@@ -1,32 +1,23 @@
 -- Which elements stand beneath another, and on the way down to it.
 use Rattle.std.proofs.Common.{◌≡◌, ◌⊎◌, ℕ, true, List, [], ◌∷◌, take, drop, Option, Some, None, sym, ap, ◌∙◌, inl, inr}
 use Rattle.std.specs.List.{list_any}
-use Rattle.std.proofs.lemmas.Bool.{or_cases, or_right}
+use Rattle.std.proofs.lemmas.Bool.{or_cases}
 use Rattle.std.proofs.lemmas.List.{take-append-drop}
 use Rattle.semantics.specs.Elements.{Element, Doc, is_same, is_under}
 use Rattle.semantics.specs.Paths.{Key, child, down}
 use Rattle.semantics.proofs.Orders.{same_elements}
 use Rattle.semantics.proofs.ElementPaths.{down-append}
 use Rattle.tree.specs.declared.node.Node.{Node}
-use Rattle.tree.specs.Nodes.{linked_by, links, number}
+use Rattle.tree.specs.Nodes.{links, number}
 use Rattle.tree.specs.Writes.{end_of}
 use Rattle.tree.proofs.Shape.{next_some, number_extend, under_none}
-use Rattle.tree.proofs.Clears.{any_more, beneath, linked_there, some_is, under_child, under_itself, under_parent, under_step}
+use Rattle.tree.proofs.Clears.{beneath, deeper, under_child, under_itself, under_parent, under_step}
 
 -- an item with a node, of a list at e or under it, stands under one of e's children
 pub beneath_child : (ns : List Node) (e : Element) (i : ℕ) → number ns e ≡ Some i → (y : Element) (k : Key) (j : ℕ)
     → number ns (child y k) ≡ Some j → is_under y e ≡ true → list_any (is_under (child y k)) (beneath e (links ns i)) ≡ true
 beneath_child ns e i at y k j p u =
-    let (h, hp, hc) = next_some ns (number ns y) k j (sym (number_extend ns y k) ∙ p) in
-    elim (or_cases (is_same y e) (list_any (is_under y) (beneath e (links ns i))) (under_child ns e i at y h hp u)) [
-      | inl s ↦
-          let q : y ≡ e = same_elements y e s in
-          let here : h ≡ i = some_is h i (sym hp ∙ ap (number ns) q ∙ at) in
-          ap (λ z. list_any (is_under (child z k)) (beneath e (links ns i))) q
-          ∙ linked_there e (links ns i) k j (ap (λ m. linked_by (links ns m) k) (sym here) ∙ hc)
-      | inr w ↦ any_more (is_under y) (is_under (child y k)) (λ z b. under_step y z k ∙ or_right (is_same (child y k) z) _ b)
-          (beneath e (links ns i)) w
-    ]
+    deeper ns e i at y k j (next_some ns (number ns y) k j (sym (number_extend ns y k) ∙ p)) (λ h hp. under_child ns e i at y h hp u)
 
 -- what is on the way down to a place below z is on the way to z, or below it
 way_parts : (z x : Element) (ks : List Key) → is_under (down z ks) x ≡ true → (is_under z x ≡ true) ⊎ (is_under x z ≡ true)

@@ -13,10 +13,11 @@ use Rattle.semantics.specs.Elements.{Element, Doc, Field, Item, Name, name_cmp, 
 use Rattle.semantics.specs.Paths.{Key, FieldKey, ItemKey, child}
 use Rattle.semantics.specs.Context.{Context, without, clear}
 use Rattle.semantics.proofs.Orders.{element_itself, same_elements}
+use Rattle.columns.proofs.Same.{some_is}
 use Rattle.tree.specs.declared.node.Node.{Node}
 use Rattle.tree.specs.Nodes.{Links, links, linked_by, child_number, next_number, number, node_in, node_at, presence_of, register_of}
 use Rattle.tree.specs.Nodes.{context}
-use Rattle.tree.specs.Writes.{clear_own, clear_each, fields_of, items_of}
+use Rattle.tree.specs.Writes.{clear_own, fields_of, items_of}
 use Rattle.tree.proofs.Shape.{next_some}
 use Rattle.tree.proofs.Contexts.{context_same}
 
@@ -37,6 +38,11 @@ left_twice : {X : Type 0} (S : IdSet) (a b : Bool) (es : List (OpId × X)) → l
 left_twice S true true es = without_twice S es
 left_twice S true false es = refl
 left_twice S false b es = refl
+
+-- each of these is cleared, in turn
+abbrev pub clear_each : Context → List Element → IdSet → Context
+clear_each C [] S = C
+clear_each C (e ∷ es) S = clear_each (clear C e S) es S
 
 presence_each : (C : Context) (es : List Element) (S : IdSet) (x : Element)
     → (clear_each C es S).presence x ≡ left S (list_any (is_under x) es) (C.presence x)
@@ -111,29 +117,29 @@ pub under_step : (y e : Element) (k : Key) → is_under (child y k) e ≡ (is_sa
 under_step y e (FieldKey n) = refl
 under_step y e (ItemKey a) = refl
 
-pub some_is : {A : Type 0} (x y : A) → Some x ≡ Some y → x ≡ y
-some_is x y e = cc
-
 module _ (ns : List Node) (e : Element) (i : ℕ) (at : number ns e ≡ Some i) where
+  -- a child of what is e, or stands under one of its children, stands under one of them
+  pub deeper : (y : Element) (k : Key) (j : ℕ) → (h : ℕ) × (number ns y ≡ Some h) × (child_number ns h k ≡ Some j)
+      → ((h : ℕ) → number ns y ≡ Some h → (is_same y e || list_any (is_under y) (beneath e (links ns i))) ≡ true)
+      → list_any (is_under (child y k)) (beneath e (links ns i)) ≡ true
+  deeper y k j (h, hp, hc) at_or_under = elim (or_cases (is_same y e) (list_any (is_under y) (beneath e (links ns i))) (at_or_under h hp)) [
+    | inl s ↦
+        let q : y ≡ e = same_elements y e s in
+        let here : h ≡ i = some_is h i (sym hp ∙ ap (number ns) q ∙ at) in
+        ap (λ z. list_any (is_under (child z k)) (beneath e (links ns i))) q
+        ∙ linked_there e (links ns i) k j (ap (λ m. linked_by (links ns m) k) (sym here) ∙ hc)
+    | inr w ↦ any_more (is_under y) (is_under (child y k)) (λ z b. under_step y z k ∙ or_right (is_same (child y k) z) _ b)
+        (beneath e (links ns i)) w
+  ]
+
   step : (y : Element) (k : Key) (j : ℕ) → next_number ns (number ns y) k ≡ Some j
       → ((h : ℕ) → number ns y ≡ Some h → is_under y e ≡ true → (is_same y e || list_any (is_under y) (beneath e (links ns i))) ≡ true)
       → (is_same (child y k) e || is_under y e) ≡ true
       → (is_same (child y k) e || list_any (is_under (child y k)) (beneath e (links ns i))) ≡ true
   step y k j p above u = elim (or_cases (is_same (child y k) e) (is_under y e) u) [
     | inl s ↦ or_left _ _ s
-    | inr v ↦ or_right (is_same (child y k) e) _ (under (next_some ns (number ns y) k j p) v)
-  ] where
-    under : (h : ℕ) × (number ns y ≡ Some h) × (child_number ns h k ≡ Some j) → is_under y e ≡ true
-        → list_any (is_under (child y k)) (beneath e (links ns i)) ≡ true
-    under (h, hp, hc) v = elim (or_cases (is_same y e) (list_any (is_under y) (beneath e (links ns i))) (above h hp v)) [
-      | inl s ↦
-          let q : y ≡ e = same_elements y e s in
-          let here : h ≡ i = some_is h i (sym hp ∙ ap (number ns) q ∙ at) in
-          ap (λ z. list_any (is_under (child z k)) (beneath e (links ns i))) q
-          ∙ linked_there e (links ns i) k j (ap (λ m. linked_by (links ns m) k) (sym here) ∙ hc)
-      | inr w ↦ any_more (is_under y) (is_under (child y k)) (λ z b. under_step y z k ∙ or_right (is_same (child y k) z) _ b)
-          (beneath e (links ns i)) w
-    ]
+    | inr v ↦ or_right (is_same (child y k) e) _ (deeper y k j (next_some ns (number ns y) k j p) (λ h hp. above h hp v))
+  ]
 
   -- what has a node under e is e, or stands under one of its children
   pub under_child : (x : Element) (j : ℕ) → number ns x ≡ Some j → is_under x e ≡ true

@@ -19,8 +19,8 @@ grows_same ns = record {
   order = λ i. omega arith;
 }
 
-pub grows_trans : (a b c : List Node) → Grows a b → Grows b c → Grows a c
-grows_trans a b c p q = record {
+pub grows_trans : {a b c : List Node} → Grows a b → Grows b c → Grows a c
+grows_trans p q = record {
   count = let x = p.count in let y = q.count in omega arith;
   children = λ i k j h. q.children i k j (p.children i k j h);
   presence = λ i. let x = p.presence i in let y = q.presence i in omega arith;
@@ -31,13 +31,12 @@ grows_trans a b c p q = record {
 pub kept_same : (ns : List Node) → IsTree ns → Kept ns ns
 kept_same ns t = record { tree = t; same = refl; visible = λ e. refl; grows = grows_same ns; beside = λ table b. b }
 
-pub kept_trans : (a b c : List Node) → Kept a b → Kept b c → Kept a c
-kept_trans a b c p q = record {
+pub kept_trans : {a b c : List Node} → Kept a b → Kept b c → Kept a c
+kept_trans p q = record {
   tree = q.tree;
   same = q.same ∙ p.same;
-  visible = λ e. q.visible e
-      ∙ p.visible e;
-  grows = grows_trans a b c p.grows q.grows;
+  visible = λ e. q.visible e ∙ p.visible e;
+  grows = grows_trans p.grows q.grows;
   beside = λ table b. q.beside table (p.beside table b);
 }
 

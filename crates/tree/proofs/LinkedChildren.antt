@@ -56,19 +56,39 @@ names_unwritten ns n j d (f ∷ fs) p =
       | Greater ↦ λ q. ap (λ xs. cond (is_written (slice_get ns f.1)) ((f.0, tt) ∷ xs) xs) (names_unwritten ns n j d fs q)
     ] p
 
-module _ (ns : List Node) (at : ℕ) (n m : Node) (j : ℕ) (g : slice_get ns at ≡ Some n) (s : OnlyLinks n m) where
+module _ (ns : List Node) (at : ℕ) (n m : Node) (j : ℕ) (g : slice_get ns at ≡ Some n) where
   there : slice_get (set ns at m) at ≡ Some m
   there = get_same ns at m (get_inside ns at n g)
 
-  flags : (i : ℕ) → is_written (slice_get ns i) ≡ is_written (slice_get (set ns at m) i)
-  flags = same_set is_written ns at n m g s.written
+  flags : OnlyLinks n m → (i : ℕ) → is_written (slice_get ns i) ≡ is_written (slice_get (set ns at m) i)
+  flags s = same_set is_written ns at n m g s.written
+
+  -- a put among the links of one kind changes what is linked by its key alone
+  put_links : {K : Type 0} (R : K → K → Ordering) → IsTotalOrder R → ((a b : K) → R a b ≡ Equal → a ≡ b) → (name : K → Key)
+      (part : Option Node → List (K × ℕ)) (a : K) → part (Some m) ≡ put R a j (part (Some n)) → (i : ℕ) (k : K)
+      → (find R k (part (slice_get (set ns at m) i)) ≡ find R k (part (slice_get ns i)))
+      ⊎ ((i ≡ at) × (name k ≡ name a) × (find R k (part (slice_get (set ns at m) i)) ≡ Some j))
+  put_links R o same name part a is i k = elim (cases_eq i at) [
+    | inl e ↦
+        let after : find R k (part (slice_get (set ns at m) i))
+        ≡ find R k (put R a j (part (Some n))) = ap (λ h. find R k (part (slice_get (set ns at m) h))) e
+        ∙ ap (λ x. find R k (part x)) there ∙ ap (find R k) is in
+        let before : find R k (part (slice_get ns i)) ≡ find R k (part (Some n)) = ap (λ h. find R k (part (slice_get ns h))) e
+        ∙ ap (λ x. find R k (part x)) g in
+        elim (found_put R o same k a j (part (Some n))) [
+          | inl f ↦ inl (after ∙ f ∙ sym before)
+          | inr (q, f) ↦ inr (e, ap name q, after ∙ f)
+        ]
+    | inr d ↦ inl (ap (λ x. find R k (part x)) (get_other ns at m i d))
+  ]
 
   module _ (key : Name) (put_field : m.fields.entries ≡ put name_cmp key j n.fields.entries) where
     pub field_linked : child_number (set ns at m) at (FieldKey key) ≡ Some j
     field_linked = ap (λ o. find name_cmp key (links_of o).0) there ∙ ap (find name_cmp key) put_field
         ∙ put_there name_cmp name_total key j n.fields.entries
 
-    module _ (t : IsTree ns) (o : IsOrphan ns j) (none : child_number ns at (FieldKey key) ≡ None) (same_items : m.items ≡ n.items) where
+    module _ (s : OnlyLinks n m) (t : IsTree ns) (o : IsOrphan ns j) (none : child_number ns at (FieldKey key) ≡ None)
+        (same_items : m.items ≡ n.items) where
       items : (i : ℕ) → (links ns i).1 ≡ (links (set ns at m) i).1
       items = same_set (λ o. (links_of o).1) ns at n m g (ap (λ c. c.entries) same_items)
 
@@ -76,20 +96,7 @@ module _ (ns : List Node) (at : ℕ) (n m : Node) (j : ℕ) (g : slice_get ns at
           → (child_number (set ns at m) i k ≡ child_number ns i k)
           ⊎ ((i ≡ at) × (k ≡ FieldKey key) × (child_number (set ns at m) i k ≡ Some j))
       children i (ItemKey a) = inl (sym (ap (find id_cmp a) (items i)))
-      children i (FieldKey k) = elim (cases_eq i at) [
-        | inl e ↦
-            let after : child_number (set ns at m) i (FieldKey k)
-            ≡ find name_cmp k (put name_cmp key j n.fields.entries) = ap (λ h. child_number (set ns at m) h (FieldKey k)) e
-            ∙ ap (λ o. find name_cmp k (links_of o).0) there ∙ ap (find name_cmp k) put_field in
-            let before : child_number ns i (FieldKey k) ≡ find name_cmp k n.fields.entries = ap (λ h. child_number ns h (FieldKey k)) e
-            ∙ ap (λ o. find name_cmp k (links_of o).0) g in
-            elim (found_put name_cmp name_total same_names k key j n.fields.entries) [
-              | inl f ↦ inl (after ∙ f ∙ sym before)
-              | inr
-                  (q, f) ↦ inr (e, ap FieldKey q, after ∙ f)
-            ]
-        | inr d ↦ inl (ap (λ o. find name_cmp k (links_of o).0) (get_other ns at m i d))
-      ]
+      children i (FieldKey k) = put_links name_cmp name_total same_names FieldKey (λ o. (links_of o).0) key put_field i k
 
       -- the new field was never written, so no name is told that wasn't
       names : (i : ℕ) → names_in ns (links ns i).0 ≡ names_in (set ns at m) (links (set ns at m) i).0
@@ -101,7 +108,7 @@ module _ (ns : List Node) (at : ℕ) (n m : Node) (j : ℕ) (g : slice_get ns at
           (sym (ap (λ x. find name_cmp key (links_of x).0) g) ∙ none))
           ∙ ap (names_in ns) (sym put_field))
           (λ h. refl) i
-          ∙ names_same ns (set ns at m) flags (links (set ns at m) i).0
+          ∙ names_same ns (set ns at m) (flags s) (links (set ns at m) i).0
 
       pub linked_field : Linked at (FieldKey key) j ns (set ns at m)
       linked_field = record {
@@ -124,7 +131,7 @@ module _ (ns : List Node) (at : ℕ) (n m : Node) (j : ℕ) (g : slice_get ns at
     pub item_linked : child_number (set ns at m) at (ItemKey a) ≡ Some j
     item_linked = ap (λ o. find id_cmp a (links_of o).1) there ∙ ap (find id_cmp a) put_item ∙ put_there id_cmp id_total a j n.items.entries
 
-    module _ (t : IsTree ns) (none : child_number ns at (ItemKey a) ≡ None) (same_fields : m.fields ≡ n.fields) where
+    module _ (s : OnlyLinks n m) (t : IsTree ns) (none : child_number ns at (ItemKey a) ≡ None) (same_fields : m.fields ≡ n.fields) where
       fields : (i : ℕ) → (links ns i).0 ≡ (links (set ns at m) i).0
       fields = same_set (λ o. (links_of o).0) ns at n m g (ap (λ c. c.entries) same_fields)
 
@@ -132,20 +139,7 @@ module _ (ns : List Node) (at : ℕ) (n m : Node) (j : ℕ) (g : slice_get ns at
           → (child_number (set ns at m) i k ≡ child_number ns i k)
           ⊎ ((i ≡ at) × (k ≡ ItemKey a) × (child_number (set ns at m) i k ≡ Some j))
       item_children i (FieldKey k) = inl (sym (ap (find name_cmp k) (fields i)))
-      item_children i (ItemKey b) = elim (cases_eq i at) [
-        | inl e ↦
-            let after : child_number (set ns at m) i (ItemKey b)
-            ≡ find id_cmp b (put id_cmp a j n.items.entries) = ap (λ h. child_number (set ns at m) h (ItemKey b)) e
-            ∙ ap (λ o. find id_cmp b (links_of o).1) there ∙ ap (find id_cmp b) put_item in
-            let before : child_number ns i (ItemKey b) ≡ find id_cmp b n.items.entries = ap (λ h. child_number ns h (ItemKey b)) e
-            ∙ ap (λ o. find id_cmp b (links_of o).1) g in
-            elim (found_put id_cmp id_total same_ids b a j n.items.entries) [
-              | inl f ↦ inl (after ∙ f ∙ sym before)
-              | inr (q, f) ↦ inr
-                  (e, ap ItemKey q, after ∙ f)
-            ]
-        | inr d ↦ inl (ap (λ o. find id_cmp b (links_of o).1) (get_other ns at m i d))
-      ]
+      item_children i (ItemKey b) = put_links id_cmp id_total same_ids ItemKey (λ o. (links_of o).1) a put_item i b
 
       pub linked_item : Linked at (ItemKey a) j ns (set ns at m)
       linked_item = record {
@@ -156,7 +150,7 @@ module _ (ns : List Node) (at : ℕ) (n m : Node) (j : ℕ) (g : slice_get ns at
         register = same_set register_of ns at n m g (ap (λ c. valued c.entries) s.register);
         order = same_set order_of ns at n m g (ap (λ c. c.items) s.order);
         visible = same_set visible_of ns at n m g (ap (λ c. c.visible) s.order);
-        names = λ i. names_same ns (set ns at m) flags (links ns i).0 ∙ ap (names_in (set ns at m)) (fields i);
+        names = λ i. names_same ns (set ns at m) (flags s) (links ns i).0 ∙ ap (names_in (set ns at m)) (fields i);
         sorted_names = λ i. subst (λ xs. IsTrue (is_sorted name_cmp xs)) (fields i) (t.sorted_names i);
         sorted_ids = set_each (λ x i. IsTrue (is_sorted id_cmp (links_of x).1)) ns at n m g
             (subst (λ xs. IsTrue (is_sorted id_cmp xs)) (sym put_item)

@@ -14,6 +14,7 @@ use Rattle.std.specs.FinMap.Entries.{by_order, below_all}
 use Rattle.semantics.specs.Elements.{Element, Field, Name, name_cmp, is_same}
 use Rattle.semantics.specs.Paths.{FieldKey}
 use Rattle.semantics.proofs.Orders.{element_itself, same_elements, same_names, name_total}
+use Rattle.columns.proofs.Same.{some_is}
 use Rattle.tree.specs.declared.node.Node.{Node}
 use Rattle.tree.specs.Nodes.{links_of, links, child_number, number, node_in, node_at, presence_of, register_of, order_of, is_written}
 use Rattle.tree.specs.Nodes.{names_in, context, IsTree}
@@ -57,9 +58,6 @@ put_front ns n (f ∷ fs) h =
       | true ↦ put_by n f Less (names_in ns fs) (All-head (λ f. name_cmp n f.0 ≡ Less) f fs h)
       | false ↦ put_front ns n fs (All-tail (λ f. name_cmp n f.0 ≡ Less) f fs h)
     ]
-
-some_is : (x y : ℕ) → Some x ≡ Some y → x ≡ y
-some_is x y e = cc
 
 -- the node m, which is written, takes the place of the one at j, which n leads to and no other name does
 module _ (ns : List Node) (j : ℕ) (m : Node) (inside : j < length ns) (written : m.is_written ≡ true) (n : Name) where

@@ -4,10 +4,9 @@ use Rattle.std.specs.List.{filter}
 use Rattle.semantics.specs.Ids.{OpId, id_cmp, is_same_id, is_smaller_id}
 use Rattle.semantics.specs.Elements.{Element, Doc, Field, Item, Place, Tag, AsMap, AsList, Value, is_same, is_under, tag_of}
 use Rattle.semantics.specs.Operations.{Operation, after_in, slot_of, tag_at, tag_given, tag_of_value, target, target_in}
-use Rattle.semantics.specs.Context.{Context, apply, insert_after, insert_some, put_some, skip, without}
+use Rattle.semantics.specs.Context.{Context, apply, insert_after, insert_some, put_some, skip, without, has_item}
 use Rattle.semantics.specs.DocumentAnswer.{is_any}
 use Rattle.semantics.proofs.Orders.{id_itself, same_elements}
-use Rattle.columns.specs.Orders.{has_item}
 use Rattle.tree.specs.declared.node.Node.{Node}
 use Rattle.tree.specs.Nodes.{SameLinks, context, node_in, presence_of}
 use Rattle.tree.specs.Shown.{AreShown, ShownBut, is_near}

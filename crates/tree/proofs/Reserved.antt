@@ -12,7 +12,7 @@ use Rattle.operation.specs.Meanings.{mutation_of, stamped_of}
 use Rattle.tree.specs.declared.node.Node.{Node}
 use Rattle.tree.specs.Nodes.{node_at, register_room}
 use Rattle.tree.specs.Writes.{RoomTo, end_of}
-use Rattle.tree.specs.Trees.{IsReady, Planted, RoomToLink, RoomToWrite}
+use Rattle.tree.specs.Trees.{IsReserved, Planted, RoomToLink, RoomToWrite}
 use Rattle.tree.proofs.Applied.{end_is}
 
 -- an operation that writes v at a slot, or at the element of its place
@@ -20,7 +20,7 @@ pub write_ready : (o : Op) (table : List ℕ) (ns : List Node) (s : Option Scala
     → value_of (mutation_of o.mutation) ≡ Some v → slot_of (mutation_of o.mutation) o.place ≡ slot
     → RoomTo ns (target_in slot o.id o.place) → 0 < register_room (node_at ns (target_in slot o.id o.place))
     → option_map scalar_of s ≡ scalar_in (Some v) → RoomToLink ns slot
-    → IsReady (record { table = table; nodes = ns; scalar = s }) (stamped_of table o)
+    → IsReserved (record { table = table; nodes = ns; scalar = s }) (stamped_of table o)
 write_ready o table ns s v slot value there room register scalar link =
     let t : Planted = record { table = table; nodes = ns; scalar = s } in
     record {
@@ -34,7 +34,7 @@ pub place_ready : (o : Op) (table : List ℕ) (ns : List Node) (s : Option Scala
     → value_of (mutation_of o.mutation) ≡ Some v → slot_of (mutation_of o.mutation) o.place ≡ None
     → path ≡ keys_from_root (element_of o.place)
     → RoomTo ns (end_of path) → 0 < register_room (node_at ns (end_of path)) → option_map scalar_of s ≡ scalar_in (Some v)
-    → IsReady (record { table = table; nodes = ns; scalar = s }) (stamped_of table o)
+    → IsReserved (record { table = table; nodes = ns; scalar = s }) (stamped_of table o)
 place_ready o table ns s v path value there way room register scalar =
     let end : end_of path ≡ element_of o.place = end_is o.place path way in
     write_ready o table ns s v None value there (subst (RoomTo ns) end room)

@@ -65,6 +65,14 @@ id_is a b e = cc
 apart : (n : Name) (a : OpId) → FieldKey n ≡ ItemKey a → ⊥
 apart n a e = cc
 
+-- two steps lead to one node only where they are one step from one element
+one_step : (ns : List Node) → IsTree ns → (e f : Element) (s u : Key) (i : ℕ) → next_number ns (number ns e) s ≡ Some i
+    → next_number ns (number ns f) u ≡ Some i → ((j : ℕ) → number ns e ≡ Some j → number ns f ≡ Some j → e ≡ f) → (e ≡ f) × (s ≡ u)
+one_step ns t e f s u i p q above =
+    let (k, ke, kc) = next_some ns (number ns e) s i p in
+    let (h, he, hc) = next_some ns (number ns f) u i q in
+    let same = t.one_parent k s h u i kc hc in (above k ke (he ∙ ap Some (sym same.0)), same.1)
+
 -- two elements have one node only where they are one element
 pub one_element : (ns : List Node) → IsTree ns → (e f : Element) (i : ℕ) → number ns e ≡ Some i → number ns f ≡ Some i → e ≡ f
 one_element ns t Doc Doc i p q = refl
@@ -73,27 +81,15 @@ one_element ns t Doc (Item f b) i p q = absurd (no_root ns t (number ns f) (Item
 one_element ns t (Field e n) Doc i p q = absurd (no_root ns t (number ns e) (FieldKey n) (p ∙ sym q))
 one_element ns t (Item e a) Doc i p q = absurd (no_root ns t (number ns e) (ItemKey a) (p ∙ sym q))
 one_element ns t (Field e n) (Field f m) i p q =
-    let (k, ke, kc) = next_some ns (number ns e) (FieldKey n) i p in
-    let (h, he, hc) = next_some ns (number ns f) (FieldKey m) i q in
-    let same = t.one_parent k (FieldKey n) h (FieldKey m) i kc hc in
-    let r : e ≡ f = one_element ns t e f k ke (he ∙ ap Some (sym same.0)) in
-    let s : n ≡ m = name_is n m same.1 in
-    λ j. Field (r j) (s j)
+    let (r, s) = one_step ns t e f (FieldKey n) (FieldKey m) i p q (one_element ns t e f) in
+    λ j. Field (r j) (name_is n m s j)
 one_element ns t (Item e a) (Item f b) i p q =
-    let (k, ke, kc) = next_some ns (number ns e) (ItemKey a) i p in
-    let (h, he, hc) = next_some ns (number ns f) (ItemKey b) i q in
-    let same = t.one_parent k (ItemKey a) h (ItemKey b) i kc hc in
-    let r : e ≡ f = one_element ns t e f k ke (he ∙ ap Some (sym same.0)) in
-    let s : a ≡ b = id_is a b same.1 in
-    λ j. Item (r j) (s j)
-one_element ns t (Field e n) (Item f b) i p q =
-    let (k, ke, kc) = next_some ns (number ns e) (FieldKey n) i p in
-    let (h, he, hc) = next_some ns (number ns f) (ItemKey b) i q in
-    absurd (apart n b (t.one_parent k (FieldKey n) h (ItemKey b) i kc hc).1)
-one_element ns t (Item e a) (Field f m) i p q =
-    let (k, ke, kc) = next_some ns (number ns e) (ItemKey a) i p in
-    let (h, he, hc) = next_some ns (number ns f) (FieldKey m) i q in
-    absurd (apart m a (sym (t.one_parent k (ItemKey a) h (FieldKey m) i kc hc).1))
+    let (r, s) = one_step ns t e f (ItemKey a) (ItemKey b) i p q (one_element ns t e f) in
+    λ j. Item (r j) (id_is a b s j)
+one_element ns t (Field e n) (Item f b) i p q = absurd
+    (apart n b (one_step ns t e f (FieldKey n) (ItemKey b) i p q (one_element ns t e f)).1)
+one_element ns t (Item e a) (Field f m) i p q = absurd
+    (apart m a (sym (one_step ns t e f (ItemKey a) (FieldKey m) i p q (one_element ns t e f)).1))
 
 -- a write to a node that leaves its children alone
 pub links_each : (ns : List Node) (i : ℕ) (n m : Node) → slice_get ns i ≡ Some n → links_of (Some m) ≡ links_of (Some n) → (j : ℕ)

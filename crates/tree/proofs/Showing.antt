@@ -12,7 +12,7 @@ use Rattle.semantics.specs.Paths.{Key, ItemKey, child}
 use Rattle.semantics.specs.DocumentAnswer.{is_any}
 use Rattle.semantics.proofs.Orders.{id_itself, ids_from_test, same_elements}
 use Rattle.columns.specs.Entries.{StandBeside}
-use Rattle.columns.specs.Orders.{has_item}
+use Rattle.semantics.specs.Context.{has_item}
 use Rattle.tree.specs.declared.node.Node.{Node}
 use Rattle.tree.specs.Nodes.{IsTree, child_number, context, is_written, links, links_of, node_at, node_in, number, order_of, presence_of}
 use Rattle.tree.specs.Nodes.{register_of, tagged, valued, visible_of}

@@ -13,18 +13,13 @@ use Rattle.tree.proofs.SameViews.{context_view, visible_view}
 
 -- m is n with no less room
 pub record Wider (n m : Node) : Type 0 where
-  pub fields : m.fields.entries ≡ n.fields.entries
-  pub items : m.items.entries ≡ n.items.entries
-  pub presence : m.presence.entries ≡ n.presence.entries
-  pub presence_indices : m.presence.indices ≡ n.presence.indices
-  pub register : m.register.entries ≡ n.register.entries
-  pub register_indices : m.register.indices ≡ n.register.indices
-  pub order : m.order.items ≡ n.order.items
-  pub visible : m.order.visible ≡ n.order.visible
+  pub children : (m.fields.entries ≡ n.fields.entries) × (m.items.entries ≡ n.items.entries)
+  pub presence : (m.presence.entries ≡ n.presence.entries) × (m.presence.indices ≡ n.presence.indices)
+      × (n.presence.room ≤ m.presence.room)
+  pub register : (m.register.entries ≡ n.register.entries) × (m.register.indices ≡ n.register.indices)
+      × (n.register.room ≤ m.register.room)
+  pub order : (m.order.items ≡ n.order.items) × (m.order.visible ≡ n.order.visible) × (n.order.room ≤ m.order.room)
   pub written : m.is_written ≡ n.is_written
-  pub presence_room : n.presence.room ≤ m.presence.room
-  pub register_room : n.register.room ≤ m.register.room
-  pub order_room : n.order.room ≤ m.order.room
 
 pub links_pair : (fs gs : List (Name × ℕ)) (xs ys : List (OpId × ℕ)) → fs ≡ gs → xs ≡ ys → ◌≡◌ {A = Links} (fs, xs) (gs, ys)
 links_pair fs gs xs ys p q = λ i. (p i, q i)
@@ -41,37 +36,37 @@ room_set f ns at n m g h = set_each (λ o i. f (slice_get ns i) ≤ f o) ns at n
 
 wider_beside : (table : List ℕ) (n m : Node) → Wider n m → NodeBeside table (Some n) → NodeBeside table (Some m)
 wider_beside table n m w b = (
-  subst (λ es. StandBeside table es m.presence.indices) (sym w.presence)
-      (subst (StandBeside table n.presence.entries) (sym w.presence_indices) b.0),
-  subst (λ es. StandBeside table es m.register.indices) (sym w.register)
-      (subst (StandBeside table n.register.entries) (sym w.register_indices) b.1),
+  subst (λ es. StandBeside table es m.presence.indices) (sym w.presence.0)
+      (subst (StandBeside table n.presence.entries) (sym w.presence.1) b.0),
+  subst (λ es. StandBeside table es m.register.indices) (sym w.register.0)
+      (subst (StandBeside table n.register.entries) (sym w.register.1) b.1),
 )
 
 pub wider_links : (ns : List Node) (at : ℕ) (n m : Node) → slice_get ns at ≡ Some n → Wider n m → (i : ℕ)
     → links ns i ≡ links (set ns at m) i
 wider_links ns at n m g w = same_set links_of ns at n m g
-    (links_pair m.fields.entries n.fields.entries m.items.entries n.items.entries w.fields w.items)
+    (links_pair m.fields.entries n.fields.entries m.items.entries n.items.entries w.children.0 w.children.1)
 
 pub kept_set : (ns : List Node) (at : ℕ) (n m : Node) → slice_get ns at ≡ Some n → IsTree ns → Wider n m → Kept ns (set ns at m)
 kept_set ns at n m g t w =
     let v : SameView ns (set ns at m) = record {
       links = wider_links ns at n m g w;
-      presence = same_set presence_of ns at n m g (ap tagged w.presence);
-      register = same_set register_of ns at n m g (ap valued w.register);
-      order = same_set order_of ns at n m g w.order;
+      presence = same_set presence_of ns at n m g (ap tagged w.presence.0);
+      register = same_set register_of ns at n m g (ap valued w.register.0);
+      order = same_set order_of ns at n m g w.order.0;
       written = same_set is_written ns at n m g w.written;
     } in
     let long : length ns ≡ length (set ns at m) = sym (length-set ns at m) in
     record {
       tree = tree_links ns (set ns at m) long v.links t;
       same = sym (context_view ns (set ns at m) v);
-      visible = λ e. sym (visible_view ns (set ns at m) v.links (same_set visible_of ns at n m g w.visible) e);
+      visible = λ e. sym (visible_view ns (set ns at m) v.links (same_set visible_of ns at n m g w.order.1) e);
       grows = record {
         count = omega arith;
         children = λ i k j h. sym (ap (λ l. linked_by l k) (v.links i)) ∙ h;
-        presence = room_set presence_room ns at n m g w.presence_room;
-        register = room_set register_room ns at n m g w.register_room;
-        order = room_set order_room ns at n m g w.order_room;
+        presence = room_set presence_room ns at n m g w.presence.2;
+        register = room_set register_room ns at n m g w.register.2;
+        order = room_set order_room ns at n m g w.order.2;
       };
       beside = λ table b. beside_set table ns at n m g b (wider_beside table n m w (beside_at table ns at n g b));
     }

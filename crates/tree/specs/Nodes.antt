@@ -16,13 +16,16 @@ use Rattle.tree.specs.declared.node.Node.{Node}
 abbrev pub Links : Type 0
 Links = List (Name × ℕ) × List (OpId × ℕ)
 
+-- the children of a node; none, where there is no node
 abbrev pub links_of : Option Node → Links
 links_of None = ([], [])
 links_of (Some n) = (n.fields.entries, n.items.entries)
 
+-- the children of the node with this number
 abbrev pub links : List Node → ℕ → Links
 links ns i = links_of (slice_get ns i)
 
+-- the number of the child at a key, where there is one
 abbrev pub linked_by : Links → Key → Option ℕ
 linked_by l (FieldKey n) = find name_cmp n l.0
 linked_by l (ItemKey a) = find id_cmp a l.1
@@ -31,6 +34,7 @@ linked_by l (ItemKey a) = find id_cmp a l.1
 abbrev pub child_number : List Node → ℕ → Key → Option ℕ
 child_number ns i k = linked_by (links ns i) k
 
+-- the same, where the parent may be missing too
 abbrev pub next_number : List Node → Option ℕ → Key → Option ℕ
 next_number ns None k = None
 next_number ns (Some i) k = child_number ns i k
@@ -41,6 +45,7 @@ number ns Doc = Some 0
 number ns (Field e n) = next_number ns (number ns e) (FieldKey n)
 number ns (Item e a) = next_number ns (number ns e) (ItemKey a)
 
+-- the node with this number, where there is one
 abbrev pub node_in : List Node → Option ℕ → Option Node
 node_in ns None = None
 node_in ns (Some i) = slice_get ns i
@@ -57,14 +62,17 @@ tagged es = map (λ e. (e.0, tag_of e.1)) es
 abbrev pub valued : List (OpId × AScalar) → List (OpId × Scalar)
 valued es = map (λ e. (e.0, scalar_of e.1)) es
 
+-- the ids of a node's presence, with their tags; none, where there is no node
 abbrev pub presence_of : Option Node → List (OpId × Tag)
 presence_of None = []
 presence_of (Some n) = tagged n.presence.entries
 
+-- the ids of a node's register, with their scalars
 abbrev pub register_of : Option Node → List (OpId × Scalar)
 register_of None = []
 register_of (Some n) = valued n.register.entries
 
+-- all items of a node's list, in order
 abbrev pub order_of : Option Node → List OpId
 order_of None = []
 order_of (Some n) = n.order.items
@@ -118,18 +126,22 @@ pub record SameLinks (ns ms : List Node) : Type 0 where
   pub same : (i : ℕ) → links ns i ≡ links ms i
   pub visible : (i : ℕ) → visible_of (slice_get ns i) ≡ visible_of (slice_get ms i)
 
+-- for how many more ids the presence of a node has room
 abbrev pub presence_room : Option Node → ℕ
 presence_room None = 0
 presence_room (Some n) = n.presence.room
 
+-- for how many more ids the register of a node has room
 abbrev pub register_room : Option Node → ℕ
 register_room None = 0
 register_room (Some n) = n.register.room
 
+-- for how many more items the order of a node's list has room
 abbrev pub order_room : Option Node → ℕ
 order_room None = 0
 order_room (Some n) = n.order.room
 
+-- for how many more children of this key's kind a node has room
 abbrev pub child_room : Option Node → Key → ℕ
 child_room None k = 0
 child_room (Some n) (FieldKey m) = n.fields.room

@@ -5,11 +5,10 @@ use Rattle.semantics.specs.Ids.{OpId}
 use Rattle.semantics.specs.Elements.{Element, Doc, Field, Item, Value}
 use Rattle.semantics.specs.Operations.{scalar_in, slot_of, target_in, value_of}
 use Rattle.semantics.specs.Paths.{Key, FieldKey, ItemKey}
-use Rattle.semantics.specs.Context.{Context}
+use Rattle.semantics.specs.Context.{Context, has_item, has_position}
 use Rattle.semantics.specs.Stamped.{Stamped}
 use Rattle.value.specs.declared.value.Scalar.{Scalar}
 use Rattle.value.specs.Meanings.{scalar_of}
-use Rattle.columns.specs.Orders.{has_item, has_position}
 use Rattle.tree.specs.declared.node.Node.{Node}
 use Rattle.tree.specs.Nodes.{AreBeside, IsTree, context, node_at, order_room, register_room}
 use Rattle.tree.specs.Shown.{AreShown}
@@ -27,7 +26,8 @@ pub record Planted : Type 0 where
 abbrev pub document : Planted → Context
 document t = context t.nodes
 
--- the nodes of a tree, with its table
+-- the numbers of the table differ, the nodes are a tree, lists show their visible items, and each id's index is its replica's in the
+-- table
 pub record IsPlanted (t : Planted) : Type 0 where
   pub distinct : AreDistinct t.table
   pub tree : IsTree t.nodes
@@ -49,8 +49,8 @@ abbrev pub RoomToLink : List Node → Option (Element × Option OpId) → Type 0
 RoomToLink ns None = Unit {0}
 RoomToLink ns (Some slot) = 0 < order_room (node_at ns slot.0)
 
--- all that the operation needs is there
-pub record IsReady (t : Planted) (s : Stamped) : Type 0 where
+-- all the memory that the operation needs is there
+pub record IsReserved (t : Planted) (s : Stamped) : Type 0 where
   pub write : RoomToWrite t (target_of s) (value_of s.mutation)
   pub link : RoomToLink t.nodes (slot_of s.mutation s.place)
 

@@ -33,14 +33,11 @@ clear_own C e S = record C {
   register = λ x. cond (is_same x e) (without S (C.register x)) (C.register x);
 }
 
--- each of these is cleared, in turn
-abbrev pub clear_each : Context → List Element → IdSet → Context
-clear_each C [] S = C
-clear_each C (e ∷ es) S = clear_each (clear C e S) es S
-
+-- the fields of e with these names
 abbrev pub fields_of : Element → List (Name × ℕ) → List Element
 fields_of e fs = map (λ f. Field e f.0) fs
 
+-- the items of e with these ids
 abbrev pub items_of : Element → List (OpId × ℕ) → List Element
 items_of e is = map (λ a. Item e a.0) is
 

@@ -13,7 +13,7 @@ ghost use Rattle.operation.specs.Meanings.{mutation_of, stamped_of};
 ghost use Rattle.tree.specs.Nodes.{AreBeside, IsTree, SameLinks, context};
 ghost use Rattle.tree.specs.Shown.{AreShown};
 ghost use Rattle.tree.specs.Writes.{IsStamp, assigned, deps_of, linked};
-ghost use Rattle.tree.specs.Trees.{CanInsert, IsPlaced, IsReady};
+ghost use Rattle.tree.specs.Trees.{CanInsert, IsPlaced, IsReserved};
 
 use crate::clear::clear_at;
 use crate::insert::{insert, slot_of};
@@ -33,7 +33,7 @@ pub fn apply(nodes: &mut [Node], op: &Op, stamp: &Stamp, scalar: Option<Scalar>)
     requires tree { IsTree nodes.old }
     requires beside { AreBeside stamp.now.table.now nodes.old }
     requires shown { AreShown nodes.old }
-    requires ready { IsReady (record { table = stamp.now.table.now; nodes = nodes.old; scalar = scalar })
+    requires reserved { IsReserved (record { table = stamp.now.table.now; nodes = nodes.old; scalar = scalar })
         (stamped_of stamp.now.table.now op.now) }
     requires placed { IsPlaced (context nodes.old) (stamped_of stamp.now.table.now op.now) }
     requires formed { IsFormed (mutation_of op.now.mutation) op.now.place }
@@ -53,7 +53,7 @@ fn run(nodes: &mut [Node], op: &Op, stamp: &Stamp, scalar: Option<Scalar>)
     requires vector { stamp.now.vector.now ≡ op.now.deps }
     requires tree { IsTree nodes.old }
     requires beside { AreBeside stamp.now.table.now nodes.old }
-    requires ready { IsReady (record { table = stamp.now.table.now; nodes = nodes.old; scalar = scalar })
+    requires reserved { IsReserved (record { table = stamp.now.table.now; nodes = nodes.old; scalar = scalar })
         (stamped_of stamp.now.table.now op.now) }
     requires placed { IsPlaced (context nodes.old) (stamped_of stamp.now.table.now op.now) }
     requires formed { IsFormed (mutation_of op.now.mutation) op.now.place }

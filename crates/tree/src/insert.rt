@@ -5,7 +5,7 @@ ghost use Rattle.semantics.specs.Elements.{Element, Item, EmptyMap};
 ghost use Rattle.semantics.specs.Operations.{Insert, slot_of};
 ghost use Rattle.value.specs.Meanings.{scalar_of};
 ghost use Rattle.cursor.specs.Meanings.{hop_of, tag_of};
-ghost use Rattle.columns.specs.Orders.{has_item, has_position};
+ghost use Rattle.semantics.specs.Context.{has_item, has_position};
 ghost use Rattle.tree.specs.Nodes.{AreBeside, IsTree, MoreRoom, SameLinks, context, node_at, number, order_of, order_room};
 ghost use Rattle.tree.specs.Writes.{IsStamp, assigned, deps_of, end_of, linked};
 ghost use Rattle.tree.specs.Trees.{CanInsert, SlotIs};

@@ -8,7 +8,7 @@ ghost use Rattle.cursor.specs.Meanings.{hop_of};
 ghost use Rattle.operation.specs.Meanings.{mutation_of, stamped_of};
 ghost use Rattle.tree.specs.Nodes.{IsTree, Kept, node_at, number, order_room, presence_room, register_room};
 ghost use Rattle.tree.specs.Writes.{HasRoom, RoomTo, end_of};
-ghost use Rattle.tree.specs.Trees.{IsReady};
+ghost use Rattle.tree.specs.Trees.{IsReserved};
 
 use crate::grow::{reach, reserve_order, reserve_presence, reserve_register};
 use crate::insert::slot_of;
@@ -120,8 +120,8 @@ fn reserve_slot(
     requires tree { IsTree nodes.old.items }
     requires insert { mutation_of op.now.mutation ≡ Insert (value_of value.now) }
     ensures kept { Kept nodes.old.items nodes.new.items }
-    ensures ready { IfOk result
-        (λ s. (table : List ℕ) → IsReady (record { table = table; nodes = nodes.new.items; scalar = s }) (stamped_of table op.now)) }
+    ensures reserved { IfOk result
+        (λ s. (table : List ℕ) → IsReserved (record { table = table; nodes = nodes.new.items; scalar = s }) (stamped_of table op.now)) }
 {
     match slot_of(&op.place) {
         Some(slot) => reserve_insert(nodes, slot.list, op.id, value, alloc),
@@ -137,8 +137,8 @@ pub fn reserve_operation(
 ) -> Result<Option<Scalar>, AllocError>
     requires { IsTree nodes.old.items }
     ensures kept { Kept nodes.old.items nodes.new.items }
-    ensures ready { IfOk result
-        (λ s. (table : List ℕ) → IsReady (record { table = table; nodes = nodes.new.items; scalar = s }) (stamped_of table op.now)) }
+    ensures reserved { IfOk result
+        (λ s. (table : List ℕ) → IsReserved (record { table = table; nodes = nodes.new.items; scalar = s }) (stamped_of table op.now)) }
 {
     match &op.mutation {
         Mutation::Assign(value) => reserve_assign(nodes, op.place.hops(), value, alloc),

@@ -11,7 +11,7 @@ ghost use Rattle.semantics.specs.Questions.{resolve};
 ghost use Rattle.semantics.specs.DocumentAnswer.{visible_items, visible_names};
 ghost use Rattle.operation.specs.Meanings.{mutation_of, stamped_of};
 ghost use Rattle.tree.specs.Nodes.{context, tagged, valued};
-ghost use Rattle.tree.specs.Trees.{IsPlaced, IsReady, Planted, document, items_stand};
+ghost use Rattle.tree.specs.Trees.{IsPlaced, IsReserved, Planted, document, items_stand};
 
 use crate::answer::{conflicts, items, keys, values};
 use crate::apply::apply;
@@ -47,7 +47,7 @@ impl Model for Tree {
 }
 
 impl Tree {
-    /// An empty document of a replica with this table. Copies the table.
+    /// An empty document of a replica with this table, whose numbers it shares.
     ///
     /// # Errors
     /// `AllocError` if allocation fails.
@@ -65,7 +65,7 @@ impl Tree {
         })
     }
 
-    /// Makes all that applying this operation needs: nodes, room, and copies of keys and of the scalar. The content stays, whatever
+    /// Makes all that applying this operation needs: nodes, room, and clones of keys and of the scalar. The content stays, whatever
     /// the answer.
     ///
     /// # Errors
@@ -73,7 +73,7 @@ impl Tree {
     pub fn reserve(&mut self, alloc: Global, op: &Op) -> Result<(), AllocError>
         ensures table { self.new.table ≡ self.old.table }
         ensures same { document self.new ≡ document self.old }
-        ensures ready { OnOk result (IsReady self.new (stamped_of self.new.table op.now)) }
+        ensures reserved { OnOk result (IsReserved self.new (stamped_of self.new.table op.now)) }
     {
         let scalar = reserve_operation(&mut self.nodes, op, alloc)?;
         self.scalar = scalar;
@@ -83,7 +83,7 @@ impl Tree {
     /// Applies an operation that was reserved. Takes no memory. Visits each node beneath an assign's or a delete's element, and
     /// writes at each element of the path, and then sets whether the lists show the items there.
     pub fn apply(&mut self, op: &Op)
-        requires ready { IsReady self.old (stamped_of self.old.table op.now) }
+        requires reserved { IsReserved self.old (stamped_of self.old.table op.now) }
         requires placed { IsPlaced (document self.old) (stamped_of self.old.table op.now) }
         requires formed { IsFormed (mutation_of op.now.mutation) op.now.place }
         requires member { IsTrue (is_member self.old.table op.now.id.replica) }

@@ -43,6 +43,9 @@ impl Val {
     }
 
     /// The value as JSON, which `from_json` reads as the same value. Only a text takes memory.
+    ///
+    /// # Errors
+    /// `AllocError` if allocation fails.
     pub fn to_json(&self, alloc: Global) -> Result<Value, AllocError>
         ensures ok { IfOk result (λ json. view json ≡ json_of (value_of self.now)) }
         ensures err { IfErr result (λ _. IsText (value_of self.now)) }
@@ -58,6 +61,9 @@ impl Val {
 
 impl Scalar {
     /// The scalar as JSON. Only a text takes memory.
+    ///
+    /// # Errors
+    /// `AllocError` if allocation fails.
     pub fn to_json(&self, alloc: Global) -> Result<Value, AllocError>
         ensures ok { IfOk result (λ json. view json ≡ scalar_json (scalar_of self.now)) }
         ensures err { IfErr result (λ _. IsText (Plain (scalar_of self.now))) }

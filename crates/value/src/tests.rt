@@ -147,7 +147,7 @@ fn val(alloc: Global, is: Is) -> Result<Val, Refusal> {
         Is::Null => Ok(Val::Scalar(Scalar::Null)),
         Is::Bool(bool) => Ok(Val::Scalar(Scalar::Bool(bool))),
         Is::Whole(whole) => Ok(Val::Scalar(Scalar::Whole(whole))),
-        Is::Text(text) => Ok(Val::Scalar(Scalar::Text(Text::new(alloc, text)?))),
+        Is::Text(text) => Val::text(alloc, text),
         Is::Map => Ok(Val::EmptyMap),
         Is::List => Ok(Val::EmptyList),
     }

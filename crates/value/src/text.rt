@@ -71,6 +71,7 @@ impl Text {
 }
 
 impl<const MOST: usize> BoundedText<MOST> {
+    /// The text itself.
     pub fn as_str(&self) -> &str
         ensures text { result.now ≡ self.now }
         ensures short { length result.now ≤ MOST }

@@ -1,12 +1,16 @@
 //! The values that operations write.
 
-ghost use Rattle.std.specs.Prelude.{◌≡◌};
+ghost use Rattle.std.specs.Prelude.{◌≡◌, ◌⊎◌, ◌<◌, ◌≤◌, length, MatchResult};
 ghost use Rattle.std.specs.Cmp;
+ghost use Rattle.ids.specs.declared.refusal.Refusal.TheVariants.{NoMemory, TextTooLong};
+ghost use Rattle.semantics.specs.Elements as element;
+ghost use Rattle.semantics.specs.Limits.{most_text_bytes};
 ghost use Rattle.value.specs.Equality.{is_same_scalar, is_same_value, same_scalar_equiv, same_value_equiv};
 ghost use Rattle.value.specs.Meanings.{scalar_of, value_of};
 
 use crate::text::Text;
-use std::alloc::AllocError;
+use ids::Refusal;
+use std::alloc::{AllocError, Global};
 
 /// A value without parts.
 #[derive(Debug, Drop)]
@@ -57,6 +61,21 @@ pub enum Val {
     Scalar(Scalar),
     EmptyMap,
     EmptyList,
+}
+
+impl Val {
+    /// The value that is this text. One allocation, which all its clones share.
+    ///
+    /// # Errors
+    /// `TextTooLong` for more than 4,096 bytes, else `NoMemory` if allocation fails.
+    pub fn text(alloc: Global, text: &str) -> Result<Val, Refusal>
+        ensures { MatchResult result
+            (λ v. (value_of v ≡ element.Plain (element.Text text.now)) × (length text.now ≤ most_text_bytes))
+            (λ why. ((why ≡ NoMemory) × (length text.now ≤ most_text_bytes))
+            ⊎ ((why ≡ TextTooLong) × (most_text_bytes < length text.now))) }
+    {
+        Ok(Val::Scalar(Scalar::Text(Text::new(alloc, text)?)))
+    }
 }
 
 impl Clone for Val {

@@ -18,7 +18,7 @@ use Rattle.cursor.specs.Places.{LastKey, place_from}
 use Rattle.cursor.proofs.RootPaths.{depth-hops}
 use Rattle.wire.specs.Meanings.{entered_as, keys_ahead}
 use Rattle.wire.specs.Places.{Entered, count_parts, element_at, is_list_head, parts_of, path_of, place_below}
-use Rattle.json_lines.specs.Forms.{IsUnlessMemory}
+use Rattle.json_lines.specs.Forms.{IsOrNoMemory}
 
 -- ---- paths
 
@@ -51,7 +51,7 @@ element_within hops h = rw (depth-hops hops, le-ltb 32 (length hops) h) refl
 
 -- a key that leads nowhere ends the path
 pub lost : (e : Element) (t : Option TheTag) (x : Entered) (xs : List Entered) (last : LastKey) (why : Refusal)
-    → IsUnlessMemory {T = Element} (Err why) (element_at e t x.key) → IsUnlessMemory {T = Place} (Err why) (place_below e t (x ∷ xs) last)
+    → IsOrNoMemory {T = Element} (Err why) (element_at e t x.key) → IsOrNoMemory {T = Place} (Err why) (place_below e t (x ∷ xs) last)
 lost e t x xs last why (inl eq) = inl (rw (← eq) refl)
 lost e t x xs last why (inr eq) = inr (cc)
 
@@ -62,6 +62,6 @@ nothing_left (x ∷ xs) h = absurd (omega arith)
 
 -- a refusal that is passed on
 pub passed_on : {T : Type 0} (r : Result T Refusal) (why : Refusal) (wanted : Result T Refusal) → IsErrAnd r (λ y. y ≡ why)
-    → IsUnlessMemory {T = T} (Err why) wanted → IsUnlessMemory r wanted
+    → IsOrNoMemory {T = T} (Err why) wanted → IsOrNoMemory r wanted
 passed_on (Ok x) why wanted e h = absurd e
-passed_on {T = T} (Err y) why wanted e h = subst (λ z. IsUnlessMemory {T = T} (Err z) wanted) (sym e) h
+passed_on {T = T} (Err y) why wanted e h = subst (λ z. IsOrNoMemory {T = T} (Err z) wanted) (sym e) h

@@ -18,6 +18,9 @@ use std::alloc::{AllocError, Global};
 use std::mem;
 
 /// The operation as JSON; its vector is indexed by the table. Its types keep what a reader tests of it.
+///
+/// # Errors
+/// `AllocError` if allocation fails.
 pub fn operation_value(alloc: Global, table: &ReplicaTable, op: &Op) -> Result<Value, AllocError>
     ensures json { IfOk result (λ v. view v ≡ operation_json (stamped_of table.now op.now)) }
     ensures typed { IfOk result (λ _. IsTyped (stamped_of table.now op.now)) }
@@ -31,6 +34,9 @@ pub fn operation_value(alloc: Global, table: &ReplicaTable, op: &Op) -> Result<V
 }
 
 /// The id as a list of counter and replica.
+///
+/// # Errors
+/// `AllocError` if allocation fails.
 pub fn id_value(alloc: Global, id: OpId) -> Result<Value, AllocError>
     ensures { IfOk result (λ v. view v ≡ id_json id) }
 {

@@ -7,7 +7,7 @@ ghost use Rattle.semantics.specs.Limits.{most_keys};
 ghost use Rattle.semantics.specs.Elements.{Doc};
 ghost use Rattle.semantics.specs.Paths.{down};
 ghost use Rattle.cursor.specs.Meanings.{hop_of, tag_of};
-ghost use Rattle.json_lines.specs.Forms.{IsRead, IsUnlessMemory, and_then, phrase_form};
+ghost use Rattle.json_lines.specs.Forms.{IsRead, IsOrNoMemory, and_then, phrase_form};
 ghost use Rattle.wire.specs.Meanings.{entered_as, key_meant, keys_ahead, part_meant};
 ghost use Rattle.wire.specs.Places.{element_at, entered_of, is_list_head, key_form, numbered_key, only_key, parts_of, path_form};
 ghost use Rattle.wire.specs.Places.{place_at_last, place_below, place_form, tag_form};
@@ -48,7 +48,7 @@ pub(crate) fn place_in(
     path: &Value,
     last: &Value,
 ) -> Result<Place, Refusal>
-    ensures { IsUnlessMemory result (place_form table.now (view path.now) (view last.now)) }
+    ensures { IsOrNoMemory result (place_form table.now (view path.now) (view last.now)) }
 {
     let parts = path_in(alloc, table, path)?;
     let last = key_in(alloc, table, last)?;
@@ -133,7 +133,7 @@ fn numbered_key(number: u64) -> Result<WrittenKey, Refusal>
 /// The place that the parts, which begin with the root, and a last key lead to.
 fn place_of(alloc: Global, parts: Vec<Part>, last: WrittenKey) -> Result<Place, Refusal>
     requires { length parts.items ≤ most_keys }
-    ensures { IsUnlessMemory result (place_below Doc None (map part_meant parts.items) (key_meant last)) }
+    ensures { IsOrNoMemory result (place_below Doc None (map part_meant parts.items) (key_meant last)) }
 {
     let mut hops = Vec::new(alloc);
     let mut entered = None;
@@ -149,7 +149,7 @@ fn enter(hops: &mut Vec<Hop>, entered: Option<Tag>, key: WrittenKey) -> Result<(
     ensures element { MatchResult result
         (λ _. element_at (down Doc (map hop_of hops.old.items)) (entered_as entered) (key_meant key)
         ≡ Ok (down Doc (map hop_of hops.new.items)))
-        (λ why. IsUnlessMemory (Err why) (element_at (down Doc (map hop_of hops.old.items)) (entered_as entered) (key_meant key))) }
+        (λ why. IsOrNoMemory (Err why) (element_at (down Doc (map hop_of hops.old.items)) (entered_as entered) (key_meant key))) }
     ensures length { length hops.new.items ≤ length hops.old.items + keys_ahead entered }
 {
     match (entered, key) {
@@ -168,7 +168,7 @@ fn place_at_last(
     last: WrittenKey,
 ) -> Result<Place, Refusal>
     requires { length hops.items + keys_ahead entered ≤ most_keys }
-    ensures { IsUnlessMemory result (place_at_last (down Doc (map hop_of hops.items)) (entered_as entered) (key_meant last)) }
+    ensures { IsOrNoMemory result (place_at_last (down Doc (map hop_of hops.items)) (entered_as entered) (key_meant last)) }
 {
     if is_list_head(entered, &last) {
         return Place::new(hops, true);

@@ -7,7 +7,7 @@ ghost use Rattle.semantics.specs.Operations.{Delete};
 ghost use Rattle.semantics.specs.Tables.{by_table};
 ghost use Rattle.value.specs.Meanings.{value_of};
 ghost use Rattle.operation.specs.Meanings.{mutation_of, stamped_of};
-ghost use Rattle.json_lines.specs.Forms.{IsRead, IsUnlessMemory};
+ghost use Rattle.json_lines.specs.Forms.{IsRead, IsOrNoMemory};
 ghost use Rattle.wire.specs.Meanings.{fields_meant};
 ghost use Rattle.wire.specs.Members.{member_form};
 ghost use Rattle.wire.specs.Places.{place_form};
@@ -103,7 +103,7 @@ impl<'a> OperationFields<'a> {
 
     /// The place of the path and the last key.
     fn place(&self, alloc: Global, table: &ReplicaTable) -> Result<Place, Refusal>
-        ensures { IsUnlessMemory result (place_form table.now (view self.now.path.now) (view self.now.last.now)) }
+        ensures { IsOrNoMemory result (place_form table.now (view self.now.path.now) (view self.now.last.now)) }
     {
         place_in(alloc, table, self.path, self.last)
     }

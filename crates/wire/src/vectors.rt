@@ -65,7 +65,10 @@ fn pair_in(value: &Value) -> Result<OpId, Refusal>
     Ok(OpId { counter, replica })
 }
 
-/// The vector as JSON.
+/// The vector as JSON, which is indexed by the table.
+///
+/// # Errors
+/// `AllocError` if allocation fails.
 pub fn vector_value(
     alloc: Global,
     table: &ReplicaTable,

@@ -5,7 +5,7 @@ mod operations;
 mod vectors;
 
 use cursor::Place;
-use fixtures::{field, id_of, text, vector};
+use fixtures::{field, id_of, vector};
 use ids::Refusal;
 use operation::{Mutation, Op, Shared};
 use std::alloc::{AllocError, Global};
@@ -76,23 +76,22 @@ fn mutation(alloc: Global, does: Does) -> Result<Mutation, Refusal> {
     match does {
         Does::Map => Ok(Mutation::Assign(Val::EmptyMap)),
         Does::List => Ok(Mutation::Assign(Val::EmptyList)),
-        Does::Insert(words) => Ok(Mutation::Insert(text(alloc, words)?)),
+        Does::Insert(words) => Ok(Mutation::Insert(Val::text(alloc, words)?)),
     }
 }
 
 /// The operation of a row.
 fn op(alloc: Global, row: &Row) -> Result<Shared<Op>, Refusal> {
     let (before, at, does) = *row;
-    let id = id_of((before.saturating_add(1), 1))?;
-    let deps = vector(alloc, &[before, 0])?;
     let place = place(alloc, at)?;
-    let op = Op {
-        id,
-        deps,
+    let mutation = mutation(alloc, does)?;
+    fixtures::op(
+        alloc,
+        (before.saturating_add(1), 1),
+        &[before, 0],
         place,
-        mutation: mutation(alloc, does)?,
-    };
-    Ok(Shared::new(alloc, op)?)
+        mutation,
+    )
 }
 
 /// The operations of the five lines.

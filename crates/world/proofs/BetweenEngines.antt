@@ -1,16 +1,16 @@
 -- An engine in which a step is done in part is between what it was and what the whole step makes of it.
-use Rattle.std.proofs.Common.{◌≡◌, ◌⊎◌, inl, inr, ℕ, zero, suc, ◌+◌, ◌-◌, ◌<◌, ◌≤◌, Bool, true, false, ◌||◌, not, nat_le, nat_lt, List, []}
-use Rattle.std.proofs.Common.{◌∷◌, ◌++◌, length, Option, Some, None, refl, sym, ap, ◌∙◌, subst, arith, slice_get}
+use Rattle.std.proofs.Common.{◌≡◌, ◌⊎◌, inl, inr, ℕ, zero, suc, ◌+◌, ◌-◌, ◌<◌, ◌≤◌, false, ◌||◌, not, nat_le, nat_lt, List, []}
+use Rattle.std.proofs.Common.{◌∷◌, ◌++◌, length, refl, sym, ap, ◌∙◌, subst, arith}
 use Rattle.std.proofs.lemmas.Bool.{cases_lt, le-ltb, or_parts}
 use Rattle.semantics.specs.LegalHistory.{IsAmong}
 use Rattle.semantics.specs.DocumentAnswer.{is_any}
 use Rattle.semantics.specs.Stamped.{Stamped}
 use Rattle.semantics.specs.Entries.{Entry}
-use Rattle.semantics.specs.LegalAnswer.{Request, OfPeer, Submitted}
+use Rattle.semantics.specs.LegalAnswer.{OfPeer, Submitted}
 use Rattle.semantics.specs.Replica.{Replica, IsRunning}
 use Rattle.semantics.specs.Delivery.{answer_to, deliver}
 use Rattle.semantics.specs.Drain.{counted, drain, drain_for, receive, Drains}
-use Rattle.semantics.specs.Engine.{Engine, Handled, Message, Took, Published, Turn}
+use Rattle.semantics.specs.Engine.{Engine, Handled, Message}
 use Rattle.semantics.specs.WriteSteps.{after_item, after_request, reply_to, take_item, take_for, publish, give, give_for, handle_all}
 use Rattle.semantics.specs.WriteSteps.{whole_step}
 use Rattle.semantics.specs.World.{WorldAct, Push, Take, Publish, Give, Whole, Poll, Ask, Learn, SayHello, AnswerHello, Deliver, Lines}
@@ -18,20 +18,20 @@ use Rattle.semantics.specs.World.{CountDropped, engine_step}
 use Rattle.semantics.specs.WorldHistory.{BeginsWith, HasGrown}
 use Rattle.semantics.proofs.AmongLists.{among_left}
 use Rattle.semantics.proofs.Delivered.{delivered}
-use Rattle.semantics.proofs.Drained.{drained, part_drained}
+use Rattle.semantics.proofs.Drained.{part_drained}
 use Rattle.semantics.proofs.EarlyEnd.{goes_on}
 use Rattle.semantics.proofs.EngineMoves.{still_published}
-use Rattle.semantics.proofs.GrownEngines.{begins_trans, grown_refl, grown_trans, grown_by_history}
+use Rattle.semantics.proofs.GrownEngines.{grown_refl, grown_trans, grown_by_history}
 use Rattle.semantics.proofs.HandledItems.{handled}
 use Rattle.semantics.proofs.ItemsInTurn.{among_cases, among_right}
 use Rattle.semantics.proofs.ReceivedItems.{begins_with_peers, same_entries, same_own}
-use Rattle.semantics.proofs.SoundEngines.{IsSound, IsLater}
+use Rattle.semantics.proofs.SoundEngines.{IsSound}
 use Rattle.semantics.proofs.SoundGiving.{answer_given}
 use Rattle.semantics.proofs.SoundPublishing.{none_due, published}
 use Rattle.semantics.proofs.SoundSteps.{stepped, taken_for}
 use Rattle.semantics.proofs.SoundTaking.{floor_within, took}
 use Rattle.replica.proofs.Turns.{ended_by_count}
-use Rattle.world.specs.Parts.{IsQueued, IsBetween, IsHandledInPart, HandlesInPart, TakesInPart, PublishesInPart, StepsInPart, IsInPart}
+use Rattle.world.specs.Parts.{IsQueued, IsBetween, IsHandledInPart, TakesInPart, PublishesInPart, StepsInPart, IsInPart}
 use Rattle.world.proofs.DrawnWaiting.{Draws, delivered_waits, draws_both, gives_draw, item_waits, rest_draws, step_waits, take_draws}
 use Rattle.world.proofs.DrawnWaiting.{takes_draw}
 

@@ -13,7 +13,6 @@ use Rattle.semantics.specs.Delivery.{Delivered, Kept, Known, NotKept, answer_to,
 use Rattle.semantics.specs.Engine.{Engine, Client, Message, Hello, Bundle}
 use Rattle.semantics.specs.WriteSteps.{push, after_made, after_request, after_item, take_oldest, take_item, take_for, publish, give}
 use Rattle.semantics.specs.WriteSteps.{give_for, handle_all, whole_step}
-use Rattle.semantics.specs.ReadSteps.{see}
 use Rattle.semantics.specs.PeerSteps.{names_members, answer_hello, refusal_in, unless_refused, submit_all, receive_lines, before_stranger}
 use Rattle.semantics.specs.PeerSteps.{stranger_fault, receive_message}
 use Rattle.semantics.specs.World.{WorldAct, Push, Take, Publish, Give, Whole, Poll, Ask, Learn, SayHello, AnswerHello, Deliver, Lines}

@@ -1,9 +1,11 @@
 -- Lemmas on worlds.
+pub mod Results
 pub mod SingleSteps
 pub mod LearnedAnswers
 pub mod Publishing
 pub mod WholeSteps
 pub mod SubmittedRequests
+pub mod TakenRequests
 pub mod AnsweredHellos
 pub mod KeptMembers
 pub mod TurnedWorlds

@@ -17,7 +17,7 @@ use Rattle.operation.specs.declared.command.Entry.{Entry}
 use Rattle.operation.specs.Meanings.{entry_of, op_in}
 use Rattle.oplog.specs.Logs.{history}
 use Rattle.oplog.proofs.Oldest.{history-more}
-use Rattle.document.specs.Documents.{Kept, MayFollowEntries}
+use Rattle.document.specs.Documents.{Contents, MayFollowEntries}
 use Rattle.world.specs.Publishers.{IsPublisher, PublishesMore, appended_of}
 
 -- what is pending first is the next to be published
@@ -31,7 +31,7 @@ legal_begun : (more G : List TheEntry) → IsLegalStamped (stamped_entries (more
 legal_begun [] G h = h
 legal_begun (e ∷ more) G h = legal_begun more G h.0
 
-module _ (d : Kept) (e : Entry) (left : List Entry) (h : IsPublisher d (e ∷ left)) where
+module _ (d : Contents) (e : Entry) (left : List Entry) (h : IsPublisher d (e ∷ left)) where
   longer_legal : IsLegalStamped (stamped_entries (history d.table left ++ entry_of d.table e ∷ d.entries))
   longer_legal = subst (λ (G : List TheEntry). IsLegalStamped (stamped_entries G)) (oldest_next d.table e left d.entries) h.legal
 
@@ -39,7 +39,7 @@ module _ (d : Kept) (e : Entry) (left : List Entry) (h : IsPublisher d (e ∷ le
   oldest_follows = (legal_begun (history d.table left) (entry_of d.table e ∷ d.entries) longer_legal).1
 
   -- it is published
-  pub one_published : (k : Kept) → k.table ≡ d.table → k.entries ≡ entry_of d.table e ∷ d.entries → PublishesMore d (e ∷ left) k left
+  pub one_published : (k : Contents) → k.table ≡ d.table → k.entries ≡ entry_of d.table e ∷ d.entries → PublishesMore d (e ∷ left) k left
   one_published k table entries =
       let appended : appended_of k left
       ≡ history d.table left ++ entry_of d.table e ∷ d.entries = λ i. history (table i) left ++ entries i in
@@ -57,7 +57,7 @@ module _ (d : Kept) (e : Entry) (left : List Entry) (h : IsPublisher d (e ∷ le
       }
 
 -- nothing is published
-pub none_published : (d k : Kept) (pending left : List Entry) → IsPublisher d pending → k.table ≡ d.table → k.entries ≡ d.entries
+pub none_published : (d k : Contents) (pending left : List Entry) → IsPublisher d pending → k.table ≡ d.table → k.entries ≡ d.entries
     → left ≡ pending → PublishesMore d pending k left
 none_published d k pending left h table entries same =
     let appended : appended_of k left ≡ appended_of d pending = λ i. history (table i) (same i) ++ entries i in
@@ -74,7 +74,7 @@ none_published d k pending left h table entries same =
       };
     }
 
-pub published_on : (d k m : Kept) (pending left last : List Entry) → PublishesMore d pending k left → PublishesMore k left m last
+pub published_on : (d k m : Contents) (pending left last : List Entry) → PublishesMore d pending k left → PublishesMore k left m last
     → PublishesMore d pending m last
 published_on d k m pending left last f g = record {
   table = g.table ∙ f.table;
@@ -84,7 +84,7 @@ published_on d k m pending left last f g = record {
 }
 
 -- one more entry is appended
-pub one_appended : (own : ℕ) (d : Kept) (pending : List Entry) (e : Entry) → IsPublisher d pending
+pub one_appended : (own : ℕ) (d : Contents) (pending : List Entry) (e : Entry) → IsPublisher d pending
     → IsEntryHistory own (entry_of d.table e ∷ appended_of d pending) → IsTrue (is_member d.table (op_in e).id.replica)
     → length (op_in e).deps ≡ length d.table
     → (appended_of d (pending ++ e ∷ []) ≡ entry_of d.table e ∷ appended_of d pending) × IsPublisher d (pending ++ e ∷ [])
@@ -100,7 +100,7 @@ one_appended own d pending e h lawful member width =
       },
     )
 
-pub added : (own : ℕ) (d : Kept) (pending : List Entry) (e : Entry) → IsPublisher d pending → (z : Publication)
+pub added : (own : ℕ) (d : Contents) (pending : List Entry) (e : Entry) → IsPublisher d pending → (z : Publication)
     → record { own = own; members = d.table; published = d.entries; appended = appended_of d pending } ≡ z
     → IsEntryHistory z.own (entry_of z.members e ∷ z.appended) → IsTrue (is_member z.members (op_in e).id.replica)
     → length (op_in e).deps ≡ length z.members

@@ -1,5 +1,5 @@
 -- Worlds that steps lead to from a new one, and their engines.
-use Rattle.std.proofs.Common.{◌≡◌, ℕ, List, ◌++◌, [], ◌∷◌, Some, refl, sym, ap, ◌∙◌, subst, slice_get}
+use Rattle.std.proofs.Common.{◌≡◌, ℕ, List, ◌++◌, [], ◌∷◌, Some, sym, ap, ◌∙◌, slice_get}
 use Rattle.semantics.specs.Engine.{Engine}
 use Rattle.semantics.specs.WriteSteps.{take_item}
 use Rattle.semantics.specs.World.{World, WorldStep, Take, step_by, opened, engine_step, world_after, world_step}

@@ -1,17 +1,17 @@
 -- Where a world stops, each engine is between what it was and what the next step makes of it.
-use Rattle.std.proofs.Common.{◌≡◌, ◌≢◌, ◌⊎◌, inl, inr, ℕ, zero, suc, ◌+◌, ◌≤◌, List, [], ◌∷◌, length, take, Option, Some, None, refl, sym}
-use Rattle.std.proofs.Common.{ap, ◌∙◌, subst, add-one, arith, slice_get, slice_set}
+use Rattle.std.proofs.Common.{◌≡◌, ◌⊎◌, inl, inr, ℕ, zero, suc, ◌+◌, ◌≤◌, List, [], ◌∷◌, length, take, Option, Some, None, refl, sym}
+use Rattle.std.proofs.Common.{ap, ◌∙◌, subst, add-one, arith, slice_get}
 use Rattle.std.proofs.lemmas.Bool.{cases_eq}
 use Rattle.std.proofs.lemmas.List.{length-set}
-use Rattle.std.proofs.lemmas.Option.{same_Some}
-use Rattle.semantics.specs.Engine.{Engine, Message}
+use Rattle.std.proofs.lemmas.Option.{same_Some, slice_get_within}
+use Rattle.semantics.specs.Engine.{Engine}
 use Rattle.semantics.specs.World.{World, WorldStep, engine_step, world_after, world_step}
 use Rattle.semantics.proofs.SetElements.{get-set_same, get-set_other}
 use Rattle.world.specs.Parts.{IsBetween}
-use Rattle.world.specs.Worlds.{IsAnother, IsBetweenSteps, IsReached, MovesInPart, StopsAfter, world}
+use Rattle.world.specs.Worlds.{IsAnother, IsBetweenSteps, IsReached, MovesInPart, StopsAfter}
 use Rattle.world.proofs.BetweenEngines.{begun, not_begun, stays_between}
 use Rattle.world.proofs.ReachedWorlds.{after_step, reached_after, reached_at, reached_sound}
-use Rattle.world.proofs.TurnedWorlds.{after_next, world_step-there}
+use Rattle.world.proofs.TurnedWorlds.{after_next}
 
 -- ---- one step
 
@@ -107,10 +107,10 @@ stops_at_once W steps reached = stops_whole W W steps 0 reached (omega arith) (a
 
 -- and the next one in part
 pub stops_within : (W U V : World) (steps : List WorldStep) (n : ℕ) (s : WorldStep) → IsReached W → slice_get steps n ≡ Some s
-    → n ≤ length steps → U ≡ world_after W (take n steps) → V.messages ≡ U.messages
+    → U ≡ world_after W (take n steps) → V.messages ≡ U.messages
     → MovesInPart U.messages s U.engines V.engines → StopsAfter W steps n V
-stops_within W U V steps n s reached at l is messages part = record {
-  within = l;
+stops_within W U V steps n s reached at is messages part = record {
+  within = omega (arith, slice_get_within steps n s at);
   messages = messages ∙ ap (λ (T : World). T.messages) is;
   others = λ e other. unmoved e (subst (IsAnother e) at other) ∙ ap (λ (T : World). slice_get T.engines e) is;
   count = ap (length {A = Engine}) part.moved ∙ length-set U.engines s.engine part.part ∙ ap (λ (T : World). length T.engines) is

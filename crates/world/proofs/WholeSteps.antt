@@ -1,5 +1,5 @@
 -- The takes and gives of a whole step, one by one.
-use Rattle.std.proofs.Common.{◌≡◌, ℕ, zero, suc, ◌-◌, ◌+◌, ◌<◌, ◌==◌, Bool, true, false, not, List, [], ◌∷◌, length, map, refl, ap, ◌∙◌}
+use Rattle.std.proofs.Common.{◌≡◌, ℕ, zero, suc, ◌-◌, ◌+◌, ◌<◌, ◌==◌, true, false, List, [], ◌∷◌, length, map, refl, ap, ◌∙◌}
 use Rattle.std.proofs.Common.{arith}
 use Rattle.semantics.specs.DocumentAnswer.{is_any}
 use Rattle.semantics.specs.Engine.{Engine}

@@ -10,7 +10,7 @@ use Rattle.semantics.specs.World.{WorldStep}
 use Rattle.semantics.specs.WorldHistory.{IsEngineAfter}
 use Rattle.semantics.specs.Tables.{by_table}
 use Rattle.operation.specs.Meanings.{stamped_of}
-use Rattle.items.specs.Meanings.{answer_of, submitted_of}
+use Rattle.items.specs.Meanings.{reply_of, submitted_of}
 use Rattle.world.specs.declared.engine.Handled.{Handled}
 use Rattle.world.specs.declared.client.Given.{Given}
 use Rattle.world.specs.declared.client.Cell.{Cell}
@@ -20,11 +20,11 @@ use Rattle.world.specs.declared.message.Message.TheVariants as message
 
 -- an item that was handled
 abbrev pub handled_of : List ℕ → Handled → engine.Handled
-handled_of table h = record { submitted = submitted_of table h.item; reply = answer_of h.reply }
+handled_of table h = record { submitted = submitted_of table h.item; reply = reply_of h.reply }
 
 -- an answer that was set
 abbrev pub given_of : Given → engine.Given
-given_of g = record { reply = answer_of g.reply; published = g.published }
+given_of g = record { reply = reply_of g.reply; published = g.published }
 
 -- what was submitted under a serial, with its answer
 abbrev pub cell_of : List ℕ → Cell → engine.Cell

@@ -7,7 +7,7 @@ use Rattle.semantics.specs.Engine as engine
 use Rattle.semantics.specs.World as world
 use Rattle.operation.specs.Meanings.{command_of}
 use Rattle.document.specs.Documents.{IsBeside, asked_of, said_by}
-use Rattle.items.specs.Meanings.{answer_of}
+use Rattle.items.specs.Meanings.{reply_of}
 use Rattle.wire.specs.Bundles.{readable}
 use Rattle.world.specs.declared.step.WorldStep.{WorldStep}
 use Rattle.world.specs.declared.step.WorldAct.{WorldAct}
@@ -41,20 +41,20 @@ AsksBeside table (act.Ask t q) = IsBeside table q
 AsksBeside table _ = ⊤
 
 -- what a step replies
-abbrev pub reply_of : WorldReply → engine.StepReply
-reply_of (said.Ticket serial) = engine.Ticket serial
-reply_of (said.Denied why) = engine.Denied why
-reply_of said.Took = engine.Took
-reply_of (said.Published n) = engine.Published n
-reply_of (said.Gave c serial) = engine.Gave c serial
-reply_of said.Idle = engine.Idle
-reply_of said.Unanswered = engine.Unanswered
-reply_of (said.Replied r) = engine.Replied (answer_of r)
-reply_of (said.Read n table reading) = engine.Read n (said_by table reading)
-reply_of (said.NotRead n why) = engine.Read n (Answered (NotAnswered why))
-reply_of (said.Seen n) = engine.Seen n
-reply_of (said.Hello k table vector) = engine.SentHello k (by_table table vector)
-reply_of (said.Bundle k n) = engine.SentBundle k n
-reply_of said.NoMessage = engine.NoMessage
-reply_of (said.Received first n stopped) = engine.Received first n stopped
-reply_of (said.Dropped n) = engine.Dropped n
+abbrev pub step_reply_of : WorldReply → engine.StepReply
+step_reply_of (said.Ticket serial) = engine.Ticket serial
+step_reply_of (said.Denied why) = engine.Denied why
+step_reply_of said.Took = engine.Took
+step_reply_of (said.Published n) = engine.Published n
+step_reply_of (said.Gave c serial) = engine.Gave c serial
+step_reply_of said.Idle = engine.Idle
+step_reply_of said.Unanswered = engine.Unanswered
+step_reply_of (said.Replied r) = engine.Replied (reply_of r)
+step_reply_of (said.Read n table reading) = engine.Read n (said_by table reading)
+step_reply_of (said.NotRead n why) = engine.Read n (Answered (NotAnswered why))
+step_reply_of (said.Seen n) = engine.Seen n
+step_reply_of (said.Hello k table vector) = engine.SentHello k (by_table table vector)
+step_reply_of (said.Bundle k n) = engine.SentBundle k n
+step_reply_of said.NoMessage = engine.NoMessage
+step_reply_of (said.Received first n stopped) = engine.Received first n stopped
+step_reply_of (said.Dropped n) = engine.Dropped n

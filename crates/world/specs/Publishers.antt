@@ -8,21 +8,21 @@ use Rattle.semantics.specs.WorldHistory.{BeginsWith}
 use Rattle.operation.specs.declared.command.Entry.{Entry}
 use Rattle.operation.specs.Meanings.{op_in}
 use Rattle.oplog.specs.Logs.{history}
-use Rattle.document.specs.Documents.{Kept}
+use Rattle.document.specs.Documents.{Contents}
 
 -- all that was appended: what is published, and then the pending entries, which begin with the oldest
-abbrev pub appended_of : Kept → List Entry → List TheEntry
+abbrev pub appended_of : Contents → List Entry → List TheEntry
 appended_of published pending = history published.table pending ++ published.entries
 
 -- each pending entry may be published in its turn: what was appended is a legal history, and the operations are of members, with
 -- vectors of the table's width
-pub record IsPublisher (published : Kept) (pending : List Entry) : Type 0 where
+pub record IsPublisher (published : Contents) (pending : List Entry) : Type 0 where
   pub legal : IsLegalStamped (stamped_entries (appended_of published pending))
   pub members : All (λ e. IsTrue (is_member published.table (op_in e).id.replica)) pending
   pub wide : All (λ e. length (op_in e).deps ≡ length published.table) pending
 
 -- some pending entries were published, so that these are left
-pub record PublishesMore (published : Kept) (pending : List Entry) (after : Kept) (left : List Entry) : Type 0 where
+pub record PublishesMore (published : Contents) (pending : List Entry) (after : Contents) (left : List Entry) : Type 0 where
   pub table : after.table ≡ published.table
   pub appended : appended_of after left ≡ appended_of published pending
   pub more : BeginsWith after.entries published.entries

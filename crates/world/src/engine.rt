@@ -6,7 +6,7 @@ ghost use Rattle.semantics.specs.World.{engine_step, opened_engine, sent_by};
 ghost use Rattle.semantics.specs.Publication.{Holds};
 ghost use Rattle.replica.specs.Replicas.{replica_of};
 ghost use Rattle.world.specs.Engines.{IsReachedEngine, client_of, message_of};
-ghost use Rattle.world.specs.Meanings.{AsksBeside, act_of, reply_of};
+ghost use Rattle.world.specs.Meanings.{AsksBeside, act_of, step_reply_of};
 ghost use Rattle.world.specs.Parts.{IsInPart};
 
 mod peers;
@@ -128,7 +128,8 @@ impl Engine {
         ensures engine { OnOk result (self.new
             ≡ (engine_step (map message_of messages.old.items) (act_of self.old.replica.members act.now) self.old).engine) }
         ensures reply { IfOk result
-            (λ r. reply_of r ≡ (engine_step (map message_of messages.old.items) (act_of self.old.replica.members act.now) self.old).reply) }
+            (λ r. step_reply_of r
+            ≡ (engine_step (map message_of messages.old.items) (act_of self.old.replica.members act.now) self.old).reply) }
         ensures sent { OnOk result (map message_of messages.new.items
             ≡ map message_of messages.old.items
             ++ sent_by (map message_of messages.old.items) (act_of self.old.replica.members act.now) self.old) }

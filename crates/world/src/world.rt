@@ -7,7 +7,7 @@ ghost use Rattle.ids.specs.declared.refusal.Refusal.TheVariants.{NoMemory, BadCo
 ghost use Rattle.ids.specs.Configurations.{is_within_limits};
 ghost use Rattle.semantics.specs.World.{opened, opened_engine, world_step, world_after, replies_of};
 ghost use Rattle.world.specs.Engines.{message_of};
-ghost use Rattle.world.specs.Meanings.{reply_of};
+ghost use Rattle.world.specs.Meanings.{step_reply_of};
 ghost use Rattle.world.specs.Worlds.{IsAskedBeside, IsReached, MovesInPart, StopsAfter, step_in, tables_of, world, world_of};
 
 use crate::engine::Engine;
@@ -90,7 +90,7 @@ impl World {
     pub fn run(&mut self, alloc: Global, steps: &[WorldStep]) -> Result<Vec<WorldReply>, AllocError>
         requires { All (IsAskedBeside (tables_of self.old.engines)) steps.now }
         ensures replies { IfOk result
-            (λ rs. map reply_of rs.items ≡ replies_of (world_of self.old) (map (step_in (tables_of self.old.engines)) steps.now)) }
+            (λ rs. map step_reply_of rs.items ≡ replies_of (world_of self.old) (map (step_in (tables_of self.old.engines)) steps.now)) }
         ensures world { OnOk result (world_of self.new
             ≡ world_after (world_of self.old) (map (step_in (tables_of self.old.engines)) steps.now)) }
         ensures done { OnOk result (self.new.done ≡ min (self.old.done + length steps.now) 18446744073709551615) }
@@ -162,7 +162,7 @@ fn run_all(
     requires none { whole.old ≡ 0 }
     requires beside { All (IsAskedBeside (tables_of engines.old.items)) steps.now }
     ensures replies { IfOk result
-        (λ rs. map reply_of rs.items
+        (λ rs. map step_reply_of rs.items
         ≡ replies_of (world engines.old.items (map message_of messages.old.items))
         (map (step_in (tables_of engines.old.items)) steps.now)) }
     ensures world { OnOk result (world engines.new.items (map message_of messages.new.items)
@@ -196,7 +196,7 @@ fn turn(
         ≡ (world_step (world engines.old.items (map message_of messages.old.items))
         (step_in (tables_of engines.old.items) step.now)).world) }
     ensures reply { IfOk result
-        (λ r. reply_of r
+        (λ r. step_reply_of r
         ≡ (world_step (world engines.old.items (map message_of messages.old.items))
         (step_in (tables_of engines.old.items) step.now)).reply) }
     ensures tables { OnOk result (tables_of engines.new.items ≡ tables_of engines.old.items) }

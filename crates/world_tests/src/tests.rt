@@ -15,7 +15,7 @@ mod shown;
 
 use cursor::{Expr, Step as PathStep};
 use document::{Question, Reading};
-use fixtures::{text, vector};
+use fixtures::vector;
 use ids::{Config, Refusal};
 use operation::{Command, Shared};
 use shown::is_shown;
@@ -132,7 +132,7 @@ fn value(alloc: Global, wrote: Wrote) -> Result<Val, Refusal> {
         Null => Val::Scalar(Scalar::Null),
         Truth(truth) => Val::Scalar(Scalar::Bool(truth)),
         Whole(whole) => Val::Scalar(Scalar::Whole(whole)),
-        Words(words) => text(alloc, words)?,
+        Words(words) => Val::text(alloc, words)?,
         Map => Val::EmptyMap,
         List => Val::EmptyList,
     })

@@ -6,11 +6,10 @@ ghost use Rattle.document.specs.Documents.{IsBeside};
 use super::dice::Dice;
 use cursor::{Expr, Place, Step as Hop};
 use document::Question;
-use ids::{OpId, Refusal, ReplicaId};
+use ids::Refusal;
 use operation::{Command, Mutation, Op, Shared};
 use std::alloc::Global;
 use value::{Key, Scalar, Text, Val};
-use version::VersionVector;
 
 /// How many clients and replicas there are. The engine is of replica 1.
 pub const CLIENTS: u64 = 2;
@@ -176,18 +175,15 @@ fn next_probe(alloc: Global, dice: &mut Dice) -> Result<Probe, Refusal> {
     Ok(Probe { kind, place })
 }
 
-/// A vector of at most two operations of each replica.
-fn vector(alloc: Global, dice: &mut Dice) -> Result<VersionVector, Refusal> {
-    let mut deps = VersionVector::zero(alloc, REPLICAS as usize)?;
-    deps.raise(0, dice.roll(3));
-    deps.raise(1, dice.roll(3));
-    deps.raise(2, dice.roll(3));
-    Ok(deps)
+/// The counters of a vector that names at most two operations of each replica.
+fn counters(dice: &mut Dice) -> [u64; 3] {
+    [dice.roll(3), dice.roll(3), dice.roll(3)]
 }
 
 /// The counter after these operations, or sometimes a greater one.
-fn counter(deps: &VersionVector, dice: &mut Dice) -> u64 {
-    let next = deps.greatest().saturating_add(1);
+fn counter_after(deps: [u64; 3], dice: &mut Dice) -> u64 {
+    let [first, second, third] = deps;
+    let next = first.max(second).max(third).saturating_add(1);
     if dice.roll(8) == 0 {
         next.saturating_add(1)
     } else {
@@ -210,16 +206,10 @@ fn mutation(alloc: Global, dice: &mut Dice) -> Result<Mutation, Refusal> {
 
 /// An operation of any replica, most of them ready one after another, some too early, some known, some forged.
 fn op(alloc: Global, dice: &mut Dice) -> Result<Shared<Op>, Refusal> {
-    let number = dice.roll(REPLICAS) as u32 + 1;
-    let replica = ReplicaId::new(number).ok_or(Refusal::UnknownReplica)?;
-    let deps = vector(alloc, dice)?;
-    let counter = counter(&deps, dice);
+    let replica = dice.roll(REPLICAS) as u32 + 1;
+    let deps = counters(dice);
+    let counter = counter_after(deps, dice);
     let place = key_place(alloc, dice)?;
-    let op = Op {
-        id: OpId { counter, replica },
-        deps,
-        place,
-        mutation: mutation(alloc, dice)?,
-    };
-    Ok(Shared::new(alloc, op)?)
+    let mutation = mutation(alloc, dice)?;
+    fixtures::op(alloc, (counter, replica), &deps, place, mutation)
 }

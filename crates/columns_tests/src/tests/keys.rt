@@ -63,6 +63,13 @@ fn assert_keys(rt: &impl Abort, keys: &SortedKeys, want: &[(&str, usize)]) {
     }
 }
 
+/// Asserts that what a search answers is the same wherever it begins to look.
+fn assert_near(rt: &impl Abort, keys: &SortedKeys, key: &Key, want: Result<usize, usize>) {
+    for near in 0..9 {
+        assert_eq!(rt; keys.find_near(key, near), want, "near {near}");
+    }
+}
+
 /// Asserts the position of each key, or where it would be inserted.
 fn assert_found(
     rt: &impl Abort,
@@ -74,6 +81,7 @@ fn assert_found(
         let key = Key::new(alloc, text)?;
         let mut probes = 0;
         assert_eq!(rt; keys.find(&key, &mut probes), *want, "of {text}");
+        assert_near(rt, keys, &key, *want);
     }
     Ok(())
 }

@@ -13,7 +13,7 @@ ghost use Rattle.document.specs.Documents.{HasRoomFor, IsBeside};
 
 use cursor::{Expr, Place, Tag};
 use document::{Document, Question, Reading};
-use fixtures::{Pair, id_of, pair_of, text, vector};
+use fixtures::{Pair, id_of, pair_of, vector};
 use ids::{OpId, Refusal};
 use operation::{Entry, Mutation, Op, Shared, check_alone};
 use std::alloc::{AllocError, Global};
@@ -113,7 +113,7 @@ fn val(alloc: Global, value: Value) -> Result<Val, Refusal> {
         Value::Map => Val::EmptyMap,
         Value::List => Val::EmptyList,
         Value::Whole(whole) => Val::Scalar(Scalar::Whole(whole)),
-        Value::Text(words) => text(alloc, words)?,
+        Value::Text(words) => Val::text(alloc, words)?,
     })
 }
 
@@ -129,14 +129,9 @@ fn mutation(alloc: Global, does: Does) -> Result<Mutation, Refusal> {
 /// The operation, or `NoMemory` if an allocation is refused.
 fn try_op(alloc: Global, sent: Sent) -> Result<Shared<Op>, Refusal> {
     let (pair, counters, hops, does) = sent;
-    let id = id_of(pair)?;
-    let op = Op {
-        id,
-        deps: vector(alloc, &counters)?,
-        place: place(alloc, hops)?,
-        mutation: mutation(alloc, does)?,
-    };
-    Ok(Shared::new(alloc, op)?)
+    let place = place(alloc, hops)?;
+    let mutation = mutation(alloc, does)?;
+    fixtures::op(alloc, pair, &counters, place, mutation)
 }
 
 /// The operation, at the second attempt if an allocation of the first is refused.

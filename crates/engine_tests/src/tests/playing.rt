@@ -5,16 +5,16 @@ ghost use Rattle.ids.specs.Members.{in_order};
 ghost use Rattle.document.specs.Documents.{IsBeside};
 
 use super::*;
-use cursor::{Expr, Place, Step as Hop};
+use cursor::Expr;
 use document::{Question, Reading};
-use ids::{OpId, ReplicaId};
+use fixtures::{field, op};
+use ids::ReplicaId;
 use items::Reply;
 use operation::{Command, Mutation, Op, Shared};
 use std::marker::Brand;
 use std::process::Abort;
 use std::sync::Wait;
-use value::{Key, Scalar, Val};
-use version::VersionVector;
+use value::{Scalar, Val};
 
 /// Who reads: a client by its number, or the reader.
 #[derive(Clone, Copy, Debug)]
@@ -51,6 +51,8 @@ pub enum Turn {
     Step(Step),
     /// A client polls the ticket of this client and serial.
     Poll(usize, (usize, u64), Told),
+    /// A client asks for the ticket of a serial: whether it has one.
+    TicketOf(usize, u64, bool),
     /// A token reads the number at a key, and has seen this many entries then.
     Read(Token, &'static str, Option<i64>, usize),
     /// A token reads the keys of the document, how many there are, and has seen this many entries then.
@@ -139,6 +141,9 @@ fn take_turn<N: EngineName, R: Wait + Abort>(
         }
         Turn::Step(want) => assert_eq!(rt; stage.writer.step(rt, alloc), want),
         Turn::Poll(client, of, want) => assert_eq!(rt; poll(stage, client, of)?, want),
+        Turn::TicketOf(client, serial, want) => {
+            assert_eq!(rt; has_ticket(stage, client, serial)?, want);
+        }
         Turn::Read(token, key, want, length) => {
             assert_eq!(rt; number_at(alloc, stage, token, key)?, want);
             assert_eq!(rt; seen_len(stage, token)?, length);
@@ -187,7 +192,7 @@ fn delete_head<N: EngineName, R: Wait>(
     client: usize,
 ) -> Result<Result<u64, Refusal>, Fail> {
     let client = client_of(stage, client)?;
-    let command = Command::Delete(Expr::new(vec![in alloc; Hop::Idx(0)]?));
+    let command = Command::Delete(Expr::root(alloc).idx(0)?);
     Ok(
         client
             .submit(rt, alloc, command)
@@ -208,20 +213,17 @@ fn deliver<N: EngineName, R: Wait>(
     Ok(client.deliver(rt, alloc, op).map(|ticket| ticket.serial))
 }
 
-fn op_of_two(alloc: Global, number: u32) -> Result<Shared<Op>, Fail> {
-    let replica = ReplicaId::new(2).ok_or("numbered 0")?;
+fn op_of_two(alloc: Global, number: u32) -> Result<Shared<Op>, Refusal> {
     let counter = u64::from(number);
-    let mut deps = VersionVector::zero(alloc, 3)?;
-    deps.raise(1, counter.saturating_sub(1));
-    let key = Key::new(alloc, "b")?;
-    let place = Place::doc(alloc).get(alloc, key)?;
-    let op = Op {
-        id: OpId { counter, replica },
-        deps,
+    let place = field(alloc, "b")?;
+    let mutation = Mutation::Assign(Val::Scalar(Scalar::Whole(i64::from(number))));
+    op(
+        alloc,
+        (counter, 2),
+        &[0, counter.saturating_sub(1), 0],
         place,
-        mutation: Mutation::Assign(Val::Scalar(Scalar::Whole(i64::from(number)))),
-    };
-    Ok(Shared::new(alloc, op)?)
+        mutation,
+    )
 }
 
 fn ticket(of: (usize, u64)) -> Result<Ticket, Fail> {
@@ -247,6 +249,20 @@ fn poll<N: EngineName>(
         Ok(Some(Reply::Known(length))) => Told::Known(length),
         Ok(Some(Reply::Refused(why, length))) => Told::Refused(why, length),
     })
+}
+
+/// Whether the client has a ticket of the serial, which is that serial's then.
+fn has_ticket<N: EngineName>(
+    stage: &mut Stage<N>,
+    client: usize,
+    serial: u64,
+) -> Result<bool, Fail> {
+    let client = client_of(stage, client)?;
+    match client.ticket_of(serial) {
+        Ok(ticket) => Ok(ticket.serial == serial),
+        Err(Refusal::Foreign) => Ok(false),
+        Err(_) => Err("a serial is refused as Foreign alone".into()),
+    }
 }
 
 fn ask<N: EngineName>(
@@ -286,7 +302,7 @@ fn number_at<N: EngineName>(
 
 /// How many keys the document has.
 fn keys<N: EngineName>(alloc: Global, stage: &mut Stage<N>, token: Token) -> Result<usize, Fail> {
-    let question = Question::Keys(Expr::new(Vec::new(alloc)));
+    let question = Question::Keys(Expr::root(alloc));
     let Reading::Keys(keys) = ask(alloc, stage, token, &question)? else {
         return Err("no keys".into());
     };

@@ -82,6 +82,10 @@ fn only_the_own_tickets_are_answered(rt: HostRuntime) -> Result<(), Fail> {
         Turn::Poll(1, (0, 1), Told::Foreign),
         Turn::Poll(1, (1, 1), Told::Foreign),
         Turn::Poll(0, (0, 1), Told::Made(1, 0)),
+        Turn::TicketOf(0, 0, false),
+        Turn::TicketOf(0, 1, true),
+        Turn::TicketOf(0, 2, false),
+        Turn::TicketOf(1, 1, false),
     ];
     let alloc = rt.alloc();
     on_new(&rt, alloc, config(alloc, 4, 4)?, TURNS)

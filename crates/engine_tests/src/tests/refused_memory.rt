@@ -6,16 +6,15 @@ ghost use Rattle.std.specs.Prelude.{◌≡◌};
 ghost use Rattle.ids.specs.Members.{in_order};
 
 use super::*;
-use cursor::{Expr, Place, Step as Hop};
+use cursor::{Expr, Place};
 use document::{Question, Reading};
-use ids::{OpId, ReplicaId};
+use fixtures::op;
 use items::Reply;
 use operation::{Command, Mutation, Op, Shared};
 use std::marker::Brand;
 use std::process::Abort;
 use std::sync::Wait;
-use value::{Key, Scalar, Val};
-use version::VersionVector;
+use value::{Scalar, Val};
 
 /// What is made, at the second attempt if the first is refused.
 fn again<T: Drop, F: Fn() -> Result<T, Refusal>>(make: F) -> Result<T, Refusal>
@@ -241,18 +240,14 @@ fn deliver<N: EngineName, R: Wait>(
 
 /// The operation of replica 2 with this counter, which assigns an empty map at the root and depends on its earlier ones.
 fn op_of_two(alloc: Global, counter: u64) -> Result<Shared<Op>, Refusal> {
-    let Some(replica) = ReplicaId::new(2) else {
-        return Err(Refusal::BadLine);
-    };
-    let mut deps = VersionVector::zero(alloc, 2)?;
-    deps.raise(1, counter.saturating_sub(1));
-    let op = Op {
-        id: OpId { counter, replica },
-        deps,
-        place: Place::doc(alloc),
-        mutation: Mutation::Assign(Val::EmptyMap),
-    };
-    Ok(Shared::new(alloc, op)?)
+    let mutation = Mutation::Assign(Val::EmptyMap);
+    op(
+        alloc,
+        (counter, 2),
+        &[0, counter.saturating_sub(1)],
+        Place::doc(alloc),
+        mutation,
+    )
 }
 
 /// Whether the number 4 stands at the key `a`.

@@ -141,8 +141,7 @@ fn publish<N: EngineName, R: Wait>(
 
 /// The head of the list.
 fn head(alloc: Global) -> Result<Expr, Refusal> {
-    let list = Hop::Get(Key::new(alloc, "l")?);
-    Ok(Expr::new(vec![in alloc; list, Hop::Idx(0)]?))
+    Ok(Expr::root(alloc).get(alloc, "l")?.idx(0)?)
 }
 
 /// Publishes numbers at a key, one after another.

@@ -4,7 +4,7 @@ ghost use Rattle.std.specs.Prelude.{◌≡◌};
 ghost use Rattle.ids.specs.Members.{in_order};
 
 use super::*;
-use cursor::{Expr, Step as Hop};
+use cursor::Expr;
 use document::{Question, Reading};
 use items::Reply;
 use operation::Command;
@@ -12,7 +12,7 @@ use std::marker::Brand;
 use std::process::Abort;
 use std::sync::Wait;
 use std::thread::{Threads, join, yield_now};
-use value::{Key, Scalar, Val};
+use value::{Scalar, Val};
 
 /// How many commands each client submits.
 const EACH: u64 = 40;

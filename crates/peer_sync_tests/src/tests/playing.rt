@@ -7,7 +7,6 @@ use super::early::early_op;
 use super::showing::{Shown, To, assert_shown, expr};
 use super::*;
 use engine::{Client, EngineName, Parts, ReaderToken, Step, Ticket, Writer, close, open, prepare};
-use fixtures::text;
 use ids::{Config, ReplicaId};
 use items::Reply;
 use operation::Command;
@@ -85,7 +84,7 @@ fn val(alloc: Global, value: Wrote) -> Result<Val, Refusal> {
     Ok(match value {
         Wrote::Map => Val::EmptyMap,
         Wrote::List => Val::EmptyList,
-        Wrote::Words(words) => text(alloc, words)?,
+        Wrote::Words(words) => Val::text(alloc, words)?,
     })
 }
 

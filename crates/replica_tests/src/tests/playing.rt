@@ -9,7 +9,7 @@ ghost use Rattle.semantics.specs.Entries.{IsAbove};
 use super::*;
 use cursor::{Expr, Place, Step};
 use document::{Question, Reading};
-use fixtures::{Pair, field, id_of, pair_of, text, vector};
+use fixtures::{Pair, field, id_of, pair_of, vector};
 use ids::Refusal;
 use operation::{Command, Mutation, Op, Shared};
 use std::alloc::Global;
@@ -61,14 +61,12 @@ fn lengths(replica: &Replica) -> (usize, u64) {
 
 /// The expression of one field of the root.
 fn expression(alloc: Global, key: &str) -> Result<Expr, Refusal> {
-    let mut steps = Vec::new(alloc);
-    steps.push(Step::Get(Key::new(alloc, key)?))?;
-    Ok(Expr::new(steps))
+    Expr::root(alloc).get(alloc, key)
 }
 
 /// The command that assigns a text at a field of the root.
 fn assigning(alloc: Global, key: &str, value: &str) -> Result<Command, Refusal> {
-    Ok(Command::Assign(expression(alloc, key)?, text(alloc, value)?))
+    Ok(Command::Assign(expression(alloc, key)?, Val::text(alloc, value)?))
 }
 
 /// An item of the list at `key`.
@@ -89,7 +87,7 @@ fn place(alloc: Global, writes: Writes<'_>) -> Result<Place, Refusal> {
 /// What an operation writes there.
 fn mutation(alloc: Global, writes: Writes<'_>) -> Result<Mutation, Refusal> {
     match writes {
-        Writes::Text(_, value) => Ok(Mutation::Assign(text(alloc, value)?)),
+        Writes::Text(_, value) => Ok(Mutation::Assign(Val::text(alloc, value)?)),
         Writes::Insert => Ok(Mutation::Insert(Val::EmptyMap)),
         Writes::Delete | Writes::DeleteItem(_) => Ok(Mutation::Delete),
     }
@@ -102,16 +100,9 @@ fn op(
     counters: &[u64],
     writes: Writes<'_>,
 ) -> Result<Shared<Op>, Refusal> {
-    let id = id_of(pair)?;
-    let deps = vector(alloc, counters)?;
     let place = place(alloc, writes)?;
-    let op = Op {
-        id,
-        deps,
-        place,
-        mutation: mutation(alloc, writes)?,
-    };
-    Ok(Shared::new(alloc, op)?)
+    let mutation = mutation(alloc, writes)?;
+    fixtures::op(alloc, pair, counters, place, mutation)
 }
 
 /// Makes the operation of an assign, which has this id and is not committed.

@@ -14,7 +14,7 @@ ghost use Rattle.operation.specs.Meanings.{stamped_of};
 ghost use Rattle.wire.specs.Bundles.{readable};
 ghost use Rattle.world.specs.Engines.{IsNoHello, IsReachedEngine, first_of, message_of, stop_after};
 ghost use Rattle.world.specs.Parts.{IsBetween};
-ghost use Rattle.world.specs.Meanings.{reply_of};
+ghost use Rattle.world.specs.Meanings.{step_reply_of};
 
 use crate::engine::Engine;
 use crate::message::{Message, NamedOps, NamedVector};
@@ -37,7 +37,7 @@ impl Engine {
         token: usize,
     ) -> Result<WorldReply, AllocError>
         ensures engine { OnOk result (self.new ≡ (say_hello self.old token (length messages.old.items)).engine) }
-        ensures reply { IfOk result (λ r. reply_of r ≡ (say_hello self.old token (length messages.old.items)).reply) }
+        ensures reply { IfOk result (λ r. step_reply_of r ≡ (say_hello self.old token (length messages.old.items)).reply) }
         ensures sent { OnOk result (map message_of messages.new.items
             ≡ map message_of messages.old.items ++ HelloOf (published_vector self.old) ∷ []) }
         ensures unsent { OnErr result (map message_of messages.new.items ≡ map message_of messages.old.items) }
@@ -72,7 +72,7 @@ impl Engine {
         ensures engine { OnOk result (self.new
             ≡ (answer_hello self.old token (length messages.old.items) (slice_get (map message_of messages.old.items) message)).engine) }
         ensures reply { IfOk result
-            (λ r. reply_of r
+            (λ r. step_reply_of r
             ≡ (answer_hello self.old token (length messages.old.items) (slice_get (map message_of messages.old.items) message)).reply) }
         ensures sent { OnOk result (map message_of messages.new.items
             ≡ map message_of messages.old.items ++ answer_sent self.old (slice_get (map message_of messages.old.items) message)) }
@@ -131,7 +131,7 @@ impl Engine {
         ensures engine { OnOk result (self.new
             ≡ (receive_message self.old client (slice_get (map message_of messages.now) message)).engine) }
         ensures reply { IfOk result
-            (λ r. reply_of r ≡ (receive_message self.old client (slice_get (map message_of messages.now) message)).reply) }
+            (λ r. step_reply_of r ≡ (receive_message self.old client (slice_get (map message_of messages.now) message)).reply) }
         ensures stopped { OnErr result
             (IsBetween self.old self.new (receive_message self.old client (slice_get (map message_of messages.now) message)).engine) }
     {
@@ -157,7 +157,7 @@ impl Engine {
             ≡ (receive_lines self.old client (readable self.old.replica.members text.now).operations
             (readable self.old.replica.members text.now).stopped).engine) }
         ensures reply { IfOk result
-            (λ r. reply_of r
+            (λ r. step_reply_of r
             ≡ (receive_lines self.old client (readable self.old.replica.members text.now).operations
             (readable self.old.replica.members text.now).stopped).reply) }
         ensures stopped { OnErr result
@@ -179,7 +179,7 @@ impl Engine {
         ensures engine { OnOk result (self.new
             ≡ (receive_lines self.old client (map (stamped_of self.old.replica.members) read.ops.items) read.stopped).engine) }
         ensures reply { IfOk result
-            (λ r. reply_of r
+            (λ r. step_reply_of r
             ≡ (receive_lines self.old client (map (stamped_of self.old.replica.members) read.ops.items) read.stopped).reply) }
         ensures read { OnOk result (read.stopped ≢ Some NoMemory) }
         ensures stopped { OnErr result ((self.new ≡ self.old)

@@ -6,7 +6,7 @@ ghost use Rattle.semantics.specs.LegalAnswer.{reading_of};
 ghost use Rattle.semantics.specs.ReadSteps.{ask, cell_under, learn, poll, see, seen_by};
 ghost use Rattle.document.specs.Documents.{IsBeside, asked_of};
 ghost use Rattle.world.specs.Engines.{client_of, given_of};
-ghost use Rattle.world.specs.Meanings.{reply_of};
+ghost use Rattle.world.specs.Meanings.{step_reply_of};
 
 use crate::client::{Client, Given};
 use crate::engine::Engine;
@@ -19,7 +19,7 @@ impl Engine {
     /// A client polls one of its serials. It has then seen all that was published with the answer.
     pub fn poll(&mut self, client: usize, serial: u64) -> WorldReply
         ensures engine { self.new ≡ (poll self.old client serial).engine }
-        ensures reply { reply_of result ≡ (poll self.old client serial).reply }
+        ensures reply { step_reply_of result ≡ (poll self.old client serial).reply }
     {
         if client >= self.clients.len() {
             return WorldReply::Idle;
@@ -38,7 +38,7 @@ impl Engine {
     /// A token learns of the answer to a client's serial. It has then seen at least what was published with that.
     pub fn learn(&mut self, token: usize, client: usize, serial: u64) -> WorldReply
         ensures engine { self.new ≡ (learn self.old token client serial).engine }
-        ensures reply { reply_of result ≡ (learn self.old token client serial).reply }
+        ensures reply { step_reply_of result ≡ (learn self.old token client serial).reply }
     {
         let Some(given) = answer_under(&self.clients, client, serial) else {
             return WorldReply::Unanswered;
@@ -60,7 +60,7 @@ impl Engine {
     ) -> Result<WorldReply, AllocError>
         requires { IsBeside self.old.replica.members question.now }
         ensures engine { OnOk result (self.new ≡ (ask self.old token (asked_of self.old.replica.members question.now)).engine) }
-        ensures reply { IfOk result (λ r. reply_of r ≡ (ask self.old token (asked_of self.old.replica.members question.now)).reply) }
+        ensures reply { IfOk result (λ r. step_reply_of r ≡ (ask self.old token (asked_of self.old.replica.members question.now)).reply) }
         ensures unchanged { OnErr result (self.new ≡ self.old) }
     {
         let reply = self.read(alloc, question)?;
@@ -75,7 +75,7 @@ impl Engine {
     fn read(&self, alloc: Global, question: &Question) -> Result<WorldReply, AllocError>
         requires { IsBeside self.now.replica.members question.now }
         ensures reply { IfOk result
-            (λ r. reply_of r
+            (λ r. step_reply_of r
             ≡ Read self.now.published (reading_of (published_entries self.now) (asked_of self.now.replica.members question.now))) }
     {
         let seen = self.shown().len() as u64;

@@ -7,7 +7,7 @@ ghost use Rattle.semantics.specs.WriteSteps.{push, with_cell};
 ghost use Rattle.operation.specs.Meanings.{command_of};
 ghost use Rattle.items.specs.Meanings.{request_of, submitted_of};
 ghost use Rattle.world.specs.Engines.{client_of, taken_or_denied};
-ghost use Rattle.world.specs.Meanings.{reply_of};
+ghost use Rattle.world.specs.Meanings.{step_reply_of};
 
 use crate::client::Client;
 use crate::engine::Engine;
@@ -29,7 +29,7 @@ impl Engine {
         command: &Shared<Command>,
     ) -> Result<WorldReply, AllocError>
         ensures engine { OnOk result (self.new ≡ (push self.old client (OfCommand (command_of command.now))).engine) }
-        ensures reply { IfOk result (λ r. reply_of r ≡ (push self.old client (OfCommand (command_of command.now))).reply) }
+        ensures reply { IfOk result (λ r. step_reply_of r ≡ (push self.old client (OfCommand (command_of command.now))).reply) }
         ensures unchanged { OnErr result (self.new ≡ self.old) }
     {
         if client >= self.clients.len() {

@@ -6,9 +6,9 @@ ghost use Rattle.semantics.specs.Replica.{IsRunning};
 ghost use Rattle.semantics.specs.Publication.{Holds};
 ghost use Rattle.semantics.specs.WriteSteps.{after_item, give, give_for, give_to, publish, reply_to, take_for, take_item, whole_step};
 ghost use Rattle.replica.specs.Replicas.{replica_of};
-ghost use Rattle.items.specs.Meanings.{answer_of, submitted_of};
+ghost use Rattle.items.specs.Meanings.{reply_of, submitted_of};
 ghost use Rattle.world.specs.Engines.{IsReachedEngine, client_of, given_of, is_no_memory};
-ghost use Rattle.world.specs.Meanings.{reply_of};
+ghost use Rattle.world.specs.Meanings.{step_reply_of};
 ghost use Rattle.world.specs.Parts.{IsHandledInPart, PublishesInPart, StepsInPart, TakesInPart};
 
 use crate::client::{Client, Given};
@@ -29,7 +29,7 @@ impl Engine {
     pub fn take(&mut self, alloc: Global) -> Result<WorldReply, AllocError>
         requires { IsReachedEngine self.old }
         ensures engine { OnOk result (self.new ≡ (take_item self.old).engine) }
-        ensures reply { IfOk result (λ r. reply_of r ≡ (take_item self.old).reply) }
+        ensures reply { IfOk result (λ r. step_reply_of r ≡ (take_item self.old).reply) }
         ensures stopped { OnErr result (TakesInPart self.old self.new) }
     {
         if !self.due.is_empty() || self.handled.len() >= self.batch {
@@ -53,7 +53,7 @@ impl Engine {
     /// `AllocError` if allocation fails. Some entries may be published then.
     pub fn publish(&mut self, alloc: Global) -> Result<WorldReply, AllocError>
         ensures engine { OnOk result (self.new ≡ (publish self.old).engine) }
-        ensures reply { IfOk result (λ r. reply_of r ≡ (publish self.old).reply) }
+        ensures reply { IfOk result (λ r. step_reply_of r ≡ (publish self.old).reply) }
         ensures stopped { OnErr result (PublishesInPart self.old self.new) }
     {
         if !self.due.is_empty() || self.handled.is_empty() {
@@ -68,7 +68,7 @@ impl Engine {
     /// The writer sets the answer to the oldest published submission.
     pub fn give(&mut self) -> WorldReply
         ensures engine { self.new ≡ (give self.old).engine }
-        ensures reply { reply_of result ≡ (give self.old).reply }
+        ensures reply { step_reply_of result ≡ (give self.old).reply }
     {
         let Some(handled) = self.due.pop_front() else {
             return WorldReply::Idle;
@@ -90,7 +90,7 @@ impl Engine {
     pub fn step(&mut self, alloc: Global) -> Result<WorldReply, AllocError>
         requires { IsReachedEngine self.old }
         ensures engine { OnOk result (self.new ≡ (whole_step self.old).engine) }
-        ensures reply { IfOk result (λ r. reply_of r ≡ (whole_step self.old).reply) }
+        ensures reply { IfOk result (λ r. step_reply_of r ≡ (whole_step self.old).reply) }
         ensures stopped { OnErr result (StepsInPart self.old self.new) }
     {
         self.take_all(alloc)?;
@@ -147,7 +147,7 @@ fn handle(
     ensures replica { OnOk result (replica_of handler.new.replica
         ≡ after_item (replica_of handler.old.replica) (submitted_of handler.old.replica.document.table item.now)) }
     ensures reply { IfOk result
-        (λ r. answer_of r ≡ reply_to (replica_of handler.old.replica) (submitted_of handler.old.replica.document.table item.now)) }
+        (λ r. reply_of r ≡ reply_to (replica_of handler.old.replica) (submitted_of handler.old.replica.document.table item.now)) }
     ensures table { handler.new.replica.document.table ≡ handler.old.replica.document.table }
     ensures holds { Holds publisher.new (replica_of handler.new.replica) }
     ensures published { publisher.new.published ≡ publisher.old.published }
@@ -164,7 +164,7 @@ fn handle(
 
 /// Whether a submission was refused because an allocation failed.
 fn is_no_memory(reply: &Reply) -> bool
-    ensures { result ≡ is_no_memory (answer_of reply.now) }
+    ensures { result ≡ is_no_memory (reply_of reply.now) }
 {
     matches!(reply, Reply::Refused(Refusal::NoMemory, _))
 }

@@ -1,5 +1,5 @@
 use Rattle.std.proofs.Common.{◌≡◌, false, take}
-use Rattle.columns.specs.Orders.{has_item}
+use Rattle.semantics.specs.Context.{has_item}
 use Rattle.columns.proofs.block.position_in.Given as goal
 
 abbrev pub invariant-loop-index : goal.invariant-loop-index

@@ -1,6 +1,6 @@
 use Rattle.std.proofs.Common.{◌≡◌, ◌∙◌, ◌<◌, ◌+◌, ap, sym, refl, slice_get, Some, subst, length, arith}
 use Rattle.std.proofs.lemmas.Option.{slice_get_read, slice_get_within}
-use Rattle.columns.specs.Orders.{has_position}
+use Rattle.semantics.specs.Context.{has_position}
 use Rattle.columns.specs.Blocks.{IsBehind, IsFound, joined}
 use Rattle.columns.proofs.Runs.{items_here}
 use Rattle.columns.proofs.Walked.{behind_head, behind_item, homeless, none_left, run_at}

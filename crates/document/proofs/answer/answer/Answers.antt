@@ -3,7 +3,7 @@ use Rattle.semantics.specs.Tables.{by_table}
 use Rattle.semantics.specs.Questions.{VectorIs}
 use Rattle.semantics.specs.LegalAnswer.{Answered, reading_of}
 use Rattle.document.specs.Documents.{asked_of}
-use Rattle.document.proofs.KeptFacts.{column_is_vector}
+use Rattle.document.proofs.Consistent.{column_is_vector}
 use Rattle.document.proofs.answer.answer.Goals as goal
 
 pub returns-in_ok-clone-in-Vector-clause-answer : goal.returns-in_ok-clone-in-Vector-clause-answer

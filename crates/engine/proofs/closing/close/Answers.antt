@@ -1,3 +1,4 @@
+-- The clients end one after another; what they had sent and what is left in the queue is all that each submitted.
 use Rattle.std.proofs.Common.{◌≡◌, ◌++◌, ℕ, List, Some, length, sym, ap, ◌∙◌, subst, arith, refl, rules}
 use Rattle.crossbeam_queue.specs.Passes.{view}
 use Rattle.semantics.specs.Entries.{Entry, Own, entry_at, IsEntryHistory}

@@ -1,18 +1,17 @@
 use Rattle.std.proofs.Common.{rules, ◌≡◌, ◌+◌, ◌≤◌, sym, ap, arith, vec_capacity}
 use Rattle.ids.specs.Configurations.{Configuration}
-use Rattle.engine.proofs.Limits.{seats_fit, batch_is_positive}
+use Rattle.engine.proofs.Limits.{limits}
 use Rattle.engine.proofs.opening.open.Goals as goal
 
 pub open-requires-clause-readers : goal.open-requires-clause-readers
 open-requires-clause-readers g c =
     let is : c.args.parts.config.clients + c.args.parts.config.readers ≡ c.config.inside.clients + c.config.inside.readers =
     sym (ap (λ (k : Configuration). k.clients + k.readers) c.config.view_is) in
-    let fits = seats_fit c.args.parts.config c.args.parts.good in
-    (omega (arith, is, fits.0), omega (arith, is, fits.1))
+    let l = limits c.args.parts.config c.args.parts.good in
+    (omega (arith, is, l.clients.0), omega (arith, is, l.clients.1, l.readers.1))
 
 pub new-writer-requires-clause-batch : goal.new-writer-requires-clause-batch
 new-writer-requires-clause-batch g c =
     let is : c.args.parts.config.batch ≡ c.config.inside.batch = sym (ap (λ (k : Configuration). k.batch) c.config.view_is) in
     let room : c.args.parts.config.batch ≤ vec_capacity c.in-Ok.held = search rules in
-    let some = batch_is_positive c.args.parts.config c.args.parts.good in
-    (omega (arith, is, some), omega (arith, is, room))
+    (omega (arith, is, (limits c.args.parts.config c.args.parts.good).batch.0), omega (arith, is, room))

@@ -3,7 +3,7 @@ use Rattle.semantics.specs.Entries.{Entry}
 use Rattle.semantics.specs.Engine.{Handled}
 use Rattle.semantics.specs.Receipts.{IsAnswer}
 use Rattle.semantics.specs.Batches.{AreAnswers}
-use Rattle.items.specs.Meanings.{answer_of, submitted_of}
+use Rattle.items.specs.Meanings.{reply_of, submitted_of}
 use Rattle.command.specs.Answers.{Answered}
 use Rattle.engine.proofs.Filling.{answers_pop, answers_reversed}
 use Rattle.engine.proofs.writer.give.Goals as goal
@@ -12,7 +12,7 @@ pub fill-requires : goal.fill-requires
 fill-requires g c =
     let own = g.N.EngineName.own in
     let table = g.N.EngineName.table in
-    let y = answer_of c.handled.inside.reply in
+    let y = reply_of c.handled.inside.reply in
     let popped = answers_pop own table c.args.notice.now c.loop-handled.held.items c.pop.new.self.items c.in-Some.handled
     c.in-Some.ensures.items c.loop-handled.invariant.0 in
     subst (λ (a : Answered). IsAnswer own table c.again.result (submitted_of table a.item) y) (sym c.deref_mut.ensures.value)

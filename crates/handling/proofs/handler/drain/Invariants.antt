@@ -1,4 +1,3 @@
-use Rattle.semantics.specs.Publication.{Publication}
 use Rattle.replica.specs.Replicas.{replica_of}
 use Rattle.handling.proofs.Draining.{IsUnderWay}
 use Rattle.handling.proofs.handler.drain.Given as goal

@@ -1,6 +1,7 @@
 use Rattle.std.proofs.Common.{◌≡◌, ap, ◌∙◌}
+use Rattle.semantics.specs.Entries.{lacked_of}
 use Rattle.semantics.specs.Tables.{by_table}
-use Rattle.peer_sync.specs.Sending.{lacked, without_end}
+use Rattle.peer_sync.specs.Sending.{without_end}
 use Rattle.peer_sync.proofs.SentBack.{answer_back, same_vector}
 use Rattle.peer_sync.proofs.sending.answer.Goals as goal
 
@@ -12,4 +13,4 @@ returns-clause-reads_back g c v form sent =
     (without_end c.args.hello.now) c.without_end.result.now c.table.ensures c.without_end.ensures c.in_ok-vector.ensures.read form in
     answer_back table c.table-2.result.now c.in_ok-ops.ops.items c.as_slice.result.now _ c.in_ok-lines.lines.items c.table-2.ensures
     c.as_slice.ensures.value
-    (c.in_ok-ops.ensures.ops ∙ ap (lacked _) named) c.in_ok-lines.ensures.reads_back sent
+    (c.in_ok-ops.ensures.ops ∙ ap (lacked_of _) named) c.in_ok-lines.ensures.reads_back sent

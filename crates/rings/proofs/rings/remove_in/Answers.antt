@@ -1,7 +1,7 @@
-use Rattle.std.proofs.Common.{rules, ◌≡◌, ◌<◌, ◌∙◌, ◌/◌, IsTrue, Some, ap, sym, take, length, slice_get, refl}
+use Rattle.std.proofs.Common.{◌∙◌, ◌/◌, ap, sym, take, length, slice_get, refl}
 use Rattle.std.specs.List.{remove}
 use Rattle.std.proofs.lemmas.Option.{slice_get_read}
-use Rattle.rings.specs.Rings.{are_zero, straight}
+use Rattle.rings.specs.Rings.{straight}
 use Rattle.rings.specs.Starts.{starts_of}
 use Rattle.rings.proofs.Turned.{zero_straight, zero_take}
 use Rattle.rings.proofs.rings.remove_in.Goals as goal

@@ -12,7 +12,7 @@ use Rattle.scripts.specs.Errors.{IsErrorOf, error_of}
 use Rattle.json_lines.specs.Lines.{Bad, IsFirstLine, on_line, unless_bad}
 use Rattle.scripts.specs.Scripts.{script_form, steps_left}
 use Rattle.scripts.proofs.StepsLeft.{script_form-bad, script_form-engines, script_form-none}
-use Rattle.json_lines.proofs.UnlessMemory.{IsUnlessMemory-Err}
+use Rattle.json_lines.proofs.OrNoMemory.{IsOrNoMemory-Err}
 use Rattle.scripts.proofs.script.read_script.Goals as goal
 
 both : {T E : Type 0} (r : Result T E) (P Q : T → Type 0) → IfOk r P → IfOk r Q → IfOk r (λ x. P x × Q x)
@@ -43,7 +43,7 @@ returns-in_default-clause-err c =
 pub returns-in-Err-clause-err : goal.returns-in-Err-clause-err
 returns-in-Err-clause-err c =
     let first = rw c.new-lines.ensures.all_left at c.in-Some.ensures.line in
-    elim (IsUnlessMemory-Err _ _ c.in-Err.ensures) [
+    elim (IsOrNoMemory-Err _ _ c.in-Err.ensures) [
       | inl none ↦ inl (c.of_line-in-Err.ensures ∙ ap (error_of 1) none)
       | inr e ↦ inr ((1, c.in-Err.why), script_form-bad _ _ _ _ first (rw e refl), c.of_line-in-Err.ensures)
     ]

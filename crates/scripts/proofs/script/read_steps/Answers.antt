@@ -9,7 +9,7 @@ use Rattle.world.specs.Worlds.{IsAskedBeside, step_in, tables_of}
 use Rattle.scripts.specs.Errors.{error_of}
 use Rattle.scripts.specs.Scripts.{steps_left}
 use Rattle.scripts.proofs.StepsLeft.{after, after-step, after-bad, after-cut}
-use Rattle.json_lines.proofs.UnlessMemory.{IsUnlessMemory-Err}
+use Rattle.json_lines.proofs.OrNoMemory.{IsOrNoMemory-Err}
 use Rattle.scripts.proofs.script.read_steps.Goals as goal
 
 pub loop-line-preserved : goal.loop-line-preserved
@@ -33,7 +33,7 @@ loop-line-preserved c =
 pub returns-in-Err-clause-steps : goal.returns-in-Err-clause-steps
 returns-in-Err-clause-steps c =
     let ss = map (step_in (tables_of c.args.world.now.engines)) c.loop-line.steps.items in
-    elim (IsUnlessMemory-Err _ _ c.in-Err.ensures.read) [
+    elim (IsOrNoMemory-Err _ _ c.in-Err.ensures.read) [
       | inl e ↦ inl (c.of_line.ensures ∙ ap (error_of c.in-Some.line.number) e)
       | inr e ↦ inr (
         (c.loop-line.lines.taken + 1, c.in-Err.why),

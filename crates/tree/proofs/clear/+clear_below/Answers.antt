@@ -1,11 +1,12 @@
+-- First the fields and then the items: clearing those that weren't reached yet gives what clearing all gives.
 use Rattle.std.proofs.Common.{◌≡◌, [], ◌+◌, ◌<◌, length, Some, sym, ap, ◌∙◌, arith, get_or, drop, rules}
 use Rattle.std.proofs.lemmas.List.{drop_all}
 use Rattle.semantics.specs.Ids.{id_at}
 use Rattle.semantics.specs.Elements.{Field, Item}
 use Rattle.tree.specs.Nodes.{number, links, context, Links}
-use Rattle.tree.specs.Writes.{clear_each, deps_of, fields_of, items_of}
+use Rattle.tree.specs.Writes.{deps_of, fields_of, items_of}
 use Rattle.tree.proofs.Shape.{number_same, tree_same, links_trans, room_trans}
-use Rattle.tree.proofs.Clears.{turn_field, turn_item, clear_whole}
+use Rattle.tree.proofs.Clears.{clear_each, turn_field, turn_item, clear_whole}
 use Rattle.tree.proofs.clear.+clear_below.Goals as goal
 
 pub fields-preserved : goal.fields-preserved

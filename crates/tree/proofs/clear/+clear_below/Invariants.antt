@@ -1,7 +1,8 @@
 use Rattle.std.proofs.Common.{◌≡◌, ◌-◌, length, drop, Some}
 use Rattle.semantics.specs.Elements.{Element}
 use Rattle.tree.specs.Nodes.{AreBeside, SameLinks, MoreRoom, context, number, links}
-use Rattle.tree.specs.Writes.{clear_own, clear_each, deps_of, fields_of, items_of}
+use Rattle.tree.specs.Writes.{clear_own, deps_of, fields_of, items_of}
+use Rattle.tree.proofs.Clears.{clear_each}
 use Rattle.tree.proofs.clear.+clear_below.Given as goal
 
 abbrev pub decreases-clear_below : goal.decreases-clear_below

@@ -1,5 +1,4 @@
-use Rattle.std.proofs.Common.{◌≡◌, refl, Some}
-use Rattle.std.specs.Prelude.{slice_get}
+use Rattle.std.proofs.Common.{refl}
 use Rattle.semantics.specs.Paths.{ItemKey}
 use Rattle.tree.specs.declared.node.Node.{Node}
 use Rattle.tree.proofs.Linked.{OnlyLinks, linked_kept}
@@ -9,23 +8,17 @@ use Rattle.tree.proofs.grow.link_item.Goals as goal
 pub returns-clause-kept : goal.returns-clause-kept
 returns-clause-kept c =
     let ns = c.args.nodes.now.items in
-    let at = c.args.at in
-    let j = c.args.number in
     let n : Node = c.node_in_vec-node.result.now in
     let m : Node = record n { items = c.put.new.self } in
-    let there : slice_get ns at ≡ Some n = c.node_in_vec-node.ensures.node in
+    let there = c.node_in_vec-node.ensures.node in
     let only : OnlyLinks n m = record { presence = refl; register = refl; order = refl; written = refl } in
-    linked_kept at (ItemKey c.args.id) j ns n m there only
-    (linked_item ns at n m j there only c.args.id
-    (rw c.index.ensures at c.put.ensures.entries) c.requires.tree c.requires.absent refl) c.requires.tree c.requires.above c.requires.orphan
+    linked_kept c.args.at (ItemKey c.args.id) c.args.number ns n m there only
+    (linked_item ns c.args.at n m c.args.number there c.args.id (rw c.index.ensures at c.put.ensures.entries) only c.requires.tree
+    c.requires.absent refl)
+    c.requires.tree c.requires.above c.requires.orphan
 
 pub returns-clause-child : goal.returns-clause-child
 returns-clause-child c =
-    let ns = c.args.nodes.now.items in
-    let at = c.args.at in
-    let j = c.args.number in
     let n : Node = c.node_in_vec-node.result.now in
-    let m : Node = record n { items = c.put.new.self } in
-    let there : slice_get ns at ≡ Some n = c.node_in_vec-node.ensures.node in
-    item_linked ns at n m j there (record { presence = refl; register = refl; order = refl; written = refl }) c.args.id
-    (rw c.index.ensures at c.put.ensures.entries)
+    item_linked c.args.nodes.now.items c.args.at n (record n { items = c.put.new.self }) c.args.number c.node_in_vec-node.ensures.node
+    c.args.id (rw c.index.ensures at c.put.ensures.entries)

@@ -1,56 +1,40 @@
-use Rattle.std.proofs.Common.{◌<◌, refl, sym, subst, arith, OnOk, set}
+use Rattle.std.proofs.Common.{◌≡◌, ◌<◌, refl, sym, subst, arith, OnOk, set}
 use Rattle.std.specs.Prelude.{slice_get}
+use Rattle.semantics.specs.Ids.{OpId}
+use Rattle.semantics.specs.Elements.{Name}
 use Rattle.semantics.specs.Paths.{FieldKey, ItemKey}
 use Rattle.cursor.specs.Meanings.{hop_of}
+use Rattle.columns.specs.Numbered.{Numbered}
 use Rattle.tree.specs.declared.node.Node.{Node}
 use Rattle.tree.specs.Nodes.{child_room}
 use Rattle.tree.proofs.ListReads.{get_same}
-use Rattle.tree.proofs.Widened.{kept_set, wider_links}
+use Rattle.tree.proofs.Widened.{Wider, kept_set, wider_links}
 use Rattle.tree.proofs.grow.reserve_child.Goals as goal
+
+-- a node whose children are the same has no less room
+widened : (n : Node) (f : Numbered Name) (i : Numbered OpId) → f.entries ≡ n.fields.entries → i.entries ≡ n.items.entries
+    → Wider n (record n { fields = f; items = i })
+widened n f i e d = record {
+  children = (e, d);
+  presence = (refl, refl, omega arith);
+  register = (refl, refl, omega arith);
+  order = (refl, refl, omega arith);
+  written = refl;
+}
 
 pub returns-in-Field-clause-kept : goal.returns-in-Field-clause-kept
 returns-in-Field-clause-kept c =
-    let ns = c.args.nodes.now.items in
     let n : Node = c.node_in_vec-node.result.now in
     let m : Node = record n { fields = c.reserve_one.new.self } in
-    let there = c.node_in_vec-node.ensures.node in
-    kept_set ns c.args.at n m there c.requires.tree
-    (record {
-      fields = c.reserve_one.ensures.same;
-      items = refl;
-      presence = refl;
-      presence_indices = refl;
-      register = refl;
-      register_indices = refl;
-      order = refl;
-      visible = refl;
-      written = refl;
-      presence_room = omega arith;
-      register_room = omega arith;
-      order_room = omega arith;
-    })
+    kept_set c.args.nodes.now.items c.args.at n m c.node_in_vec-node.ensures.node c.requires.tree
+    (widened n m.fields m.items c.reserve_one.ensures.same refl)
 
 pub returns-in-Field-clause-shape : goal.returns-in-Field-clause-shape
 returns-in-Field-clause-shape c =
-    let ns = c.args.nodes.now.items in
     let n : Node = c.node_in_vec-node.result.now in
     let m : Node = record n { fields = c.reserve_one.new.self } in
-    let there = c.node_in_vec-node.ensures.node in
-    wider_links ns c.args.at n m there
-    (record {
-      fields = c.reserve_one.ensures.same;
-      items = refl;
-      presence = refl;
-      presence_indices = refl;
-      register = refl;
-      register_indices = refl;
-      order = refl;
-      visible = refl;
-      written = refl;
-      presence_room = omega arith;
-      register_room = omega arith;
-      order_room = omega arith;
-    })
+    wider_links c.args.nodes.now.items c.args.at n m c.node_in_vec-node.ensures.node
+    (widened n m.fields m.items c.reserve_one.ensures.same refl)
 
 pub returns-in-Field-clause-room : goal.returns-in-Field-clause-room
 returns-in-Field-clause-room c =
@@ -63,47 +47,17 @@ returns-in-Field-clause-room c =
 
 pub returns-in-Item-clause-kept : goal.returns-in-Item-clause-kept
 returns-in-Item-clause-kept c =
-    let ns = c.args.nodes.now.items in
     let n : Node = c.node_in_vec-node.result.now in
     let m : Node = record n { items = c.reserve_one-in-Item.new.self } in
-    let there = c.node_in_vec-node.ensures.node in
-    kept_set ns c.args.at n m there c.requires.tree
-    (record {
-      fields = refl;
-      items = c.reserve_one-in-Item.ensures.same;
-      presence = refl;
-      presence_indices = refl;
-      register = refl;
-      register_indices = refl;
-      order = refl;
-      visible = refl;
-      written = refl;
-      presence_room = omega arith;
-      register_room = omega arith;
-      order_room = omega arith;
-    })
+    kept_set c.args.nodes.now.items c.args.at n m c.node_in_vec-node.ensures.node c.requires.tree
+    (widened n m.fields m.items refl c.reserve_one-in-Item.ensures.same)
 
 pub returns-in-Item-clause-shape : goal.returns-in-Item-clause-shape
 returns-in-Item-clause-shape c =
-    let ns = c.args.nodes.now.items in
     let n : Node = c.node_in_vec-node.result.now in
     let m : Node = record n { items = c.reserve_one-in-Item.new.self } in
-    let there = c.node_in_vec-node.ensures.node in
-    wider_links ns c.args.at n m there
-    (record {
-      fields = refl;
-      items = c.reserve_one-in-Item.ensures.same;
-      presence = refl;
-      presence_indices = refl;
-      register = refl;
-      register_indices = refl;
-      order = refl;
-      visible = refl;
-      written = refl;
-      presence_room = omega arith;
-      register_room = omega arith;
-      order_room = omega arith;
-    })
+    wider_links c.args.nodes.now.items c.args.at n m c.node_in_vec-node.ensures.node
+    (widened n m.fields m.items refl c.reserve_one-in-Item.ensures.same)
 
 pub returns-in-Item-clause-room : goal.returns-in-Item-clause-room
 returns-in-Item-clause-room c =

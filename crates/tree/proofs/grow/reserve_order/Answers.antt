@@ -11,18 +11,11 @@ returns-clause-kept c =
     let n : Node = c.node_in_vec-node.result.now in
     let m : Node = record n { order = c.reserve_one.new.self } in
     kept_set ns c.args.at n m c.node_in_vec-node.ensures.node c.requires.tree (record {
-      fields = refl;
-      items = refl;
-      presence = refl;
-      presence_indices = refl;
-      register = refl;
-      register_indices = refl;
-      order = c.reserve_one.ensures.same;
-      visible = c.reserve_one.ensures.visible;
+      children = (refl, refl);
+      presence = (refl, refl, omega arith);
+      register = (refl, refl, omega arith);
+      order = (c.reserve_one.ensures.same, c.reserve_one.ensures.visible, c.reserve_one.ensures.kept);
       written = refl;
-      presence_room = omega arith;
-      register_room = omega arith;
-      order_room = c.reserve_one.ensures.kept;
     })
 
 pub returns-clause-room : goal.returns-clause-room

@@ -11,18 +11,11 @@ returns-clause-kept c =
     let n : Node = c.node_in_vec-node.result.now in
     let m : Node = record n { presence = c.reserve_one.new.self } in
     kept_set ns c.args.at n m c.node_in_vec-node.ensures.node c.requires.tree (record {
-      fields = refl;
-      items = refl;
-      presence = c.reserve_one.ensures.entries;
-      presence_indices = c.reserve_one.ensures.indices;
-      register = refl;
-      register_indices = refl;
-      order = refl;
-      visible = refl;
+      children = (refl, refl);
+      presence = (c.reserve_one.ensures.entries, c.reserve_one.ensures.indices, c.reserve_one.ensures.kept);
+      register = (refl, refl, omega arith);
+      order = (refl, refl, omega arith);
       written = refl;
-      presence_room = c.reserve_one.ensures.kept;
-      register_room = omega arith;
-      order_room = omega arith;
     })
 
 pub returns-clause-room : goal.returns-clause-room

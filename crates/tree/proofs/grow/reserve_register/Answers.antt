@@ -11,18 +11,11 @@ returns-clause-kept c =
     let n : Node = c.node_in_vec-node.result.now in
     let m : Node = record n { register = c.reserve_one.new.self } in
     kept_set ns c.args.at n m c.node_in_vec-node.ensures.node c.requires.tree (record {
-      fields = refl;
-      items = refl;
-      presence = refl;
-      presence_indices = refl;
-      register = c.reserve_one.ensures.entries;
-      register_indices = c.reserve_one.ensures.indices;
-      order = refl;
-      visible = refl;
+      children = (refl, refl);
+      presence = (refl, refl, omega arith);
+      register = (c.reserve_one.ensures.entries, c.reserve_one.ensures.indices, c.reserve_one.ensures.kept);
+      order = (refl, refl, omega arith);
       written = refl;
-      presence_room = omega arith;
-      register_room = c.reserve_one.ensures.kept;
-      order_room = omega arith;
     })
 
 pub returns-clause-room : goal.returns-clause-room

@@ -1,3 +1,4 @@
+-- Linking, clearing, writing the path and settling keep the shape one after another, so each finds the room that was reserved.
 use Rattle.std.proofs.Common.{◌≡◌, ◌<◌, map, sym, ap, ◌∙◌, arith, Some, subst}
 use Rattle.std.specs.Prelude.{option_map}
 use Rattle.std.proofs.lemmas.List.{length-map}

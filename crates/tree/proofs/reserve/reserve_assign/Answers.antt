@@ -8,12 +8,10 @@ use Rattle.tree.proofs.Grown.{kept_trans, number_grows, room_here, way_kept}
 use Rattle.tree.proofs.reserve.reserve_assign.Goals as goal
 
 pub returns-in_err-reserve_register-clause-kept : goal.returns-in_err-reserve_register-clause-kept
-returns-in_err-reserve_register-clause-kept c = kept_trans c.args.nodes.now.items c.reserve_path.new.nodes.items
-    c.reserve_register.new.nodes.items c.reserve_path.ensures.kept c.reserve_register.ensures.kept
+returns-in_err-reserve_register-clause-kept c = kept_trans c.reserve_path.ensures.kept c.reserve_register.ensures.kept
 
 pub returns-clause-kept : goal.returns-clause-kept
-returns-clause-kept c = kept_trans c.args.nodes.now.items c.reserve_path.new.nodes.items c.reserve_register.new.nodes.items
-    c.reserve_path.ensures.kept c.reserve_register.ensures.kept
+returns-clause-kept c = kept_trans c.reserve_path.ensures.kept c.reserve_register.ensures.kept
 
 pub returns-clause-room : goal.returns-clause-room
 returns-clause-room c =

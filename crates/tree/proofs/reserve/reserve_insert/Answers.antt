@@ -9,8 +9,7 @@ use Rattle.tree.proofs.Grown.{grows_trans, kept_trans, number_grows, order_kept,
 use Rattle.tree.proofs.reserve.reserve_insert.Goals as goal
 
 pub returns-in_err-reserve_order-clause-kept : goal.returns-in_err-reserve_order-clause-kept
-returns-in_err-reserve_order-clause-kept c = kept_trans c.args.nodes.now.items c.reserve_path.new.nodes.items
-    c.reserve_order.new.nodes.items c.reserve_path.ensures.kept c.reserve_order.ensures.kept
+returns-in_err-reserve_order-clause-kept c = kept_trans c.reserve_path.ensures.kept c.reserve_order.ensures.kept
 
 pub reserve_item-requires-clause-inside : goal.reserve_item-requires-clause-inside
 reserve_item-requires-clause-inside c =
@@ -20,17 +19,11 @@ reserve_item-requires-clause-inside c =
     omega arith
 
 pub returns-in_err-reserve_item-clause-kept : goal.returns-in_err-reserve_item-clause-kept
-returns-in_err-reserve_item-clause-kept c =
-    let mid = c.reserve_order.new.nodes.items in
-    kept_trans c.args.nodes.now.items mid c.reserve_item.new.nodes.items
-    (kept_trans c.args.nodes.now.items c.reserve_path.new.nodes.items mid c.reserve_path.ensures.kept c.reserve_order.ensures.kept)
+returns-in_err-reserve_item-clause-kept c = kept_trans (kept_trans c.reserve_path.ensures.kept c.reserve_order.ensures.kept)
     c.reserve_item.ensures.kept
 
 pub returns-clause-kept : goal.returns-clause-kept
-returns-clause-kept c =
-    let mid = c.reserve_order.new.nodes.items in
-    kept_trans c.args.nodes.now.items mid c.reserve_item.new.nodes.items
-    (kept_trans c.args.nodes.now.items c.reserve_path.new.nodes.items mid c.reserve_path.ensures.kept c.reserve_order.ensures.kept)
+returns-clause-kept c = kept_trans (kept_trans c.reserve_path.ensures.kept c.reserve_order.ensures.kept)
     c.reserve_item.ensures.kept
 
 pub returns-clause-room : goal.returns-clause-room
@@ -38,8 +31,7 @@ returns-clause-room c =
     let first = c.reserve_path.new.nodes.items in
     let new = c.reserve_item.new.nodes.items in
     let path = map hop_of c.args.list.now in
-    let grows = grows_trans first c.reserve_order.new.nodes.items new c.reserve_order.ensures.kept.grows
-    c.reserve_item.ensures.kept.grows in
+    let grows = grows_trans c.reserve_order.ensures.kept.grows c.reserve_item.ensures.kept.grows in
     let at = number_grows first new grows (end_of path) c.in_ok-at.at c.in_ok-at.ensures.room.1 in
     IfOk-weaker c.copy_scalar.result _ _
     (λ s copied. (
@@ -53,8 +45,7 @@ returns-clause-register c =
     let first = c.reserve_path.new.nodes.items in
     let new = c.reserve_item.new.nodes.items in
     let e = end_of (map hop_of c.args.list.now) in
-    let grows = grows_trans first c.reserve_order.new.nodes.items new c.reserve_order.ensures.kept.grows
-    c.reserve_item.ensures.kept.grows in
+    let grows = grows_trans c.reserve_order.ensures.kept.grows c.reserve_item.ensures.kept.grows in
     let at = number_grows first new grows e c.in_ok-at.at c.in_ok-at.ensures.room.1 in
     IfOk-weaker c.copy_scalar.result _ _ (λ s copied. c.in_ok-reserve_item.ensures.register e at) c.copy_scalar.ensures
 

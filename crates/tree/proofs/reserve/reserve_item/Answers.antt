@@ -12,8 +12,7 @@ reserve_presence-requires-clause-inside c = (c.reach.ensures.kept.tree.rising c.
     (ItemKey c.args.id) c.in_ok-item.item c.in_ok-item.ensures.child).1
 
 pub returns-in_err-reserve_presence-clause-kept : goal.returns-in_err-reserve_presence-clause-kept
-returns-in_err-reserve_presence-clause-kept c = kept_trans c.args.nodes.now.items c.reach.new.nodes.items
-    c.reserve_presence.new.nodes.items c.reach.ensures.kept c.reserve_presence.ensures.kept
+returns-in_err-reserve_presence-clause-kept c = kept_trans c.reach.ensures.kept c.reserve_presence.ensures.kept
 
 pub reserve_register-requires-clause-inside : goal.reserve_register-requires-clause-inside
 reserve_register-requires-clause-inside c =
@@ -22,19 +21,13 @@ reserve_register-requires-clause-inside c =
     omega arith
 
 pub returns-clause-kept : goal.returns-clause-kept
-returns-clause-kept c =
-    let mid = c.reserve_presence.new.nodes.items in
-    let new = c.reserve_register.new.nodes.items in
-    kept_trans c.args.nodes.now.items mid new
-    (kept_trans c.args.nodes.now.items c.reach.new.nodes.items mid c.reach.ensures.kept c.reserve_presence.ensures.kept)
-    c.reserve_register.ensures.kept
+returns-clause-kept c = kept_trans (kept_trans c.reach.ensures.kept c.reserve_presence.ensures.kept) c.reserve_register.ensures.kept
 
 pub returns-clause-presence : goal.returns-clause-presence
 returns-clause-presence c =
-    let mid = c.reserve_presence.new.nodes.items in
     let new = c.reserve_register.new.nodes.items in
     let item = c.in_ok-item.item in
-    let grows = grows_trans c.reach.new.nodes.items mid new c.reserve_presence.ensures.kept.grows c.reserve_register.ensures.kept.grows in
+    let grows = grows_trans c.reserve_presence.ensures.kept.grows c.reserve_register.ensures.kept.grows in
     let child = grows.children c.args.at (ItemKey c.args.id) item c.in_ok-item.ensures.child in
     let got = c.in_ok-reserve_presence.ensures.room in
     let kept = c.reserve_register.ensures.kept.grows.presence item in
@@ -44,10 +37,9 @@ returns-clause-presence c =
 
 pub returns-clause-register : goal.returns-clause-register
 returns-clause-register c =
-    let mid = c.reserve_presence.new.nodes.items in
     let new = c.reserve_register.new.nodes.items in
     let item = c.in_ok-item.item in
-    let grows = grows_trans c.reach.new.nodes.items mid new c.reserve_presence.ensures.kept.grows c.reserve_register.ensures.kept.grows in
+    let grows = grows_trans c.reserve_presence.ensures.kept.grows c.reserve_register.ensures.kept.grows in
     let child = grows.children c.args.at (ItemKey c.args.id) item c.in_ok-item.ensures.child in
     on_ok_weaker c.reserve_register.result
     (λ room e at. room_here register_room new (Item e c.args.id) item

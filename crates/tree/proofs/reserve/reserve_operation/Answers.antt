@@ -6,8 +6,8 @@ use Rattle.operation.specs.Meanings.{mutation_of}
 use Rattle.tree.proofs.Reserved.{if_ok_three, place_ready}
 use Rattle.tree.proofs.reserve.reserve_operation.Goals as goal
 
-pub returns-in-Assign-clause-ready : goal.returns-in-Assign-clause-ready
-returns-in-Assign-clause-ready c =
+pub returns-in-Assign-clause-reserved : goal.returns-in-Assign-clause-reserved
+returns-in-Assign-clause-reserved c =
     let op = c.args.op.now in
     if_ok_three c.reserve_assign.result _ _ _ _
     (λ s room register scalar table. place_ready op table c.reserve_assign.new.nodes.items s (meaning_of c.in-Assign.value)

@@ -1,3 +1,4 @@
+-- At each hop there is room for a presence and a child below; what was reserved before stays.
 use Rattle.std.proofs.Common.{◌≡◌, ◌<◌, length, map, take, Some, inl, inr, sym, ap, ◌∙◌, subst, arith}
 use Rattle.std.proofs.lemmas.Bool.{cases_lt}
 use Rattle.std.proofs.lemmas.List.{length-map, take_all}
@@ -14,8 +15,7 @@ reserve_presence-requires-clause-inside c = number_inside c.loop-hop.nodes.items
     (end_of (take c.loop-hop.hop-index (map hop_of c.args.path.now))) c.loop-hop.at c.loop-hop.invariant.here
 
 pub returns-in_err-reserve_presence-clause-kept : goal.returns-in_err-reserve_presence-clause-kept
-returns-in_err-reserve_presence-clause-kept c = kept_trans c.args.nodes.now.items c.loop-hop.nodes.items
-    c.reserve_presence.new.nodes.items c.loop-hop.invariant.kept c.reserve_presence.ensures.kept
+returns-in_err-reserve_presence-clause-kept c = kept_trans c.loop-hop.invariant.kept c.reserve_presence.ensures.kept
 
 pub reach-requires-clause-inside : goal.reach-requires-clause-inside
 reach-requires-clause-inside c =
@@ -25,11 +25,8 @@ reach-requires-clause-inside c =
     omega arith
 
 pub returns-in_err-at-clause-kept : goal.returns-in_err-at-clause-kept
-returns-in_err-at-clause-kept c =
-    let now = c.loop-hop.nodes.items in
-    let new = c.reach.new.nodes.items in
-    kept_trans c.args.nodes.now.items now new c.loop-hop.invariant.kept
-    (kept_trans now c.reserve_presence.new.nodes.items new c.reserve_presence.ensures.kept c.reach.ensures.kept)
+returns-in_err-at-clause-kept c = kept_trans c.loop-hop.invariant.kept
+    (kept_trans c.reserve_presence.ensures.kept c.reach.ensures.kept)
 
 pub loop-hop-preserved : goal.loop-hop-preserved
 loop-hop-preserved c =
@@ -42,10 +39,10 @@ loop-hop-preserved c =
     let inv = c.loop-hop.invariant in
     let one = c.reserve_presence.ensures.kept in
     let two = c.reach.ensures.kept in
-    let grows = grows_trans now mid new one.grows two.grows in
+    let grows = grows_trans one.grows two.grows in
     let here : number new e ≡ Some c.loop-hop.at = number_grows now new grows e c.loop-hop.at inv.here in
     record {
-      kept = kept_trans c.args.nodes.now.items now new inv.kept (kept_trans now mid new one two);
+      kept = kept_trans inv.kept (kept_trans one two);
       here = number_more c.args.path.now k c.hop-item.result c.loop-hop-test.true c.hop-item.is new c.loop-hop.at here
           ∙ c.in_ok-at.ensures.child;
       room = λ j lt. elim (cases_lt j k) [
@@ -64,12 +61,10 @@ reserve_presence-requires-2-clause-inside c = number_inside c.loop-hop.nodes.ite
     (end_of (take c.loop-hop.hop-index (map hop_of c.args.path.now))) c.loop-hop.at c.loop-hop.invariant.here
 
 pub returns-in_err-reserve_presence-2-clause-kept : goal.returns-in_err-reserve_presence-2-clause-kept
-returns-in_err-reserve_presence-2-clause-kept c = kept_trans c.args.nodes.now.items c.loop-hop.nodes.items
-    c.reserve_presence-2.new.nodes.items c.loop-hop.invariant.kept c.reserve_presence-2.ensures.kept
+returns-in_err-reserve_presence-2-clause-kept c = kept_trans c.loop-hop.invariant.kept c.reserve_presence-2.ensures.kept
 
 pub returns-clause-kept : goal.returns-clause-kept
-returns-clause-kept c = kept_trans c.args.nodes.now.items c.loop-hop.nodes.items c.reserve_presence-2.new.nodes.items
-    c.loop-hop.invariant.kept c.reserve_presence-2.ensures.kept
+returns-clause-kept c = kept_trans c.loop-hop.invariant.kept c.reserve_presence-2.ensures.kept
 
 pub returns-clause-room : goal.returns-clause-room
 returns-clause-room c =

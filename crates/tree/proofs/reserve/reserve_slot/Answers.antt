@@ -7,8 +7,8 @@ use Rattle.tree.proofs.Slots.{slot_of_any}
 use Rattle.tree.proofs.Reserved.{if_ok_three, place_ready}
 use Rattle.tree.proofs.reserve.reserve_slot.Goals as goal
 
-pub returns-in-None-clause-ready : goal.returns-in-None-clause-ready
-returns-in-None-clause-ready c =
+pub returns-in-None-clause-reserved : goal.returns-in-None-clause-reserved
+returns-in-None-clause-reserved c =
     let op = c.args.op.now in
     let v = meaning_of c.args.value.now in
     let slot : slot_of (mutation_of op.mutation) op.place ≡ None = ap (λ m. slot_of m op.place) c.requires.insert ∙ slot_of_any v op.place

@@ -1,3 +1,4 @@
+-- First the fields and then the items: flags may be wrong at items below those that weren't reached yet, and nowhere else.
 use Rattle.std.proofs.Common.{◌≡◌, [], ℕ, ◌+◌, ◌<◌, ◌||◌, Bool, length, Some, sym, ap, ◌∙◌, subst, arith, get_or, drop, rules}
 use Rattle.std.specs.List.{list_any}
 use Rattle.semantics.specs.Ids.{OpId, id_at}

@@ -7,7 +7,7 @@ use Rattle.operation.specs.declared.op.Op.{Op}
 use Rattle.operation.specs.Meanings.{stamped_of}
 use Rattle.wire.specs.Bundles.{Readable, readable}
 use Rattle.wire.proofs.BundleLines.{after, after-bad, after-cut, after-none, after-op}
-use Rattle.json_lines.proofs.UnlessMemory.{IsUnlessMemory-Err}
+use Rattle.json_lines.proofs.OrNoMemory.{IsOrNoMemory-Err}
 use Rattle.wire.proofs.bundles.read_lines.Goals as goal
 use Rattle.wire.proofs.bundles.read_lines.Goals.{in-Some-cut_line, in-None}
 
@@ -32,7 +32,7 @@ pub returns-in-Err-clause-read : goal.returns-in-Err-clause-read
 returns-in-Err-clause-read c =
     let table = c.args.table.now in
     let ss = map (stamped_of table) c.loop-line.ops.items in
-    elim (IsUnlessMemory-Err _ _ c.in-Err.ensures.read) [
+    elim (IsOrNoMemory-Err _ _ c.in-Err.ensures.read) [
       | inl e ↦ inl (ap Some e)
       | inr e ↦
           let all = sym (after-bad table _ _ _ ss c.in-Err.why c.in-Some.ensures.line e) ∙ c.loop-line.invariant.left in

@@ -3,7 +3,7 @@ use Rattle.std.specs.Vec.Iter.{into_iter_items}
 use Rattle.semantics.specs.Elements.{Doc, Place}
 use Rattle.semantics.specs.Paths.{down}
 use Rattle.cursor.specs.Meanings.{hop_of}
-use Rattle.json_lines.specs.Forms.{IsUnlessMemory}
+use Rattle.json_lines.specs.Forms.{IsOrNoMemory}
 use Rattle.wire.specs.declared.places.Part.{Part}
 use Rattle.wire.specs.declared.places.WrittenKey.{WrittenKey}
 use Rattle.wire.specs.Meanings.{entered_as, key_meant, part_meant}
@@ -19,7 +19,7 @@ returns-in_err-enter c =
     let here = lost e t (part_meant c.in-Some.part) (map part_meant (into_iter_items c.next.new.self))
     (key_meant c.args.last) c.in_err-enter.field-0.0 c.in_err-enter.ensures.element in
     passed_on c.from_residual.result c.in_err-enter.field-0.0 _ c.from_residual.ensures.1
-    (subst (λ r. IsUnlessMemory {T = Place} (Err c.in_err-enter.field-0.0) r)
+    (subst (λ r. IsOrNoMemory {T = Place} (Err c.in_err-enter.field-0.0) r)
     (ap (λ (ps : List Part). place_below e t (map part_meant ps) (key_meant c.args.last)) (sym steps) ∙ c.loop-part.invariant.left)
     here)
 
@@ -29,7 +29,7 @@ returns c =
     let t = entered_as c.loop-part.entered in
     let empty : into_iter_items c.loop-part.part-iterator
     ≡ [] = nothing_left _ (sym c.loop-part.invariant.whole ∙ c.in-None.ensures.steps.0) in
-    subst (λ r. IsUnlessMemory {T = Place} c.place_at_last.result r)
+    subst (λ r. IsOrNoMemory {T = Place} c.place_at_last.result r)
     (ap (λ (k : WrittenKey). place_below e t [] (key_meant k)) c.loop-part.invariant.kept
     ∙ ap (λ (ps : List Part). place_below e t (map part_meant ps) (key_meant c.args.last)) (sym empty)
     ∙ c.loop-part.invariant.left)

@@ -1,3 +1,4 @@
+-- Each operation in turn is named by the other table, up to the first that names a stranger.
 use Rattle.std.proofs.Common.{rules, ◌≡◌, ◌∷◌, ◌++◌, ◌+◌, [], ℕ, List, Some, inl, inr, length, map, drop, drop-cons, add-one, append_assoc}
 use Rattle.std.proofs.Common.{append-nil, sym, ap, ◌∙◌, subst, true, false}
 use Rattle.std.specs.List.{All}

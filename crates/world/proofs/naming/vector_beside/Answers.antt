@@ -1,3 +1,4 @@
+-- Each counter above 0 in turn is raised in the other table, unless its replica is a stranger there.
 use Rattle.std.proofs.Common.{◌≡◌, ◌≢◌, ◌<◌, ℕ, suc, List, [], ◌∷◌, ◌++◌, Some, None, length, length-set, drop, get_or, slice_get, is_some}
 use Rattle.std.proofs.Common.{inr, true, false, refl, sym, ap, ◌∙◌, subst, append_assoc, append-nil, add-one, arith}
 use Rattle.std.specs.List.{list_all}

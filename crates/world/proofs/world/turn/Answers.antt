@@ -1,16 +1,17 @@
-use Rattle.std.proofs.Common.{◌≡◌, ℕ, List, Result, Ok, Err, Some, length, map, set, ◌++◌, refl, sym, ap, ◌∙◌, arith, slice_get, subst}
-use Rattle.std.specs.Prelude.{OnErr, OnOk, IfOk}
+use Rattle.std.proofs.Common.{◌≡◌, List, Result, Ok, Err, Some, length, map, set, ◌++◌, refl, sym, ap, ◌∙◌, arith, slice_get, subst}
+use Rattle.std.specs.Prelude.{OnOk, IfOk}
 use Rattle.std.proofs.lemmas.Option.{slice_get_read}
 use Rattle.semantics.specs.Engine.{Engine, Message}
 use Rattle.semantics.specs.World.{WorldStep as TheStep, WorldTurn, engine_step, sent_by, world_step}
 use Rattle.world.specs.declared.step.WorldStep.{WorldStep}
 use Rattle.world.specs.Meanings.{AsksBeside, act_of, step_of}
 use Rattle.world.specs.Parts.{IsInPart}
-use Rattle.world.specs.Worlds.{MovesInPart, step_in, table_at, tables_of, world}
+use Rattle.world.specs.Worlds.{step_in, tables_of, world}
 use Rattle.world.specs.Engines.{message_of}
 use Rattle.world.proofs.KeptMembers.{members_stay}
 use Rattle.world.proofs.ReachedWorlds.{reached_at, reached_sound}
 use Rattle.world.proofs.TurnedWorlds.{own_table, tables_set, world_step-there}
+use Rattle.world.proofs.Results.{then_err}
 use Rattle.world.proofs.world.turn.Goals as goal
 
 then_ok : {X Y P Q : Type 0} (r : Result X Y) → (P → Q) → OnOk r P → OnOk r Q
@@ -22,9 +23,9 @@ if_ok (Ok x) f p = f x p
 if_ok (Err e) f p = tt
 
 -- the world after a step of an engine that is there as E
-module _ (Es : List Engine) (ms : List Message) (s : WorldStep) (E : Engine) (there : slice_get Es s.engine ≡ Some E) where
+module _ (Es : List Engine) (ms : List Message) (s : WorldStep) (E : Engine) (at : slice_get Es s.engine ≡ Some E) where
   its_step : step_in (tables_of Es) s ≡ step_of E.replica.members s
-  its_step = ap (λ table. step_of table s) (own_table Es s.engine E there)
+  its_step = ap (λ table. step_of table s) (own_table Es s.engine E at)
 
   turned : world_step (world Es ms) (step_in (tables_of Es) s)
       ≡ record {
@@ -32,14 +33,13 @@ module _ (Es : List Engine) (ms : List Message) (s : WorldStep) (E : Engine) (th
             (ms ++ sent_by ms (act_of E.replica.members s.act) E);
         reply = (engine_step ms (act_of E.replica.members s.act) E).reply;
       }
-  turned = ap (world_step (world Es ms)) its_step ∙ world_step-there Es ms (step_of E.replica.members s) E there
+  turned = ap (world_step (world Es ms)) its_step ∙ world_step-there Es ms (step_of E.replica.members s) E at
 
 pub turn-requires-clause-reached : goal.turn-requires-clause-reached
 turn-requires-clause-reached c =
     let Es = c.args.engines.now.items in
     let E : Engine = c.index_mut-engine.result.now in
-    let there : slice_get Es c.args.step.now.engine
-    ≡ Some E = slice_get_read Es (length Es) c.args.step.now.engine E refl (omega arith) c.index_mut-engine.ensures.value in
+    let there = slice_get_read Es (length Es) c.args.step.now.engine E refl (omega arith) c.index_mut-engine.ensures.value in
     reached_at (world Es (map message_of c.args.messages.now.items)) c.requires.reached c.args.step.now.engine E there
 
 pub turn-requires-clause-beside : goal.turn-requires-clause-beside
@@ -47,9 +47,14 @@ turn-requires-clause-beside c =
     let Es = c.args.engines.now.items in
     let s = c.args.step.now in
     let E : Engine = c.index_mut-engine.result.now in
-    let there : slice_get Es s.engine
-    ≡ Some E = slice_get_read Es (length Es) s.engine E refl (omega arith) c.index_mut-engine.ensures.value in
+    let there = slice_get_read Es (length Es) s.engine E refl (omega arith) c.index_mut-engine.ensures.value in
     subst (λ table. AsksBeside table s.act) (own_table Es s.engine E there) c.requires.beside
+
+-- the engine that moves is there
+there : (c : goal.After-engines-1) → slice_get c.args.engines.now.items c.args.step.now.engine ≡ Some c.index_mut-engine.result.now
+there c =
+    let Es = c.args.engines.now.items in
+    slice_get_read Es (length Es) c.args.step.now.engine c.index_mut-engine.result.now refl (omega arith) c.index_mut-engine.ensures.value
 
 -- both parts of an answer
 both_ok : {X Y P Q R : Type 0} (r : Result X Y) → (P → Q → R) → OnOk r P → OnOk r Q → OnOk r R
@@ -61,14 +66,12 @@ returns-clause-world c =
     let Es = c.args.engines.now.items in
     let ms : List Message = map message_of c.args.messages.now.items in
     let s = c.args.step.now in
-    let i : ℕ = s.engine in
     let E : Engine = c.index_mut-engine.result.now in
-    let there : slice_get Es i ≡ Some E = slice_get_read Es (length Es) i E refl (omega arith) c.index_mut-engine.ensures.value in
     both_ok c.turn.result
     (λ (e : c.turn.new.self ≡ (engine_step ms (act_of E.replica.members s.act) E).engine)
     (f : map message_of c.turn.new.messages.items ≡ ms ++ sent_by ms (act_of E.replica.members s.act) E).
-    (λ t. world (set Es i (e t)) (f t))
-    ∙ sym (ap (λ (t : WorldTurn). t.world) (turned Es ms s E there)))
+    (λ t. world (set Es s.engine (e t)) (f t))
+    ∙ sym (ap (λ (t : WorldTurn). t.world) (turned Es ms s E (there c))))
     c.turn.ensures.engine c.turn.ensures.sent
 
 pub returns-clause-reply : goal.returns-clause-reply
@@ -76,11 +79,9 @@ returns-clause-reply c =
     let Es = c.args.engines.now.items in
     let ms : List Message = map message_of c.args.messages.now.items in
     let s = c.args.step.now in
-    let i : ℕ = s.engine in
     let E : Engine = c.index_mut-engine.result.now in
-    let there : slice_get Es i ≡ Some E = slice_get_read Es (length Es) i E refl (omega arith) c.index_mut-engine.ensures.value in
     if_ok c.turn.result
-    (λ r e. e ∙ sym (ap (λ (t : WorldTurn). t.reply) (turned Es ms s E there)))
+    (λ r e. e ∙ sym (ap (λ (t : WorldTurn). t.reply) (turned Es ms s E (there c))))
     c.turn.ensures.reply
 
 pub returns-clause-tables : goal.returns-clause-tables
@@ -88,35 +89,27 @@ returns-clause-tables c =
     let Es = c.args.engines.now.items in
     let ms : List Message = map message_of c.args.messages.now.items in
     let s = c.args.step.now in
-    let i : ℕ = s.engine in
     let E : Engine = c.index_mut-engine.result.now in
-    let there : slice_get Es i ≡ Some E = slice_get_read Es (length Es) i E refl (omega arith) c.index_mut-engine.ensures.value in
-    let sound = reached_sound E (reached_at (world Es ms) c.requires.reached i E there) in
+    let sound = reached_sound E (reached_at (world Es ms) c.requires.reached s.engine E (there c)) in
     then_ok c.turn.result
     (λ (e : c.turn.new.self ≡ (engine_step ms (act_of E.replica.members s.act) E).engine).
-    tables_set Es i E c.turn.new.self there
+    tables_set Es s.engine E c.turn.new.self (there c)
     (ap (λ (F : Engine). F.replica.members) e ∙ members_stay ms (act_of E.replica.members s.act) E sound))
     c.turn.ensures.engine
-
-then_err : {X Y P Q : Type 0} (r : Result X Y) → (P → Q) → OnErr r P → OnErr r Q
-then_err (Ok x) f p = tt
-then_err (Err e) f p = f p
 
 pub returns-clause-stopped : goal.returns-clause-stopped
 returns-clause-stopped c =
     let Es : List Engine = c.args.engines.now.items in
     let ms : List Message = map message_of c.args.messages.now.items in
     let s = c.args.step.now in
-    let i : ℕ = s.engine in
     let E : Engine = c.index_mut-engine.result.now in
     let F : Engine = c.turn.new.self in
-    let there : slice_get Es i ≡ Some E = slice_get_read Es (length Es) i E refl (omega arith) c.index_mut-engine.ensures.value in
     then_err c.turn.result
     (λ (part : IsInPart ms (act_of E.replica.members s.act) E F). record {
       engine = E;
       part = F;
-      there = there;
+      there = there c;
       moved = refl;
-      begun = subst (λ (t : TheStep). IsInPart ms t.act E F) (sym (its_step Es ms s E there)) part;
+      begun = subst (λ (t : TheStep). IsInPart ms t.act E F) (sym (its_step Es ms s E (there c))) part;
     })
     c.turn.ensures.stopped

@@ -10,7 +10,7 @@ use Rattle.columns.proofs.Zipped.{find_there-zip, find_absent-zip}
 use Rattle.columns.proofs.field_columns.FieldColumns.get.Goals as goal
 
 pub number-requires : goal.number-requires
-number-requires c = slice_get_within c.self.inside.keys.keys c.in-Ok.position c.args.key.now c.in-Ok.ensures.position.0
+number-requires c = slice_get_within c.self.inside.keys.keys c.in-Ok.position c.args.key.now c.in-Ok.ensures.0
 
 pub index-requires : goal.index-requires
 index-requires c =
@@ -22,7 +22,7 @@ pub returns-in-Ok : goal.returns-in-Ok
 returns-in-Ok c =
     let d = c.self.inside in
     let ns = d.numbers.items in
-    let at = c.in-Ok.ensures.position in
+    let at = c.in-Ok.ensures in
     ap Some
     (value_at d.keys ns c.in-Ok.position c.number.result c.index.result.now c.self.invariant c.number.ensures.number c.index.ensures)
     ∙ sym
@@ -34,5 +34,5 @@ pub returns-in-Err : goal.returns-in-Err
 returns-in-Err c =
     let d = c.self.inside in
     sym (find_absent-zip name_cmp d.keys.keys (numbered 0 d.numbers.items d.keys.numbers)
-    (values_long d.keys d.numbers.items c.self.invariant) c.args.key.now c.in-Err.field-0 c.in-Err.ensures.position)
+    (values_long d.keys d.numbers.items c.self.invariant) c.args.key.now c.in-Err.field-0 c.in-Err.ensures)
     ∙ ap (λ (m : Numbered Name). find name_cmp c.args.key.now m.entries) c.self.view_is

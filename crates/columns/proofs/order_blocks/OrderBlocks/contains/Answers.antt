@@ -1,7 +1,8 @@
 use Rattle.std.proofs.Common.{◌∙◌, is_some, ap}
 use Rattle.std.specs.FinMap.Entries.{is_some-find}
 use Rattle.semantics.specs.Ids.{id_cmp}
-use Rattle.columns.specs.Orders.{Order, has_item}
+use Rattle.columns.specs.Orders.{Order}
+use Rattle.semantics.specs.Context.{has_item}
 use Rattle.columns.proofs.order_blocks.OrderBlocks.contains.Goals as goal
 
 pub returns : goal.returns

@@ -1,4 +1,4 @@
-use Rattle.document.proofs.KeptFacts.{column_is_vector, greatest_of_column, column_within}
+use Rattle.document.proofs.Consistent.{column_is_vector, greatest_of_column, column_within}
 use Rattle.document.proofs.document.Document.applied.Goals as goal
 
 pub returns-clause-all : goal.returns-clause-all

@@ -2,7 +2,7 @@ use Rattle.std.proofs.Common.{◌≡◌, inl, inr, sym, ap, ◌∙◌}
 use Rattle.std.proofs.lemmas.Result.{IfErr-weaker, IfOk-weaker}
 use Rattle.semantics.specs.Questions.{Answer}
 use Rattle.semantics.specs.LegalAnswer.{Answered, reading_of}
-use Rattle.document.proofs.KeptFacts.{answer_is_view}
+use Rattle.document.proofs.Consistent.{answer_is_view}
 use Rattle.document.proofs.document.Document.ask.Goals as goal
 
 -- an answer that is another is refused as that is

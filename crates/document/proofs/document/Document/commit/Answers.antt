@@ -8,16 +8,16 @@ use Rattle.operation.specs.declared.command.Entry.{Entry}
 use Rattle.operation.specs.declared.op.Op.{Op}
 use Rattle.operation.specs.Meanings.{entry_of, stamped_of}
 use Rattle.tree.specs.Trees.{IsPlaced, document}
-use Rattle.document.specs.Documents.{Kept, MayFollowEntries}
+use Rattle.document.specs.Documents.{Contents, MayFollowEntries}
 use Rattle.version.proofs.TableColumns.{component-raised}
 use Rattle.semantics.proofs.AbsentIds.{fresh}
-use Rattle.document.proofs.KeptFacts.{fits, kept_next}
+use Rattle.document.proofs.Consistent.{fits, kept_next}
 use Rattle.document.proofs.document.Document.commit.Goals as goal
 
 -- what may follow what contracts see may follow the log's entries
-lawful : (k l : Kept) (e : Entry) → k ≡ l → MayFollowEntries l.entries (entry_of l.table e)
+lawful : (k l : Contents) (e : Entry) → k ≡ l → MayFollowEntries l.entries (entry_of l.table e)
     → MayFollowEntries k.entries (entry_of k.table e)
-lawful k l e is may = subst (λ (k : Kept). MayFollowEntries k.entries (entry_of k.table e)) (sym is) may
+lawful k l e is may = subst (λ (k : Contents). MayFollowEntries k.entries (entry_of k.table e)) (sym is) may
 
 pub apply-requires-clause-placed : goal.apply-requires-clause-placed
 apply-requires-clause-placed c =

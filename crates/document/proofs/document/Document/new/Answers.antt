@@ -1,4 +1,4 @@
-use Rattle.document.proofs.KeptFacts.{kept_first}
+use Rattle.document.proofs.Consistent.{kept_first}
 use Rattle.document.proofs.document.Document.new.Goals as goal
 
 pub invariant_of-result : goal.invariant_of-result

@@ -2,7 +2,7 @@ use Rattle.std.proofs.Common.{refl, sym, ap, length, ◌∙◌}
 use Rattle.semantics.specs.Entries.{applied}
 use Rattle.semantics.proofs.ColumnComparison.{ready-by_table}
 use Rattle.operation.specs.Meanings.{stamped_of}
-use Rattle.document.specs.Documents.{Kept}
+use Rattle.document.specs.Documents.{Contents}
 use Rattle.document.proofs.document.Document.ready.Goals as goal
 
 pub returns : goal.returns
@@ -14,4 +14,4 @@ returns c =
     ∙ sym
     (ready-by_table (applied d.log.entries) table c.args.op.now.deps d.applied
     (stamped_of table c.args.op.now) refl c.self.invariant.distinct
-    (c.requires.width ∙ ap (λ (k : Kept). length k.table) (sym c.self.view_is)) c.self.invariant.width c.self.invariant.greatest))
+    (c.requires.width ∙ ap (λ (k : Contents). length k.table) (sym c.self.view_is)) c.self.invariant.width c.self.invariant.greatest))

@@ -2,7 +2,7 @@ use Rattle.std.proofs.Common.{◌≡◌, ◌-◌, ◌<◌, Some, None, length, s
 use Rattle.std.specs.Option.{IfSome}
 use Rattle.semantics.specs.Receipts.{IsAnswer}
 use Rattle.items.specs.declared.item.Item.{Item}
-use Rattle.items.specs.Meanings.{answer_of as reply_of, submitted_of}
+use Rattle.items.specs.Meanings.{reply_of, submitted_of}
 use Rattle.command.specs.Answers.{Given}
 use Rattle.engine.specs.Clients.{Client, items_by}
 use Rattle.engine.proofs.Asking.{kept_at, item_at}

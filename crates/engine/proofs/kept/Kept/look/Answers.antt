@@ -2,7 +2,7 @@ use Rattle.std.proofs.Common.{◌≡◌, Some, List, refl, sym, ap, ◌∙◌, s
 use Rattle.semantics.specs.Entries.{Entry}
 use Rattle.semantics.specs.Receipts.{IsAnswer}
 use Rattle.items.specs.declared.item.Item.{Item}
-use Rattle.items.specs.Meanings.{answer_of as reply_of, submitted_of}
+use Rattle.items.specs.Meanings.{reply_of, submitted_of}
 use Rattle.engine.specs.Clients.{Keeps, answer_in}
 use Rattle.engine.proofs.Asking.{answer_found}
 use Rattle.engine.proofs.kept.Kept.look.Goals as goal

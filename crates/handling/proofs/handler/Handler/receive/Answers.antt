@@ -1,10 +1,10 @@
-use Rattle.std.proofs.Common.{◌≡◌, ◌≢◌, Err, rules, sym, ap, ◌∙◌, subst}
+use Rattle.std.proofs.Common.{◌≢◌, Err, rules, sym, ap, ◌∙◌, subst}
 use Rattle.ids.specs.declared.refusal.Refusal.TheVariants.{NoMemory}
 use Rattle.semantics.specs.Replica.{IsRunning}
 use Rattle.semantics.specs.WriteSteps.{reply_delivered}
 use Rattle.semantics.proofs.Delivered.{delivered}
 use Rattle.replica.specs.Replicas.{replica_of}
-use Rattle.items.specs.Meanings.{answer_of, received_of}
+use Rattle.items.specs.Meanings.{reply_of, received_of}
 use Rattle.handling.specs.Meanings.{outcome_of, handler_of}
 use Rattle.handling.proofs.Peers.{handled_peer}
 use Rattle.handling.proofs.handler.Handler.receive.Goals as goal
@@ -23,6 +23,6 @@ returns-clause-handled g c x is floor =
     let other : c.deliver-answer.result ≢ Err NoMemory = search rules in
     let d = c.deliver-answer.ensures.delivered other in
     handled_peer (handler_of c.args.self.now) x s (outcome_of c.deliver-answer.result) (replica_of c.deliver-answer.new.replica)
-    (replica_of c.drain.new.replica) (answer_of c.reply_to.result) is floor d.0 d.1
+    (replica_of c.drain.new.replica) (reply_of c.reply_to.result) is floor d.0 d.1
     (c.reply_to.ensures ∙ ap (λ n. reply_delivered n (outcome_of c.deliver-answer.result)) c.history_len-2.ensures)
     c.drain.result c.drain.ensures.drained c.drain.ensures.partly c.is_err-self.result c.is_err-self.ensures.value

@@ -8,7 +8,7 @@ use Rattle.semantics.specs.Drain.{first_ready}
 use Rattle.operation.specs.declared.op.Op.{Op}
 use Rattle.operation.specs.Meanings.{stamped_of}
 use Rattle.inbox.specs.Inboxes.{AreAsWide, AreRising, ops_at, waiting_in}
-use Rattle.inbox.proofs.Ready.{IsLeft, drop_at, next_among, first_is_least, found_ready, none_is_ready, one_less, none_left}
+use Rattle.inbox.proofs.Ready.{next_among, next_stands, first_is_least, found_ready, none_is_ready, one_less, none_left}
 use Rattle.inbox.proofs.inbox.Inbox.smallest_ready.Goals as goal
 
 -- ---- the next one is too far ahead
@@ -19,12 +19,9 @@ none_first c =
     let d = c.self.inside in
     let H = applied c.args.document.now.entries in
     let table = c.args.document.now.table in
-    let es = d.keys.entries in
-    let left = subst (IsLeft H table d.ops es)
-    (drop_at es c.loop-position.position c.at-id.result c.at-id.ensures) c.loop-position.invariant in
     let greatest : c.greatest-greatest.result ≡ greatest_of (λ a. true) H = c.greatest-greatest.ensures ∙ c.applied.ensures.greatest in
     let far : greatest_of (λ a. true) H + d.lead < c.at-id.result.0.counter = omega arith in
-    sym (none_left H table d.ops es (drop (c.loop-position.position + 1) es) c.at-id.result d.lead left
+    sym (none_left _ _ _ _ c.loop-position.position c.at-id.result c.loop-position.invariant c.at-id.ensures d.lead
     (subst (AreAsWide table) (sym c.self.view_is) c.requires.width) c.self.invariant.within far)
     ∙ ap (λ ops. first_ready H (waiting_in table ops)) c.self.view_is
 
@@ -39,20 +36,13 @@ returns-then-saturating_sub-greatest-clause-first c = none_first c
 
 pub unreachable-requires : goal.unreachable-requires
 unreachable-requires c =
-    let d = c.self.inside in
-    let es = d.keys.entries in
-    let left = subst (IsLeft (applied c.args.document.now.entries) c.args.document.now.table d.ops es)
-    (drop_at es c.loop-position.position c.at-id.result c.at-id.ensures) c.loop-position.invariant in
-    let here = left.at_keys.0.1 in
+    let here = (next_stands _ _ _ _ c.loop-position.position c.at-id.result c.loop-position.invariant c.at-id.ensures).1 in
     cc (c.in_default.ensures)
 
 pub ready-requires : goal.ready-requires
 ready-requires c =
-    let d = c.self.inside in
-    let es = d.keys.entries in
-    let left = subst (IsLeft (applied c.args.document.now.entries) c.args.document.now.table d.ops es)
-    (drop_at es c.loop-position.position c.at-id.result c.at-id.ensures) c.loop-position.invariant in
-    let among = next_among _ c.args.document.now.table d.ops es _ c.at-id.result c.in-Some.op.now left (sym c.in-Some.ensures) in
+    let among = next_among _ _ _ _ c.loop-position.position c.at-id.result c.loop-position.invariant c.at-id.ensures
+    c.in-Some.op.now (sym c.in-Some.ensures) in
     record {
       width = ap (λ (o : Op). length o.deps) c.deref.ensures
           ∙ c.requires.width c.in-Some.op.now (subst (IsAmong c.in-Some.op.now) c.self.view_is among);
@@ -62,23 +52,17 @@ found : (c : goal.Then-ready)
     → Some (stamped_of c.args.document.now.table c.in-Some.op.now)
     ≡ first_ready (applied c.args.document.now.entries) (waiting_in c.args.document.now.table c.args.self.now)
 found c =
-    let d = c.self.inside in
     let H = applied c.args.document.now.entries in
     let table = c.args.document.now.table in
-    let es = d.keys.entries in
-    let left = subst (IsLeft H table d.ops es)
-    (drop_at es c.loop-position.position c.at-id.result c.at-id.ensures) c.loop-position.invariant in
-    sym (found_ready H table d.ops es _ c.at-id.result c.in-Some.op.now left (sym c.in-Some.ensures)
+    sym (found_ready _ _ _ _ c.loop-position.position c.at-id.result c.loop-position.invariant c.at-id.ensures
+    c.in-Some.op.now (sym c.in-Some.ensures)
     (ap (λ (o : Op). is_ready H (stamped_of table o)) (sym c.deref.ensures) ∙ sym c.ready.ensures ∙ c.if-ready.true))
     ∙ ap (λ ops. first_ready H (waiting_in table ops)) c.self.view_is
 
 pub returns-then-ready-clause-some : goal.returns-then-ready-clause-some
 returns-then-ready-clause-some c =
-    let d = c.self.inside in
-    let es = d.keys.entries in
-    let left = subst (IsLeft (applied c.args.document.now.entries) c.args.document.now.table d.ops es)
-    (drop_at es c.loop-position.position c.at-id.result c.at-id.ensures) c.loop-position.invariant in
-    let among = next_among _ c.args.document.now.table d.ops es _ c.at-id.result c.in-Some.op.now left (sym c.in-Some.ensures) in
+    let among = next_among _ _ _ _ c.loop-position.position c.at-id.result c.loop-position.invariant c.at-id.ensures
+    c.in-Some.op.now (sym c.in-Some.ensures) in
     first_is_least (applied c.args.document.now.entries) c.args.document.now.table c.args.self.now c.in-Some.op.now
     (subst AreRising c.self.view_is c.self.invariant.rising) (subst (IsAmong c.in-Some.op.now) c.self.view_is among) (sym (found c))
 
@@ -87,13 +71,10 @@ returns-then-ready-clause-first c = found c
 
 pub loop-position-preserved : goal.loop-position-preserved
 loop-position-preserved c =
-    let d = c.self.inside in
     let H = applied c.args.document.now.entries in
     let table = c.args.document.now.table in
-    let es = d.keys.entries in
-    let left = subst (IsLeft H table d.ops es)
-    (drop_at es c.loop-position.position c.at-id.result c.at-id.ensures) c.loop-position.invariant in
-    one_less H table d.ops es _ c.at-id.result c.in-Some.op.now left (sym c.in-Some.ensures)
+    one_less _ _ _ _ c.loop-position.position c.at-id.result c.loop-position.invariant c.at-id.ensures
+    c.in-Some.op.now (sym c.in-Some.ensures)
     (ap (λ (o : Op). is_ready H (stamped_of table o)) (sym c.deref.ensures) ∙ sym c.ready.ensures ∙ c.if-ready.false)
 
 -- ---- none is left

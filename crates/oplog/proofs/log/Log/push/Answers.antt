@@ -1,3 +1,4 @@
+-- The entry becomes the newest of the history, and its position stands in the column of its replica.
 use Rattle.std.proofs.Common.{◌≡◌, ◌-◌, sym, ap, ◌∙◌, ◌∷◌, [], IsTrue, map, length, get_or, set, Some, false, subst, arith, vec_len}
 use Rattle.std.proofs.Common.{vec_capacity}
 use Rattle.std.specs.List.{All}

@@ -1,12 +1,12 @@
 use Rattle.std.proofs.Common.{◌≡◌, None, false, sym, ap, ◌∙◌, subst}
 use Rattle.semantics.specs.Entries.{applied}
 use Rattle.semantics.specs.LegalHistory.{has_id}
-use Rattle.semantics.specs.Delivery.{Kept as IsKept, is_waiting}
+use Rattle.semantics.specs.Delivery.{Kept as IsKept, answer_to_new, is_waiting}
 use Rattle.operation.specs.declared.op.Op.{Op}
 use Rattle.operation.specs.Alone.{fault_alone}
 use Rattle.operation.specs.Meanings.{stamped_of}
 use Rattle.inbox.specs.Inboxes.{waiting_in}
-use Rattle.replica.specs.Replicas.{answer_to_new, replica_with}
+use Rattle.replica.specs.Replicas.{replica_with}
 use Rattle.replica.proofs.KeptOperations.{after_put}
 use Rattle.replica.proofs.replica.Replica.deliver.Goals as goal
 

@@ -1,16 +1,13 @@
 use Rattle.std.proofs.Common.{◌≡◌, Ok, Some, sym, ap, ◌∙◌, subst, true≢false}
-use Rattle.semantics.specs.Stamped.{Stamped}
-use Rattle.operation.specs.declared.op.Op.{Op}
 use Rattle.operation.specs.Meanings.{stamped_of}
-use Rattle.replica.specs.Replicas.{Running, IsNextReady, IsReplica, replica_of}
-use Rattle.replica.proofs.Leaving.{has_its_id, kept_ready, next_waits}
+use Rattle.replica.specs.Replicas.{Running, IsNextReady}
+use Rattle.replica.proofs.Leaving.{has_its_id, next_waits}
 use Rattle.replica.proofs.replica.Replica.next_ready.Goals as goal
 
 pub unreachable-requires : goal.unreachable-requires
 unreachable-requires c =
     let n = c.prepare.ensures.next c.in-Some.id (c.in_ok-id.was ∙ ap Ok c.in-Some.is) in
-    let h = kept_ready n.0 _ _ c.self.view_is n.2 in
-    true≢false (sym (next_waits _ n.0 c.self.invariant h.next c.in-Some.id n.1)
+    true≢false (sym (next_waits _ _ c.self.invariant c.self.view_is c.in-Some.id n)
     ∙ c.in_default-get.ensures.none c.self.inside.document.table)
 
 -- the copy is of the next one
@@ -19,11 +16,9 @@ copied : (c : goal.In_ok-clone)
     ≡ (c.prepare.ensures.next c.in-Some.id (c.in_ok-id.was ∙ ap Ok c.in-Some.is)).0
 copied c =
     let n = c.prepare.ensures.next c.in-Some.id (c.in_ok-id.was ∙ ap Ok c.in-Some.is) in
-    let h = kept_ready n.0 _ _ c.self.view_is n.2 in
     let table = ap (λ (r : Running). r.document.table) c.self.view_is in
     (λ i. stamped_of (sym table i) (c.in_ok-clone.ensures.cases i))
-    ∙ has_its_id _ n.0 c.self.invariant h.next c.in-Some.id n.1 c.in-Some-get.op.now c.in-Some-get.ensures.some.0
-    c.in-Some-get.ensures.some.1
+    ∙ has_its_id _ _ c.self.invariant c.self.view_is c.in-Some.id n c.in-Some-get.op.now c.in-Some-get.ensures.some
 
 pub returns-clause-next : goal.returns-clause-next
 returns-clause-next c =

@@ -1,6 +1,6 @@
-use Rattle.std.proofs.Common.{rules, ◌≡◌, ◌<◌, ◌∙◌, ap, sym, arith, length}
+use Rattle.std.proofs.Common.{◌≡◌, ◌∙◌, ap, sym, arith, length}
 use Rattle.std.proofs.lemmas.List.{with_items_is}
-use Rattle.rings.specs.Rings.{Sequence, straight}
+use Rattle.rings.specs.Rings.{Sequence}
 use Rattle.rings.specs.Starts.{starts_of}
 use Rattle.rings.proofs.Straight.{length-straight}
 use Rattle.rings.proofs.rings.Rings.remove.Goals as goal

@@ -17,5 +17,5 @@ invariant_of-self-2 c = record {
   beside = c.reserve_operation.ensures.kept.beside c.self.inside.table c.self.invariant.beside;
 }
 
-pub returns-clause-ready : goal.returns-clause-ready
-returns-clause-ready c = c.in_ok-scalar.ensures.ready c.self.inside.table
+pub returns-clause-reserved : goal.returns-clause-reserved
+returns-clause-reserved c = c.in_ok-scalar.ensures.reserved c.self.inside.table

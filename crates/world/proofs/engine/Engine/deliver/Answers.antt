@@ -1,6 +1,5 @@
-use Rattle.std.proofs.Common.{◌≡◌, ◌⊎◌, ℕ, List, Option, Some, Result, Ok, Err, length, map, sym, ap, ◌∙◌, subst, slice_get}
+use Rattle.std.proofs.Common.{◌≡◌, ◌⊎◌, ℕ, List, Some, length, map, sym, ap, ◌∙◌, subst, slice_get}
 use Rattle.std.proofs.lemmas.Bool.{ltb-true}
-use Rattle.std.specs.Prelude.{OnErr}
 use Rattle.ids.specs.declared.refusal.Refusal.TheVariants.{NoMemory}
 use Rattle.semantics.specs.Stamped.{Stamped}
 use Rattle.semantics.specs.Engine.{Engine as TheEngine, Bundle}
@@ -10,11 +9,8 @@ use Rattle.world.specs.Engines.{message_of}
 use Rattle.world.proofs.ReachedWorlds.{reached_sound}
 use Rattle.world.proofs.SingleSteps.{read_mapped}
 use Rattle.world.proofs.StoppedReceipts.{message_stopped}
+use Rattle.world.proofs.Results.{then_err}
 use Rattle.world.proofs.engine.Engine.deliver.Goals as goal
-
-then_err : {X Y P Q : Type 0} (r : Result X Y) → (P → Q) → OnErr r P → OnErr r Q
-then_err (Ok x) f p = tt
-then_err (Err e) f p = f p
 
 pub returns-clause-stopped : goal.returns-clause-stopped
 returns-clause-stopped c =

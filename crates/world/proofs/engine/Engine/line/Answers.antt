@@ -1,16 +1,12 @@
-use Rattle.std.proofs.Common.{◌≡◌, ◌⊎◌, ℕ, List, Some, Result, Ok, Err, map, ◌∙◌, subst}
-use Rattle.std.specs.Prelude.{OnErr}
+use Rattle.std.proofs.Common.{◌≡◌, ◌⊎◌, ℕ, List, Some, map, ◌∙◌, subst}
 use Rattle.ids.specs.declared.refusal.Refusal.TheVariants.{NoMemory}
 use Rattle.semantics.specs.Engine.{Engine as TheEngine}
 use Rattle.operation.specs.Meanings.{stamped_of}
 use Rattle.wire.specs.Bundles.{readable}
 use Rattle.world.proofs.ReachedWorlds.{reached_sound}
 use Rattle.world.proofs.StoppedReceipts.{lines_stopped}
+use Rattle.world.proofs.Results.{then_err}
 use Rattle.world.proofs.engine.Engine.line.Goals as goal
-
-then_err : {X Y P Q : Type 0} (r : Result X Y) → (P → Q) → OnErr r P → OnErr r Q
-then_err (Ok x) f p = tt
-then_err (Err e) f p = f p
 
 pub returns-clause-stopped : goal.returns-clause-stopped
 returns-clause-stopped c =

@@ -1,15 +1,24 @@
-use Rattle.std.proofs.Common.{◌≡◌, ◌<◌, Some, length, map, set, sym, ap, ◌∙◌, slice_get, arith, option_map}
+use Rattle.std.proofs.Common.{◌≡◌, ◌<◌, Some, length, map, max, set, sym, ap, ◌∙◌, arith, option_map}
 use Rattle.std.proofs.lemmas.List.{map-set}
 use Rattle.std.proofs.lemmas.Option.{same_Some}
-use Rattle.semantics.specs.Engine.{Engine as TheEngine, Client as TheClient, Turn}
-use Rattle.semantics.specs.ReadSteps.{cell_at}
+use Rattle.semantics.specs.Engine.{Engine as TheEngine, Client as TheClient, Replied, Turn}
+use Rattle.semantics.specs.ReadSteps.{cell_at, poll}
 use Rattle.world.specs.Engines.{client_of, cell_of, given_of}
 use Rattle.world.specs.contracts.engine.Engine.{the_view}
 use Rattle.world.proofs.SingleSteps.{read_mapped, poll-there}
 use Rattle.world.proofs.engine.Engine.poll.Goals as goal
 
-pub returns-clause-engine : goal.returns-clause-engine
-returns-clause-engine c =
+-- the client that is there reads the answer, and has seen what was published with it
+polled : (c : goal.After-self-1) →
+    let E : TheEngine = the_view c.self.inside in
+    let k : TheClient = client_of c.self.inside.handler.replica.document.table c.index_mut-k.result.now in
+    let g = given_of c.in-Some-answer.given in
+    poll E c.args.client c.args.serial
+    ≡ record {
+      engine = record E { clients = set E.clients c.args.client (record k { seen = max k.seen g.published }) };
+      reply = Replied g.reply;
+    }
+polled c =
     let E : TheEngine = the_view c.self.inside in
     let table = c.self.inside.handler.replica.document.table in
     let ks = c.self.inside.clients.items in
@@ -17,37 +26,27 @@ returns-clause-engine c =
     let k = c.index.result.now in
     let m = c.index_mut-k.result.now in
     let cell = c.in-Some.cell.now in
-    let g = c.in-Some-answer.given in
     let within : at < length ks = omega arith in
-    let there : slice_get (map (client_of table) ks) at
-    ≡ Some (client_of table k) = read_mapped (client_of table) ks at k within c.index.ensures in
-    let again : slice_get (map (client_of table) ks) at
-    ≡ Some (client_of table m) = read_mapped (client_of table) ks at m within c.index_mut-k.ensures.value in
-    let same : client_of table k ≡ client_of table m = same_Some (client_of table k) (client_of table m) (sym there ∙ again) in
+    let again = read_mapped (client_of table) ks at m within c.index_mut-k.ensures.value in
+    let there = read_mapped (client_of table) ks at k within c.index.ensures in
+    let same = same_Some (client_of table k) (client_of table m) (sym there ∙ again) in
     let found : cell_at (client_of table m).cells c.args.serial
     ≡ Some (cell_of table cell) = ap (λ (x : TheClient). cell_at x.cells c.args.serial) (sym same)
     ∙ sym (c.in-Some.ensures table) in
-    let given : (cell_of table cell).answer ≡ Some (given_of g) = ap (option_map given_of) c.in-Some-answer.is in
-    rw (← c.self.view_is)
-    ((λ i. record E { clients = map-set (client_of table) ks at (record { seen = c.max-k.result; cells = m.cells }) i })
-    ∙ (λ i. record E { clients = set (map (client_of table) ks) at (record (client_of table m) { seen = c.max-k.ensures i }) })
-    ∙ sym
-    (ap (λ (t : Turn). t.engine)
-    (poll-there E at c.args.serial (client_of table m) (cell_of table cell) (given_of g) again found given)))
+    let given = ap (option_map given_of) c.in-Some-answer.is in
+    poll-there E at c.args.serial (client_of table m) (cell_of table cell) (given_of c.in-Some-answer.given) again found given
 
-pub returns-clause-reply : goal.returns-clause-reply
-returns-clause-reply c =
+pub returns-clause-engine : goal.returns-clause-engine
+returns-clause-engine c =
     let E : TheEngine = the_view c.self.inside in
-    let table = c.self.inside.handler.replica.document.table in
+    let client = client_of c.self.inside.handler.replica.document.table in
     let ks = c.self.inside.clients.items in
     let at = c.args.client in
-    let k = c.index.result.now in
-    let cell = c.in-Some.cell.now in
-    let g = c.in-Some-answer.given in
-    let within : at < length ks = omega arith in
-    let there : slice_get (map (client_of table) ks) at
-    ≡ Some (client_of table k) = read_mapped (client_of table) ks at k within c.index.ensures in
-    let given : (cell_of table cell).answer ≡ Some (given_of g) = ap (option_map given_of) c.in-Some-answer.is in
+    let m = c.index_mut-k.result.now in
     rw (← c.self.view_is)
-    (sym (ap (λ (t : Turn). t.reply)
-    (poll-there E at c.args.serial (client_of table k) (cell_of table cell) (given_of g) there (sym (c.in-Some.ensures table)) given)))
+    ((λ i. record E { clients = map-set client ks at (record { seen = c.max-k.result; cells = m.cells }) i })
+    ∙ (λ i. record E { clients = set (map client ks) at (record (client m) { seen = c.max-k.ensures i }) })
+    ∙ sym (ap (λ (t : Turn). t.engine) (polled c)))
+
+pub returns-clause-reply : goal.returns-clause-reply
+returns-clause-reply c = rw (← c.self.view_is) (sym (ap (λ (t : Turn). t.reply) (polled c)))

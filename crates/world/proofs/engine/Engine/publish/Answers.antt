@@ -1,6 +1,5 @@
-use Rattle.std.proofs.Common.{◌≡◌, ◌≤◌, ℕ, ◌||◌, not, true, false, List, Result, Ok, Err, length, refl, sym, ap, ◌∙◌, subst, arith}
+use Rattle.std.proofs.Common.{◌≡◌, ◌≤◌, ℕ, ◌||◌, not, true, false, List, length, refl, sym, ap, ◌∙◌, subst, arith}
 use Rattle.std.proofs.Common.{eqb-true}
-use Rattle.std.specs.Prelude.{OnErr}
 use Rattle.semantics.specs.DocumentAnswer.{is_any}
 use Rattle.semantics.specs.Entries.{Entry}
 use Rattle.semantics.specs.Engine.{Engine as TheEngine}
@@ -10,11 +9,8 @@ use Rattle.world.specs.Engines.{handled_of}
 use Rattle.world.specs.Parts.{PublishesInPart}
 use Rattle.world.specs.contracts.engine.Engine.{the_view}
 use Rattle.world.proofs.WholeSteps.{none_mapped, not_zero, some_mapped}
+use Rattle.world.proofs.Results.{on_err}
 use Rattle.world.proofs.engine.Engine.publish.Goals as goal
-
-on_err : {X Y Q : Type 0} (r : Result X Y) → Q → OnErr r Q
-on_err (Ok x) q = tt
-on_err (Err e) q = q
 
 pub returns-in_err-publish-clause-stopped : goal.returns-in_err-publish-clause-stopped
 returns-in_err-publish-clause-stopped c =

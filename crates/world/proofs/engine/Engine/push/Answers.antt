@@ -1,25 +1,18 @@
-use Rattle.std.proofs.Common.{◌+◌, ◌<◌, length, sym, ap, ◌∙◌, arith}
-use Rattle.std.proofs.lemmas.List.{length-map}
+use Rattle.std.proofs.Common.{◌+◌, length, sym, ap, ◌∙◌, arith}
 use Rattle.semantics.specs.LegalAnswer.{OfCommand}
 use Rattle.semantics.specs.Engine.{Engine as TheEngine, Ticket}
 use Rattle.semantics.specs.WriteSteps.{push}
 use Rattle.operation.specs.declared.command.Command.{Command}
 use Rattle.operation.specs.Meanings.{command_of}
-use Rattle.world.specs.Engines.{client_of, taken_or_denied}
-use Rattle.world.proofs.SubmittedRequests.{found}
+use Rattle.world.specs.Engines.{taken_or_denied}
+use Rattle.world.proofs.TakenRequests.{client_there}
 use Rattle.world.proofs.engine.Engine.push.Goals as goal
 
 pub returns-in-Some-clause-reply : goal.returns-in-Some-clause-reply
 returns-in-Some-clause-reply c =
     let A : TheEngine = c.args.self.now in
     let at = c.args.client in
-    let there : at < length A.clients = omega (
-      arith,
-      ap (λ (F : TheEngine). length F.clients) c.self.view_is,
-      length-map c.self.inside.clients.items
-          (client_of c.self.inside.handler.replica.document.table),
-    ) in
-    let k = found A.clients at there in
+    let k = client_there c.self.inside A at c.self.view_is (omega arith) in
     sym (c.in_ok-why.ensures.reply k.0 k.1 ∙ ap (taken_or_denied (length k.0.cells + 1)) c.in-Some.is)
     ∙ ap (λ (d : Command). (push A at (OfCommand (command_of d))).reply)
     c.in_ok-clone.ensures.cases
@@ -28,13 +21,7 @@ pub returns-in-None-clause-reply : goal.returns-in-None-clause-reply
 returns-in-None-clause-reply c =
     let A : TheEngine = c.args.self.now in
     let at = c.args.client in
-    let there : at < length A.clients = omega (
-      arith,
-      ap (λ (F : TheEngine). length F.clients) c.self.view_is,
-      length-map c.self.inside.clients.items
-          (client_of c.self.inside.handler.replica.document.table),
-    ) in
-    let k = found A.clients at there in
+    let k = client_there c.self.inside A at c.self.view_is (omega arith) in
     ap Ticket (c.next_serial-serial.ensures k.0 k.1)
     ∙ sym (c.in_ok-why.ensures.reply k.0 k.1 ∙ ap (taken_or_denied (length k.0.cells + 1)) c.in-None.is)
     ∙ ap (λ (d : Command). (push A at (OfCommand (command_of d))).reply)

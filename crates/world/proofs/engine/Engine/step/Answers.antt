@@ -1,12 +1,8 @@
-use Rattle.std.proofs.Common.{◌⊎◌, inl, inr, Result, Ok, Err, subst}
-use Rattle.std.specs.Prelude.{OnErr}
+use Rattle.std.proofs.Common.{inl, inr, subst}
 use Rattle.semantics.specs.Engine.{Engine}
 use Rattle.world.specs.Parts.{PublishesInPart}
+use Rattle.world.proofs.Results.{on_err}
 use Rattle.world.proofs.engine.Engine.step.Goals as goal
-
-on_err : {X Y Q : Type 0} (r : Result X Y) → Q → OnErr r Q
-on_err (Ok x) q = tt
-on_err (Err e) q = q
 
 pub returns-in_err-take_all-clause-stopped : goal.returns-in_err-take_all-clause-stopped
 returns-in_err-take_all-clause-stopped c = on_err c.from_residual.result (inl c.in_err-take_all.ensures.stopped)

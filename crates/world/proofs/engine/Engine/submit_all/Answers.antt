@@ -1,5 +1,4 @@
 use Rattle.std.proofs.Common.{rules, ◌≡◌, ℕ, suc, ◌+◌, Some, List, ◌∷◌, length, map, refl, sym, ap, ◌∙◌, subst, arith, add-one}
-use Rattle.std.specs.Prelude.{OnErr, Result, Ok, Err}
 use Rattle.std.specs.List.{All}
 use Rattle.std.specs.Vec.Iter.{into_iter_items}
 use Rattle.std.proofs.lemmas.List.Elements.{All-head, All-tail}
@@ -22,13 +21,15 @@ use Rattle.world.specs.Parts.{IsBetween}
 use Rattle.world.proofs.DrawnWaiting.{submits_wait, waits_still}
 use Rattle.world.proofs.ReachedWorlds.{reached_sound}
 use Rattle.world.proofs.SubmittedRequests.{Keeps, found, push_keeps, denied_same, received_wide, submit_more, submit_stop}
+use Rattle.world.proofs.Results.{on_err}
 use Rattle.world.proofs.engine.Engine.submit_all.Goals as goal
 
 -- the next operation is received as it is
-received_here : (M : List ℕ) (E : TheEngine) (o : Op) (rest : List Op) → E.replica.members ≡ M
-    → All (λ (p : Op). length p.deps ≡ length M) (o ∷ rest) → received_of E.replica.members o ≡ stamped_of M o
-received_here M E o rest members wide = ap (λ ps. received_of ps o) members
-    ∙ received_wide M o (All-head (λ (p : Op). length p.deps ≡ length M) o rest wide)
+received_here : (M : List ℕ) (E : TheEngine) (os : List Op) (o : Op) (rest : List Op) → E.replica.members ≡ M
+    → All (λ (p : Op). length p.deps ≡ length M) os → os ≡ o ∷ rest → received_of E.replica.members o ≡ stamped_of M o
+received_here M E os o rest members wide steps = ap (λ ps. received_of ps o) members
+    ∙ received_wide M o
+        (All-head (λ (p : Op). length p.deps ≡ length M) o rest (subst (All (λ (p : Op). length p.deps ≡ length M)) steps wide))
 
 pub returns-in-Some-2-clause-submitted : goal.returns-in-Some-2-clause-submitted
 returns-in-Some-2-clause-submitted c = λ bad.
@@ -39,8 +40,7 @@ returns-in-Some-2-clause-submitted c = λ bad.
     let o : Op = c.in-Some.op in
     let rest = into_iter_items c.next.new.self in
     let steps : into_iter_items c.loop-op.op-iterator ≡ o ∷ rest = c.in-Some.ensures.steps.0 in
-    let received = received_here M E o rest c.loop-op.invariant.members
-    (subst (All (λ (p : Op). length p.deps ≡ length M)) steps c.loop-op.invariant.wide) in
+    let received = received_here M E _ o rest c.loop-op.invariant.members c.loop-op.invariant.wide steps in
     let k = found E.clients at c.loop-op.invariant.there in
     let there = c.in_ok-why.ensures.reply k.0 k.1 ∙ ap (taken_or_denied (length k.0.cells + 1)) c.in-Some-2.is in
     let denied : (push E at (OfPeer (stamped_of M o))).reply
@@ -52,10 +52,6 @@ returns-in-Some-2-clause-submitted c = λ bad.
     ∙ ap (λ (os : List Op). submit_all at bad n E (map (stamped_of M) os)) steps
     ∙ submit_stop at bad n E (stamped_of M o) (map (stamped_of M) rest) c.in-Some-2.why denied
     ∙ (λ i. record { engine = sym engine i; submitted = n; stopped = Some (sym (add-one n) i, c.in-Some-2.why) }))
-
-on_err : {X Y Q : Type 0} (r : Result X Y) → Q → OnErr r Q
-on_err (Ok x) q = tt
-on_err (Err e) q = q
 
 pub loop-op-init : goal.loop-op-init
 loop-op-init c = record {
@@ -99,8 +95,7 @@ loop-op-preserved c =
     let o : Op = c.in-Some.op in
     let rest = into_iter_items c.next.new.self in
     let steps : into_iter_items c.loop-op.op-iterator ≡ o ∷ rest = c.in-Some.ensures.steps.0 in
-    let received = received_here M E o rest c.loop-op.invariant.members
-    (subst (All (λ (p : Op). length p.deps ≡ length M)) steps c.loop-op.invariant.wide) in
+    let received = received_here M E _ o rest c.loop-op.invariant.members c.loop-op.invariant.wide steps in
     let k = found E.clients at c.loop-op.invariant.there in
     let there = c.in_ok-why.ensures.reply k.0 k.1 ∙ ap (taken_or_denied (length k.0.cells + 1)) c.in_default.is in
     let taken : (push E at (OfPeer (stamped_of M o))).reply

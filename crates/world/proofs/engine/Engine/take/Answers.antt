@@ -1,4 +1,5 @@
-use Rattle.std.proofs.Common.{◌≡◌, ◌⊎◌, ◌||◌, not, false, nat_le, inl, inr, ℕ, List, ◌∷◌, length, map, refl, sym, ap, ◌∙◌, subst, arith}
+-- The oldest item is handled; where that stops halfway the item is put back at the front, and the replica alone has changed.
+use Rattle.std.proofs.Common.{◌≡◌, ◌||◌, false, nat_le, inl, inr, ℕ, List, ◌∷◌, length, map, refl, sym, ap, ◌∙◌, subst, arith}
 use Rattle.std.proofs.Common.{eqb-true}
 use Rattle.std.proofs.lemmas.List.{length-map}
 use Rattle.std.proofs.lemmas.Bool.{lt-leb}
@@ -8,7 +9,6 @@ use Rattle.semantics.specs.LegalAnswer.{Submitted}
 use Rattle.semantics.specs.Engine.{Engine as TheEngine}
 use Rattle.semantics.specs.Replica.{IsRunning}
 use Rattle.semantics.proofs.SoundEngines.{IsSound}
-use Rattle.items.specs.declared.item.Item.{Item}
 use Rattle.items.specs.Meanings.{submitted_of}
 use Rattle.world.specs.Engines.{client_of, handled_of}
 use Rattle.world.specs.Parts.{TakesInPart}

@@ -1,5 +1,4 @@
-use Rattle.std.proofs.Common.{◌≡◌, ◌+◌, ◌-◌, ◌<◌, Result, Ok, Err, List, [], ◌∷◌, length, map, refl, sym, ap, ◌∙◌, subst, arith, eqb-true}
-use Rattle.std.specs.Prelude.{OnErr}
+use Rattle.std.proofs.Common.{◌≡◌, ◌+◌, ◌-◌, List, [], ◌∷◌, length, map, refl, sym, ap, ◌∙◌, subst, arith, eqb-true}
 use Rattle.semantics.specs.Engine.{Engine}
 use Rattle.semantics.specs.WriteSteps.{take_for, take_item}
 use Rattle.items.specs.Meanings.{submitted_of}
@@ -8,6 +7,7 @@ use Rattle.world.proofs.ReachedWorlds.{reached_take}
 use Rattle.world.specs.Parts.{TakesInPart}
 use Rattle.world.proofs.BetweenEngines.{takes_then}
 use Rattle.world.proofs.WholeSteps.{take_next, take_none}
+use Rattle.world.proofs.Results.{on_err}
 use Rattle.world.proofs.engine.Engine.take_all.Goals as goal
 
 none_of : {X : Type 0} (xs : List X) → length xs ≡ 0 → xs ≡ []
@@ -22,10 +22,6 @@ returns-then-is_empty-clause-engine c =
     let empty : E.queue ≡ [] = ap (λ (F : Engine). F.queue) (sym c.self-in-loop.view_is)
     ∙ ap (map (submitted_of c.self-in-loop.inside.handler.replica.document.table)) (none_of q.items none) in
     sym (take_none (c.args.self.now.batch - c.loop.counter) E empty) ∙ c.loop.invariant.taken
-
-on_err : {X Y Q : Type 0} (r : Result X Y) → Q → OnErr r Q
-on_err (Ok x) q = tt
-on_err (Err e) q = q
 
 pub returns-in_err-take-clause-stopped : goal.returns-in_err-take-clause-stopped
 returns-in_err-take-clause-stopped c =

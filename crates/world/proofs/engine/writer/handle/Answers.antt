@@ -1,8 +1,8 @@
-use Rattle.std.proofs.Common.{◌≡◌, inl, inr, ap}
+use Rattle.std.proofs.Common.{inl, inr, ap}
 use Rattle.semantics.specs.LegalAnswer.{Reply, Submitted}
 use Rattle.semantics.specs.Handling.{Handler, Handles}
 use Rattle.semantics.proofs.HandledAnswers.{handled}
-use Rattle.items.specs.Meanings.{answer_of, submitted_of}
+use Rattle.items.specs.Meanings.{reply_of, submitted_of}
 use Rattle.handling.specs.Meanings.{handler_of}
 use Rattle.world.specs.Parts.{IsHandledInPart}
 use Rattle.world.proofs.engine.writer.handle.Goals as goal
@@ -11,14 +11,14 @@ pub returns-clause-table : goal.returns-clause-table
 returns-clause-table c =
     let w = c.args.handler.now in
     (handled (handler_of w) (handler_of c.handle-reply.new.self) (submitted_of w.replica.document.table c.args.item.now)
-    (answer_of c.handle-reply.result)
+    (reply_of c.handle-reply.result)
     c.requires.running c.requires.above c.handle-reply.ensures.handled).members
 
 pub returns-then-handler-clause-table : goal.returns-then-handler-clause-table
 returns-then-handler-clause-table c =
     let w = c.args.handler.now in
     (handled (handler_of w) (handler_of c.handle-reply.new.self) (submitted_of w.replica.document.table c.args.item.now)
-    (answer_of c.handle-reply.result)
+    (reply_of c.handle-reply.result)
     c.requires.running c.requires.above c.handle-reply.ensures.handled).members
 
 -- whatever became of the item, it was handled in part
@@ -31,4 +31,4 @@ pub returns-then-handler-clause-stopped : goal.returns-then-handler-clause-stopp
 returns-then-handler-clause-stopped c =
     let w = c.args.handler.now in
     in_part (handler_of w) (handler_of c.handle-reply.new.self) (submitted_of w.replica.document.table c.args.item.now)
-    (answer_of c.handle-reply.result) c.handle-reply.ensures.handled
+    (reply_of c.handle-reply.result) c.handle-reply.ensures.handled

@@ -1,6 +1,4 @@
-use Rattle.std.proofs.Common.{refl, subst}
-use Rattle.semantics.specs.Publication.{Publication}
-use Rattle.semantics.specs.WorldHistory.{BeginsWith}
+use Rattle.std.proofs.Common.{refl}
 use Rattle.oplog.specs.Logs.{history}
 use Rattle.world.proofs.publisher.Publisher.publish.Goals as goal
 

@@ -1,15 +1,11 @@
-use Rattle.std.proofs.Common.{◌≡◌, ◌+◌, ℕ, List, min, map, Result, Ok, Err, subst}
-use Rattle.std.specs.Prelude.{OnErr}
+use Rattle.std.proofs.Common.{◌≡◌, ◌+◌, ℕ, List, min, map, subst}
 use Rattle.semantics.specs.World.{World, WorldStep as TheStep}
 use Rattle.world.specs.Engines.{message_of}
 use Rattle.world.specs.Worlds.{Running, StopsAfter, step_in, tables_of, world, world_of}
 use Rattle.world.specs.contracts.world.World.{the_view}
 use Rattle.world.proofs.ReachedWorlds.{reached_after}
+use Rattle.world.proofs.Results.{on_err}
 use Rattle.world.proofs.world.World.run.Goals as goal
-
-on_err : {X Y Q : Type 0} (r : Result X Y) → Q → OnErr r Q
-on_err (Ok x) q = tt
-on_err (Err e) q = q
 
 pub returns-in_err-replies-clause-stopped : goal.returns-in_err-replies-clause-stopped
 returns-in_err-replies-clause-stopped c =
