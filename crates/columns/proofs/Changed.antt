@@ -15,7 +15,7 @@ use Rattle.semantics.proofs.Orders.{id_total, ids_from_test}
 use Rattle.semantics.proofs.SetElements.{get-set_other, get-set_same}
 use Rattle.semantics.specs.Context.{insert_after, has_item}
 use Rattle.columns.specs.Rank.{has_key, keys_of}
-use Rattle.columns.specs.Blocks.{AreApart, AreBlocks, AreHomed, GoesIn, IsBehind, Run, items_before, items_from, joined, joined_shown}
+use Rattle.columns.specs.Blocks.{AreApart, AreBlocks, AreHomed, GoesIn, IsBehind, ListBlock, items_before, items_from, joined, joined_shown}
 use Rattle.columns.specs.Blocks.{room_at}
 use Rattle.columns.proofs.InBlock.{has_item-append}
 use Rattle.columns.proofs.Flags.{shown_insert}
@@ -31,33 +31,33 @@ set_cases xs i j x y z is at = elim (cases_eq j i) [
 ]
 
 -- room at a block
-pub room_here : (runs : List Run) (k : ℕ) (r : Run) → slice_get runs k ≡ Some r → room_at runs k ≡ r.room
+pub room_here : (runs : List ListBlock) (k : ℕ) (r : ListBlock) → slice_get runs k ≡ Some r → room_at runs k ≡ r.room
 room_here [] k r is = absurd (cc is)
-room_here (s ∷ runs) zero r is = ap (λ (o : Run). o.room) (some_is s r is)
+room_here (s ∷ runs) zero r is = ap (λ (o : ListBlock). o.room) (some_is s r is)
 room_here (s ∷ runs) (suc k) r is = room_here runs k r is
 
 -- a block with room is there
-pub run_there : (runs : List Run) (k : ℕ) → k < length runs → (r : Run) × (slice_get runs k ≡ Some r)
+pub run_there : (runs : List ListBlock) (k : ℕ) → k < length runs → (r : ListBlock) × (slice_get runs k ≡ Some r)
 run_there [] k inside = absurd (omega (arith, inside))
 run_there (r ∷ runs) zero inside = (r, refl)
 run_there (r ∷ runs) (suc k) inside = run_there runs k (omega (arith, inside))
 
-pub room_within : (runs : List Run) (k : ℕ) → 0 < room_at runs k → k < length runs
+pub room_within : (runs : List ListBlock) (k : ℕ) → 0 < room_at runs k → k < length runs
 room_within [] k room = absurd (omega (arith, room))
 room_within (r ∷ runs) zero room = omega arith
 room_within (r ∷ runs) (suc k) room = let rest = room_within runs k room in omega (arith, rest)
 
 -- an item of a block is an item
-pub has_in : (runs : List Run) (k : ℕ) (r : Run) (a : OpId) → slice_get runs k ≡ Some r → has_item a r.items ≡ true
+pub has_in : (runs : List ListBlock) (k : ℕ) (r : ListBlock) (a : OpId) → slice_get runs k ≡ Some r → has_item a r.items ≡ true
     → has_item a (joined runs) ≡ true
 has_in [] k r a is has = absurd (cc is)
 has_in (s ∷ runs) zero r a is has = has_item-append a s.items (joined runs)
-    ∙ ap (λ b. b || has_item a (joined runs)) (ap (λ (o : Run). has_item a o.items) (some_is s r is) ∙ has)
+    ∙ ap (λ b. b || has_item a (joined runs)) (ap (λ (o : ListBlock). has_item a o.items) (some_is s r is) ∙ has)
 has_in (s ∷ runs) (suc k) r a is has = has_item-append a s.items (joined runs)
     ∙ or_right (has_item a s.items) (has_item a (joined runs)) (has_in runs k r a is has)
 
 -- an id that is no item is none of a block
-pub lacks_in : (runs : List Run) (k : ℕ) (r : Run) (a b : OpId) → slice_get runs k ≡ Some r → has_item a (joined runs) ≡ false
+pub lacks_in : (runs : List ListBlock) (k : ℕ) (r : ListBlock) (a b : OpId) → slice_get runs k ≡ Some r → has_item a (joined runs) ≡ false
     → has_item b r.items ≡ true → is_same_id b a ≡ false
 lacks_in runs k r a b is absent has = at_test (is_same_id b a) refl
   where
@@ -66,12 +66,12 @@ lacks_in runs k r a b is absent has = at_test (is_same_id b a) refl
         (true≢false (sym (has_in runs k r b is has) ∙ ap (λ p. has_item p (joined runs)) (ids_from_test b a e) ∙ absent))
     at_test false e = refl
 
-module _ (runs : List Run) (k : ℕ) (r q : Run) (is : slice_get runs k ≡ Some r) where
+module _ (runs : List ListBlock) (k : ℕ) (r q : ListBlock) (is : slice_get runs k ≡ Some r) where
   -- the items
   pub joined_set : joined (set runs k q) ≡ items_before runs k 0 ++ (q.items ++ items_from runs (suc k) 0)
   joined_set = go runs k is
     where
-      go : (runs : List Run) (k : ℕ) → slice_get runs k ≡ Some r
+      go : (runs : List ListBlock) (k : ℕ) → slice_get runs k ≡ Some r
           → joined (set runs k q) ≡ items_before runs k 0 ++ (q.items ++ items_from runs (suc k) 0)
       go [] k is = absurd (cc is)
       go (s ∷ runs) zero is = ap (λ xs. q.items ++ xs) (sym (from_first runs))
@@ -81,27 +81,27 @@ module _ (runs : List Run) (k : ℕ) (r q : Run) (is : slice_get runs k ≡ Some
   pub joined_same : q.items ≡ r.items → joined (set runs k q) ≡ joined runs
   joined_same same = go runs k is
     where
-      go : (runs : List Run) (k : ℕ) → slice_get runs k ≡ Some r → joined (set runs k q) ≡ joined runs
+      go : (runs : List ListBlock) (k : ℕ) → slice_get runs k ≡ Some r → joined (set runs k q) ≡ joined runs
       go [] k is = absurd (cc is)
-      go (s ∷ runs) zero is = ap (λ xs. xs ++ joined runs) (same ∙ ap (λ (o : Run). o.items) (sym (some_is s r is)))
+      go (s ∷ runs) zero is = ap (λ xs. xs ++ joined runs) (same ∙ ap (λ (o : ListBlock). o.items) (sym (some_is s r is)))
       go (s ∷ runs) (suc k) is = ap (λ xs. s.items ++ xs) (go runs k is)
 
   -- those that are shown
   pub shown_same : items_where_true q.flags q.items ≡ items_where_true r.flags r.items → joined_shown (set runs k q) ≡ joined_shown runs
   shown_same same = go runs k is
     where
-      go : (runs : List Run) (k : ℕ) → slice_get runs k ≡ Some r → joined_shown (set runs k q) ≡ joined_shown runs
+      go : (runs : List ListBlock) (k : ℕ) → slice_get runs k ≡ Some r → joined_shown (set runs k q) ≡ joined_shown runs
       go [] k is = absurd (cc is)
       go (s ∷ runs) zero is = ap (λ xs. xs ++ joined_shown runs)
-          (same ∙ ap (λ (o : Run). items_where_true o.flags o.items) (sym (some_is s r is)))
+          (same ∙ ap (λ (o : ListBlock). items_where_true o.flags o.items) (sym (some_is s r is)))
       go (s ∷ runs) (suc k) is = ap (λ xs. items_where_true s.flags s.items ++ xs) (go runs k is)
 
   pub room_same : q.room ≡ r.room → (j : ℕ) → room_at (set runs k q) j ≡ room_at runs j
   room_same same j = go runs k j is
     where
-      go : (runs : List Run) (k j : ℕ) → slice_get runs k ≡ Some r → room_at (set runs k q) j ≡ room_at runs j
+      go : (runs : List ListBlock) (k j : ℕ) → slice_get runs k ≡ Some r → room_at (set runs k q) j ≡ room_at runs j
       go [] k j is = absurd (cc is)
-      go (s ∷ runs) zero zero is = same ∙ ap (λ (o : Run). o.room) (sym (some_is s r is))
+      go (s ∷ runs) zero zero is = same ∙ ap (λ (o : ListBlock). o.room) (sym (some_is s r is))
       go (s ∷ runs) zero (suc j) is = refl
       go (s ∷ runs) (suc k) zero is = refl
       go (s ∷ runs) (suc k) (suc j) is = go runs k j is
@@ -111,13 +111,13 @@ module _ (runs : List Run) (k : ℕ) (r q : Run) (is : slice_get runs k ≡ Some
       → length q.flags ≡ length q.items → r.room ≤ q.room → AreBlocks (set runs k q) homes last
   blocks_same homes last are number items long room = record {
     long = λ j s at. elim (set_cases runs k j r q s is at) [
-      | inl same ↦ ap (λ (o : Run). length o.flags) same.1 ∙ long ∙ ap (λ (o : Run). length o.items) (sym same.1)
+      | inl same ↦ ap (λ (o : ListBlock). length o.flags) same.1 ∙ long ∙ ap (λ (o : ListBlock). length o.items) (sym same.1)
       | inr other ↦ are.long j s other.1
     ];
     at_home = record {
       homed = λ j s at a has. elim (set_cases runs k j r q s is at) [
-        | inl same ↦ are.at_home.homed k r is a (ap (has_item a) (sym items ∙ ap (λ (o : Run). o.items) (sym same.1)) ∙ has)
-            ∙ ap Some (sym number ∙ ap (λ (o : Run). o.number) (sym same.1))
+        | inl same ↦ are.at_home.homed k r is a (ap (has_item a) (sym items ∙ ap (λ (o : ListBlock). o.items) (sym same.1)) ∙ has)
+            ∙ ap Some (sym number ∙ ap (λ (o : ListBlock). o.number) (sym same.1))
         | inr other ↦ are.at_home.homed j s other.1 a has
       ];
       only = λ a. are.at_home.only a ∙ ap (has_item a) (sym (joined_same items));
@@ -126,7 +126,7 @@ module _ (runs : List Run) (k : ℕ) (r q : Run) (is : slice_get runs k ≡ Some
     within = subst (λ n. last ≤ n - 1) (sym (length-set runs k q)) are.within;
     spare = λ j s at other. elim (set_cases runs k j r q s is at) [
       | inl same ↦ let some = are.spare k r is (λ e. other (same.0 ∙ e)) in
-          subst (λ (o : Run). 0 < o.room) (sym same.1) (omega (arith, some, room))
+          subst (λ (o : ListBlock). 0 < o.room) (sym same.1) (omega (arith, some, room))
       | inr old ↦ are.spare j s old.1 other
     ];
   }
@@ -164,7 +164,8 @@ apart_insert a (x ∷ xs) ys apart absent =
     )
 
 -- where the last block has room, all have
-pub roomy : (runs : List Run) (homes : List (OpId × ℕ)) (last : ℕ) → AreBlocks runs homes last → 0 < room_at runs last → (j : ℕ) (s : Run)
+pub roomy : (runs : List ListBlock) (homes : List (OpId × ℕ)) (last : ℕ) → AreBlocks runs homes last → 0 < room_at runs last
+    → (j : ℕ) (s : ListBlock)
     → slice_get runs j ≡ Some s → 0 < s.room
 roomy runs homes last are room j s at = elim (cases_eq j last) [
   | inl e ↦ subst (λ n. 0 < n) (ap (room_at runs) (sym e) ∙ room_here runs j s at) room
@@ -172,16 +173,16 @@ roomy runs homes last are room j s at = elim (cases_eq j last) [
 ]
 
 -- an item that came into a block
-module _ (runs : List Run) (k i : ℕ) (r q : Run) (a : OpId) (is : slice_get runs k ≡ Some r) (within : i ≤ length r.items)
+module _ (runs : List ListBlock) (k i : ℕ) (r q : ListBlock) (a : OpId) (is : slice_get runs k ≡ Some r) (within : i ≤ length r.items)
     (items : q.items ≡ insert r.items i a) (flags : q.flags ≡ insert r.flags i false) where
   pub joined_put : joined (set runs k q) ≡ items_before runs k i ++ (a ∷ items_from runs k i)
   joined_put = go runs k is
     where
-      go : (runs : List Run) (k : ℕ) → slice_get runs k ≡ Some r
+      go : (runs : List ListBlock) (k : ℕ) → slice_get runs k ≡ Some r
           → joined (set runs k q) ≡ items_before runs k i ++ (a ∷ items_from runs k i)
       go [] k is = absurd (cc is)
       go (s ∷ runs) zero is =
-          ap (λ xs. xs ++ joined runs) (items ∙ ap (λ (o : Run). insert o.items i a) (sym (some_is s r is)))
+          ap (λ xs. xs ++ joined runs) (items ∙ ap (λ (o : ListBlock). insert o.items i a) (sym (some_is s r is)))
           ∙ append_assoc (take i s.items) (a ∷ drop i s.items) (joined runs)
       go (s ∷ runs) (suc k) is = ap (λ xs. s.items ++ xs) (go runs k is)
           ∙ sym (append_assoc s.items (items_before runs k i) (a ∷ items_from runs k i))
@@ -199,8 +200,8 @@ module _ (runs : List Run) (k i : ℕ) (r q : Run) (a : OpId) (is : slice_get ru
           by (inl same) =
               at_test (is_same_id b a)
               (sym (has_item-insert b a (take i r.items) (drop i r.items)) ∙ ap (has_item b) (sym items)
-              ∙ ap (λ (o : Run). has_item b o.items) (sym same.1) ∙ has)
-              ∙ ap Some (sym number ∙ ap (λ (o : Run). o.number) (sym same.1))
+              ∙ ap (λ (o : ListBlock). has_item b o.items) (sym same.1) ∙ has)
+              ∙ ap Some (sym number ∙ ap (λ (o : ListBlock). o.number) (sym same.1))
             where
               at_test : (t : Bool) → (t || has_item b (take i r.items ++ drop i r.items)) ≡ true
                   → cond t (Some r.number) (find id_cmp b homes) ≡ Some r.number
@@ -215,9 +216,9 @@ module _ (runs : List Run) (k i : ℕ) (r q : Run) (a : OpId) (is : slice_get ru
         long = λ j s at. elim (set_cases runs k j r q s is at) [
           | inl same ↦
               let old = are.long k r is in
-              ap (λ (o : Run). length o.flags) same.1 ∙ ap length flags ∙ length-insert r.flags i false (omega (arith, old, within))
+              ap (λ (o : ListBlock). length o.flags) same.1 ∙ ap length flags ∙ length-insert r.flags i false (omega (arith, old, within))
               ∙ ap (λ n. n + 1) old
-              ∙ sym (length-insert r.items i a within) ∙ ap length (sym items) ∙ ap (λ (o : Run). length o.items) (sym same.1)
+              ∙ sym (length-insert r.items i a within) ∙ ap length (sym items) ∙ ap (λ (o : ListBlock). length o.items) (sym same.1)
           | inr other ↦ are.long j s other.1
         ];
         at_home = record {
@@ -242,17 +243,18 @@ pub room_parts : (a b : ℕ) → 0 < min a (min 1 b) → (0 < a) × (0 < b)
 room_parts a b room = (omega (arith, room), omega (arith, room))
 
 -- two blocks at one index
-pub same_run : (runs : List Run) (k : ℕ) (r q : Run) → slice_get runs k ≡ Some r → slice_get runs k ≡ Some q → r ≡ q
+pub same_run : (runs : List ListBlock) (k : ℕ) (r q : ListBlock) → slice_get runs k ≡ Some r → slice_get runs k ≡ Some q → r ≡ q
 same_run runs k r q is at = some_is r q (sym is ∙ at)
 
 -- all that `insert_after` does
-pub record IsPlaced (runs : List Run) (homes : List (OpId × ℕ)) (prev : Option OpId) (a : OpId) (k : ℕ) (r q : Run) : Type 0 where
+pub record IsPlaced (runs : List ListBlock) (homes : List (OpId × ℕ)) (prev : Option OpId) (a : OpId) (k : ℕ)
+    (r q : ListBlock) : Type 0 where
   pub items : joined (set runs k q) ≡ insert_after prev a (joined runs)
   pub shown : joined_shown (set runs k q) ≡ joined_shown runs
   pub blocks : AreBlocks (set runs k q) (put id_cmp a r.number homes) k
 
-pub item_put : (runs : List Run) (homes : List (OpId × ℕ)) (last : ℕ) (prev : Option OpId) (a : OpId) (from_block from_index k i : ℕ)
-    (r q : Run)
+pub item_put : (runs : List ListBlock) (homes : List (OpId × ℕ)) (last : ℕ) (prev : Option OpId) (a : OpId) (from_block from_index k i : ℕ)
+    (r q : ListBlock)
     → AreBlocks runs homes last → has_item a (joined runs) ≡ false → 0 < room_at runs last → IsBehind runs prev from_block from_index
     → GoesIn runs a from_block from_index k i → slice_get runs k ≡ Some r
     → q.number ≡ r.number → q.items ≡ insert r.items i a → q.flags ≡ insert r.flags i false → IsPlaced runs homes prev a k r q

@@ -14,7 +14,7 @@ use Rattle.semantics.specs.Ids.{OpId, id_cmp}
 use Rattle.semantics.proofs.SetElements.{get-set_same}
 use Rattle.columns.specs.Rank.{has_key, keys_of}
 use Rattle.semantics.specs.Context.{has_item}
-use Rattle.columns.specs.Blocks.{AreApart, AreBlocks, AreHomed, AreMoved, IsSameList, Run, joined, joined_shown, room_at}
+use Rattle.columns.specs.Blocks.{AreApart, AreBlocks, AreHomed, AreMoved, IsSameList, ListBlock, joined, joined_shown, room_at}
 use Rattle.columns.proofs.Same.{some_is}
 use Rattle.columns.proofs.InBlock.{has_item-append}
 use Rattle.columns.proofs.Flags.{shown_append}
@@ -37,21 +37,21 @@ insert_cases (x ∷ xs) (suc i) (suc j) y z within at = elim (insert_cases xs i 
   | inr (h, is, inr (lt, e)) ↦ inr (suc h, is, inr (omega (arith, lt), ap suc e))
 ]
 
-module _ (runs : List Run) (k at : ℕ) (r q b : Run) (is : slice_get runs k ≡ Some r) (items : q.items ≡ take at r.items)
+module _ (runs : List ListBlock) (k at : ℕ) (r q b : ListBlock) (is : slice_get runs k ≡ Some r) (items : q.items ≡ take at r.items)
     (flags : q.flags ≡ take at r.flags) (back_items : b.items ≡ drop at r.items) (back_flags : b.flags ≡ drop at r.flags) where
   -- the blocks, once r was cut
-  abbrev halves : List Run
+  abbrev halves : List ListBlock
   halves = insert (set runs k q) (k + 1) b
 
   pub joined_cut : joined halves ≡ joined runs
   joined_cut = let next : k + 1 ≡ suc k = omega arith in ap (λ j. joined (insert (set runs k q) j b)) next ∙ go runs k is
     where
-      go : (runs : List Run) (k : ℕ) → slice_get runs k ≡ Some r → joined (insert (set runs k q) (suc k) b) ≡ joined runs
+      go : (runs : List ListBlock) (k : ℕ) → slice_get runs k ≡ Some r → joined (insert (set runs k q) (suc k) b) ≡ joined runs
       go [] k is = absurd (cc is)
       go (s ∷ runs) zero is =
           sym (append_assoc q.items b.items (joined runs))
           ∙ ap (λ xs. xs ++ joined runs)
-          ((λ t. items t ++ back_items t) ∙ take-append-drop at r.items ∙ ap (λ (o : Run). o.items) (sym (some_is s r is)))
+          ((λ t. items t ++ back_items t) ∙ take-append-drop at r.items ∙ ap (λ (o : ListBlock). o.items) (sym (some_is s r is)))
       go (s ∷ runs) (suc k) is = ap (λ xs. s.items ++ xs) (go runs k is)
 
   pub shown_cut : length r.flags ≡ length r.items → joined_shown halves ≡ joined_shown runs
@@ -66,18 +66,18 @@ module _ (runs : List Run) (k at : ℕ) (r q b : Run) (is : slice_get runs k ≡
           ∙ sym (shown_append (take at r.flags) (drop at r.flags) (take at r.items) (drop at r.items) fronts)
           ∙ (λ t. items_where_true (take-append-drop at r.flags t) (take-append-drop at r.items t))
 
-      go : (runs : List Run) (k : ℕ) → slice_get runs k ≡ Some r → joined_shown (insert (set runs k q) (suc k) b) ≡ joined_shown runs
+      go : (runs : List ListBlock) (k : ℕ) → slice_get runs k ≡ Some r → joined_shown (insert (set runs k q) (suc k) b) ≡ joined_shown runs
       go [] k is = absurd (cc is)
       go (s ∷ runs) zero is =
           sym (append_assoc (items_where_true q.flags q.items) (items_where_true b.flags b.items) (joined_shown runs))
-          ∙ ap (λ xs. xs ++ joined_shown runs) (both ∙ ap (λ (o : Run). items_where_true o.flags o.items) (sym (some_is s r is)))
+          ∙ ap (λ xs. xs ++ joined_shown runs) (both ∙ ap (λ (o : ListBlock). items_where_true o.flags o.items) (sym (some_is s r is)))
       go (s ∷ runs) (suc k) is = ap (λ xs. items_where_true s.flags s.items ++ xs) (go runs k is)
 
   -- each block is one of the halves, or was there
-  abbrev IsOneOf : ℕ → Run → Type 0
+  abbrev IsOneOf : ℕ → ListBlock → Type 0
   IsOneOf j s = ((s ≡ q) × (j ≡ k)) ⊎ ((s ≡ b) ⊎ ((h : ℕ) × (h ≡ k → ⊥) × (slice_get runs h ≡ Some s)))
 
-  one_of : (j : ℕ) (s : Run) → slice_get halves j ≡ Some s → IsOneOf j s
+  one_of : (j : ℕ) (s : ListBlock) → slice_get halves j ≡ Some s → IsOneOf j s
   one_of j s there = by
       (insert_cases (set runs k q) (k + 1) j b s
       (let inside = slice_get_within runs k r is in let long = length-set runs k q in omega (arith, inside, long)) there)
@@ -114,16 +114,18 @@ module _ (runs : List Run) (k at : ℕ) (r q b : Run) (is : slice_get runs k ≡
       where
         by : IsOneOf j s → find id_cmp a new_homes ≡ Some s.number
         by (inl (same, e)) =
-            let mine : has_item a q.items ≡ true = ap (λ (o : Run). has_item a o.items) (sym same) ∙ has in
+            let mine : has_item a q.items ≡ true = ap (λ (o : ListBlock). has_item a o.items) (sym same) ∙ has in
             let other : has_item a b.items ≡ false =
             ap (has_item a) back_items
             ∙ apart_append a (take at r.items) (drop at r.items)
             (subst AreApart (sym (take-append-drop at r.items)) (apart_block runs k r are.apart is))
             (ap (has_item a) (sym items) ∙ mine) in
-            stays a other ∙ are.at_home.homed k r is a (in_front a mine) ∙ ap Some (sym number ∙ ap (λ (o : Run). o.number) (sym same))
+            stays a other ∙ are.at_home.homed k r is a (in_front a mine)
+            ∙ ap Some (sym number ∙ ap (λ (o : ListBlock). o.number) (sym same))
         by (inr (inl same)) =
-            moved a ∙ ap (λ t. cond t (Some b.number) (find id_cmp a old_homes)) (ap (λ (o : Run). has_item a o.items) (sym same) ∙ has)
-            ∙ ap (λ (o : Run). Some o.number) (sym same)
+            moved a
+            ∙ ap (λ t. cond t (Some b.number) (find id_cmp a old_homes)) (ap (λ (o : ListBlock). has_item a o.items) (sym same) ∙ has)
+            ∙ ap (λ (o : ListBlock). Some o.number) (sym same)
         by (inr (inr (h, other, at_h))) =
             let lacks : has_item a b.items
             ≡ false = lacks_other a b.items
@@ -154,39 +156,42 @@ module _ (runs : List Run) (k at : ℕ) (r q b : Run) (is : slice_get runs k ≡
       spare = λ j s there other. spare_by j s other (one_of j s there);
     }
       where
-        long_by : (j : ℕ) (s : Run) → IsOneOf j s → length s.flags ≡ length s.items
+        long_by : (j : ℕ) (s : ListBlock) → IsOneOf j s → length s.flags ≡ length s.items
         long_by j s (inl (same, e)) =
-            ap (λ (o : Run). length o.flags) same ∙ ap length flags ∙ length-take at r.flags ∙ ap (λ n. min at n) (are.long k r is)
+            ap (λ (o : ListBlock). length o.flags) same ∙ ap length flags ∙ length-take at r.flags ∙ ap (λ n. min at n) (are.long k r is)
             ∙ sym (length-take at r.items)
-            ∙ ap length (sym items) ∙ ap (λ (o : Run). length o.items) (sym same)
+            ∙ ap length (sym items) ∙ ap (λ (o : ListBlock). length o.items) (sym same)
         long_by j s (inr (inl same)) =
-            ap (λ (o : Run). length o.flags) same ∙ ap length back_flags ∙ length-drop at r.flags ∙ ap (λ n. n - at) (are.long k r is)
+            ap (λ (o : ListBlock). length o.flags) same ∙ ap length back_flags ∙ length-drop at r.flags ∙ ap (λ n. n - at) (are.long k r is)
             ∙ sym (length-drop at r.items)
-            ∙ ap length (sym back_items) ∙ ap (λ (o : Run). length o.items) (sym same)
+            ∙ ap length (sym back_items) ∙ ap (λ (o : ListBlock). length o.items) (sym same)
         long_by j s (inr (inr (h, other, at_h))) = are.long h s at_h
 
-        spare_by : (j : ℕ) (s : Run) → (j ≡ k → ⊥) → IsOneOf j s → 0 < s.room
+        spare_by : (j : ℕ) (s : ListBlock) → (j ≡ k → ⊥) → IsOneOf j s → 0 < s.room
         spare_by j s not_last (inl (same, e)) = absurd (not_last e)
-        spare_by j s not_last (inr (inl same)) = subst (λ (o : Run). 0 < o.room) (sym same) room
+        spare_by j s not_last (inr (inl same)) = subst (λ (o : ListBlock). 0 < o.room) (sym same) room
         spare_by j s not_last (inr (inr (h, other, at_h))) = are.spare h s at_h other
 
 -- the block that was cut keeps its index
-pub room_cut : (runs : List Run) (k : ℕ) (r q b : Run) → slice_get runs k ≡ Some r → room_at (insert (set runs k q) (k + 1) b) k ≡ q.room
+pub room_cut : (runs : List ListBlock) (k : ℕ) (r q b : ListBlock) → slice_get runs k ≡ Some r
+    → room_at (insert (set runs k q) (k + 1) b) k ≡ q.room
 room_cut runs k r q b is = let next : k + 1 ≡ suc k = omega arith in ap (λ j. room_at (insert (set runs k q) j b) k) next ∙ go runs k is
   where
-    go : (runs : List Run) (k : ℕ) → slice_get runs k ≡ Some r → room_at (insert (set runs k q) (suc k) b) k ≡ q.room
+    go : (runs : List ListBlock) (k : ℕ) → slice_get runs k ≡ Some r → room_at (insert (set runs k q) (suc k) b) k ≡ q.room
     go [] k is = absurd (cc is)
     go (s ∷ runs) zero is = refl
     go (s ∷ runs) (suc k) is = go runs k is
 
 -- a list's first block
-pub blocks_first : (q : Run) (homes : List (OpId × ℕ)) (last : ℕ) → AreBlocks [] homes last → q.items ≡ [] → q.flags ≡ []
+pub blocks_first : (q : ListBlock) (homes : List (OpId × ℕ)) (last : ℕ) → AreBlocks [] homes last → q.items ≡ [] → q.flags ≡ []
     → AreBlocks (q ∷ []) homes last
 blocks_first q homes last are items flags = record {
   long = λ j s there. let same = one j s there in
-      ap (λ (o : Run). length o.flags) same ∙ ap length flags ∙ ap length (sym items) ∙ ap (λ (o : Run). length o.items) (sym same);
+      ap (λ (o : ListBlock). length o.flags) same ∙ ap length flags ∙ ap length (sym items)
+      ∙ ap (λ (o : ListBlock). length o.items) (sym same);
   at_home = record {
-    homed = λ j s there a has. absurd (true≢false (sym has ∙ ap (λ (o : Run). has_item a o.items) (one j s there) ∙ ap (has_item a) items));
+    homed = λ j s there a has. absurd
+        (true≢false (sym has ∙ ap (λ (o : ListBlock). has_item a o.items) (one j s there) ∙ ap (has_item a) items));
     only = λ a. are.at_home.only a ∙ ap (has_item a) (sym none);
   };
   apart = subst AreApart (sym none) tt;
@@ -198,12 +203,13 @@ blocks_first q homes last are items flags = record {
     none : joined (q ∷ []) ≡ []
     none = ap (λ xs. xs ++ []) items
 
-    one : (j : ℕ) (s : Run) → slice_get (q ∷ []) j ≡ Some s → s ≡ q
+    one : (j : ℕ) (s : ListBlock) → slice_get (q ∷ []) j ≡ Some s → s ≡ q
     one zero s there = sym (some_is q s there)
     one (suc j) s there = absurd (cc there)
 
 -- a block with the same items, and no less room
-pub same_list : (runs : List Run) (homes : List (OpId × ℕ)) (k : ℕ) (r q : Run) → AreBlocks runs homes k → slice_get runs k ≡ Some r
+pub same_list : (runs : List ListBlock) (homes : List (OpId × ℕ)) (k : ℕ) (r q : ListBlock) → AreBlocks runs homes k
+    → slice_get runs k ≡ Some r
     → q.number ≡ r.number → q.items ≡ r.items → q.flags ≡ r.flags → r.room ≤ q.room
     → IsSameList runs (set runs k q) homes k
 same_list runs homes k r q are is number items flags room = record {
@@ -217,7 +223,7 @@ same_list runs homes k r q are is number items flags room = record {
 }
 
 -- a list whose last block was cut
-pub cut_list : (runs : List Run) (old_homes new_homes : List (OpId × ℕ)) (k at : ℕ) (r q b : Run) → AreBlocks runs old_homes k
+pub cut_list : (runs : List ListBlock) (old_homes new_homes : List (OpId × ℕ)) (k at : ℕ) (r q b : ListBlock) → AreBlocks runs old_homes k
     → slice_get runs k ≡ Some r → q.number ≡ r.number → q.items ≡ take at r.items → q.flags ≡ take at r.flags
     → b.items ≡ drop at r.items → b.flags ≡ drop at r.flags → AreMoved b.items b.number old_homes new_homes → 0 < b.room → r.room ≤ q.room
     → IsSameList runs (insert (set runs k q) (k + 1) b) new_homes k
@@ -232,7 +238,8 @@ cut_list runs old_homes new_homes k at r q b are is number items flags back_item
 }
 
 -- the items of the back have a home
-pub have_homes : (runs : List Run) (homes : List (OpId × ℕ)) (last k at : ℕ) (r : Run) (back : List OpId) → AreBlocks runs homes last
+pub have_homes : (runs : List ListBlock) (homes : List (OpId × ℕ)) (last k at : ℕ) (r : ListBlock) (back : List OpId)
+    → AreBlocks runs homes last
     → slice_get runs k ≡ Some r → back ≡ drop at r.items → (a : OpId) → has_item a back ≡ true → is_some (find id_cmp a homes) ≡ true
 have_homes runs homes last k at r back are is behind a has =
     let mine : has_item a r.items ≡ true =
@@ -241,7 +248,7 @@ have_homes runs homes last k at r back are is behind a has =
     ap is_some (are.at_home.homed k r is a mine)
 
 -- no list stays one
-pub first_list : (q : Run) (homes : List (OpId × ℕ)) (last : ℕ) → AreBlocks [] homes last → q.items ≡ [] → q.flags ≡ []
+pub first_list : (q : ListBlock) (homes : List (OpId × ℕ)) (last : ℕ) → AreBlocks [] homes last → q.items ≡ [] → q.flags ≡ []
     → IsSameList [] (q ∷ []) homes last
 first_list q homes last are items flags = record {
   blocks = blocks_first q homes last are items flags;

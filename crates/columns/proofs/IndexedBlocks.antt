@@ -10,7 +10,7 @@ use Rattle.std.proofs.lemmas.List.{get_or_default, length_push}
 use Rattle.semantics.specs.Ids.{OpId}
 use Rattle.semantics.proofs.SetElements.{get-set_other, get-set_same}
 use Rattle.semantics.specs.Context.{has_item}
-use Rattle.columns.specs.Blocks.{AreIndexed, AreMovedOn, IsMadeAt, Run, items_before, joined}
+use Rattle.columns.specs.Blocks.{AreIndexed, AreMovedOn, IsMadeAt, ListBlock, items_before, joined}
 use Rattle.columns.proofs.Changed.{set_cases}
 use Rattle.columns.proofs.InBlock.{has_item-append}
 use Rattle.columns.proofs.Runs.{before_end}
@@ -22,7 +22,8 @@ pub read_at : (xs : List ℕ) (n : ℕ) → n < length xs → slice_get xs n ≡
 read_at xs n inside = slice_get_read xs _ n (get_or xs n 0) refl inside (get_or_default xs n 0 (get_or xs n 0) inside)
 
 -- an item that none of the first blocks has doesn't stand before the next one
-lacks_before : (runs : List Run) (a : OpId) (k : ℕ) → ((j : ℕ) (s : Run) → j < k → slice_get runs j ≡ Some s → has_item a s.items ≡ false)
+lacks_before : (runs : List ListBlock) (a : OpId) (k : ℕ)
+    → ((j : ℕ) (s : ListBlock) → j < k → slice_get runs j ≡ Some s → has_item a s.items ≡ false)
     → has_item a (items_before runs k 0) ≡ false
 lacks_before [] a k each = refl
 lacks_before (r ∷ runs) a zero each = refl
@@ -30,14 +31,14 @@ lacks_before (r ∷ runs) a (suc k) each =
     has_item-append a r.items (items_before runs k 0)
     ∙ (λ t. each 0 r (omega arith) refl t || lacks_before runs a k (λ j s below at. each (suc j) s (omega (arith, below)) at) t)
 
-module _ (runs : List Run) (indices : List ℕ) (are : AreIndexed runs indices) (home : ℕ) (a : OpId)
-    (homed : (block : ℕ) (r : Run) → slice_get runs block ≡ Some r → has_item a r.items ≡ true → r.number ≡ home) where
+module _ (runs : List ListBlock) (indices : List ℕ) (are : AreIndexed runs indices) (home : ℕ) (a : OpId)
+    (homed : (block : ℕ) (r : ListBlock) → slice_get runs block ≡ Some r → has_item a r.items ≡ true → r.number ≡ home) where
   -- the block that has the item stands at its home
-  has_at : (block : ℕ) (r : Run) → slice_get runs block ≡ Some r → has_item a r.items ≡ true → slice_get indices home ≡ Some block
+  has_at : (block : ℕ) (r : ListBlock) → slice_get runs block ≡ Some r → has_item a r.items ≡ true → slice_get indices home ≡ Some block
   has_at block r at has = ap (slice_get indices) (sym (homed block r at has)) ∙ are.indexed block r at
 
   -- no other block has it
-  pub lacks_elsewhere : (k : ℕ) → slice_get indices home ≡ Some k → (j : ℕ) (s : Run) → slice_get runs j ≡ Some s → (j ≡ k → ⊥)
+  pub lacks_elsewhere : (k : ℕ) → slice_get indices home ≡ Some k → (j : ℕ) (s : ListBlock) → slice_get runs j ≡ Some s → (j ≡ k → ⊥)
       → has_item a s.items ≡ false
   lacks_elsewhere k here j s at other = lacks_other a s.items (λ has. other (some_is j k (sym (has_at j s at has) ∙ here)))
 
@@ -47,7 +48,7 @@ module _ (runs : List Run) (indices : List ℕ) (are : AreIndexed runs indices) 
       (λ j s below at. lacks_elsewhere k here j s at (λ e. absurd (omega (arith, below, e))))
 
   -- where that one hasn't, none has
-  pub lacks_here : (k : ℕ) (r : Run) → slice_get indices home ≡ Some k → slice_get runs k ≡ Some r → has_item a r.items ≡ false
+  pub lacks_here : (k : ℕ) (r : ListBlock) → slice_get indices home ≡ Some k → slice_get runs k ≡ Some r → has_item a r.items ≡ false
       → has_item a (joined runs) ≡ false
   lacks_here k r here is lacks =
       ap (has_item a) (sym (before_end runs (length runs) 0 (omega arith)))
@@ -55,7 +56,7 @@ module _ (runs : List Run) (indices : List ℕ) (are : AreIndexed runs indices) 
       (λ j s below at. lacks_other a s.items
       (λ has. let same : j ≡ k = some_is j k (sym (has_at j s at has) ∙ here) in
       let one : s ≡ r = some_is s r (sym at ∙ ap (slice_get runs) same ∙ is) in
-      true≢false (sym has ∙ ap (λ (o : Run). has_item a o.items) one ∙ lacks)))
+      true≢false (sym has ∙ ap (λ (o : ListBlock). has_item a o.items) one ∙ lacks)))
 
   -- without a home it stands nowhere
   pub lacks_all : slice_get indices home ≡ None → has_item a (joined runs) ≡ false
@@ -64,7 +65,7 @@ module _ (runs : List Run) (indices : List ℕ) (are : AreIndexed runs indices) 
       ∙ lacks_before runs a (length runs) (λ j s below at. lacks_other a s.items (λ has. absurd (cc (sym (has_at j s at has) ∙ none))))
 
 -- a home leads to a block
-pub leads : (runs : List Run) (indices : List ℕ) → AreIndexed runs indices → (home k : ℕ) → slice_get indices home ≡ Some k
+pub leads : (runs : List ListBlock) (indices : List ℕ) → AreIndexed runs indices → (home k : ℕ) → slice_get indices home ≡ Some k
     → k < length runs
 leads runs indices are home k at =
     let within = are.within home k (slice_get_within indices home k at) in
@@ -72,13 +73,13 @@ leads runs indices are home k at =
     omega (arith, within, here)
 
 -- a block with the same number
-pub indexed_same : (runs : List Run) (indices : List ℕ) (k : ℕ) (r q : Run) → slice_get runs k ≡ Some r → q.number ≡ r.number
+pub indexed_same : (runs : List ListBlock) (indices : List ℕ) (k : ℕ) (r q : ListBlock) → slice_get runs k ≡ Some r → q.number ≡ r.number
     → AreIndexed runs indices → AreIndexed (set runs k q) indices
 indexed_same runs indices k r q is number are = record {
   beside = are.beside ∙ sym (length-set runs k q);
   within = subst (λ n. All (λ j. j < n) indices) (sym (length-set runs k q)) are.within;
   indexed = λ j s at. elim (set_cases runs k j r q s is at) [
-    | inl same ↦ ap (slice_get indices) (ap (λ (o : Run). o.number) same.1 ∙ number) ∙ are.indexed k r is ∙ ap Some (sym same.0)
+    | inl same ↦ ap (slice_get indices) (ap (λ (o : ListBlock). o.number) same.1 ∙ number) ∙ are.indexed k r is ∙ ap Some (sym same.0)
     | inr other ↦ are.indexed j s other.1
   ];
 }
@@ -184,7 +185,8 @@ module _ (old : List ℕ) (index : ℕ) (new : List ℕ) (made : IsMadeAt old in
       at_end (x ∷ xs) = at_end xs
 
 -- one more block
-pub indexed_more : (runs : List Run) (old new : List ℕ) (i : ℕ) (b : Run) → AreIndexed runs old → b.number ≡ length runs → i ≤ length runs
+pub indexed_more : (runs : List ListBlock) (old new : List ℕ) (i : ℕ) (b : ListBlock) → AreIndexed runs old → b.number ≡ length runs
+    → i ≤ length runs
     → IsMadeAt old i new → AreIndexed (insert runs i b) new
 indexed_more runs old new i b are number inside made = record {
   beside =
@@ -217,10 +219,10 @@ indexed_more runs old new i b are number inside made = record {
         omega (arith, more, at, inside)
 
     -- what stood at an index of the old blocks
-    was : (k : ℕ) (s : Run) → k < length runs → s ≡ get_or runs k s → slice_get runs k ≡ Some s
+    was : (k : ℕ) (s : ListBlock) → k < length runs → s ≡ get_or runs k s → slice_get runs k ≡ Some s
     was k s within read = slice_get_read runs _ k s refl within read
 
-    by_indexed : (j : ℕ) (s : Run) → slice_get (insert runs i b) j ≡ Some s → (j < i) ⊎ (i ≤ j) → slice_get new s.number ≡ Some j
+    by_indexed : (j : ℕ) (s : ListBlock) → slice_get (insert runs i b) j ≡ Some s → (j < i) ⊎ (i ≤ j) → slice_get new s.number ≡ Some j
     by_indexed j s at (inl before) =
         made_kept old i new made s.number j
         (are.indexed j s
@@ -247,4 +249,4 @@ indexed_more runs old new i b are number inside made = record {
         by_side (inr here) =
             let same : i ≡ j = omega (arith, here, past) in
             let is_b : s ≡ b = sym read ∙ ap (λ k. get_or (insert runs i b) k s) (sym same) ∙ get_or-insert_at runs i b s inside in
-            ap (slice_get new) (ap (λ (o : Run). o.number) is_b ∙ number ∙ sym are.beside) ∙ made_last old i new made ∙ ap Some same
+            ap (slice_get new) (ap (λ (o : ListBlock). o.number) is_b ∙ number ∙ sym are.beside) ∙ made_last old i new made ∙ ap Some same

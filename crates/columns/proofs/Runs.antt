@@ -5,23 +5,23 @@ use Rattle.std.proofs.lemmas.List.{append-nil, drop_all, take-append-drop}
 use Rattle.std.proofs.lemmas.Option.{slice_get_within}
 use Rattle.semantics.specs.Ids.{OpId}
 use Rattle.semantics.specs.Context.{has_item}
-use Rattle.columns.specs.Blocks.{Run, items_at, items_before, items_from, joined}
+use Rattle.columns.specs.Blocks.{ListBlock, items_at, items_before, items_from, joined}
 use Rattle.columns.proofs.Same.{some_is}
 use Rattle.columns.proofs.InBlock.{has_item-append}
 
 -- the items of the block at an index
-pub items_here : (runs : List Run) (k : ℕ) (r : Run) → slice_get runs k ≡ Some r → items_at runs k ≡ r.items
+pub items_here : (runs : List ListBlock) (k : ℕ) (r : ListBlock) → slice_get runs k ≡ Some r → items_at runs k ≡ r.items
 items_here [] k r is = absurd (cc is)
-items_here (s ∷ runs) zero r is = ap (λ (o : Run). o.items) (some_is s r is)
+items_here (s ∷ runs) zero r is = ap (λ (o : ListBlock). o.items) (some_is s r is)
 items_here (s ∷ runs) (suc k) r is = items_here runs k r is
 
 -- from the first position on there are all
-pub from_first : (runs : List Run) → items_from runs 0 0 ≡ joined runs
+pub from_first : (runs : List ListBlock) → items_from runs 0 0 ≡ joined runs
 from_first [] = refl
 from_first (r ∷ runs) = refl
 
 -- what stands before a position, and from it on, is all there is
-pub split_at : (runs : List Run) (k i : ℕ) → joined runs ≡ items_before runs k i ++ items_from runs k i
+pub split_at : (runs : List ListBlock) (k i : ℕ) → joined runs ≡ items_before runs k i ++ items_from runs k i
 split_at [] k i = refl
 split_at (r ∷ runs) zero i = ap (λ xs. xs ++ joined runs) (sym (take-append-drop i r.items))
     ∙ append_assoc (take i r.items) (drop i r.items) (joined runs)
@@ -29,30 +29,30 @@ split_at (r ∷ runs) (suc k) i = ap (λ xs. r.items ++ xs) (split_at runs k i)
     ∙ sym (append_assoc r.items (items_before runs k i) (items_from runs k i))
 
 -- before the first there is none
-pub before_first : (runs : List Run) → items_before runs 0 0 ≡ []
+pub before_first : (runs : List ListBlock) → items_before runs 0 0 ≡ []
 before_first [] = refl
 before_first (r ∷ runs) = refl
 
 -- past the last block
-pub before_end : (runs : List Run) (k i : ℕ) → length runs ≤ k → items_before runs k i ≡ joined runs
+pub before_end : (runs : List ListBlock) (k i : ℕ) → length runs ≤ k → items_before runs k i ≡ joined runs
 before_end [] k i past = refl
 before_end (r ∷ runs) zero i past = absurd (omega (arith, past))
 before_end (r ∷ runs) (suc k) i past = ap (λ xs. r.items ++ xs) (before_end runs k i (omega (arith, past)))
 
-pub from_end : (runs : List Run) (k i : ℕ) → length runs ≤ k → items_from runs k i ≡ []
+pub from_end : (runs : List ListBlock) (k i : ℕ) → length runs ≤ k → items_from runs k i ≡ []
 from_end [] k i past = refl
 from_end (r ∷ runs) zero i past = absurd (omega (arith, past))
 from_end (r ∷ runs) (suc k) i past = from_end runs k i (omega (arith, past))
 
 -- by the block's own items: those before it, then what stands in it
-before_by : (runs : List Run) (k i : ℕ) → k < length runs → items_before runs k i ≡ items_before runs k 0 ++ take i (items_at runs k)
+before_by : (runs : List ListBlock) (k i : ℕ) → k < length runs → items_before runs k i ≡ items_before runs k 0 ++ take i (items_at runs k)
 before_by [] k i inside = absurd (omega (arith, inside))
 before_by (r ∷ runs) zero i inside = refl
 before_by (r ∷ runs) (suc k) i inside =
     ap (λ xs. r.items ++ xs) (before_by runs k i (omega (arith, inside)))
     ∙ sym (append_assoc r.items (items_before runs k 0) (take i (items_at runs k)))
 
-before_after : (runs : List Run) (k : ℕ) → k < length runs → items_before runs (suc k) 0 ≡ items_before runs k 0 ++ items_at runs k
+before_after : (runs : List ListBlock) (k : ℕ) → k < length runs → items_before runs (suc k) 0 ≡ items_before runs k 0 ++ items_at runs k
 before_after [] k inside = absurd (omega (arith, inside))
 before_after (r ∷ []) zero inside = append-nil r.items
 before_after (r ∷ s ∷ runs) zero inside = append-nil r.items
@@ -60,12 +60,12 @@ before_after (r ∷ runs) (suc k) inside =
     ap (λ xs. r.items ++ xs) (before_after runs k (omega (arith, inside)))
     ∙ sym (append_assoc r.items (items_before runs k 0) (items_at runs k))
 
-from_by : (runs : List Run) (k i : ℕ) → k < length runs → items_from runs k i ≡ drop i (items_at runs k) ++ items_from runs (suc k) 0
+from_by : (runs : List ListBlock) (k i : ℕ) → k < length runs → items_from runs k i ≡ drop i (items_at runs k) ++ items_from runs (suc k) 0
 from_by [] k i inside = absurd (omega (arith, inside))
 from_by (r ∷ runs) zero i inside = ap (λ xs. drop i r.items ++ xs) (sym (from_first runs))
 from_by (r ∷ runs) (suc k) i inside = from_by runs k i (omega (arith, inside))
 
-module _ (runs : List Run) (k : ℕ) (r : Run) (is : slice_get runs k ≡ Some r) where
+module _ (runs : List ListBlock) (k : ℕ) (r : ListBlock) (is : slice_get runs k ≡ Some r) where
   inside : k < length runs
   inside = slice_get_within runs k r is
 

@@ -7,7 +7,7 @@ use Rattle.std.proofs.lemmas.Option.{slice_get_within}
 use Rattle.semantics.specs.Ids.{OpId, is_same_id}
 use Rattle.semantics.proofs.Orders.{id_itself, ids_from_test}
 use Rattle.semantics.specs.Context.{has_item}
-use Rattle.columns.specs.Blocks.{AreApart, Run, joined, joined_shown}
+use Rattle.columns.specs.Blocks.{AreApart, ListBlock, joined, joined_shown}
 use Rattle.columns.proofs.Same.{or_parts, some_is, turned_ids}
 use Rattle.columns.proofs.Flags.{shown_append}
 use Rattle.columns.proofs.InBlock.{has_at}
@@ -97,43 +97,43 @@ set_one f a b (x ∷ xs) (suc i) apart is =
     other false e = refl
 
 -- the flags of all blocks
-joined_flags : List Run → List Bool
+joined_flags : List ListBlock → List Bool
 joined_flags [] = []
 joined_flags (r ∷ runs) = r.flags ++ joined_flags runs
 
 -- an index in a block, as one of all items
-offset : List Run → ℕ → ℕ → ℕ
+offset : List ListBlock → ℕ → ℕ → ℕ
 offset [] k i = i
 offset (r ∷ runs) zero i = i
 offset (r ∷ runs) (suc k) i = length r.items + offset runs k i
 
-AreLong : List Run → Type 0
-AreLong runs = (k : ℕ) (r : Run) → slice_get runs k ≡ Some r → length r.flags ≡ length r.items
+AreLong : List ListBlock → Type 0
+AreLong runs = (k : ℕ) (r : ListBlock) → slice_get runs k ≡ Some r → length r.flags ≡ length r.items
 
-long_flags : (runs : List Run) → AreLong runs → length (joined_flags runs) ≡ length (joined runs)
+long_flags : (runs : List ListBlock) → AreLong runs → length (joined_flags runs) ≡ length (joined runs)
 unfolding joined_flags AreLong
 long_flags [] long = refl
 long_flags (r ∷ runs) long =
     length-append r.flags (joined_flags runs) ∙ (λ t. long 0 r refl t + long_flags runs (λ k s is. long (suc k) s is) t)
     ∙ sym (length-append r.items (joined runs))
 
-shown_is : (runs : List Run) → AreLong runs → joined_shown runs ≡ items_where_true (joined_flags runs) (joined runs)
+shown_is : (runs : List ListBlock) → AreLong runs → joined_shown runs ≡ items_where_true (joined_flags runs) (joined runs)
 unfolding joined_flags AreLong
 shown_is [] long = refl
 shown_is (r ∷ runs) long =
     ap (λ xs. items_where_true r.flags r.items ++ xs) (shown_is runs (λ k s is. long (suc k) s is))
     ∙ sym (shown_append r.flags (joined_flags runs) r.items (joined runs) (long 0 r refl))
 
-module _ (r q : Run) (i : ℕ) (a : OpId) (b : Bool) (items : q.items ≡ r.items) (flags : q.flags ≡ set r.flags i b) where
-  flags_set : (runs : List Run) (k : ℕ) → AreLong runs → slice_get runs k ≡ Some r → i < length r.items
+module _ (r q : ListBlock) (i : ℕ) (a : OpId) (b : Bool) (items : q.items ≡ r.items) (flags : q.flags ≡ set r.flags i b) where
+  flags_set : (runs : List ListBlock) (k : ℕ) → AreLong runs → slice_get runs k ≡ Some r → i < length r.items
       → joined_flags (set runs k q) ≡ set (joined_flags runs) (offset runs k i) b
   unfolding joined_flags offset AreLong
   flags_set [] k long is inside = absurd (cc is)
   flags_set (s ∷ runs) zero long is inside =
       let same = sym (some_is s r is) in
       let fits = long 0 s refl in
-      let within : i < length s.items = subst (λ (o : Run). i < length o.items) same inside in
-      ap (λ xs. xs ++ joined_flags runs) (flags ∙ ap (λ (o : Run). set o.flags i b) same)
+      let within : i < length s.items = subst (λ (o : ListBlock). i < length o.items) same inside in
+      ap (λ xs. xs ++ joined_flags runs) (flags ∙ ap (λ (o : ListBlock). set o.flags i b) same)
       ∙ sym (set-append_left s.flags (joined_flags runs) i b (omega (arith, fits, within)))
   flags_set (s ∷ runs) (suc k) long is inside =
       let fits = long 0 s refl in
@@ -143,13 +143,13 @@ module _ (r q : Run) (i : ℕ) (a : OpId) (b : Bool) (items : q.items ≡ r.item
       (set-append_right s.flags (joined_flags runs) (length s.items) (length s.items + offset runs k i) b fits (omega arith)
       ∙ ap (λ n. s.flags ++ set (joined_flags runs) n b) rest)
 
-  item_there : (runs : List Run) (k : ℕ) → slice_get runs k ≡ Some r → slice_get r.items i ≡ Some a
+  item_there : (runs : List ListBlock) (k : ℕ) → slice_get runs k ≡ Some r → slice_get r.items i ≡ Some a
       → slice_get (joined runs) (offset runs k i) ≡ Some a
   unfolding offset
   item_there [] k is there = absurd (cc is)
   item_there (s ∷ runs) zero is there =
       let same = sym (some_is s r is) in
-      let here : slice_get s.items i ≡ Some a = ap (λ (o : Run). slice_get o.items i) (sym same) ∙ there in
+      let here : slice_get s.items i ≡ Some a = ap (λ (o : ListBlock). slice_get o.items i) (sym same) ∙ there in
       get_in s.items (joined runs) i (slice_get_within s.items i a here) ∙ here
   item_there (s ∷ runs) (suc k) is there =
       let rest : length s.items + offset runs k i - length s.items ≡ offset runs k i = omega arith in
@@ -157,9 +157,9 @@ module _ (r q : Run) (i : ℕ) (a : OpId) (b : Bool) (items : q.items ≡ r.item
       ∙ item_there runs k is there
 
   -- the shown ones are those of the test with another answer
-  pub shown_changed : (runs : List Run) (k : ℕ) (f : OpId → Bool)
-      → ((j : ℕ) (s : Run) → slice_get runs j ≡ Some s → length s.flags ≡ length s.items)
-      → ((j : ℕ) (s : Run) → slice_get (set runs k q) j ≡ Some s → length s.flags ≡ length s.items)
+  pub shown_changed : (runs : List ListBlock) (k : ℕ) (f : OpId → Bool)
+      → ((j : ℕ) (s : ListBlock) → slice_get runs j ≡ Some s → length s.flags ≡ length s.items)
+      → ((j : ℕ) (s : ListBlock) → slice_get (set runs k q) j ≡ Some s → length s.flags ≡ length s.items)
       → AreApart (joined runs) → joined (set runs k q) ≡ joined runs → slice_get runs k ≡ Some r → slice_get r.items i ≡ Some a
       → joined_shown runs ≡ filter f (joined runs)
       → joined_shown (set runs k q) ≡ filter (λ x. cond (is_same_id x a) b (f x)) (joined runs)

@@ -11,21 +11,22 @@ use Rattle.std.proofs.lemmas.Option.{get_or_from_slice_get}
 use Rattle.semantics.specs.Ids.{OpId, id_cmp, is_same_id}
 use Rattle.semantics.specs.Context.{insert_after, skip, has_item}
 use Rattle.semantics.proofs.Orders.{id_itself}
-use Rattle.columns.specs.Blocks.{AreHomes, GoesIn, IsBehind, IsFirstSmaller, Run, StandsAt, items_at, items_before, items_from, joined}
+use Rattle.columns.specs.Blocks.{AreHomes, GoesIn, IsBehind, IsFirstSmaller, ListBlock, StandsAt, items_at, items_before, items_from}
+use Rattle.columns.specs.Blocks.{joined}
 use Rattle.columns.specs.Blocks.{joined_shown}
 use Rattle.columns.proofs.InBlock.{has_item-append, taken, dropped}
 use Rattle.columns.proofs.Runs.{before_end, before_first, before_in, before_next, from_end, from_first, from_in, from_past, items_here}
 use Rattle.columns.proofs.Runs.{split_at}
 
 -- Where a new item comes in, it came to another position.
-module _ (runs : List Run) (a : OpId) (from_block from_index : ℕ) where
+module _ (runs : List ListBlock) (a : OpId) (from_block from_index : ℕ) where
   pub record Came (block index : ℕ) : Type 0 where
     pub within : block < length runs → index ≤ length (items_at runs block)
     pub same : items_before runs from_block from_index ++ skip a (items_from runs from_block from_index)
         ≡ items_before runs block index ++ skip a (items_from runs block index)
 
   -- as the block has it
-  module _ (k i : ℕ) (r : Run) (is : slice_get runs k ≡ Some r) (came : Came k i) where
+  module _ (k i : ℕ) (r : ListBlock) (is : slice_get runs k ≡ Some r) (came : Came k i) where
     in_block : items_before runs from_block from_index ++ skip a (items_from runs from_block from_index)
         ≡ items_before runs k 0 ++ (take i r.items ++ skip a (drop i r.items ++ items_from runs (k + 1) 0))
     in_block =
@@ -53,7 +54,7 @@ module _ (runs : List Run) (a : OpId) (from_block from_index : ℕ) where
     }
 
   -- past the last block, which is the end of the last block
-  pub come_out : (k i l : ℕ) (r : Run) → length runs ≤ k → slice_get runs l ≡ Some r → length runs ≡ l + 1 → Came k i
+  pub come_out : (k i l : ℕ) (r : ListBlock) → length runs ≤ k → slice_get runs l ≡ Some r → length runs ≡ l + 1 → Came k i
       → GoesIn runs a from_block from_index l (length r.items)
   come_out k i l r past is last came =
       let none : items_from runs l (length r.items) ≡ [] = from_past runs l r is (length r.items) (omega arith)
@@ -81,7 +82,7 @@ insert_behind p a (x ∷ xs) ys absent = at_test (is_same_id p x) refl (insert_b
         ∙ ap (λ zs. x ∷ zs) (rest absent)
 
 -- behind the head
-pub behind_head : (runs : List Run) → IsBehind runs None 0 0
+pub behind_head : (runs : List ListBlock) → IsBehind runs None 0 0
 behind_head runs = record {
   inserts = λ a. sym (λ t. before_first runs t ++ skip a (from_first runs t));
   within = λ inside. omega arith;
@@ -89,7 +90,7 @@ behind_head runs = record {
 }
 
 -- behind an item
-pub behind_item : (runs : List Run) (p : OpId) (k i : ℕ) (r : Run) → slice_get runs k ≡ Some r → StandsAt runs p k i
+pub behind_item : (runs : List ListBlock) (p : OpId) (k i : ℕ) (r : ListBlock) → slice_get runs k ≡ Some r → StandsAt runs p k i
     → IsBehind runs (Some p) k (i + 1)
 behind_item runs p k i r is at =
     let here = items_here runs k r is in
@@ -113,7 +114,7 @@ behind_item runs p k i r is at =
     }
 
 -- an id without a home is no item
-pub homeless : (runs : List Run) (homes : List (OpId × ℕ)) (a : OpId) → AreHomes runs homes → find id_cmp a homes ≡ None
+pub homeless : (runs : List ListBlock) (homes : List (OpId × ℕ)) (a : OpId) → AreHomes runs homes → find id_cmp a homes ≡ None
     → has_item a (joined runs) ≡ false
 homeless runs homes a are none = sym (are.only a) ∙ sym (is_some-find id_cmp a homes) ∙ ap is_some none
 
@@ -128,7 +129,7 @@ get_past [] ys i past = ap (slice_get ys) (omega arith)
 get_past (x ∷ xs) ys zero past = absurd (omega (arith, past))
 get_past (x ∷ xs) ys (suc i) past = get_past xs ys i (omega (arith, past)) ∙ ap (slice_get ys) (omega arith)
 
-module _ (runs : List Run) (k : ℕ) (r : Run) (is : slice_get runs k ≡ Some r) (left : ℕ) where
+module _ (runs : List ListBlock) (k : ℕ) (r : ListBlock) (is : slice_get runs k ≡ Some r) (left : ℕ) where
   next_run : drop k runs ≡ r ∷ drop (k + 1) runs
   next_run =
       let next : suc k ≡ k + 1 = omega arith in
@@ -159,15 +160,15 @@ lacks_other a items h = at_test (has_item a items) refl
     at_test false e = refl
 
 -- the run at which an item stands
-pub record RunAt (runs : List Run) (a : OpId) (k i : ℕ) : Type 0 where
-  pub run : Run
+pub record RunAt (runs : List ListBlock) (a : OpId) (k i : ℕ) : Type 0 where
+  pub run : ListBlock
   pub is : slice_get runs k ≡ Some run
   pub inside : i < length run.items
 
-pub run_at : (runs : List Run) (a : OpId) (k i : ℕ) → StandsAt runs a k i → RunAt runs a k i
+pub run_at : (runs : List ListBlock) (a : OpId) (k i : ℕ) → StandsAt runs a k i → RunAt runs a k i
 run_at runs a k i at = there runs k at.inside at.there
   where
-    there : (runs : List Run) (k : ℕ) → k < length runs → slice_get (items_at runs k) i ≡ Some a → RunAt runs a k i
+    there : (runs : List ListBlock) (k : ℕ) → k < length runs → slice_get (items_at runs k) i ≡ Some a → RunAt runs a k i
     there [] k inside is = absurd (omega (arith, inside))
     there (r ∷ runs) zero inside is = record { run = r; is = refl; inside = slice_get_within r.items i a is }
     there (r ∷ runs) (suc k) inside is =

@@ -9,7 +9,7 @@ use Rattle.columns.specs.Rank.{has_key, keys_of}
 use Rattle.columns.specs.declared.walks.Position.{Position}
 
 -- a block
-pub record Run : Type 0 where
+pub record ListBlock : Type 0 where
   -- by which its items find it
   pub number : ℕ
   -- in list order
@@ -20,23 +20,23 @@ pub record Run : Type 0 where
   pub room : ℕ
 
 -- the items of all blocks
-abbrev pub joined : List Run → List OpId
+abbrev pub joined : List ListBlock → List OpId
 joined [] = []
 joined (r ∷ rs) = r.items ++ joined rs
 
 -- those of them that are shown
-abbrev pub joined_shown : List Run → List OpId
+abbrev pub joined_shown : List ListBlock → List OpId
 joined_shown [] = []
 joined_shown (r ∷ rs) = items_where_true r.flags r.items ++ joined_shown rs
 
 -- the items before a position, which is that of a block and an index in it
-abbrev pub items_before : List Run → ℕ → ℕ → List OpId
+abbrev pub items_before : List ListBlock → ℕ → ℕ → List OpId
 items_before [] block index = []
 items_before (r ∷ rs) zero index = take index r.items
 items_before (r ∷ rs) (suc block) index = r.items ++ items_before rs block index
 
 -- the items from a position on
-abbrev pub items_from : List Run → ℕ → ℕ → List OpId
+abbrev pub items_from : List ListBlock → ℕ → ℕ → List OpId
 items_from [] block index = []
 items_from (r ∷ rs) zero index = drop index r.items ++ joined rs
 items_from (r ∷ rs) (suc block) index = items_from rs block index
@@ -78,34 +78,34 @@ AreApart [] = Unit {0}
 AreApart (a ∷ rest) = (has_item a rest ≡ false) × AreApart rest
 
 -- each item has the number of its block as its home
-abbrev pub AreHomed : List (OpId × ℕ) → List Run → Type 0
-AreHomed homes runs = (block : ℕ) (r : Run) → slice_get runs block ≡ Some r → (a : OpId) → has_item a r.items ≡ true
+abbrev pub AreHomed : List (OpId × ℕ) → List ListBlock → Type 0
+AreHomed homes runs = (block : ℕ) (r : ListBlock) → slice_get runs block ≡ Some r → (a : OpId) → has_item a r.items ≡ true
     → find id_cmp a homes ≡ Some r.number
 
 -- the items have their homes, and no other id has one
-pub record AreHomes (runs : List Run) (homes : List (OpId × ℕ)) : Type 0 where
+pub record AreHomes (runs : List ListBlock) (homes : List (OpId × ℕ)) : Type 0 where
   pub homed : AreHomed homes runs
   pub only : (a : OpId) → has_key id_cmp a (keys_of homes) ≡ has_item a (joined runs)
 
 -- for how many more items the block has room
-abbrev pub room_at : List Run → ℕ → ℕ
+abbrev pub room_at : List ListBlock → ℕ → ℕ
 room_at [] block = 0
 room_at (r ∷ rs) zero = r.room
 room_at (r ∷ rs) (suc block) = room_at rs block
 
 -- the items of a block
-abbrev pub items_at : List Run → ℕ → List OpId
+abbrev pub items_at : List ListBlock → ℕ → List OpId
 items_at [] block = []
 items_at (r ∷ rs) zero = r.items
 items_at (r ∷ rs) (suc block) = items_at rs block
 
 -- blocks of different items, with their homes; the last one written to may be full, and no other one
-pub record AreBlocks (runs : List Run) (homes : List (OpId × ℕ)) (last : ℕ) : Type 0 where
-  pub long : (block : ℕ) (r : Run) → slice_get runs block ≡ Some r → length r.flags ≡ length r.items
+pub record AreBlocks (runs : List ListBlock) (homes : List (OpId × ℕ)) (last : ℕ) : Type 0 where
+  pub long : (block : ℕ) (r : ListBlock) → slice_get runs block ≡ Some r → length r.flags ≡ length r.items
   pub at_home : AreHomes runs homes
   pub apart : AreApart (joined runs)
   pub within : last ≤ length runs - 1
-  pub spare : (block : ℕ) (r : Run) → slice_get runs block ≡ Some r → block ≢ last → 0 < r.room
+  pub spare : (block : ℕ) (r : ListBlock) → slice_get runs block ≡ Some r → block ≢ last → 0 < r.room
 
 -- the indices of blocks by their numbers, and for how many more there is room
 pub record Indices : Type 0 where
@@ -113,10 +113,10 @@ pub record Indices : Type 0 where
   pub room : ℕ
 
 -- each block's index stands at its number, and there is no other number
-pub record AreIndexed (runs : List Run) (indices : List ℕ) : Type 0 where
+pub record AreIndexed (runs : List ListBlock) (indices : List ℕ) : Type 0 where
   pub beside : length indices ≡ length runs
   pub within : All (λ k. k < length runs) indices
-  pub indexed : (block : ℕ) (r : Run) → slice_get runs block ≡ Some r → slice_get indices r.number ≡ Some block
+  pub indexed : (block : ℕ) (r : ListBlock) → slice_get runs block ≡ Some r → slice_get indices r.number ≡ Some block
 
 -- a block came in at this index: what stood before it stays, and the others stand one further
 pub record AreMovedOn (old : List ℕ) (index : ℕ) (new : List ℕ) : Type 0 where
@@ -131,25 +131,25 @@ pub record IsMadeAt (old : List ℕ) (index : ℕ) (new : List ℕ) : Type 0 whe
   pub made : new ≡ moved ++ index ∷ []
 
 -- a stands there, and not before
-pub record StandsAt (runs : List Run) (a : OpId) (block index : ℕ) : Type 0 where
+pub record StandsAt (runs : List ListBlock) (a : OpId) (block index : ℕ) : Type 0 where
   pub inside : block < length runs
   pub there : slice_get (items_at runs block) index ≡ Some a
   pub first : has_item a (items_before runs block 0) ≡ false
   pub first_in : has_item a (take index (items_at runs block)) ≡ false
 
 -- the position of an item, if it is one
-abbrev pub IsFound : List Run → OpId → Option Position → Type 0
+abbrev pub IsFound : List ListBlock → OpId → Option Position → Type 0
 IsFound runs a None = has_item a (joined runs) ≡ false
 IsFound runs a (Some at) = StandsAt runs a at.block at.index
 
 -- what goes in after an item, or after the head, comes in at this position
-pub record IsBehind (runs : List Run) (item : Option OpId) (block index : ℕ) : Type 0 where
+pub record IsBehind (runs : List ListBlock) (item : Option OpId) (block index : ℕ) : Type 0 where
   pub inserts : (a : OpId) → insert_after item a (joined runs) ≡ items_before runs block index ++ skip a (items_from runs block index)
   pub within : block < length runs → index ≤ length (items_at runs block)
   pub inside : 0 < length runs → block < length runs
 
 -- a goes to this position where it comes in at the other one
-pub record GoesIn (runs : List Run) (a : OpId) (from_block from_index block index : ℕ) : Type 0 where
+pub record GoesIn (runs : List ListBlock) (a : OpId) (from_block from_index block index : ℕ) : Type 0 where
   pub inside : block < length runs
   pub within : index ≤ length (items_at runs block)
   pub same : items_before runs from_block from_index ++ skip a (items_from runs from_block from_index)
@@ -160,7 +160,7 @@ abbrev pub AreMoved : List OpId → ℕ → List (OpId × ℕ) → List (OpId ×
 AreMoved items number old new = (a : OpId) → find id_cmp a new ≡ cond (has_item a items) (Some number) (find id_cmp a old)
 
 -- the same list, with no less room in the last block
-pub record IsSameList (old new : List Run) (homes : List (OpId × ℕ)) (last : ℕ) : Type 0 where
+pub record IsSameList (old new : List ListBlock) (homes : List (OpId × ℕ)) (last : ℕ) : Type 0 where
   pub blocks : AreBlocks new homes last
   pub items : joined new ≡ joined old
   pub shown : joined_shown new ≡ joined_shown old

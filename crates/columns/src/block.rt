@@ -29,9 +29,9 @@ pub(crate) struct Block {
 
 impl Model for Block {
     ghost use Rattle.std.specs.Prelude.{◌-◌, min, vec_len, vec_capacity};
-    ghost use Rattle.columns.specs.Blocks.{IsBlock, Run};
+    ghost use Rattle.columns.specs.Blocks.{IsBlock, ListBlock};
 
-    ghost Value = { Run };
+    ghost Value = { ListBlock };
 
     ghost view = { λ b. record {
       number = b.number;

@@ -2,7 +2,8 @@
 
 ghost use Rattle.std.specs.Prelude.{◌≡◌, ◌<◌, ◌≤◌, ℕ, length, Some, true, false, slice_get, IfOk, MatchOption};
 ghost use Rattle.semantics.specs.Context.{has_item, has_position};
-ghost use Rattle.columns.specs.Blocks.{AreApart, AreIndexed, AreHomes, GoesIn, IsBehind, IsFound, Run, items_at, joined, joined_shown};
+ghost use Rattle.columns.specs.Blocks.{AreApart, AreIndexed, AreHomes, GoesIn, IsBehind, IsFound, ListBlock, items_at, joined};
+ghost use Rattle.columns.specs.Blocks.{joined_shown};
 
 use crate::block::Block;
 use crate::block_indices::BlockIndices;
@@ -27,7 +28,7 @@ pub(crate) fn find(
 ) -> Option<Position>
     requires apart { AreApart (joined blocks.now) }
     requires indexed { AreIndexed blocks.now indices.now.by_number }
-    requires home { (block : ℕ) (r : Run) → slice_get blocks.now block ≡ Some r → has_item id.now r.items ≡ true → r.number ≡ home }
+    requires home { (block : ℕ) (r : ListBlock) → slice_get blocks.now block ≡ Some r → has_item id.now r.items ≡ true → r.number ≡ home }
     ensures { IsFound blocks.now id.now result }
 {
     let block = indices.of(home)?;

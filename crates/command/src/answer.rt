@@ -1,7 +1,7 @@
 //! Answers: by its type each is legal for the item that it names, in the history of its notice.
 
 ghost use Rattle.std.specs.Prelude.{◌≡◌, Some, None, MatchOption};
-ghost use Rattle.semantics.specs.Receipts.{IsAnswer};
+ghost use Rattle.semantics.specs.PeerAnswers.{IsAnswer};
 ghost use Rattle.items.specs.Meanings.{reply_of, submitted_of};
 
 use items::{Item, Reply};
@@ -28,7 +28,7 @@ impl<N: EngineName> Model for Answer<N> {
     ghost use Rattle.std.specs.Prelude.{IfSome, option_map};
     ghost use Rattle.std.specs.Coded.{codes};
     ghost use Rattle.semantics.specs.Codes.{coded_element};
-    ghost use Rattle.semantics.specs.Receipts.{IsAnswer};
+    ghost use Rattle.semantics.specs.PeerAnswers.{IsAnswer};
     ghost use Rattle.items.specs.Meanings.{reply_of, submitted_of};
     ghost use Rattle.command.specs.Answers.{Answered};
 

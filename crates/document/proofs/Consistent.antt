@@ -8,7 +8,7 @@ use Rattle.semantics.specs.LegalHistory.{greatest_of}
 use Rattle.semantics.specs.Vectors.{greatest}
 use Rattle.semantics.specs.NamedIds.{vector_of}
 use Rattle.semantics.specs.Tables.{by_table, component, greatest_in}
-use Rattle.semantics.specs.Entries.{Entry, applied, stamped_in, stamped_of}
+use Rattle.semantics.specs.Entries.{Entry, applied, stamped_in, stamped_entries}
 use Rattle.semantics.proofs.AppliedVectors.{at-vector_of, canonical-vector_of, legal_counters, greatest-vector_of, greatest_within}
 use Rattle.semantics.proofs.CanonicalVectors.{same_vectors}
 use Rattle.semantics.proofs.NamedOperations.{legal}
@@ -74,7 +74,7 @@ fits table column G t s h may = subst (λ C. FitsIn C s.id (slot_of s.mutation s
       by : (o : Option (Element × Option OpId)) → slot_of s.mutation s.place ≡ o → FitsIn (doc (applied G)) s.id o
       by None is = tt
       by (Some slot) is = (
-        prev_there (applied G) (operation_after (applied G) s) (legal (stamped_of G) h.legal) may.1 slot.0 slot.1 is,
+        prev_there (applied G) (operation_after (applied G) s) (legal (stamped_entries G) h.legal) may.1 slot.0 slot.1 is,
         fresh (has_item s.id ((doc (applied G)).order slot.0)) refl (item_among (applied G) slot.0 s.id),
       )
         where
@@ -88,7 +88,7 @@ module _ (table column : List ℕ) (G : List Entry) (t : Planted) (h : IsConsist
   pub column_is_vector : by_table table column ≡ vector_of (applied G)
   column_is_vector =
       same_vectors (by_table table column) (vector_of (applied G)) (canonical-by_table table column)
-      (canonical-vector_of (applied G) (legal_counters (applied G) (legal (stamped_of G) h.legal)))
+      (canonical-vector_of (applied G) (legal_counters (applied G) (legal (stamped_entries G) h.legal)))
       (λ p. at-by_table table column h.distinct p ∙ h.greatest p ∙ sym (at-vector_of (applied G) p))
 
   pub greatest_of_column : greatest_in column ≡ greatest_of (λ a. true) (applied G)
@@ -99,9 +99,9 @@ module _ (table column : List ℕ) (G : List Entry) (t : Planted) (h : IsConsist
 
   pub column_within : greatest_in column ≤ length G
   column_within =
-      let n = greatest_within (applied G) (legal (stamped_of G) h.legal) in
+      let n = greatest_within (applied G) (legal (stamped_entries G) h.legal) in
       let w = length-applied G in
       omega (arith, greatest_of_column, n, w)
 
   pub answer_is_view : (q : Question) → document_answer (applied G) q ≡ view (applied G) q
-  answer_is_view q = document_is_view (applied G) (legal (stamped_of G) h.legal) q
+  answer_is_view q = document_is_view (applied G) (legal (stamped_entries G) h.legal) q

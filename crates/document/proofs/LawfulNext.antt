@@ -8,7 +8,7 @@ use Rattle.ids.specs.Members.{is_member}
 use Rattle.semantics.specs.Stamped.{Stamped, IsLegalStamped, MayFollow}
 use Rattle.semantics.specs.Faults.{alone_fault, fault_of, is_ready}
 use Rattle.semantics.specs.Making.{is_full}
-use Rattle.semantics.specs.Entries.{Entry as TheEntry, IsEntryHistory, applied, stamped_in, stamped_of as stamped_entries}
+use Rattle.semantics.specs.Entries.{Entry as TheEntry, IsEntryHistory, applied, stamped_in, stamped_entries}
 use Rattle.semantics.proofs.VectorCounters.{ready-from}
 use Rattle.semantics.proofs.NamedOperations.{legal, ready_where_follows}
 use Rattle.semantics.proofs.FollowsFaultless.{no_fault_where_follows}
@@ -16,7 +16,7 @@ use Rattle.semantics.proofs.EntryHistories.{entries_legal, length-applied}
 use Rattle.semantics.proofs.LawfulAlone.{no_fault_alone}
 use Rattle.operation.specs.declared.command.Entry.{Entry}
 use Rattle.operation.specs.declared.op.Op.{Op}
-use Rattle.operation.specs.Alone.{fault_alone}
+use Rattle.operation.specs.Alone.{alone_fault_of_op}
 use Rattle.operation.specs.Meanings.{entry_of, op_in, stamped_of}
 use Rattle.operation.proofs.StandingAlone.{stamped_same}
 use Rattle.oplog.specs.Logs.{AreOfMembers}
@@ -27,7 +27,7 @@ not_full : (G : List TheEntry) → is_full G ≡ false → length G < 1048576
 not_full G h = leb-false 1048576 (length G) h
 
 none_alone : (ps : List ℕ) (G : List TheEntry) (o : Op) → IsLegalStamped (stamped_entries G) → is_full G ≡ false → AreOfMembers ps G
-    → is_member ps o.id.replica ≡ true → length o.deps ≡ length ps → MayFollow (applied G) (stamped_of ps o) → fault_alone ps o ≡ None
+    → is_member ps o.id.replica ≡ true → length o.deps ≡ length ps → MayFollow (applied G) (stamped_of ps o) → alone_fault_of_op ps o ≡ None
 none_alone ps G o l room all own width may =
     let n : length (applied G) < 1048576 = let few = not_full G room in let same = length-applied G in omega arith in
     ap (λ b. cond b (alone_fault ps (stamped_of ps o)) (Some UnknownReplica)) (eq-eqb (length o.deps) (length ps) width)
@@ -43,8 +43,8 @@ lawful_next own ps G e h room all member width =
     let may : MayFollow (applied G) s = subst (λ (t : Stamped). MayFollow (applied G) t) (stamped_same ps e) l.1 in
     let mine : is_member ps (op_in e).id.replica
     ≡ true = subst (λ (t : Stamped). is_member ps t.id.replica ≡ true) (stamped_same ps e) member in
-    and_from (is_none (fault_alone ps (op_in e)) && is_ready (applied G) s) (is_none (fault_of (stamped_entries G) s))
-    (and_from (is_none (fault_alone ps (op_in e))) (is_ready (applied G) s)
+    and_from (is_none (alone_fault_of_op ps (op_in e)) && is_ready (applied G) s) (is_none (fault_of (stamped_entries G) s))
+    (and_from (is_none (alone_fault_of_op ps (op_in e))) (is_ready (applied G) s)
     (ap (λ (f : Option Refusal). is_none f) (none_alone ps G (op_in e) l.0 room all mine width may))
     (ready-from (applied G) s (ready_where_follows may)))
     (ap (λ (f : Option Refusal). is_none f) (no_fault_where_follows (stamped_entries G) s l.0 may))

@@ -6,7 +6,7 @@ use Rattle.semantics.specs.Ids.{OpId, is_same_id}
 use Rattle.semantics.specs.LegalHistory.{has_id}
 use Rattle.semantics.specs.Vectors.{Vector, at, is_at_most}
 use Rattle.semantics.specs.Stamped.{IsLegalStamped, operation_after}
-use Rattle.semantics.specs.Entries.{Entry, applied, entry_at, stamped_in, stamped_of}
+use Rattle.semantics.specs.Entries.{Entry, applied, entry_at, stamped_in, stamped_entries}
 use Rattle.semantics.specs.Faults.{is_open}
 use Rattle.semantics.proofs.AbsentIds.{fresh}
 use Rattle.semantics.proofs.LegalFacts.{counter_pos}
@@ -50,31 +50,31 @@ opens_later e G v a other =
 
 -- where an operation that the vector names opens it, it is open
 pub opened : (G : List Entry) (v : Vector) (a : OpId) → a.counter ≡ at v a.replica → opens G v (Some a) ≡ true
-    → is_open (stamped_of G) v ≡ true
+    → is_open (stamped_entries G) v ≡ true
 opened [] v a named h = absurd (true≢false (sym h))
 opened (e ∷ G) v a named h = by (is_same_id (stamped_in e).id a) refl (opened G v a named)
   where
-    by : (b : Bool) → is_same_id (stamped_in e).id a ≡ b → (opens G v (Some a) ≡ true → is_open (stamped_of G) v ≡ true)
-        → is_open (stamped_of (e ∷ G)) v ≡ true
+    by : (b : Bool) → is_same_id (stamped_in e).id a ≡ b → (opens G v (Some a) ≡ true → is_open (stamped_entries G) v ≡ true)
+        → is_open (stamped_entries (e ∷ G)) v ≡ true
     by true same rest =
         or_left (((stamped_in e).id.counter == at v (stamped_in e).id.replica) && not (is_at_most (stamped_in e).vector v))
-        (is_open (stamped_of G) v)
+        (is_open (stamped_entries G) v)
         (and_from ((stamped_in e).id.counter == at v (stamped_in e).id.replica) (not (is_at_most (stamped_in e).vector v))
         (eq-eqb (stamped_in e).id.counter (at v (stamped_in e).id.replica)
         (subst (λ (x : OpId). x.counter ≡ at v x.replica) (sym (ids_from_test (stamped_in e).id a same)) named))
         (sym (opens_first e G v a same) ∙ h))
     by false other rest =
         or_right (((stamped_in e).id.counter == at v (stamped_in e).id.replica) && not (is_at_most (stamped_in e).vector v))
-        (is_open (stamped_of G) v)
+        (is_open (stamped_entries G) v)
         (rest (sym (opens_later e G v a other) ∙ h))
 
 -- where none that it names does, it isn't
-pub not_opened : (G : List Entry) (v : Vector) → IsLegalStamped (stamped_of G)
-    → ((a : OpId) → a.counter ≢ 0 → a.counter ≡ at v a.replica → opens G v (Some a) ≡ false) → is_open (stamped_of G) v ≡ false
+pub not_opened : (G : List Entry) (v : Vector) → IsLegalStamped (stamped_entries G)
+    → ((a : OpId) → a.counter ≢ 0 → a.counter ≡ at v a.replica → opens G v (Some a) ≡ false) → is_open (stamped_entries G) v ≡ false
 not_opened [] v l none = refl
 not_opened (e ∷ G) v l none =
     or_from (((stamped_in e).id.counter == at v (stamped_in e).id.replica) && not (is_at_most (stamped_in e).vector v))
-    (is_open (stamped_of G) v) here (not_opened G v l.0 before)
+    (is_open (stamped_entries G) v) here (not_opened G v l.0 before)
   where
     here : (((stamped_in e).id.counter == at v (stamped_in e).id.replica) && not (is_at_most (stamped_in e).vector v)) ≡ false
     here = elim (cases_eq (stamped_in e).id.counter (at v (stamped_in e).id.replica)) [
@@ -82,7 +82,7 @@ not_opened (e ∷ G) v l none =
           and_right ((stamped_in e).id.counter == at v (stamped_in e).id.replica) (not (is_at_most (stamped_in e).vector v))
           (sym (opens_first e G v (stamped_in e).id (id_itself (stamped_in e).id))
           ∙ none (stamped_in e).id
-          (λ z. (let pos = counter_pos (applied (e ∷ G)) (legal (stamped_of (e ∷ G)) l) (operation_after (applied G) (stamped_in e))
+          (λ z. (let pos = counter_pos (applied (e ∷ G)) (legal (stamped_entries (e ∷ G)) l) (operation_after (applied G) (stamped_in e))
           (inl refl) in
           omega arith))
           named)

@@ -15,8 +15,8 @@ use Rattle.semantics.specs.Vectors.{Vector, at}
 use Rattle.semantics.specs.NamedIds.{greatest_counter}
 use Rattle.semantics.specs.Tables.{by_table, component}
 use Rattle.semantics.specs.Stamped.{Stamped, IsLegalStamped, MayFollow}
-use Rattle.semantics.specs.Entries.{Entry, applied, stamped_of}
-use Rattle.semantics.specs.Faults.{StandsAlone, breaks_chain, fault_of, first_fault, is_missing, is_open, items_stand, names_nothing}
+use Rattle.semantics.specs.Entries.{Entry, applied, stamped_entries}
+use Rattle.semantics.specs.Faults.{StandsAlone, breaks_chain, fault_of, first_fault, is_missing, is_open, items_inserted, names_nothing}
 use Rattle.semantics.proofs.FaultlessFollows.{follows_without_fault}
 use Rattle.semantics.proofs.FollowsFaultless.{no_fault_where_follows}
 use Rattle.semantics.proofs.TableVectors.{at-by_table}
@@ -30,7 +30,7 @@ use Rattle.document.proofs.NamedOfColumns.{component_there, named_counter, named
 use Rattle.document.proofs.PositionsOfIds.{not_opened, opened}
 
 -- each item on the way to an element of a legal history's document stands in its list where it was inserted there
-pub items_where_inserted : (H : List Operation) → IsLegal H → (e : Element) → items_in_tree (doc H) e ≡ items_stand H e
+pub items_where_inserted : (H : List Operation) → IsLegal H → (e : Element) → items_in_tree (doc H) e ≡ items_inserted H e
 items_where_inserted H legal Doc = refl
 items_where_inserted H legal (Field e n) = items_where_inserted H legal e
 items_where_inserted H legal (Item l a) = λ t. items_inserted H legal l a t && items_where_inserted H legal l t
@@ -39,15 +39,16 @@ items_where_inserted H legal (Item l a) = λ t. items_inserted H legal l a t && 
 pub fault-tested : (G : List Entry) (s : Stamped) (a b c d : Bool)
     → breaks_chain (applied G) s ≡ a
     → names_nothing (applied G) s ≡ b
-    → is_open (stamped_of G) s.vector ≡ c
-    → items_stand (applied G) (element_of s.place) ≡ d
-    → fault_of (stamped_of G) s ≡ first_fault a b c (not d)
+    → is_open (stamped_entries G) s.vector ≡ c
+    → items_inserted (applied G) (element_of s.place) ≡ d
+    → fault_of (stamped_entries G) s ≡ first_fault a b c (not d)
 fault-tested G s a b c d chain names closed stands = λ t. first_fault (chain t) (names t) (closed t) (not (stands t))
 
 -- the items that the tree was asked for
-pub items-tested : (G : List Entry) (t : Planted) (e : Element) (b : Bool) → IsLegalStamped (stamped_of G) → document t ≡ doc (applied G)
-    → items_in_tree (document t) e ≡ b → items_stand (applied G) e ≡ b
-items-tested G t e b kept content is = sym (items_where_inserted (applied G) (legal (stamped_of G) kept) e)
+pub items-tested : (G : List Entry) (t : Planted) (e : Element) (b : Bool) → IsLegalStamped (stamped_entries G)
+    → document t ≡ doc (applied G)
+    → items_in_tree (document t) e ≡ b → items_inserted (applied G) e ≡ b
+items-tested G t e b kept content is = sym (items_where_inserted (applied G) (legal (stamped_entries G) kept) e)
     ∙ ap (λ C. items_in_tree C e) (sym content) ∙ is
 
 module _ (ps cs : List ℕ) (distinct : AreDistinct ps) (width : length cs ≡ length ps) where
@@ -101,15 +102,16 @@ module _ (ps cs : List ℕ) (distinct : AreDistinct ps) (width : length cs ≡ l
   ])
 
   -- so with what opens the vector
-  pub open_there : (G : List Entry) (i : ℕ) → opens G named (named_at ps cs i) ≡ true → is_open (stamped_of G) named ≡ true
+  pub open_there : (G : List Entry) (i : ℕ) → opens G named (named_at ps cs i) ≡ true → is_open (stamped_entries G) named ≡ true
   open_there G i h = by (named_at ps cs i) refl h
     where
-      by : (o : Option OpId) → named_at ps cs i ≡ o → opens G named o ≡ true → is_open (stamped_of G) named ≡ true
+      by : (o : Option OpId) → named_at ps cs i ≡ o → opens G named o ≡ true → is_open (stamped_entries G) named ≡ true
       by None is u = absurd (true≢false (sym u))
       by (Some a) is u = opened G named a (named_id i a is).0 u
 
-  pub none_opens : (G : List Entry) → IsLegalStamped (stamped_of G) → ((i : ℕ) → i < length ps → opens G named (named_at ps cs i) ≡ false)
-      → is_open (stamped_of G) named ≡ false
+  pub none_opens : (G : List Entry) → IsLegalStamped (stamped_entries G)
+      → ((i : ℕ) → i < length ps → opens G named (named_at ps cs i) ≡ false)
+      → is_open (stamped_entries G) named ≡ false
   none_opens G l none = not_opened G named l (λ a n named'. (
       let (i, h, is) = named_there a.replica (λ z. n (named' ∙ z)) in
       ap (λ c. opens G named (Some (id_at c a.replica))) named' ∙ ap (opens G named) (sym is) ∙ none i h))
@@ -131,15 +133,15 @@ chain_absent H ps cs ds distinct all p none =
     (at-by_table ps cs distinct p ∙ component-none ps cs p none ∙ sym (sym (all p) ∙ component-none ps ds p none)))
 
 -- what the tests answer decides whether an operation that stands alone may follow
-pub lawful : (G : List Entry) (s : Stamped) → IsLegalStamped (stamped_of G) → (r : Result ⊤ Refusal)
-    → MatchResult r (λ _. fault_of (stamped_of G) s ≡ None) (λ why. fault_of (stamped_of G) s ≡ Some why)
+pub lawful : (G : List Entry) (s : Stamped) → IsLegalStamped (stamped_entries G) → (r : Result ⊤ Refusal)
+    → MatchResult r (λ _. fault_of (stamped_entries G) s ≡ None) (λ why. fault_of (stamped_entries G) s ≡ Some why)
     → StandsAlone s → IsOk r ↔ MayFollow (applied G) s
-lawful G s kept (Ok u) fault alone = (λ ok. follows_without_fault (stamped_of G) s kept alone fault, λ may. refl)
+lawful G s kept (Ok u) fault alone = (λ ok. follows_without_fault (stamped_entries G) s kept alone fault, λ may. refl)
 lawful G s kept
     (Err why) fault alone = (
       λ ok. absurd (true≢false (sym ok)),
       λ may. absurd
-          (none_some (sym (no_fault_where_follows (stamped_of G) s kept may) ∙ fault)),
+          (none_some (sym (no_fault_where_follows (stamped_entries G) s kept may) ∙ fault)),
     )
   where
     none_some : ◌≡◌ {A = Option Refusal} None (Some why) → ⊥

@@ -5,7 +5,7 @@ use Rattle.semantics.specs.Context.{doc}
 use Rattle.semantics.specs.NamedIds.{greatest_counter}
 use Rattle.semantics.specs.Tables.{by_table, component}
 use Rattle.semantics.specs.Stamped.{Stamped, IsLegalStamped, MayFollow}
-use Rattle.semantics.specs.Entries.{Entry as TheEntry, applied, stamped_in, stamped_of as stamped_entries}
+use Rattle.semantics.specs.Entries.{Entry as TheEntry, applied, stamped_in, stamped_entries}
 use Rattle.semantics.specs.Questions.{Values as AskValues, Keys as AskKeys, Items as AskItems, Conflicts as AskConflicts, AppliedVector}
 use Rattle.semantics.specs.Questions.{ValuesAre, KeysAre, ItemsAre, ConflictsAre, VectorIs}
 use Rattle.semantics.specs.LegalAnswer.{Asked, OfDocument, Missing as AskMissing, Reading as TheReading, Answered, MissingAre}

@@ -1,12 +1,12 @@
 -- When a received operation passes every test: alone, for being ready, and against the history.
 use Rattle.std.specs.Prelude.{ℕ, Bool, ◌&&◌, List, is_none}
 use Rattle.semantics.specs.Faults.{fault_of, is_ready}
-use Rattle.semantics.specs.Entries.{Entry as TheEntry, applied, stamped_of as stamped_entries}
+use Rattle.semantics.specs.Entries.{Entry as TheEntry, applied, stamped_entries}
 use Rattle.operation.specs.declared.op.Op.{Op}
-use Rattle.operation.specs.Alone.{fault_alone}
+use Rattle.operation.specs.Alone.{alone_fault_of_op}
 use Rattle.operation.specs.Meanings.{stamped_of}
 
 -- no test of a received operation finds a fault of it after these entries
 abbrev pub is_lawful : List ℕ → List TheEntry → Op → Bool
-is_lawful table G o = is_none (fault_alone table o) && is_ready (applied G) (stamped_of table o)
+is_lawful table G o = is_none (alone_fault_of_op table o) && is_ready (applied G) (stamped_of table o)
     && is_none (fault_of (stamped_entries G) (stamped_of table o))

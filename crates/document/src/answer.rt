@@ -5,7 +5,7 @@ ghost use Rattle.std.specs.List.{All, cons_option};
 ghost use Rattle.ids.specs.declared.refusal.Refusal.TheVariants.{NoMemory};
 ghost use Rattle.semantics.specs.Tables.{by_table};
 ghost use Rattle.semantics.specs.Elements.{At, Element};
-ghost use Rattle.semantics.specs.Entries.{entry_at, missing, stamped_in, stamped_of as stamped_entries};
+ghost use Rattle.semantics.specs.Entries.{entry_at, missing, stamped_in, stamped_entries};
 ghost use Rattle.semantics.specs.DocumentAnswer.{visible_items};
 ghost use Rattle.semantics.specs.Questions.{answer_at, resolve, Answer, Refused};
 ghost use Rattle.semantics.specs.LegalAnswer.{reading_of, Answered};

@@ -5,7 +5,7 @@ ghost use Rattle.ids.specs.Members.{AreDistinct};
 ghost use Rattle.semantics.specs.NamedIds.{greatest_counter};
 ghost use Rattle.semantics.specs.Tables.{by_table, component};
 ghost use Rattle.semantics.specs.Stamped.{Stamped, IsLegalStamped};
-ghost use Rattle.semantics.specs.Entries.{applied as operations_in, stamped_of as stamped_entries};
+ghost use Rattle.semantics.specs.Entries.{applied as operations_in, stamped_entries};
 ghost use Rattle.semantics.specs.Faults.{breaks_chain, fault_of, is_open, names_nothing};
 ghost use Rattle.operation.specs.Meanings.{stamped_of};
 ghost use Rattle.document.specs.Documents.{IsConsistent};

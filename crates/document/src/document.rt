@@ -12,12 +12,12 @@ ghost use Rattle.semantics.specs.LegalHistory.{greatest_of, has_id};
 ghost use Rattle.semantics.specs.Stamped.{MayFollow};
 ghost use Rattle.semantics.specs.Faults.{fault_of, is_ready};
 ghost use Rattle.semantics.specs.Context.{doc};
-ghost use Rattle.semantics.specs.Entries.{applied, entry_at, missing, stamped_in, stamped_of as stamped_entries};
+ghost use Rattle.semantics.specs.Entries.{applied, entry_at, missing, stamped_in, stamped_entries};
 ghost use Rattle.semantics.specs.DocumentAnswer.{visible_items};
 ghost use Rattle.semantics.specs.Questions.{resolve, Question as TheQuestion, Refused};
 ghost use Rattle.semantics.specs.LegalAnswer.{reading_of, Answered, OfDocument};
 ghost use Rattle.semantics.specs.View.{view};
-ghost use Rattle.operation.specs.Alone.{fault_alone};
+ghost use Rattle.operation.specs.Alone.{alone_fault_of_op};
 ghost use Rattle.operation.specs.Meanings.{entry_of, op_in, stamped_of};
 ghost use Rattle.oplog.specs.Logs.{history};
 
@@ -137,7 +137,7 @@ impl Document {
         requires width { length op.now.deps ≡ length self.now.table }
         ensures fault { let fault = fault_of (stamped_entries self.now.entries) (stamped_of self.now.table op.now) in
             MatchResult result (λ _. fault ≡ None) (λ why. fault ≡ Some why) }
-        ensures lawful { fault_alone self.now.table op.now ≡ None
+        ensures lawful { alone_fault_of_op self.now.table op.now ≡ None
             → IsOk result ↔ MayFollow (applied self.now.entries) (stamped_of self.now.table op.now) }
     {
         check(&self.log, &self.applied, &self.tree, op)

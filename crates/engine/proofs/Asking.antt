@@ -6,7 +6,7 @@ use Rattle.std.proofs.lemmas.Option.{slice_get_read, slice_get-map}
 use Rattle.semantics.specs.Entries.{Entry}
 use Rattle.semantics.specs.LegalAnswer.{Submitted, Reply as TheReply}
 use Rattle.semantics.specs.WorldHistory.{BeginsWith}
-use Rattle.semantics.specs.Receipts.{IsAnswer}
+use Rattle.semantics.specs.PeerAnswers.{IsAnswer}
 use Rattle.semantics.proofs.HandledAnswers.{answer_stays}
 use Rattle.items.specs.declared.item.Item.{Item}
 use Rattle.items.specs.declared.item.Reply.{Reply}

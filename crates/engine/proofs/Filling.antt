@@ -6,7 +6,7 @@ use Rattle.semantics.specs.Entries.{Entry, IsAbove}
 use Rattle.semantics.specs.LegalAnswer.{Submitted}
 use Rattle.semantics.specs.Replica.{IsRunning}
 use Rattle.semantics.specs.Engine.{Handled}
-use Rattle.semantics.specs.Receipts.{IsAnswer}
+use Rattle.semantics.specs.PeerAnswers.{IsAnswer}
 use Rattle.semantics.specs.Handling.{Handler, Handles}
 use Rattle.semantics.specs.Batches.{ComeFrom, AreAnswers, IsBatch, items_of}
 use Rattle.semantics.specs.WorldHistory.{of_client}

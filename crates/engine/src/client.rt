@@ -9,7 +9,7 @@ ghost use Rattle.semantics.specs.Entries.{IsEntryHistory, applied};
 ghost use Rattle.semantics.specs.WorldHistory.{BeginsWith};
 ghost use Rattle.semantics.specs.Questions.{Question as TheQuestion, Refused};
 ghost use Rattle.semantics.specs.LegalAnswer.{Answered, OfDocument, reading_of};
-ghost use Rattle.semantics.specs.Receipts.{IsAnswer};
+ghost use Rattle.semantics.specs.PeerAnswers.{IsAnswer};
 ghost use Rattle.semantics.specs.View.{view};
 ghost use Rattle.document.specs.Documents.{IsBeside, asked_of, said_by};
 ghost use Rattle.items.specs.declared.item.Item.{Item as AnItem};

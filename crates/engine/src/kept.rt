@@ -2,7 +2,7 @@
 
 ghost use Rattle.std.specs.Prelude.{◌≡◌, Some, None, MatchOption, IfSome};
 ghost use Rattle.items.specs.Meanings.{reply_of, submitted_of};
-ghost use Rattle.semantics.specs.Receipts.{IsAnswer};
+ghost use Rattle.semantics.specs.PeerAnswers.{IsAnswer};
 ghost use Rattle.command.specs.Answers.{Given as TheGiven};
 ghost use Rattle.engine.specs.Clients.{answer_in, answer_of};
 

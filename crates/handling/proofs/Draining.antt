@@ -3,7 +3,7 @@ use Rattle.std.proofs.Common.{◌≡◌, ℕ, ◌+◌, ◌≤◌, false, ◌∷�
 use Rattle.semantics.specs.Stamped.{Stamped}
 use Rattle.semantics.specs.Faults.{fault_of}
 use Rattle.semantics.specs.Making.{is_full}
-use Rattle.semantics.specs.Entries.{Entry, Peer, IsEntryHistory, stamped_of}
+use Rattle.semantics.specs.Entries.{Entry, Peer, IsEntryHistory, stamped_entries}
 use Rattle.semantics.specs.Replica.{Replica, IsRunning, operations}
 use Rattle.semantics.specs.Drain.{counted, drain, drain_for, taken_with}
 use Rattle.semantics.proofs.Taken.{taken_running}
@@ -41,7 +41,7 @@ module _ {r : Replica} {h0 h : Publication} {q : Replica} {least : ℕ} (w : IsU
         published = w.published;
       }
 
-  module _ {s : Stamped} (next : next_of q ≡ Some s) (faultless : fault_of (stamped_of q.entries) s ≡ None) where
+  module _ {s : Stamped} (next : next_of q ≡ Some s) (faultless : fault_of (stamped_entries q.entries) s ≡ None) where
     pub may_follow : IsRunning r → IsEntryHistory h.own (Peer s ∷ h.appended)
     may_follow k =
         let run = running k in

@@ -13,13 +13,13 @@ use Rattle.semantics.specs.Delivery as delivery
 use Rattle.operation.specs.declared.op.Op.{Op}
 use Rattle.operation.specs.declared.command.Delivered.{Delivered}
 use Rattle.operation.specs.declared.command.Delivered.TheVariants.{Known, Kept}
-use Rattle.operation.specs.Alone.{fault_alone}
+use Rattle.operation.specs.Alone.{alone_fault_of_op}
 use Rattle.operation.specs.Meanings.{stamped_of}
 use Rattle.slab.specs.Slab.{Slab, get}
 
 -- no fault of these can be seen without the history
 abbrev pub StandAlone : List ℕ → List Op → Type 0
-StandAlone table ops = (o : Op) → IsAmong o ops → fault_alone table o ≡ None
+StandAlone table ops = (o : Op) → IsAmong o ops → alone_fault_of_op table o ≡ None
 
 -- the vector of each is as wide as the table
 abbrev pub AreAsWide : List ℕ → List Op → Type 0

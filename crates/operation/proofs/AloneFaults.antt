@@ -13,7 +13,7 @@ use Rattle.semantics.specs.Tables.{by_table, greatest_in}
 use Rattle.semantics.specs.Faults.{first_failed, alone_fault, is_of_members, has_counter, is_next_counter, items_covered, items_of_members}
 use Rattle.semantics.proofs.TableVectors.{greatest-by_table}
 use Rattle.operation.specs.declared.op.Op.{Op}
-use Rattle.operation.specs.Alone.{fault_alone}
+use Rattle.operation.specs.Alone.{alone_fault_of_op}
 use Rattle.operation.specs.Meanings.{mutation_of, stamped_of}
 
 module _ (f : ℕ → Bool) where
@@ -74,7 +74,7 @@ pub fault-alone : (ps : List ℕ) (o : Op) → length o.deps ≡ length ps → (
     → is_next_counter (greatest_in o.deps) o.id.counter ≡ b
     → misplaced (mutation_of o.mutation) o.place ≡ c
     → items_covered (by_table ps o.deps) (element_of o.place) ≡ d
-    → fault_alone ps o ≡ first_failed a b c d
+    → alone_fault_of_op ps o ≡ first_failed a b c d
 fault-alone ps o width a b c d names next inside stands =
     ap (λ e. cond e (alone_fault ps (stamped_of ps o)) (Some UnknownReplica)) (eq-eqb (length o.deps) (length ps) width)
     ∙ (λ t. first_failed ((of_members ps o ∙ names) t) ((next_counter ps o width ∙ next) t) (inside t) (stands t))

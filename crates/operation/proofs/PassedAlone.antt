@@ -5,10 +5,10 @@ use Rattle.ids.specs.declared.refusal.Refusal.TheVariants.{UnknownReplica}
 use Rattle.semantics.specs.Faults.{StandsAlone, alone_fault}
 use Rattle.semantics.proofs.AloneTests.{stands_alone}
 use Rattle.operation.specs.declared.op.Op.{Op}
-use Rattle.operation.specs.Alone.{fault_alone}
+use Rattle.operation.specs.Alone.{alone_fault_of_op}
 use Rattle.operation.specs.Meanings.{stamped_of}
 
-pub width_alone : (table : List ℕ) (o : Op) → fault_alone table o ≡ None → length o.deps ≡ length table
+pub width_alone : (table : List ℕ) (o : Op) → alone_fault_of_op table o ≡ None → length o.deps ≡ length table
 width_alone table o h = at_test (nat_eq (length o.deps) (length table)) refl h
   where
     at_test : (b : Bool) → nat_eq (length o.deps) (length table) ≡ b
@@ -16,7 +16,7 @@ width_alone table o h = at_test (nat_eq (length o.deps) (length table)) refl h
     at_test true e h = eqb-true (length o.deps) (length table) e
     at_test false e h = cc
 
-pub alone : (table : List ℕ) (o : Op) → fault_alone table o ≡ None → alone_fault table (stamped_of table o) ≡ None
+pub alone : (table : List ℕ) (o : Op) → alone_fault_of_op table o ≡ None → alone_fault table (stamped_of table o) ≡ None
 alone table o h = at_test (nat_eq (length o.deps) (length table)) h
   where
     at_test : (b : Bool) → cond b (alone_fault table (stamped_of table o)) (Some UnknownReplica) ≡ None
@@ -24,5 +24,5 @@ alone table o h = at_test (nat_eq (length o.deps) (length table)) h
     at_test true h = h
     at_test false h = cc
 
-pub passed_alone : (table : List ℕ) (o : Op) → fault_alone table o ≡ None → StandsAlone (stamped_of table o)
+pub passed_alone : (table : List ℕ) (o : Op) → alone_fault_of_op table o ≡ None → StandsAlone (stamped_of table o)
 passed_alone table o h = stands_alone table (stamped_of table o) (alone table o h)

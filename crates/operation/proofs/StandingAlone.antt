@@ -10,7 +10,7 @@ use Rattle.semantics.specs.Entries.{stamped_in}
 use Rattle.operation.specs.declared.command.Entry.{Entry}
 use Rattle.operation.specs.declared.command.Entry.TheVariants.{Own, Peer}
 use Rattle.operation.specs.declared.op.Op.{Op}
-use Rattle.operation.specs.Alone.{fault_alone}
+use Rattle.operation.specs.Alone.{alone_fault_of_op}
 use Rattle.operation.proofs.PassedAlone.{alone}
 use Rattle.operation.specs.Meanings.{entry_of, op_in, stamped_of}
 
@@ -23,7 +23,7 @@ first_true : (a b : Bool) (c : Option Misplaced) (d : Bool) → first_failed a b
 first_true false b c d h = cc
 first_true true b c d h = refl
 
-pub alone_member : (table : List ℕ) (o : Op) → fault_alone table o ≡ None → is_member table o.id.replica ≡ true
+pub alone_member : (table : List ℕ) (o : Op) → alone_fault_of_op table o ≡ None → is_member table o.id.replica ≡ true
 alone_member table o h =
     let s : Stamped = stamped_of table o in
     let known = and_parts (is_member table s.id.replica && list_all (λ a. is_member table a.replica) s.vector)

@@ -10,8 +10,8 @@ use Rattle.operation.specs.declared.op.Op.{Op}
 use Rattle.operation.specs.Meanings.{stamped_of}
 
 -- the first fault of an operation alone; one whose vector has another width than the table names unknown replicas
-abbrev pub fault_alone : List ℕ → Op → Option Refusal
-fault_alone table o = if nat_eq (length o.deps) (length table) then alone_fault table (stamped_of table o) else Some UnknownReplica
+abbrev pub alone_fault_of_op : List ℕ → Op → Option Refusal
+alone_fault_of_op table o = if nat_eq (length o.deps) (length table) then alone_fault table (stamped_of table o) else Some UnknownReplica
 
 -- the key is a field's, or that of a member's item
 abbrev pub key_of_member : List ℕ → Key → Bool

@@ -7,7 +7,7 @@ ghost use Rattle.semantics.specs.Faults.{is_next_counter, items_covered, items_o
 ghost use Rattle.semantics.specs.Tables.{by_table, greatest_in};
 ghost use Rattle.semantics.specs.Vectors.{at};
 ghost use Rattle.cursor.specs.Meanings.{hop_of};
-ghost use Rattle.operation.specs.Alone.{fault_alone, key_covered, key_of_member};
+ghost use Rattle.operation.specs.Alone.{alone_fault_of_op, key_covered, key_of_member};
 
 use crate::misplaced::Misplaced;
 use crate::op::Op;
@@ -23,7 +23,7 @@ use version::VersionVector;
 /// insert that stands neither at a head nor at an item; `BadPlace` for an assign or a delete at a head, or if its vector doesn't
 /// cover an item of its place.
 pub fn check_alone(op: &Op, table: &ReplicaTable) -> Result<(), Refusal>
-    ensures { MatchResult result (λ _. fault_alone table.now op.now ≡ None) (λ why. fault_alone table.now op.now ≡ Some why) }
+    ensures { MatchResult result (λ _. alone_fault_of_op table.now op.now ≡ None) (λ why. alone_fault_of_op table.now op.now ≡ Some why) }
 {
     if op.deps.width() != table.len() || !names_members(op, table) {
         return Err(Refusal::UnknownReplica);

@@ -18,7 +18,7 @@ use Rattle.semantics.specs.Ids.{id_cmp}
 use Rattle.semantics.specs.Vectors.{Vector, at, covers}
 use Rattle.semantics.specs.Tables.{by_table}
 use Rattle.semantics.specs.Stamped.{Stamped}
-use Rattle.semantics.specs.Entries.{Entry as TheEntry, entry_at, missing, stamped_in, stamped_of}
+use Rattle.semantics.specs.Entries.{Entry as TheEntry, entry_at, missing, stamped_in, stamped_entries}
 use Rattle.semantics.proofs.TableVectors.{at-by_table}
 use Rattle.version.proofs.TableColumns.{component-get}
 use Rattle.columns.specs.Numbered.{Numbered}
@@ -195,7 +195,7 @@ sorted-missing ps cs G xs distinct long members own moved sorted =
 -- what reads the positions of a history reads at the missing ones what is missing
 read_missing : (v : Vector) (G : List TheEntry) (h : ℕ → Option Stamped)
     → ((n : ℕ) → n < length G → h n ≡ option_map stamped_in (entry_at n G))
-    → map h (missing_positions v G) ≡ map Some (reverse (missing v (stamped_of G)))
+    → map h (missing_positions v G) ≡ map Some (reverse (missing v (stamped_entries G)))
 read_missing v [] h reads = refl
 read_missing v (e ∷ G) h reads =
     map-append h (missing_positions v G) _
@@ -215,7 +215,7 @@ read_missing v (e ∷ G) h reads =
         ∙ ap (λ b. option_map stamped_in (cond b (Some e) (entry_at (length G) G))) (eq-eqb (length G) (length G) refl)
 
     rest : List Stamped
-    rest = missing v (stamped_of G)
+    rest = missing v (stamped_entries G)
 
     at_test : (b : Bool)
         → map Some (reverse rest) ++ map h (cond b [] (length G ∷ [])) ≡ map Some (reverse (cond (not b) (stamped_in e ∷ rest) rest))
@@ -226,5 +226,5 @@ read_missing v (e ∷ G) h reads =
         ∙ ap (map Some) (sym (reverse-append (stamped_in e ∷ []) rest))
 
 pub positions-read : (v : Vector) (G : List TheEntry)
-    → map (λ n. option_map stamped_in (entry_at n G)) (missing_positions v G) ≡ map Some (reverse (missing v (stamped_of G)))
+    → map (λ n. option_map stamped_in (entry_at n G)) (missing_positions v G) ≡ map Some (reverse (missing v (stamped_entries G)))
 positions-read v G = read_missing v G (λ n. option_map stamped_in (entry_at n G)) (λ n lt. refl)

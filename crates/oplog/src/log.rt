@@ -10,7 +10,7 @@ ghost use Rattle.semantics.specs.Tables.{by_table};
 ghost use Rattle.semantics.specs.Vectors.{Vector};
 ghost use Rattle.semantics.specs.LegalHistory.{has_id};
 ghost use Rattle.semantics.specs.Stamped.{MayFollow, Stamped};
-ghost use Rattle.semantics.specs.Entries.{Entry as TheEntry, applied, entry_at, missing, stamped_in, stamped_of};
+ghost use Rattle.semantics.specs.Entries.{Entry as TheEntry, applied, entry_at, missing, stamped_in, stamped_entries};
 ghost use Rattle.operation.specs.Meanings.{entry_of, op_in};
 ghost use Rattle.oplog.specs.Logs.{history, least_room, missing_positions, numbers_above, numbers_of, position_of};
 
@@ -232,5 +232,5 @@ pub fn what_may_follow_is_new()
 /// The operations at the missing positions are those that the rules call missing, the oldest first.
 pub fn positions_name_what_is_missing()
     ensures { (v : Vector) (G : List TheEntry) →
-        map (λ n. option_map stamped_in (entry_at n G)) (missing_positions v G) ≡ map Some (reverse (missing v (stamped_of G))) }
+        map (λ n. option_map stamped_in (entry_at n G)) (missing_positions v G) ≡ map Some (reverse (missing v (stamped_entries G))) }
 {}

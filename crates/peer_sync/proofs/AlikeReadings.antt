@@ -1,7 +1,7 @@
 -- Histories with the same operations answer alike.
 use Rattle.std.proofs.Common.{◌≡◌, ℕ, Bool, true, false, not, cond, filter, List, [], ◌∷◌, inl, inr, refl, sym, ap, ◌∙◌}
 use Rattle.semantics.specs.LegalHistory.{IsAmong}
-use Rattle.semantics.specs.Entries.{Entry, IsEntryHistory, missing, stamped_of}
+use Rattle.semantics.specs.Entries.{Entry, IsEntryHistory, missing, stamped_entries}
 use Rattle.semantics.specs.LegalAnswer.{Answered, OfDocument, reading_of}
 use Rattle.semantics.specs.Questions.{Question}
 use Rattle.semantics.specs.Stamped.{Stamped, HaveSameStamped}
@@ -10,11 +10,12 @@ use Rattle.semantics.proofs.AmongLists.{in_filter, into_filter}
 use Rattle.semantics.proofs.EntryHistories.{entries_legal}
 use Rattle.semantics.proofs.SameStamped.{stamped_answer}
 
-pub document_alike : (p q : ℕ) (G F : List Entry) → IsEntryHistory p G → IsEntryHistory q F → HaveSameStamped (stamped_of G) (stamped_of F)
+pub document_alike : (p q : ℕ) (G F : List Entry) → IsEntryHistory p G → IsEntryHistory q F
+    → HaveSameStamped (stamped_entries G) (stamped_entries F)
     → (x : Question) → reading_of G (OfDocument x) ≡ reading_of F (OfDocument x)
 document_alike p q G F g f same x =
-    ap Answered (stamped_answer (stamped_of G) (stamped_of F) (entries_legal p G g) (λ s. ((same s).1, (same s).0)) x
-    ∙ sym (stamped_answer (stamped_of F) (stamped_of F) (entries_legal q F f) (λ s. (λ a. a, λ a. a)) x))
+    ap Answered (stamped_answer (stamped_entries G) (stamped_entries F) (entries_legal p G g) (λ s. ((same s).1, (same s).0)) x
+    ∙ sym (stamped_answer (stamped_entries F) (stamped_entries F) (entries_legal q F f) (λ s. (λ a. a, λ a. a)) x))
 
 filter_passes : {X : Type 0} (test : X → Bool) (xs : List X) (x : X) → IsAmong x (filter test xs) → test x ≡ true
 filter_passes test [] x m = absurd m

@@ -1,7 +1,7 @@
 //! Tokens of different engines are answered alike.
 
 ghost use Rattle.std.specs.Prelude.{◌≡◌, ℕ, List};
-ghost use Rattle.semantics.specs.Entries.{Entry, IsEntryHistory, missing, stamped_of};
+ghost use Rattle.semantics.specs.Entries.{Entry, IsEntryHistory, missing, stamped_entries};
 ghost use Rattle.semantics.specs.LegalAnswer.{OfDocument, reading_of};
 ghost use Rattle.semantics.specs.Questions.{Question};
 ghost use Rattle.semantics.specs.Stamped.{HaveSameStamped};
@@ -12,8 +12,8 @@ ghost use Rattle.semantics.specs.Vectors.{Vector};
 /// one answer for both engines to each question to the document; and both have the same operations to send to a peer.
 pub fn tokens_answer_alike()
     ensures document { (p q : ℕ) (G F : List Entry) → IsEntryHistory p G → IsEntryHistory q F
-        → HaveSameStamped (stamped_of G) (stamped_of F) →
+        → HaveSameStamped (stamped_entries G) (stamped_entries F) →
         (x : Question) → reading_of G (OfDocument x) ≡ reading_of F (OfDocument x) }
-    ensures missing { (G F : List Entry) → HaveSameStamped (stamped_of G) (stamped_of F) →
-        (v : Vector) → HaveSameStamped (missing v (stamped_of G)) (missing v (stamped_of F)) }
+    ensures missing { (G F : List Entry) → HaveSameStamped (stamped_entries G) (stamped_entries F) →
+        (v : Vector) → HaveSameStamped (missing v (stamped_entries G)) (missing v (stamped_entries F)) }
 {}

@@ -5,7 +5,7 @@ ghost use Rattle.ids.specs.Members.{is_member};
 ghost use Rattle.semantics.specs.Faults.{StandsAlone};
 ghost use Rattle.semantics.specs.Stamped.{MayFollow};
 ghost use Rattle.semantics.specs.Entries.{applied};
-ghost use Rattle.operation.specs.Alone.{fault_alone};
+ghost use Rattle.operation.specs.Alone.{alone_fault_of_op};
 ghost use Rattle.operation.specs.Meanings.{entry_of, op_in, stamped_of};
 ghost use Rattle.document.specs.Lawful.{is_lawful};
 
@@ -106,7 +106,7 @@ fn is_lawful(document: &Document, op: &Op) -> bool
 
 /// Whether the operation passes the tests that need no history.
 fn stands_alone(document: &Document, op: &Op) -> bool
-    ensures tests { result ≡ is_none (fault_alone document.now.table op.now) }
+    ensures tests { result ≡ is_none (alone_fault_of_op document.now.table op.now) }
     ensures alone { IsTrue result → StandsAlone (stamped_of document.now.table op.now) }
     ensures member { IsTrue result → IsTrue (is_member document.now.table op.now.id.replica) }
     ensures width { IsTrue result → length op.now.deps ≡ length document.now.table }

@@ -10,7 +10,7 @@ use Rattle.semantics.proofs.Delivered.{delivered}
 use Rattle.operation.specs.declared.op.Op.{Op}
 use Rattle.operation.specs.declared.command.Delivered.{Delivered}
 use Rattle.operation.specs.declared.command.Delivered.TheVariants as answer
-use Rattle.operation.specs.Alone.{fault_alone}
+use Rattle.operation.specs.Alone.{alone_fault_of_op}
 use Rattle.operation.specs.Meanings.{stamped_of}
 use Rattle.operation.proofs.PassedAlone.{alone}
 use Rattle.inbox.specs.Inboxes.{waiting_in}
@@ -28,7 +28,7 @@ passed r s none unapplied unknown new =
 
 -- a replica after an operation that passed all tests was put, or not
 pub after_put : (r : Running) (o : Op) (next : List Op) (result : Result Delivered Refusal) → IsReplica r
-    → fault_alone r.document.table o ≡ None → has_id (operations (replica_of r)) o.id ≡ false
+    → alone_fault_of_op r.document.table o ≡ None → has_id (operations (replica_of r)) o.id ≡ false
     → is_waiting (waiting_in r.document.table r.waiting) o.id ≡ false
     → answer_to_new (replica_of r) (stamped_of r.document.table o) ≡ IsKept
     → (result ≡ Ok answer.Kept
@@ -53,7 +53,7 @@ after_put r o next result h none unapplied unknown new put among same = by resul
         record {
           running = subst IsRunning (sym is) (delivered (replica_of r) s h.running);
           member = h.member;
-          alone = λ p m. elim (among p m) [ inl e ↦ ap (fault_alone table) e ∙ none | inr k ↦ h.alone p k ];
+          alone = λ p m. elim (among p m) [ inl e ↦ ap (alone_fault_of_op table) e ∙ none | inr k ↦ h.alone p k ];
           count = h.count;
         }
     by (Ok answer.Known) e = unchanged (same (λ f. absurd (let g = sym e ∙ f in cc)))

@@ -5,7 +5,7 @@ use Rattle.ids.specs.Members.{is_member}
 use Rattle.semantics.specs.Ids.{OpId, is_same_id, is_smaller_id}
 use Rattle.semantics.specs.LegalHistory.{IsAmong}
 use Rattle.semantics.specs.Stamped.{Stamped, MayFollow}
-use Rattle.semantics.specs.Entries.{Peer, applied, stamped_of as stamped_entries}
+use Rattle.semantics.specs.Entries.{Peer, applied, stamped_entries}
 use Rattle.semantics.specs.Replica.{IsRunning, IsRising, operations}
 use Rattle.semantics.specs.Delivery.{is_waiting}
 use Rattle.semantics.specs.Drain.{drain_for, without_waiting}

@@ -4,7 +4,7 @@ use Rattle.ids.specs.Members.{is_member}
 use Rattle.semantics.specs.NamedIds.{NamesAll}
 use Rattle.semantics.specs.Stamped.{Stamped, operation_after, MayFollow}
 use Rattle.semantics.specs.Making.{Command, make}
-use Rattle.semantics.specs.Entries.{Entry, Own, applied, stamped_of, IsAbove, IsEntryHistory}
+use Rattle.semantics.specs.Entries.{Entry, Own, applied, stamped_entries, IsAbove, IsEntryHistory}
 use Rattle.semantics.specs.Replica.{Replica, IsRunning, commit_own}
 use Rattle.semantics.proofs.AppliedVectors.{at-vector_of}
 use Rattle.semantics.proofs.Delivered.{own_committed}
@@ -32,7 +32,7 @@ module _ (p client serial : ℕ) (c : Command) (G : List Entry) (s : Stamped) (h
   -- and is of the replica that made it
   pub made_by : s.id.replica ≡ p
   made_by = ap (λ (t : Stamped). t.id.replica) made.2
-      ∙ (made_lawful (applied G) (legal (stamped_of G) (entries_legal p G h)) p c made.0 made.1).1
+      ∙ (made_lawful (applied G) (legal (stamped_entries G) (entries_legal p G h)) p c made.0 made.1).1
 
 -- the replica after its document got an own entry
 pub own_appended : (r : Running) (d : Contents) (client serial : ℕ) (c : Command) (s : Stamped) → IsReplica r

@@ -5,13 +5,13 @@ use Rattle.semantics.specs.Operations.{Operation}
 use Rattle.semantics.specs.Stamped.{Stamped}
 use Rattle.semantics.specs.Faults.{fault_of}
 use Rattle.semantics.specs.Making.{Command as TheCommand, is_full, make}
-use Rattle.semantics.specs.Entries.{Entry as TheEntry, applied, stamped_of as stamped_entries}
+use Rattle.semantics.specs.Entries.{Entry as TheEntry, applied, stamped_entries}
 use Rattle.semantics.specs.Replica.{Replica as TheReplica, IsRunning, operations}
 use Rattle.semantics.specs.Delivery.{Delivered, answer_after}
 use Rattle.semantics.specs.Drain.{first_ready}
 use Rattle.semantics.specs.WriteSteps.{stamp}
 use Rattle.operation.specs.declared.op.Op.{Op}
-use Rattle.operation.specs.Alone.{fault_alone}
+use Rattle.operation.specs.Alone.{alone_fault_of_op}
 use Rattle.document.specs.Documents.{HasRoomFor, Contents}
 use Rattle.operation.specs.Meanings.{stamped_of}
 use Rattle.inbox.specs.Inboxes.{StandAlone, waiting_in}
@@ -56,8 +56,8 @@ pub record IsNextReady (r : Running) (s : Stamped) : Type 0 where
   pub room : HasRoomFor r.document s
 
 -- the answer to an operation in the replica; one whose vector has another width than the table names unknown replicas
-abbrev pub answer_to : TheReplica → Op → Delivered
-answer_to r o = answer_after r (stamped_of r.members o) (fault_alone r.members o)
+abbrev pub answer_to_op : TheReplica → Op → Delivered
+answer_to_op r o = answer_after r (stamped_of r.members o) (alone_fault_of_op r.members o)
 
 -- the replica of these parts
 abbrev pub replica_with : ℕ → Contents → List Op → TheReplica

@@ -6,13 +6,13 @@ ghost use Rattle.ids.specs.declared.refusal.Refusal.TheVariants.{NoMemory, BadCo
 ghost use Rattle.ids.specs.Members.{in_order, is_member};
 ghost use Rattle.ids.specs.Configurations.{are_members};
 ghost use Rattle.semantics.specs.Stamped.{Stamped};
-ghost use Rattle.semantics.specs.Entries.{IsAbove, applied, stamped_of as stamped_entries};
+ghost use Rattle.semantics.specs.Entries.{IsAbove, applied, stamped_entries};
 ghost use Rattle.semantics.specs.Faults.{fault_of};
 ghost use Rattle.semantics.specs.Making.{make};
 ghost use Rattle.semantics.specs.Replica.{IsRunning, commit_own};
 ghost use Rattle.semantics.specs.Delivery.{Kept as ToBeKept, NotKept, deliver};
 ghost use Rattle.semantics.specs.Drain.{counted, IsDrained, drain, drain_for};
-ghost use Rattle.operation.specs.Alone.{fault_alone};
+ghost use Rattle.operation.specs.Alone.{alone_fault_of_op};
 ghost use Rattle.operation.specs.Meanings.{command_of, stamped_of};
 ghost use Rattle.oplog.specs.Logs.{history};
 ghost use Rattle.document.specs.Documents.{HasRoomFor};
@@ -52,7 +52,7 @@ impl Model for Replica {
 }
 
 impl Replica {
-    ghost use Rattle.replica.specs.Replicas.{IsMade, IsNextReady, answer_to, next_of, replica_of};
+    ghost use Rattle.replica.specs.Replicas.{IsMade, IsNextReady, answer_to_op, next_of, replica_of};
 
     /// A replica with this number among these members, and with an empty history.
     ///
@@ -161,9 +161,9 @@ impl Replica {
     /// `NoMemory` if allocation fails.
     pub fn deliver(&mut self, op: Shared<Op>) -> Result<Delivered, Refusal>
         ensures answer { MatchResult result
-            (λ d. answer_to (replica_of self.old) op ≡ delivered_of d)
-            (λ why. ((why ≡ NoMemory) × (answer_to (replica_of self.old) op ≡ ToBeKept))
-            ⊎ (answer_to (replica_of self.old) op ≡ NotKept why)) }
+            (λ d. answer_to_op (replica_of self.old) op ≡ delivered_of d)
+            (λ why. ((why ≡ NoMemory) × (answer_to_op (replica_of self.old) op ≡ ToBeKept))
+            ⊎ (answer_to_op (replica_of self.old) op ≡ NotKept why)) }
         ensures delivered { OnOk result (replica_of self.new ≡ deliver (replica_of self.old) (stamped_of self.old.document.table op)) }
         ensures same { OnErr result (replica_of self.new ≡ replica_of self.old) }
     {
@@ -185,7 +185,7 @@ impl Replica {
         ensures dropped { (n : ℕ) × (replica_of self.new ≡ counted (drain_for n (replica_of self.old)))
             × (self.new.document.entries ≡ self.old.document.entries) }
         ensures next { IfOk result (λ o. option_map (stamped_of self.new.document.table) o ≡ next_of (replica_of self.new)) }
-        ensures alone { IfOk result (λ o. IfSome o (λ op. fault_alone self.new.document.table op ≡ None)) }
+        ensures alone { IfOk result (λ o. IfSome o (λ op. alone_fault_of_op self.new.document.table op ≡ None)) }
         ensures ready { IfOk result (λ o. IfSome o (λ op. IsNextReady self.new (stamped_of self.new.document.table op))) }
     {
         let Some(id) = self.prepare(alloc)? else {

@@ -1,7 +1,7 @@
 //! The tests of an operation that is to wait, and of the next one that leaves the inbox.
 
 ghost use Rattle.std.specs.Prelude.{◌≡◌, Some, None, length, IfOk, MatchResult};
-ghost use Rattle.semantics.specs.Entries.{stamped_of as stamped_entries};
+ghost use Rattle.semantics.specs.Entries.{stamped_entries};
 ghost use Rattle.semantics.specs.Faults.{fault_of};
 ghost use Rattle.semantics.specs.Delivery.{Kept as IsKept, NotKept, answer_to_new};
 ghost use Rattle.operation.specs.Meanings.{stamped_of};

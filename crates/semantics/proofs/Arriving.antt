@@ -9,7 +9,7 @@ use Rattle.semantics.specs.Vectors.{covers}
 use Rattle.semantics.specs.Stamped.{Stamped, operation_after, operations_of, MayFollow, IsLegalStamped, Means}
 use Rattle.semantics.specs.Faults.{is_ready, fault_of, is_of_members, alone_fault}
 use Rattle.semantics.specs.Making.{is_full}
-use Rattle.semantics.specs.Entries.{Entry, stamped_of}
+use Rattle.semantics.specs.Entries.{Entry, stamped_entries}
 use Rattle.semantics.specs.Replica.{Replica, operations, IsRunning}
 use Rattle.semantics.specs.Delivery.{Kept, is_waiting, put_waiting, answer_after, answer_to, kept_by}
 use Rattle.semantics.specs.Drain.{drain, receive, IsDrained}
@@ -81,7 +81,7 @@ module _ (K : List Operation) (lk : IsLegal K) (p : ℕ) (r : Replica) (w : IsRe
   is_kept : answer_to r s ≡ Kept
   is_kept =
       let ld : IsLegal (operations r) = legal_entries r w.running in
-      let n : length (operations r) ≡ length r.entries = length_operations (stamped_of r.entries) ∙ length_stamped r.entries in
+      let n : length (operations r) ≡ length r.entries = length_operations (stamped_entries r.entries) ∙ length_stamped r.entries in
       let room : length r.entries ≤ 1048575 = ltb-false 1048575 (length r.entries) few in
       let alone : alone_fault r.members s ≡ None = no_fault_alone r.members (operations r) s ld (omega (arith, n, room)) may known in
       let other : (s.id.replica == r.own) ≡ false =
@@ -89,10 +89,10 @@ module _ (K : List Operation) (lk : IsLegal K) (p : ℕ) (r : Replica) (w : IsRe
       (λ t. true≢false (sym (w.made o (wf o means.among) (eqb-true s.id.replica r.own t ∙ w.own)) ∙ new)) in
       ap (answer_after r s) alone
       ∙ kept_by_tests (has_id (operations r) s.id || is_waiting r.waiting s.id) (s.id.replica == r.own) (is_full r.entries)
-      (is_ready (operations r) s) (nat_lt 4096 (length r.waiting)) (fault_of (stamped_of r.entries) s) _
+      (is_ready (operations r) s) (nat_lt 4096 (length r.waiting)) (fault_of (stamped_entries r.entries) s) _
       (or_from (has_id (operations r) s.id) (is_waiting r.waiting s.id) new none_under_id) other few
       (ready-from (operations r) s (ready_where_follows may)) (le-ltb 4096 (length r.waiting) (omega (arith, le)))
-      (no_fault_where_follows (stamped_of r.entries) s (entries_legal r.own r.entries w.running.history) may)
+      (no_fault_where_follows (stamped_entries r.entries) s (entries_legal r.own r.entries w.running.history) may)
 
   pub comes_in : HasCome (receive r s) s
   comes_in =
@@ -108,7 +108,7 @@ module _ (K : List Operation) (lk : IsLegal K) (p : ℕ) (r : Replica) (w : IsRe
       let done = drained q run in
       let keeps = keeps_for K lk (length q.waiting) q run w.within of in
       let more : (a : OpId) → has_id (operations r) a ≡ true → has_id (operations (drain q)) a ≡ true = λ a t.
-      subst (λ (G : List Entry). has_id (operations_of (stamped_of G)) a ≡ true) (sym done.1.entries)
+      subst (λ (G : List Entry). has_id (operations_of (stamped_entries G)) a ≡ true) (sym done.1.entries)
       (has_more done.1.appended r.entries a t) in
       subst (λ (d : Replica). HasCome d s) (sym same)
       (elim stay [

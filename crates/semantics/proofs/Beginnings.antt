@@ -6,7 +6,7 @@ use Rattle.std.proofs.lemmas.List.{length-append}
 use Rattle.semantics.specs.Making.{Command}
 use Rattle.semantics.specs.Entries.{Entry, Own, Peer, entry_at, first_entries, IsAbove, IsEntryHistory}
 use Rattle.semantics.specs.LegalAnswer.{Request, OfCommand, OfPeer, Submitted, Reply, Made, NotMade, KeptAt, KnownAt, IsLegalAnswer}
-use Rattle.semantics.specs.LegalAnswer.{IsLegalReceipt, IsLegalReply}
+use Rattle.semantics.specs.LegalAnswer.{IsLegalPeerAnswer, IsLegalReply}
 use Rattle.semantics.specs.WorldHistory.{BeginsWith, IsNotBelow}
 use Rattle.semantics.proofs.Replies.{first_stay, entry_stays, before, made_stays, refused_stays}
 
@@ -76,7 +76,7 @@ answer_stays p G e x c (NotMade why m) h = refused_stays p G e x c why m h
 answer_stays p G e x c (KeptAt m) h = h
 answer_stays p G e x c (KnownAt m) h = h
 
-receipt_stays : (G : List Entry) (e : Entry) (r : Reply) → IsLegalReceipt G r → IsLegalReceipt (e ∷ G) r
+receipt_stays : (G : List Entry) (e : Entry) (r : Reply) → IsLegalPeerAnswer G r → IsLegalPeerAnswer (e ∷ G) r
 receipt_stays G e (Made a n) h = h
 receipt_stays G e (NotMade why m) h = (let l : m ≤ length G = h in omega arith)
 receipt_stays G e (KeptAt m) h = (let l : m ≤ length G = h in omega arith)

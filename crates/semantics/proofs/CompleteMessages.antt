@@ -7,7 +7,7 @@ use Rattle.semantics.specs.LegalHistory.{IsAmong}
 use Rattle.semantics.specs.NamedIds.{greatest_counter}
 use Rattle.semantics.specs.Vectors.{Vector, at}
 use Rattle.semantics.specs.Stamped.{Stamped, IsLegalStamped}
-use Rattle.semantics.specs.Entries.{stamped_of, applied, missing}
+use Rattle.semantics.specs.Entries.{stamped_entries, applied, missing}
 use Rattle.semantics.specs.Replica.{operations}
 use Rattle.semantics.specs.OneWorld.{AreWithin}
 use Rattle.semantics.specs.Engine.{Engine, published_entries, Hello, Bundle, SentHello, SentBundle, Received}
@@ -46,7 +46,7 @@ named_later A G g q =
           omega (arith, named, counts, x.3))
     ]
 
-published_short : (B : Engine) → IsShort B.replica → length (stamped_of (published_entries B)) ≤ 1048576
+published_short : (B : Engine) → IsShort B.replica → length (stamped_entries (published_entries B)) ≤ 1048576
 published_short B h =
     let n = length_stamped (published_entries B) in
     let l = no_shorter B.replica.entries (published_entries B) (begins_first B.published B.replica.entries) in
@@ -57,14 +57,14 @@ published_short B h =
 -- in W engine a receives what v doesn't cover of what B had published
 pub received_through : (K : List Operation) (W : World) (after : List WorldStep) → IsSoundWorld W → IsWorldOf K W
     → (a c k serial count : ℕ) (v : Vector) (B : Engine) → AreWithoutLines (step_by a (Deliver c k) ∷ after)
-    → IsLegalStamped (stamped_of (published_entries B)) → length (stamped_of (published_entries B)) ≤ 1048576
+    → IsLegalStamped (stamped_entries (published_entries B)) → length (stamped_entries (published_entries B)) ≤ 1048576
     → AreWithin (applied (published_entries B)) K
     → ((E : Engine) → slice_get W.engines a ≡ Some E → (q : ℕ) → at v q ≤ greatest_counter (operations E.replica) q)
     → slice_get W.messages k ≡ Some (Bundle (lacked B v)) → (world_step W (step_by a (Deliver c k))).reply ≡ Received serial count None
     → (A : Engine) → slice_get (world_after W (step_by a (Deliver c k) ∷ after)).engines a ≡ Some A → IsHandledBelow A c (serial + count)
-    → AllAre (HasArrived c serial (serial + count) A) (stamped_of (published_entries B))
+    → AllAre (HasArrived c serial (serial + count) A) (stamped_entries (published_entries B))
 received_through K W after sound is a c k serial count v B known legal short within named bundle receipt A e handled =
-    let F : List Stamped = stamped_of (published_entries B) in
+    let F : List Stamped = stamped_entries (published_entries B) in
     let got = bundle_delivered W a c k serial count (reverse (missing v F)) bundle receipt in
     let E : Engine = got.0 in
     let G : Engine = got.1 in
@@ -102,7 +102,7 @@ pub exchanged_through : (K : List Operation) (W : World) (between later after : 
     (step_by a (Deliver c k) ∷ after)).engines a
     ≡ Some A
     → IsHandledBelow A c (serial + count)
-    → AllAre (HasArrived c serial (serial + count) A) (stamped_of (published_entries B))
+    → AllAre (HasArrived c serial (serial + count) A) (stamped_entries (published_entries B))
 exchanged_through K W between later after sound is a b c t h u k sent serial count v B known_between known_later known_after hello there
     answer receipt A e handled =
     let asked : World = world_after W (step_by a (SayHello t) ∷ between) in

@@ -9,7 +9,7 @@ use Rattle.ids.specs.declared.refusal.Refusal.{Refusal}
 use Rattle.ids.specs.declared.refusal.Refusal.TheVariants.{HistoryFull, OwnName}
 use Rattle.semantics.specs.Faults.{StandsAlone, alone_fault}
 use Rattle.semantics.specs.Making.{Command, make, is_full}
-use Rattle.semantics.specs.Entries.{IsAbove, stamped_of}
+use Rattle.semantics.specs.Entries.{IsAbove, stamped_entries}
 use Rattle.semantics.specs.Replica.{Replica, operations, commit_own, IsRunning}
 use Rattle.semantics.specs.Delivery.{Delivered, Kept, Known, NotKept, is_waiting, put_waiting, answer_after, room_answer, kept_by, deliver}
 use Rattle.semantics.proofs.Orders.{ids_from_test}
@@ -83,6 +83,6 @@ own_committed r client serial c s h n e above = record {
   where
     made : Follows (operations r) (operation_after (operations r) s) × (s.id.replica ≡ r.own)
     made =
-        let f = made_lawful (operations r) (legal (stamped_of r.entries) (entries_legal r.own r.entries h.history)) r.own c
+        let f = made_lawful (operations r) (legal (stamped_entries r.entries) (entries_legal r.own r.entries h.history)) r.own c
         (operation_after (operations r) s) e in
         (f.0, f.1)

@@ -8,7 +8,7 @@ use Rattle.semantics.specs.Questions.{Get}
 use Rattle.semantics.specs.Vectors.{Vector}
 use Rattle.semantics.specs.Stamped.{Stamped}
 use Rattle.semantics.specs.Making.{Command}
-use Rattle.semantics.specs.Entries.{stamped_of}
+use Rattle.semantics.specs.Entries.{stamped_entries}
 use Rattle.semantics.specs.Replica.{Replica}
 use Rattle.semantics.specs.Delivery.{Kept, NotKept, answer_to}
 use Rattle.semantics.specs.Drain.{receive}
@@ -26,7 +26,7 @@ abbrev before : Replica
 before = after_commands (receive (after_commands (new 1) (command ∷ command ∷ [])) (deletes_key 3 2 (id_at 2 1 ∷ [])))
     (command ∷ command ∷ [])
 
-before_operations : reverse (stamped_of before.entries)
+before_operations : reverse (stamped_entries before.entries)
     ≡ deletes_key 1 1 []
     ∷ deletes_key 2 1 (id_at 1 1 ∷ [])
     ∷ deletes_key 3 2 (id_at 2 1 ∷ [])

@@ -7,7 +7,7 @@ use Rattle.semantics.specs.LegalHistory.{has_id}
 use Rattle.semantics.specs.Questions.{Question}
 use Rattle.semantics.specs.DocumentAnswer.{document_answer}
 use Rattle.semantics.specs.Stamped.{IsLegalStamped}
-use Rattle.semantics.specs.Entries.{stamped_of, applied}
+use Rattle.semantics.specs.Entries.{stamped_entries, applied}
 use Rattle.semantics.specs.OneWorld.{AreWithin}
 use Rattle.semantics.specs.Engine.{Engine, published_entries}
 use Rattle.semantics.specs.World.{WorldStep}
@@ -23,7 +23,7 @@ use Rattle.semantics.proofs.EnginesOfOneWorld.{one_world}
 
 -- what an engine of a world has published is a legal history of it
 
-pub published_legal : (K : List Operation) (E : Engine) → IsEngineOf K E → IsLegalStamped (stamped_of (published_entries E))
+pub published_legal : (K : List Operation) (E : Engine) → IsEngineOf K E → IsLegalStamped (stamped_entries (published_entries E))
 published_legal K E h = entries_legal E.replica.own (published_entries E)
     (first_history E.replica.own E.published E.replica.entries h.settled.world.running.history)
 
@@ -39,6 +39,6 @@ engines_agree cs steps own known d e D E p q same x =
     let first = w.1.engines d D p in
     let second = w.1.engines e E q in
     histories_agree w.0 (applied (published_entries D)) (applied (published_entries E)) w.1.legal
-    (legal (stamped_of (published_entries D)) (published_legal w.0 D first))
-    (legal (stamped_of (published_entries E)) (published_legal w.0 E second))
+    (legal (stamped_entries (published_entries D)) (published_legal w.0 D first))
+    (legal (stamped_entries (published_entries E)) (published_legal w.0 E second))
     (published_of_world w.0 D first) (published_of_world w.0 E second) same x

@@ -6,7 +6,7 @@ use Rattle.ids.specs.Configurations.{Configuration}
 use Rattle.semantics.specs.Operations.{Operation}
 use Rattle.semantics.specs.LegalHistory.{IsLegal, IsAmong}
 use Rattle.semantics.specs.Stamped.{Stamped}
-use Rattle.semantics.specs.Entries.{stamped_of}
+use Rattle.semantics.specs.Entries.{stamped_entries}
 use Rattle.semantics.specs.OneWorld.{AreWithin, IsOfWorld, IsReplicaOf}
 use Rattle.semantics.specs.Engine.{Engine, Bundle}
 use Rattle.semantics.specs.World.{World, opened, WorldStep, engine_step, sent_by, world_step, world_after}
@@ -91,7 +91,7 @@ module _ (Claim : List Operation → Engine → Type 0) (kept : IsTracked Claim)
         (elim (get-append_either W.messages (sent_by W.messages w.act E) k (Bundle ss) is) [
           | inl e ↦ h.sent k ss s e m
           | inr n ↦ (let r = (h.engines w.engine E there).settled.world in record {
-            history = stamped_of E.replica.entries;
+            history = stamped_entries E.replica.entries;
             legal = entries_legal E.replica.own E.replica.entries r.running.history;
             within = r.within;
             there = sent_there W.messages w.act E ss n s m;

@@ -7,7 +7,7 @@ use Rattle.semantics.specs.Vectors.{Vector, at, covers}
 use Rattle.semantics.specs.NamedIds.{names, StandsFor, NamesAll}
 use Rattle.semantics.specs.Stamped.{Stamped, operation_after, operations_of, MayFollow, IsLegalStamped}
 use Rattle.semantics.specs.Making.{Command, make}
-use Rattle.semantics.specs.Entries.{Entry, Own, Peer, stamped_of, IsEntryHistory}
+use Rattle.semantics.specs.Entries.{Entry, Own, Peer, stamped_entries, IsEntryHistory}
 use Rattle.semantics.proofs.AbsentIds.{has_id-among}
 use Rattle.semantics.proofs.VectorCounters.{covers-from}
 use Rattle.semantics.proofs.NamedOperations.{vector_counts_id, vector_cases, legal}
@@ -38,14 +38,14 @@ own_may_follow G s l n p c k =
     (subst (λ (S : IdSet). StandsFor s.vector S G) same stands, (made_lawful G l p c (operation_after G s) k).0)
 
 -- an entry history is legal
-pub entries_legal : (p : ℕ) (G : List Entry) → IsEntryHistory p G → IsLegalStamped (stamped_of G)
+pub entries_legal : (p : ℕ) (G : List Entry) → IsEntryHistory p G → IsLegalStamped (stamped_entries G)
 entries_legal p [] h = tt
 entries_legal p (Own client serial c s ∷ G) h =
     let before = entries_legal p G h.0 in
-    (before, own_may_follow (operations_of (stamped_of G)) s (legal (stamped_of G) before) h.1 p c h.2)
+    (before, own_may_follow (operations_of (stamped_entries G)) s (legal (stamped_entries G) before) h.1 p c h.2)
 entries_legal p (Peer s ∷ G) h = (entries_legal p G h.0, h.1)
 
 -- each entry has one operation
-pub length-applied : (G : List Entry) → length (operations_of (stamped_of G)) ≡ length G
+pub length-applied : (G : List Entry) → length (operations_of (stamped_entries G)) ≡ length G
 length-applied [] = refl
 length-applied (e ∷ G) = ap suc (length-applied G)

@@ -11,7 +11,7 @@ use Rattle.semantics.specs.DocumentAnswer.{document_answer}
 use Rattle.semantics.specs.View.{view}
 use Rattle.semantics.specs.Stamped.{Stamped}
 use Rattle.semantics.specs.Making.{Command}
-use Rattle.semantics.specs.Entries.{stamped_in, stamped_of, missing}
+use Rattle.semantics.specs.Entries.{stamped_in, stamped_entries, missing}
 use Rattle.semantics.specs.LegalAnswer.{OfCommand, Submitted}
 use Rattle.semantics.specs.Replica.{Replica, operations}
 use Rattle.semantics.specs.Drain.{receive_all}
@@ -58,7 +58,7 @@ after_commands r (c ∷ cs) = after_commands (after_item r (item r c)) cs
 
 -- r after it received all that it lacks of what the other has
 abbrev pub after_bundle : Replica → Replica → Replica
-after_bundle r other = receive_all r (missing (vector_of (operations r)) (stamped_of other.entries))
+after_bundle r other = receive_all r (missing (vector_of (operations r)) (stamped_entries other.entries))
 
 -- the ids of the history, the oldest first, and of what waits
 abbrev pub history : Replica → List OpId

@@ -9,7 +9,7 @@ use Rattle.semantics.specs.LegalHistory.{IsLegal, has_id}
 use Rattle.semantics.specs.Stamped.{Stamped, operations_of, operation_after, IsLegalStamped}
 use Rattle.semantics.specs.Faults.{is_of_members, alone_fault, fault_of}
 use Rattle.semantics.specs.Making.{Command, make, is_full}
-use Rattle.semantics.specs.Entries.{stamped_of}
+use Rattle.semantics.specs.Entries.{stamped_entries}
 use Rattle.semantics.specs.LegalAnswer.{Request, OfCommand, OfPeer, Submitted, NotMade}
 use Rattle.semantics.specs.Replica.{Replica, operations}
 use Rattle.semantics.specs.Delivery.{Delivered, Known, NotKept, is_waiting, room_answer, answer_after, answer_to, kept_by, deliver}
@@ -28,7 +28,7 @@ abbrev pub IsShort : Replica → Type 0
 IsShort r = length r.entries ≤ 1048576
 
 taken_short : (r : Replica) (s : Stamped) → is_full r.entries ≡ false → IsShort (taken r s)
-taken_short r s few = at_fault (fault_of (stamped_of r.entries) s)
+taken_short r s few = at_fault (fault_of (stamped_entries r.entries) s)
   where
     room : length r.entries ≤ 1048575
     room = ltb-false 1048575 (length r.entries) few
@@ -52,7 +52,7 @@ drained_short (suc n) r h = at_full (λ q k. drained_short n q k) (is_full r.ent
     at_full rest false e = at_first rest e (first_ready (operations r) r.waiting)
 
 length_applied : (r : Replica) → length (operations r) ≡ length r.entries
-length_applied r = length_operations (stamped_of r.entries) ∙ length_stamped r.entries
+length_applied r = length_operations (stamped_entries r.entries) ∙ length_stamped r.entries
 
 -- what is made is made of a history that isn't full
 made_short : (r : Replica) (x : Submitted) (c : Command) → IsShort r → (m : Result Operation Refusal) → make (operations r) r.own c ≡ m

@@ -3,7 +3,7 @@ use Rattle.std.proofs.Common.{◌≡◌, suc, true, List, ap, ◌∙◌, le_anti
 use Rattle.semantics.specs.Ids.{OpId}
 use Rattle.semantics.specs.Operations.{Operation, element_of}
 use Rattle.semantics.specs.LegalHistory.{IsLegal, Follows, IsAmong, has_id}
-use Rattle.semantics.specs.Entries.{stamped_of}
+use Rattle.semantics.specs.Entries.{stamped_entries}
 use Rattle.semantics.specs.Replica.{Replica, operations, IsRunning}
 use Rattle.semantics.specs.OneWorld.{AreWithin}
 use Rattle.semantics.proofs.AbsentIds.{has_id-among}
@@ -13,7 +13,7 @@ use Rattle.semantics.proofs.SameWorld.{greatest_within, items_moved}
 use Rattle.semantics.proofs.EntryHistories.{entries_legal}
 
 pub legal_entries : (r : Replica) → IsRunning r → IsLegal (operations r)
-legal_entries r h = legal (stamped_of r.entries) (entries_legal r.own r.entries h.history)
+legal_entries r h = legal (stamped_entries r.entries) (entries_legal r.own r.entries h.history)
 
 -- ---- what a world's replica makes goes on that world
 

@@ -23,7 +23,7 @@ use Rattle.semantics.proofs.HandledItems.{as_stamped}
 use Rattle.semantics.proofs.OwnReplies.{own_made, own_refused, all_first}
 use Rattle.semantics.proofs.ReceivedItems.{same_own, same_members, same_entries, running_counted}
 use Rattle.semantics.proofs.Replies.{made_stays, refused_stays}
-use Rattle.semantics.specs.Receipts.{answer_with, WasAnswered, IsReceipt, IsAnswer}
+use Rattle.semantics.specs.PeerAnswers.{answer_with, WasAnswered, IsPeerAnswer, IsAnswer}
 use Rattle.semantics.specs.Handling.{Handler, DrainsTo, Handles, AreFor, IsAfter}
 
 -- ---- drains
@@ -91,7 +91,7 @@ answered r s floor more G e l d is = record {
 }
 
 receipt : (r : Replica) (x : Submitted) (s : Stamped) (more G : List Entry) → G ≡ more ++ r.entries → x.floor ≤ length r.entries
-    → (d : Delivered) → answer_to r s ≡ d → IsReceipt r.own r.members G x s (reply_delivered (length G) d)
+    → (d : Delivered) → answer_to r s ≡ d → IsPeerAnswer r.own r.members G x s (reply_delivered (length G) d)
 receipt r x s more G e l Kept is = answered r s x.floor more G e l Kept is
 receipt r x s more G e l Known is = answered r s x.floor more G e l Known is
 receipt r x s more G e l (NotKept why) is = inl (answered r s x.floor more G e l (NotKept why) is)
@@ -137,7 +137,7 @@ peer_part n r q x s h floor is e =
     let p = delivered_part n r q s h e in
     let entries : q.entries ≡ with_peers p.appended [] ++ r.entries = p.entries ∙ peers_before p.appended r.entries in
     let y : Reply = reply_delivered (length q.entries) (answer_to r s) in
-    let here : IsReceipt r.own r.members q.entries x s y = receipt r x s (with_peers p.appended []) q.entries entries floor
+    let here : IsPeerAnswer r.own r.members q.entries x s y = receipt r x s (with_peers p.appended []) q.entries entries floor
     (answer_to r s) refl in
     record {
       own = p.own;
@@ -147,8 +147,8 @@ peer_part n r q x s h floor is e =
       for_it = peers_for x p.appended;
       running = p.running;
       answer = rw is
-          (subst (λ k. IsReceipt k q.members q.entries x s y) (sym p.own)
-          (subst (λ ps. IsReceipt r.own ps q.entries x s y) (sym p.members) here));
+          (subst (λ k. IsPeerAnswer k q.members q.entries x s y) (sym p.own)
+          (subst (λ ps. IsPeerAnswer r.own ps q.entries x s y) (sym p.members) here));
     }
 
 made : (r : Replica) (x : Submitted) (c : Command) → x.request ≡ OfCommand c → IsRunning r → IsAbove x.client x.serial r.entries
@@ -221,8 +221,8 @@ was_longer p ps more F s floor m d a = record {
   answer = ap (λ (G : List Entry). answer_with p ps G a.waiting s) (first_of_longer a.k more F (omega (arith, a.to, a.within))) ∙ a.answer;
 }
 
-receipt_stays : (p : ℕ) (ps : List ℕ) (more F : List Entry) (x : Submitted) (s : Stamped) (y : Reply) → IsReceipt p ps F x s y
-    → IsReceipt p ps (more ++ F) x s y
+receipt_stays : (p : ℕ) (ps : List ℕ) (more F : List Entry) (x : Submitted) (s : Stamped) (y : Reply) → IsPeerAnswer p ps F x s y
+    → IsPeerAnswer p ps (more ++ F) x s y
 receipt_stays p ps more F x s (Made a n) h = h
 receipt_stays p ps more F x s (KeptAt m) h = was_longer p ps more F s x.floor m Kept h
 receipt_stays p ps more F x s (KnownAt m) h = was_longer p ps more F s x.floor m Known h

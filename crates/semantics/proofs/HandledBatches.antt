@@ -11,7 +11,7 @@ use Rattle.semantics.specs.Replica.{IsRunning}
 use Rattle.semantics.specs.Drain.{with_peers}
 use Rattle.semantics.specs.Engine.{Handled}
 use Rattle.semantics.specs.WorldHistory.{BeginsWith, of_client}
-use Rattle.semantics.specs.Receipts.{IsAnswer}
+use Rattle.semantics.specs.PeerAnswers.{IsAnswer}
 use Rattle.semantics.specs.Handling.{Handler, DrainsTo, Resumes, ResumesIf, Handles, Runs, AreFor}
 use Rattle.semantics.specs.Batches.{AsksFor, ComeFrom, AreAnswers, items_of, IsBatch, IsResumed}
 use Rattle.semantics.proofs.HandledAnswers.{part_to, peers_before, peers_for, handled, answer_stays}

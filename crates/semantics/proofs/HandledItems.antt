@@ -7,7 +7,7 @@ use Rattle.semantics.specs.Operations.{Operation}
 use Rattle.semantics.specs.NamedIds.{vector_of, names}
 use Rattle.semantics.specs.Stamped.{operation_after}
 use Rattle.semantics.specs.Making.{Command, make}
-use Rattle.semantics.specs.Entries.{Own, stamped_of, IsAbove, IsEntryHistory}
+use Rattle.semantics.specs.Entries.{Own, stamped_entries, IsAbove, IsEntryHistory}
 use Rattle.semantics.specs.LegalAnswer.{Request, OfCommand, OfPeer, Submitted, Reply}
 use Rattle.semantics.specs.Replica.{Replica, operations, IsRunning}
 use Rattle.semantics.specs.WriteSteps.{stamp, after_made, reply_made, after_request, reply_requested, after_item, reply_to}
@@ -37,7 +37,7 @@ pub as_stamped : (r : Replica) (c : Command) (o : Operation) → IsEntryHistory 
 as_stamped r c o h e = λ i. record { id = o.id; deps = λ a. deps a i; place = o.place; mutation = o.mutation }
   where
     deps : (a : OpId) → o.deps a ≡ names (operations r) (vector_of (operations r)) a
-    deps a = (made_lawful (operations r) (legal (stamped_of r.entries) (entries_legal r.own r.entries h)) r.own c o e).2 a
+    deps a = (made_lawful (operations r) (legal (stamped_entries r.entries) (entries_legal r.own r.entries h)) r.own c o e).2 a
         ∙ (all_named (operations r) (vector_of (operations r)) (at-vector_of (operations r))).same a
 
 made : (r : Replica) (x : Submitted) (c : Command) → x.request ≡ OfCommand c → IsRunning r → IsAbove x.client x.serial r.entries

@@ -123,7 +123,7 @@ pub mod OneReply
 pub mod HandledAnswers
 pub mod HandledBatches
 pub mod OutsideRules
-pub mod TrueReceipts
+pub mod TruePeerAnswers
 -- the premises of the laws are met
 pub mod LegalExample
 pub mod ExchangeWitness

@@ -5,7 +5,7 @@ use Rattle.ids.specs.Configurations.{Configuration}
 use Rattle.semantics.specs.Questions.{Get}
 use Rattle.semantics.specs.LegalHistory.{IsAmong}
 use Rattle.semantics.specs.Stamped.{Stamped}
-use Rattle.semantics.specs.Entries.{stamped_of}
+use Rattle.semantics.specs.Entries.{stamped_entries}
 use Rattle.semantics.specs.LegalAnswer.{OfCommand}
 use Rattle.semantics.specs.Engine.{Engine, Bundle, published_entries}
 use Rattle.semantics.specs.WriteSteps.{push, take_item, whole_step}
@@ -85,5 +85,5 @@ exchange = record {
 handled : IsHandledBelow reader 0 2
 handled x m = absurd m
 
-complete : (s : Stamped) → IsAmong s (stamped_of (published_entries writer)) → IsAppliedUnlessFull reader 0 1 2 s
+complete : (s : Stamped) → IsAmong s (stamped_entries (published_entries writer)) → IsAppliedUnlessFull reader 0 1 2 s
 complete = messages_complete both steps own_numbers without_lines 1 0 0 1 2 (published_entries writer) reader exchange refl handled

@@ -5,13 +5,13 @@ use Rattle.semantics.specs.Elements.{At}
 use Rattle.semantics.specs.Operations.{Assign}
 use Rattle.semantics.specs.Vectors.{Vector}
 use Rattle.semantics.specs.Stamped.{Stamped}
-use Rattle.semantics.specs.Entries.{stamped_of, missing}
+use Rattle.semantics.specs.Entries.{stamped_entries, missing}
 use Rattle.semantics.proofs.ExampleWords.{text, field, sent}
 use Rattle.semantics.proofs.ConcurrentAssigns.{first}
 
 -- the oldest first
 abbrev lacking : Vector → List Stamped
-lacking v = reverse (missing v (stamped_of first.entries))
+lacking v = reverse (missing v (stamped_entries first.entries))
 
 abbrev a : Stamped
 a = sent 1 1 [] (At (field (codes "key"))) (Assign (text (codes "A")))

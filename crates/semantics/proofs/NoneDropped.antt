@@ -6,7 +6,7 @@ use Rattle.semantics.specs.LegalHistory.{IsLegal, IsAmong, has_id}
 use Rattle.semantics.specs.Stamped.{Stamped, operation_after, operations_of, MayFollow}
 use Rattle.semantics.specs.Faults.{is_ready, fault_of}
 use Rattle.semantics.specs.Making.{is_full}
-use Rattle.semantics.specs.Entries.{Peer, stamped_of}
+use Rattle.semantics.specs.Entries.{Peer, stamped_entries}
 use Rattle.semantics.specs.Replica.{Replica, operations, IsRunning}
 use Rattle.semantics.specs.Drain.{first_ready, taken_with, taken, at_ready, drain_for}
 use Rattle.semantics.specs.OneWorld.{AreWithin, IsOfWorld}
@@ -39,8 +39,8 @@ pub taken_keeps : (K : List Operation) → IsLegal K → (r : Replica) (s : Stam
     → Keeps K r (taken r s) × ((x : Stamped) → IsAmong x (taken r s).waiting → IsAmong x r.waiting)
 taken_keeps K lk r s h w of m ready =
     let may = may_follow_ready K lk r h w s of (h.unapplied s m) ready in
-    let none : fault_of (stamped_of r.entries) s
-    ≡ None = no_fault_where_follows (stamped_of r.entries) s (entries_legal r.own r.entries h.history) may.0 in
+    let none : fault_of (stamped_entries r.entries) s
+    ≡ None = no_fault_where_follows (stamped_entries r.entries) s (entries_legal r.own r.entries h.history) may.0 in
     subst (λ (d : Replica). Keeps K r d × ((x : Stamped) → IsAmong x d.waiting → IsAmong x r.waiting)) (sym (ap (taken_with r s) none)) (
       record { none_dropped = refl; within = next may.1.0 may.1.1 may.1.2 },
       λ x n. (in_without s.id r.waiting x n).0,

@@ -15,7 +15,7 @@ use Rattle.semantics.specs.LegalHistory.{has_id}
 use Rattle.semantics.specs.Stamped.{Stamped}
 use Rattle.semantics.specs.Faults.{first_failed, first_fault, alone_fault, fault_of, is_ready}
 use Rattle.semantics.specs.Making.{Command, is_full, place_unless, then_place, operation_at, make}
-use Rattle.semantics.specs.Entries.{stamped_of}
+use Rattle.semantics.specs.Entries.{stamped_entries}
 use Rattle.semantics.specs.LegalAnswer.{Request, OfCommand, OfPeer, Submitted, Reply, Made, NotMade, KeptAt, KnownAt}
 use Rattle.semantics.specs.Replica.{Replica, operations}
 use Rattle.semantics.specs.Delivery.{Delivered, Kept, Known, NotKept, is_waiting, kept_unless, room_answer, answer_after, answer_to}
@@ -62,8 +62,8 @@ cond_fine false x y f g = g
 room_fine : (r : Replica) (s : Stamped) → FineAnswer (room_answer r s)
 room_fine r s =
     cond_fine (is_ready (operations r) s) _ _
-    (cond_fine (nat_lt 4096 (length r.waiting)) (NotKept InboxFull) (kept_unless (fault_of (stamped_of r.entries) s)) refl
-    (kept_fine (fault_of (stamped_of r.entries) s) (fault_fine _ _ _ _)))
+    (cond_fine (nat_lt 4096 (length r.waiting)) (NotKept InboxFull) (kept_unless (fault_of (stamped_entries r.entries) s)) refl
+    (kept_fine (fault_of (stamped_entries r.entries) s) (fault_fine _ _ _ _)))
     (cond_fine (nat_lt 4095 (length r.waiting)) (NotKept InboxFull) Kept refl tt)
 
 after_fine : (r : Replica) (s : Stamped) (o : Option Refusal) → FineFault o → FineAnswer (answer_after r s o)

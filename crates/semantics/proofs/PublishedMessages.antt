@@ -4,7 +4,7 @@ use Rattle.semantics.specs.Vectors.{Vector, covers}
 use Rattle.semantics.specs.LegalHistory.{IsAmong}
 use Rattle.semantics.specs.NamedIds.{vector_of}
 use Rattle.semantics.specs.Stamped.{Stamped}
-use Rattle.semantics.specs.Entries.{applied, stamped_of, missing}
+use Rattle.semantics.specs.Entries.{applied, stamped_entries, missing}
 use Rattle.semantics.specs.Engine.{Engine, Message, Hello, Bundle, published_entries}
 use Rattle.semantics.specs.PeerSteps.{answer_sent, lacked, names_members}
 use Rattle.semantics.specs.World.{WorldAct, Push, Take, Publish, Give, Whole, Poll, Ask, Learn, SayHello, AnswerHello, Deliver, Lines}
@@ -14,11 +14,11 @@ use Rattle.semantics.proofs.AmongLists.{in_reverse, in_filter}
 -- a hello of the vector of what is published, or a bundle of published operations
 abbrev IsPublished : Engine → Message → Type 0
 IsPublished E (Hello v) = v ≡ vector_of (applied (published_entries E))
-IsPublished E (Bundle ss) = (s : Stamped) → IsAmong s ss → IsAmong s (stamped_of (published_entries E))
+IsPublished E (Bundle ss) = (s : Stamped) → IsAmong s ss → IsAmong s (stamped_entries (published_entries E))
 
-lacked_published : (E : Engine) (v : Vector) (s : Stamped) → IsAmong s (lacked E v) → IsAmong s (stamped_of (published_entries E))
-lacked_published E v s m = in_filter (λ x. not (covers v x.id)) (stamped_of (published_entries E)) s
-    (in_reverse (missing v (stamped_of (published_entries E))) s m)
+lacked_published : (E : Engine) (v : Vector) (s : Stamped) → IsAmong s (lacked E v) → IsAmong s (stamped_entries (published_entries E))
+lacked_published E v s m = in_filter (λ x. not (covers v x.id)) (stamped_entries (published_entries E)) s
+    (in_reverse (missing v (stamped_entries (published_entries E))) s m)
 
 answer_published : (E : Engine) (o : Option Message) (m : Message) → IsAmong m (answer_sent E o) → IsPublished E m
 answer_published E None m h = absurd h
@@ -51,5 +51,5 @@ pub hello_published : (ms : List Message) (act : WorldAct) (E : Engine) (v : Vec
 hello_published ms act E v m = sent_published ms act E (Hello v) m
 
 pub bundle_published : (ms : List Message) (act : WorldAct) (E : Engine) (ss : List Stamped) → IsAmong (Bundle ss) (sent_by ms act E)
-    → (s : Stamped) → IsAmong s ss → IsAmong s (stamped_of (published_entries E))
+    → (s : Stamped) → IsAmong s ss → IsAmong s (stamped_entries (published_entries E))
 bundle_published ms act E ss m = sent_published ms act E (Bundle ss) m

@@ -8,7 +8,7 @@ use Rattle.semantics.specs.LegalHistory.{IsLegal, IsAmong, has_id}
 use Rattle.semantics.specs.NamedIds.{NamesAll}
 use Rattle.semantics.specs.Stamped.{Stamped, operations_of, operation_after}
 use Rattle.semantics.specs.Making.{Command, make}
-use Rattle.semantics.specs.Entries.{IsAbove, Entry, stamped_of}
+use Rattle.semantics.specs.Entries.{IsAbove, Entry, stamped_entries}
 use Rattle.semantics.specs.Replica.{Replica, operations, commit_own, IsRunning}
 use Rattle.semantics.specs.Delivery.{kept_by, Delivered, Kept, Known, NotKept, answer_to, deliver}
 use Rattle.semantics.specs.Drain.{receive, with_peers}
@@ -43,8 +43,8 @@ kept_same r s Kept = (refl, refl, refl, λ x m. in_put s r.waiting x m)
 kept_same r s Known = (refl, refl, refl, λ x m. inr m)
 kept_same r s (NotKept f) = (refl, refl, refl, λ x m. inr m)
 
-pub has_more : (M : List Stamped) (G : List Entry) (a : OpId) → has_id (operations_of (stamped_of G)) a ≡ true
-    → has_id (operations_of (stamped_of (with_peers M G))) a ≡ true
+pub has_more : (M : List Stamped) (G : List Entry) (a : OpId) → has_id (operations_of (stamped_entries G)) a ≡ true
+    → has_id (operations_of (stamped_entries (with_peers M G))) a ≡ true
 has_more [] G a h = h
 has_more (s ∷ M) G a h = or_right (is_same_id s.id a) _ (has_more M G a h)
 
@@ -55,7 +55,7 @@ received K lk p r s h of =
     let d : Replica = deliver r s in
     let run : IsRunning d = delivered r s h.running in
     let end = drained d run in
-    let within : AreWithin (operations d) K = subst (λ (G : List Entry). AreWithin (operations_of (stamped_of G)) K)
+    let within : AreWithin (operations d) K = subst (λ (G : List Entry). AreWithin (operations_of (stamped_entries G)) K)
     (sym same.2) h.within in
     let waits : (x : Stamped) → IsAmong x d.waiting
     → IsOfWorld K x = λ x m. elim (same.3 x m) [ inl e ↦ subst (IsOfWorld K) (sym e) of | inr n ↦ h.waits x n ] in
@@ -64,9 +64,9 @@ received K lk p r s h of =
       own = end.1.own ∙ same.0 ∙ h.own;
       running = end.0;
       within = keeps.within;
-      made = λ x m e. subst (λ (G : List Entry). has_id (operations_of (stamped_of G)) x.id ≡ true) (sym end.1.entries)
+      made = λ x m e. subst (λ (G : List Entry). has_id (operations_of (stamped_entries G)) x.id ≡ true) (sym end.1.entries)
           (has_more end.1.appended d.entries x.id
-          (subst (λ (G : List Entry). has_id (operations_of (stamped_of G)) x.id ≡ true) (sym same.2) (h.made x m e)));
+          (subst (λ (G : List Entry). has_id (operations_of (stamped_entries G)) x.id ≡ true) (sym same.2) (h.made x m e)));
       waits = λ x m. waits x (end.1.waits x m);
       none_dropped = keeps.none_dropped ∙ same.1 ∙ h.none_dropped;
     }
@@ -125,7 +125,8 @@ one_world members W (Makes V reached p client serial c s n e above) =
     let before = one_world members V reached in
     let K : List Operation = before.0 in
     let here = before.2 p in
-    let lg : IsLegal (operations (V p)) = legal (stamped_of (V p).entries) (entries_legal (V p).own (V p).entries here.running.history) in
+    let lg : IsLegal (operations (V p)) = legal (stamped_entries (V p).entries)
+    (entries_legal (V p).own (V p).entries here.running.history) in
     let o : Operation = operation_after (operations (V p)) s in
     let f = made_lawful (operations (V p)) lg p c o e in (
       o ∷ K,
@@ -139,7 +140,7 @@ one_world members W (Comes V reached p q s m) =
     let K : List Operation = before.0 in
     let there = before.2 q in
     let of : IsOfWorld K s = record {
-      history = stamped_of (V q).entries;
+      history = stamped_entries (V q).entries;
       legal = entries_legal (V q).own (V q).entries there.running.history;
       within = there.within;
       there = m;

@@ -2,7 +2,7 @@
 use Rattle.std.proofs.Common.{◌≡◌, ℕ, ◌≤◌, List, [], ◌∷◌, length, refl, sym, ap, ◌∙◌, subst, arith}
 use Rattle.semantics.specs.Stamped.{Stamped}
 use Rattle.semantics.specs.Entries.{Entry, Peer, IsAbove}
-use Rattle.semantics.specs.LegalAnswer.{IsLegalReceipt}
+use Rattle.semantics.specs.LegalAnswer.{IsLegalPeerAnswer}
 use Rattle.semantics.specs.Replica.{Replica, IsRunning}
 use Rattle.semantics.specs.Delivery.{Delivered, Kept, Known, NotKept, answer_to, kept_by, deliver}
 use Rattle.semantics.specs.Drain.{counted, receive, with_peers, Drains}
@@ -18,7 +18,7 @@ pub record IsReceived (r : Replica) (s : Stamped) : Type 0 where
   pub members : (counted (receive r s)).members ≡ r.members
   pub entries : BeginsWith (counted (receive r s)).entries r.entries
   pub running : IsRunning (counted (receive r s))
-  pub reply : IsLegalReceipt (counted (receive r s)).entries (reply_delivered (length (receive r s).entries) (answer_to r s))
+  pub reply : IsLegalPeerAnswer (counted (receive r s)).entries (reply_delivered (length (receive r s).entries) (answer_to r s))
   pub floor : (n : ℕ) → n ≤ length r.entries → IsNotBelow n (reply_delivered (length (receive r s).entries) (answer_to r s))
   -- it has no serial that wasn't there before
   pub above : (client serial : ℕ) → IsAbove client serial r.entries → IsAbove client serial (counted (receive r s)).entries
@@ -56,7 +56,7 @@ running_counted r h = record { history = h.history; alone = h.alone; foreign = h
 
 -- ---- the reply
 
-receipt : (G : List Entry) (d : Delivered) → IsLegalReceipt G (reply_delivered (length G) d)
+receipt : (G : List Entry) (d : Delivered) → IsLegalPeerAnswer G (reply_delivered (length G) d)
 receipt G Kept = omega arith
 receipt G Known = omega arith
 receipt G (NotKept why) = omega arith

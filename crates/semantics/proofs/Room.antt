@@ -9,7 +9,7 @@ use Rattle.ids.specs.declared.refusal.Refusal.{Refusal}
 use Rattle.ids.specs.declared.refusal.Refusal.TheVariants.{HistoryFull, InboxFull, OwnName}
 use Rattle.semantics.specs.Faults.{is_ready, fault_of, alone_fault}
 use Rattle.semantics.specs.Making.{is_full}
-use Rattle.semantics.specs.Entries.{stamped_of}
+use Rattle.semantics.specs.Entries.{stamped_entries}
 use Rattle.semantics.specs.Replica.{Replica, operations, IsRunning}
 use Rattle.semantics.specs.Delivery.{Kept, Known, NotKept, is_waiting, put_waiting, kept_unless, room_answer, answer_after, kept_by}
 use Rattle.semantics.specs.Delivery.{deliver}
@@ -93,9 +93,9 @@ bounded r s h le = at_alone (alone_fault r.members s) refl
         → is_ready (operations r) s ≡ b
         → length
         (drain (kept_by r s
-        (cond b (cond (nat_lt 4096 (length r.waiting)) (NotKept InboxFull) (kept_unless (fault_of (stamped_of r.entries) s)))
+        (cond b (cond (nat_lt 4096 (length r.waiting)) (NotKept InboxFull) (kept_unless (fault_of (stamped_entries r.entries) s)))
         (cond (nat_lt 4095 (length r.waiting)) (NotKept InboxFull) Kept)))).waiting ≤ 4096
-    after_kept k few true e = at_many (nat_lt 4096 (length r.waiting)) (fault_of (stamped_of r.entries) s)
+    after_kept k few true e = at_many (nat_lt 4096 (length r.waiting)) (fault_of (stamped_entries r.entries) s)
       where
         at_many : (b : Bool) (f : Option Refusal) → length (drain (kept_by r s (cond b (NotKept InboxFull) (kept_unless f)))).waiting ≤ 4096
         at_many true f = stays

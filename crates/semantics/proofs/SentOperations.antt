@@ -4,7 +4,7 @@ use Rattle.std.proofs.Common.{subst, slice_get}
 use Rattle.semantics.specs.LegalHistory.{IsAmong}
 use Rattle.semantics.specs.Vectors.{Vector, covers}
 use Rattle.semantics.specs.Stamped.{Stamped}
-use Rattle.semantics.specs.Entries.{Entry, stamped_of, applied, missing}
+use Rattle.semantics.specs.Entries.{Entry, stamped_entries, applied, missing}
 use Rattle.semantics.specs.OneWorld.{AreWithin}
 use Rattle.semantics.specs.Engine.{Engine, Message, Hello, Bundle, published_entries}
 use Rattle.semantics.specs.PeerSteps.{names_members, lacked, answer_sent}
@@ -16,7 +16,7 @@ use Rattle.semantics.proofs.AmongLists.{in_reverse, in_filter}
 
 -- ---- beginnings
 
-stamped_longer : (more F : List Entry) (s : Stamped) → IsAmong s (stamped_of F) → IsAmong s (stamped_of (more ++ F))
+stamped_longer : (more F : List Entry) (s : Stamped) → IsAmong s (stamped_entries F) → IsAmong s (stamped_entries (more ++ F))
 stamped_longer [] F s m = m
 stamped_longer (e ∷ more) F s m = inr (stamped_longer more F s m)
 
@@ -30,33 +30,34 @@ applied_begins G F b = subst (λ (H : List Entry). AreWithin (applied F) (applie
 pub published_within : (E : Engine) → AreWithin (applied (published_entries E)) (applied E.replica.entries)
 published_within E = applied_begins E.replica.entries (published_entries E) (begins_first E.published E.replica.entries)
 
-published_stamped : (E : Engine) (s : Stamped) → IsAmong s (stamped_of (published_entries E)) → IsAmong s (stamped_of E.replica.entries)
+published_stamped : (E : Engine) (s : Stamped) → IsAmong s (stamped_entries (published_entries E))
+    → IsAmong s (stamped_entries E.replica.entries)
 published_stamped E s m =
     let b = begins_first E.published E.replica.entries in
-    subst (λ (H : List Entry). IsAmong s (stamped_of H)) (sym b.1) (stamped_longer b.0 (published_entries E) s m)
+    subst (λ (H : List Entry). IsAmong s (stamped_entries H)) (sym b.1) (stamped_longer b.0 (published_entries E) s m)
 
 -- ---- what is sent
 
-lacked_there : (E : Engine) (v : Vector) (s : Stamped) → IsAmong s (lacked E v) → IsAmong s (stamped_of E.replica.entries)
+lacked_there : (E : Engine) (v : Vector) (s : Stamped) → IsAmong s (lacked E v) → IsAmong s (stamped_entries E.replica.entries)
 lacked_there E v s m =
     published_stamped E s
-    (in_filter (λ t. not (covers v t.id)) (stamped_of (published_entries E)) s
-    (in_reverse (missing v (stamped_of (published_entries E))) s m))
+    (in_filter (λ t. not (covers v t.id)) (stamped_entries (published_entries E)) s
+    (in_reverse (missing v (stamped_entries (published_entries E))) s m))
 
 answer_there : (E : Engine) (m : Option Message) (ss : List Stamped) → IsAmong (Bundle ss) (answer_sent E m) → (s : Stamped) → IsAmong s ss
-    → IsAmong s (stamped_of E.replica.entries)
+    → IsAmong s (stamped_entries E.replica.entries)
 answer_there E None ss n s m = absurd n
 answer_there E (Some (Bundle ts)) ss n s m = absurd n
 answer_there E (Some (Hello v)) ss n s m = at_test (names_members E v) n
   where
-    at_test : (b : Bool) → IsAmong (Bundle ss) (cond b (Bundle (lacked E v) ∷ []) []) → IsAmong s (stamped_of E.replica.entries)
+    at_test : (b : Bool) → IsAmong (Bundle ss) (cond b (Bundle (lacked E v) ∷ []) []) → IsAmong s (stamped_entries E.replica.entries)
     at_test true (inl e) = (let same : ss ≡ lacked E v = cc in lacked_there E v s (subst (IsAmong s) same m))
     at_test true (inr k) = absurd k
     at_test false k = absurd k
 
 -- An operation of a bundle stands in the history of the engine that sends it.
 pub sent_there : (ms : List Message) (w : WorldAct) (E : Engine) (ss : List Stamped) → IsAmong (Bundle ss) (sent_by ms w E) → (s : Stamped)
-    → IsAmong s ss → IsAmong s (stamped_of E.replica.entries)
+    → IsAmong s ss → IsAmong s (stamped_entries E.replica.entries)
 sent_there ms (SayHello t) E ss (inl q) s m = cc
 sent_there ms (SayHello t) E ss (inr n) s m = absurd n
 sent_there ms (AnswerHello t k) E ss n s m = answer_there E (slice_get ms k) ss n s m

@@ -5,7 +5,7 @@ use Rattle.semantics.specs.Elements.{Item, At, HeadOf, Text, EmptyMap, EmptyList
 use Rattle.semantics.specs.Operations.{Assign, Insert}
 use Rattle.semantics.specs.Questions.{Step, Get, Idx, Keys, Items, Values, Question, KeysAre, ItemsAre, ValuesAre}
 use Rattle.semantics.specs.Making.{Command}
-use Rattle.semantics.specs.Entries.{stamped_of}
+use Rattle.semantics.specs.Entries.{stamped_entries}
 use Rattle.semantics.specs.LegalAnswer.{Made, OfDocument, Answered}
 use Rattle.semantics.specs.Replica.{Replica}
 use Rattle.semantics.specs.Engine.{StepReply, Ticket, Published, Unanswered, Replied, Read}
@@ -34,7 +34,7 @@ abbrev pub list : Replica
 list = after_commands (new 1) commands
 
 -- the operations as they are sent, the oldest first
-sent_operations : reverse (stamped_of list.entries)
+sent_operations : reverse (stamped_entries list.entries)
     ≡ sent 1 1 [] (At Doc) (Assign EmptyMap)
     ∷ sent 2 1 (id_at 1 1 ∷ []) (At (field (codes "shopping"))) (Assign EmptyList)
     ∷ sent 3 1 (id_at 2 1 ∷ []) (HeadOf (field (codes "shopping"))) (Insert (text (codes "eggs")))

@@ -8,7 +8,7 @@ use Rattle.semantics.specs.LegalHistory.{IsLegal, has_id, IsAmong}
 use Rattle.semantics.specs.Stamped.{Stamped}
 use Rattle.semantics.specs.Faults.{fault_of}
 use Rattle.semantics.specs.Making.{is_full}
-use Rattle.semantics.specs.Entries.{stamped_of}
+use Rattle.semantics.specs.Entries.{stamped_entries}
 use Rattle.semantics.specs.Replica.{Replica, operations, IsRunning}
 use Rattle.semantics.specs.Drain.{first_ready, without_waiting, taken_with, taken, at_ready, drain_for}
 use Rattle.semantics.specs.OneWorld.{AreWithin, IsOfWorld}
@@ -31,7 +31,7 @@ in_without_other a (y ∷ W) x m n = at_test (λ k. in_without_other a W x k n) 
     at_test rest false e (inr k) = inr (rest k)
 
 -- where one leaves without a fault, each other stays
-stays_taken : (r : Replica) (s x : Stamped) → fault_of (stamped_of r.entries) s ≡ None
+stays_taken : (r : Replica) (s x : Stamped) → fault_of (stamped_entries r.entries) s ≡ None
     → IsAmong x r.waiting ⊎ (has_id (operations r) x.id ≡ true)
     → IsAmong x (taken r s).waiting ⊎ (has_id (operations (taken r s)) x.id ≡ true)
 stays_taken r s x none h = subst (λ (d : Replica). IsAmong x d.waiting ⊎ (has_id (operations d) x.id ≡ true))
@@ -61,8 +61,8 @@ stay_for K lk (suc n) r h w of x m = at_full (λ q k u v t. stay_for K lk n q k 
         let got = ready_first (operations r) r.waiting h.rising s e in
         let one = taken_keeps K lk r s h w (of s got.0) got.0 got.1 in
         let may = may_follow_ready K lk r h w s (of s got.0) (h.unapplied s got.0) got.1 in
-        let none : fault_of (stamped_of r.entries) s
-        ≡ None = no_fault_where_follows (stamped_of r.entries) s (entries_legal r.own r.entries h.history) may.0 in
+        let none : fault_of (stamped_entries r.entries) s
+        ≡ None = no_fault_where_follows (stamped_entries r.entries) s (entries_legal r.own r.entries h.history) may.0 in
         rest (taken r s) (taken_running r s h got.0) one.0.within (λ y k. of y (one.1 y k)) (stays_taken r s x none m)
 
     at_full : ((q : Replica) → IsRunning q → AreWithin (operations q) K → ((s : Stamped) → IsAmong s q.waiting → IsOfWorld K s)

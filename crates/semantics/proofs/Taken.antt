@@ -6,7 +6,7 @@ use Rattle.semantics.specs.LegalHistory.{has_id, IsAmong}
 use Rattle.semantics.specs.Stamped.{Stamped}
 use Rattle.ids.specs.declared.refusal.Refusal.{Refusal}
 use Rattle.semantics.specs.Faults.{fault_of}
-use Rattle.semantics.specs.Entries.{stamped_of}
+use Rattle.semantics.specs.Entries.{stamped_entries}
 use Rattle.semantics.specs.Replica.{Replica, operations, IsRunning}
 use Rattle.semantics.specs.Drain.{without_waiting, taken_with, taken, Drains}
 use Rattle.semantics.proofs.Orders.{ids_from_test, id_tested}
@@ -18,13 +18,13 @@ differs_back : (a b : OpId) → is_same_id a b ≡ false → is_same_id b a ≡ 
 differs_back a b h = false_from_ne_true (is_same_id b a) (λ e. true≢false (sym (id_tested a b (sym (ids_from_test b a e))) ∙ h))
 
 pub taken_running : (r : Replica) (s : Stamped) → IsRunning r → IsAmong s r.waiting → IsRunning (taken r s)
-taken_running r s h m = at_fault (fault_of (stamped_of r.entries) s) refl
+taken_running r s h m = at_fault (fault_of (stamped_entries r.entries) s) refl
   where
-    at_fault : (w : Option Refusal) → fault_of (stamped_of r.entries) s ≡ w → IsRunning (taken_with r s w)
+    at_fault : (w : Option Refusal) → fault_of (stamped_entries r.entries) s ≡ w → IsRunning (taken_with r s w)
     at_fault None e = record {
       history = (
         h.history,
-        follows_without_fault (stamped_of r.entries) s (entries_legal r.own r.entries h.history)
+        follows_without_fault (stamped_entries r.entries) s (entries_legal r.own r.entries h.history)
             (h.alone s m) e,
         h.foreign s m,
       );
@@ -43,7 +43,7 @@ taken_running r s h m = at_fault (fault_of (stamped_of r.entries) s) refl
     }
 
 pub taken_drains : (r : Replica) (s : Stamped) → IsRunning r → IsAmong s r.waiting → Drains r (taken r s)
-taken_drains r s h m = at_fault (fault_of (stamped_of r.entries) s)
+taken_drains r s h m = at_fault (fault_of (stamped_entries r.entries) s)
   where
     one : suc (length (without_waiting s.id r.waiting)) ≡ length r.waiting
     one = without_one s r.waiting h.rising m
@@ -69,7 +69,7 @@ taken_drains r s h m = at_fault (fault_of (stamped_of r.entries) s)
     }
 
 pub taken_fewer : (r : Replica) (s : Stamped) → IsRunning r → IsAmong s r.waiting → suc (length (taken r s).waiting) ≡ length r.waiting
-taken_fewer r s h m = at_fault (fault_of (stamped_of r.entries) s)
+taken_fewer r s h m = at_fault (fault_of (stamped_entries r.entries) s)
   where
     at_fault : (w : Option Refusal) → suc (length (taken_with r s w).waiting) ≡ length r.waiting
     at_fault None = without_one s r.waiting h.rising m

@@ -9,7 +9,7 @@ use Rattle.semantics.specs.NamedIds.{greatest_counter}
 use Rattle.semantics.specs.Vectors.{Vector, at, covers}
 use Rattle.semantics.specs.Stamped.{Stamped, operation_after, operations_of, MayFollow, IsLegalStamped, Means}
 use Rattle.semantics.specs.Faults.{is_ready, fault_of, is_of_members, alone_fault}
-use Rattle.semantics.specs.Entries.{stamped_of, missing}
+use Rattle.semantics.specs.Entries.{stamped_entries, missing}
 use Rattle.semantics.specs.Replica.{Replica, operations, IsRunning}
 use Rattle.semantics.specs.Delivery.{deliver}
 use Rattle.semantics.specs.Drain.{receive, receive_all}
@@ -108,7 +108,7 @@ module _ (K : List Operation) (lk : IsLegal K) (r : Replica) (v : Vector) (named
       new e =
           let o : Operation = operation_after (operations_of F) s in
           let m : Means (operations_of (s ∷ F)) s o = means_first F s l in
-          let ld : IsLegal (operations d) = legal (stamped_of d.entries) (entries_legal d.own d.entries h.running.history) in
+          let ld : IsLegal (operations d) = legal (stamped_entries d.entries) (entries_legal d.own d.entries h.running.history) in
           let before : (a : OpId) → o.deps a ≡ true → has_id (operations d) a ≡ true =
           λ a t. h.union a
           ∙ or_right (has_id (operations r) a) (has_id (operations_of F) a)
@@ -121,14 +121,14 @@ module _ (K : List Operation) (lk : IsLegal K) (r : Replica) (v : Vector) (named
           (not_from_false (has_id (operations r) s.id) none_here) in
           let small : length d.entries ≤ length r.entries + length (lacking (operations r) F) = h.room in
           let few : length d.entries < 1048576 = omega (arith, room, grown, small) in
-          let there : length (operations d) ≡ length d.entries = length_operations (stamped_of d.entries) ∙ length_stamped d.entries in
+          let there : length (operations d) ≡ length d.entries = length_operations (stamped_entries d.entries) ∙ length_stamped d.entries in
           let alone : alone_fault d.members s ≡ None =
           no_fault_alone d.members (operations d) s ld (omega (arith, there, few)) may (ap (λ ps. is_of_members ps s) h.members ∙ known) in
           let other : (s.id.replica == d.own) ≡ false =
           false_from_ne_true (s.id.replica == d.own) (λ t. true≢false (sym (own (eqb-true s.id.replica d.own t ∙ h.own)) ∙ none_here)) in
           let ready : is_ready (operations d) s ≡ true = ready-from (operations d) s (ready_where_follows may) in
-          let none : fault_of (stamped_of d.entries) s
-          ≡ None = no_fault_where_follows (stamped_of d.entries) s (entries_legal d.own d.entries h.running.history) may in
+          let none : fault_of (stamped_entries d.entries) s
+          ≡ None = no_fault_where_follows (stamped_entries d.entries) s (entries_legal d.own d.entries h.running.history) may in
           let end : receive d s ≡ appended d s =
           received_new d s h.none_waits alone e other (le-ltb 1048575 (length d.entries) (omega (arith, few))) ready none in
           let running : IsRunning (receive d s) = (drained (deliver d s) (delivered d s h.running)).0 in
@@ -178,7 +178,7 @@ module _ (K : List Operation) (lk : IsLegal K) (r : Replica) (v : Vector) (named
 pub exchanged : (r : Replica) (F : List Stamped) (v : Vector) → CanReceive r F v → HasReceived r (receive_all r (missing v F)) F
 exchanged r F v c =
     let h = along c.world.all c.world.legal r v c.vector
-    (legal (stamped_of r.entries) (entries_legal r.own r.entries c.running.history)) c.world.first
+    (legal (stamped_entries r.entries) (entries_legal r.own r.entries c.running.history)) c.world.first
     F c.running c.none_waits c.legal c.world.second c.own c.members c.room in
     record {
       running = h.running;

@@ -5,7 +5,7 @@ use Rattle.ids.specs.Configurations.{Configuration}
 use Rattle.semantics.specs.Ids.{OpId}
 use Rattle.semantics.specs.LegalHistory.{IsAmong, has_id}
 use Rattle.semantics.specs.Stamped.{Stamped}
-use Rattle.semantics.specs.Entries.{Entry, stamped_of}
+use Rattle.semantics.specs.Entries.{Entry, stamped_entries}
 use Rattle.semantics.specs.Replica.{Replica, operations, IsRunning}
 use Rattle.semantics.specs.Delivery.{is_waiting}
 use Rattle.semantics.specs.Engine.{Engine, published_entries, SentBundle, Received}
@@ -60,7 +60,7 @@ module _ (cs : List Configuration) (steps : List WorldStep) (a b c first end : �
       ∙ ap (λ W. world_after W receiving) to_receipt
 
   exchanged : HaveOwnNumbers cs → AreWithoutLines steps → (A : Engine) → IsEngineAfter cs steps a A → IsHandledBelow A c end
-      → AllAre (HasArrived c first end A) (stamped_of published)
+      → AllAre (HasArrived c first end A) (stamped_entries published)
   exchanged own known A e handled =
       let all : AreWithoutLines (x.before ++ asking ++ answering ++ receiving) = subst AreWithoutLines x.all known in
       let to_third = front_known (x.before ++ asking ++ answering) receiving all in
@@ -74,12 +74,12 @@ module _ (cs : List Configuration) (steps : List WorldStep) (a b c first end : �
       (subst (λ (W : World). (world_step W (step_by b (AnswerHello x.u x.h))).reply ≡ SentBundle x.k x.sent) to_answer x.answer)
       (subst (λ (W : World). (world_step W (step_by a (Deliver c x.k))).reply ≡ Received first x.count None) to_receipt x.receipt)
       A (subst (λ (W : World). slice_get W.engines a ≡ Some A) to_end e) (subst (IsHandledBelow A c) x.last handled) in
-      subst (λ (G : List Entry). AllAre (HasArrived c first end A) (stamped_of G)) x.had
-      (subst (λ n. AllAre (HasArrived c first n A) (stamped_of (published_entries x.answerer))) (sym x.last) through)
+      subst (λ (G : List Entry). AllAre (HasArrived c first end A) (stamped_entries G)) x.had
+      (subst (λ n. AllAre (HasArrived c first n A) (stamped_entries (published_entries x.answerer))) (sym x.last) through)
 
 pub messages_complete : (cs : List Configuration) (steps : List WorldStep) → HaveOwnNumbers cs → AreWithoutLines steps
     → (a b c first end : ℕ) (published : List Entry) (A : Engine) → IsExchange cs steps a b c first end published
-    → IsEngineAfter cs steps a A → IsHandledBelow A c end → (s : Stamped) → IsAmong s (stamped_of published)
+    → IsEngineAfter cs steps a A → IsHandledBelow A c end → (s : Stamped) → IsAmong s (stamped_entries published)
     → IsAppliedUnlessFull A c first end s
 messages_complete cs steps own known a b c first end published A x e handled s m =
     elim (exchanged cs steps a b c first end published x own known A e handled s m) [

@@ -6,7 +6,7 @@ use Rattle.std.proofs.lemmas.List.{append-nil}
 use Rattle.ids.specs.declared.refusal.Refusal.{Refusal}
 use Rattle.semantics.specs.Stamped.{Stamped}
 use Rattle.semantics.specs.LegalAnswer.{Request, OfPeer, Submitted}
-use Rattle.semantics.specs.Engine.{Engine, Client, Turn}
+use Rattle.semantics.specs.Engine.{Engine, Client, Outcome}
 use Rattle.semantics.specs.WriteSteps.{next_item, with_cell, submit, push}
 use Rattle.semantics.specs.PeerSteps.{Receipt, refusal_in, unless_refused, submit_all}
 use Rattle.semantics.proofs.SetElements.{get-set_same}
@@ -17,7 +17,7 @@ use Rattle.semantics.proofs.ComingItems.{is_of_receipt, awaited}
 abbrev pub with_item : Engine → ℕ → Client → Stamped → Engine
 with_item E c k s = with_client E (E.queue ++ next_item c k (OfPeer s) ∷ []) E.due c (with_cell k (next_item c k (OfPeer s)))
 
-abbrev pub IsPushed : Engine → ℕ → Client → Stamped → Turn → Type 0
+abbrev pub IsPushed : Engine → ℕ → Client → Stamped → Outcome → Type 0
 IsPushed E c k s t = ((why : Refusal) × (refusal_in t.reply ≡ Some why)) ⊎ ((t.engine ≡ with_item E c k s) × (refusal_in t.reply ≡ None))
 
 -- a push is refused, or the item stands in the queue
@@ -85,7 +85,7 @@ module _ (E : Engine) (c : ℕ) (k : Client) (bad : Option Refusal) (n : ℕ) (s
 
   unless_stopped : ((rest (with_item E c k s)).stopped ≡ None
       → IsWhole (with_item E c k s) c (with_cell k item) bad (suc n) ss (rest (with_item E c k s)))
-      → (t : Turn) → IsPushed E c k s t
+      → (t : Outcome) → IsPushed E c k s t
       → (unless_refused E n (refusal_in t.reply) (rest t.engine)).stopped ≡ None
       → IsWhole E c k bad n (s ∷ ss) (unless_refused E n (refusal_in t.reply) (rest t.engine))
   unless_stopped later t (inl r) h = (let z = rw r.1 at h in cc)

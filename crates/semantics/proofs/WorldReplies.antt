@@ -7,7 +7,7 @@ use Rattle.semantics.specs.DocumentAnswer.{document_answer}
 use Rattle.semantics.specs.View.{view}
 use Rattle.semantics.specs.Stamped.{Stamped}
 use Rattle.semantics.specs.Making.{Command}
-use Rattle.semantics.specs.Entries.{Entry, Own, applied, stamped_of, entry_at, first_entries}
+use Rattle.semantics.specs.Entries.{Entry, Own, applied, stamped_entries, entry_at, first_entries}
 use Rattle.semantics.specs.LegalAnswer.{Request, OfCommand, OfPeer, Submitted, Reply, Made, Asked, OfDocument, Reading, Answered}
 use Rattle.semantics.specs.LegalAnswer.{IsLegalAnswer, IsLegalReply, reading_of}
 use Rattle.semantics.specs.Engine.{Engine, Client, Cell, Given, Replied, Read, published_entries}
@@ -136,5 +136,5 @@ reading_viewed E s t q n R h =
     is ∙ (λ i. Answered (document_is_view (applied (published_entries E)) are_legal q i))
   where
     are_legal : IsLegal (applied (published_entries E))
-    are_legal = legal (stamped_of (published_entries E))
+    are_legal = legal (stamped_entries (published_entries E))
         (entries_legal E.replica.own (published_entries E) (first_history E.replica.own E.published E.replica.entries s.running.history))

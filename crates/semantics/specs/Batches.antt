@@ -6,7 +6,7 @@ use Rattle.semantics.specs.LegalAnswer.{OfCommand, Submitted}
 use Rattle.semantics.specs.Replica.{IsRunning}
 use Rattle.semantics.specs.Engine.{Handled}
 use Rattle.semantics.specs.WorldHistory.{BeginsWith, of_client}
-use Rattle.semantics.specs.Receipts.{IsAnswer}
+use Rattle.semantics.specs.PeerAnswers.{IsAnswer}
 use Rattle.semantics.specs.Handling.{Handler, Runs}
 
 -- of one client's submissions, numbered from serial 1 on, the one with that serial asks for the command

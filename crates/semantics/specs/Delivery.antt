@@ -9,7 +9,7 @@ use Rattle.semantics.specs.LegalHistory.{has_id}
 use Rattle.semantics.specs.Stamped.{Stamped}
 use Rattle.semantics.specs.Faults.{alone_fault, is_ready, fault_of}
 use Rattle.semantics.specs.Making.{is_full}
-use Rattle.semantics.specs.Entries.{stamped_of}
+use Rattle.semantics.specs.Entries.{stamped_entries}
 use Rattle.semantics.specs.Replica.{Replica, operations}
 
 -- the answer to a delivery
@@ -39,7 +39,7 @@ is_crowded ready n = nat_lt (cond ready most_waiting (most_waiting - 1)) n
 -- the answer to what is ready, and to what is not
 abbrev pub room_answer : Replica → Stamped → Delivered
 room_answer r s = cond (is_ready (operations r) s)
-    (cond (is_crowded true (length r.waiting)) (NotKept InboxFull) (kept_unless (fault_of (stamped_of r.entries) s)))
+    (cond (is_crowded true (length r.waiting)) (NotKept InboxFull) (kept_unless (fault_of (stamped_entries r.entries) s)))
     (cond (is_crowded false (length r.waiting)) (NotKept InboxFull) Kept)
 
 -- the answer to an operation that passed the tests that need no history, and is neither applied nor waits

@@ -89,6 +89,6 @@ pub data StepReply : Type 0 where
   Dropped : (operations : ℕ) → StepReply
 
 -- the engine after a step, and the reply
-pub record Turn : Type 0 where
+pub record Outcome : Type 0 where
   pub engine : Engine
   pub reply : StepReply

@@ -18,13 +18,13 @@ stamped_in (Own client serial c s) = s
 stamped_in (Peer s) = s
 
 -- the operations of the entries, with their vectors
-abbrev pub stamped_of : List Entry → List Stamped
-stamped_of [] = []
-stamped_of (e ∷ G) = stamped_in e ∷ stamped_of G
+abbrev pub stamped_entries : List Entry → List Stamped
+stamped_entries [] = []
+stamped_entries (e ∷ G) = stamped_in e ∷ stamped_entries G
 
 -- the operations of the entries
 abbrev pub applied : List Entry → List Operation
-applied G = operations_of (stamped_of G)
+applied G = operations_of (stamped_entries G)
 
 -- the serial is above each that the client had
 abbrev pub IsAbove : (client serial : ℕ) → List Entry → Type 0
@@ -57,4 +57,4 @@ missing v G = filter (λ s. not (covers v s.id)) G
 
 -- the operations of the entries that v doesn't cover, the oldest first
 abbrev pub lacked_of : List Entry → Vector → List Stamped
-lacked_of G v = reverse (missing v (stamped_of G))
+lacked_of G v = reverse (missing v (stamped_entries G))

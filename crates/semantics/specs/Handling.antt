@@ -10,7 +10,7 @@ use Rattle.semantics.specs.Delivery.{answer_to, deliver}
 use Rattle.semantics.specs.Drain.{counted, drain, drain_for}
 use Rattle.semantics.specs.WriteSteps.{after_item, reply_to, reply_delivered}
 use Rattle.semantics.specs.Engine.{Handled}
-use Rattle.semantics.specs.Receipts.{IsAnswer}
+use Rattle.semantics.specs.PeerAnswers.{IsAnswer}
 
 -- a writer's replica, and whether a failed allocation ended its last drain early
 pub record Handler : Type 0 where

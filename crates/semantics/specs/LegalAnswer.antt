@@ -8,7 +8,7 @@ use Rattle.semantics.specs.DocumentAnswer.{document_answer}
 use Rattle.semantics.specs.Vectors.{Vector}
 use Rattle.semantics.specs.Stamped.{Stamped}
 use Rattle.semantics.specs.Making.{Command, make}
-use Rattle.semantics.specs.Entries.{Entry, Own, Peer, applied, stamped_of, entry_at, first_entries, missing}
+use Rattle.semantics.specs.Entries.{Entry, Own, Peer, applied, stamped_entries, entry_at, first_entries, missing}
 
 -- what a client asks of the writer: to make an operation of a command, or to take one that a peer sent
 pub data Request : Type 0 where
@@ -49,11 +49,11 @@ IsLegalAnswer p G x c (KeptAt m) = ⊥
 IsLegalAnswer p G x c (KnownAt m) = ⊥
 
 -- the reply to an operation that a peer sent: nothing was made, and the history had the length that is named
-abbrev pub IsLegalReceipt : List Entry → Reply → Type 0
-IsLegalReceipt G (Made a n) = ⊥
-IsLegalReceipt G (NotMade e m) = m ≤ length G
-IsLegalReceipt G (KeptAt m) = m ≤ length G
-IsLegalReceipt G (KnownAt m) = m ≤ length G
+abbrev pub IsLegalPeerAnswer : List Entry → Reply → Type 0
+IsLegalPeerAnswer G (Made a n) = ⊥
+IsLegalPeerAnswer G (NotMade e m) = m ≤ length G
+IsLegalPeerAnswer G (KeptAt m) = m ≤ length G
+IsLegalPeerAnswer G (KnownAt m) = m ≤ length G
 
 -- the reply that it allows to what was submitted
 abbrev pub IsLegalReply : ℕ → List Entry → Submitted → Reply → Type 0
@@ -61,7 +61,7 @@ IsLegalReply p G x r = of_request x.request
   where
     of_request : Request → Type 0
     of_request (OfCommand c) = IsLegalAnswer p G x c r
-    of_request (OfPeer s) = IsLegalReceipt G r
+    of_request (OfPeer s) = IsLegalPeerAnswer G r
 
 -- a question to the document, or for the operations that a vector doesn't name
 pub data Asked : Type 0 where
@@ -76,7 +76,7 @@ pub data Reading : Type 0 where
 -- what an entry history answers
 abbrev pub reading_of : List Entry → Asked → Reading
 reading_of G (OfDocument q) = Answered (document_answer (applied G) q)
-reading_of G (Missing v) = MissingAre (missing v (stamped_of G))
+reading_of G (Missing v) = MissingAre (missing v (stamped_entries G))
 
 -- the reading at length m
 abbrev pub IsLegalReading : List Entry → ℕ → Asked → Reading → Type 0

@@ -31,7 +31,7 @@ pub mod PeerSteps
 pub mod World
 pub mod WorldHistory
 pub mod WorldExchange
-pub mod Receipts
+pub mod PeerAnswers
 pub mod Handling
 pub mod Batches
 pub mod Publication

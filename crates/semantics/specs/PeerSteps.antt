@@ -11,7 +11,7 @@ use Rattle.semantics.specs.Faults.{is_of_members}
 use Rattle.semantics.specs.Entries.{applied, lacked_of}
 use Rattle.semantics.specs.LegalAnswer.{OfPeer}
 use Rattle.semantics.specs.Engine.{Engine, Client, Message, Hello, Bundle, published_entries, StepReply, Denied, Idle, SentHello}
-use Rattle.semantics.specs.Engine.{SentBundle, NoMessage, Received, Turn}
+use Rattle.semantics.specs.Engine.{SentBundle, NoMessage, Received, Outcome}
 use Rattle.semantics.specs.WriteSteps.{push}
 use Rattle.semantics.specs.ReadSteps.{see_published}
 
@@ -30,11 +30,11 @@ abbrev pub names_members : Engine → Vector → Bool
 names_members e v = list_all (λ a. is_member e.replica.members a.replica) v
 
 -- a token says hello, in message k; it then has seen all that is published
-abbrev pub say_hello : Engine → (token message : ℕ) → Turn
+abbrev pub say_hello : Engine → (token message : ℕ) → Outcome
 say_hello e t k = record { engine = see_published e t; reply = SentHello k (published_vector e) }
 
 -- a token answers a hello, in message k; where the hello names a replica that isn't a member, nothing is sent or seen
-abbrev pub answer_hello : Engine → (token message : ℕ) → Option Message → Turn
+abbrev pub answer_hello : Engine → (token message : ℕ) → Option Message → Outcome
 answer_hello e t k (Some (Hello v)) =
     cond (names_members e v)
     (record { engine = see_published e t; reply = SentBundle k (length (lacked e v)) })
@@ -73,14 +73,14 @@ submit_all c bad n e (s ∷ ss) = unless_refused e n (refusal_in (push e c (OfPe
     (submit_all c bad (suc n) (push e c (OfPeer s)).engine ss)
 
 -- what is replied, where the client's next serial was this
-abbrev pub as_received : (serial : ℕ) → Receipt → Turn
+abbrev pub as_received : (serial : ℕ) → Receipt → Outcome
 as_received serial r = record { engine = r.engine; reply = Received (cond (r.submitted == 0) 0 serial) r.submitted r.stopped }
 
 -- a client receives lines: these operations, and then a bad line, if there is one
-abbrev pub receive_lines : Engine → ℕ → List Stamped → Option Refusal → Turn
+abbrev pub receive_lines : Engine → ℕ → List Stamped → Option Refusal → Outcome
 receive_lines e c ss bad = at_client (slice_get e.clients c)
   where
-    at_client : Option Client → Turn
+    at_client : Option Client → Outcome
     at_client None = record { engine = e; reply = Idle }
     at_client (Some k) = as_received (suc (length k.cells)) (submit_all c bad 0 e ss)
 
@@ -94,7 +94,7 @@ abbrev pub stranger_fault : List ℕ → List Stamped → Option Refusal
 stranger_fault ms ss = cond (list_all (is_of_members ms) ss) None (Some UnknownReplica)
 
 -- a client receives a message, each operation as a line
-abbrev pub receive_message : Engine → ℕ → Option Message → Turn
+abbrev pub receive_message : Engine → ℕ → Option Message → Outcome
 receive_message e c (Some (Bundle ss)) = receive_lines e c (before_stranger e.replica.members ss) (stranger_fault e.replica.members ss)
 receive_message e c (Some (Hello v)) = record { engine = e; reply = NoMessage }
 receive_message e c None = record { engine = e; reply = NoMessage }

@@ -2,7 +2,7 @@
 use Rattle.std.specs.Prelude.{ℕ, max, cond, ◌-◌, ◌==◌, List, length, Option, Some, None, slice_get, slice_index_or, slice_set}
 use Rattle.ids.specs.declared.refusal.Refusal.TheVariants.{Foreign}
 use Rattle.semantics.specs.LegalAnswer.{Asked, reading_of}
-use Rattle.semantics.specs.Engine.{Given, Cell, Client, Engine, published_entries, Denied, Idle, Unanswered, Replied, Read, Seen, Turn}
+use Rattle.semantics.specs.Engine.{Given, Cell, Client, Engine, published_entries, Denied, Idle, Unanswered, Replied, Read, Seen, Outcome}
 
 -- the cell of a serial; none has the serial 0
 abbrev pub cell_at : List Cell → (serial : ℕ) → Option Cell
@@ -27,11 +27,11 @@ seen_by E t = of_client (slice_get E.clients t)
 -- ---- polling
 
 -- a client polls: it then has seen what was published with the answer
-abbrev pub poll_cell : Engine → (client : ℕ) → Client → Option Cell → Turn
+abbrev pub poll_cell : Engine → (client : ℕ) → Client → Option Cell → Outcome
 poll_cell e c k None = record { engine = e; reply = Denied Foreign }
 poll_cell e c k (Some cell) = at_answer cell.answer
   where
-    at_answer : Option Given → Turn
+    at_answer : Option Given → Outcome
     at_answer None = record { engine = e; reply = Unanswered }
     at_answer (Some g) = record {
       engine = record e { clients = slice_set e.clients c (record k { seen = max k.seen g.published }) };
@@ -39,10 +39,10 @@ poll_cell e c k (Some cell) = at_answer cell.answer
     }
 
 -- a client polls for the answer to one of its serials
-abbrev pub poll : Engine → (client serial : ℕ) → Turn
+abbrev pub poll : Engine → (client serial : ℕ) → Outcome
 poll e c serial = at_client (slice_get e.clients c)
   where
-    at_client : Option Client → Turn
+    at_client : Option Client → Outcome
     at_client None = record { engine = e; reply = Idle }
     at_client (Some k) = poll_cell e c k (cell_at k.cells serial)
 
@@ -61,19 +61,19 @@ abbrev pub see_published : Engine → (token : ℕ) → Engine
 see_published e t = see e t e.published
 
 -- a token asks: it sees all that is published
-abbrev pub ask : Engine → (token : ℕ) → Asked → Turn
+abbrev pub ask : Engine → (token : ℕ) → Asked → Outcome
 ask e t q = record { engine = see_published e t; reply = Read e.published (reading_of (published_entries e) q) }
 
 -- ---- learning
 
 -- a token learns of an answer: it then has seen at least what was published with it
-abbrev pub learn : Engine → (token client serial : ℕ) → Turn
+abbrev pub learn : Engine → (token client serial : ℕ) → Outcome
 learn e t c serial = at_cell (cell_under e c serial)
   where
-    at_answer : Option Given → Turn
+    at_answer : Option Given → Outcome
     at_answer None = record { engine = e; reply = Unanswered }
     at_answer (Some g) = record { engine = see e t (max (seen_by e t) g.published); reply = Seen (max (seen_by e t) g.published) }
 
-    at_cell : Option Cell → Turn
+    at_cell : Option Cell → Outcome
     at_cell None = record { engine = e; reply = Unanswered }
     at_cell (Some cell) = at_answer cell.answer

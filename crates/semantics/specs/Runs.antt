@@ -5,7 +5,7 @@ use Rattle.semantics.specs.LegalHistory.{IsAmong}
 use Rattle.semantics.specs.NamedIds.{NamesAll}
 use Rattle.semantics.specs.Stamped.{Stamped, operation_after}
 use Rattle.semantics.specs.Making.{Command, make}
-use Rattle.semantics.specs.Entries.{IsAbove, stamped_of}
+use Rattle.semantics.specs.Entries.{IsAbove, stamped_entries}
 use Rattle.semantics.specs.Replica.{Replica, operations, commit_own}
 use Rattle.semantics.specs.Drain.{receive}
 
@@ -27,5 +27,5 @@ pub data IsReached (members : ℕ → List ℕ) : Replicas → Type 0 where
   Makes : (W : Replicas) → IsReached members W → (p client serial : ℕ) (c : Command) (s : Stamped) → NamesAll (operations (W p)) s.vector
       → make (operations (W p)) p c ≡ Ok (operation_after (operations (W p)) s)
       → IsAbove client serial (W p).entries → IsReached members (put_replica p (commit_own (W p) client serial c s) W)
-  Comes : (W : Replicas) → IsReached members W → (p q : ℕ) (s : Stamped) → IsAmong s (stamped_of (W q).entries)
+  Comes : (W : Replicas) → IsReached members W → (p q : ℕ) (s : Stamped) → IsAmong s (stamped_entries (W q).entries)
       → IsReached members (put_replica p (receive (W p) s) W)

@@ -6,7 +6,7 @@ use Rattle.ids.specs.declared.refusal.Refusal.{Refusal}
 use Rattle.semantics.specs.Stamped.{Stamped}
 use Rattle.semantics.specs.Making.{Command}
 use Rattle.semantics.specs.LegalAnswer.{OfCommand, Asked}
-use Rattle.semantics.specs.Engine.{Engine, Message, Hello, StepReply, Idle, Dropped, Turn}
+use Rattle.semantics.specs.Engine.{Engine, Message, Hello, StepReply, Idle, Dropped, Outcome}
 use Rattle.semantics.specs.WriteSteps.{push, take_item, publish, give, whole_step}
 use Rattle.semantics.specs.ReadSteps.{poll, ask, learn}
 use Rattle.semantics.specs.PeerSteps.{published_vector, say_hello, answer_hello, answer_sent, receive_lines, receive_message}
@@ -74,7 +74,7 @@ abbrev pub step_by : (engine : ℕ) → WorldAct → WorldStep
 step_by e act = record { engine = e; act = act }
 
 -- what an act does to its engine, after these messages
-abbrev pub engine_step : List Message → WorldAct → Engine → Turn
+abbrev pub engine_step : List Message → WorldAct → Engine → Outcome
 engine_step ms (Push c command) E = push E c (OfCommand command)
 engine_step ms Take E = take_item E
 engine_step ms Publish E = publish E
@@ -96,15 +96,15 @@ sent_by ms (AnswerHello t k) E = answer_sent E (slice_get ms k)
 sent_by ms _ E = []
 
 -- the world after a step, and the reply
-pub record WorldTurn : Type 0 where
+pub record WorldOutcome : Type 0 where
   pub world : World
   pub reply : StepReply
 
 -- one step: its engine moves, and the others stay
-abbrev pub world_step : World → WorldStep → WorldTurn
+abbrev pub world_step : World → WorldStep → WorldOutcome
 world_step W s = at_engine (slice_get W.engines s.engine)
   where
-    at_engine : Option Engine → WorldTurn
+    at_engine : Option Engine → WorldOutcome
     at_engine None = record { world = W; reply = Idle }
     at_engine (Some E) = record {
       world = record {

@@ -13,7 +13,7 @@ use Rattle.semantics.specs.LegalAnswer.{Request, OfCommand, OfPeer, Submitted, R
 use Rattle.semantics.specs.Replica.{Replica, operations, commit_own}
 use Rattle.semantics.specs.Delivery.{Delivered, Kept, Known, NotKept, answer_to}
 use Rattle.semantics.specs.Drain.{counted, receive}
-use Rattle.semantics.specs.Engine.{Given, Cell, Client, Handled, Engine, StepReply, Ticket, Denied, Took, Published, Gave, Idle, Turn}
+use Rattle.semantics.specs.Engine.{Given, Cell, Client, Handled, Engine, StepReply, Ticket, Denied, Took, Published, Gave, Idle, Outcome}
 
 -- ---- submitting
 
@@ -26,17 +26,17 @@ abbrev pub with_cell : Client → Submitted → Client
 with_cell k x = record k { cells = k.cells ++ (record { submitted = x; answer = None }) ∷ [] }
 
 -- the client's submission goes to the queue, unless its serials are used up or the queue is full
-abbrev pub submit : Engine → (client : ℕ) → Client → Submitted → Turn
+abbrev pub submit : Engine → (client : ℕ) → Client → Submitted → Outcome
 submit e c k x =
     cond (nat_le e.serials (length k.cells)) (record { engine = e; reply = Denied SerialEnd })
     (cond (nat_le e.capacity (length e.queue)) (record { engine = e; reply = Denied QueueFull })
     (record { engine = record e { queue = e.queue ++ x ∷ []; clients = slice_set e.clients c (with_cell k x) }; reply = Ticket x.serial }))
 
 -- a client submits a request; its floor is what the client's token has seen
-abbrev pub push : Engine → (client : ℕ) → Request → Turn
+abbrev pub push : Engine → (client : ℕ) → Request → Outcome
 push e c request = at_client (slice_get e.clients c)
   where
-    at_client : Option Client → Turn
+    at_client : Option Client → Outcome
     at_client None = record { engine = e; reply = Idle }
     at_client (Some k) = submit e c k (next_item c k request)
 
@@ -81,7 +81,7 @@ abbrev pub reply_to : Replica → Submitted → Reply
 reply_to r x = cond (nat_lt (length r.entries) x.floor) (NotMade BadFloor (length r.entries)) (reply_requested r x.request)
 
 -- the writer takes the oldest submission and handles it, while fewer than a batch are handled and none is due
-abbrev pub take_oldest : Engine → List Submitted → Turn
+abbrev pub take_oldest : Engine → List Submitted → Outcome
 take_oldest e [] = record { engine = e; reply = Idle }
 take_oldest e (x ∷ queue) =
     cond (is_any e.due || nat_le e.batch (length e.handled)) (record { engine = e; reply = Idle })
@@ -95,11 +95,11 @@ take_oldest e (x ∷ queue) =
     })
 
 -- the writer takes and handles the next submission, if it may
-abbrev pub take_item : Engine → Turn
+abbrev pub take_item : Engine → Outcome
 take_item e = take_oldest e e.queue
 
 -- the writer publishes all that it handled
-abbrev pub publish : Engine → Turn
+abbrev pub publish : Engine → Outcome
 publish e =
     cond (is_any e.due || not (is_any e.handled)) (record { engine = e; reply = Idle })
     (record {
@@ -126,7 +126,7 @@ give_to clients c serial g = at_client (slice_get clients c)
     at_client (Some k) = slice_set clients c (with_answer k serial g)
 
 -- the writer sets the answer to the oldest published submission
-abbrev pub give_oldest : Engine → List Handled → Turn
+abbrev pub give_oldest : Engine → List Handled → Outcome
 give_oldest e [] = record { engine = e; reply = Idle }
 give_oldest e (h ∷ due) =
     record {
@@ -139,7 +139,7 @@ give_oldest e (h ∷ due) =
     }
 
 -- the writer sets the next answer that is due, if one is
-abbrev pub give : Engine → Turn
+abbrev pub give : Engine → Outcome
 give e = give_oldest e e.due
 
 -- ---- a whole step of the writer
@@ -164,8 +164,8 @@ answered_or_idle zero = Idle
 answered_or_idle (suc n) = Published (suc n)
 
 -- the writer takes while it may, publishes if it may, and then sets all answers
-abbrev pub whole_step : Engine → Turn
+abbrev pub whole_step : Engine → Outcome
 whole_step e = give_all (handle_all e)
   where
-    give_all : Engine → Turn
+    give_all : Engine → Outcome
     give_all f = record { engine = give_for (length f.due) f; reply = answered_or_idle (length f.due) }

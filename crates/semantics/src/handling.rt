@@ -9,7 +9,7 @@ ghost use Rattle.semantics.specs.Replica.{IsRunning};
 ghost use Rattle.semantics.specs.Engine.{Handled};
 ghost use Rattle.semantics.specs.WorldHistory.{BeginsWith, of_client};
 ghost use Rattle.semantics.specs.Handling.{Handler, Resumes, Handles, IsAfter, is_outside_rules};
-ghost use Rattle.semantics.specs.Receipts.{IsAnswer};
+ghost use Rattle.semantics.specs.PeerAnswers.{IsAnswer};
 ghost use Rattle.semantics.specs.Batches.{ComeFrom, IsBatch, IsResumed, items_of};
 
 /// Handling a submission keeps what holds of a replica, whether an allocation fails or not, and the reply is a legal answer.

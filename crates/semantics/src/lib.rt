@@ -9,7 +9,7 @@ pub mod handling;
 pub mod legality;
 pub mod list_order;
 pub mod one_world;
-pub mod receipts;
+pub mod peer_answers;
 pub mod replica;
 pub mod vectors;
 pub mod world;

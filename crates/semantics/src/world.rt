@@ -11,7 +11,7 @@ ghost use Rattle.semantics.specs.Questions.{Question};
 ghost use Rattle.semantics.specs.View.{view};
 ghost use Rattle.semantics.specs.Stamped.{Stamped};
 ghost use Rattle.semantics.specs.Making.{Command};
-ghost use Rattle.semantics.specs.Entries.{IsEntryHistory, Own, applied, entry_at, first_entries, stamped_of};
+ghost use Rattle.semantics.specs.Entries.{IsEntryHistory, Own, applied, entry_at, first_entries, stamped_entries};
 ghost use Rattle.semantics.specs.LegalAnswer.{Request, OfCommand, OfPeer, Submitted, Reply, Made, NotMade, Asked, OfDocument, Reading};
 ghost use Rattle.semantics.specs.LegalAnswer.{Answered, LacksSerial, IsLegalReply, reading_of};
 ghost use Rattle.semantics.specs.Engine.{Engine, Client, Given, Message, Hello, Bundle, Ticket, Replied, Read, SentBundle, Received};
@@ -120,7 +120,7 @@ pub fn what_is_sent_is_published()
     ensures hello { (ms : List Message) (act : WorldAct) (E : Engine) (v : Vector) → IsAmong (Hello v) (sent_by ms act E) →
         v ≡ vector_of (applied (published_entries E)) }
     ensures bundle { (ms : List Message) (act : WorldAct) (E : Engine) (ss : List Stamped) → IsAmong (Bundle ss) (sent_by ms act E) →
-        (s : Stamped) → IsAmong s ss → IsAmong s (stamped_of (published_entries E)) }
+        (s : Stamped) → IsAmong s ss → IsAmong s (stamped_entries (published_entries E)) }
 {}
 
 /// Nothing that was seen goes away: histories, what is published of them and what tokens have seen only grow, and what was

@@ -8,7 +8,7 @@ ghost use Rattle.semantics.specs.LegalHistory.{IsLegal, IsAmong, has_id};
 ghost use Rattle.semantics.specs.Questions.{Question};
 ghost use Rattle.semantics.specs.DocumentAnswer.{document_answer};
 ghost use Rattle.semantics.specs.Stamped.{Stamped};
-ghost use Rattle.semantics.specs.Entries.{Entry, applied, stamped_of};
+ghost use Rattle.semantics.specs.Entries.{Entry, applied, stamped_entries};
 ghost use Rattle.semantics.specs.OneWorld.{IsReplicaOf};
 ghost use Rattle.semantics.specs.Engine.{Engine, Message, published_entries};
 ghost use Rattle.semantics.specs.World.{WorldStep, opened, world_after};
@@ -44,5 +44,5 @@ pub fn an_exchange_of_messages_is_complete()
     ensures { (cs : List Configuration) (steps : List WorldStep) → HaveOwnNumbers cs → AreWithoutLines steps →
         (a b c first end : ℕ) (published : List Entry) (A : Engine) → IsExchange cs steps a b c first end published →
         IsEngineAfter cs steps a A → IsHandledBelow A c end →
-        (s : Stamped) → IsAmong s (stamped_of published) → IsAppliedUnlessFull A c first end s }
+        (s : Stamped) → IsAmong s (stamped_entries published) → IsAppliedUnlessFull A c first end s }
 {}

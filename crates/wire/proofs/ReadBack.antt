@@ -33,7 +33,8 @@ use Rattle.wire.specs.Operations.{entered_json, id_json, key_json, last_from, la
 use Rattle.wire.specs.Operations.{path_json, phrase, root_json}
 use Rattle.wire.specs.Places.{Entered, count_parts, element_at, entered_of, is_list_head, key_form, parts_of, place_below, place_form}
 use Rattle.wire.specs.Reading.{mutation_form, operation_form}
-use Rattle.wire.specs.Sent.{AreReplicas, AreSentKeys, AreTypedKeys, CanBeSent, IsSent, IsSentId, IsSentKey, IsSentMutation, IsSentVector}
+use Rattle.wire.specs.Sent.{AreReplicaNumbers, AreSentKeys, AreTypedKeys, CanBeSent, IsSent, IsSentId, IsSentKey, IsSentMutation}
+use Rattle.wire.specs.Sent.{IsSentVector}
 use Rattle.wire.specs.Sent.{IsTyped, are_counters, is_counter, key_counted}
 use Rattle.wire.specs.Vectors.{pair_json, pairs_above}
 
@@ -183,7 +184,7 @@ hello_back table v h = rw (pairs_back table 0 v h) refl
 
 -- ---- what types keep, beside what a caller answers for
 
-sent_vector : (table : List ℕ) (p : ℕ) (v : Vector) → IsCanonical v → AreAbove p v → AreReplicas v
+sent_vector : (table : List ℕ) (p : ℕ) (v : Vector) → IsCanonical v → AreAbove p v → AreReplicaNumbers v
     → list_all (λ a. is_member table a.replica) v ≡ true → are_counters v ≡ true → IsSentVector table p v
 sent_vector table p [] rising above typed members counters = tt
 sent_vector table p (a ∷ v) rising above typed members counters =
@@ -191,14 +192,14 @@ sent_vector table p (a ∷ v) rising above typed members counters =
     let n = and_parts (is_counter a.counter) (are_counters v) counters in
     (above.0, (n.0, typed.0, m.0), sent_vector table a.replica v rising.2 rising.1 typed.1 m.1 n.1)
 
-above_zero : (v : Vector) → AreReplicas v → AreAbove 0 v
+above_zero : (v : Vector) → AreReplicaNumbers v → AreAbove 0 v
 above_zero [] h = tt
 above_zero (a ∷ v) h =
     let some = and_parts (nat_le 1 a.replica) (nat_le a.replica 4294967295) h.0 in
     let above : 1 ≤ a.replica = leb-true 1 a.replica some.0 in (omega (arith, above), above_zero v h.1)
 
 -- the vector of a column, where its counters are those of the wire
-pub sent_column : (table column : List ℕ) → AreReplicas (by_table table column) → are_counters (by_table table column) ≡ true
+pub sent_column : (table column : List ℕ) → AreReplicaNumbers (by_table table column) → are_counters (by_table table column) ≡ true
     → IsSentVector table 0 (by_table table column)
 sent_column table column typed counters =
     sent_vector table 0 (by_table table column) (canonical-by_table table column) (above_zero (by_table table column) typed) typed

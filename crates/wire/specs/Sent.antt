@@ -73,18 +73,18 @@ pub record CanBeSent (table : List ℕ) (s : Stamped) : Type 0 where
   pub items : IsTrue (list_all key_counted (keys_from_root (element_of s.place)))
 
 -- the number of a replica, from 1 to the greatest of 32 bits
-abbrev pub IsReplica : ℕ → Type 0
-IsReplica p = IsTrue (is_from_one_to most_replica p)
+abbrev pub IsReplicaNumber : ℕ → Type 0
+IsReplicaNumber p = IsTrue (is_from_one_to most_replica p)
 
 -- the replica of each id has such a number
-abbrev pub AreReplicas : Vector → Type 0
-AreReplicas [] = ⊤
-AreReplicas (a ∷ v) = IsReplica a.replica × AreReplicas v
+abbrev pub AreReplicaNumbers : Vector → Type 0
+AreReplicaNumbers [] = ⊤
+AreReplicaNumbers (a ∷ v) = IsReplicaNumber a.replica × AreReplicaNumbers v
 
 -- what the type of a key keeps: at most 256 bytes of a name, or the number of a replica
 abbrev pub IsTypedKey : Key → Type 0
 IsTypedKey (FieldKey n) = length n ≤ most_key_bytes
-IsTypedKey (ItemKey a) = IsReplica a.replica
+IsTypedKey (ItemKey a) = IsReplicaNumber a.replica
 
 -- such keys
 abbrev pub AreTypedKeys : List Key → Type 0
@@ -98,7 +98,7 @@ pub record IsTypedPlace (p : Place) : Type 0 where
 
 -- what the types of an operation keep: of its ids, its place, and the value that it writes
 pub record IsTyped (s : Stamped) : Type 0 where
-  pub id : IsReplica s.id.replica
-  pub vector : AreReplicas s.vector
+  pub id : IsReplicaNumber s.id.replica
+  pub vector : AreReplicaNumbers s.vector
   pub place : IsTypedPlace s.place
   pub mutation : mutation_form (mutation_json s.mutation) ≡ Ok s.mutation

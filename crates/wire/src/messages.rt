@@ -11,7 +11,7 @@ ghost use Rattle.semantics.specs.Stamped.{Stamped};
 ghost use Rattle.semantics.specs.Vectors.{Vector};
 ghost use Rattle.wire.specs.Operations.{operation_json};
 ghost use Rattle.wire.specs.Reading.{op_form, operation_form};
-ghost use Rattle.wire.specs.Sent.{AreReplicas, CanBeSent, IsSent, are_counters};
+ghost use Rattle.wire.specs.Sent.{AreReplicaNumbers, CanBeSent, IsSent, are_counters};
 
 use crate::operations::operation_value;
 use crate::reading::operation_in;
@@ -59,7 +59,7 @@ fn hello_value(
     vector: &VersionVector,
 ) -> Result<Value, AllocError>
     ensures json { IfOk result (λ v. view v ≡ hello_json (by_table table.now vector.now)) }
-    ensures typed { IfOk result (λ _. AreReplicas (by_table table.now vector.now)) }
+    ensures typed { IfOk result (λ _. AreReplicaNumbers (by_table table.now vector.now)) }
 {
     let vector = vector_value(alloc, table, vector)?;
     json!(in alloc; ["hello", vector])

@@ -5,7 +5,7 @@ ghost use Rattle.std.specs.Prelude.{◌≡◌, ◌≤◌, IfOk, length};
 ghost use Rattle.semantics.specs.Tables.{by_table};
 ghost use Rattle.serde_json.specs.View.{view, items_view};
 ghost use Rattle.json_lines.specs.Forms.{IsRead};
-ghost use Rattle.wire.specs.Sent.{AreReplicas, IsReplica};
+ghost use Rattle.wire.specs.Sent.{AreReplicaNumbers, IsReplicaNumber};
 ghost use Rattle.wire.specs.Vectors.{pair_form, pair_json, pairs_above, vector_form, vector_json};
 
 use crate::members::{counter_in, replica_in};
@@ -75,7 +75,7 @@ pub fn vector_value(
     vector: &VersionVector,
 ) -> Result<Value, AllocError>
     ensures json { IfOk result (λ v. view v ≡ vector_json (by_table table.now vector.now)) }
-    ensures typed { IfOk result (λ _. AreReplicas (by_table table.now vector.now)) }
+    ensures typed { IfOk result (λ _. AreReplicaNumbers (by_table table.now vector.now)) }
 {
     let mut pairs = Vec::new(alloc);
     let count = table.len().min(vector.width());
@@ -92,7 +92,7 @@ pub fn vector_value(
 
 fn pair_value(alloc: Global, id: OpId) -> Result<Value, AllocError>
     ensures json { IfOk result (λ v. view v ≡ pair_json id) }
-    ensures typed { IfOk result (λ _. IsReplica id.replica) }
+    ensures typed { IfOk result (λ _. IsReplicaNumber id.replica) }
 {
     json!(in alloc; [id.replica.number(), id.counter])
 }

@@ -5,7 +5,7 @@ use Rattle.std.specs.List.{All}
 use Rattle.std.proofs.lemmas.List.{reverse-append}
 use Rattle.std.proofs.lemmas.List.Elements.{All-push, All-tail}
 use Rattle.ids.specs.Members.{is_member}
-use Rattle.semantics.specs.Entries.{Entry as TheEntry, IsEntryHistory, first_entries, stamped_of as stamped_entries}
+use Rattle.semantics.specs.Entries.{Entry as TheEntry, IsEntryHistory, first_entries, stamped_entries}
 use Rattle.semantics.specs.Stamped.{IsLegalStamped}
 use Rattle.semantics.specs.Publication.{Publication}
 use Rattle.semantics.specs.WorldHistory.{BeginsWith}
@@ -18,7 +18,7 @@ use Rattle.operation.specs.Meanings.{entry_of, op_in}
 use Rattle.oplog.specs.Logs.{history}
 use Rattle.oplog.proofs.Oldest.{history-more}
 use Rattle.document.specs.Documents.{Contents, MayFollowEntries}
-use Rattle.world.specs.Publishers.{IsPublisher, PublishesMore, appended_of}
+use Rattle.world.specs.Publishers.{CanPublish, PublishesMore, appended_of}
 
 -- what is pending first is the next to be published
 pub oldest_next : (table : List ℕ) (e : Entry) (left : List Entry) (G : List TheEntry)
@@ -31,7 +31,7 @@ legal_begun : (more G : List TheEntry) → IsLegalStamped (stamped_entries (more
 legal_begun [] G h = h
 legal_begun (e ∷ more) G h = legal_begun more G h.0
 
-module _ (d : Contents) (e : Entry) (left : List Entry) (h : IsPublisher d (e ∷ left)) where
+module _ (d : Contents) (e : Entry) (left : List Entry) (h : CanPublish d (e ∷ left)) where
   longer_legal : IsLegalStamped (stamped_entries (history d.table left ++ entry_of d.table e ∷ d.entries))
   longer_legal = subst (λ (G : List TheEntry). IsLegalStamped (stamped_entries G)) (oldest_next d.table e left d.entries) h.legal
 
@@ -57,7 +57,7 @@ module _ (d : Contents) (e : Entry) (left : List Entry) (h : IsPublisher d (e �
       }
 
 -- nothing is published
-pub none_published : (d k : Contents) (pending left : List Entry) → IsPublisher d pending → k.table ≡ d.table → k.entries ≡ d.entries
+pub none_published : (d k : Contents) (pending left : List Entry) → CanPublish d pending → k.table ≡ d.table → k.entries ≡ d.entries
     → left ≡ pending → PublishesMore d pending k left
 none_published d k pending left h table entries same =
     let appended : appended_of k left ≡ appended_of d pending = λ i. history (table i) (same i) ++ entries i in
@@ -84,10 +84,10 @@ published_on d k m pending left last f g = record {
 }
 
 -- one more entry is appended
-pub one_appended : (own : ℕ) (d : Contents) (pending : List Entry) (e : Entry) → IsPublisher d pending
+pub one_appended : (own : ℕ) (d : Contents) (pending : List Entry) (e : Entry) → CanPublish d pending
     → IsEntryHistory own (entry_of d.table e ∷ appended_of d pending) → IsTrue (is_member d.table (op_in e).id.replica)
     → length (op_in e).deps ≡ length d.table
-    → (appended_of d (pending ++ e ∷ []) ≡ entry_of d.table e ∷ appended_of d pending) × IsPublisher d (pending ++ e ∷ [])
+    → (appended_of d (pending ++ e ∷ []) ≡ entry_of d.table e ∷ appended_of d pending) × CanPublish d (pending ++ e ∷ [])
 one_appended own d pending e h lawful member width =
     let appended : appended_of d (pending ++ e ∷ [])
     ≡ entry_of d.table e ∷ appended_of d pending = ap (λ (G : List TheEntry). G ++ d.entries) (history-more d.table pending e) in (
@@ -100,13 +100,13 @@ one_appended own d pending e h lawful member width =
       },
     )
 
-pub added : (own : ℕ) (d : Contents) (pending : List Entry) (e : Entry) → IsPublisher d pending → (z : Publication)
+pub added : (own : ℕ) (d : Contents) (pending : List Entry) (e : Entry) → CanPublish d pending → (z : Publication)
     → record { own = own; members = d.table; published = d.entries; appended = appended_of d pending } ≡ z
     → IsEntryHistory z.own (entry_of z.members e ∷ z.appended) → IsTrue (is_member z.members (op_in e).id.replica)
     → length (op_in e).deps ≡ length z.members
-    → (all : List Entry) → all ≡ pending ++ e ∷ [] → IsPublisher d all
+    → (all : List Entry) → all ≡ pending ++ e ∷ [] → CanPublish d all
 added own d pending e h z is lawful member width all more =
-    subst (IsPublisher d) (sym more) (one_appended own d pending e h
+    subst (CanPublish d) (sym more) (one_appended own d pending e h
     (subst (λ (p : Publication). IsEntryHistory p.own (entry_of p.members e ∷ p.appended)) (sym is) lawful)
     (subst (λ (p : Publication). IsTrue (is_member p.members (op_in e).id.replica)) (sym is) member)
     (subst (λ (p : Publication). length (op_in e).deps ≡ length p.members) (sym is) width)).1

@@ -7,7 +7,7 @@ use Rattle.semantics.proofs.SetElements.{get-set_same}
 use Rattle.semantics.proofs.SoundEngines.{IsSound}
 use Rattle.semantics.proofs.SoundWorlds.{after_more, sound_engine}
 use Rattle.world.specs.Engines.{IsReachedEngine}
-use Rattle.world.specs.Worlds.{IsReached}
+use Rattle.world.specs.Worlds.{IsReachedWorld}
 use Rattle.world.proofs.TurnedWorlds.{world_step-there}
 
 -- ---- engines
@@ -33,10 +33,10 @@ reached_take E (cs, steps, e, h) = (
 
 -- ---- worlds
 
-pub reached_at : (W : World) → IsReached W → (i : ℕ) (E : Engine) → slice_get W.engines i ≡ Some E → IsReachedEngine E
+pub reached_at : (W : World) → IsReachedWorld W → (i : ℕ) (E : Engine) → slice_get W.engines i ≡ Some E → IsReachedEngine E
 reached_at W r i E there = (r.configurations, r.steps, i, sym (ap (λ (V : World). slice_get V.engines i) r.after) ∙ there)
 
-pub reached_after : (W V : World) (steps : List WorldStep) → IsReached W → V ≡ world_after W steps → IsReached V
+pub reached_after : (W V : World) (steps : List WorldStep) → IsReachedWorld W → V ≡ world_after W steps → IsReachedWorld V
 reached_after W V steps r is = record {
   configurations = r.configurations;
   within = r.within;

@@ -8,7 +8,7 @@ use Rattle.semantics.specs.Engine.{Engine}
 use Rattle.semantics.specs.World.{World, WorldStep, engine_step, world_after, world_step}
 use Rattle.semantics.proofs.SetElements.{get-set_same, get-set_other}
 use Rattle.world.specs.Parts.{IsBetween}
-use Rattle.world.specs.Worlds.{IsAnother, IsBetweenSteps, IsReached, MovesInPart, StopsAfter}
+use Rattle.world.specs.Worlds.{IsAnother, IsBetweenSteps, IsReachedWorld, MovesInPart, StopsInStep}
 use Rattle.world.proofs.BetweenEngines.{begun, not_begun, stays_between}
 use Rattle.world.proofs.ReachedWorlds.{after_step, reached_after, reached_at, reached_sound}
 use Rattle.world.proofs.TurnedWorlds.{after_next}
@@ -27,7 +27,7 @@ same_engine : (o : Option Engine) (E F : Engine) → o ≡ Some E → o ≡ Some
 same_engine o E F e f = same_Some E F (sym e ∙ f)
 
 -- an engine of a reached world before a step, and after it
-step_between : (W : World) (s : WorldStep) → IsReached W → (e : ℕ) (E G : Engine) → slice_get W.engines e ≡ Some E
+step_between : (W : World) (s : WorldStep) → IsReachedWorld W → (e : ℕ) (E G : Engine) → slice_get W.engines e ≡ Some E
     → slice_get (world_step W s).world.engines e ≡ Some G → IsBetween E E G
 step_between W s reached e E G at_E at_G = by (cases_eq e s.engine)
   where
@@ -61,11 +61,11 @@ all_taken (s ∷ steps) zero e = absurd (let h = e in cc)
 all_taken (s ∷ steps) (suc n) e = ap (λ (ss : List WorldStep). s ∷ ss) (all_taken steps n e)
 
 -- after n steps each engine is between that and what is after one more
-module _ (W : World) (steps : List WorldStep) (n : ℕ) (reached : IsReached W) where
+module _ (W : World) (steps : List WorldStep) (n : ℕ) (reached : IsReachedWorld W) where
   abbrev U : World
   U = world_after W (take n steps)
 
-  U_reached : IsReached U
+  U_reached : IsReachedWorld U
   U_reached = reached_after W U (take n steps) reached refl
 
   between_steps : (e : ℕ) (F : Engine) → slice_get U.engines e ≡ Some F → IsBetweenSteps W steps n e F
@@ -87,8 +87,8 @@ module _ (W : World) (steps : List WorldStep) (n : ℕ) (reached : IsReached W) 
           step_between U s U_reached e E G at_E at
 
 -- these were done whole
-pub stops_whole : (W V : World) (steps : List WorldStep) (n : ℕ) → IsReached W → n ≤ length steps → V ≡ world_after W (take n steps)
-    → StopsAfter W steps n V
+pub stops_whole : (W V : World) (steps : List WorldStep) (n : ℕ) → IsReachedWorld W → n ≤ length steps → V ≡ world_after W (take n steps)
+    → StopsInStep W steps n V
 stops_whole W V steps n reached l is = record {
   within = l;
   messages = ap (λ (U : World). U.messages) is;
@@ -98,7 +98,7 @@ stops_whole W V steps n reached l is = record {
 }
 
 -- none was
-pub stops_at_once : (W : World) (steps : List WorldStep) → IsReached W → StopsAfter W steps 0 W
+pub stops_at_once : (W : World) (steps : List WorldStep) → IsReachedWorld W → StopsInStep W steps 0 W
 stops_at_once W steps reached = stops_whole W W steps 0 reached (omega arith) (ap (world_after W) (sym (none steps)))
   where
     none : (steps : List WorldStep) → take 0 steps ≡ []
@@ -106,9 +106,9 @@ stops_at_once W steps reached = stops_whole W W steps 0 reached (omega arith) (a
     none (s ∷ steps) = refl
 
 -- and the next one in part
-pub stops_within : (W U V : World) (steps : List WorldStep) (n : ℕ) (s : WorldStep) → IsReached W → slice_get steps n ≡ Some s
+pub stops_within : (W U V : World) (steps : List WorldStep) (n : ℕ) (s : WorldStep) → IsReachedWorld W → slice_get steps n ≡ Some s
     → U ≡ world_after W (take n steps) → V.messages ≡ U.messages
-    → MovesInPart U.messages s U.engines V.engines → StopsAfter W steps n V
+    → MovesInPart U.messages s U.engines V.engines → StopsInStep W steps n V
 stops_within W U V steps n s reached at is messages part = record {
   within = omega (arith, slice_get_within steps n s at);
   messages = messages ∙ ap (λ (T : World). T.messages) is;
@@ -123,7 +123,7 @@ stops_within W U V steps n s reached at is messages part = record {
     unmoved : (e : ℕ) → (e ≡ s.engine → ⊥) → slice_get V.engines e ≡ slice_get U.engines e
     unmoved e other = ap (λ (Es : List Engine). slice_get Es e) part.moved ∙ get-set_other U.engines s.engine e part.part other
 
-    U_reached : IsReached U
+    U_reached : IsReachedWorld U
     U_reached = reached_after W U (take n steps) reached is
 
     next : (e : ℕ) (G : Engine) → slice_get (world_after W (take (n + 1) steps)).engines e ≡ Some G

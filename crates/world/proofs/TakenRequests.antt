@@ -6,7 +6,7 @@ use Rattle.std.proofs.lemmas.Bool.{lt-leb, le-leb}
 use Rattle.ids.specs.declared.refusal.Refusal.{Refusal}
 use Rattle.ids.specs.declared.refusal.Refusal.TheVariants.{QueueFull, SerialEnd}
 use Rattle.semantics.specs.Stamped.{Stamped}
-use Rattle.semantics.specs.Engine.{Engine, Client, Turn, Ticket, Denied}
+use Rattle.semantics.specs.Engine.{Engine, Client, Outcome, Ticket, Denied}
 use Rattle.semantics.specs.PeerSteps.{as_received, receive_lines, submit_all}
 use Rattle.semantics.specs.WriteSteps.{next_item, with_cell, push}
 use Rattle.items.specs.declared.item.Request.{Request}
@@ -54,7 +54,7 @@ module _ (e : Inside) (A : Engine) (at : ℕ) (q : Request) (k : AnyClient) (is 
   abbrev table : List ℕ
   table = e.handler.replica.document.table
 
-  turn : {T : Type 0} (f : Turn → T) (t : Turn) → push (the_view e) at (request_of table q) ≡ t
+  turn : {T : Type 0} (f : Outcome → T) (t : Outcome) → push (the_view e) at (request_of table q) ≡ t
       → f (push A at (request_of A.replica.members q)) ≡ f t
   turn f t pushed = sym (ap (λ (F : Engine). f (push F at (request_of F.replica.members q))) is) ∙ ap f pushed
 

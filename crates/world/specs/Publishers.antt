@@ -3,7 +3,7 @@ use Rattle.std.specs.Prelude.{◌≡◌, ◌++◌, List, IsTrue, length}
 use Rattle.std.specs.List.{All}
 use Rattle.ids.specs.Members.{is_member}
 use Rattle.semantics.specs.Stamped.{IsLegalStamped}
-use Rattle.semantics.specs.Entries.{Entry as TheEntry, stamped_of as stamped_entries}
+use Rattle.semantics.specs.Entries.{Entry as TheEntry, stamped_entries}
 use Rattle.semantics.specs.WorldHistory.{BeginsWith}
 use Rattle.operation.specs.declared.command.Entry.{Entry}
 use Rattle.operation.specs.Meanings.{op_in}
@@ -16,7 +16,7 @@ appended_of published pending = history published.table pending ++ published.ent
 
 -- each pending entry may be published in its turn: what was appended is a legal history, and the operations are of members, with
 -- vectors of the table's width
-pub record IsPublisher (published : Contents) (pending : List Entry) : Type 0 where
+pub record CanPublish (published : Contents) (pending : List Entry) : Type 0 where
   pub legal : IsLegalStamped (stamped_entries (appended_of published pending))
   pub members : All (λ e. IsTrue (is_member published.table (op_in e).id.replica)) pending
   pub wide : All (λ e. length (op_in e).deps ≡ length published.table) pending
@@ -26,4 +26,4 @@ pub record PublishesMore (published : Contents) (pending : List Entry) (after : 
   pub table : after.table ≡ published.table
   pub appended : appended_of after left ≡ appended_of published pending
   pub more : BeginsWith after.entries published.entries
-  pub publisher : IsPublisher after left
+  pub publisher : CanPublish after left

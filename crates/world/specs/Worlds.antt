@@ -41,7 +41,7 @@ abbrev pub IsAskedBeside : List (List ℕ) → WorldStep → Type 0
 IsAskedBeside tables s = AsksBeside (table_at tables s.engine) s.act
 
 -- steps lead to the world from a new one, whose configurations are within the limits
-pub record IsReached (W : World) : Type 0 where
+pub record IsReachedWorld (W : World) : Type 0 where
   pub configurations : List Configuration
   pub within : list_all is_within_limits configurations ≡ true
   pub steps : List TheStep
@@ -69,7 +69,7 @@ IsBetweenSteps W steps n e F = (E G : Engine)
 
 -- V is the world W that has done n of the steps whole, and the next one in part: the messages and all engines but the one
 -- that moves next are as after the n steps, and each engine is between what it is then and after the next step
-pub record StopsAfter (W : World) (steps : List TheStep) (n : ℕ) (V : World) : Type 0 where
+pub record StopsInStep (W : World) (steps : List TheStep) (n : ℕ) (V : World) : Type 0 where
   pub within : n ≤ length steps
   pub messages : V.messages ≡ (world_after W (take n steps)).messages
   pub others : (e : ℕ) → IsAnother e (slice_get steps n) → slice_get V.engines e ≡ slice_get (world_after W (take n steps)).engines e

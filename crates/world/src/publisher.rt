@@ -2,7 +2,7 @@
 
 ghost use Rattle.std.specs.Prelude.{◌≡◌, [], drop, OnOk};
 ghost use Rattle.semantics.specs.WorldHistory.{BeginsWith};
-ghost use Rattle.world.specs.Publishers.{IsPublisher, PublishesMore, appended_of};
+ghost use Rattle.world.specs.Publishers.{CanPublish, PublishesMore, appended_of};
 
 use document::Document;
 use ids::Refusal;
@@ -26,7 +26,7 @@ impl Model for Publisher {
     ghost use Rattle.std.specs.Coded.{codes};
     ghost use Rattle.semantics.specs.Codes.{coded_element};
     ghost use Rattle.semantics.specs.Publication.{Publication};
-    ghost use Rattle.world.specs.Publishers.{IsPublisher, appended_of};
+    ghost use Rattle.world.specs.Publishers.{CanPublish, appended_of};
 
     ghost Value = { Publication };
 
@@ -39,7 +39,7 @@ impl Model for Publisher {
       appended = appended_of p.published p.pending.items;
     } };
 
-    ghost invariant = { λ p. IsPublisher p.published p.pending.items };
+    ghost invariant = { λ p. CanPublish p.published p.pending.items };
 }
 
 impl Publisher {
@@ -93,7 +93,7 @@ fn publish_all(
     published: &mut Document,
     pending: &mut VecDeque<Entry>,
 ) -> Result<(), AllocError>
-    requires { IsPublisher published.old pending.old.items }
+    requires { CanPublish published.old pending.old.items }
     ensures all { OnOk result (pending.new.items ≡ []) }
     ensures more { PublishesMore published.old pending.old.items published.new pending.new.items }
 {
@@ -109,7 +109,7 @@ fn publish_oldest(
     published: &mut Document,
     pending: &mut VecDeque<Entry>,
 ) -> Result<(), AllocError>
-    requires { IsPublisher published.old pending.old.items }
+    requires { CanPublish published.old pending.old.items }
     ensures one { OnOk result (pending.new.items ≡ drop 1 pending.old.items) }
     ensures more { PublishesMore published.old pending.old.items published.new pending.new.items }
 {

@@ -8,7 +8,7 @@ ghost use Rattle.ids.specs.Configurations.{is_within_limits};
 ghost use Rattle.semantics.specs.World.{opened, opened_engine, world_step, world_after, replies_of};
 ghost use Rattle.world.specs.Engines.{message_of};
 ghost use Rattle.world.specs.Meanings.{step_reply_of};
-ghost use Rattle.world.specs.Worlds.{IsAskedBeside, IsReached, MovesInPart, StopsAfter, step_in, tables_of, world, world_of};
+ghost use Rattle.world.specs.Worlds.{IsAskedBeside, IsReachedWorld, MovesInPart, StopsInStep, step_in, tables_of, world, world_of};
 
 use crate::engine::Engine;
 use crate::message::Message;
@@ -35,7 +35,7 @@ impl Model for World {
     ghost use Rattle.std.specs.Coded.{codes};
     ghost use Rattle.semantics.specs.Codes.{coded_element};
     ghost use Rattle.world.specs.Engines.{message_of};
-    ghost use Rattle.world.specs.Worlds.{Running, IsReached, world};
+    ghost use Rattle.world.specs.Worlds.{Running, IsReachedWorld, world};
 
     ghost Value = { Running };
 
@@ -48,7 +48,7 @@ impl Model for World {
       failed = w.failed;
     } };
 
-    ghost invariant = { λ w. w.failed ≡ false → IsReached (world w.engines.items (map message_of w.messages.items)) };
+    ghost invariant = { λ w. w.failed ≡ false → IsReachedWorld (world w.engines.items (map message_of w.messages.items)) };
 }
 
 impl World {
@@ -98,7 +98,7 @@ impl World {
         ensures err { OnErr result (self.new.failed ≡ true) }
         ensures stopped { OnErr result (self.old.failed ≡ false
             → (n : ℕ) × (self.new.done ≡ min (self.old.done + n) 18446744073709551615)
-            × StopsAfter (world_of self.old) (map (step_in (tables_of self.old.engines)) steps.now) n (world_of self.new)) }
+            × StopsInStep (world_of self.old) (map (step_in (tables_of self.old.engines)) steps.now) n (world_of self.new)) }
         ensures failed { self.old.failed ≡ true → (result ≡ Err alloc_error) × (self.new ≡ self.old) }
     {
         if self.failed {
@@ -158,7 +158,7 @@ fn run_all(
     whole: &mut usize,
     steps: &[WorldStep],
 ) -> Result<Vec<WorldReply>, AllocError>
-    requires reached { IsReached (world engines.old.items (map message_of messages.old.items)) }
+    requires reached { IsReachedWorld (world engines.old.items (map message_of messages.old.items)) }
     requires none { whole.old ≡ 0 }
     requires beside { All (IsAskedBeside (tables_of engines.old.items)) steps.now }
     ensures replies { IfOk result
@@ -170,7 +170,7 @@ fn run_all(
         (map (step_in (tables_of engines.old.items)) steps.now)) }
     ensures whole { OnOk result (whole.new ≡ length steps.now) }
     ensures stopped { OnErr result
-        (StopsAfter (world engines.old.items (map message_of messages.old.items))
+        (StopsInStep (world engines.old.items (map message_of messages.old.items))
         (map (step_in (tables_of engines.old.items)) steps.now) whole.new
         (world engines.new.items (map message_of messages.new.items))) }
 {
@@ -190,7 +190,7 @@ fn turn(
     messages: &mut Vec<Message>,
     step: &WorldStep,
 ) -> Result<WorldReply, AllocError>
-    requires reached { IsReached (world engines.old.items (map message_of messages.old.items)) }
+    requires reached { IsReachedWorld (world engines.old.items (map message_of messages.old.items)) }
     requires beside { IsAskedBeside (tables_of engines.old.items) step.now }
     ensures world { OnOk result (world engines.new.items (map message_of messages.new.items)
         ≡ (world_step (world engines.old.items (map message_of messages.old.items))

@@ -7,7 +7,7 @@ ghost use Rattle.std.specs.Prelude.{◌≡◌, None, IsTrue, IfOk, OnOk, length}
 ghost use Rattle.ids.specs.Members.{is_member};
 ghost use Rattle.semantics.specs.Entries.{applied};
 ghost use Rattle.semantics.specs.Stamped.{MayFollow};
-ghost use Rattle.operation.specs.Alone.{fault_alone};
+ghost use Rattle.operation.specs.Alone.{alone_fault_of_op};
 ghost use Rattle.operation.specs.Meanings.{stamped_of};
 ghost use Rattle.document.specs.Documents.{HasRoomFor, IsBeside};
 
@@ -144,7 +144,7 @@ fn op(alloc: Global, sent: Sent) -> Result<Shared<Op>, Refusal> {
 
 /// Whether the operation has no fault alone.
 fn stands_alone(document: &Document, op: &Op) -> bool
-    ensures alone { IsTrue result → fault_alone document.now.table op.now ≡ None }
+    ensures alone { IsTrue result → alone_fault_of_op document.now.table op.now ≡ None }
     ensures member { IsTrue result → IsTrue (is_member document.now.table op.now.id.replica) }
     ensures width { IsTrue result → length op.now.deps ≡ length document.now.table }
 {

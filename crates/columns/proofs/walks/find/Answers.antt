@@ -1,6 +1,6 @@
 use Rattle.std.proofs.Common.{◌≡◌, ◌∙◌, ap, sym, refl, slice_get, Some, take, rules}
 use Rattle.std.proofs.lemmas.Option.{slice_get_read}
-use Rattle.columns.specs.Blocks.{Run}
+use Rattle.columns.specs.Blocks.{ListBlock}
 use Rattle.semantics.specs.Context.{has_item}
 use Rattle.columns.proofs.Apart.{apart_block}
 use Rattle.columns.proofs.IndexedBlocks.{lacks_all, lacks_here, lacks_in_front, leads}
@@ -22,7 +22,7 @@ position-requires c =
     let runs = c.args.blocks.now in
     let k = c.in_ok-block.block in
     let inside = leads runs c.args.indices.now.by_number c.requires.indexed c.args.home k (sym c.of.ensures ∙ c.in_ok-block.was) in
-    let r : Run = c.index-blocks-block.result in
+    let r : ListBlock = c.index-blocks-block.result in
     apart_block runs k r c.requires.apart (slice_get_read runs _ k r refl inside c.index-blocks-block.is)
 
 pub returns-in_err-block : goal.returns-in_err-block
@@ -37,7 +37,7 @@ returns-in_err-index c =
     let k = c.in_ok-block.block in
     let home = sym c.of.ensures ∙ c.in_ok-block.was in
     let inside = leads runs c.args.indices.now.by_number c.requires.indexed c.args.home k home in
-    let r : Run = c.index-blocks-block.result in
+    let r : ListBlock = c.index-blocks-block.result in
     let is : slice_get runs k ≡ Some r = slice_get_read runs _ k r refl inside c.index-blocks-block.is in
     rw c.from_residual-in_err-index.ensures
     (lacks_here runs c.args.indices.now.by_number c.requires.indexed c.args.home c.args.id.now c.requires.home k r home is
@@ -49,7 +49,7 @@ returns c =
     let k = c.in_ok-block.block in
     let home = sym c.of.ensures ∙ c.in_ok-block.was in
     let inside = leads runs c.args.indices.now.by_number c.requires.indexed c.args.home k home in
-    let r : Run = c.index-blocks-block.result in
+    let r : ListBlock = c.index-blocks-block.result in
     let is : slice_get runs k ≡ Some r = slice_get_read runs _ k r refl inside c.index-blocks-block.is in
     let here = items_here runs k r is in
     record {

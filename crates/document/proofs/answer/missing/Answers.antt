@@ -2,7 +2,7 @@ use Rattle.std.proofs.Common.{◌≡◌, ℕ, ◌+◌, ◌∷◌, ◌++◌, List
 use Rattle.std.proofs.Common.{◌∙◌, append-nil}
 use Rattle.std.proofs.lemmas.List.{drop_all, reverse-reverse}
 use Rattle.std.specs.List.{cons_option}
-use Rattle.semantics.specs.Entries.{entry_at, missing, stamped_in, stamped_of as stamped_entries}
+use Rattle.semantics.specs.Entries.{entry_at, missing, stamped_in, stamped_entries}
 use Rattle.semantics.specs.Stamped.{Stamped}
 use Rattle.semantics.specs.Tables.{by_table}
 use Rattle.operation.specs.Meanings.{stamped_of}

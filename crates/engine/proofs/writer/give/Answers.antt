@@ -1,7 +1,7 @@
 use Rattle.std.proofs.Common.{List, sym, subst, ◌∙◌}
 use Rattle.semantics.specs.Entries.{Entry}
 use Rattle.semantics.specs.Engine.{Handled}
-use Rattle.semantics.specs.Receipts.{IsAnswer}
+use Rattle.semantics.specs.PeerAnswers.{IsAnswer}
 use Rattle.semantics.specs.Batches.{AreAnswers}
 use Rattle.items.specs.Meanings.{reply_of, submitted_of}
 use Rattle.command.specs.Answers.{Answered}

@@ -5,7 +5,7 @@ use Rattle.ids.specs.Members.{is_member}
 use Rattle.semantics.specs.Entries.{IsEntryHistory, Peer}
 use Rattle.semantics.specs.Publication.{with_entry}
 use Rattle.operation.specs.declared.op.Op.{Op}
-use Rattle.operation.specs.Alone.{fault_alone}
+use Rattle.operation.specs.Alone.{alone_fault_of_op}
 use Rattle.operation.specs.Meanings.{stamped_of}
 use Rattle.operation.proofs.PassedAlone.{width_alone}
 use Rattle.replica.specs.Replicas.{Running, IsNextReady, next_of, replica_of}
@@ -60,14 +60,14 @@ pub add-requires-clause-member : goal.add-requires-clause-member
 add-requires-clause-member g c =
     let w = dropping_on c.loop.invariant c.requires.running c.next_ready.ensures.dropped in
     let new = c.next_ready.new.self in
-    let alone = there (λ op. fault_alone new.document.table op ≡ None) c.in-Some.is c.in_ok-op.ensures.alone in
+    let alone = there (λ op. alone_fault_of_op new.document.table op ≡ None) c.in-Some.is c.in_ok-op.ensures.alone in
     subst (λ ps. IsTrue (is_member ps c.in-Some.op.id.replica)) (sym w.holds.members) (member_alone new.document.table c.in-Some.op alone)
 
 pub add-requires-clause-width : goal.add-requires-clause-width
 add-requires-clause-width g c =
     let w = dropping_on c.loop.invariant c.requires.running c.next_ready.ensures.dropped in
     let new = c.next_ready.new.self in
-    let alone = there (λ op. fault_alone new.document.table op ≡ None) c.in-Some.is c.in_ok-op.ensures.alone in
+    let alone = there (λ op. alone_fault_of_op new.document.table op ≡ None) c.in-Some.is c.in_ok-op.ensures.alone in
     width_alone new.document.table c.in-Some.op alone ∙ ap length (sym w.holds.members)
 
 pub returns-in_err-add-clause-partly : goal.returns-in_err-add-clause-partly

@@ -1,5 +1,5 @@
 use Rattle.std.proofs.Common.{◌≡◌, Bool, false, cond, Option, Some, None, sym, ap, ◌∙◌, subst}
-use Rattle.semantics.specs.Entries.{stamped_of as stamped_entries}
+use Rattle.semantics.specs.Entries.{stamped_entries}
 use Rattle.semantics.specs.Faults.{fault_of}
 use Rattle.semantics.specs.Making.{is_full}
 use Rattle.semantics.specs.Stamped.{Stamped}

@@ -8,7 +8,7 @@ use Rattle.serde_json.specs.declared.value.Value.{Value}
 use Rattle.serde_json.specs.Data.{Data, array}
 use Rattle.serde_json.specs.View.{view, items_of}
 use Rattle.serde_json.proofs.Views.{view-Array}
-use Rattle.wire.specs.Sent.{AreReplicas}
+use Rattle.wire.specs.Sent.{AreReplicaNumbers}
 use Rattle.wire.specs.Vectors.{pair_json}
 use Rattle.wire.proofs.ListedVectors.{by_table-nil, listed_none, listed_some, listed_zero}
 use Rattle.wire.proofs.vectors.vector_value.Goals as goal
@@ -41,7 +41,7 @@ loop-index-preserved c =
                 ∙ ap (λ (d : Data). before ++ d ∷ map pair_json left) w.in_ok-pair_value.ensures.json
                 ∙ ap (λ (ids : List OpId). before ++ map pair_json ids) (sym next)
                 ∙ c.loop-index.invariant.json;
-            typed = λ rest. c.loop-index.invariant.typed (subst AreReplicas (sym next) (w.in_ok-pair_value.ensures.typed, rest));
+            typed = λ rest. c.loop-index.invariant.typed (subst AreReplicaNumbers (sym next) (w.in_ok-pair_value.ensures.typed, rest));
           }
       | then-counter-gt0+in_default w ↦
           let next : here ≡ left = listed_none ps (drop i cs) (drop (suc i) cs) i (sym w.at.ensures ∙ w.in_default.is) in
@@ -50,7 +50,7 @@ loop-index-preserved c =
                 ap (λ (v : Vec Value Global). map view v.items ++ map pair_json left) w.pairs-is
                 ∙ ap (λ (ids : List OpId). before ++ map pair_json ids) (sym next)
                 ∙ c.loop-index.invariant.json;
-            typed = λ rest. c.loop-index.invariant.typed (subst AreReplicas (sym next) rest);
+            typed = λ rest. c.loop-index.invariant.typed (subst AreReplicaNumbers (sym next) rest);
           }
       | else-counter-gt0 w ↦
           let next : here ≡ left = listed_zero ps cs i within (sym c.get-counter.ensures ∙ omega (arith, w.if-counter-gt0.false)) in
@@ -59,7 +59,7 @@ loop-index-preserved c =
                 ap (λ (v : Vec Value Global). map view v.items ++ map pair_json left) w.pairs-is
                 ∙ ap (λ (ids : List OpId). before ++ map pair_json ids) (sym next)
                 ∙ c.loop-index.invariant.json;
-            typed = λ rest. c.loop-index.invariant.typed (subst AreReplicas (sym next) rest);
+            typed = λ rest. c.loop-index.invariant.typed (subst AreReplicaNumbers (sym next) rest);
           }
     ])
 
@@ -92,4 +92,4 @@ returns-clause-typed c =
     let i : ℕ = c.loop-index.index in
     let ended : by_table (drop i ps) (drop i cs)
     ≡ [] = past ps cs i (omega (arith, c.loop-index-test.false, c.min-count.ensures, c.width.ensures, c.len.ensures.length)) in
-    c.loop-index.invariant.typed (subst AreReplicas (sym ended) tt)
+    c.loop-index.invariant.typed (subst AreReplicaNumbers (sym ended) tt)

@@ -7,7 +7,7 @@ use Rattle.world.specs.declared.step.WorldStep.{WorldStep}
 use Rattle.world.specs.declared.step.WorldReply.{WorldReply}
 use Rattle.world.specs.Engines.{message_of}
 use Rattle.world.specs.Meanings.{step_reply_of}
-use Rattle.world.specs.Worlds.{MovesInPart, StopsAfter, step_in, tables_of, world}
+use Rattle.world.specs.Worlds.{MovesInPart, StopsInStep, step_in, tables_of, world}
 use Rattle.world.proofs.SingleSteps.{read_mapped}
 use Rattle.world.proofs.ReachedWorlds.{reached_after}
 use Rattle.world.proofs.StoppedWorlds.{stops_at_once, stops_whole, stops_within}
@@ -38,7 +38,7 @@ pub returns-in_err-replies-clause-stopped : goal.returns-in_err-replies-clause-s
 returns-in_err-replies-clause-stopped c =
     let W : World = world c.args.engines.now.items (map message_of c.args.messages.now.items) in
     let steps : List TheStep = map (step_in (tables_of c.args.engines.now.items)) c.args.steps.now in
-    on_err c.from_residual.result (subst (λ k. StopsAfter W steps k W) (sym c.requires.none) (stops_at_once W steps c.requires.reached))
+    on_err c.from_residual.result (subst (λ k. StopsInStep W steps k W) (sym c.requires.none) (stops_at_once W steps c.requires.reached))
 
 pub returns-in_err-reply-clause-stopped : goal.returns-in_err-reply-clause-stopped
 returns-in_err-reply-clause-stopped c =
@@ -50,7 +50,7 @@ returns-in_err-reply-clause-stopped c =
     let n : ℕ = c.loop-step.step-index in
     let o = c.step-item.result in
     on_err c.from_residual-in_err-reply.result
-    (subst (λ k. StopsAfter W (map f steps) k V) (sym c.loop-step.invariant.whole)
+    (subst (λ k. StopsInStep W (map f steps) k V) (sym c.loop-step.invariant.whole)
     (stops_within W U V (map f steps) n (f o) c.requires.reached (read_mapped f steps n o c.loop-step-test.true c.step-item.is)
     c.loop-step.invariant.so_far c.in_err-reply.ensures.messages
     (subst (λ ts. MovesInPart U.messages (step_in ts o) U.engines V.engines) c.loop-step.invariant.tables c.in_err-reply.ensures.stopped)))
@@ -65,7 +65,7 @@ returns-in_err-push-clause-stopped c =
     let n : ℕ = c.loop-step.step-index in
     let l : n + 1 ≤ length (map f steps) = omega (arith, length-map steps f, c.loop-step-test.true) in
     on_err c.from_residual-in_err-push.result
-    (subst (λ k. StopsAfter W (map f steps) (k + 1) V) (sym c.loop-step.invariant.whole)
+    (subst (λ k. StopsInStep W (map f steps) (k + 1) V) (sym c.loop-step.invariant.whole)
     (stops_whole W V (map f steps) (n + 1) c.requires.reached l
     (one_more W U V steps n c.step-item.result c.loop-step-test.true c.step-item.is c.loop-step.invariant.tables
     c.loop-step.invariant.so_far c.in_ok-reply.ensures.world)))

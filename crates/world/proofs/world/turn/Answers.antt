@@ -2,7 +2,7 @@ use Rattle.std.proofs.Common.{◌≡◌, List, Result, Ok, Err, Some, length, ma
 use Rattle.std.specs.Prelude.{OnOk, IfOk}
 use Rattle.std.proofs.lemmas.Option.{slice_get_read}
 use Rattle.semantics.specs.Engine.{Engine, Message}
-use Rattle.semantics.specs.World.{WorldStep as TheStep, WorldTurn, engine_step, sent_by, world_step}
+use Rattle.semantics.specs.World.{WorldStep as TheStep, WorldOutcome, engine_step, sent_by, world_step}
 use Rattle.world.specs.declared.step.WorldStep.{WorldStep}
 use Rattle.world.specs.Meanings.{AsksBeside, act_of, step_of}
 use Rattle.world.specs.Parts.{IsInPart}
@@ -71,7 +71,7 @@ returns-clause-world c =
     (λ (e : c.turn.new.self ≡ (engine_step ms (act_of E.replica.members s.act) E).engine)
     (f : map message_of c.turn.new.messages.items ≡ ms ++ sent_by ms (act_of E.replica.members s.act) E).
     (λ t. world (set Es s.engine (e t)) (f t))
-    ∙ sym (ap (λ (t : WorldTurn). t.world) (turned Es ms s E (there c))))
+    ∙ sym (ap (λ (t : WorldOutcome). t.world) (turned Es ms s E (there c))))
     c.turn.ensures.engine c.turn.ensures.sent
 
 pub returns-clause-reply : goal.returns-clause-reply
@@ -81,7 +81,7 @@ returns-clause-reply c =
     let s = c.args.step.now in
     let E : Engine = c.index_mut-engine.result.now in
     if_ok c.turn.result
-    (λ r e. e ∙ sym (ap (λ (t : WorldTurn). t.reply) (turned Es ms s E (there c))))
+    (λ r e. e ∙ sym (ap (λ (t : WorldOutcome). t.reply) (turned Es ms s E (there c))))
     c.turn.ensures.reply
 
 pub returns-clause-tables : goal.returns-clause-tables

@@ -2,7 +2,7 @@ use Rattle.std.proofs.Common.{◌≡◌, ◌∙◌, ◌<◌, ◌&&◌, true, ap,
 use Rattle.std.proofs.lemmas.Bool.{and_parts, eqb-true, ltb-true}
 use Rattle.std.proofs.lemmas.Option.{slice_get_read}
 use Rattle.semantics.specs.Ids.{OpId}
-use Rattle.columns.specs.Blocks.{Run}
+use Rattle.columns.specs.Blocks.{ListBlock}
 use Rattle.columns.proofs.Apart.{stands_once}
 use Rattle.columns.proofs.block.Block.position.Goals as goal
 
@@ -21,4 +21,5 @@ returns-in-Some c =
     slice_get_read xs _ c.args.near c.in-Some.other.now refl inside there.1 in
     let same : c.in-Some.other.now ≡ c.args.id.now = same_id c.in-Some.other.now c.args.id.now (sym c.eq.ensures ∙ c.if-eq.true) in
     stands_once c.args.self.now.items c.args.near c.args.id.now c.requires
-    (ap (λ ys. slice_get ys c.args.near) (sym (ap (λ (r : Run). r.items) c.self.view_is) ∙ sym c.deref.ensures.value) ∙ here ∙ ap Some same)
+    (ap (λ ys. slice_get ys c.args.near) (sym (ap (λ (r : ListBlock). r.items) c.self.view_is) ∙ sym c.deref.ensures.value) ∙ here
+    ∙ ap Some same)

@@ -1,6 +1,6 @@
 use Rattle.std.proofs.Common.{◌≡◌, sym, subst, ◌≤◌, length, false, rules}
 use Rattle.std.specs.List.{insert}
-use Rattle.columns.specs.Blocks.{Run}
+use Rattle.columns.specs.Blocks.{ListBlock}
 use Rattle.columns.proofs.InBlock.{block_put}
 use Rattle.columns.proofs.block.Block.put.Goals as goal
 
@@ -8,7 +8,7 @@ pub invariant_of-self : goal.invariant_of-self
 invariant_of-self c =
     let d = c.self.inside in
     let i = c.args.index in
-    let within : i ≤ length d.ids.items = subst (λ (r : Run). i ≤ length r.items) (sym c.self.view_is) c.requires.within in
+    let within : i ≤ length d.ids.items = subst (λ (r : ListBlock). i ≤ length r.items) (sym c.self.view_is) c.requires.within in
     let ids : c.insert.new.self.items ≡ insert d.ids.items i c.args.id = search rules in
     let flags : c.insert-2.new.self.items ≡ insert d.flags.items i false = search rules in
     rw (ids, flags)

@@ -1,7 +1,7 @@
 use Rattle.std.proofs.Common.{◌≡◌, ◌∙◌, ap, ℕ, List, sym, length, take, drop, ◌-◌, rules}
 use Rattle.std.proofs.Math.Seq.{take-length}
 use Rattle.std.proofs.lemmas.List.{length-drop}
-use Rattle.columns.specs.Blocks.{IsFloor, Run}
+use Rattle.columns.specs.Blocks.{IsFloor, ListBlock}
 use Rattle.columns.proofs.InBlock.{block_cut}
 use Rattle.columns.proofs.block.Block.split_off.Goals as goal
 
@@ -14,9 +14,9 @@ overflow_sub-self c =
     let d = c.self.inside in
     let b = c.back.inside in
     let at = c.args.at in
-    let ids : b.ids.items ≡ drop at d.ids.items = ap (λ (r : Run). r.items) c.back.view_is ∙ c.in_ok-back.ensures.items
+    let ids : b.ids.items ≡ drop at d.ids.items = ap (λ (r : ListBlock). r.items) c.back.view_is ∙ c.in_ok-back.ensures.items
     ∙ rest_of c.deref.result.now at ∙ ap (drop at) c.deref.ensures.value in
-    let flags : b.flags.items ≡ drop at d.flags.items = ap (λ (r : Run). r.flags) c.back.view_is ∙ c.in_ok-back.ensures.flags
+    let flags : b.flags.items ≡ drop at d.flags.items = ap (λ (r : ListBlock). r.flags) c.back.view_is ∙ c.in_ok-back.ensures.flags
     ∙ rest_of c.deref-2.result.now at ∙ ap (drop at) c.deref-2.ensures.value in
     (block_cut d.ids.items d.flags.items d.shown d.floor at b.shown b.floor d.floor c.self.invariant
     (rw (sym ids, sym flags) c.back.invariant) (search rules)).0
@@ -26,9 +26,9 @@ invariant_of-self c =
     let d = c.self.inside in
     let b = c.back.inside in
     let at = c.args.at in
-    let ids : b.ids.items ≡ drop at d.ids.items = ap (λ (r : Run). r.items) c.back.view_is ∙ c.in_ok-back.ensures.items
+    let ids : b.ids.items ≡ drop at d.ids.items = ap (λ (r : ListBlock). r.items) c.back.view_is ∙ c.in_ok-back.ensures.items
     ∙ rest_of c.deref.result.now at ∙ ap (drop at) c.deref.ensures.value in
-    let flags : b.flags.items ≡ drop at d.flags.items = ap (λ (r : Run). r.flags) c.back.view_is ∙ c.in_ok-back.ensures.flags
+    let flags : b.flags.items ≡ drop at d.flags.items = ap (λ (r : ListBlock). r.flags) c.back.view_is ∙ c.in_ok-back.ensures.flags
     ∙ rest_of c.deref-2.result.now at ∙ ap (drop at) c.deref-2.ensures.value in
     let bounded : IsFloor c.floor_of-self-inside.result (take at d.ids.items) = search rules in
     rw (c.truncate.ensures.items, c.truncate-2.ensures.items)

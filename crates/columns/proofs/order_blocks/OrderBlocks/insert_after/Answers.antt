@@ -2,7 +2,7 @@ use Rattle.std.proofs.Common.{◌≡◌, ◌∙◌, ◌<◌, ◌≤◌, ap, sym,
 use Rattle.std.proofs.lemmas.Option.{slice_get_read}
 use Rattle.semantics.specs.Context.{insert_after, has_item}
 use Rattle.columns.specs.Orders.{Order}
-use Rattle.columns.specs.Blocks.{GoesIn, IsBehind, Run, items_at, joined, room_at}
+use Rattle.columns.specs.Blocks.{GoesIn, IsBehind, ListBlock, items_at, joined, room_at}
 use Rattle.columns.proofs.IndexedBlocks.{indexed_same}
 use Rattle.columns.proofs.Runs.{items_here}
 use Rattle.columns.proofs.Changed.{IsPlaced, item_put, room_parts, roomy, same_run}
@@ -63,7 +63,7 @@ same_block c =
     let is : slice_get runs k ≡ Some c.index_mut.result.now = slice_get_read runs _ k c.index_mut.result.now refl inside
     c.index_mut.ensures.value in
     let read : slice_get runs k ≡ Some c.index.result.now = slice_get_read runs _ k c.index.result.now refl inside c.index.ensures in
-    (is, ap (λ (o : Run). o.number) (same_run runs k c.index.result.now c.index_mut.result.now read is))
+    (is, ap (λ (o : ListBlock). o.number) (same_run runs k c.index.result.now c.index_mut.result.now read is))
 
 pub invariant_of-self : goal.invariant_of-self
 invariant_of-self c =

@@ -1,6 +1,6 @@
 use Rattle.std.proofs.Common.{◌≡◌, ◌-◌, ◌<◌, Some, None, length, slice_get, sym, ap, ◌∙◌, refl, rules}
 use Rattle.std.specs.Option.{IfSome}
-use Rattle.semantics.specs.Receipts.{IsAnswer}
+use Rattle.semantics.specs.PeerAnswers.{IsAnswer}
 use Rattle.items.specs.declared.item.Item.{Item}
 use Rattle.items.specs.Meanings.{reply_of, submitted_of}
 use Rattle.command.specs.Answers.{Given}

@@ -1,5 +1,5 @@
 use Rattle.std.proofs.Common.{◌≡◌, ◌∙◌, refl, ap, subst}
-use Rattle.semantics.specs.Receipts.{IsAnswer}
+use Rattle.semantics.specs.PeerAnswers.{IsAnswer}
 use Rattle.items.specs.declared.item.Item.{Item}
 use Rattle.items.specs.Meanings.{reply_of, submitted_of}
 use Rattle.engine.specs.Clients.{Keeps}

@@ -2,7 +2,7 @@
 use Rattle.std.proofs.Common.{arith, ◌≡◌, [], ◌∷◌, ◌++◌, List, length, map, sym, ap, ◌∙◌, append-nil}
 use Rattle.std.proofs.lemmas.List.{length-map, map-append}
 use Rattle.semantics.specs.Tables.{by_table}
-use Rattle.semantics.specs.Engine.{Message as TheMessage, Bundle as TheBundle, Turn, SentBundle}
+use Rattle.semantics.specs.Engine.{Message as TheMessage, Bundle as TheBundle, Outcome, SentBundle}
 use Rattle.semantics.specs.Stamped.{Stamped}
 use Rattle.semantics.specs.PeerSteps.{lacked}
 use Rattle.operation.specs.Meanings.{stamped_of}
@@ -18,13 +18,13 @@ pub returns-in_default-clause-engine : goal.returns-in_default-clause-engine
 returns-in_default-clause-engine c =
     let all = answered-none c.args.self.now c.args.token c.args.messages.now.items _ c.args.message c.deref.ensures.value
     c.in_default.ensures.none in
-    sym (ap (λ (t : Turn). t.engine) all.0)
+    sym (ap (λ (t : Outcome). t.engine) all.0)
 
 pub returns-in_default-clause-reply : goal.returns-in_default-clause-reply
 returns-in_default-clause-reply c =
     let all = answered-none c.args.self.now c.args.token c.args.messages.now.items _ c.args.message c.deref.ensures.value
     c.in_default.ensures.none in
-    sym (ap (λ (t : Turn). t.reply) all.0)
+    sym (ap (λ (t : Outcome). t.reply) all.0)
 
 pub returns-in_default-clause-sent : goal.returns-in_default-clause-sent
 returns-in_default-clause-sent c =
@@ -38,7 +38,7 @@ returns-in-Err-UnknownReplica-clause-engine c =
     let all = answered-foreign c.args.self.now c.args.token c.args.messages.now.items _ c.args.message c.deref.ensures.value v
     c.in-Some.ensures.some
     (names_stranger c.args.self.now v _ c.in-Err-UnknownReplica.ensures c.in-Err-UnknownReplica.field-0-is) in
-    sym (ap (λ (t : Turn). t.engine) all.0)
+    sym (ap (λ (t : Outcome). t.engine) all.0)
 
 pub returns-in-Err-UnknownReplica-clause-reply : goal.returns-in-Err-UnknownReplica-clause-reply
 returns-in-Err-UnknownReplica-clause-reply c =
@@ -46,7 +46,7 @@ returns-in-Err-UnknownReplica-clause-reply c =
     let all = answered-foreign c.args.self.now c.args.token c.args.messages.now.items _ c.args.message c.deref.ensures.value v
     c.in-Some.ensures.some
     (names_stranger c.args.self.now v _ c.in-Err-UnknownReplica.ensures c.in-Err-UnknownReplica.field-0-is) in
-    sym (ap (λ (t : Turn). t.reply) all.0)
+    sym (ap (λ (t : Outcome). t.reply) all.0)
 
 pub returns-in-Err-UnknownReplica-clause-sent : goal.returns-in-Err-UnknownReplica-clause-sent
 returns-in-Err-UnknownReplica-clause-sent c =
@@ -60,7 +60,7 @@ pub returns-clause-engine : goal.returns-clause-engine
 returns-clause-engine c =
     let all = answered-given c.args.self.now c.args.token c.args.messages.now.items _ c.args.message c.deref.ensures.value
     (by_table c.in-Some.hello.now.table c.in-Some.hello.now.vector) c.in-Some.ensures.some c.in-Ok.ensures.1 in
-    c.see_published.ensures ∙ sym (ap (λ (t : Turn). t.engine) all.0)
+    c.see_published.ensures ∙ sym (ap (λ (t : Outcome). t.engine) all.0)
 
 pub returns-clause-reply : goal.returns-clause-reply
 returns-clause-reply c =
@@ -72,7 +72,7 @@ returns-clause-reply c =
     ≡ length (lacked c.args.self.now (by_table c.in-Some.hello.now.table c.in-Some.hello.now.vector)) =
     omega (arith, lacks, mapped, c.len-operations.ensures) in
     let number : c.len-message.result ≡ length c.args.messages.now.items = (let l = c.len-message.ensures in omega (arith, l)) in
-    (λ i. SentBundle (number i) (operations i)) ∙ sym (ap (λ (t : Turn). t.reply) all.0)
+    (λ i. SentBundle (number i) (operations i)) ∙ sym (ap (λ (t : Outcome). t.reply) all.0)
 
 pub returns-clause-sent : goal.returns-clause-sent
 returns-clause-sent c =

@@ -1,5 +1,5 @@
 use Rattle.std.proofs.Common.{◌≡◌, ℕ, max, Some, map, refl, sym, ap, ◌∙◌, subst, option_and_then}
-use Rattle.semantics.specs.Engine.{Engine as TheEngine, Cell as TheCell, Turn, Seen, Unanswered}
+use Rattle.semantics.specs.Engine.{Engine as TheEngine, Cell as TheCell, Outcome, Seen, Unanswered}
 use Rattle.semantics.specs.ReadSteps.{cell_under, learn, see, seen_by}
 use Rattle.world.specs.Engines.{client_of, given_of}
 use Rattle.world.specs.contracts.engine.Engine.{the_view}
@@ -17,10 +17,10 @@ unset c =
     (c.in_default.ensures table E (ap (map (client_of table)) (sym c.deref.ensures.value)))
 
 pub returns-in_default-clause-engine : goal.returns-in_default-clause-engine
-returns-in_default-clause-engine c = rw (← c.self.view_is) (ap (λ (t : Turn). t.engine) (unset c))
+returns-in_default-clause-engine c = rw (← c.self.view_is) (ap (λ (t : Outcome). t.engine) (unset c))
 
 pub returns-in_default-clause-reply : goal.returns-in_default-clause-reply
-returns-in_default-clause-reply c = rw (← c.self.view_is) (ap (λ (t : Turn). t.reply) (unset c))
+returns-in_default-clause-reply c = rw (← c.self.view_is) (ap (λ (t : Outcome). t.reply) (unset c))
 
 -- of a serial with an answer the token has seen what the code computes
 answered : (c : goal.After-see)
@@ -44,7 +44,7 @@ pub returns-clause-engine : goal.returns-clause-engine
 returns-clause-engine c =
     let E : TheEngine = the_view c.self.inside in
     rw (← c.self.view_is)
-    (sym (c.see.ensures c.self.inside.handler.replica.document.table E refl refl) ∙ ap (λ (t : Turn). t.engine) (answered c))
+    (sym (c.see.ensures c.self.inside.handler.replica.document.table E refl refl) ∙ ap (λ (t : Outcome). t.engine) (answered c))
 
 pub returns-clause-reply : goal.returns-clause-reply
-returns-clause-reply c = rw (← c.self.view_is) (ap (λ (t : Turn). t.reply) (answered c))
+returns-clause-reply c = rw (← c.self.view_is) (ap (λ (t : Outcome). t.reply) (answered c))

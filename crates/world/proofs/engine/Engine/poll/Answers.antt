@@ -1,7 +1,7 @@
 use Rattle.std.proofs.Common.{◌≡◌, ◌<◌, Some, length, map, max, set, sym, ap, ◌∙◌, arith, option_map}
 use Rattle.std.proofs.lemmas.List.{map-set}
 use Rattle.std.proofs.lemmas.Option.{same_Some}
-use Rattle.semantics.specs.Engine.{Engine as TheEngine, Client as TheClient, Replied, Turn}
+use Rattle.semantics.specs.Engine.{Engine as TheEngine, Client as TheClient, Replied, Outcome}
 use Rattle.semantics.specs.ReadSteps.{cell_at, poll}
 use Rattle.world.specs.Engines.{client_of, cell_of, given_of}
 use Rattle.world.specs.contracts.engine.Engine.{the_view}
@@ -46,7 +46,7 @@ returns-clause-engine c =
     rw (← c.self.view_is)
     ((λ i. record E { clients = map-set client ks at (record { seen = c.max-k.result; cells = m.cells }) i })
     ∙ (λ i. record E { clients = set (map client ks) at (record (client m) { seen = c.max-k.ensures i }) })
-    ∙ sym (ap (λ (t : Turn). t.engine) (polled c)))
+    ∙ sym (ap (λ (t : Outcome). t.engine) (polled c)))
 
 pub returns-clause-reply : goal.returns-clause-reply
-returns-clause-reply c = rw (← c.self.view_is) (sym (ap (λ (t : Turn). t.reply) (polled c)))
+returns-clause-reply c = rw (← c.self.view_is) (sym (ap (λ (t : Outcome). t.reply) (polled c)))

@@ -1,7 +1,7 @@
 use Rattle.std.proofs.Common.{rules, ◌≡◌, ℕ, suc, ◌==◌, ◌≢◌, inr, Some, cond, length, map, sym, ap, ◌∙◌}
 use Rattle.std.proofs.Common.{arith, add-one}
 use Rattle.ids.specs.declared.refusal.Refusal.TheVariants.{NoMemory}
-use Rattle.semantics.specs.Engine.{Turn, Received}
+use Rattle.semantics.specs.Engine.{Outcome, Received}
 use Rattle.semantics.specs.PeerSteps.{Receipt, as_received}
 use Rattle.operation.specs.Meanings.{stamped_of}
 use Rattle.world.specs.Engines.{stop_after}
@@ -18,7 +18,7 @@ returns-in_err-submitted-clause-stopped c =
     on_err c.from_residual.result
     (inr (
       other,
-      between_same (sym (ap (λ (t : Turn). t.engine) k.2))
+      between_same (sym (ap (λ (t : Outcome). t.engine) k.2))
           (c.in_err-submitted.ensures.stopped c.args.read.stopped),
     ))
 
@@ -27,7 +27,7 @@ returns-clause-engine c =
     let ss = map (stamped_of c.args.self.now.replica.members) c.args.read.ops.items in
     let k = receives c.self.inside c.args.self.now c.args.client ss c.args.read.stopped c.self.view_is (omega arith) in
     sym (ap (λ (r : Receipt). r.engine) (c.in_ok-submitted.ensures.submitted c.args.read.stopped))
-    ∙ sym (ap (λ (t : Turn). t.engine) k.2)
+    ∙ sym (ap (λ (t : Outcome). t.engine) k.2)
 
 pub returns-clause-reply : goal.returns-clause-reply
 returns-clause-reply c =
@@ -39,4 +39,4 @@ returns-clause-reply c =
     (λ i. Received ((c.first_serial.ensures ∙ ap (cond (n == 0) 0) serial) i) n
     ((c.stop_after.ensures ∙ ap (stop_after n) c.first_refusal-why.ensures) i))
     ∙ sym (ap (λ (r : Receipt). (as_received (suc (length k.0.cells)) r).reply) all)
-    ∙ sym (ap (λ (t : Turn). t.reply) k.2)
+    ∙ sym (ap (λ (t : Outcome). t.reply) k.2)

@@ -3,7 +3,7 @@ use Rattle.std.proofs.Common.{sym, ap, ◌∙◌, slice_get, subst, arith}
 use Rattle.std.proofs.lemmas.List.{map-set, map-append}
 use Rattle.std.proofs.lemmas.Option.{same_Some}
 use Rattle.semantics.specs.LegalAnswer.{Request, Submitted}
-use Rattle.semantics.specs.Engine.{Engine as TheEngine, Client as TheClient, Turn, Ticket}
+use Rattle.semantics.specs.Engine.{Engine as TheEngine, Client as TheClient, Outcome, Ticket}
 use Rattle.semantics.specs.WriteSteps.{next_item, with_cell}
 use Rattle.items.specs.Meanings.{request_of, submitted_of}
 use Rattle.world.specs.Engines.{client_of}
@@ -61,7 +61,7 @@ returns-clause-engine c =
     map-set (client_of table) ks at c.enqueue.new.k
     ∙ ap (set (map (client_of table) ks) at) (c.in_ok-enqueue.ensures.client table ∙ (λ i. with_cell (same i) (item i))) in
     (λ i. record E { queue = queue i; clients = clients i })
-    ∙ sym (ap (λ (t : Turn). t.engine) (queued e c.args.self.now at c.args.request k c.self.view_is c.requires.there c.index-k.ensures
+    ∙ sym (ap (λ (t : Outcome). t.engine) (queued e c.args.self.now at c.args.request k c.self.view_is c.requires.there c.index-k.ensures
     (omega arith) (omega arith)))
 
 pub returns-clause-reply : goal.returns-clause-reply
@@ -71,6 +71,6 @@ returns-clause-reply c k there_now =
     let there = stands e c.args.self.now c.args.client c.index-k.result.now c.self.view_is c.requires.there c.index-k.ensures in
     let same : read ≡ k = same_Some read k
     (sym (subst (λ (F : TheEngine). slice_get F.clients c.args.client ≡ Some read) c.self.view_is there) ∙ there_now) in
-    ap (λ (t : Turn). t.reply) (queued c.self.inside c.args.self.now c.args.client c.args.request c.index-k.result.now c.self.view_is
+    ap (λ (t : Outcome). t.reply) (queued c.self.inside c.args.self.now c.args.client c.args.request c.index-k.result.now c.self.view_is
     c.requires.there c.index-k.ensures (omega arith) (omega arith))
     ∙ ap Ticket (let l = ap (λ (x : TheClient). length x.cells) same in omega (arith, l))

@@ -29,7 +29,7 @@ received_here : (M : List ℕ) (E : TheEngine) (os : List Op) (o : Op) (rest : L
     → All (λ (p : Op). length p.deps ≡ length M) os → os ≡ o ∷ rest → received_of E.replica.members o ≡ stamped_of M o
 received_here M E os o rest members wide steps = ap (λ ps. received_of ps o) members
     ∙ received_wide M o
-        (All-head (λ (p : Op). length p.deps ≡ length M) o rest (subst (All (λ (p : Op). length p.deps ≡ length M)) steps wide))
+    (All-head (λ (p : Op). length p.deps ≡ length M) o rest (subst (All (λ (p : Op). length p.deps ≡ length M)) steps wide))
 
 pub returns-in-Some-2-clause-submitted : goal.returns-in-Some-2-clause-submitted
 returns-in-Some-2-clause-submitted c = λ bad.

@@ -1,7 +1,7 @@
 use Rattle.std.proofs.Common.{◌≡◌, ◌+◌, ℕ, List, min, map, subst}
 use Rattle.semantics.specs.World.{World, WorldStep as TheStep}
 use Rattle.world.specs.Engines.{message_of}
-use Rattle.world.specs.Worlds.{Running, StopsAfter, step_in, tables_of, world, world_of}
+use Rattle.world.specs.Worlds.{Running, StopsInStep, step_in, tables_of, world, world_of}
 use Rattle.world.specs.contracts.world.World.{the_view}
 use Rattle.world.proofs.ReachedWorlds.{reached_after}
 use Rattle.world.proofs.Results.{on_err}
@@ -13,12 +13,12 @@ returns-in_err-replies-clause-stopped c =
     let n : ℕ = c.run_all-outcome.new.whole in
     let V : World = world c.run_all-outcome.new.engines.items (map message_of c.run_all-outcome.new.messages.items) in
     let stopped : (n : ℕ) × (c.saturating_add-self-inside.result ≡ min (A.done + n) 18446744073709551615)
-    × StopsAfter (world_of A) (map (step_in (tables_of A.engines)) c.args.steps.now) n V =
+    × StopsInStep (world_of A) (map (step_in (tables_of A.engines)) c.args.steps.now) n V =
     (n, c.saturating_add-self-inside.ensures, c.in_err-replies.ensures.stopped) in
     on_err c.from_residual.result
     (λ running. subst
     (λ (B : Running). (n : ℕ) × (c.saturating_add-self-inside.result ≡ min (B.done + n) 18446744073709551615)
-    × StopsAfter (world_of B) (map (step_in (tables_of B.engines)) c.args.steps.now) n V) c.self.view_is stopped)
+    × StopsInStep (world_of B) (map (step_in (tables_of B.engines)) c.args.steps.now) n V) c.self.view_is stopped)
 
 pub invariant_of-self-2 : goal.invariant_of-self-2
 invariant_of-self-2 c = λ running.

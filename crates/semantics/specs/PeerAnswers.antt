@@ -6,7 +6,7 @@ use Rattle.semantics.specs.Stamped.{Stamped}
 use Rattle.semantics.specs.LegalHistory.{has_id}
 use Rattle.semantics.specs.Faults.{alone_fault, fault_of}
 use Rattle.semantics.specs.Making.{is_full}
-use Rattle.semantics.specs.Entries.{Entry, applied, first_entries, stamped_of}
+use Rattle.semantics.specs.Entries.{Entry, applied, first_entries, stamped_entries}
 use Rattle.semantics.specs.LegalAnswer.{Request, OfCommand, OfPeer, Submitted, Reply, Made, NotMade, KeptAt, KnownAt, IsLegalAnswer}
 use Rattle.semantics.specs.Delivery.{Delivered, Kept, Known, NotKept, answer_to}
 use Rattle.semantics.specs.WorldHistory.{IsNotBelow}
@@ -25,11 +25,11 @@ pub record WasAnswered (p : ℕ) (ps : List ℕ) (G : List Entry) (s : Stamped) 
   pub answer : answer_with p ps (first_entries k G) waiting s ≡ d
 
 -- the reply to a peer's operation: the delivery's answer, or an allocation failed, or m is below the floor
-abbrev pub IsReceipt : (own : ℕ) (members : List ℕ) → List Entry → Submitted → Stamped → Reply → Type 0
-IsReceipt p ps G x s (Made a n) = ⊥
-IsReceipt p ps G x s (KeptAt m) = WasAnswered p ps G s x.floor m Kept
-IsReceipt p ps G x s (KnownAt m) = WasAnswered p ps G s x.floor m Known
-IsReceipt p ps G x s (NotMade e m) =
+abbrev pub IsPeerAnswer : (own : ℕ) (members : List ℕ) → List Entry → Submitted → Stamped → Reply → Type 0
+IsPeerAnswer p ps G x s (Made a n) = ⊥
+IsPeerAnswer p ps G x s (KeptAt m) = WasAnswered p ps G s x.floor m Kept
+IsPeerAnswer p ps G x s (KnownAt m) = WasAnswered p ps G s x.floor m Known
+IsPeerAnswer p ps G x s (NotMade e m) =
     WasAnswered p ps G s x.floor m (NotKept e)
     ⊎ ((e ≡ NoMemory) × (x.floor ≤ m) × (m ≤ length G))
     ⊎ ((e ≡ BadFloor) × (m < x.floor) × (m ≤ length G))
@@ -45,7 +45,7 @@ IsAnswer p ps G x y = of_request x.request
   where
     of_request : Request → Type 0
     of_request (OfCommand c) = IsLegalAnswer p G x c y × IsFromFloor x.floor y
-    of_request (OfPeer s) = IsReceipt p ps G x s y
+    of_request (OfPeer s) = IsPeerAnswer p ps G x s y
 
 -- the refusal is true of the operation and of these entries of replica p, or the inbox had no room
 abbrev pub IsTrueOf : (own : ℕ) (members : List ℕ) → List Entry → Stamped → Refusal → Type 0
@@ -54,4 +54,4 @@ IsTrueOf p ps G s e =
     ⊎ ((e ≡ OwnName) × (s.id.replica ≡ p) × (has_id (applied G) s.id ≡ false))
     ⊎ ((e ≡ HistoryFull) × (is_full G ≡ true))
     ⊎ (e ≡ InboxFull)
-    ⊎ (fault_of (stamped_of G) s ≡ Some e)
+    ⊎ (fault_of (stamped_entries G) s ≡ Some e)

@@ -9,12 +9,12 @@ use Rattle.semantics.specs.LegalHistory.{has_id}
 use Rattle.semantics.specs.Stamped.{Stamped}
 use Rattle.semantics.specs.Faults.{alone_fault, fault_of, is_ready}
 use Rattle.semantics.specs.Making.{is_full}
-use Rattle.semantics.specs.Entries.{Entry, applied, first_entries, stamped_of, stamped_in}
+use Rattle.semantics.specs.Entries.{Entry, applied, first_entries, stamped_entries, stamped_in}
 use Rattle.semantics.specs.Replica.{Replica, operations}
 use Rattle.semantics.specs.Delivery.{Delivered, Kept, Known, NotKept, is_waiting, kept_unless, room_answer, answer_after, answer_to}
 use Rattle.semantics.specs.WorldHistory.{BeginsWith}
 use Rattle.semantics.proofs.Beginnings.{first_begins_first}
-use Rattle.semantics.specs.Receipts.{WasAnswered, IsTrueOf}
+use Rattle.semantics.specs.PeerAnswers.{WasAnswered, IsTrueOf}
 
 same_cause : (e f : Refusal) → NotKept f ≡ NotKept e → f ≡ e
 same_cause e f is = cc
@@ -29,7 +29,7 @@ module _ (r : Replica) (s : Stamped) (e : Refusal) where
   by_test true P x y f g is = f refl is
   by_test false P x y f g is = g refl is
 
-  of_fault : (o : Option Refusal) → fault_of (stamped_of r.entries) s ≡ o → kept_unless o ≡ NotKept e → Told
+  of_fault : (o : Option Refusal) → fault_of (stamped_entries r.entries) s ≡ o → kept_unless o ≡ NotKept e → Told
   of_fault None f is = absurd (no is)
     where
       no : Kept ≡ NotKept e → ⊥
@@ -46,7 +46,7 @@ module _ (r : Replica) (s : Stamped) (e : Refusal) where
   of_room is =
       by_test (is_ready (operations r) s) Told _ _
       (λ t. by_test (nat_lt 4096 (length r.waiting)) Told (NotKept InboxFull) _ (λ u. full_inbox)
-      (λ u. of_fault (fault_of (stamped_of r.entries) s) refl))
+      (λ u. of_fault (fault_of (stamped_entries r.entries) s) refl))
       (λ t. by_test (nat_lt 4095 (length r.waiting)) Told (NotKept InboxFull) Kept (λ u. full_inbox) (λ u. no_kept))
       is
 

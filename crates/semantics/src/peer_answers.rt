@@ -6,7 +6,7 @@ ghost use Rattle.semantics.specs.LegalHistory.{has_id};
 ghost use Rattle.semantics.specs.Stamped.{Stamped};
 ghost use Rattle.semantics.specs.Entries.{Entry, applied, first_entries};
 ghost use Rattle.semantics.specs.Delivery.{Kept, NotKept};
-ghost use Rattle.semantics.specs.Receipts.{WasAnswered, IsTrueOf};
+ghost use Rattle.semantics.specs.PeerAnswers.{WasAnswered, IsTrueOf};
 
 /// A refusal is true of the operation and of some beginning of the history, not before the floor; and what was kept was new before
 /// the floor.
