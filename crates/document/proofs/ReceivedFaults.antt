@@ -16,7 +16,8 @@ use Rattle.semantics.specs.NamedIds.{greatest_counter}
 use Rattle.semantics.specs.Tables.{by_table, component}
 use Rattle.semantics.specs.Stamped.{Stamped, IsLegalStamped, MayFollow}
 use Rattle.semantics.specs.Entries.{Entry, applied, stamped_entries}
-use Rattle.semantics.specs.Faults.{StandsAlone, breaks_chain, fault_of, first_fault, is_missing, is_open, items_inserted, names_nothing}
+use Rattle.semantics.specs.Faults.{StandsAlone, breaks_chain, fault_of, first_fault, is_missing, is_open, items_were_inserted}
+use Rattle.semantics.specs.Faults.{names_nothing}
 use Rattle.semantics.proofs.FaultlessFollows.{follows_without_fault}
 use Rattle.semantics.proofs.FollowsFaultless.{no_fault_where_follows}
 use Rattle.semantics.proofs.TableVectors.{at-by_table}
@@ -30,7 +31,7 @@ use Rattle.document.proofs.NamedOfColumns.{component_there, named_counter, named
 use Rattle.document.proofs.PositionsOfIds.{not_opened, opened}
 
 -- each item on the way to an element of a legal history's document stands in its list where it was inserted there
-pub items_where_inserted : (H : List Operation) → IsLegal H → (e : Element) → items_in_tree (doc H) e ≡ items_inserted H e
+pub items_where_inserted : (H : List Operation) → IsLegal H → (e : Element) → items_in_tree (doc H) e ≡ items_were_inserted H e
 items_where_inserted H legal Doc = refl
 items_where_inserted H legal (Field e n) = items_where_inserted H legal e
 items_where_inserted H legal (Item l a) = λ t. items_inserted H legal l a t && items_where_inserted H legal l t
@@ -40,14 +41,14 @@ pub fault-tested : (G : List Entry) (s : Stamped) (a b c d : Bool)
     → breaks_chain (applied G) s ≡ a
     → names_nothing (applied G) s ≡ b
     → is_open (stamped_entries G) s.vector ≡ c
-    → items_inserted (applied G) (element_of s.place) ≡ d
+    → items_were_inserted (applied G) (element_of s.place) ≡ d
     → fault_of (stamped_entries G) s ≡ first_fault a b c (not d)
 fault-tested G s a b c d chain names closed stands = λ t. first_fault (chain t) (names t) (closed t) (not (stands t))
 
 -- the items that the tree was asked for
 pub items-tested : (G : List Entry) (t : Planted) (e : Element) (b : Bool) → IsLegalStamped (stamped_entries G)
     → document t ≡ doc (applied G)
-    → items_in_tree (document t) e ≡ b → items_inserted (applied G) e ≡ b
+    → items_in_tree (document t) e ≡ b → items_were_inserted (applied G) e ≡ b
 items-tested G t e b kept content is = sym (items_where_inserted (applied G) (legal (stamped_entries G) kept) e)
     ∙ ap (λ C. items_in_tree C e) (sym content) ∙ is
 

@@ -99,8 +99,8 @@ impl<N: EngineName> Client<N> {
     /// entry has it. Waits for the queue. Four allocations, and room for the serial, which is kept for good.
     ///
     /// # Errors
-    /// `SerialEnd` if all serials are used, else `NoMemory` if allocation fails, else `QueueFull` if the queue was full at one
-    /// moment of the call. A refused call takes no serial; the command is gone with it.
+    /// `SerialEnd` if all serials are used, else `NoMemory` if allocation fails, else `QueueFull` if the queue has no room: its rule
+    /// allows a full queue then. A refused call takes no serial; the command is gone with it.
     pub fn submit(
         &mut self,
         rt: &impl Wait,

@@ -9,7 +9,8 @@ use Rattle.semantics.specs.LegalHistory.{IsAmong, has_id}
 use Rattle.semantics.specs.NamedIds.{greatest_counter, names}
 use Rattle.semantics.specs.Vectors.{Vector, at, greatest, covers, is_at_most}
 use Rattle.semantics.specs.Stamped.{Stamped, operations_of, MayFollow, IsLegalStamped}
-use Rattle.semantics.specs.Faults.{StandsAlone, breaks_chain, names_nothing, is_missing, is_open, items_inserted, first_fault, fault_of}
+use Rattle.semantics.specs.Faults.{StandsAlone, breaks_chain, names_nothing, is_missing, is_open, items_were_inserted, first_fault}
+use Rattle.semantics.specs.Faults.{fault_of}
 use Rattle.semantics.proofs.AbsentIds.{has_id-among}
 use Rattle.semantics.proofs.LegalFacts.{among_from, counter_pos, chain, deps_through}
 use Rattle.semantics.proofs.VectorCounters.{at_most-at, at_greatest, none-at, covers-at}
@@ -21,7 +22,7 @@ pub may_follow : (H : List Stamped) (s : Stamped) → IsLegalStamped H → Stand
     → at s.vector s.id.replica ≡ greatest_counter (operations_of H) s.id.replica
     → ((p : ℕ) → at s.vector p ≢ 0 → has_id (operations_of H) (id_at (at s.vector p) p) ≡ true)
     → ((x : Stamped) → IsAmong x H → x.id.counter ≡ at s.vector x.id.replica → (p : ℕ) → at x.vector p ≤ at s.vector p)
-    → items_inserted (operations_of H) (element_of s.place) ≡ true
+    → items_were_inserted (operations_of H) (element_of s.place) ≡ true
     → MayFollow (operations_of H) s
 may_follow H s l alone own reached closed stand = (
   record {
@@ -109,6 +110,6 @@ pub follows_without_fault : (H : List Stamped) (s : Stamped) → IsLegalStamped 
     → MayFollow (operations_of H) s
 follows_without_fault H s l alone h =
     let tests = no_fault (breaks_chain (operations_of H) s) (names_nothing (operations_of H) s) (is_open H s.vector)
-    (not (items_inserted (operations_of H) (element_of s.place))) h in
+    (not (items_were_inserted (operations_of H) (element_of s.place))) h in
     may_follow H s l alone (chain_at (operations_of H) s tests.0) (reached_at (operations_of H) s.vector tests.1)
-    (closed_at H s.vector tests.2) (not-false (items_inserted (operations_of H) (element_of s.place)) tests.3)
+    (closed_at H s.vector tests.2) (not-false (items_were_inserted (operations_of H) (element_of s.place)) tests.3)

@@ -8,7 +8,8 @@ use Rattle.semantics.specs.LegalHistory.{IsAmong, has_id}
 use Rattle.semantics.specs.NamedIds.{greatest_counter, names}
 use Rattle.semantics.specs.Vectors.{Vector, at, covers, is_at_most}
 use Rattle.semantics.specs.Stamped.{Stamped, operations_of, MayFollow, IsLegalStamped}
-use Rattle.semantics.specs.Faults.{StandsAlone, breaks_chain, names_nothing, is_missing, is_open, items_inserted, first_fault, fault_of}
+use Rattle.semantics.specs.Faults.{StandsAlone, breaks_chain, names_nothing, is_missing, is_open, items_were_inserted, first_fault}
+use Rattle.semantics.specs.Faults.{fault_of}
 use Rattle.semantics.proofs.AbsentIds.{has_id-among}
 use Rattle.semantics.proofs.VectorCounters.{at_most-from, none-from, covers-at}
 use Rattle.semantics.proofs.NamedOperations.{vector_cases, follows_named, reached_named, ready_where_follows, meaning_of}
@@ -72,12 +73,12 @@ all_pass false false false true e f g h = absurd (true≢false h)
 pub no_fault_where_follows : (H : List Stamped) (s : Stamped) → IsLegalStamped H → MayFollow (operations_of H) s → fault_of H s ≡ None
 no_fault_where_follows H s l f =
     all_pass (breaks_chain (operations_of H) s) (names_nothing (operations_of H) s) (is_open H s.vector)
-    (not (items_inserted (operations_of H) (element_of s.place)))
+    (not (items_were_inserted (operations_of H) (element_of s.place)))
     (not_from_true (at s.vector s.id.replica == greatest_counter (operations_of H) s.id.replica)
     (eq-eqb _ _ (own_counter (operations_of H) s f)))
     (none-from (is_missing (operations_of H) s.vector) s.vector (none_missing (operations_of H) s f))
     (none_open s.vector H (vectors_within H s l f))
-    (not_from_true (items_inserted (operations_of H) (element_of s.place))
+    (not_from_true (items_were_inserted (operations_of H) (element_of s.place))
     (items_test (operations_of H) (names (operations_of H) s.vector) (element_of s.place) f.1.items))
 
 -- what may follow stands alone

@@ -8,7 +8,7 @@ use Rattle.semantics.specs.Operations.{Operation, slot_of, after_in, inserted_af
 use Rattle.semantics.specs.LegalHistory.{IsAmong, IsItemOf, ItemsStand, has_id}
 use Rattle.semantics.specs.Vectors.{Vector, covers}
 use Rattle.semantics.specs.NamedIds.{names}
-use Rattle.semantics.specs.Faults.{items_covered, is_item_of, items_inserted}
+use Rattle.semantics.specs.Faults.{items_covered, is_item_of, items_were_inserted}
 use Rattle.semantics.proofs.Orders.{ids_from_test, id_tested, same_elements, element_itself}
 use Rattle.semantics.proofs.AbsentIds.{has_id-among}
 
@@ -50,20 +50,20 @@ item_test G l a (x, m, e, slot) = passing G m
 item_there : (G : List Operation) (l : Element) (a : OpId) → IsItemOf G l a → has_id G a ≡ true
 item_there G l a (x, m, e, slot) = has_id-among G x a m e
 
-pub items_from : (G : List Operation) (v : Vector) (e : Element) → items_inserted G e ≡ true → items_covered v e ≡ true
+pub items_from : (G : List Operation) (v : Vector) (e : Element) → items_were_inserted G e ≡ true → items_covered v e ≡ true
     → ItemsStand G (names G v) e
 items_from G v Doc h c = tt
 items_from G v (Field e n) h c = items_from G v e h c
 items_from G v (Item l a) h c =
-    let hs = and_parts (is_item_of G l a) (items_inserted G l) h in
+    let hs = and_parts (is_item_of G l a) (items_were_inserted G l) h in
     let cs = and_parts (covers v a) (items_covered v l) c in
     let it = item_from G l a hs.0 in
     (and_from (has_id G a) (covers v a) (item_there G l a it) cs.0, it, items_from G v l hs.1 cs.1)
 
-pub items_test : (G : List Operation) (S : IdSet) (e : Element) → ItemsStand G S e → items_inserted G e ≡ true
+pub items_test : (G : List Operation) (S : IdSet) (e : Element) → ItemsStand G S e → items_were_inserted G e ≡ true
 items_test G S Doc h = refl
 items_test G S (Field e n) h = items_test G S e h
-items_test G S (Item l a) h = and_from (is_item_of G l a) (items_inserted G l) (item_test G l a h.1) (items_test G S l h.2)
+items_test G S (Item l a) h = and_from (is_item_of G l a) (items_were_inserted G l) (item_test G l a h.1) (items_test G S l h.2)
 
 pub items_cover : (G : List Operation) (v : Vector) (e : Element) → ItemsStand G (names G v) e → items_covered v e ≡ true
 items_cover G v Doc h = refl

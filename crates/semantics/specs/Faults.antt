@@ -84,10 +84,10 @@ abbrev pub is_item_of : List Operation → Element → OpId → Bool
 is_item_of H l a = list_any (λ x. is_same_id x.id a && is_some (inserted_after x l)) H
 
 -- each item on the way down to e was inserted into that very list
-abbrev pub items_inserted : List Operation → Element → Bool
-items_inserted H Doc = true
-items_inserted H (Field e n) = items_inserted H e
-items_inserted H (Item l a) = is_item_of H l a && items_inserted H l
+abbrev pub items_were_inserted : List Operation → Element → Bool
+items_were_inserted H Doc = true
+items_were_inserted H (Field e n) = items_were_inserted H e
+items_were_inserted H (Item l a) = is_item_of H l a && items_were_inserted H l
 
 -- the first of these that holds
 abbrev pub first_fault : Bool → Bool → Bool → Bool → Option Refusal
@@ -100,4 +100,4 @@ first_fault false false false false = None
 -- the first fault of a ready operation against the history
 abbrev pub fault_of : List Stamped → Stamped → Option Refusal
 fault_of G s = first_fault (breaks_chain (operations_of G) s) (names_nothing (operations_of G) s) (is_open G s.vector)
-    (not (items_inserted (operations_of G) (element_of s.place)))
+    (not (items_were_inserted (operations_of G) (element_of s.place)))

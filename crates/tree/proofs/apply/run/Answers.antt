@@ -51,7 +51,7 @@ returns-in-Insert-clause-applied c =
     (context c.insert_at.new.nodes)
     c.in-Insert.value c.in-Insert.is (tag_of c.of-in-Insert.result) c.of-in-Insert.ensures
     (option_map scalar_of c.args.scalar)
-        (scalar_reserved o t c.requires.reserved c.in-Insert.value c.in-Insert.is) c.insert_at.ensures.inserted
+    (scalar_reserved o t c.requires.reserved c.in-Insert.value c.in-Insert.is) c.insert_at.ensures.inserted
 
 pub returns-in-Delete-clause-applied : goal.returns-in-Delete-clause-applied
 returns-in-Delete-clause-applied c =
