@@ -1,14 +1,13 @@
 -- Numbers put in order: nothing is lost, and different numbers rise.
 use Rattle.std.proofs.Common.{◌≡◌, ℕ, suc, ◌+◌, ◌<◌, ◌≤◌, Bool, true, false, not, ◌||◌, eqb, ltb, IsTrue, IsFalse, ◌⊎◌, inl, inr, List, []}
-use Rattle.std.proofs.Common.{◌∷◌, length, refl, ◌∙◌, ap, one-add, drop, arith}
-use Rattle.std.proofs.lemmas.List.{drop_all}
-use Rattle.std.specs.List.{insert, position, position_or_len}
-use Rattle.std.specs.Option.{unwrap_or}
-use Rattle.std.proofs.lemmas.List.Sums.{prefix_len-le-length}
+use Rattle.std.proofs.Common.{◌∷◌, length, refl, ◌∙◌, ap, arith}
+use Rattle.std.specs.List.Sorted.{IsPermutation, IsSorted}
+use Rattle.std.specs.Ordering.{nat_cmp}
 use Rattle.std.proofs.lemmas.Bool.{cases_Bool, both_ways, not-true, ltb-true, ltb-false, eq-eqb, eqb-true, eqb-false, ne_eqb, and_parts}
 use Rattle.std.proofs.lemmas.Bool.{or_parts, or_left, or_right, false_from_ne_true}
 use Rattle.ids.specs.Members.{is_member, AreDistinct, are_distinct, put_number, put_all, in_order}
 use Rattle.ids.specs.Tables.{IsBelowAll, AreRising}
+use Rattle.ids.proofs.Rising.{AreFrom, Rises, count, count-permutation, rises-sorted, same_rising}
 
 -- ---- distinct numbers
 
@@ -43,33 +42,6 @@ length-put_number p (r ∷ ps) = by_test (cases_Bool (ltb p r)) (length-put_numb
         → length (put_number p (r ∷ ps)) ≡ suc (suc (length ps))
     by_test (inl e) h = rw e refl
     by_test (inr e) h = rw e (ap suc h)
-
-insert_first_greater : (p : ℕ) (ps : List ℕ) → put_number p ps ≡ insert ps (position_or_len (λ q. ltb p q) ps) p
-insert_first_greater p [] = refl
-insert_first_greater p (r ∷ ps) = by_test (cases_Bool (ltb p r)) (insert_first_greater p ps)
-  where
-    by_test : (ltb p r ≡ true) ⊎ (ltb p r ≡ false) → put_number p ps ≡ insert ps (position_or_len (λ q. ltb p q) ps) p
-        → put_number p (r ∷ ps) ≡ insert (r ∷ ps) (position_or_len (λ q. ltb p q) (r ∷ ps)) p
-    by_test (inl e) h = rw e refl
-    by_test (inr e) h = rw (e, one-add) (ap (λ x. r ∷ x) h)
-
--- the position of the first number that is greater, or the end
-abbrev pub position_for : ℕ → List ℕ → ℕ
-position_for p ps = unwrap_or (position (λ q. ltb p q) ps) (length ps)
-
-position_for-position_or_len : (p : ℕ) (ps : List ℕ) → position_for p ps ≡ position_or_len (λ q. ltb p q) ps
-position_for-position_or_len p ps = by_test (cases_Bool (ltb (position_or_len (λ q. ltb p q) ps) (length ps)))
-  where
-    by_test : (ltb (position_or_len (λ q. ltb p q) ps) (length ps) ≡ true) ⊎ (ltb (position_or_len (λ q. ltb p q) ps) (length ps) ≡ false)
-        → position_for p ps ≡ position_or_len (λ q. ltb p q) ps
-    by_test (inl e) = rw e refl
-    by_test (inr e) = rw e (omega (arith, ltb-false _ _ e, prefix_len-le-length (λ q. not (ltb p q)) ps))
-
-pub position_for-le-length : (p : ℕ) (ps : List ℕ) → position_for p ps ≤ length ps
-position_for-le-length p ps = omega (arith, position_for-position_or_len p ps, prefix_len-le-length (λ q. not (ltb p q)) ps)
-
-pub put_number-insert : (p : ℕ) (ps : List ℕ) → put_number p ps ≡ insert ps (position_for p ps) p
-put_number-insert p ps = rw (position_for-position_or_len p ps) (insert_first_greater p ps)
 
 -- ---- rising numbers
 
@@ -152,10 +124,6 @@ AreRising-put_all table (p ∷ ps) h d apart =
     (AreRising-put_number p table (apart p (or_left (eqb p p) (is_member ps p) (eq-eqb p p refl))) h) d.1
     (apart_after p table ps d.0 apart)
 
--- where all are in place
-pub put_all-done : (table ps : List ℕ) (n : ℕ) → length ps ≤ n → put_all table (drop n ps) ≡ table
-put_all-done table ps n h = rw (drop_all n ps h) refl
-
 -- ---- what the order keeps
 
 pub is_member-in_order : (ps : List ℕ) (q : ℕ) → is_member (in_order ps) q ≡ is_member ps q
@@ -173,3 +141,36 @@ AreDistinct-in_order ps d = distinct_from_rising (in_order ps) (AreRising-in_ord
 
 pub IsBelowAll-in_order : (q : ℕ) (ps : List ℕ) → IsBelowAll q ps → IsBelowAll q (in_order ps)
 IsBelowAll-in_order q ps h = IsBelowAll-put_all q [] ps tt h
+
+-- ---- what a sort leaves
+
+count-put_number : (n p : ℕ) (ps : List ℕ) → count n (put_number p ps) ≡ count n (p ∷ ps)
+count-put_number n p [] = refl
+count-put_number n p (r ∷ ps) = by_test (cases_Bool (ltb p r)) (count-put_number n p ps)
+  where
+    by_test : (ltb p r ≡ true) ⊎ (ltb p r ≡ false) → count n (put_number p ps) ≡ count n (p ∷ ps)
+        → count n (put_number p (r ∷ ps)) ≡ count n (p ∷ r ∷ ps)
+    by_test (inl e) h = rw e refl
+    by_test (inr e) h = rw e (omega (arith, h))
+
+count-put_all : (n : ℕ) (table ps : List ℕ) → count n (put_all table ps) ≡ count n table + count n ps
+count-put_all n table [] = omega arith
+count-put_all n table (p ∷ ps) = omega (arith, count-put_all n (put_number p table) ps, count-put_number n p table)
+
+-- each of these is at least q where q is below them all
+AreFrom-below : (q : ℕ) (ps : List ℕ) → IsBelowAll q ps → AreFrom q ps
+AreFrom-below q [] h = tt
+AreFrom-below q (p ∷ ps) h = (let l : q < p = h.0 in omega arith, AreFrom-below q ps h.1)
+
+rises : (ps : List ℕ) → AreRising ps → Rises ps
+rises [] h = tt
+rises (p ∷ ps) h = (AreFrom-below p ps h.0, rises ps h.1)
+
+-- different numbers that were sorted are in order
+pub sorted-in_order : (ps qs : List ℕ) → AreDistinct ps → IsPermutation ps qs → IsSorted nat_cmp qs → qs ≡ in_order ps
+sorted-in_order ps qs distinct moved sorted =
+    same_rising qs (in_order ps) (rises-sorted qs sorted) (rises (in_order ps) (AreRising-in_order ps distinct))
+    (λ n. count-permutation n ps qs moved ∙ in_order-keeps n)
+  where
+    in_order-keeps : (n : ℕ) → count n ps ≡ count n (in_order ps)
+    in_order-keeps n = omega (arith, count-put_all n [] ps)

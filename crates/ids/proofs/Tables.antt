@@ -8,7 +8,7 @@ use Rattle.std.specs.Result.{MatchResult, result_ok}
 use Rattle.std.proofs.lemmas.Bool.{and_parts, leb-true, both_ways, cases_lt, eq-eqb, ne_eqb, or_left, or_right, or_from}
 use Rattle.std.proofs.lemmas.List.Sorted.{searched}
 use Rattle.std.proofs.lemmas.Option.{slice_get-get_or}
-use Rattle.ids.specs.Members.{is_member, are_distinct, in_order}
+use Rattle.ids.specs.Members.{AreDistinct, is_member, are_distinct, in_order}
 use Rattle.ids.specs.Configurations.{is_from_one_to, are_members}
 use Rattle.ids.specs.Tables.{IsBelowAll, AreRising, IsTable}
 use Rattle.ids.proofs.InOrder.{distinct_from_test, length-in_order, AreRising-in_order, IsBelowAll-in_order}
@@ -19,6 +19,11 @@ all_above_zero (p ∷ ps) h =
     let parts = and_parts (leb 1 p) (list_all (λ p. leb 1 p) ps) h in let l : 1 ≤ p = leb-true 1 p parts.0 in
     (omega arith, all_above_zero ps parts.1)
 
+-- members are different
+pub distinct_members : (ps : List ℕ) → IsTrue (are_members ps) → AreDistinct ps
+distinct_members ps h =
+    distinct_from_test ps (and_parts (is_from_one_to 64 (length ps) && list_all (λ p. leb 1 p) ps) (are_distinct ps) h).1
+
 -- members in order are a table
 pub members_make_a_table : (ps : List ℕ) → IsTrue (are_members ps) → IsTable (in_order ps)
 members_make_a_table ps h =
@@ -26,7 +31,7 @@ members_make_a_table ps h =
     let rest = and_parts (is_from_one_to 64 (length ps)) (list_all (λ p. leb 1 p) ps) parts.0 in
     let count = and_parts (leb 1 (length ps)) (leb (length ps) 64) rest.0 in
     record {
-      rising = AreRising-in_order ps (distinct_from_test ps parts.1);
+      rising = AreRising-in_order ps (distinct_members ps h);
       above_zero = IsBelowAll-in_order 0 ps (all_above_zero ps rest.1);
       any = omega (arith, length-in_order ps, leb-true 1 (length ps) count.0);
       few = omega (arith, length-in_order ps, leb-true (length ps) 64 count.1);

@@ -4,13 +4,13 @@ ghost use Rattle.std.specs.Prelude.{◌≡◌, ◌≤◌, ◌↔◌, ◌⊎◌, 
 ghost use Rattle.std.specs.Prelude.{IfSome, IsNone};
 ghost use Rattle.std.specs.Arc.{arc_value};
 ghost use Rattle.std.specs.List.{position};
-ghost use Rattle.ids.specs.Members.{AreDistinct, is_member, in_order, put_number};
+ghost use Rattle.ids.specs.Members.{AreDistinct, is_member, in_order};
 ghost use Rattle.ids.specs.Configurations.{are_members};
 ghost use Rattle.ids.specs.Tables.{AreRising};
 
 use crate::members::are_members;
 use crate::{Refusal, ReplicaId};
-use std::alloc::{AllocError, AllocFailed, Global};
+use std::alloc::{AllocError, Global};
 use std::marker::Model;
 use std::sync::Arc;
 
@@ -37,7 +37,7 @@ impl Model for ReplicaTable {
 impl ReplicaTable {
     ghost use Rattle.ids.specs.declared.refusal.Refusal.TheVariants.{NoMemory, BadConfig};
 
-    /// The table of these members, sorted. Compares any two of them at most twice.
+    /// The table of these members, sorted.
     ///
     /// # Errors
     /// `BadConfig` if these aren't 1 to 64 distinct numbers above 0, else `NoMemory` if allocation fails.
@@ -51,10 +51,8 @@ impl ReplicaTable {
         if !are_members(members) {
             return Err(Refusal::BadConfig);
         }
-        let mut numbers = Vec::with_capacity(alloc, members.len())?;
-        for &member in members {
-            put_number(&mut numbers, member)?;
-        }
+        let mut numbers = members.to_vec(alloc)?;
+        numbers.sort_unstable();
         let shared = Arc::new(alloc, numbers)?;
         Ok(ReplicaTable { numbers: shared })
     }
@@ -95,21 +93,6 @@ impl Clone for ReplicaTable {
             numbers: Arc::try_clone(&self.numbers)?,
         })
     }
-}
-
-/// Inserts a number before the first greater one: compares it with those before that one, and moves the rest.
-fn put_number(numbers: &mut Vec<u32>, number: u32) -> Result<(), AllocFailed<u32>>
-    ensures { OnOk result (numbers.new.items ≡ put_number number numbers.old.items) }
-{
-    let position = first_greater(numbers, number).unwrap_or(numbers.len());
-    numbers.insert(position, number)
-}
-
-/// The index of the first greater number.
-fn first_greater(numbers: &[u32], number: u32) -> Option<usize>
-    ensures { result ≡ position (λ other. nat_lt number other) numbers.now }
-{
-    numbers.iter().position(|&other| number < other)
 }
 
 #[cfg(test)]

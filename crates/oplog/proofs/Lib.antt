@@ -1,6 +1,5 @@
 -- Histories as the lists that begin with the oldest, where their operations stand, and which of them are missing.
 pub mod Oldest
-pub mod Rising
 pub mod Missing
 pub mod Found
 pub mod Positions

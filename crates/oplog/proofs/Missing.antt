@@ -24,7 +24,7 @@ use Rattle.version.proofs.TableColumns.{component-get}
 use Rattle.columns.specs.Numbered.{Numbered}
 use Rattle.oplog.specs.Logs.{AreOfMembers, HaveOwnIds, missing_positions, numbers_above, numbers_of, position_of, positions_by}
 use Rattle.oplog.proofs.Positions.{all_others, positions_by-find, positions_by-other, positions_by-own}
-use Rattle.oplog.proofs.Rising.{AreTo, Rises, count, count-append, count-permutation, rises-last, rises-sorted, same_rising}
+use Rattle.ids.proofs.Rising.{AreTo, Rises, count, count-append, count-permutation, rises-last, rises-sorted, same_rising}
 
 above-not : (x c : ℕ) → nat_lt x c ≡ not (nat_le c x)
 above-not x c = grind (arith, nat_tests)

@@ -28,7 +28,7 @@ pub count-permutation : (n : ℕ) (xs ys : List ℕ) → IsPermutation xs ys →
 count-permutation n xs ys moved = sym (count-sum n ys) ∙ sum_by-IsPermutation (λ m. cond (n == m) 1 0) xs ys moved ∙ count-sum n xs
 
 -- each number is at least n
-abbrev AreFrom : ℕ → List ℕ → Type 0
+abbrev pub AreFrom : ℕ → List ℕ → Type 0
 AreFrom n [] = ⊤
 AreFrom n (x ∷ xs) = (n ≤ x) × AreFrom n xs
 
