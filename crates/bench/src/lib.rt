@@ -13,8 +13,6 @@ mod plan;
 mod playing;
 mod serving;
 mod showing;
-#[cfg(test)]
-mod tests;
 mod working;
 
 pub use engines::play;

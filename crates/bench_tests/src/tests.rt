@@ -2,7 +2,7 @@
 
 mod workers;
 
-use super::*;
+use bench::*;
 use ids::Refusal;
 use std::test::Fail;
 

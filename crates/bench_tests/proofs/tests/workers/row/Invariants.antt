@@ -1,5 +1,5 @@
 use Rattle.ids.specs.Members.{in_order}
-use Rattle.bench.proofs.tests.workers.row.Given as goal
+use Rattle.bench_tests.proofs.tests.workers.row.Given as goal
 
 -- the engine of these parts
 abbrev pub ghosts-row_in : goal.ghosts-row_in

@@ -1,7 +1,7 @@
 -- this many items were sent
 use Rattle.std.proofs.Common.{◌≡◌, length}
 use Rattle.crossbeam_queue.specs.Passes.{view}
-use Rattle.command.proofs.tests.send_all.Given as goal
+use Rattle.command_tests.proofs.tests.send_all.Given as goal
 
 abbrev pub invariant-loop-sent : goal.invariant-loop-sent
 invariant-loop-sent g l = record {

@@ -4,7 +4,7 @@ ghost use Rattle.std.specs.Prelude.{◌≡◌, ◌+◌, ◌++◌, ◌∷◌, [],
 ghost use Rattle.crossbeam_queue.specs.Passes.{view};
 ghost use Rattle.command.specs.Fifo.{sender_hand};
 
-use super::*;
+use command::*;
 use cursor::Expr;
 use ids::Refusal;
 use items::{Item, Request};

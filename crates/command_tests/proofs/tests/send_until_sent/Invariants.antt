@@ -1,7 +1,7 @@
 -- the same item is to be sent, and nothing was sent yet
 use Rattle.std.proofs.Common.{◌≡◌}
 use Rattle.crossbeam_queue.specs.Passes.{view}
-use Rattle.command.proofs.tests.send_until_sent.Given as goal
+use Rattle.command_tests.proofs.tests.send_until_sent.Given as goal
 
 abbrev pub invariant-loop : goal.invariant-loop
 invariant-loop g l = record {
