@@ -21,7 +21,7 @@ pub record Awaits (E : Engine) (w : Handler) (hs : List Handled) (rest : List Su
   pub batch : length hs ≤ E.batch
   pub all : length hs < E.batch → rest ≡ []
 
--- the world's whole step leaves what the writer's step leaves, replies with its number, and sets its answers
+-- the world's whole step leaves what the writer's step leaves, replies with its number, and what it gives are these replies
 pub record StepsAlike (E : Engine) (hs : List Handled) (rest : List Submitted) (v : Handler) : Type 0 where
   pub replica : (whole_step E).engine.replica ≡ v.replica
   pub published : (whole_step E).engine.published ≡ length v.replica.entries

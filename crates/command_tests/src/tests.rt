@@ -2,7 +2,7 @@
 
 ghost use Rattle.std.specs.Prelude.{◌≡◌, ◌+◌, ◌++◌, ◌∷◌, [], IfOk, length};
 ghost use Rattle.crossbeam_queue.specs.Passes.{view};
-ghost use Rattle.command.specs.Fifo.{sender_hand};
+ghost use Rattle.command.specs.InOrder.{sender_hand};
 
 use command::*;
 use cursor::Expr;

@@ -16,7 +16,7 @@ use Rattle.semantics.specs.NamedIds.{greatest_counter}
 use Rattle.semantics.specs.Tables.{by_table, component}
 use Rattle.semantics.specs.Stamped.{Stamped, IsLegalStamped, MayFollow}
 use Rattle.semantics.specs.Entries.{Entry, applied, stamped_entries}
-use Rattle.semantics.specs.Faults.{StandsAlone, breaks_chain, fault_of, first_fault, is_missing, is_open, items_were_inserted}
+use Rattle.semantics.specs.Faults.{StandsAlone, breaks_chain, fault_of, first_fault, is_of_nobody, is_open, items_were_inserted}
 use Rattle.semantics.specs.Faults.{names_nothing}
 use Rattle.semantics.proofs.FaultlessFollows.{follows_without_fault}
 use Rattle.semantics.proofs.FollowsFaultless.{no_fault_where_follows}
@@ -69,33 +69,33 @@ module _ (ps cs : List ℕ) (distinct : AreDistinct ps) (width : length cs ≡ l
 
   -- an unknown id at one index is enough
   pub unknown_there : (H : List Operation) (i : ℕ) → is_unknown H (named_at ps cs i) ≡ true
-      → list_any (λ a. is_missing H named a.replica) named ≡ true
+      → list_any (λ a. is_of_nobody H named a.replica) named ≡ true
   unknown_there H i h = by (named_at ps cs i) refl h
     where
-      by : (o : Option OpId) → named_at ps cs i ≡ o → is_unknown H o ≡ true → list_any (λ a. is_missing H named a.replica) named ≡ true
+      by : (o : Option OpId) → named_at ps cs i ≡ o → is_unknown H o ≡ true → list_any (λ a. is_of_nobody H named a.replica) named ≡ true
       by None is u = absurd (true≢false (sym u))
       by (Some a) is u =
           let r = named_id i a is in
           let there : at named a.replica ≢ 0 = λ z. r.1 (r.0 ∙ z) in
-          let lost : is_missing H named a.replica
+          let lost : is_of_nobody H named a.replica
           ≡ true = and_from (not (at named a.replica == 0)) (not (has_id H (id_at (at named a.replica) a.replica)))
           (not_from_false (at named a.replica == 0) (ne_eqb (at named a.replica) 0 there))
           (ap (λ c. not (has_id H (id_at c a.replica))) (sym r.0) ∙ u) in
-          some (list_any (λ x. is_missing H named x.replica) named) refl
-          (λ none. true≢false (sym lost ∙ none-at (is_missing H named) named none a.replica there))
+          some (list_any (λ x. is_of_nobody H named x.replica) named) refl
+          (λ none. true≢false (sym lost ∙ none-at (is_of_nobody H named) named none a.replica there))
         where
           not_from_false : (b : Bool) → b ≡ false → not b ≡ true
           not_from_false b e = ap not e
 
-          some : (b : Bool) → list_any (λ x. is_missing H named x.replica) named ≡ b
-              → (list_any (λ x. is_missing H named x.replica) named ≡ false → ⊥) → list_any (λ x. is_missing H named x.replica) named ≡ true
+          some : (b : Bool) → list_any (λ x. is_of_nobody H named x.replica) named ≡ b
+              → (list_any (λ x. is_of_nobody H named x.replica) named ≡ false → ⊥) → list_any (λ x. is_of_nobody H named x.replica) named ≡ true
           some true e k = e
           some false e k = absurd (k e)
 
   -- where no index has one, there is none
   pub all_known : (H : List Operation) → ((i : ℕ) → i < length ps → is_unknown H (named_at ps cs i) ≡ false)
-      → list_any (λ a. is_missing H named a.replica) named ≡ false
-  all_known H none = none-from (is_missing H named) named (λ p. elim (cases_eq (at named p) 0) [
+      → list_any (λ a. is_of_nobody H named a.replica) named ≡ false
+  all_known H none = none-from (is_of_nobody H named) named (λ p. elim (cases_eq (at named p) 0) [
     | inl z ↦ and_left (not (at named p == 0)) (not (has_id H (id_at (at named p) p)))
         (not_from_true (at named p == 0) (eq-eqb (at named p) 0 z))
     | inr n ↦ (let (i, h, is) = named_there p n in

@@ -1,4 +1,4 @@
--- What the tests of a received operation look at, by columns and positions.
+-- What private functions look at when they test a received operation, by columns and positions. No rule stands here.
 use Rattle.std.specs.Prelude.{ℕ, Bool, false, cond, not, ◌==◌, List, Option, Some, None, option_map, slice_get, slice_index}
 use Rattle.semantics.specs.Ids.{OpId, id_at}
 use Rattle.semantics.specs.Operations.{Operation}

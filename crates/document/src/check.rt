@@ -60,7 +60,7 @@ fn names_nothing(log: &Log, vector: &VersionVector) -> bool
     ensures { (s : Stamped) → s.vector ≡ by_table log.now.table vector.now → result ≡ names_nothing (operations_in log.now.entries) s }
 {
     for index in 0..vector.width() {
-        if is_missing(log, vector, index) {
+        if is_of_nobody(log, vector, index) {
             return true;
         }
     }
@@ -68,7 +68,7 @@ fn names_nothing(log: &Log, vector: &VersionVector) -> bool
 }
 
 /// Whether the id that the vector names at this index of the table is that of no operation of the log.
-fn is_missing(log: &Log, vector: &VersionVector, index: usize) -> bool
+fn is_of_nobody(log: &Log, vector: &VersionVector, index: usize) -> bool
     requires width { length vector.now ≡ length log.now.table }
     requires inside { index < length log.now.table }
     ensures { result ≡ is_unknown (operations_in log.now.entries) (named_at log.now.table vector.now index) }

@@ -13,7 +13,7 @@ use Rattle.semantics.specs.WorldHistory.{of_client}
 use Rattle.semantics.proofs.HandledBatches.{next_above, no_batch, one_more}
 use Rattle.items.specs.declared.item.Item.{Item}
 use Rattle.items.specs.Meanings.{submitted_of}
-use Rattle.command.specs.Fifo.{of}
+use Rattle.command.specs.InOrder.{of}
 use Rattle.engine.specs.Turns.{submitted_in}
 
 -- from w on, when `before` was taken, these items were handled; now `got` was taken

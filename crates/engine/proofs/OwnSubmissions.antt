@@ -12,7 +12,7 @@ use Rattle.semantics.proofs.Beginnings.{entry_in_longer}
 use Rattle.semantics.proofs.HandledBatches.{of-append}
 use Rattle.items.specs.declared.item.Item.{Item}
 use Rattle.items.specs.Meanings.{submitted_of}
-use Rattle.command.specs.Fifo.{of}
+use Rattle.command.specs.InOrder.{of}
 use Rattle.engine.specs.Turns.{submitted_in}
 
 -- the submissions of one client are those of its items

@@ -2,20 +2,14 @@
 use Rattle.std.proofs.Common.{◌≡◌, ◌<◌, ℕ, List, [], length, refl, sym, ap, subst, arith}
 use Rattle.semantics.specs.Entries.{Entry}
 use Rattle.semantics.specs.Engine.{Handled}
-use Rattle.engine.specs.Turns.{Writer, IsTurn, Ends, Shows, MayBeEmpty}
+use Rattle.engine.specs.Turns.{Writer, IsTurn, Ends, Shows}
 use Rattle.engine.specs.declared.writer.Step.{Step}
 use Rattle.engine.specs.declared.writer.Step.TheVariants.{Idle, Published, Held}
 
-module _ (table : List ℕ) (w m : Writer) (t : IsTurn table w m.held m) (published : m.published ≡ w.published) (batch : m.batch ≡ w.batch)
-    (early : length m.held < m.batch → MayBeEmpty m.took) where
+module _ (table : List ℕ) (w m : Writer) (t : IsTurn table w m.held m) (published : m.published ≡ w.published) where
   -- nothing was done that is to be shown
-  pub idle : m.held ≡ [] → m.published ≡ m.handler.replica.entries → 0 < m.batch
-      → (hs : List Handled) × IsTurn table w hs m × Ends w hs Idle m
-  idle none whole positive = (
-    m.held,
-    t,
-    (none, none, published, whole, early (let e = ap (length {A = Handled}) none in omega (arith, e, positive))),
-  )
+  pub idle : m.held ≡ [] → m.published ≡ m.handler.replica.entries → (hs : List Handled) × IsTurn table w hs m × Ends w hs Idle m
+  idle none whole = (m.held, t, (none, none, published, whole))
 
   pub shown : (length m.held ≡ 0 → length m.published < length m.handler.replica.entries) → (r : Step) (v : Writer) → Shows m r v
       → (hs : List Handled) × IsTurn table w hs v × Ends w hs r v
@@ -36,7 +30,6 @@ module _ (table : List ℕ) (w m : Writer) (t : IsTurn table w m.held m) (publis
           s.0,
           refl,
           refl,
-          (λ l. early (let e = s.0 in omega (arith, l, batch, e))),
           (λ z. (let e = s.0 in let f = ap (length {A = Entry}) published in let g = more (omega (arith, z, e)) in omega (arith, f, g))),
         ),
       )

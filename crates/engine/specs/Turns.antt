@@ -11,7 +11,7 @@ use Rattle.semantics.specs.Publication.{Publication, Holds}
 use Rattle.items.specs.declared.item.Item.{Item}
 use Rattle.items.specs.Meanings.{submitted_of}
 use Rattle.command.specs.declared.hand.Hand.{Hand}
-use Rattle.command.specs.Fifo.{taker_hand, IsAllowed}
+use Rattle.command.specs.InOrder.{taker_hand, IsAllowed}
 use Rattle.engine.specs.declared.writer.Step.{Step}
 use Rattle.engine.specs.declared.writer.Step.TheVariants.{Idle, Published, Held}
 
@@ -44,10 +44,6 @@ pub record IsWriter (own : ℕ) (table : List ℕ) (publication : Publication) (
   pub fits : batch ≤ room
   pub positive : 0 < batch
 
--- where these had been taken, the rule allows an empty queue; that the queue was empty isn't said
-abbrev pub MayBeEmpty : List Item → Type 0
-MayBeEmpty took = (made : ℕ) × (known : List (List Item)) × IsAllowed (taker_hand took made known) []
-
 -- a step that began with nothing held went on with a drain that had ended early, and then took these items, at most a batch, which it
 -- handled one after another, none skipped
 pub record IsTurn (table : List ℕ) (w : Writer) (hs : List Handled) (v : Writer) : Type 0 where
@@ -61,8 +57,8 @@ pub record IsTurn (table : List ℕ) (w : Writer) (hs : List Handled) (v : Write
 
 -- how such a step ends
 abbrev pub Ends : Writer → List Handled → Step → Writer → Type 0
-Ends w hs Idle v = (hs ≡ []) × (v.held ≡ []) × (v.published ≡ w.published) × (v.published ≡ v.handler.replica.entries) × MayBeEmpty v.took
-Ends w hs (Published n) v = (n ≡ length hs) × (v.held ≡ []) × (v.published ≡ v.handler.replica.entries) × (n < w.batch → MayBeEmpty v.took)
+Ends w hs Idle v = (hs ≡ []) × (v.held ≡ []) × (v.published ≡ w.published) × (v.published ≡ v.handler.replica.entries)
+Ends w hs (Published n) v = (n ≡ length hs) × (v.held ≡ []) × (v.published ≡ v.handler.replica.entries)
     × (n ≡ 0 → length w.published < length v.published)
 Ends w hs Held v = (v.held ≡ hs) × (v.published ≡ w.published) × (length hs ≡ 0 → length v.published < length v.handler.replica.entries)
 

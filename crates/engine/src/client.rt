@@ -16,7 +16,7 @@ ghost use Rattle.items.specs.declared.item.Item.{Item as AnItem};
 ghost use Rattle.items.specs.declared.item.Request.{Request as ARequest};
 ghost use Rattle.items.specs.declared.item.Request.TheVariants.{Command as OfCommand, Peer as OfPeer};
 ghost use Rattle.items.specs.Meanings.{reply_of, submitted_of};
-ghost use Rattle.command.specs.Fifo.{IsAllowed, sender_hand};
+ghost use Rattle.command.specs.InOrder.{sender_hand};
 ghost use Rattle.command.specs.Answers.{Given};
 ghost use Rattle.engine.specs.Clients.{IsMine, Polls, items_by, with_request};
 
@@ -110,9 +110,6 @@ impl<N: EngineName> Client<N> {
         ensures ticket { IfOk result
             (λ t. t ≡ record { replica = self.old.replica; client = self.old.number; serial = length self.old.kept + 1 }) }
         ensures kept { MatchResult result (λ _. self.new ≡ with_request self.old (OfCommand command)) (λ _. self.new ≡ self.old) }
-        ensures full { result ≡ Err QueueFull
-            → (items : List AnItem) × (length items ≡ self.old.capacity)
-            × IsAllowed (sender_hand self.old.number (items_by self.old)) items }
         ensures end { (result ≡ Err SerialEnd) ↔ (self.old.serials ≤ length self.old.kept) }
         ensures err { IfErr result (λ why. (why ≡ SerialEnd) ⊎ (why ≡ NoMemory) ⊎ (why ≡ QueueFull)) }
     {
@@ -134,9 +131,6 @@ impl<N: EngineName> Client<N> {
         ensures ticket { IfOk result
             (λ t. t ≡ record { replica = self.old.replica; client = self.old.number; serial = length self.old.kept + 1 }) }
         ensures kept { MatchResult result (λ _. self.new ≡ with_request self.old (OfPeer op)) (λ _. self.new ≡ self.old) }
-        ensures full { result ≡ Err QueueFull
-            → (items : List AnItem) × (length items ≡ self.old.capacity)
-            × IsAllowed (sender_hand self.old.number (items_by self.old)) items }
         ensures end { (result ≡ Err SerialEnd) ↔ (self.old.serials ≤ length self.old.kept) }
         ensures err { IfErr result (λ why. (why ≡ SerialEnd) ⊎ (why ≡ NoMemory) ⊎ (why ≡ QueueFull)) }
     {
@@ -172,9 +166,6 @@ impl<N: EngineName> Client<N> {
         ensures ticket { IfOk result
             (λ t. t ≡ record { replica = self.old.replica; client = self.old.number; serial = length self.old.kept + 1 }) }
         ensures kept { MatchResult result (λ _. self.new ≡ with_request self.old request) (λ _. self.new ≡ self.old) }
-        ensures full { result ≡ Err QueueFull
-            → (items : List AnItem) × (length items ≡ self.old.capacity)
-            × IsAllowed (sender_hand self.old.number (items_by self.old)) items }
         ensures err { IfErr result (λ why. (why ≡ NoMemory) ⊎ (why ≡ QueueFull)) }
     {
         let item = Item {

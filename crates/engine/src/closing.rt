@@ -8,7 +8,7 @@ ghost use Rattle.semantics.specs.Stamped.{Stamped};
 ghost use Rattle.semantics.specs.WorldHistory.{BeginsWith};
 ghost use Rattle.oplog.specs.Logs.{history};
 ghost use Rattle.items.specs.declared.item.Item.{Item as AnItem};
-ghost use Rattle.command.specs.Fifo.{of};
+ghost use Rattle.command.specs.InOrder.{of};
 ghost use Rattle.engine.specs.Clients.{Client as TheClient, AreClients, items_by};
 ghost use Rattle.engine.specs.Turns.{submitted_in};
 

@@ -6,7 +6,7 @@ ghost use Rattle.std.specs.Coded.{codes};
 ghost use Rattle.semantics.specs.Codes.{coded_element};
 ghost use Rattle.std.specs.Arc.{arc_value};
 ghost use Rattle.crossbeam_queue.specs.Passes.{ruled_capacity, view};
-ghost use Rattle.command.specs.Fifo.{taker_hand};
+ghost use Rattle.command.specs.InOrder.{taker_hand};
 ghost use Rattle.ids.specs.declared.refusal.Refusal.TheVariants.{BadConfig, NoMemory, NoReaderPlace};
 ghost use Rattle.ids.specs.Configurations.{are_members, is_within_limits};
 ghost use Rattle.ids.specs.Members.{in_order};

@@ -12,7 +12,7 @@ ghost use Rattle.items.specs.declared.item.Item.{Item as AnItem};
 ghost use Rattle.items.specs.Meanings.{submitted_of};
 ghost use Rattle.replica.specs.Replicas.{replica_of};
 ghost use Rattle.handling.specs.Meanings.{handler_of};
-ghost use Rattle.engine.specs.Turns.{Ends, IsTurn, Shows, MayBeEmpty, publication_of, submitted_in};
+ghost use Rattle.engine.specs.Turns.{Ends, IsTurn, Shows, publication_of, submitted_in};
 
 use command::{Envelope, Taker};
 use handling::Handler;
@@ -170,7 +170,6 @@ impl<N: EngineName> Writer<N> {
         ensures same { (self.new.queue ≡ self.old.queue) × (self.new.batch ≡ self.old.batch) × (self.new.published ≡ self.old.published)
             × (0 < self.new.batch) }
         ensures turn { IsTurn N.table self.old self.new.held self.new }
-        ensures early { length self.new.held < self.new.batch → MayBeEmpty self.new.took }
     {
         self.handler.resume(alloc, &mut self.publisher);
         fill(
@@ -262,7 +261,6 @@ fn fill<N: EngineName>(
     ensures published { publisher.new.published ≡ publisher.old.published }
     ensures room { batch ≤ vec_capacity held.new }
     ensures few { length held.new.items ≤ batch }
-    ensures early { length held.new.items < batch → MayBeEmpty (view taker.new.pass).got }
 {
     for _ in 0..batch {
         let Some(envelope) = taker.take(rt) else {

@@ -5,7 +5,6 @@ use Rattle.ids.specs.declared.refusal.Refusal.TheVariants.{NoMemory, QueueFull, 
 use Rattle.operation.specs.declared.op.Op.{Op}
 use Rattle.items.specs.declared.item.Item.{Item}
 use Rattle.items.specs.declared.item.Request.TheVariants.{Peer}
-use Rattle.command.specs.Fifo.{IsAllowed, sender_hand}
 use Rattle.engine.specs.Clients.{Client, items_by, with_request}
 use Rattle.wire.specs.Bundles.{Readable}
 
@@ -18,12 +17,11 @@ abbrev pub all_submitted : Client → List Op → Client
 all_submitted c [] = c
 all_submitted c (op ∷ ops) = all_submitted (submitted c op) ops
 
--- why a client submits no more: its serials are used up; or it had serials, and the rule of the queue allows a full one
+-- why a client submits no more: its serials are used up; or it had serials, and the queue refused
 abbrev pub IsDenied : Client → Refusal → Type 0
 IsDenied c why =
     ((why ≡ SerialEnd) × (c.serials ≤ length c.kept))
-    ⊎ ((why ≡ QueueFull) × (length c.kept < c.serials)
-    × ((items : List Item) × (length items ≡ c.capacity) × IsAllowed (sender_hand c.number (items_by c)) items))
+    ⊎ ((why ≡ QueueFull) × (length c.kept < c.serials))
 
 -- why the line after n operations isn't submitted by client c: allocation failed; or it is the bad line; or it is an operation
 -- that the client doesn't submit

@@ -33,9 +33,7 @@ all_named G v h = record {
 pub own_may_follow : (G : List Operation) (s : Stamped) → IsLegal G → NamesAll G s.vector → (p : ℕ) (c : Command)
     → make G p c ≡ Ok (operation_after G s) → MayFollow G s
 own_may_follow G s l n p c k =
-    let stands = all_named G s.vector n in
-    let same : has_id G ≡ names G s.vector = λ i a. stands.same a i in
-    (subst (λ (S : IdSet). StandsFor s.vector S G) same stands, (made_lawful G l p c (operation_after G s) k).0)
+    record { attained = (all_named G s.vector n).attained; follows = (made_lawful G l p c (operation_after G s) k).0 }
 
 -- an entry history is legal
 pub entries_legal : (p : ℕ) (G : List Entry) → IsEntryHistory p G → IsLegalStamped (stamped_entries G)

@@ -9,7 +9,7 @@ use Rattle.semantics.specs.LegalHistory.{IsAmong, has_id}
 use Rattle.semantics.specs.NamedIds.{greatest_counter, names}
 use Rattle.semantics.specs.Vectors.{Vector, at, greatest, covers, is_at_most}
 use Rattle.semantics.specs.Stamped.{Stamped, operations_of, MayFollow, IsLegalStamped}
-use Rattle.semantics.specs.Faults.{StandsAlone, breaks_chain, names_nothing, is_missing, is_open, items_were_inserted, first_fault}
+use Rattle.semantics.specs.Faults.{StandsAlone, breaks_chain, names_nothing, is_of_nobody, is_open, items_were_inserted, first_fault}
 use Rattle.semantics.specs.Faults.{fault_of}
 use Rattle.semantics.proofs.AbsentIds.{has_id-among}
 use Rattle.semantics.proofs.LegalFacts.{among_from, counter_pos, chain, deps_through}
@@ -24,13 +24,9 @@ pub may_follow : (H : List Stamped) (s : Stamped) → IsLegalStamped H → Stand
     → ((x : Stamped) → IsAmong x H → x.id.counter ≡ at s.vector x.id.replica → (p : ℕ) → at x.vector p ≤ at s.vector p)
     → items_were_inserted (operations_of H) (element_of s.place) ≡ true
     → MayFollow (operations_of H) s
-may_follow H s l alone own reached closed stand = (
-  record {
-    same = λ a. refl;
-    attained = λ p n. named_from (operations_of H) s.vector (id_at (at s.vector p) p) (reached p n)
-        (omega arith);
-  },
-  record {
+may_follow H s l alone own reached closed stand = record {
+  attained = reached;
+  follows = record {
     new_id = λ x m e. not_there x m e;
     deps_before = λ a d. (and_parts (has_id (operations_of H) a) (covers s.vector a) d).0;
     deps_closed = λ x m d a e. through x m
@@ -42,8 +38,8 @@ may_follow H s l alone own reached closed stand = (
     counter = alone.counter ∙ ap suc (greatest_named (operations_of H) s.vector reached);
     items = items_from (operations_of H) s.vector (element_of s.place) stand alone.covered;
     form = alone.form;
-  },
-)
+  };
+}
   where
     not_there : (x : Operation) → IsAmong x (operations_of H) → x.id ≡ s.id → ⊥
     not_there x m e =
@@ -79,10 +75,10 @@ may_follow H s l alone own reached closed stand = (
 chain_at : (G : List Operation) (s : Stamped) → breaks_chain G s ≡ false → at s.vector s.id.replica ≡ greatest_counter G s.id.replica
 chain_at G s h = eqb-true _ _ (not-false (at s.vector s.id.replica == greatest_counter G s.id.replica) h)
 
-reached_at : (G : List Operation) (v : Vector) → list_any (λ a. is_missing G v a.replica) v ≡ false → (p : ℕ) → at v p ≢ 0
+reached_at : (G : List Operation) (v : Vector) → list_any (λ a. is_of_nobody G v a.replica) v ≡ false → (p : ℕ) → at v p ≢ 0
     → has_id G (id_at (at v p) p) ≡ true
 reached_at G v h p n =
-    elim (and_cases (not (at v p == 0)) (not (has_id G (id_at (at v p) p))) (none-at (is_missing G v) v h p n)) [
+    elim (and_cases (not (at v p == 0)) (not (has_id G (id_at (at v p) p))) (none-at (is_of_nobody G v) v h p n)) [
       | inl e ↦ absurd (n (eqb-true (at v p) 0 (not-false (at v p == 0) e)))
       | inr e ↦ not-false (has_id G (id_at (at v p) p)) e
     ]

@@ -8,7 +8,7 @@ use Rattle.semantics.specs.LegalHistory.{IsAmong, has_id}
 use Rattle.semantics.specs.NamedIds.{greatest_counter, names}
 use Rattle.semantics.specs.Vectors.{Vector, at, covers, is_at_most}
 use Rattle.semantics.specs.Stamped.{Stamped, operations_of, MayFollow, IsLegalStamped}
-use Rattle.semantics.specs.Faults.{StandsAlone, breaks_chain, names_nothing, is_missing, is_open, items_were_inserted, first_fault}
+use Rattle.semantics.specs.Faults.{StandsAlone, breaks_chain, names_nothing, is_of_nobody, is_open, items_were_inserted, first_fault}
 use Rattle.semantics.specs.Faults.{fault_of}
 use Rattle.semantics.proofs.AbsentIds.{has_id-among}
 use Rattle.semantics.proofs.VectorCounters.{at_most-from, none-from, covers-at}
@@ -27,7 +27,7 @@ own_counter G s f = le_antisymm (ready_where_follows f s.id.replica)
           omega arith)
     ])
 
-none_missing : (G : List Operation) (s : Stamped) → MayFollow G s → (p : ℕ) → is_missing G s.vector p ≡ false
+none_missing : (G : List Operation) (s : Stamped) → MayFollow G s → (p : ℕ) → is_of_nobody G s.vector p ≡ false
 none_missing G s f p =
     elim (cases_eq (at s.vector p) 0) [
       | inl z ↦ and_left (not (at s.vector p == 0)) _ (not_from_true (at s.vector p == 0) (eq-eqb (at s.vector p) 0 z))
@@ -76,15 +76,15 @@ no_fault_where_follows H s l f =
     (not (items_were_inserted (operations_of H) (element_of s.place)))
     (not_from_true (at s.vector s.id.replica == greatest_counter (operations_of H) s.id.replica)
     (eq-eqb _ _ (own_counter (operations_of H) s f)))
-    (none-from (is_missing (operations_of H) s.vector) s.vector (none_missing (operations_of H) s f))
+    (none-from (is_of_nobody (operations_of H) s.vector) s.vector (none_missing (operations_of H) s f))
     (none_open s.vector H (vectors_within H s l f))
     (not_from_true (items_were_inserted (operations_of H) (element_of s.place))
-    (items_test (operations_of H) (names (operations_of H) s.vector) (element_of s.place) f.1.items))
+    (items_test (operations_of H) (names (operations_of H) s.vector) (element_of s.place) f.follows.items))
 
 -- what may follow stands alone
 pub alone_where_follows : (G : List Operation) (s : Stamped) → MayFollow G s → StandsAlone s
 alone_where_follows G s f = record {
   counter = (follows_named f).counter ∙ ap suc (sym (greatest_named G s.vector (reached_named f)));
-  form = f.1.form;
+  form = f.follows.form;
   covered = items_cover G s.vector (element_of s.place) (follows_named f).items;
 }

@@ -32,12 +32,11 @@ vector_cases G p =
 -- ---- legal histories
 
 pub follows_named : {G : List Operation} {s : Stamped} → MayFollow G s → Follows G (operation_after G s)
-follows_named {G} {s} f = f.1
+follows_named f = f.follows
 
 pub reached_named : {G : List Operation} {s : Stamped} → MayFollow G s → (p : ℕ) → at s.vector p ≢ 0
     → has_id G (id_at (at s.vector p) p) ≡ true
-reached_named {G} {s} f p n =
-    (and_parts (has_id G (id_at (at s.vector p) p)) (covers s.vector (id_at (at s.vector p) p)) (f.0.attained p n)).0
+reached_named f = f.attained
 
 pub legal : (H : List Stamped) → IsLegalStamped H → IsLegal (operations_of H)
 legal [] l = tt

@@ -66,10 +66,10 @@ module _ (K : List Operation) (lk : IsLegal K) (G F : List Operation) (lg : IsLe
         deps = λ a. deps_are_named before a i;
         place = m.place i;
         mutation = m.mutation i;
-      } in (
-        record { same = λ a. refl; attained = λ p n. sym (deps_are_named before (id_at (at s.vector p) p)) ∙ depended p n },
-        subst (Follows G) seen (follows_in K G lk lg wg o (wf o m.among) (ap (has_id G) m.id ∙ new) before),
-      )
+      } in record {
+        attained = λ p n. before (id_at (at s.vector p) p) (depended p n);
+        follows = subst (Follows G) seen (follows_in K G lk lg wg o (wf o m.among) (ap (has_id G) m.id ∙ new) before);
+      }
 
   pub same_meaning : ((a : OpId) → o.deps a ≡ true → has_id G a ≡ true) → operation_after G s ≡ o
   same_meaning before =

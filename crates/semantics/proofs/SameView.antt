@@ -3,7 +3,7 @@ use Rattle.std.proofs.Common.{◌≡◌, not, ◌&&◌, List, map, Option, is_so
 use Rattle.std.specs.FinMap.{find}
 use Rattle.semantics.specs.Ids.{OpId, id_cmp, falling_cmp}
 use Rattle.semantics.specs.Elements.{Element, Field, Item}
-use Rattle.semantics.specs.Operations.{Operation, clears, tag_given, scalar_given, inserted_after}
+use Rattle.semantics.specs.Operations.{Operation, empties, tag_given, scalar_given, inserted_after}
 use Rattle.semantics.specs.LegalHistory.{IsAmong, HaveSameOperations}
 use Rattle.semantics.specs.Questions.{AppliedVector, Question, Values, Keys, Items, Conflicts, ValuesAre, KeysAre, ItemsAre, ConflictsAre}
 use Rattle.semantics.specs.Questions.{VectorIs, resolve, answer_at}
@@ -19,7 +19,7 @@ distinct_same O P same d x y m n e = d x y ((same x).0 m) ((same y).0 n) e
 module _ (O P : List Operation) (same : HaveSameOperations O P) (distinct : HasDistinctIds P)
     (counted : (o : Operation) → IsAmong o P → o.id.counter ≢ 0) where
   stays_same : (e : Element) (a : OpId) → stays O e a ≡ stays P e a
-  stays_same e a = all_same (λ o. not (clears o e && o.deps a)) O P same
+  stays_same e a = all_same (λ o. not (empties o e && o.deps a)) O P same
 
   given_same : {X : Type 0} (given : Operation → Option X) → collect id_cmp given O ≡ collect id_cmp given P
   given_same given = collects_same id_cmp id_total same_ids given O P (distinct_same O P same distinct) distinct same

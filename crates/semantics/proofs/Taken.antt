@@ -56,7 +56,7 @@ taken_drains r s h m = at_fault (fault_of (stamped_entries r.entries) s)
       entries = refl;
       waited = λ x n. elim n [ inl e ↦ subst (λ (z : Stamped). IsAmong z r.waiting) (sym e) m | inr k ↦ absurd k ];
       waits = λ x n. (in_without s.id r.waiting x n).0;
-      counted = (let e : suc (length (without_waiting s.id r.waiting)) ≡ length r.waiting = one in omega arith);
+      balance = (let e : suc (length (without_waiting s.id r.waiting)) ≡ length r.waiting = one in omega arith);
     }
     at_fault (Some f) = record {
       own = refl;
@@ -65,7 +65,7 @@ taken_drains r s h m = at_fault (fault_of (stamped_entries r.entries) s)
       entries = refl;
       waited = λ x n. absurd n;
       waits = λ x n. (in_without s.id r.waiting x n).0;
-      counted = (let e : suc (length (without_waiting s.id r.waiting)) ≡ length r.waiting = one in omega arith);
+      balance = (let e : suc (length (without_waiting s.id r.waiting)) ≡ length r.waiting = one in omega arith);
     }
 
 pub taken_fewer : (r : Replica) (s : Stamped) → IsRunning r → IsAmong s r.waiting → suc (length (taken r s).waiting) ≡ length r.waiting

@@ -70,7 +70,7 @@ pub record Drains (r d : Replica) : Type 0 where
   pub entries : d.entries ≡ with_peers appended r.entries
   pub waited : (s : Stamped) → IsAmong s appended → IsAmong s r.waiting
   pub waits : (s : Stamped) → IsAmong s d.waiting → IsAmong s r.waiting
-  pub counted : length appended + d.dropped + length d.waiting ≡ r.dropped + length r.waiting
+  pub balance : length appended + d.dropped + length d.waiting ≡ r.dropped + length r.waiting
 
 -- the history is full, or none that waits is ready
 abbrev pub IsDrained : Replica → Type 0

@@ -68,12 +68,12 @@ abbrev pub breaks_chain : List Operation → Stamped → Bool
 breaks_chain H s = not (at s.vector s.id.replica == greatest_counter H s.id.replica)
 
 -- the counter named of p is that of no applied operation
-abbrev pub is_missing : List Operation → Vector → ℕ → Bool
-is_missing H v p = not (at v p == 0) && not (has_id H (id_at (at v p) p))
+abbrev pub is_of_nobody : List Operation → Vector → ℕ → Bool
+is_of_nobody H v p = not (at v p == 0) && not (has_id H (id_at (at v p) p))
 
 -- a counter in the vector is that of no applied operation
 abbrev pub names_nothing : List Operation → Stamped → Bool
-names_nothing H s = list_any (λ a. is_missing H s.vector a.replica) s.vector
+names_nothing H s = list_any (λ a. is_of_nobody H s.vector a.replica) s.vector
 
 -- an operation whose counter is the one named of its replica has a vector that isn't at most this
 abbrev pub is_open : List Stamped → Vector → Bool

@@ -45,13 +45,13 @@ pub record IsWhole (w : Handler) (x : Submitted) (y : Reply) (v : Handler) : Typ
   pub replica : v.replica ≡ after_item w.replica x
   pub behind : v.behind ≡ still_behind w x
 
--- an allocation failed: the submission is refused, and nothing has changed
+-- the submission is refused with NoMemory, and nothing has changed; that an allocation failed isn't said
 pub record IsTurnedAway (w : Handler) (x : Submitted) (y : Reply) (v : Handler) : Type 0 where
   pub floor : x.floor ≤ length w.replica.entries
   pub reply : y ≡ NotMade NoMemory (length w.replica.entries)
   pub same : v ≡ w
 
--- a peer's operation is delivered, and a failed allocation ends the drain after it early
+-- a peer's operation is delivered, and the drain after it ends early, as after a failed allocation
 pub record IsCutShort (w : Handler) (x : Submitted) (y : Reply) (v : Handler) : Type 0 where
   pub stamped : Stamped
   pub request : x.request ≡ OfPeer stamped

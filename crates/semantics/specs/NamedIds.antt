@@ -23,6 +23,10 @@ pub record StandsFor (v : Vector) (S : IdSet) (H : List Operation) : Type 0 wher
   pub same : (a : OpId) → S a ≡ names H v a
   pub attained : (p : ℕ) → at v p ≢ 0 → IsTrue (S (id_at (at v p) p))
 
+-- each counter in v is that of an id in H
+abbrev pub IsAttained : List Operation → Vector → Type 0
+IsAttained H v = (p : ℕ) → at v p ≢ 0 → IsTrue (has_id H (id_at (at v p) p))
+
 -- v names all that was applied
 abbrev pub NamesAll : List Operation → Vector → Type 0
 NamesAll H v = (p : ℕ) → at v p ≡ greatest_counter H p

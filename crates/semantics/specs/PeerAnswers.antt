@@ -47,7 +47,7 @@ IsAnswer p ps G x y = of_request x.request
     of_request (OfCommand c) = IsLegalAnswer p G x c y × IsFromFloor x.floor y
     of_request (OfPeer s) = IsPeerAnswer p ps G x s y
 
--- the refusal is true of the operation and of these entries of replica p, or the inbox had no room
+-- the refusal is true of the operation and of these entries of replica p, or it is InboxFull, of which nothing is said
 abbrev pub IsTrueOf : (own : ℕ) (members : List ℕ) → List Entry → Stamped → Refusal → Type 0
 IsTrueOf p ps G s e =
     (alone_fault ps s ≡ Some e)

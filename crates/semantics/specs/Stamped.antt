@@ -6,7 +6,7 @@ use Rattle.semantics.specs.Elements.{Place}
 use Rattle.semantics.specs.Operations.{Operation, Mutation}
 use Rattle.semantics.specs.LegalHistory.{IsAmong, has_id, Follows}
 use Rattle.semantics.specs.Vectors.{Vector, at, covers}
-use Rattle.semantics.specs.NamedIds.{names, StandsFor}
+use Rattle.semantics.specs.NamedIds.{names, IsAttained}
 
 -- an operation with the version vector of what it depends on
 pub record Stamped : Type 0 where
@@ -24,9 +24,10 @@ abbrev pub operations_of : List Stamped → List Operation
 operations_of [] = []
 operations_of (s ∷ G) = operation_after (operations_of G) s ∷ operations_of G
 
--- s may follow H: its vector stands for the set with which the operation may follow
-abbrev pub MayFollow : List Operation → Stamped → Type 0
-MayFollow H s = StandsFor s.vector (names H s.vector) H × Follows H (operation_after H s)
+-- s may follow H: each counter in its vector is that of an id there, and what it is there may follow
+pub record MayFollow (H : List Operation) (s : Stamped) : Type 0 where
+  pub attained : IsAttained H s.vector
+  pub follows : Follows H (operation_after H s)
 
 -- each stamped operation may follow those before it
 abbrev pub IsLegalStamped : List Stamped → Type 0
@@ -40,7 +41,7 @@ pub record Means (H : List Operation) (s : Stamped) (o : Operation) : Type 0 whe
   pub place : o.place ≡ s.place
   pub mutation : o.mutation ≡ s.mutation
   pub deps : (a : OpId) → o.deps a ≡ names H s.vector a
-  pub attained : (p : ℕ) → at s.vector p ≢ 0 → IsTrue (has_id H (id_at (at s.vector p) p))
+  pub attained : IsAttained H s.vector
 
 -- the operation that s is in a set: it depends on the ids of the set that its vector covers, whatever the order of the list
 abbrev pub operation_among : List Stamped → Stamped → Operation

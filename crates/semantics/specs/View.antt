@@ -5,7 +5,7 @@ use Rattle.std.specs.declared.cmp.Ordering.{Ordering}
 use Rattle.std.specs.FinMap.{find}
 use Rattle.semantics.specs.Ids.{OpId, id_cmp, falling_cmp, is_same_id, is_smaller_id}
 use Rattle.semantics.specs.Elements.{Element, Field, Item, Scalar, Tag, Name}
-use Rattle.semantics.specs.Operations.{Operation, clears, tag_given, scalar_given, name_given, inserted_after}
+use Rattle.semantics.specs.Operations.{Operation, empties, tag_given, scalar_given, name_given, inserted_after}
 use Rattle.semantics.specs.Context.{put_some, put_name}
 use Rattle.semantics.specs.Questions.{Question, Values, Keys, Items, Conflicts, AppliedVector, Answer, ValuesAre, KeysAre, ItemsAre}
 use Rattle.semantics.specs.Questions.{ConflictsAre, VectorIs, resolve, answer_at}
@@ -21,9 +21,9 @@ collect R given (o ∷ O) = put_some R o.id (given o) (collect R given O)
 abbrev pub reached : List Operation → Element → List (OpId × Tag)
 reached O e = collect id_cmp (λ o. tag_given o e) O
 
--- a is in the deps of no operation that clears e
+-- a is in the deps of no operation that empties e
 abbrev pub stays : List Operation → Element → OpId → Bool
-stays O e a = list_all (λ o. not (clears o e && o.deps a)) O
+stays O e a = list_all (λ o. not (empties o e && o.deps a)) O
 
 -- the ids that reach e and stay, with their tags
 abbrev pub live : List Operation → Element → List (OpId × Tag)

@@ -1,16 +1,16 @@
 use Rattle.std.proofs.Common.{sym, ap, ◌∙◌, arith}
 use Rattle.std.specs.List.{list_any}
 use Rattle.semantics.specs.Entries.{applied}
-use Rattle.semantics.specs.Faults.{is_missing}
+use Rattle.semantics.specs.Faults.{is_of_nobody}
 use Rattle.document.proofs.ReceivedFaults.{all_known, unknown_there}
 use Rattle.document.proofs.check.names_nothing.Goals as goal
 
-pub returns-then-is_missing : goal.returns-then-is_missing
-returns-then-is_missing c = λ s is.
+pub returns-then-is_of_nobody : goal.returns-then-is_of_nobody
+returns-then-is_of_nobody c = λ s is.
     let H = applied c.args.log.now.entries in
     sym (unknown_there c.args.log.now.table c.args.vector.now c.requires.distinct c.requires.width H c.loop-index.index
-    (sym c.is_missing.ensures ∙ c.if-is_missing.true))
-    ∙ ap (λ v. list_any (λ a. is_missing H v a.replica) v) (sym is)
+    (sym c.is_of_nobody.ensures ∙ c.if-is_of_nobody.true))
+    ∙ ap (λ v. list_any (λ a. is_of_nobody H v a.replica) v) (sym is)
 
 pub returns : goal.returns
 returns c = λ s is.
@@ -18,4 +18,4 @@ returns c = λ s is.
     sym (all_known c.args.log.now.table c.args.vector.now c.requires.distinct c.requires.width H
     (λ i h. c.loop-index.invariant i
     (let e = c.width-index-end.ensures in let w = c.requires.width in let t = c.loop-index-test.false in omega arith)))
-    ∙ ap (λ v. list_any (λ a. is_missing H v a.replica) v) (sym is)
+    ∙ ap (λ v. list_any (λ a. is_of_nobody H v a.replica) v) (sym is)

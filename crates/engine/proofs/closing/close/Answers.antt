@@ -5,7 +5,7 @@ use Rattle.semantics.specs.Entries.{Entry, Own, entry_at, IsEntryHistory}
 use Rattle.oplog.specs.Logs.{history}
 use Rattle.semantics.specs.WorldHistory.{BeginsWith}
 use Rattle.items.specs.declared.item.Item.{Item}
-use Rattle.command.specs.Fifo.{of}
+use Rattle.command.specs.InOrder.{of}
 use Rattle.engine.specs.Clients.{items_by, AreClients}
 use Rattle.engine.specs.Turns.{Writer}
 use Rattle.engine.proofs.OwnSubmissions.{own_submitted}

@@ -2,7 +2,7 @@ use Rattle.std.proofs.Common.{◌≡◌, Bool, true, false, not, is_some, sym, a
 use Rattle.semantics.specs.Entries.{applied}
 use Rattle.document.specs.Checks.{is_unknown}
 use Rattle.oplog.proofs.PlacedIds.{placed}
-use Rattle.document.proofs.check.is_missing.Goals as goal
+use Rattle.document.proofs.check.is_of_nobody.Goals as goal
 
 turned : (b c : Bool) → c ≡ not b → b ≡ not c
 turned true c e = ap not (sym e)
