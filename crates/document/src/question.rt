@@ -15,7 +15,7 @@ pub enum Question {
     Keys(Expr),
     /// For the items of the list at the element. Costs a look at each that ever stood there.
     Items(Expr),
-    /// For what stands at the element, and as what.
+    /// For the ids of the live writes at the element and beneath it, each with what it is there.
     Conflicts(Expr),
     /// For the operations that the vector doesn't cover. The vector is indexed by the document's table.
     Missing(VersionVector),

@@ -28,7 +28,7 @@ pub struct Final {
 /// Closes the engine of this writer. What is queued, or held and unanswered, is dropped and counted in `left`; operations of peers that
 /// wait for others are dropped too, and come again by an exchange. To leave nothing behind, step until `Idle` before.
 ///
-/// Clients and readers that are still at hand aren't told. From then on `ask`, `hello` and `answer` are refused with `NoReading`, a ticket
+/// Clients and readers that still exist get no signal. From then on `ask`, `hello` and `answer` are refused with `NoReading`, a ticket
 /// that wasn't answered polls `None`, and `submit` and `receive` give tickets until the queue is full, which `left` doesn't count: all of
 /// it for good. So let the threads of clients and readers end before.
 ///

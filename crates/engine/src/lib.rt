@@ -2,7 +2,8 @@
 //! locks.
 //!
 //! `prepare` and `open` give a writer, clients and reader tokens. A client submits a command and gets a ticket; the writer's
-//! `step` handles what waits in the queue, publishes, and answers; the client polls its ticket. Any token asks at any time.
+//! `step` handles up to a batch of what waits in the queue, publishes, and answers; the client polls its ticket. Any token asks at
+//! any time.
 //! Only `open`, `submit`, `deliver`, `step` and `close` may wait for another thread.
 #![tactic(auto)]
 

@@ -30,12 +30,13 @@ mod tests;
 /// What a step did.
 #[derive(Clone, Copy, Debug, PartialEq, Eq)]
 pub enum Step {
-    /// Nothing was taken, and there was nothing to publish.
+    /// Nothing was taken, and there was nothing to publish. After a failed allocation operations of peers that could be applied may still
+    /// wait; the next step tries again.
     Idle,
     /// All entries are published, and this many submissions were answered, which may be none.
     Published(usize),
-    /// Allocation failed in the publish. The batch is held whole, and none of it is answered. Step again: until then nothing else is
-    /// handled.
+    /// Allocation failed in the publish. The batch is held whole, and none of it is answered. Step again: nothing else is handled before,
+    /// unless the batch is empty, after a drain alone.
     Held,
 }
 
@@ -127,7 +128,7 @@ impl<N: EngineName> Writer<N> {
         self.publisher.notice()
     }
 
-    /// How many operations of peers were dropped because they turned out unlawful; stays at 18446744073709551615.
+    /// How many operations of peers were dropped because they turned out unlawful; saturates.
     pub fn dropped(&self) -> u64
         ensures { result ≡ self.now.handler.replica.dropped }
     {
@@ -136,8 +137,8 @@ impl<N: EngineName> Writer<N> {
 
     /// Goes on with the drain of peers' operations that a failed allocation ended early; takes up to a batch of items and handles them
     /// one after another; publishes all entries at once; and then answers the items, the oldest first. If a batch is held, publishes and
-    /// answers that, and does nothing else. Returns at once where nothing waits. Waits for the queue, and for readers of the copy that is
-    /// brought up to date. Applies each new entry three times: to the replica and to both copies.
+    /// answers that, and does nothing else. Returns at once where nothing waits. May spin behind a thread that is in the queue, and waits
+    /// for readers of the copy that is brought up to date. Applies each new entry three times: to the replica and to both copies.
     pub fn step(&mut self, rt: &impl Wait, alloc: Global) -> Step
         ensures same { (self.new.queue ≡ self.old.queue) × (self.new.batch ≡ self.old.batch) × (0 < self.new.batch) }
         ensures fresh { length self.old.held ≡ 0

@@ -23,8 +23,8 @@ pub struct Config {
     pub queue: u32,
     /// The most submissions that one step of the writer takes and publishes, from 1 to 256.
     pub batch: u32,
-    /// How many serials each client has in its whole life, at least 1: a command takes one, and so does each received operation. They
-    /// take no memory: `u32::MAX` unless a bound is wanted.
+    /// How many serials each client has in its whole life, at least 1: a command takes one, and so does each received operation. A high
+    /// bound costs nothing: `u32::MAX` unless one is wanted. What was submitted under a serial is kept for good.
     pub serials: u32,
 }
 

@@ -6,7 +6,7 @@ ghost use Rattle.ids.specs.Members.{in_order};
 
 use engine::{
     Client, Command, Config, EngineName, Expr, Parts, Question, ReaderToken, Reading, Refusal,
-    Reply, Scalar, Step, Val, Writer, close, open, prepare,
+    Reply, Scalar, Step, Ticket, Val, Writer, close, open, prepare,
 };
 use peer_sync::{Received, answer, hello, receive};
 use std::alloc::Global;
@@ -141,8 +141,9 @@ fn write<N: EngineName, R: Wait>(
     text: &str,
 ) -> Result<(), Refusal> {
     let command = Command::Assign(title(alloc)?, Val::text(alloc, text)?);
-    let _ticket = engine.client.submit(rt, alloc, command)?;
-    step_all(rt, alloc, engine)
+    let ticket = engine.client.submit(rt, alloc, command)?;
+    step_all(rt, alloc, engine)?;
+    taken(engine, &ticket)
 }
 
 /// Lets the writer handle all that was submitted, a batch at a step.
@@ -185,11 +186,17 @@ fn all_taken<N: EngineName>(engine: &mut Engine<N>, received: &Received) -> Resu
     for number in 0..received.submitted {
         let serial = received.first_serial.saturating_add(number);
         let ticket = engine.client.ticket_of(serial)?;
-        if let Some(Reply::Refused(refusal, _)) = engine.client.poll(&ticket)? {
-            return Err(refusal);
-        }
+        taken(engine, &ticket)?;
     }
     Ok(())
+}
+
+/// Tests that what was submitted under the ticket wasn't refused. The writer has stepped until `Idle` before, so it is answered.
+fn taken<N: EngineName>(engine: &mut Engine<N>, ticket: &Ticket) -> Result<(), Refusal> {
+    match engine.client.poll(ticket)? {
+        Some(Reply::Refused(refusal, _)) => Err(refusal),
+        _ => Ok(()),
+    }
 }
 
 /// The titles, one after another: more than one if writers conflicted.

@@ -29,7 +29,8 @@ pub struct Received {
 }
 
 /// Submits the operations of a bundle, line by line, and stops at the first line that is bad or that the client refuses. What
-/// came before that line stays submitted. The bytes may be of any origin. Waits for the queue, as `Client::deliver`.
+/// came before that line stays submitted. The bytes may be of any origin. May spin behind another thread that is in the queue, as
+/// `Client::deliver`; never waits for room.
 ///
 /// The result's stop is a fault of the line itself: `BadLine`, also for bytes after the last line feed, `UnknownReplica`, `TooDeep`,
 /// `KeyTooLong`, `TextTooLong` or `NotWhole`; such a line is refused each time. Or it is a refusal of `Client::deliver`: `QueueFull` (give

@@ -21,6 +21,7 @@ pub trait EngineName {
     ghost table: { List ℕ };
 }
 
+/// These stand only where no caller picks others: whoever calls `open` picks them, so that its `requires` hold.
 impl EngineName for Brand {
     ghost use Rattle.std.specs.Prelude.{[]};
 

@@ -132,7 +132,8 @@ fn wish(alloc: Global, what: &str, how_much: &str) -> Result<Command, Refusal> {
     Ok(Command::Assign(place, Val::text(alloc, how_much)?))
 }
 
-/// Submits the command until it is answered: again where the queue is full, or where memory ran out before it was handled.
+/// Submits the command until it is answered: again where the queue is full, or where the reply is `NoMemory`. `NoMemory` of the call
+/// itself is returned.
 fn write_one<N: EngineName, R: Wait>(
     rt: &R,
     alloc: Global,
