@@ -88,7 +88,8 @@ module _ (ps cs : List ℕ) (distinct : AreDistinct ps) (width : length cs ≡ l
           not_from_false b e = ap not e
 
           some : (b : Bool) → list_any (λ x. is_of_nobody H named x.replica) named ≡ b
-              → (list_any (λ x. is_of_nobody H named x.replica) named ≡ false → ⊥) → list_any (λ x. is_of_nobody H named x.replica) named ≡ true
+              → (list_any (λ x. is_of_nobody H named x.replica) named ≡ false → ⊥)
+              → list_any (λ x. is_of_nobody H named x.replica) named ≡ true
           some true e k = e
           some false e k = absurd (k e)
 

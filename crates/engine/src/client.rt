@@ -94,10 +94,10 @@ impl<N: EngineName> Client<N> {
         }
     }
 
-    /// Submits a command to the writer, and returns its ticket: the answer comes by `poll`, after a step. The position or the length that it
-    /// names is at least `seen_len` at this call, but for `BadFloor`. The command is kept once, for as long as the client lives or an entry
-    /// has it. May spin behind another thread that is in the queue; never waits for room. Four allocations, and room for the serial, which
-    /// is kept for good.
+    /// Submits a command to the writer, and returns its ticket: the answer comes by `poll`, after a step. The position or the length that
+    /// it names is at least `seen_len` at this call, but for `BadFloor`. The command is kept once, for as long as the client lives or an
+    /// entry has it. May spin behind another thread that is in the queue; never waits for room. Four allocations, and room for the serial,
+    /// which is kept for good.
     ///
     /// # Errors
     /// `SerialEnd` if all serials are used, else `NoMemory` if allocation fails, else `QueueFull` if the queue is full, which tests hold. A
