@@ -11,7 +11,6 @@ use Rattle.semantics.specs.Publication.{Publication, Holds}
 use Rattle.items.specs.declared.item.Item.{Item}
 use Rattle.items.specs.Meanings.{submitted_of}
 use Rattle.command.specs.declared.hand.Hand.{Hand}
-use Rattle.command.specs.InOrder.{taker_hand, IsAllowed}
 use Rattle.engine.specs.declared.writer.Step.{Step}
 use Rattle.engine.specs.declared.writer.Step.TheVariants.{Idle, Published, Held}
 
