@@ -74,7 +74,7 @@ fits table column G t s h may = subst (λ C. FitsIn C s.id (slot_of s.mutation s
       by : (o : Option (Element × Option OpId)) → slot_of s.mutation s.place ≡ o → FitsIn (doc (applied G)) s.id o
       by None is = tt
       by (Some slot) is = (
-        prev_there (applied G) (operation_after (applied G) s) (legal (stamped_entries G) h.legal) may.1 slot.0 slot.1 is,
+        prev_there (applied G) (operation_after (applied G) s) (legal (stamped_entries G) h.legal) may.follows slot.0 slot.1 is,
         fresh (has_item s.id ((doc (applied G)).order slot.0)) refl (item_among (applied G) slot.0 s.id),
       )
         where
@@ -82,7 +82,7 @@ fits table column G t s h may = subst (λ C. FitsIn C s.id (slot_of s.mutation s
               → (has_item s.id ((doc (applied G)).order slot.0) ≡ true → has_id (applied G) s.id ≡ true)
               → IsFalse (has_item s.id ((doc (applied G)).order slot.0))
           fresh false is among = is
-          fresh true is among = let x = among_from (applied G) s.id (among is) in absurd (may.1.new_id x.0 x.1 x.2)
+          fresh true is among = let x = among_from (applied G) s.id (among is) in absurd (may.follows.new_id x.0 x.1 x.2)
 
 module _ (table column : List ℕ) (G : List Entry) (t : Planted) (h : IsConsistent table column G t) where
   pub column_is_vector : by_table table column ≡ vector_of (applied G)

@@ -29,4 +29,4 @@ known_members ps G o all own may =
     (items_of_members ps (element_of o.place))
     (and_from (is_member ps o.id.replica) (list_all (λ a. is_member ps a.replica) (by_table ps o.deps)) own
     (all-by_table (is_member ps) ps o.deps (members_all ps)))
-    (items_known ps (applied G) (names (applied G) (by_table ps o.deps)) (element_of o.place) (among_members ps G all) may.1.items)
+    (items_known ps (applied G) (names (applied G) (by_table ps o.deps)) (element_of o.place) (among_members ps G all) may.follows.items)
