@@ -31,7 +31,7 @@ apply-requires-clause-placed c =
 pub push-requires-clause-new : goal.push-requires-clause-new
 push-requires-clause-new c =
     let d = c.self.inside in
-    fresh (lawful _ _ c.args.entry c.self.view_is c.requires.lawful).1
+    fresh (lawful _ _ c.args.entry c.self.view_is c.requires.lawful).follows
 
 pub raise-requires : goal.raise-requires
 raise-requires c =
