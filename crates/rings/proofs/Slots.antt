@@ -1,7 +1,6 @@
 -- Places and their slots.
 use Rattle.std.proofs.Common.{◌≡◌, ℕ, ◌+◌, ◌*◌, ◌/◌, ◌%◌, ◌<◌, ◌≤◌, ◌⊎◌, inl, inr, List, [], ◌∷◌, ◌++◌, length, length-append, get_or, set}
-use Rattle.std.proofs.Common.{refl, sym, ap, ◌∙◌, arith}
-use Rattle.std.specs.Prelude.{Result, Ok, Err, is_ok, IsOk, true}
+use Rattle.std.proofs.Common.{sym, ap, ◌∙◌, arith}
 use Rattle.std.specs.List.{All}
 use Rattle.std.proofs.lemmas.List.{get_or_append_left, get_or_at}
 use Rattle.std.proofs.lemmas.Bool.{cases_lt}
@@ -76,7 +75,3 @@ closed_rings old new count all full rest (inl (few, e)) = rw e (record { within 
 closed_rings old new count all full rest (inr (whole, e)) =
     let long = length-append old (0 ∷ []) in
     rw e (record { within = all_more old all; full = omega (arith, long, whole); rest = omega (arith, long, whole) })
-
-pub is_ok_true : {A B : Type 0} (r : Result A B) → IsOk r → is_ok r ≡ true
-is_ok_true (Ok x) h = refl
-is_ok_true (Err x) h = h

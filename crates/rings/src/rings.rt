@@ -370,9 +370,21 @@ fn insert_in<T: Drop>(slots: &mut Vec<T>, starts: &mut Starts, position: usize, 
     ensures starts { capacity_of starts.new ≡ capacity_of starts.old }
 {
     let (at, item) = make_way(slots, starts, position, value);
-    // There is room, so it isn't refused.
-    let _ = slots.insert(at, item);
+    put_in(slots, at, item);
     close_ring(starts, slots.len());
+}
+
+/// Inserts an item, for which there is room, by one move of memory. `Vec::insert` moves sixteen bytes at a time, which shows where two
+/// thousand items follow.
+fn put_in<T: Drop>(slots: &mut Vec<T>, at: usize, item: T)
+    requires within { at ≤ length slots.old.items }
+    requires room { vec_len slots.old < vec_capacity slots.old }
+    ensures items { slots.new.items ≡ insert slots.old.items at item }
+    ensures length { vec_len slots.new ≡ vec_len slots.old + 1 }
+    ensures capacity { vec_capacity slots.new ≡ vec_capacity slots.old }
+{
+    let last = push_front(&mut slots[at..], item);
+    slots.push_reserved(last);
 }
 
 /// Swaps the items at two positions.
