@@ -9,22 +9,23 @@ tools=$(dirname "$(rt doc)")/toolchain/bin
 "$tools/clang" --target=x86_64-unknown-linux-gnu -fPIC -O1 -fno-builtin -c "$top/tests/refuse.c" -o "$room/refuse.o"
 "$tools/ld.lld" -shared -o "$room/refuse.so" "$room/refuse.o"
 
-# Runs a test with the nth allocation refused.
+# Runs a test in a folder, with the nth allocation refused.
 run_refused() {
-    rm -f "$room/refused"
-    REFUSE=$3 REFUSED=$room/refused LD_PRELOAD=$room/refuse.so "$1" "$2" > "$room/said" 2>&1
+    rm -f "$4/refused"
+    REFUSE=$3 REFUSED=$4/refused LD_PRELOAD=$room/refuse.so "$1" "$2" > "$4/said" 2>&1
 }
 
 # Refuses each allocation of a test in turn, until one run makes no more than were tried.
 sweep() {
-    local crate=$1 program=$2 test=$3 nth=1
+    local crate=$1 program=$2 test=$3 nth=1 folder
+    folder=$(mktemp -d -p "$room")
     while :; do
-        if ! run_refused "$program" "$test" "$nth"; then
+        if ! run_refused "$program" "$test" "$nth" "$folder"; then
             echo "$crate: $test FAILED with allocation $nth refused"
-            cat "$room/said"
+            cat "$folder/said"
             return 1
         fi
-        [ -e "$room/refused" ] || break
+        [ -e "$folder/refused" ] || break
         nth=$((nth + 1))
     done
     echo "$crate: $test passed with each of $((nth - 1)) allocations refused"
@@ -37,7 +38,9 @@ crates_with_such_tests() {
     done
 }
 
+# The sweeps run side by side.
 failed=0
+sweeps=()
 for crate in ${*:-$(crates_with_such_tests)}; do
     program=$top/crates/$crate/out/${crate}_tests
     if [ ! -x "$program" ]; then
@@ -51,7 +54,11 @@ for crate in ${*:-$(crates_with_such_tests)}; do
         failed=1
     fi
     for test in $tests; do
-        sweep "$crate" "$program" "$test" || failed=1
+        sweep "$crate" "$program" "$test" &
+        sweeps+=($!)
     done
+done
+for it in "${sweeps[@]}"; do
+    wait "$it" || failed=1
 done
 exit "$failed"

@@ -1,22 +1,12 @@
 //! The program: it runs a script of engines and prints what each step replies, or lets threads write into engines.
 #![tactic(auto)]
 
-mod fault;
-mod playing;
-mod run;
-#[cfg(test)]
-mod tests;
-mod words;
-
-use fault::Fault;
-use playing::bench;
-use run::run_script;
+use cli::{Fault, Job, bench, read_words, run_script};
 use std::alloc::AllocError;
 use std::process::ExitCode;
 use std::sync::Wait;
 use std::thread::Threads;
 use std::{env, fs, io};
-use words::{Job, read_words};
 
 fn main(rt: HostRuntime) -> ExitCode {
     let status = match own_words(&rt) {

@@ -130,22 +130,3 @@ fn measured<R: Clock>(
         answers,
     })
 }
-
-#[cfg(test)]
-mod tests {
-    use super::*;
-    use std::test::Fail;
-
-    #[test]
-    fn both_ways_are_timed_at_work(rt: HostRuntime) -> Result<(), Fail> {
-        for kernel in Kernel::ALL {
-            for width in [1, 65] {
-                let lanes = time_of(&rt, rt.alloc(), kernel, Way::Lanes, width)?;
-                let plain = time_of(&rt, rt.alloc(), kernel, Way::Plain, width)?;
-                let name = kernel.name();
-                assert_eq!(rt; lanes.answers, plain.answers, "{name} of {width}");
-            }
-        }
-        Ok(())
-    }
-}

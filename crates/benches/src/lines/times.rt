@@ -83,21 +83,3 @@ fn read_often(alloc: Global, lines: &[Vec<u8>], sample: &Sample) -> Result<u64, 
     }
     Ok(count)
 }
-
-#[cfg(test)]
-mod tests {
-    use super::*;
-
-    #[test]
-    fn rates_are_rounded_down(rt: HostRuntime) {
-        for (count, nanos, want) in [
-            (0, 7, 0),
-            (3, 1_000_000_000, 3),
-            (5, 2_000_000_000, 2),
-            (2, 0, 2_000_000_000),
-            (u64::MAX, 1, u64::MAX),
-        ] {
-            assert_eq!(rt; a_second(count, nanos), want, "{count} in {nanos}");
-        }
-    }
-}

@@ -1,9 +1,8 @@
 //! The program's words.
 
-use crate::fault::Status;
-use crate::words::{BadWords, Job, read_words};
 use bench::Plan;
 use clap::error::ErrorKind;
+use cli::{BadWords, Job, Status, read_words};
 use std::alloc::Global;
 use std::test::Fail;
 

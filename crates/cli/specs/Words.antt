@@ -9,10 +9,10 @@ use Rattle.clap.specs.Simple.{on_top}
 use Rattle.clap.specs.declared.builder.value_parser.ValueParser.TheVariants.{Unsigned}
 use Rattle.clap.specs.declared.error.kind.ErrorKind.TheVariants as kind
 use Rattle.bench.specs.declared.plan.Plan.{Plan}
-use Rattle.jdoc.specs.declared.words.BadWords.{BadWords}
-use Rattle.jdoc.specs.declared.words.BadWords.TheVariants.{Refused, OutOfRange}
-use Rattle.jdoc.specs.declared.words.Job.{Job}
-use Rattle.jdoc.specs.declared.words.Job.TheVariants.{Run, Bench}
+use Rattle.cli.specs.declared.words.BadWords.{BadWords}
+use Rattle.cli.specs.declared.words.BadWords.TheVariants.{Refused, OutOfRange}
+use Rattle.cli.specs.declared.words.Job.{Job}
+use Rattle.cli.specs.declared.words.Job.TheVariants.{Run, Bench}
 
 -- the optional word after `run`
 abbrev pub script_rule : Rule

@@ -1,6 +1,6 @@
 //! Whole runs of a script: what is printed, what is told, and the status.
 
-use crate::run::run_script;
+use cli::run_script;
 use std::alloc::Global;
 use std::process::Abort;
 

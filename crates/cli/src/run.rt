@@ -2,8 +2,8 @@
 
 ghost use Rattle.std.specs.Prelude.{◌≡◌, ◌⊎◌, IfOk, IfSome, string_bytes};
 ghost use Rattle.std.specs.Io.KnownBytes.{Appends};
-ghost use Rattle.jdoc.specs.declared.fault.Status.TheVariants.{Done, NotWritten};
-ghost use Rattle.jdoc.specs.Runs.{AppendsReplies, IsStatus};
+ghost use Rattle.cli.specs.declared.fault.Status.TheVariants.{Done, NotWritten};
+ghost use Rattle.cli.specs.Runs.{AppendsReplies, IsStatus};
 ghost use Rattle.scripts.specs.Runs.{IsReplyText};
 
 use crate::fault::{Fault, Status};

@@ -1,7 +1,7 @@
 //! What a bench prints.
 
-use crate::playing::bench;
 use bench::Plan;
+use cli::bench;
 use std::test::Fail;
 
 #[test]

@@ -1,7 +1,7 @@
 use Rattle.std.proofs.Common.{◌≡◌, refl, subst, ◌∙◌}
 use Rattle.std.specs.Io.KnownBytes.{Appends}
-use Rattle.jdoc.specs.Plays.{agreement}
-use Rattle.jdoc.proofs.playing.agree.Goals as goal
+use Rattle.cli.specs.Plays.{agreement}
+use Rattle.cli.proofs.playing.agree.Goals as goal
 
 pub returns-in-Ok-clause-done : goal.returns-in-Ok-clause-done
 returns-in-Ok-clause-done g c = λ done.

@@ -3,8 +3,8 @@ use Rattle.std.proofs.lemmas.Result.{IfOk-weaker}
 use Rattle.clap.specs.Simple.{app_of_fields}
 use Rattle.clap.specs.Words.{app_of, new_app, rule_of, with_rule}
 use Rattle.clap.specs.declared.builder.command.Command.TheViews.{out-Command}
-use Rattle.jdoc.specs.Words.{number_rule, queue_rule}
-use Rattle.jdoc.proofs.words.bench_command.Goals as goal
+use Rattle.cli.specs.Words.{number_rule, queue_rule}
+use Rattle.cli.proofs.words.bench_command.Goals as goal
 
 pub returns-clause-words : goal.returns-clause-words
 returns-clause-words c =

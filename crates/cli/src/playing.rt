@@ -2,8 +2,8 @@
 
 ghost use Rattle.std.specs.Prelude.{◌≡◌, ◌⊎◌, ◌*◌};
 ghost use Rattle.std.specs.Io.KnownBytes.{Appends};
-ghost use Rattle.jdoc.specs.Plays.{IsBenchStatus, agreement, difference};
-ghost use Rattle.jdoc.specs.declared.fault.Status.TheVariants.{Done, Differ, NoMemory, NotWritten, TurnLimit};
+ghost use Rattle.cli.specs.Plays.{IsBenchStatus, agreement, difference};
+ghost use Rattle.cli.specs.declared.fault.Status.TheVariants.{Done, Differ, NoMemory, NotWritten, TurnLimit};
 
 use crate::fault::{Fault, Status};
 use crate::run::print;

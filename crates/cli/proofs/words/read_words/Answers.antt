@@ -2,11 +2,11 @@ use Rattle.std.proofs.Common.{rules, ◌≡◌, List, Some, None, map, codes, sy
 use Rattle.clap.specs.Words.{Row, Text, found_of, rows_of, subcommand_of}
 use Rattle.clap.specs.declared.parser.matches.ArgMatches.TheViews.{out-ArgMatches}
 use Rattle.clap.proofs.WalkLemmas.{first_value-rows}
-use Rattle.jdoc.specs.Words.{IsAskedBy, IsJobOf, IsPlanOf, jdoc_app}
-use Rattle.jdoc.specs.declared.words.Job.{Job}
-use Rattle.jdoc.specs.declared.words.Job.TheVariants.{Run, Bench}
-use Rattle.jdoc.proofs.MetSubcommands.{met}
-use Rattle.jdoc.proofs.words.read_words.Goals as goal
+use Rattle.cli.specs.Words.{IsAskedBy, IsJobOf, IsPlanOf, jdoc_app}
+use Rattle.cli.specs.declared.words.Job.{Job}
+use Rattle.cli.specs.declared.words.Job.TheVariants.{Run, Bench}
+use Rattle.cli.proofs.MetSubcommands.{met}
+use Rattle.cli.proofs.words.read_words.Goals as goal
 
 -- a subcommand `bench` without a plan asks for nothing
 no_job : (words : List Text) (p : Text × List Row) → subcommand_of jdoc_app words ≡ Some p → p.0 ≡ codes "bench"

@@ -2,8 +2,8 @@
 
 ghost use Rattle.std.specs.Prelude.{◌≡◌, ◌≢◌, ◌⊎◌};
 ghost use Rattle.std.specs.IoError.{error_kind};
-ghost use Rattle.jdoc.specs.Statuses.{status_of};
-ghost use Rattle.jdoc.specs.declared.fault.Status.TheVariants.{NotWritten};
+ghost use Rattle.cli.specs.Statuses.{status_of};
+ghost use Rattle.cli.specs.declared.fault.Status.TheVariants.{NotWritten};
 
 use scripts::ScriptError;
 use std::io;
@@ -42,7 +42,7 @@ pub enum Fault<'a> {
 }
 
 impl<'a> Fault<'a> {
-    ghost use Rattle.jdoc.specs.declared.fault.Fault.TheVariants.{NoMemory, CannotRead, BadWord};
+    ghost use Rattle.cli.specs.declared.fault.Fault.TheVariants.{NoMemory, CannotRead, BadWord};
 
     /// The fault of a file or stream of this name that can't be read.
     pub fn of_read(name: &'a str, error: &io::Error) -> Fault<'a>

@@ -1,6 +1,6 @@
 //! Readers and writers that fail.
 
-use crate::run::run_script;
+use cli::run_script;
 use std::alloc::Global;
 use std::io;
 use std::io::{ErrorKind, Read, Write};

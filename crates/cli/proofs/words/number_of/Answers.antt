@@ -1,7 +1,7 @@
 use Rattle.std.specs.Str.Parse.{ParsesUnsigned, ExplainsUnsignedError, HasUnsignedDigitsIfOk}
 use Rattle.clap.specs.Words.{found_of}
-use Rattle.jdoc.proofs.FoundNumbers.{number_read, no_number}
-use Rattle.jdoc.proofs.words.number_of.Goals as goal
+use Rattle.cli.proofs.FoundNumbers.{number_read, no_number}
+use Rattle.cli.proofs.words.number_of.Goals as goal
 
 pub returns-clause-some : goal.returns-clause-some
 returns-clause-some c =

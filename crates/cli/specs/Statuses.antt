@@ -1,9 +1,9 @@
 -- The statuses that a run ends with.
 use Rattle.scripts.specs.declared.error.ScriptError.TheVariants as script
-use Rattle.jdoc.specs.declared.fault.Fault.{Fault}
-use Rattle.jdoc.specs.declared.fault.Fault.TheVariants.{Script, CannotRead, BadWord, OutOfRange, NoMemory}
-use Rattle.jdoc.specs.declared.fault.Status.{Status}
-use Rattle.jdoc.specs.declared.fault.Status.TheVariants as status
+use Rattle.cli.specs.declared.fault.Fault.{Fault}
+use Rattle.cli.specs.declared.fault.Fault.TheVariants.{Script, CannotRead, BadWord, OutOfRange, NoMemory}
+use Rattle.cli.specs.declared.fault.Status.{Status}
+use Rattle.cli.specs.declared.fault.Status.TheVariants as status
 
 -- the status of a run that ends by this fault
 abbrev pub status_of : Fault → Status

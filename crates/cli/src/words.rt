@@ -5,7 +5,7 @@ ghost use Rattle.clap.specs.Words.{app_of, found_of, has_subcommand, kind_of, ro
 ghost use Rattle.clap.specs.Faults.{fault_of};
 ghost use Rattle.clap.specs.declared.builder.command.Command.TheViews.{out-Command as fields_of};
 ghost use Rattle.clap.specs.Kinds.{FailsBy};
-ghost use Rattle.jdoc.specs.declared.fault.Status.TheVariants.{BadInput, Done, NoMemory, NotWritten};
+ghost use Rattle.cli.specs.declared.fault.Status.TheVariants.{BadInput, Done, NoMemory, NotWritten};
 
 use crate::fault::{Fault, Status};
 use bench::Plan;
@@ -33,9 +33,9 @@ pub enum BadWords {
     OutOfRange,
 }
 
-ghost use Rattle.jdoc.specs.Words.{IsHelp, IsJobOf, IsNumber, IsOutOfMemory, IsPlanOf, IsRefusedBy, bench_app, jdoc_app, number_rule};
-ghost use Rattle.jdoc.specs.Words.{queue_rule, run_app};
-ghost use Rattle.jdoc.specs.declared.words.BadWords.TheVariants.{Refused as RefusedBy};
+ghost use Rattle.cli.specs.Words.{IsHelp, IsJobOf, IsNumber, IsOutOfMemory, IsPlanOf, IsRefusedBy, bench_app, jdoc_app, number_rule};
+ghost use Rattle.cli.specs.Words.{queue_rule, run_app};
+ghost use Rattle.cli.specs.declared.words.BadWords.TheVariants.{Refused as RefusedBy};
 
 impl From<Error> for BadWords {
     ghost from_gives = { λ e why. why ≡ RefusedBy e };

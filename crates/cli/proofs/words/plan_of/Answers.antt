@@ -1,6 +1,6 @@
 use Rattle.std.proofs.Common.{rules, ◌≡◌, None}
-use Rattle.jdoc.proofs.FoundNumbers.{short_numbers}
-use Rattle.jdoc.proofs.words.plan_of.Goals as goal
+use Rattle.cli.proofs.FoundNumbers.{short_numbers}
+use Rattle.cli.proofs.words.plan_of.Goals as goal
 
 pub returns-in_err-number_of-clause-none : goal.returns-in_err-number_of-clause-none
 returns-in_err-number_of-clause-none c = λ e plan is.

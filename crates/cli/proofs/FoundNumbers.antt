@@ -9,7 +9,7 @@ use Rattle.clap.specs.declared.parser.matches.Found.{Found}
 use Rattle.clap.proofs.WalkLemmas.{one_text-rows}
 use Rattle.bench.specs.Plans.{is_within}
 use Rattle.bench.specs.declared.plan.Plan.{Plan}
-use Rattle.jdoc.specs.Words.{IsNumber}
+use Rattle.cli.specs.Words.{IsNumber}
 
 module _ {E : Type 0} (gives : List ℕ → Result ℕ E → Type 0)
     (parses : (t : List ℕ) (x : Result ℕ E) → gives t x → ParsesUnsigned 32 10 t x) where

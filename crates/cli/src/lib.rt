@@ -1,0 +1,12 @@
+//! The command line of `jdoc`: its words, what a run reads and writes, its faults, and the statuses that it ends with.
+#![tactic(auto)]
+
+mod fault;
+mod playing;
+mod run;
+mod words;
+
+pub use fault::{Fault, Status};
+pub use playing::bench;
+pub use run::run_script;
+pub use words::{BadWords, Job, read_words};
