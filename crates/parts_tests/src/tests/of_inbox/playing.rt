@@ -111,6 +111,22 @@ fn beside(pair: Pair, writes: Option<Writes>) -> Option<(Pair, Writes)> {
     Some((pair, writes?))
 }
 
+/// Takes the operation with this id, and asserts what it writes.
+fn takes(rt: &impl Abort, inbox: &mut Inbox, pair: Pair, want: Option<Writes>) -> Result<(), Fail>
+    ensures { (table : List ℕ) → AreAsWide table inbox.old → AreAsWide table inbox.new }
+{
+    let id = id_of(pair)?;
+    assert_eq!(rt; take(inbox, id), beside(pair, want));
+    Ok(())
+}
+
+/// Asserts whether one with this id waits.
+fn has(rt: &impl Abort, inbox: &Inbox, pair: Pair, want: bool) -> Result<(), Fail> {
+    let id = id_of(pair)?;
+    assert_eq!(rt; inbox.contains(id), want, "{id:?}");
+    Ok(())
+}
+
 /// Plays a turn.
 fn take_turn(
     rt: &impl Abort,
@@ -128,14 +144,8 @@ fn take_turn(
             answers(rt, inbox, op, document, want)?;
         }
         Turn::Smallest(want) => assert_eq!(rt; smallest(inbox, document), want),
-        Turn::Take(pair, want) => {
-            let id = id_of(pair)?;
-            assert_eq!(rt; take(inbox, id), beside(pair, want));
-        }
-        Turn::Has(pair, want) => {
-            let id = id_of(pair)?;
-            assert_eq!(rt; inbox.contains(id), want, "{id:?}");
-        }
+        Turn::Take(pair, want) => takes(rt, inbox, pair, want)?,
+        Turn::Has(pair, want) => has(rt, inbox, pair, want)?,
         Turn::Room(ready, want) => assert_eq!(rt; inbox.has_room(ready), want),
         Turn::Len(want) => assert_eq!(rt; inbox.len(), want),
     }
