@@ -50,17 +50,22 @@ def faults_of(name):
             yield "no such definition"
 
 
+def files_of(crate):
+    """The files of a crate and of its tests, where these are a crate of their own or stand in `parts_tests`."""
+    parts = f"parts_tests/src/tests/of_{crate}"
+    patterns = [f"{crate}/src/**/*.rt", f"{crate}_tests/src/**/*.rt", f"{parts}.rt", f"{parts}/**/*.rt"]
+    return [it for pattern in patterns for it in sorted((TOP / "crates").glob(pattern))]
+
+
 def missing_tests(text):
     """Yields what a text names with a crate, where the crate and its tests have no such test, file, function or edit."""
     for names, crates in re.findall(r"((?:`\w+`(?:, )?)+) \(((?:`\w+`(?:, )?)+)\)", text):
         for crate in re.findall(r"`(\w+)`", crates):
-            folders = [it for it in (TOP / "crates" / crate, TOP / "crates" / f"{crate}_tests") if it.is_dir()]
-            tests = "\n".join(text_of(f"{it.relative_to(TOP)}/src/**/*.rt") for it in folders)
+            files = files_of(crate)
+            tests = "\n".join(it.read_text(encoding="utf-8") for it in files)
+            stems = {it.stem for it in [*files, *(TOP / "crates" / crate / "must-fail").glob("*.edit")]}
             for name in re.findall(r"`(\w+)`", names):
-                is_there = has_function(tests, name) or any(
-                    (it / "must-fail" / f"{name}.edit").is_file() or list(it.glob(f"src/**/{name}.rt")) for it in folders
-                )
-                if not is_there:
+                if name not in stems and not has_function(tests, name):
                     yield f"{name} ({crate})", "no such test or edit"
 
 

@@ -5,8 +5,6 @@ mod expression;
 mod hop;
 mod place;
 mod tag;
-#[cfg(test)]
-mod tests;
 
 pub use expression::{Expr, Step};
 pub use hop::{Hop, Last};

@@ -2,7 +2,5 @@
 #![tactic(auto)]
 
 mod inbox;
-#[cfg(test)]
-mod tests;
 
 pub use inbox::Inbox;

@@ -5,8 +5,6 @@ mod block;
 mod compare;
 mod mask;
 mod maxima;
-#[cfg(test)]
-mod tests;
 
 pub use compare::{all_eq, all_le};
 pub use mask::{count_over, is_set, mask_over, masks_keep_counts};

@@ -6,8 +6,6 @@ mod command;
 mod misplaced;
 mod op;
 mod shared;
-#[cfg(test)]
-mod tests;
 
 pub use alone::{check_alone, names_members};
 pub use command::{Command, Delivered, Entry};

@@ -2,7 +2,5 @@
 #![tactic(auto)]
 
 mod log;
-#[cfg(test)]
-mod tests;
 
 pub use log::{Log, positions_name_what_is_missing, what_may_follow_is_new};

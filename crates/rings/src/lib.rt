@@ -3,7 +3,5 @@
 
 mod rings;
 mod starts;
-#[cfg(test)]
-mod tests;
 
 pub use rings::Rings;

@@ -1,0 +1,263 @@
+//! The tests of `cursor`: places, and expressions that lead to them.
+
+use cursor::{Expr, Hop, Last, Place, Step, Tag};
+use fixtures::{field, id_of};
+use ids::Refusal;
+use std::alloc::Global;
+use std::process::Abort;
+use std::test::Fail;
+use value::{Key, Scalar, Val};
+
+/// This many fields of one key, one below the other.
+fn fields(alloc: Global, count: usize) -> Result<Place, Fail> {
+    let mut place = Place::doc(alloc);
+    for _ in 0..count {
+        place = place.get(alloc, Key::new(alloc, "k")?)?;
+    }
+    Ok(place)
+}
+
+/// The depth of a place.
+fn depth_of(place: Result<Place, Refusal>) -> Result<usize, Refusal> {
+    let place = place?;
+    Ok(place.depth())
+}
+
+/// The depths of the field, the head and the item of a place.
+fn depths_below(alloc: Global, place: &Place) -> Result<[Result<usize, Refusal>; 3], Fail> {
+    let key = Key::new(alloc, "")?;
+    let item = id_of((7, 2))?;
+    let field = depth_of(place.get(alloc, key));
+    let head = depth_of(place.head(alloc));
+    Ok([field, head, depth_of(place.item(alloc, item))])
+}
+
+/// Asserts the depth of the place, and of each one below it.
+fn assert_depths(
+    rt: &impl Abort,
+    alloc: Global,
+    place: &Place,
+    depth: usize,
+    want: Result<usize, Refusal>,
+) -> Result<(), Fail> {
+    assert_eq!(rt; place.depth(), depth);
+    let deeper = depths_below(alloc, place)?;
+    assert_eq!(rt; deeper, [want, want, want], "below {depth}");
+    Ok(())
+}
+
+#[test]
+fn paths_have_at_most_32_keys(rt: HostRuntime) -> Result<(), Fail> {
+    for (depth, want) in [
+        (0, Ok(1)),
+        (1, Ok(2)),
+        (31, Ok(32)),
+        (32, Err(Refusal::TooDeep)),
+    ] {
+        let place = fields(rt.alloc(), depth)?;
+        assert_depths(&rt, rt.alloc(), &place, depth, want)?;
+    }
+    Ok(())
+}
+
+/// The head below this many fields.
+fn head_below(alloc: Global, count: usize) -> Result<Place, Fail> {
+    let place = fields(alloc, count)?;
+    Ok(place.head(alloc)?)
+}
+
+#[test]
+fn nothing_stands_below_a_head(rt: HostRuntime) -> Result<(), Fail> {
+    for (count, depth) in [(0, 1), (1, 2), (31, 32)] {
+        let head = head_below(rt.alloc(), count)?;
+        assert_depths(&rt, rt.alloc(), &head, depth, Err(Refusal::AtHead))?;
+    }
+    Ok(())
+}
+
+/// This many hops to a field.
+fn hops(alloc: Global, count: usize) -> Result<Vec<Hop>, Refusal> {
+    let mut hops = Vec::new(alloc);
+    for _ in 0..count {
+        let key = Key::new(alloc, "k")?;
+        hops.push(Hop::Field(key))?;
+    }
+    Ok(hops)
+}
+
+/// The depth of the place of this many hops.
+fn depth_made(alloc: Global, count: usize, is_head: bool) -> Result<usize, Refusal> {
+    let hops = hops(alloc, count)?;
+    depth_of(Place::new(hops, is_head))
+}
+
+#[test]
+fn places_are_made_of_hops(rt: HostRuntime) {
+    for (count, is_head, want) in [
+        (0, false, Ok(0)),
+        (0, true, Ok(1)),
+        (31, true, Ok(32)),
+        (32, false, Ok(32)),
+        (32, true, Err(Refusal::TooDeep)),
+        (33, false, Err(Refusal::TooDeep)),
+    ] {
+        let depth = depth_made(rt.alloc(), count, is_head);
+        assert_eq!(rt; depth, want, "{count} hops");
+    }
+}
+
+/// A place.
+#[derive(Clone, Copy)]
+enum At {
+    Doc,
+    Head,
+    /// The field of this key.
+    Field(&'static str),
+    /// The item of this counter and replica.
+    Item(u64, u32),
+    /// This many fields of one key, one below the other.
+    Fields(usize),
+}
+
+/// The item of this counter and replica.
+fn item(alloc: Global, counter: u64, replica: u32) -> Result<Place, Fail> {
+    let id = id_of((counter, replica))?;
+    Ok(Place::doc(alloc).item(alloc, id)?)
+}
+
+/// The place of a row.
+fn place_at(alloc: Global, at: At) -> Result<Place, Fail> {
+    match at {
+        At::Doc => Ok(Place::doc(alloc)),
+        At::Head => head_below(alloc, 0),
+        At::Field(key) => Ok(field(alloc, key)?),
+        At::Item(counter, replica) => item(alloc, counter, replica),
+        At::Fields(count) => fields(alloc, count),
+    }
+}
+
+/// Whether two places are equal, the first one as a copy.
+fn are_equal(alloc: Global, at: At, other: At) -> Result<bool, Fail> {
+    let place = place_at(alloc, at)?;
+    let other = place_at(alloc, other)?;
+    Ok(place.clone()? == other)
+}
+
+#[test]
+fn places_are_told_apart(rt: HostRuntime) -> Result<(), Fail> {
+    const PLACES: &[At] = &[
+        At::Doc,
+        At::Head,
+        At::Field("a"),
+        At::Field("b"),
+        At::Item(7, 2),
+        At::Item(7, 3),
+        At::Item(8, 2),
+        At::Fields(2),
+    ];
+    for (i, at) in PLACES.iter().enumerate() {
+        for (j, other) in PLACES.iter().enumerate() {
+            assert_eq!(rt; are_equal(rt.alloc(), *at, *other)?, i == j, "{i} and {j}");
+        }
+    }
+    Ok(())
+}
+
+#[test]
+fn the_document_ends_in_no_key(rt: HostRuntime) {
+    let doc = Place::doc(rt.alloc());
+    assert_eq!(rt; doc.last(), Last::Doc);
+    assert_eq!(rt; doc.is_head(), false);
+}
+
+#[test]
+fn fields_end_in_keys(rt: HostRuntime) -> Result<(), Fail> {
+    let key = Key::new(rt.alloc(), "k")?;
+    let field = field(rt.alloc(), "k")?;
+    assert_eq!(rt; field.last(), Last::Key(&key));
+    assert_eq!(rt; field.is_head(), false);
+    Ok(())
+}
+
+/// The item 7@2 of the list at the key `k`.
+fn item_of_list(alloc: Global) -> Result<Place, Fail> {
+    let list = field(alloc, "k")?;
+    let id = id_of((7, 2))?;
+    Ok(list.item(alloc, id)?)
+}
+
+#[test]
+fn items_end_in_ids(rt: HostRuntime) -> Result<(), Fail> {
+    let id = id_of((7, 2))?;
+    let item = item_of_list(rt.alloc())?;
+    assert_eq!(rt; item.last(), Last::Elem(id));
+    assert_eq!(rt; item.is_head(), false);
+    Ok(())
+}
+
+/// Asserts that the place leads over the key `k` to the item 7@2.
+fn assert_hops(rt: &impl Abort, place: &Place) -> Result<(), Fail> {
+    let [Hop::Field(first), Hop::Item(second)] = place.hops() else {
+        return Err(Fail::from("other hops"));
+    };
+    assert_eq!(rt; first.as_str(), "k");
+    assert_eq!(rt; *second, id_of((7, 2))?);
+    Ok(())
+}
+
+/// The head of the list at that item.
+fn head_of_item(alloc: Global) -> Result<Place, Fail> {
+    let item = item_of_list(alloc)?;
+    Ok(item.head(alloc)?)
+}
+
+#[test]
+fn heads_end_as_heads(rt: HostRuntime) -> Result<(), Fail> {
+    let head = head_of_item(rt.alloc())?;
+    assert_eq!(rt; head.last(), Last::Head);
+    assert_eq!(rt; head.is_head(), true);
+    assert_hops(&rt, &head)
+}
+
+#[test]
+fn values_have_tags(rt: HostRuntime) {
+    assert_eq!(rt; Tag::of(&Val::EmptyMap), Tag::Map);
+    assert_eq!(rt; Tag::of(&Val::EmptyList), Tag::List);
+    assert_eq!(rt; Tag::of(&Val::Scalar(Scalar::Null)), Tag::Reg);
+    assert_eq!(rt; Tag::of(&Val::Scalar(Scalar::Whole(0))), Tag::Reg);
+}
+
+/// The key `tête`, and the last number.
+fn steps(alloc: Global) -> Result<Vec<Step>, Fail> {
+    let key = Key::new(alloc, "tête")?;
+    let mut steps = Vec::new(alloc);
+    steps.push(Step::Get(key))?;
+    steps.push(Step::Idx(u64::MAX))?;
+    Ok(steps)
+}
+
+/// Asserts that the expression has just those steps.
+fn assert_steps(rt: &impl Abort, expression: &Expr) -> Result<(), Fail> {
+    let [Step::Get(key), Step::Idx(index)] = expression.steps() else {
+        return Err(Fail::from("other steps"));
+    };
+    assert_eq!(rt; key.as_str(), "tête");
+    assert_eq!(rt; *index, u64::MAX);
+    Ok(())
+}
+
+#[test]
+fn expressions_keep_their_steps(rt: HostRuntime) -> Result<(), Fail> {
+    let expression = Expr::new(steps(rt.alloc())?);
+    assert_steps(&rt, &expression)?;
+    let copy = expression.clone()?;
+    assert_steps(&rt, &copy)
+}
+
+#[test]
+fn expressions_are_made_step_by_step(rt: HostRuntime) -> Result<(), Fail> {
+    let alloc = rt.alloc();
+    assert_eq!(rt; Expr::root(alloc).steps().len(), 0);
+    let expression = Expr::root(alloc).get(alloc, "tête")?.idx(u64::MAX)?;
+    assert_steps(&rt, &expression)
+}

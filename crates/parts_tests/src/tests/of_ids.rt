@@ -1,0 +1,6 @@
+//! The tests of `ids`.
+
+mod config;
+mod id;
+mod refusal;
+mod table;

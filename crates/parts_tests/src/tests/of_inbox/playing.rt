@@ -1,0 +1,223 @@
+//! What is done with an inbox in a test, as a table of turns, and what plays it.
+
+ghost use Rattle.std.specs.Prelude.{◌<◌, ℕ, List};
+ghost use Rattle.inbox.specs.Inboxes.{AreAsWide};
+
+use super::*;
+use cursor::Place;
+use document::Document;
+use fixtures::{Pair, id_of, pair_of};
+use ids::OpId;
+use inbox::Inbox;
+use operation::{Mutation, Op, Shared};
+use std::alloc::Global;
+use std::process::Abort;
+use value::Val;
+
+/// What an operation writes at the root.
+#[derive(Clone, Copy, Debug, PartialEq, Eq)]
+pub enum Writes {
+    Map,
+    Delete,
+}
+
+/// One turn: something that is done with an inbox, and its answer.
+#[derive(Clone, Copy)]
+pub enum Turn {
+    /// Puts an operation at the root, with these counters of the replicas 1, 2 and 3 in its vector.
+    Put(Pair, [u64; 3], Writes, Result<Delivered, Refusal>),
+    /// The smallest ready one.
+    Smallest(Option<Pair>),
+    /// What the operation with this id writes, which is taken.
+    Take(Pair, Option<Writes>),
+    /// Whether one with this id waits.
+    Has(Pair, bool),
+    /// Whether there is room for one more, which is ready or not.
+    Room(bool, bool),
+    Len(usize),
+}
+
+/// An operation at the root.
+fn op(
+    alloc: Global,
+    pair: Pair,
+    counters: [u64; 3],
+    writes: Writes,
+) -> Result<Shared<Op>, Refusal> {
+    let mutation = match writes {
+        Writes::Map => Mutation::Assign(Val::EmptyMap),
+        Writes::Delete => Mutation::Delete,
+    };
+    fixtures::op(alloc, pair, &counters, Place::doc(alloc), mutation)
+}
+
+/// Puts an operation, whose vector is as wide as the table.
+fn put(
+    inbox: &mut Inbox,
+    op: Shared<Op>,
+    document: &Document,
+) -> Result<Result<Delivered, Refusal>, Fail>
+    requires { AreAsWide document.now.table inbox.old }
+    ensures { AreAsWide document.now.table inbox.new }
+{
+    if op.deps.width() != document.table().len() {
+        return Err("another width".into());
+    }
+    Ok(inbox.put(op, document))
+}
+
+/// Puts an operation, and asserts the answer.
+fn answers(
+    rt: &impl Abort,
+    inbox: &mut Inbox,
+    op: Shared<Op>,
+    document: &Document,
+    want: Result<Delivered, Refusal>,
+) -> Result<(), Fail>
+    requires { AreAsWide document.now.table inbox.old }
+    ensures { AreAsWide document.now.table inbox.new }
+{
+    let id = op.id;
+    let answer = put(inbox, op, document)?;
+    assert_eq!(rt; answer, want, "to {id:?}");
+    Ok(())
+}
+
+/// The id of the smallest ready one.
+fn smallest(inbox: &Inbox, document: &Document) -> Option<Pair>
+    requires { AreAsWide document.now.table inbox.now }
+{
+    let op = inbox.smallest_ready(document)?;
+    Some(pair_of(op.id))
+}
+
+fn written(op: &Op) -> (Pair, Writes) {
+    let writes = match &op.mutation {
+        Mutation::Delete => Writes::Delete,
+        _ => Writes::Map,
+    };
+    (pair_of(op.id), writes)
+}
+
+/// Takes the operation with this id, and returns its id and what it writes.
+fn take(inbox: &mut Inbox, id: OpId) -> Option<(Pair, Writes)>
+    ensures { (table : List ℕ) → AreAsWide table inbox.old → AreAsWide table inbox.new }
+{
+    let taken = inbox.take(id)?;
+    Some(written(&taken))
+}
+
+fn beside(pair: Pair, writes: Option<Writes>) -> Option<(Pair, Writes)> {
+    Some((pair, writes?))
+}
+
+/// Takes the operation with this id, and asserts what it writes.
+fn takes(rt: &impl Abort, inbox: &mut Inbox, pair: Pair, want: Option<Writes>) -> Result<(), Fail>
+    ensures { (table : List ℕ) → AreAsWide table inbox.old → AreAsWide table inbox.new }
+{
+    let id = id_of(pair)?;
+    assert_eq!(rt; take(inbox, id), beside(pair, want));
+    Ok(())
+}
+
+/// Asserts whether one with this id waits.
+fn has(rt: &impl Abort, inbox: &Inbox, pair: Pair, want: bool) -> Result<(), Fail> {
+    let id = id_of(pair)?;
+    assert_eq!(rt; inbox.contains(id), want, "{id:?}");
+    Ok(())
+}
+
+/// Plays a turn.
+fn take_turn(
+    rt: &impl Abort,
+    alloc: Global,
+    inbox: &mut Inbox,
+    document: &Document,
+    turn: Turn,
+) -> Result<(), Fail>
+    requires { AreAsWide document.now.table inbox.old }
+    ensures { AreAsWide document.now.table inbox.new }
+{
+    match turn {
+        Turn::Put(pair, counters, writes, want) => {
+            let op = op(alloc, pair, counters, writes)?;
+            answers(rt, inbox, op, document, want)?;
+        }
+        Turn::Smallest(want) => assert_eq!(rt; smallest(inbox, document), want),
+        Turn::Take(pair, want) => takes(rt, inbox, pair, want)?,
+        Turn::Has(pair, want) => has(rt, inbox, pair, want)?,
+        Turn::Room(ready, want) => assert_eq!(rt; inbox.has_room(ready), want),
+        Turn::Len(want) => assert_eq!(rt; inbox.len(), want),
+    }
+    Ok(())
+}
+
+/// Plays these turns in order.
+fn play(
+    rt: &impl Abort,
+    alloc: Global,
+    inbox: &mut Inbox,
+    document: &Document,
+    turns: &[Turn],
+) -> Result<(), Fail>
+    requires { AreAsWide document.now.table inbox.old }
+    ensures { AreAsWide document.now.table inbox.new }
+{
+    for next in turns {
+        take_turn(rt, alloc, inbox, document, *next)?;
+    }
+    Ok(())
+}
+
+/// Puts this many operations of replica 2, from its second on. Each waits for the one of replica 3 whose counter is one less.
+fn fill(
+    rt: &impl Abort,
+    alloc: Global,
+    inbox: &mut Inbox,
+    document: &Document,
+    stuck: u64,
+) -> Result<(), Fail>
+    requires few { stuck < 10000 }
+    requires alone { AreAsWide document.now.table inbox.old }
+    ensures { AreAsWide document.now.table inbox.new }
+{
+    for index in 0..stuck {
+        let op = op(alloc, (index + 2, 2), [0, 0, index + 1], Writes::Map)?;
+        answers(rt, inbox, op, document, KEPT)?;
+    }
+    Ok(())
+}
+
+/// Plays these turns and then those, once this many operations wait of which none is ready.
+fn fill_and_play(
+    rt: &impl Abort,
+    alloc: Global,
+    inbox: &mut Inbox,
+    document: &Document,
+    stuck: u64,
+    first: &[Turn],
+    second: &[Turn],
+) -> Result<(), Fail>
+    requires few { stuck < 10000 }
+    requires alone { AreAsWide document.now.table inbox.old }
+{
+    fill(rt, alloc, inbox, document, stuck)?;
+    play(rt, alloc, inbox, document, first)?;
+    play(rt, alloc, inbox, document, second)
+}
+
+/// Plays these turns and then those on a new inbox of replica 1 among 1, 2 and 3, once this many operations wait there of which
+/// none is ready.
+pub fn on_new(
+    rt: &impl Abort,
+    alloc: Global,
+    stuck: u64,
+    first: &[Turn],
+    second: &[Turn],
+) -> Result<(), Fail>
+    requires { stuck < 10000 }
+{
+    let document = Document::new(alloc, &[1, 2, 3])?;
+    let mut inbox = Inbox::new(alloc);
+    fill_and_play(rt, alloc, &mut inbox, &document, stuck, first, second)
+}

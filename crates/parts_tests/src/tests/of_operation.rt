@@ -1,0 +1,369 @@
+//! The tests of `operation`: commands, operations and entries, and the faults of an operation alone.
+
+use At::{Field, HeadOfField, ItemOfField, Root};
+use Does::{Assign, Delete, Insert};
+use cursor::{Expr, Place, Step};
+use fixtures::{Pair, id_of, vector};
+use ids::{Refusal, ReplicaTable};
+use operation::{Command, Entry, Mutation, Op, Shared, check_alone};
+use std::alloc::Global;
+use std::process::Abort;
+use std::test::Fail;
+use value::{Key, Scalar, Text, Val};
+
+/// Where an operation of a test stands. A field is the root's with the key `a`; an item has this counter and replica.
+#[derive(Clone, Copy)]
+enum At {
+    Root,
+    Field,
+    HeadOfField,
+    ItemOfField(u64, u32),
+}
+
+/// What an operation of a test does there: it assigns a map, inserts null, or deletes.
+#[derive(Clone, Copy)]
+enum Does {
+    Assign,
+    Insert,
+    Delete,
+}
+
+/// The field of the root with the key `a`.
+fn field(alloc: Global) -> Result<Place, Refusal> {
+    fixtures::field(alloc, "a")
+}
+
+/// The item with this id of the list at that field.
+fn item(alloc: Global, pair: Pair) -> Result<Place, Refusal> {
+    let id = id_of(pair)?;
+    let field = field(alloc)?;
+    field.item(alloc, id)
+}
+
+/// The head of that list.
+fn head(alloc: Global) -> Result<Place, Refusal> {
+    let field = field(alloc)?;
+    field.head(alloc)
+}
+
+fn place(alloc: Global, at: At) -> Result<Place, Refusal> {
+    match at {
+        Root => Ok(Place::doc(alloc)),
+        Field => field(alloc),
+        HeadOfField => head(alloc),
+        ItemOfField(counter, replica) => item(alloc, (counter, replica)),
+    }
+}
+
+fn mutation(does: Does) -> Mutation {
+    match does {
+        Assign => Mutation::Assign(Val::EmptyMap),
+        Insert => Mutation::Insert(Val::Scalar(Scalar::Null)),
+        Delete => Mutation::Delete,
+    }
+}
+
+fn op(alloc: Global, pair: Pair, counters: &[u64], at: At, does: Does) -> Result<Op, Refusal> {
+    let id = id_of(pair)?;
+    let deps = vector(alloc, counters)?;
+    let place = place(alloc, at)?;
+    Ok(Op {
+        id,
+        deps,
+        place,
+        mutation: mutation(does),
+    })
+}
+
+/// An operation's id, the counters of its vector, where it stands, what it does, and what `check_alone` answers.
+type Row<'a> = (Pair, &'a [u64], At, Does, Result<(), Refusal>);
+
+/// The greatest counter that an operation may have.
+const LAST: u64 = 4_611_686_018_427_387_904;
+
+/// Operations whose counters don't follow their vectors.
+const COUNTERS: &[Row] = &[
+    ((1, 1), &[0, 0, 0], Field, Delete, Ok(())),
+    ((1, 1), &[0, 0, 0], Root, Assign, Ok(())),
+    ((8, 2), &[7, 0, 0], Field, Delete, Ok(())),
+    ((9, 2), &[7, 0, 0], Field, Delete, Err(Refusal::BadCounter)),
+    ((7, 2), &[7, 0, 0], Field, Delete, Err(Refusal::BadCounter)),
+    ((0, 2), &[0, 0, 0], Field, Delete, Err(Refusal::BadCounter)),
+    ((6, 3), &[5, 4, 0], Field, Delete, Ok(())),
+    ((LAST, 3), &[0, 0, LAST - 1], Field, Delete, Ok(())),
+    (
+        (LAST + 1, 3),
+        &[0, 0, LAST],
+        Field,
+        Delete,
+        Err(Refusal::BadCounter),
+    ),
+];
+
+/// Operations of a replica that isn't a member, or with a vector of other members.
+const MEMBERS: &[Row] = &[
+    (
+        (1, 4),
+        &[0, 0, 0],
+        Field,
+        Delete,
+        Err(Refusal::UnknownReplica),
+    ),
+    ((1, 1), &[0, 0], Field, Delete, Err(Refusal::UnknownReplica)),
+    (
+        (1, 1),
+        &[0, 0, 0, 0],
+        Field,
+        Delete,
+        Err(Refusal::UnknownReplica),
+    ),
+    (
+        (2, 1),
+        &[0, 0, 1],
+        ItemOfField(1, 9),
+        Assign,
+        Err(Refusal::UnknownReplica),
+    ),
+    (
+        (9, 4),
+        &[7, 0, 0],
+        Field,
+        Insert,
+        Err(Refusal::UnknownReplica),
+    ),
+];
+
+/// Operations at places where they may not stand.
+const PLACES: &[Row] = &[
+    ((9, 2), &[7, 0, 0], Field, Insert, Err(Refusal::BadCounter)),
+    ((1, 2), &[0, 0, 0], Field, Insert, Err(Refusal::NotInList)),
+    ((1, 2), &[0, 0, 0], Root, Insert, Err(Refusal::NotInList)),
+    ((1, 2), &[0, 0, 0], HeadOfField, Insert, Ok(())),
+    (
+        (1, 2),
+        &[0, 0, 0],
+        HeadOfField,
+        Assign,
+        Err(Refusal::BadPlace),
+    ),
+    (
+        (1, 2),
+        &[0, 0, 0],
+        HeadOfField,
+        Delete,
+        Err(Refusal::BadPlace),
+    ),
+    (
+        (9, 2),
+        &[7, 0, 0],
+        HeadOfField,
+        Delete,
+        Err(Refusal::BadCounter),
+    ),
+    ((6, 2), &[5, 0, 0], ItemOfField(5, 1), Insert, Ok(())),
+    ((6, 2), &[5, 0, 0], ItemOfField(5, 1), Assign, Ok(())),
+    ((6, 2), &[5, 0, 0], ItemOfField(4, 1), Delete, Ok(())),
+    (
+        (2, 2),
+        &[1, 0, 0],
+        ItemOfField(5, 1),
+        Delete,
+        Err(Refusal::BadPlace),
+    ),
+    (
+        (2, 2),
+        &[1, 0, 0],
+        ItemOfField(1, 3),
+        Insert,
+        Err(Refusal::BadPlace),
+    ),
+    ((3, 2), &[1, 2, 0], ItemOfField(2, 2), Insert, Ok(())),
+];
+
+/// Asserts what `check_alone` answers.
+fn is_answered(rt: &impl Abort, table: &ReplicaTable, op: &Op, want: Result<(), Refusal>) {
+    assert_eq!(rt; check_alone(op, table), want, "{op:?}");
+}
+
+/// Asserts what `check_alone` answers about the operation of a row and about its copy.
+fn both_are_answered(
+    rt: &impl Abort,
+    alloc: Global,
+    table: &ReplicaTable,
+    row: &Row,
+) -> Result<(), Refusal> {
+    let (pair, counters, at, does, want) = *row;
+    let op = op(alloc, pair, counters, at, does)?;
+    is_answered(rt, table, &op, want);
+    let copy = op.clone()?;
+    is_answered(rt, table, &copy, want);
+    Ok(())
+}
+
+/// Asserts the answers of these rows, for the table 1, 2, 3.
+fn are_answered(rt: &impl Abort, alloc: Global, rows: &[Row]) -> Result<(), Fail> {
+    let table = ReplicaTable::new(alloc, &[1, 2, 3])?;
+    for row in rows {
+        both_are_answered(rt, alloc, &table, row)?;
+    }
+    Ok(())
+}
+
+#[test]
+fn counters_follow_vectors(rt: HostRuntime) -> Result<(), Fail> {
+    are_answered(&rt, rt.alloc(), COUNTERS)
+}
+
+#[test]
+fn members_alone_are_named(rt: HostRuntime) -> Result<(), Fail> {
+    are_answered(&rt, rt.alloc(), MEMBERS)
+}
+
+#[test]
+fn places_are_for_what_is_done(rt: HostRuntime) -> Result<(), Fail> {
+    are_answered(&rt, rt.alloc(), PLACES)
+}
+
+/// The second item of the list at the key `shopping`.
+fn second_item(alloc: Global) -> Result<Expr, Refusal> {
+    let key = Key::new(alloc, "shopping")?;
+    let steps = vec![in alloc; Step::Get(key), Step::Idx(2)]?;
+    Ok(Expr::new(steps))
+}
+
+/// The text milk.
+fn milk(alloc: Global) -> Result<Val, Refusal> {
+    Ok(Val::Scalar(Scalar::Text(Text::new(alloc, "milk")?)))
+}
+
+/// A command at the second item, with the text milk where it writes.
+fn command(alloc: Global, does: Does) -> Result<Command, Refusal> {
+    let at = second_item(alloc)?;
+    match does {
+        Assign => Ok(Command::Assign(at, milk(alloc)?)),
+        Insert => Ok(Command::InsertAfter(at, milk(alloc)?)),
+        Delete => Ok(Command::Delete(at)),
+    }
+}
+
+/// The mutation that such a command asks for.
+fn asked(alloc: Global, does: Does) -> Result<Mutation, Refusal> {
+    match does {
+        Assign => Ok(Mutation::Assign(milk(alloc)?)),
+        Insert => Ok(Mutation::Insert(milk(alloc)?)),
+        Delete => Ok(Mutation::Delete),
+    }
+}
+
+/// Asserts that the command is at the second item.
+fn is_at_second(rt: &impl Abort, alloc: Global, command: &Command) -> Result<(), Refusal> {
+    let at = second_item(alloc)?;
+    assert_eq!(rt; command.expression().steps(), at.steps(), "{command:?}");
+    Ok(())
+}
+
+/// Asserts that the command asks for this mutation, at the second item.
+fn has_parts(rt: &impl Abort, alloc: Global, command: &Command, does: Does) -> Result<(), Refusal> {
+    let want = asked(alloc, does)?;
+    let mutation = command.mutation()?;
+    assert_eq!(rt; mutation, want, "{command:?}");
+    is_at_second(rt, alloc, command)
+}
+
+/// Asserts that a copy of the command asks for this mutation, at the second item.
+fn copy_has_parts(
+    rt: &impl Abort,
+    alloc: Global,
+    command: &Command,
+    does: Does,
+) -> Result<(), Refusal> {
+    let copy = command.clone()?;
+    has_parts(rt, alloc, &copy, does)
+}
+
+/// Asserts that such a command and its copy have their parts.
+fn keeps_parts(rt: &impl Abort, alloc: Global, does: Does) -> Result<(), Refusal> {
+    let command = command(alloc, does)?;
+    has_parts(rt, alloc, &command, does)?;
+    copy_has_parts(rt, alloc, &command, does)
+}
+
+#[test]
+fn commands_keep_their_parts(rt: HostRuntime) -> Result<(), Fail> {
+    for does in [Assign, Insert, Delete] {
+        keeps_parts(&rt, rt.alloc(), does)?;
+    }
+    Ok(())
+}
+
+/// Asserts that such a mutation equals its copy.
+fn is_as_copy(rt: &impl Abort, alloc: Global, does: Does) -> Result<(), Refusal> {
+    let mutation = asked(alloc, does)?;
+    let copy = mutation.clone()?;
+    assert_eq!(rt; copy, mutation);
+    Ok(())
+}
+
+#[test]
+fn mutations_are_as_their_copies(rt: HostRuntime) -> Result<(), Fail> {
+    for does in [Assign, Insert, Delete] {
+        is_as_copy(&rt, rt.alloc(), does)?;
+    }
+    Ok(())
+}
+
+/// Whether the mutation of a row is an insert.
+fn is_insert(does: Does) -> bool {
+    let mutation = mutation(does);
+    mutation.is_insert()
+}
+
+#[test]
+fn only_inserts_are_inserts(rt: HostRuntime) {
+    let found = [is_insert(Assign), is_insert(Insert), is_insert(Delete)];
+    assert_eq!(rt; found, [false, true, false]);
+}
+
+/// The operation 1@1, which assigns at the root.
+fn first_op(alloc: Global) -> Result<Op, Refusal> {
+    op(alloc, (1, 1), &[0], Root, Assign)
+}
+
+/// Whether two operations have the same id, place and mutation.
+fn are_same(op: &Op, other: &Op) -> bool {
+    op.id == other.id && op.place == other.place && op.mutation == other.mutation
+}
+
+/// Asserts that the entry holds the first operation.
+fn has_first(rt: &impl Abort, alloc: Global, entry: &Entry) -> Result<(), Refusal> {
+    let want = first_op(alloc)?;
+    assert!(rt; are_same(entry.op(), &want), "{entry:?}");
+    Ok(())
+}
+
+/// Asserts that the entry and its copy hold the first operation.
+fn keeps_first(rt: &impl Abort, alloc: Global, entry: &Entry) -> Result<(), Refusal> {
+    has_first(rt, alloc, entry)?;
+    let copy = entry.clone()?;
+    has_first(rt, alloc, &copy)
+}
+
+#[test]
+fn own_entries_keep_their_operations(rt: HostRuntime) -> Result<(), Fail> {
+    let op = first_op(rt.alloc())?;
+    let command = Command::Assign(Expr::root(rt.alloc()), Val::EmptyMap);
+    let own = Entry::Own {
+        client: 0,
+        serial: 1,
+        command: Shared::new(rt.alloc(), command)?,
+        op: Shared::new(rt.alloc(), op)?,
+    };
+    Ok(keeps_first(&rt, rt.alloc(), &own)?)
+}
+
+#[test]
+fn entries_of_peers_keep_their_operations(rt: HostRuntime) -> Result<(), Fail> {
+    let alloc = rt.alloc();
+    let peer = Entry::Peer(Shared::new(alloc, first_op(alloc)?)?);
+    Ok(keeps_first(&rt, alloc, &peer)?)
+}

@@ -1,0 +1,292 @@
+//! The tests of `oplog`: the entries of a log, and the positions of what a vector lacks.
+
+ghost use Rattle.std.specs.Prelude.{◌≡◌, false, IsTrue, length};
+ghost use Rattle.ids.specs.Members.{is_member};
+ghost use Rattle.semantics.specs.LegalHistory.{has_id};
+ghost use Rattle.semantics.specs.Entries.{applied};
+
+use cursor::{Expr, Place};
+use fixtures::{Pair, id_of, pair_of, vector};
+use ids::{OpId, Refusal, ReplicaTable};
+use operation::{Command, Entry, Mutation, Op, Shared};
+use oplog::Log;
+use std::alloc::Global;
+use std::process::Abort;
+use std::test::Fail;
+use value::{Scalar, Val};
+
+/// An assign at the root, for a table of three.
+fn op(alloc: Global, pair: Pair, counters: &[u64; 3]) -> Result<Shared<Op>, Refusal> {
+    let mutation = Mutation::Assign(Val::Scalar(Scalar::Whole(7)));
+    fixtures::op(alloc, pair, counters, Place::doc(alloc), mutation)
+}
+
+/// An own entry of client 0.
+fn own(alloc: Global, serial: u64, pair: Pair, counters: &[u64; 3]) -> Result<Entry, Fail> {
+    let op = op(alloc, pair, counters)?;
+    let root = Expr::root(alloc);
+    let command = Command::Assign(root, Val::Scalar(Scalar::Whole(7)));
+    let command = Shared::new(alloc, command)?;
+    Ok(Entry::Own {
+        client: 0,
+        serial,
+        command,
+        op,
+    })
+}
+
+/// A peer's entry.
+fn peer(alloc: Global, pair: Pair, counters: &[u64; 3]) -> Result<Entry, Fail> {
+    Ok(Entry::Peer(op(alloc, pair, counters)?))
+}
+
+/// A log of the replicas 1, 2 and 3.
+fn new_log(alloc: Global) -> Result<Log, Fail> {
+    let table = ReplicaTable::new(alloc, &[1, 2, 3])?;
+    if table.len() != 3 {
+        return Err("another table".into());
+    }
+    Ok(Log::new(alloc, table)?)
+}
+
+/// Whether an operation with this id was applied.
+fn has(log: &Log, id: OpId) -> bool
+    ensures { result ≡ has_id (applied log.now.entries) id }
+{
+    log.find(id).is_some()
+}
+
+/// Whether the operation is a member's, has a vector as wide as the table, and wasn't applied.
+fn fits(log: &Log, op: &Op) -> bool
+    ensures width { IsTrue result → length op.now.deps ≡ length log.now.table }
+    ensures member { IsTrue result → IsTrue (is_member log.now.table op.now.id.replica) }
+    ensures new { IsTrue result → has_id (applied log.now.entries) op.now.id ≡ false }
+{
+    op.deps.width() == log.table().len()
+        && log.table().index_of(op.id.replica).is_some()
+        && !has(log, op.id)
+}
+
+/// Appends an entry whose operation fits.
+fn append(log: &mut Log, entry: Entry) -> Result<(), Fail> {
+    log.reserve_one()?;
+    if !fits(log, entry.op()) {
+        return Err("an operation that doesn't fit".into());
+    }
+    log.push(entry);
+    Ok(())
+}
+
+/// The positions of what a vector of these counters lacks.
+fn missing(
+    rt: &impl Abort,
+    alloc: Global,
+    log: &Log,
+    counters: &[u64; 3],
+) -> Result<Vec<usize>, Fail> {
+    let vector = vector(alloc, counters)?;
+    assert_eq!(rt; vector.width(), log.table().len());
+    Ok(log.missing(alloc, &vector)?)
+}
+
+/// Replica 1 assigned, both saw it, and then each assigned: 1@1, 2@1 and 2@2, with the table 1, 2, 3.
+fn log(alloc: Global) -> Result<Log, Fail> {
+    let mut log = new_log(alloc)?;
+    append(&mut log, own(alloc, 1, (1, 1), &[0, 0, 0])?)?;
+    append(&mut log, own(alloc, 2, (2, 1), &[1, 0, 0])?)?;
+    append(&mut log, peer(alloc, (2, 2), &[1, 0, 0])?)?;
+    Ok(log)
+}
+
+/// The id at a position.
+fn id_at(log: &Log, position: usize) -> Option<Pair> {
+    Some(pair_of(log.get(position)?.op().id))
+}
+
+/// Asserts the position of an id.
+fn assert_found(rt: &impl Abort, log: &Log, pair: Pair, want: Option<usize>) -> Result<(), Fail> {
+    let id = id_of(pair)?;
+    assert_eq!(rt; log.find(id), want, "of {id}");
+    Ok(())
+}
+
+/// Asserts that just these ids are in the log, in this order.
+fn assert_ids(rt: &impl Abort, log: &Log, want: &[Pair]) -> Result<(), Fail> {
+    assert_eq!(rt; log.len(), want.len());
+    for (position, pair) in want.iter().enumerate() {
+        assert_eq!(rt; id_at(log, position), Some(*pair), "at {position}");
+        assert_found(rt, log, *pair, Some(position))?;
+    }
+    Ok(())
+}
+
+/// Asserts that none of these ids is in the log.
+fn assert_absent(rt: &impl Abort, log: &Log, pairs: &[Pair]) -> Result<(), Fail> {
+    for pair in pairs {
+        assert_found(rt, log, *pair, None)?;
+    }
+    Ok(())
+}
+
+#[test]
+fn entries_stand_in_order(rt: HostRuntime) -> Result<(), Fail> {
+    let log = log(rt.alloc())?;
+    assert_ids(&rt, &log, &[(1, 1), (2, 1), (2, 2)])?;
+    assert_absent(&rt, &log, &[(1, 2), (2, 3), (3, 1), (0, 1), (1, 4)])?;
+    assert!(rt; log.get(3).is_none());
+    assert_eq!(rt; log.table().len(), 3);
+    Ok(())
+}
+
+/// The client and the serial of an own entry, `None` for a peer's.
+fn client_of(entry: &Entry) -> Option<(usize, u64)> {
+    match entry {
+        Entry::Own { client, serial, .. } => Some((*client, *serial)),
+        Entry::Peer(_) => None,
+    }
+}
+
+#[test]
+fn entries_are_handed_out(rt: HostRuntime) -> Result<(), Fail> {
+    let entries = log(rt.alloc())?.into_entries();
+    let want = [Some((0, 1)), Some((0, 2)), None];
+    assert_eq!(rt; entries.len(), want.len());
+    for (entry, client) in entries.iter().zip(&want) {
+        assert_eq!(rt; client_of(entry), *client);
+    }
+    Ok(())
+}
+
+/// Three replicas with rising counters, in an order that isn't that of the ids.
+const INTERLEAVED: &[Pair] = &[
+    (1, 3),
+    (2, 3),
+    (1, 1),
+    (5, 2),
+    (3, 1),
+    (6, 2),
+    (4, 3),
+    (9, 1),
+    (10, 2),
+    (7, 3),
+    (12, 1),
+    (13, 2),
+];
+
+fn interleaved(alloc: Global) -> Result<Log, Fail> {
+    let mut log = new_log(alloc)?;
+    for pair in INTERLEAVED {
+        append(&mut log, peer(alloc, *pair, &[0, 0, 0])?)?;
+    }
+    Ok(log)
+}
+
+/// Ids before, between and after those of a replica, and of replicas that aren't members.
+const NOWHERE: &[Pair] = &[
+    (0, 2),
+    (2, 1),
+    (7, 2),
+    (5, 3),
+    (13, 1),
+    (14, 2),
+    (1, 4),
+    (5, 9),
+];
+
+#[test]
+fn each_replica_has_its_positions(rt: HostRuntime) -> Result<(), Fail> {
+    let log = interleaved(rt.alloc())?;
+    assert_ids(&rt, &log, INTERLEAVED)?;
+    assert_absent(&rt, &log, NOWHERE)
+}
+
+/// The counters of a vector, and the positions of what it lacks.
+type Lacking<'a> = ([u64; 3], &'a [usize]);
+
+/// Asserts what a vector lacks.
+fn assert_missing(rt: &impl Abort, alloc: Global, log: &Log, row: &Lacking) -> Result<(), Fail> {
+    let (counters, want) = *row;
+    let missing = missing(rt, alloc, log, &counters)?;
+    assert_eq!(rt; missing.as_slice(), want, "beyond {counters:?}");
+    Ok(())
+}
+
+/// Asserts what each vector lacks.
+fn assert_all_missing(
+    rt: &impl Abort,
+    alloc: Global,
+    log: &Log,
+    rows: &[Lacking],
+) -> Result<(), Fail> {
+    for row in rows {
+        assert_missing(rt, alloc, log, row)?;
+    }
+    Ok(())
+}
+
+#[test]
+fn what_a_vector_lacks(rt: HostRuntime) -> Result<(), Fail> {
+    const ROWS: &[Lacking] = &[
+        ([0, 0, 0], &[0, 1, 2]),
+        ([2, 2, 0], &[]),
+        ([1, 0, 0], &[1, 2]),
+        ([0, 9, 9], &[0, 1]),
+        ([2, 1, 0], &[2]),
+        ([u64::MAX, 1, 0], &[2]),
+    ];
+    let log = log(rt.alloc())?;
+    assert_all_missing(&rt, rt.alloc(), &log, ROWS)
+}
+
+#[test]
+fn a_vector_lacks_nothing_of_nothing(rt: HostRuntime) -> Result<(), Fail> {
+    let log = new_log(rt.alloc())?;
+    assert_eq!(rt; log.len(), 0);
+    assert_missing(&rt, rt.alloc(), &log, &([0, 0, 0], &[]))
+}
+
+#[test]
+fn what_a_vector_lacks_of_each(rt: HostRuntime) -> Result<(), Fail> {
+    const ROWS: &[Lacking] = &[
+        ([0, 0, 0], &[0, 1, 2, 3, 4, 5, 6, 7, 8, 9, 10, 11]),
+        ([3, 6, 4], &[7, 8, 9, 10, 11]),
+        ([12, 0, 2], &[3, 5, 6, 8, 9, 11]),
+        ([8, 5, 7], &[5, 7, 8, 10, 11]),
+        ([12, 13, 7], &[]),
+    ];
+    let log = interleaved(rt.alloc())?;
+    assert_all_missing(&rt, rt.alloc(), &log, ROWS)
+}
+
+/// A log of this many operations of replica 2.
+fn log_of(alloc: Global, count: u64) -> Result<Log, Fail> {
+    let mut log = new_log(alloc)?;
+    for known in 0..count {
+        append(&mut log, peer(alloc, (known + 1, 2), &[0, known, 0])?)?;
+    }
+    Ok(log)
+}
+
+/// The positions from this one to the last.
+fn positions_from(alloc: Global, first: usize, count: usize) -> Result<Vec<usize>, Fail> {
+    let mut positions = Vec::new(alloc);
+    for position in first..count {
+        positions.push(position)?;
+    }
+    Ok(positions)
+}
+
+/// Asserts what a vector lacks that knows this many of 130.
+fn assert_rest(rt: &impl Abort, alloc: Global, log: &Log, known: u64) -> Result<(), Fail> {
+    let want = positions_from(alloc, known as usize, 130)?;
+    assert_missing(rt, alloc, log, &([0, known, 0], want.as_slice()))
+}
+
+#[test]
+fn what_a_vector_lacks_of_many(rt: HostRuntime) -> Result<(), Fail> {
+    let log = log_of(rt.alloc(), 130)?;
+    for known in [0, 1, 63, 64, 65, 127, 128, 129, 130] {
+        assert_rest(&rt, rt.alloc(), &log, known)?;
+    }
+    Ok(())
+}

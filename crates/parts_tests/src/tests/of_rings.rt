@@ -1,0 +1,171 @@
+//! The tests of `rings`: lists of none to several rings, beside vectors that take the same.
+
+use rings::Rings;
+use std::alloc::Global;
+use std::process::Abort;
+use std::test::Fail;
+
+/// Puts a number at a position of both.
+fn put(
+    numbers: &mut Rings<usize>,
+    beside: &mut Vec<usize>,
+    position: usize,
+    number: usize,
+) -> Result<(), Fail> {
+    numbers.reserve_one()?;
+    if position > numbers.len() || position > beside.len() {
+        return Err("no such position".into());
+    }
+    numbers.insert(position, number);
+    beside.insert(position, number)?;
+    Ok(())
+}
+
+/// How many numbers come, and how far behind the one before it each goes, round the end.
+type Row = (usize, usize);
+
+/// Puts the numbers of a row into both.
+fn fill(numbers: &mut Rings<usize>, beside: &mut Vec<usize>, row: &Row) -> Result<(), Fail> {
+    let (count, step) = *row;
+    let mut position: usize = 0;
+    for number in 0..count {
+        position = position.wrapping_add(step) % (number + 1);
+        put(numbers, beside, position, number)?;
+    }
+    Ok(())
+}
+
+/// Compares the items one by one.
+fn assert_items(rt: &impl Abort, numbers: &Rings<usize>, want: &[usize]) {
+    assert_eq!(rt; numbers.len(), want.len());
+    for (position, number) in want.iter().enumerate() {
+        assert_eq!(rt; *numbers.get(position), *number, "at {position}");
+    }
+}
+
+/// What a row puts stands where the vector has it, also as one slice, and takes one more at its front.
+fn assert_filled(rt: &impl Abort, alloc: Global, row: &Row) -> Result<(), Fail> {
+    let mut numbers = Rings::new(alloc);
+    let mut beside = Vec::new(alloc);
+    fill(&mut numbers, &mut beside, row)?;
+    assert_items(rt, &numbers, &beside);
+    numbers.straighten();
+    assert_eq!(rt; numbers.as_slice(), beside.as_slice());
+    put(&mut numbers, &mut beside, 0, 7)?;
+    assert_items(rt, &numbers, &beside);
+    Ok(())
+}
+
+#[test]
+fn items_go_where_they_are_put(rt: HostRuntime) -> Result<(), Fail> {
+    const ROWS: &[Row] = &[
+        (0, 0),
+        (1, 0),
+        (2047, 0),
+        (2048, 0),
+        (2049, 0),
+        (4096, 0),
+        (4097, 0),
+        (6400, 1),
+        (6400, 2049),
+        (6400, 1_000_003),
+    ];
+    for row in ROWS {
+        assert_filled(&rt, rt.alloc(), row)?;
+    }
+    Ok(())
+}
+
+/// Puts a number that stands in neither yet at a position of both.
+fn put_next(
+    numbers: &mut Rings<usize>,
+    beside: &mut Vec<usize>,
+    position: usize,
+) -> Result<(), Fail> {
+    let number = numbers.len();
+    put(numbers, beside, position, number)
+}
+
+/// Numbers go in at the ends and about the middle of two rings, which begin this many slots before the ends of their memory.
+fn assert_halves(rt: &impl Abort, alloc: Global, turns: usize) -> Result<(), Fail> {
+    let mut numbers = Rings::new(alloc);
+    let mut beside = Vec::new(alloc);
+    fill(&mut numbers, &mut beside, &(4096, 1))?;
+    for _ in 0..turns {
+        put_next(&mut numbers, &mut beside, 0)?;
+    }
+    for position in [1, 0, 1023, 1024, 2047, 2049, 3071, 3072, 4095] {
+        put_next(&mut numbers, &mut beside, position)?;
+        assert_items(rt, &numbers, &beside);
+    }
+    Ok(())
+}
+
+#[test]
+fn items_go_into_both_halves_of_a_ring(rt: HostRuntime) -> Result<(), Fail> {
+    // What moves ends with the memory, goes round by one item, or by nearly all.
+    for turns in [0, 1, 1020, 1021, 1022, 2045, 2046, 2047] {
+        assert_halves(&rt, rt.alloc(), turns)?;
+    }
+    Ok(())
+}
+
+/// Swaps two items of both, and writes over the first of them.
+fn change(rt: &impl Abort, numbers: &mut Rings<usize>, beside: &mut [usize], a: usize, b: usize) {
+    assert!(rt; a < numbers.len() && b < numbers.len());
+    assert!(rt; a < beside.len() && b < beside.len());
+    numbers.swap(a, b);
+    beside.swap(a, b);
+    assert!(rt; a < numbers.len());
+    assert_eq!(rt; numbers.replace(a, 7), beside[a]);
+    beside[a] = 7;
+}
+
+/// Two positions of a list of three rings and a half, turned: its items change, and those before the second one stay.
+fn assert_changed(rt: &impl Abort, alloc: Global, a: usize, b: usize) -> Result<(), Fail> {
+    let mut numbers = Rings::new(alloc);
+    let mut beside = Vec::new(alloc);
+    fill(&mut numbers, &mut beside, &(7200, 1_000_003))?;
+    change(rt, &mut numbers, &mut beside, a, b);
+    assert_items(rt, &numbers, &beside);
+    numbers.truncate(b);
+    beside.truncate(b);
+    assert_items(rt, &numbers, &beside);
+    Ok(())
+}
+
+#[test]
+fn items_change_and_go(rt: HostRuntime) -> Result<(), Fail> {
+    for (a, b) in [
+        (0, 0),
+        (0, 2047),
+        (2400, 2048),
+        (4095, 2049),
+        (7199, 6400),
+        (3, 7199),
+    ] {
+        assert_changed(&rt, rt.alloc(), a, b)?;
+    }
+    Ok(())
+}
+
+/// The item at each of these positions goes out of both, one after the other.
+fn assert_removed(rt: &impl Abort, alloc: Global, positions: &[usize]) -> Result<(), Fail> {
+    let mut numbers = Rings::new(alloc);
+    let mut beside = Vec::new(alloc);
+    fill(&mut numbers, &mut beside, &(4098, 1_000_003))?;
+    for position in positions {
+        assert!(rt; *position < numbers.len() && *position < beside.len());
+        assert_eq!(rt; numbers.remove(*position), beside.remove(*position));
+        assert_items(rt, &numbers, &beside);
+    }
+    put(&mut numbers, &mut beside, 2400, 7)?;
+    assert_items(rt, &numbers, &beside);
+    Ok(())
+}
+
+#[test]
+fn items_are_removed(rt: HostRuntime) -> Result<(), Fail> {
+    // The last ring closes again once it isn't whole.
+    assert_removed(&rt, rt.alloc(), &[4097, 0, 2048, 0])
+}

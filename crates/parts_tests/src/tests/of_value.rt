@@ -1,0 +1,266 @@
+//! The tests of `value`: keys and texts, and values that are read from JSON and written to it.
+
+use ids::Refusal;
+use serde_json::Value;
+use std::alloc::{AllocError, Global};
+use std::cmp::Ordering;
+use std::process::Abort;
+use std::test::Fail;
+use value::{Key, Scalar, Text, Val};
+
+fn repeated(alloc: Global, letter: &str, times: usize) -> Result<String, AllocError> {
+    let mut text = String::new(alloc);
+    for _ in 0..times {
+        text.push_str(letter)?;
+    }
+    Ok(text)
+}
+
+/// How often a letter is repeated, the letter, and how many bytes are kept of that.
+type Long = (usize, &'static str, Result<usize, Refusal>);
+
+/// How many bytes a key of this text has.
+fn key_len(alloc: Global, letter: &str, times: usize) -> Result<usize, Refusal> {
+    let text = repeated(alloc, letter, times)?;
+    let key = Key::new(alloc, text.as_str())?;
+    Ok(key.as_str().len())
+}
+
+#[test]
+fn keys_have_at_most_256_bytes(rt: HostRuntime) {
+    const ROWS: &[Long] = &[
+        (0, "k", Ok(0)),
+        (255, "k", Ok(255)),
+        (256, "k", Ok(256)),
+        (257, "k", Err(Refusal::KeyTooLong)),
+        (128, "é", Ok(256)),
+        (129, "é", Err(Refusal::KeyTooLong)),
+        (64, "🦀", Ok(256)),
+        (65, "🦀", Err(Refusal::KeyTooLong)),
+    ];
+    for (times, letter, want) in ROWS {
+        let length = key_len(rt.alloc(), letter, *times);
+        assert_eq!(rt; length, *want, "{times} times {letter}");
+    }
+}
+
+/// How two keys compare, by each method.
+fn compared(
+    alloc: Global,
+    a: &str,
+    b: &str,
+) -> Result<(Ordering, Option<Ordering>, bool), Refusal> {
+    let key = Key::new(alloc, a)?;
+    let other = Key::new(alloc, b)?;
+    Ok((key.cmp(&other), key.partial_cmp(&other), key == other))
+}
+
+const RISING: &[&str] = &["", "Z", "a", "a0", "aa", "b", "z", "é"];
+
+/// Asserts how two keys compare.
+fn assert_compared(
+    rt: &impl Abort,
+    alloc: Global,
+    a: &str,
+    b: &str,
+    want: Ordering,
+) -> Result<(), Fail> {
+    let (order, partial, is_equal) = compared(alloc, a, b)?;
+    assert_eq!(rt; order, want, "{a} and {b}");
+    assert_eq!(rt; partial, Some(want), "{a} and {b}");
+    assert_eq!(rt; is_equal, want == Ordering::Equal, "{a} and {b}");
+    Ok(())
+}
+
+/// Asserts how the key at an index compares with each one.
+fn assert_index(rt: &impl Abort, alloc: Global, index: usize, key: &str) -> Result<(), Fail> {
+    for (other, text) in RISING.iter().enumerate() {
+        assert_compared(rt, alloc, key, text, index.cmp(&other))?;
+    }
+    Ok(())
+}
+
+#[test]
+fn keys_rise_by_bytes(rt: HostRuntime) -> Result<(), Fail> {
+    for (index, key) in RISING.iter().enumerate() {
+        assert_index(&rt, rt.alloc(), index, key)?;
+    }
+    Ok(())
+}
+
+const TEXTS: &[Long] = &[
+    (0, "t", Ok(0)),
+    (4096, "t", Ok(4096)),
+    (4097, "t", Err(Refusal::TextTooLong)),
+    (2048, "é", Ok(4096)),
+    (2049, "é", Err(Refusal::TextTooLong)),
+    (1024, "🦀", Ok(4096)),
+    (1025, "🦀", Err(Refusal::TextTooLong)),
+];
+
+/// How many bytes the text has.
+fn text_len(alloc: Global, letter: &str, times: usize) -> Result<usize, Refusal> {
+    let text = repeated(alloc, letter, times)?;
+    let text = Text::new(alloc, text.as_str())?;
+    Ok(text.as_str().len())
+}
+
+/// How many bytes the text has that is read from a string.
+fn read_len(alloc: Global, letter: &str, times: usize) -> Result<usize, Refusal> {
+    let json = Value::String(repeated(alloc, letter, times)?);
+    match Val::from_json(alloc, &json)? {
+        Val::Scalar(Scalar::Text(text)) => Ok(text.as_str().len()),
+        _ => Err(Refusal::BadLine),
+    }
+}
+
+#[test]
+fn texts_have_at_most_4096_bytes(rt: HostRuntime) {
+    for (times, letter, want) in TEXTS {
+        let length = text_len(rt.alloc(), letter, *times);
+        assert_eq!(rt; length, *want, "{times} times {letter}");
+    }
+}
+
+#[test]
+fn texts_of_json_have_at_most_4096_bytes(rt: HostRuntime) {
+    for (times, letter, want) in TEXTS {
+        let length = read_len(rt.alloc(), letter, *times);
+        assert_eq!(rt; length, *want, "{times} times {letter}");
+    }
+}
+
+/// A value.
+#[derive(Clone, Copy)]
+enum Is {
+    Null,
+    Bool(bool),
+    Whole(i64),
+    Text(&'static str),
+    Map,
+    List,
+}
+
+/// The value of a row.
+fn val(alloc: Global, is: Is) -> Result<Val, Refusal> {
+    match is {
+        Is::Null => Ok(Val::Scalar(Scalar::Null)),
+        Is::Bool(bool) => Ok(Val::Scalar(Scalar::Bool(bool))),
+        Is::Whole(whole) => Ok(Val::Scalar(Scalar::Whole(whole))),
+        Is::Text(text) => Val::text(alloc, text),
+        Is::Map => Ok(Val::EmptyMap),
+        Is::List => Ok(Val::EmptyList),
+    }
+}
+
+/// What is read from a text of JSON.
+fn read(alloc: Global, text: &str) -> Result<Result<Val, Refusal>, Fail> {
+    let json = Value::from_str(alloc, text)?;
+    Ok(Val::from_json(alloc, &json))
+}
+
+/// Asserts that this value is read from the text.
+fn assert_read(rt: &impl Abort, alloc: Global, text: &str, is: Is) -> Result<(), Fail> {
+    let read = read(alloc, text)?;
+    let want = val(alloc, is);
+    assert_eq!(rt; read, want, "{text}");
+    Ok(())
+}
+
+#[test]
+fn values_are_read_from_json(rt: HostRuntime) -> Result<(), Fail> {
+    const ROWS: &[(&str, Is)] = &[
+        ("null", Is::Null),
+        ("true", Is::Bool(true)),
+        ("false", Is::Bool(false)),
+        ("0", Is::Whole(0)),
+        ("-1", Is::Whole(-1)),
+        ("9223372036854775807", Is::Whole(i64::MAX)),
+        ("-9223372036854775808", Is::Whole(i64::MIN)),
+        (r#""tête""#, Is::Text("tête")),
+        ("{}", Is::Map),
+        ("[]", Is::List),
+    ];
+    for (text, is) in ROWS {
+        assert_read(&rt, rt.alloc(), text, *is)?;
+    }
+    Ok(())
+}
+
+/// Why no value is read from a text of JSON.
+fn refused(alloc: Global, text: &str) -> Result<Option<Refusal>, Fail> {
+    let read = read(alloc, text)?;
+    Ok(read.err())
+}
+
+#[test]
+fn json_that_is_no_value(rt: HostRuntime) -> Result<(), Fail> {
+    const ROWS: &[(&str, Refusal)] = &[
+        ("9223372036854775808", Refusal::NotWhole),
+        ("-9223372036854775809", Refusal::NotWhole),
+        ("18446744073709551616", Refusal::NotWhole),
+        ("1.5", Refusal::NotWhole),
+        ("1.0", Refusal::NotWhole),
+        ("-0", Refusal::NotWhole),
+        ("1e3", Refusal::NotWhole),
+        (r#"{"a":1}"#, Refusal::BadLine),
+        ("[1]", Refusal::BadLine),
+        ("[[]]", Refusal::BadLine),
+    ];
+    for (text, why) in ROWS {
+        assert_eq!(rt; refused(rt.alloc(), text)?, Some(*why), "{text}");
+    }
+    Ok(())
+}
+
+/// The value of a text of JSON.
+fn value_of(alloc: Global, text: &str) -> Result<Val, Fail> {
+    let json = Value::from_str(alloc, text)?;
+    Ok(Val::from_json(alloc, &json)?)
+}
+
+/// The value, printed as JSON.
+fn printed(alloc: Global, value: &Val) -> Result<String, Fail> {
+    let json = value.to_json(alloc)?;
+    Ok(json.to_string(alloc)?)
+}
+
+/// Asserts that the text's value is printed as the text, and read as the same value again.
+fn assert_kept(rt: &impl Abort, alloc: Global, text: &str) -> Result<(), Fail> {
+    let value = value_of(alloc, text)?;
+    let printed = printed(alloc, &value)?;
+    assert_eq!(rt; printed.as_str(), text);
+    let again = value_of(alloc, printed.as_str())?;
+    assert_eq!(rt; again, value, "{text}");
+    Ok(())
+}
+
+/// Asserts that a copy of the text's value is equal to it.
+fn assert_copied(rt: &impl Abort, alloc: Global, text: &str) -> Result<(), Fail> {
+    let value = value_of(alloc, text)?;
+    let copy = value.clone()?;
+    assert_eq!(rt; copy, value, "{text}");
+    Ok(())
+}
+
+#[test]
+fn printed_values_are_read_again(rt: HostRuntime) -> Result<(), Fail> {
+    const PRINTED: &[&str] = &[
+        "null",
+        "true",
+        "false",
+        "0",
+        "-1",
+        "{}",
+        "[]",
+        "9223372036854775807",
+        "-9223372036854775808",
+        r#""""#,
+        r#""tête \"à\" 🦀\n""#,
+    ];
+    for text in PRINTED {
+        assert_kept(&rt, rt.alloc(), text)?;
+        assert_copied(&rt, rt.alloc(), text)?;
+    }
+    Ok(())
+}

@@ -1,0 +1,333 @@
+//! The tests of `version`: vectors, and columns of ids that are compared with them.
+
+ghost use Rattle.std.specs.Prelude.{◌≡◌, ◌<◌, length, IfOk};
+ghost use Rattle.std.specs.List.{All};
+
+use fixtures::vector;
+use rings::Rings;
+use std::alloc::Global;
+use std::process::Abort;
+use std::test::Fail;
+use version::{IdColumns, VersionVector};
+
+/// The greatest counter, and the one after it.
+fn greatest(vector: &VersionVector) -> (u64, Option<u64>) {
+    (vector.greatest(), vector.successor())
+}
+
+/// A vector of this width names nothing.
+fn assert_none(rt: &impl Abort, alloc: Global, width: usize) -> Result<(), Fail> {
+    let vector = VersionVector::zero(alloc, width)?;
+    assert_eq!(rt; vector.width(), width);
+    assert_eq!(rt; greatest(&vector), (0, Some(1)), "{width} wide");
+    for index in 0..width {
+        assert_eq!(rt; vector.get(index), 0, "{index} of {width}");
+    }
+    Ok(())
+}
+
+#[test]
+fn vectors_name_nothing_at_first(rt: HostRuntime) -> Result<(), Fail> {
+    for width in [0, 1, 64] {
+        assert_none(&rt, rt.alloc(), width)?;
+    }
+    Ok(())
+}
+
+/// Two counters that one is raised to, and what it is then.
+type Raised = (u64, u64, u64);
+
+/// A vector whose last counter was raised twice.
+fn raised(alloc: Global, width: usize, earlier: u64, later: u64) -> Result<VersionVector, Fail>
+    requires { 0 < width }
+    ensures { IfOk result (λ v. length v ≡ width) }
+{
+    let mut vector = VersionVector::zero(alloc, width)?;
+    vector.raise(width - 1, earlier);
+    vector.raise(width - 1, later);
+    Ok(vector)
+}
+
+/// Asserts the last counter, and that there is 0 beyond it.
+fn assert_last(rt: &impl Abort, vector: &VersionVector, want: u64)
+    requires { 0 < length vector.now }
+{
+    let width = vector.width();
+    let first = if width == 1 { want } else { 0 };
+    assert_eq!(rt; vector.greatest(), want);
+    assert_eq!(rt; vector.get(width - 1), want);
+    assert_eq!(rt; vector.get(0), first);
+}
+
+/// Asserts that the greater of two counters stays, also in a copy.
+fn assert_raised(rt: &impl Abort, alloc: Global, width: usize, row: &Raised) -> Result<(), Fail>
+    requires { 0 < width }
+{
+    let (earlier, later, want) = *row;
+    let vector = raised(alloc, width, earlier, later)?;
+    assert_last(rt, &vector, want);
+    let copy = vector.clone()?;
+    assert_last(rt, &copy, want);
+    Ok(())
+}
+
+#[test]
+fn counters_are_raised_and_never_lowered(rt: HostRuntime) -> Result<(), Fail> {
+    const ROWS: &[Raised] = &[
+        (0, 0, 0),
+        (0, 1, 1),
+        (7, 3, 7),
+        (7, 7, 7),
+        (7, 8, 8),
+        (8, u64::MAX, u64::MAX),
+    ];
+    for row in ROWS {
+        assert_raised(&rt, rt.alloc(), 1, row)?;
+        assert_raised(&rt, rt.alloc(), 64, row)?;
+    }
+    Ok(())
+}
+
+/// The greatest counter of the vector with these counters, and the one after it.
+fn greatest_of(alloc: Global, counters: &[u64]) -> Result<(u64, Option<u64>), Fail> {
+    let vector = vector(alloc, counters)?;
+    Ok(greatest(&vector))
+}
+
+#[test]
+fn the_greatest_counter_stands_anywhere(rt: HostRuntime) -> Result<(), Fail> {
+    for counters in [[9, 2, 4], [2, 9, 4], [4, 2, 9], [9, 9, 9]] {
+        let greatest = greatest_of(rt.alloc(), &counters)?;
+        assert_eq!(rt; greatest, (9, Some(10)), "of {counters:?}");
+    }
+    Ok(())
+}
+
+#[test]
+fn counters_end(rt: HostRuntime) -> Result<(), Fail> {
+    for (counter, want) in [
+        (4_611_686_018_427_387_903, Some(4_611_686_018_427_387_904)),
+        (4_611_686_018_427_387_904, None),
+        (u64::MAX, None),
+    ] {
+        let greatest = greatest_of(rt.alloc(), &[0, counter])?;
+        assert_eq!(rt; greatest, (counter, want));
+    }
+    Ok(())
+}
+
+/// Asserts how the vector of zeros compares with one that names something at its last index.
+fn assert_last_counts(rt: &impl Abort, none: &VersionVector, last: &VersionVector)
+    requires { length none.now ≡ length last.now }
+{
+    let found = [none.le(last), none.le(none), last.le(last), last.le(none)];
+    assert_eq!(rt; found, [true, true, true, false], "{} wide", none.width());
+}
+
+#[test]
+fn the_last_counter_counts(rt: HostRuntime) -> Result<(), Fail> {
+    for width in [1, 7, 8, 9, 64] {
+        let none = VersionVector::zero(rt.alloc(), width)?;
+        let last = raised(rt.alloc(), width, 0, 1)?;
+        assert_last_counts(&rt, &none, &last);
+    }
+    Ok(())
+}
+
+/// Two vectors, whether the first is at most the second, and both joined.
+type Compared = ([u64; 2], [u64; 2], bool, [u64; 2]);
+
+/// How two vectors compare, and their join.
+fn compared(
+    alloc: Global,
+    counters: &[u64; 2],
+    others: &[u64; 2],
+) -> Result<(bool, [u64; 2]), Fail> {
+    let mut vector = vector(alloc, counters)?;
+    let other = fixtures::vector(alloc, others)?;
+    let is_le = vector.le(&other);
+    vector.join(&other);
+    if vector.width() != 2 {
+        return Err("another width".into());
+    }
+    Ok((is_le, [vector.get(0), vector.get(1)]))
+}
+
+#[test]
+fn vectors_compare_counter_by_counter(rt: HostRuntime) -> Result<(), Fail> {
+    const ROWS: &[Compared] = &[
+        ([1, 2], [1, 2], true, [1, 2]),
+        ([1, 2], [2, 1], false, [2, 2]),
+        ([0, 0], [0, 5], true, [0, 5]),
+        ([3, 0], [2, u64::MAX], false, [3, u64::MAX]),
+    ];
+    for (counters, others, want, joined) in ROWS {
+        let compared = compared(rt.alloc(), counters, others)?;
+        assert_eq!(rt; compared, (*want, *joined), "{counters:?} and {others:?}");
+    }
+    Ok(())
+}
+
+/// Whether the vector of 1 and 3 covers this counter of the first replica, and of the second.
+fn covers(alloc: Global, counter: u64) -> Result<(bool, bool), Fail> {
+    let vector = vector(alloc, &[1, 3])?;
+    Ok((vector.covers(0, counter), vector.covers(1, counter)))
+}
+
+#[test]
+fn ids_are_covered_up_to_the_counter(rt: HostRuntime) -> Result<(), Fail> {
+    for (counter, want) in [
+        (0, (true, true)),
+        (1, (true, true)),
+        (2, (false, true)),
+        (3, (false, true)),
+        (4, (false, false)),
+    ] {
+        assert_eq!(rt; covers(rt.alloc(), counter)?, want, "at {counter}");
+    }
+    Ok(())
+}
+
+/// The counter and the index of an id.
+type Id = (u64, usize);
+
+/// Columns with these ids, each put at the end, for a table of this width.
+fn columns(alloc: Global, width: usize, ids: &[Id]) -> Result<IdColumns, Fail>
+    ensures { IfOk result (λ c. All (λ id. id.1 < width) c.ids) }
+{
+    let mut columns = IdColumns::new(alloc);
+    for (counter, index) in ids {
+        if *index >= width {
+            return Err("no such replica".into());
+        }
+        columns.reserve_one()?;
+        let end = columns.len();
+        columns.insert(end, *counter, *index);
+    }
+    Ok(columns)
+}
+
+/// Asserts the ids, in order.
+fn assert_ids(rt: &impl Abort, ids: &IdColumns, want: &[Id]) {
+    assert_eq!(rt; ids.len(), want.len());
+    for (position, id) in want.iter().enumerate() {
+        assert_eq!(rt; ids.at(position), *id, "at {position}");
+    }
+}
+
+/// Inserts an id at a position, if there are enough ids.
+fn put(ids: &mut IdColumns, position: usize, id: Id) -> Result<(), Fail> {
+    ids.reserve_one()?;
+    if position > ids.len() {
+        return Err("no such position".into());
+    }
+    ids.insert(position, id.0, id.1);
+    Ok(())
+}
+
+#[test]
+fn ids_go_where_they_are_put(rt: HostRuntime) -> Result<(), Fail> {
+    let mut ids = columns(rt.alloc(), 2, &[(2, 0), (4, 1)])?;
+    put(&mut ids, 0, (1, 1))?;
+    put(&mut ids, 2, (3, 0))?;
+    put(&mut ids, 4, (5, 1))?;
+    assert_ids(&rt, &ids, &[(1, 1), (2, 0), (3, 0), (4, 1), (5, 1)]);
+    Ok(())
+}
+
+/// Asserts which of the given ids are kept where the vector has these counters.
+fn assert_kept_alone(
+    rt: &impl Abort,
+    alloc: Global,
+    given: &[Id],
+    counters: &[u64; 2],
+    want: &[Id],
+) -> Result<(), Fail> {
+    let vector = vector(alloc, counters)?;
+    let mut ids = columns(alloc, 2, given)?;
+    vector.keep_uncovered(&mut ids);
+    assert_ids(rt, &ids, want);
+    Ok(())
+}
+
+/// These ids in rings, each put at the end.
+fn in_rings(alloc: Global, given: &[Id]) -> Result<Rings<Id>, Fail> {
+    let mut ids = Rings::new(alloc);
+    for id in given {
+        ids.reserve_one()?;
+        let end = ids.len();
+        ids.insert(end, *id);
+    }
+    Ok(ids)
+}
+
+/// Asserts that the values at their positions are kept too.
+fn assert_kept_beside(
+    rt: &impl Abort,
+    alloc: Global,
+    given: &[Id],
+    counters: &[u64; 2],
+    want: &[Id],
+) -> Result<(), Fail> {
+    let vector = vector(alloc, counters)?;
+    let mut ids = columns(alloc, 2, given)?;
+    let mut beside = in_rings(alloc, given)?;
+    assert_eq!(rt; ids.len(), beside.len());
+    vector.keep_uncovered_beside(&mut ids, &mut beside);
+    beside.straighten();
+    assert_eq!(rt; beside.as_slice(), want, "by {counters:?}");
+    assert_ids(rt, &ids, want);
+    Ok(())
+}
+
+/// The given ids, the counters of a vector, and the ids that it doesn't cover.
+type Kept<'a> = (&'a [Id], [u64; 2], &'a [Id]);
+
+#[test]
+fn covered_ids_go(rt: HostRuntime) -> Result<(), Fail> {
+    const ROWS: &[Kept] = &[
+        (&[(1, 0), (3, 1), (4, 0), (5, 1)], [1, 3], &[(4, 0), (5, 1)]),
+        (&[], [9, 9], &[]),
+        (&[(1, 0), (1, 1)], [0, 0], &[(1, 0), (1, 1)]),
+        (&[(1, 0), (1, 1)], [1, 1], &[]),
+        (&[(7, 1), (2, 0), (7, 0)], [6, 7], &[(7, 0)]),
+    ];
+    for (given, counters, want) in ROWS {
+        assert_kept_alone(&rt, rt.alloc(), given, counters, want)?;
+        assert_kept_beside(&rt, rt.alloc(), given, counters, want)?;
+    }
+    Ok(())
+}
+
+/// The ids of the first replica with the counters from 1 to this one.
+fn first_ids(alloc: Global, most: u64) -> Result<IdColumns, Fail>
+    ensures { IfOk result (λ c. All (λ id. id.1 < 1) c.ids) }
+{
+    let mut given = Vec::new(alloc);
+    for counter in 1..=most {
+        given.push((counter, 0))?;
+    }
+    columns(alloc, 1, &given)
+}
+
+/// Asserts that a vector that covers all ids but the last keeps that one, and that one more goes behind it.
+fn assert_last_kept(rt: &impl Abort, alloc: Global, most: u64) -> Result<(), Fail>
+    requires any { 0 < most }
+    requires few { most < 1000 }
+{
+    let vector = vector(alloc, &[most - 1])?;
+    let mut ids = first_ids(alloc, most)?;
+    vector.keep_uncovered(&mut ids);
+    assert_ids(rt, &ids, &[(most, 0)]);
+    put(&mut ids, 1, (most + 1, 0))?;
+    assert_ids(rt, &ids, &[(most, 0), (most + 1, 0)]);
+    Ok(())
+}
+
+#[test]
+fn columns_of_many_words(rt: HostRuntime) -> Result<(), Fail> {
+    for most in [8, 9, 63, 64, 65, 200] {
+        assert_last_kept(&rt, rt.alloc(), most)?;
+    }
+    Ok(())
+}
