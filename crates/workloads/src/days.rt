@@ -1,0 +1,124 @@
+//! Days of engines: an engine opens, receives, writes, receives, shows, answers a hello, and closes.
+
+ghost use Rattle.std.specs.Prelude.{◌≡◌};
+ghost use Rattle.ids.specs.Members.{in_order};
+
+use crate::draws::Hands;
+use crate::showing::show_all;
+use crate::stage::Stage;
+use crate::writing::{Work, write};
+use engine::{
+    Client, Config, EngineName, Parts, ReaderToken, Refusal, Writer, close, open, prepare,
+};
+use peer_sync::{answer, hello};
+use std::alloc::Global;
+use std::marker::Brand;
+use std::sync::Wait;
+
+/// What an engine does in a day.
+#[derive(Clone, Copy)]
+pub struct Day<'a> {
+    /// Its number, among the members 1, 2 and so on.
+    pub own: u32,
+    pub members: u32,
+    /// What it receives before it writes, which may be nothing.
+    pub before: &'a [u8],
+    /// What it writes, how many commands at a time, and how many in all.
+    pub work: Work,
+    pub batch: u32,
+    pub count: u32,
+    /// What it receives after that.
+    pub after: &'a [u8],
+    /// Whether it shows the whole document at the end.
+    pub shows: bool,
+    /// Whether its answer is the whole history; else it is what came after the first receipt.
+    pub answers_all: bool,
+}
+
+/// Plays a day. Returns the lines of the engine's answer.
+pub fn play_day<R: Wait>(
+    rt: &R,
+    alloc: Global,
+    hands: &mut Hands,
+    day: &Day,
+) -> Result<Vec<u8>, Refusal> {
+    let parts = prepare(alloc, configuration(alloc, day)?)?;
+    open_and_play::<Brand, R>(rt, alloc, hands, day, parts)
+}
+
+fn configuration(alloc: Global, day: &Day) -> Result<Config, Refusal> {
+    let mut members = Vec::new(alloc);
+    for member in 1..=day.members {
+        members.push(member)?;
+    }
+    Ok(Config {
+        own: day.own,
+        members,
+        clients: 1,
+        readers: 1,
+        queue: 4_096,
+        batch: day.batch,
+        serials: u32::MAX,
+    })
+}
+
+fn open_and_play<N: EngineName, R: Wait>(
+    rt: &R,
+    alloc: Global,
+    hands: &mut Hands,
+    day: &Day,
+    parts: Parts,
+) -> Result<Vec<u8>, Refusal>
+    requires book { parts.opened.seen.book ≡ N.book }
+    requires own { parts.config.own ≡ N.own }
+    requires table { in_order parts.config.members ≡ N.table }
+{
+    let (mut writer, clients, readers) = open::<N>(rt, alloc, parts)?;
+    let lines = play_with(rt, alloc, hands, day, &mut writer, clients, readers);
+    let _history = close(rt, writer, Vec::new(alloc)).history;
+    lines
+}
+
+fn play_with<N: EngineName, R: Wait>(
+    rt: &R,
+    alloc: Global,
+    hands: &mut Hands,
+    day: &Day,
+    writer: &mut Writer<N>,
+    mut clients: Vec<Client<N>>,
+    mut readers: Vec<ReaderToken<N>>,
+) -> Result<Vec<u8>, Refusal> {
+    match (clients.pop(), readers.pop()) {
+        (Some(mut client), Some(mut reader)) => {
+            let mut stage = Stage {
+                writer,
+                client: &mut client,
+                reader: &mut reader,
+                batch: day.batch as usize,
+            };
+            play_on(rt, alloc, &mut stage, hands, day)
+        }
+        _ => Err(Refusal::NoReaderPlace),
+    }
+}
+
+fn play_on<N: EngineName, R: Wait>(
+    rt: &R,
+    alloc: Global,
+    stage: &mut Stage<N>,
+    hands: &mut Hands,
+    day: &Day,
+) -> Result<Vec<u8>, Refusal> {
+    let empty = hello(alloc, stage.reader)?;
+    stage.take(rt, alloc, hands, day.before)?;
+    let first = hello(alloc, stage.reader)?;
+    write(rt, alloc, stage, hands, day.work, day.count)?;
+    stage.take(rt, alloc, hands, day.after)?;
+    if day.shows {
+        show_all(rt, alloc, stage, hands)?;
+    }
+    let asked = if day.answers_all { &empty } else { &first };
+    let lines = answer(alloc, stage.reader, asked.as_slice())?;
+    hands.note_bytes(lines.as_slice());
+    Ok(lines)
+}

@@ -1,0 +1,153 @@
+//! The jobs: what users wait for.
+
+use crate::days::{Day, play_day};
+use crate::draws::Hands;
+use crate::stage::end_of_lines;
+use crate::writing::Work;
+use engine::Refusal;
+use std::alloc::Global;
+use std::sync::Wait;
+
+/// How many engines catch up with one another.
+const PEERS: u32 = 4;
+
+/// How many devices write into one document.
+const DEVICES: u32 = 32;
+
+/// How many operations wait for the one that was lost.
+const WAITING: u32 = 4_000;
+
+/// Plays the job of this name; an unknown one is nothing to do.
+pub fn play<R: Wait>(
+    rt: &R,
+    alloc: Global,
+    hands: &mut Hands,
+    job: &str,
+    count: u32,
+) -> Result<(), Refusal> {
+    match job {
+        "history" => history(rt, alloc, hands, count),
+        "apart" => apart(rt, alloc, hands, count),
+        "typing" => alone(rt, alloc, hands, Work::Typing, 1, count),
+        "saves" => alone(rt, alloc, hands, Work::Saves, 256, count),
+        "lost" => lost(rt, alloc, hands, count),
+        "devices" => devices(rt, alloc, hands, count),
+        _ => Ok(()),
+    }
+}
+
+/// A day on which an engine of two writes and shows all.
+fn day_of<'a>(work: Work, batch: u32, count: u32) -> Day<'a> {
+    Day {
+        own: 1,
+        members: 2,
+        before: &[],
+        work,
+        batch,
+        count,
+        after: &[],
+        shows: true,
+        answers_all: true,
+    }
+}
+
+/// An engine writes, and shows all.
+fn alone<R: Wait>(
+    rt: &R,
+    alloc: Global,
+    hands: &mut Hands,
+    work: Work,
+    batch: u32,
+    count: u32,
+) -> Result<(), Refusal> {
+    let _lines = play_day(rt, alloc, hands, &day_of(work, batch, count))?;
+    Ok(())
+}
+
+/// An engine writes a history in bulk; another one takes it, and shows all.
+fn history<R: Wait>(rt: &R, alloc: Global, hands: &mut Hands, count: u32) -> Result<(), Refusal> {
+    let written = Day {
+        shows: false,
+        ..day_of(Work::Mixed, 256, count)
+    };
+    let lines = play_day(rt, alloc, hands, &written)?;
+    let taken = Day {
+        own: 2,
+        before: lines.as_slice(),
+        answers_all: false,
+        ..day_of(Work::Mixed, 256, 0)
+    };
+    let _none = play_day(rt, alloc, hands, &taken)?;
+    Ok(())
+}
+
+/// Engines that share a beginning write apart, and each takes what those before it wrote behind what it wrote itself.
+fn apart<R: Wait>(rt: &R, alloc: Global, hands: &mut Hands, count: u32) -> Result<(), Refusal> {
+    let first = Day {
+        members: PEERS,
+        shows: false,
+        ..day_of(Work::Mixed, 256, count)
+    };
+    let shared = play_day(rt, alloc, hands, &first)?;
+    let mut others = Vec::new(alloc);
+    for own in 2..=PEERS {
+        let day = Day {
+            own,
+            members: PEERS,
+            before: shared.as_slice(),
+            after: others.as_slice(),
+            shows: own == PEERS,
+            answers_all: false,
+            ..day_of(Work::Mixed, 64, count / 2)
+        };
+        others = play_day(rt, alloc, hands, &day)?;
+    }
+    Ok(())
+}
+
+/// The first line of one engine is lost: its later ones wait, while another's operations come in. Then it comes.
+fn lost<R: Wait>(rt: &R, alloc: Global, hands: &mut Hands, count: u32) -> Result<(), Refusal> {
+    let waiting = Day {
+        own: 2,
+        members: 3,
+        shows: false,
+        ..day_of(Work::Fields, 64, WAITING)
+    };
+    let held = play_day(rt, alloc, hands, &waiting)?;
+    let going = Day {
+        own: 3,
+        members: 3,
+        shows: false,
+        ..day_of(Work::Mixed, 64, count)
+    };
+    let others = play_day(rt, alloc, hands, &going)?;
+    let (line, rest) = held.as_slice().split_at(end_of_lines(&held, 1));
+    let mut before = Vec::new(alloc);
+    before.extend_from_slice(rest)?;
+    before.extend_from_slice(&others)?;
+    let taken = Day {
+        members: 3,
+        before: before.as_slice(),
+        after: line,
+        answers_all: false,
+        ..day_of(Work::Mixed, 64, 0)
+    };
+    let _all = play_day(rt, alloc, hands, &taken)?;
+    Ok(())
+}
+
+/// Many devices, one after another: each takes all that was written before, and writes.
+fn devices<R: Wait>(rt: &R, alloc: Global, hands: &mut Hands, count: u32) -> Result<(), Refusal> {
+    let mut all = Vec::new(alloc);
+    for own in 1..=DEVICES {
+        let day = Day {
+            own,
+            members: DEVICES,
+            before: all.as_slice(),
+            shows: own == DEVICES,
+            ..day_of(Work::Mixed, 64, count)
+        };
+        all = play_day(rt, alloc, hands, &day)?;
+    }
+    Ok(())
+}

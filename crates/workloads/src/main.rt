@@ -1,0 +1,33 @@
+//! Plays what users wait for, on engines, and prints a digest of all that they answered: the words are a job, how much of it, and
+//! a seed.
+#![tactic(auto)]
+
+mod days;
+mod draws;
+mod jobs;
+mod places;
+mod showing;
+mod stage;
+mod writing;
+
+use draws::Hands;
+use jobs::play;
+use std::{env, io};
+
+fn main(rt: HostRuntime) -> io::Result<()> {
+    let mut words = env::args(&rt)?.skip(1);
+    let (Some(job), Some(count), Some(seed)) = (words.next(), words.next(), words.next()) else {
+        return println!(rt; "usage: workloads JOB COUNT SEED");
+    };
+    let (Ok(count), Ok(seed)) = (count.as_str().parse::<u32>(), seed.as_str().parse::<u32>()) else {
+        return println!(rt; "COUNT and SEED are numbers below 4294967296");
+    };
+    let mut hands = Hands::new(rt.alloc(), seed);
+    match play(&rt, rt.alloc(), &mut hands, job.as_str(), count) {
+        Ok(()) => {
+            let (answers, digest) = (hands.answers(), hands.digest());
+            println!(rt; "{job}: {answers} answers, digest {digest:016x}")
+        }
+        Err(refusal) => println!(rt; "{job}: {refusal}"),
+    }
+}

@@ -1,0 +1,123 @@
+//! An engine's ends, and what is done with them.
+
+ghost use Rattle.std.specs.Prelude.{◌≤◌, length};
+
+use crate::draws::Hands;
+use engine::{Client, Command, EngineName, ReaderToken, Refusal, Step, Writer};
+use peer_sync::{Received, receive};
+use std::alloc::Global;
+use std::sync::Wait;
+
+/// How many lines are received before the writer steps.
+const PIECE: usize = 2_000;
+
+/// An engine with one client and one reader.
+#[derive(Drop)]
+pub struct Stage<'a, N: EngineName> {
+    pub writer: &'a mut Writer<N>,
+    pub client: &'a mut Client<N>,
+    pub reader: &'a mut ReaderToken<N>,
+    /// How many commands are submitted before the writer steps.
+    pub batch: usize,
+}
+
+impl<N: EngineName> Stage<'_, N> {
+    /// Submits a command, and settles where a batch is full.
+    pub fn submit<R: Wait>(
+        &mut self,
+        rt: &R,
+        alloc: Global,
+        hands: &mut Hands,
+        command: Command,
+    ) -> Result<(), Refusal> {
+        let ticket = self.client.submit(rt, alloc, command)?;
+        if hands.keep(ticket)? >= self.batch {
+            self.settle(rt, alloc, hands)?;
+        }
+        Ok(())
+    }
+
+    /// Steps until nothing waits, and polls what was submitted.
+    pub fn settle<R: Wait>(
+        &mut self,
+        rt: &R,
+        alloc: Global,
+        hands: &mut Hands,
+    ) -> Result<(), Refusal> {
+        self.step_all(rt, alloc)?;
+        for _ in rt.forever() {
+            let Some(ticket) = hands.tickets.pop() else {
+                break;
+            };
+            match self.client.poll(&ticket)? {
+                Some(reply) => hands.note_reply(reply),
+                None => return Err(Refusal::NoReading),
+            }
+        }
+        Ok(())
+    }
+
+    /// Steps until the queue is empty.
+    fn step_all<R: Wait>(&mut self, rt: &R, alloc: Global) -> Result<(), Refusal> {
+        for _ in rt.forever() {
+            match self.writer.step(rt, alloc) {
+                Step::Idle => break,
+                Step::Published(_) => {}
+                Step::Held => return Err(Refusal::NoMemory),
+            }
+        }
+        Ok(())
+    }
+
+    /// Receives a text of operations, some lines at a time, and handles all of it.
+    pub fn take<R: Wait>(
+        &mut self,
+        rt: &R,
+        alloc: Global,
+        hands: &mut Hands,
+        text: &[u8],
+    ) -> Result<(), Refusal> {
+        let mut rest = text;
+        for _ in rt.forever() {
+            if rest.is_empty() {
+                break;
+            }
+            let (piece, behind) = rest.split_at(end_of_lines(rest, PIECE));
+            rest = behind;
+            let received = receive(rt, alloc, self.client, piece);
+            self.keep_received(hands, &received)?;
+            self.settle(rt, alloc, hands)?;
+        }
+        Ok(())
+    }
+
+    /// Keeps the tickets of what was received.
+    fn keep_received(&mut self, hands: &mut Hands, received: &Received) -> Result<(), Refusal> {
+        if let Some((_, refusal)) = received.stopped {
+            return Err(refusal);
+        }
+        for number in 0..received.submitted {
+            let ticket = self
+                .client
+                .ticket_of(received.first_serial.saturating_add(number))?;
+            let _kept = hands.keep(ticket)?;
+        }
+        Ok(())
+    }
+}
+
+/// Where that many lines of the text end, or the text.
+pub fn end_of_lines(text: &[u8], count: usize) -> usize
+    ensures { result ≤ length text.now }
+{
+    let mut lines = 0usize;
+    for (position, byte) in text.iter().enumerate() {
+        if *byte == b'\n' {
+            lines = lines.saturating_add(1);
+            if lines == count {
+                return position + 1;
+            }
+        }
+    }
+    text.len()
+}
