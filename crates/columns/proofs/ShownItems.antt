@@ -172,3 +172,13 @@ module _ (r q : ListBlock) (i : ℕ) (a : OpId) (b : Bool) (items : q.items ≡ 
       flags_set runs k long is (slice_get_within r.items i a there) ∙ ap (λ bs. set bs (offset runs k i) b) before
       ∙ set_one f a b (joined runs) (offset runs k i) apart (item_there runs k is there) in
       shown_is (set runs k q) long_set ∙ (λ t. items_where_true (after t) (same t)) ∙ shown_by (changed f a b) (joined runs)
+
+-- an item that isn't there is no matter
+pub filter_lacking : (f : OpId → Bool) (id : OpId) (b : Bool) (xs : List OpId) → has_item id xs ≡ false
+    → filter f xs ≡ filter (λ a. cond (is_same_id a id) b (f a)) xs
+filter_lacking f id b [] h = refl
+filter_lacking f id b (x ∷ xs) h =
+    let parts = or_parts (is_same_id id x) (has_item id xs) h in
+    let rest = filter_lacking f id b xs parts.1 in
+    let same : f x ≡ cond (is_same_id x id) b (f x) = sym (ap (λ c. cond c b (f x)) (turned_ids id x parts.0)) in
+    λ k. cond (same k) (x ∷ rest k) (rest k)

@@ -107,13 +107,16 @@ impl Block {
         nth_shown_in(&self.ids, &self.flags, index)
     }
 
-    /// Appends the shown items. Looks at each flag.
+    /// Appends the shown items. Looks at each flag, unless none is shown.
     ///
     /// # Errors
     /// `AllocError` if allocation fails.
     pub fn push_shown(&self, items: &mut Vec<OpId>) -> Result<(), AllocError>
         ensures { OnOk result (items.new.items ≡ items.old.items ++ items_where_true self.now.flags self.now.items) }
     {
+        if self.shown == 0 {
+            return Ok(());
+        }
         push_shown_of(&self.ids, &self.flags, items)
     }
 

@@ -83,16 +83,16 @@ impl ListOrder {
         }
     }
 
-    /// Shows an item, or hides it. A binary search and a walk in one block, unless the item was inserted last.
+    /// Shows an item, or hides it; another id changes nothing. A binary search and a walk in one block, unless the item was inserted
+    /// last.
     pub fn set_shown(&mut self, id: &OpId, shown: bool)
-        requires { IsTrue (has_item id.now self.old.items) }
         ensures items { self.new.items ≡ self.old.items }
         ensures visible { (f : TheId → Bool) → self.old.visible ≡ filter f self.old.items
             → self.new.visible ≡ filter (λ a. cond (is_same_id a id.now) shown (f a)) self.old.items }
         ensures room { self.new.room ≡ self.old.room }
     {
         match &mut self.blocks {
-            None => unreachable!(),
+            None => {}
             Some(blocks) => blocks.set_shown(id, shown),
         }
     }
@@ -118,7 +118,7 @@ impl ListOrder {
         }
     }
 
-    /// The items that are shown, in list order. Looks at each item that ever was, tombstones included.
+    /// The items that are shown, in list order. Looks at each item of the blocks in which one is shown, tombstones included.
     ///
     /// # Errors
     /// `AllocError` if allocation fails.

@@ -113,15 +113,17 @@ impl OrderBlocks {
         self.last = at;
     }
 
-    /// Shows an item, or hides it. A binary search and a walk in one block, unless the item was inserted last.
+    /// Shows an item, or hides it; another id changes nothing. A binary search and a walk in one block, unless the item was inserted
+    /// last.
     pub fn set_shown(&mut self, id: &OpId, shown: bool)
-        requires { IsTrue (has_item id.now self.old.items) }
         ensures items { self.new.items ≡ self.old.items }
         ensures visible { (f : TheId → Bool) → self.old.visible ≡ filter f self.old.items
             → self.new.visible ≡ filter (λ a. cond (is_same_id a id.now) shown (f a)) self.old.items }
         ensures room { self.new.room ≡ self.old.room }
     {
-        let home = self.homes.get(id).unwrap();
+        let Some(home) = self.homes.get(id) else {
+            return;
+        };
         let at = find(&self.blocks, &self.indices, home, id, self.last.index).unwrap();
         self.blocks[at.block].set_shown(at.index, shown);
     }
@@ -141,7 +143,7 @@ impl OrderBlocks {
         self.homes.get(id).is_some()
     }
 
-    /// The items that are shown, in list order. Looks at each item that ever was, tombstones included.
+    /// The items that are shown, in list order. Looks at each item of the blocks in which one is shown, tombstones included.
     ///
     /// # Errors
     /// `AllocError` if allocation fails.

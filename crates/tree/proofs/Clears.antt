@@ -199,29 +199,39 @@ left_none : {X : Type 0} (S : IdSet) (b : Bool) → left {X = X} S b [] ≡ []
 left_none S true = refl
 left_none S false = refl
 
--- a clear of an element and of all under its children leaves what a clear of the whole leaves
+or_turned : (a b : Bool) → (a || b) ≡ (b || a)
+or_turned true true = refl
+or_turned true false = refl
+or_turned false true = refl
+or_turned false false = refl
+
+-- a clear of all under an element's children, and then of the element, leaves what a clear of the whole leaves
 module _ {X : Type 0} (ns : List Node) (e : Element) (i : ℕ) (at : number ns e ≡ Some i) (S : IdSet) (f : Option Node → List (OpId × X))
     (none : f None ≡ []) where
   whole : (x : Element)
-      → left S (list_any (is_under x) (beneath e (links ns i))) (left S (is_same x e) (f (node_at ns x)))
+      → left S (is_same x e) (left S (list_any (is_under x) (beneath e (links ns i))) (f (node_at ns x)))
       ≡ left S (is_under x e) (f (node_at ns x))
-  whole x = left_twice S (is_same x e) (list_any (is_under x) (beneath e (links ns i))) (f (node_at ns x)) ∙ by (number ns x) refl where
-    by : (o : Option ℕ) → number ns x ≡ o
-        → left S (is_same x e || list_any (is_under x) (beneath e (links ns i))) (f (node_in ns o))
-        ≡ left S (is_under x e) (f (node_in ns o))
-    by None p = ap (left S _) none ∙ left_none S _ ∙ sym (left_none S _) ∙ ap (left S _) (sym none)
-    by (Some j) p = ap (λ b. left S b (f (node_in ns (Some j))))
-        (same_bools _ _ (within_under e (links ns i) x) (under_child ns e i at x j p))
+  whole x =
+      left_twice S (list_any (is_under x) (beneath e (links ns i))) (is_same x e) (f (node_at ns x))
+      ∙ ap (λ b. left S b (f (node_at ns x))) (or_turned (list_any (is_under x) (beneath e (links ns i))) (is_same x e))
+      ∙ by (number ns x) refl
+    where
+      by : (o : Option ℕ) → number ns x ≡ o
+          → left S (is_same x e || list_any (is_under x) (beneath e (links ns i))) (f (node_in ns o))
+          ≡ left S (is_under x e) (f (node_in ns o))
+      by None p = ap (left S _) none ∙ left_none S _ ∙ sym (left_none S _) ∙ ap (left S _) (sym none)
+      by (Some j) p = ap (λ b. left S b (f (node_in ns (Some j))))
+          (same_bools _ _ (within_under e (links ns i) x) (under_child ns e i at x j p))
 
 pub clear_whole : (ns : List Node) (e : Element) (i : ℕ) (S : IdSet) → number ns e ≡ Some i
-    → clear_each (clear_each (clear_own (context ns) e S) (fields_of e (links ns i).0) S) (items_of e (links ns i).1) S
+    → clear_own (clear_each (clear_each (context ns) (fields_of e (links ns i).0) S) (items_of e (links ns i).1) S) e S
     ≡ clear (context ns) e S
 clear_whole ns e i S at =
-    let C = clear_own (context ns) e S in
+    let C = context ns in
     let es = beneath e (links ns i) in
-    clear_each-append C (fields_of e (links ns i).0) (items_of e (links ns i).1) S
+    ap (λ D. clear_own D e S) (clear_each-append C (fields_of e (links ns i).0) (items_of e (links ns i).1) S)
     ∙ context_same _ _
-    (λ x. presence_each C es S x ∙ whole ns e i at S presence_of refl x)
-    (λ x. register_each C es S x ∙ whole ns e i at S register_of refl x)
+    (λ x. ap (left S (is_same x e)) (presence_each C es S x) ∙ whole ns e i at S presence_of refl x)
+    (λ x. ap (left S (is_same x e)) (register_each C es S x) ∙ whole ns e i at S register_of refl x)
     (fields_each C es S)
     (order_each C es S)

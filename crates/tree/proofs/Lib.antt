@@ -23,6 +23,7 @@ pub mod StandingItems
 pub mod Applied
 pub mod Reserved
 pub mod Roots
+pub mod Nested
 pub mod Beneath
 pub mod Showing
 pub mod NearTarget

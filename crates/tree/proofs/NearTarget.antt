@@ -1,19 +1,24 @@
--- What an operation leaves as it was: all that isn't on the way to its target, nor beneath it.
+-- What lists show once a new item is linked in, and once an operation is written on the way to its target.
 use Rattle.std.proofs.Common.{◌≡◌, ◌||◌, ◌&&◌, Bool, true, false, true≢false, cond, List, [], ◌∷◌, Option, Some, None, refl, sym, ap, ◌∙◌}
+use Rattle.std.proofs.Common.{inl, inr}
+use Rattle.std.proofs.lemmas.Bool.{or_cases}
 use Rattle.std.specs.List.{filter}
 use Rattle.semantics.specs.Ids.{OpId, id_cmp, is_same_id, is_smaller_id}
-use Rattle.semantics.specs.Elements.{Element, Doc, Field, Item, Place, Tag, AsMap, AsList, Value, is_same, is_under, tag_of}
-use Rattle.semantics.specs.Operations.{Operation, after_in, slot_of, tag_at, tag_given, tag_of_value, target, target_in}
-use Rattle.semantics.specs.Context.{Context, apply, insert_after, insert_some, put_some, skip, without, has_item}
+use Rattle.semantics.specs.Elements.{Element, Doc, Field, Item, Scalar, Tag, AsMap, AsList, is_same, is_under}
+use Rattle.semantics.specs.Operations.{after_in, tag_at}
+use Rattle.semantics.specs.Context.{Context, insert_after, insert_some, put_some, skip, has_item}
 use Rattle.semantics.specs.DocumentAnswer.{is_any}
 use Rattle.semantics.proofs.Orders.{id_itself, same_elements}
 use Rattle.tree.specs.declared.node.Node.{Node}
 use Rattle.tree.specs.Nodes.{SameLinks, context, node_in, presence_of}
-use Rattle.tree.specs.Shown.{AreShown, ShownBut, is_near}
+use Rattle.tree.specs.Shown.{AreShown, ShownBut}
 use Rattle.tree.specs.Trees.{FitsIn}
+use Rattle.tree.specs.Writes.{entered, linked, mark, registered}
 use Rattle.tree.proofs.Shape.{number_same}
 use Rattle.tree.proofs.SameViews.{visible_view}
-use Rattle.tree.proofs.Writes.{same_sym}
+use Rattle.tree.proofs.Clears.{under_itself}
+use Rattle.tree.proofs.Showing.{but_kept, but_more}
+use Rattle.tree.proofs.Writes.{entered_order, marked_presence, order_linked, same_sym}
 
 or_parts : (a b : Bool) → (a || b) ≡ false → (a ≡ false) × (b ≡ false)
 or_parts true b e = absurd (true≢false e)
@@ -26,18 +31,7 @@ tag_far k (Field t n) x h =
 tag_far k (Item t a) x h =
     let p = or_parts (is_same (Item t a) x) (is_under t x) h in ap (λ b. cond b (Some k) (tag_at AsList t x)) p.0 ∙ tag_far AsList t x p.1
 
-value_far : (v : Option Value) (t x : Element) → is_under t x ≡ false → tag_of_value v t x ≡ None
-value_far None t x h = refl
-value_far (Some v) t x h = tag_far (tag_of v) t x h
-
--- what is neither on the way to the target nor under it keeps its presence
-pub presence_far : (C : Context) (o : Operation) (x : Element) → is_under (target o) x ≡ false → is_under x (target o) ≡ false
-    → (apply C o).presence x ≡ C.presence x
-presence_far C o x above under =
-    ap (λ b. put_some id_cmp o.id (tag_given o x) (cond b (without o.deps (C.presence x)) (C.presence x))) under
-    ∙ ap (λ t. put_some id_cmp o.id t (C.presence x)) (value_far _ (target o) x above)
-
-not_same : (t x : Element) → is_under t x ≡ false → is_same t x ≡ false
+pub not_same : (t x : Element) → is_under t x ≡ false → is_same t x ≡ false
 not_same Doc x h = h
 not_same (Field t n) x h = (or_parts (is_same (Field t n) x) (is_under t x) h).0
 not_same (Item t a) x h = (or_parts (is_same (Item t a) x) (is_under t x) h).0
@@ -50,11 +44,6 @@ new_at (Some s) id l a = is_same (Item s.0 id) (Item l a)
 -- the flags as they are before they are set: a new item isn't shown
 abbrev flag_of : Context → Option (Element × Option OpId) → OpId → Element → OpId → Bool
 flag_of C s id l a = cond (new_at s id l a) false (is_any (C.presence (Item l a)))
-
-new_far : (s : Option (Element × Option OpId)) (id : OpId) (p : Place) (l : Element) (a : OpId)
-    → is_same (target_in s id p) (Item l a) ≡ false → new_at s id l a ≡ false
-new_far None id p l a h = refl
-new_far (Some s) id p l a h = h
 
 -- an item that doesn't pass the test is no matter where it's put
 skip_hidden : (g : OpId → Bool) (id : OpId) (bs : List OpId) → g id ≡ false → filter g (skip id bs) ≡ filter g bs
@@ -109,25 +98,56 @@ hidden : (b : Bool) → cond b false false ≡ false
 hidden true = refl
 hidden false = refl
 
--- where the flags stay while an operation is applied, only those near its target may be wrong then
-pub applied_shown : (ns ms : List Node) (o : Operation) → SameLinks ns ms → context ms ≡ apply (context ns) o
-    → FitsIn (context ns) o.id (slot_of o.mutation o.place) → AreShown ns → ShownBut ms (is_near (target o))
-applied_shown ns ms o links applied fits shown =
+-- where a new item comes in and the flags stay, only its own may be wrong
+pub linked_shown : (ns ms : List Node) → SameLinks ns ms → (l : Element) (p : Option OpId) (id : OpId)
+    → context ms ≡ linked (context ns) l p id → FitsIn (context ns) id (Some (l, p)) → AreShown ns
+    → ShownBut ms (λ y a. is_same (Item y a) (Item l id))
+linked_shown ns ms links l p id is fits shown =
     let C = context ns in
-    let s = slot_of o.mutation o.place in
     record {
-      flag = flag_of C s o.id;
-      flagged = λ l. sym (visible_view ns ms links.same links.visible l) ∙ shown l ∙ list_new C s o.id l fits
-          ∙ ap (λ (D : Context). filter (flag_of C s o.id l) (D.order l)) (sym applied);
-      right = λ l a far.
-          let parts = or_parts (is_under (target o) (Item l a)) (is_under l (target o)) far in
-          let apart = not_same (target o) (Item l a) parts.0 in
-          let under : is_under (Item l a) (target o) ≡ false = ap (λ b. b || is_under l (target o)) (same_sym (Item l a) (target o) ∙ apart)
-          ∙ parts.1 in
-          ap (λ b. cond b false (is_any (C.presence (Item l a)))) (new_far s o.id o.place l a apart)
-          ∙ ap is_any (sym (presence_far C o (Item l a) parts.0 under))
-          ∙ ap (λ (D : Context). is_any (D.presence (Item l a))) (sym applied);
-      absent = λ l a none.
-          ap (λ o'. cond (new_at s o.id l a) false (is_any (presence_of (node_in ns o')))) (number_same ns ms links (Item l a) ∙ none)
-          ∙ hidden (new_at s o.id l a);
+      flag = flag_of C (Some (l, p)) id;
+      flagged = λ y. sym (visible_view ns ms links.same links.visible y) ∙ shown y ∙ list_new C (Some (l, p)) id y fits
+          ∙ ap (filter (flag_of C (Some (l, p)) id y)) (sym (ap (λ (D : Context). D.order y) is ∙ order_linked C l p id y));
+      right = λ y a far.
+          ap (λ b. cond b false (is_any (C.presence (Item y a)))) (same_sym (Item l id) (Item y a) ∙ far)
+          ∙ ap (λ (D : Context). is_any (D.presence (Item y a))) (sym is);
+      absent = λ y a none.
+          ap (λ o. cond (new_at (Some (l, p)) id y a) false (is_any (presence_of (node_in ns o)))) (number_same ns ms links (Item y a) ∙ none)
+          ∙ hidden (new_at (Some (l, p)) id y a);
     }
+
+-- an operation that was written at t: what stands beside the way to t keeps its presence, and each list its order
+abbrev pub written : Context → Element → OpId → Tag → Option Scalar → Context
+written C t a k s = registered (mark (entered C t a) t a k) t a s
+
+written_presence : (C : Context) (t : Element) (a : OpId) (k : Tag) (s : Option Scalar) (x : Element) → is_under t x ≡ false
+    → (written C t a k s).presence x ≡ C.presence x
+written_presence C t a k None x far = marked_presence C t a k x ∙ ap (λ o. put_some id_cmp a o (C.presence x)) (tag_far k t x far)
+written_presence C t a k (Some r) x far = marked_presence C t a k x ∙ ap (λ o. put_some id_cmp a o (C.presence x)) (tag_far k t x far)
+
+written_order : (C : Context) (t : Element) (a : OpId) (k : Tag) (s : Option Scalar) (l : Element) → (written C t a k s).order l ≡ C.order l
+written_order C t a k None l = entered_order C t a l
+written_order C t a k (Some r) l = entered_order C t a l
+
+-- where the flags stay while it is written, only those on the way to t may be wrong
+pub written_shown : (ns ms : List Node) → SameLinks ns ms → (t : Element) (a : OpId) (k : Tag) (s : Option Scalar)
+    → context ms ≡ written (context ns) t a k s → (off : Element → OpId → Bool)
+    → ((l : Element) (b : OpId) → is_under t (Item l b) ≡ false → off l b ≡ false)
+    → ShownBut ns off → ShownBut ms (λ l b. is_under t (Item l b))
+written_shown ns ms links t a k s is off within = but_kept ns ms links
+    (λ l. ap (λ (D : Context). D.order l) is ∙ written_order (context ns) t a k s l) off (λ l b. is_under t (Item l b))
+    (λ l b far. (
+      within l b far,
+      ap (λ (D : Context). D.presence (Item l b)) is ∙ written_presence (context ns) t a k s (Item l b) far,
+    ))
+
+-- what isn't on the way to t isn't t
+pub way_itself : (t : Element) (l : Element) (b : OpId) → is_under t (Item l b) ≡ false → is_same (Item l b) t ≡ false
+way_itself t l b far = same_sym (Item l b) t ∙ not_same t (Item l b) far
+
+-- t is on the way to itself
+pub at_way : (ns : List Node) (t : Element) → ShownBut ns (λ l b. is_same (Item l b) t || false) → ShownBut ns (λ l b. is_under t (Item l b))
+at_way ns t = but_more ns _ _ (λ l b i p u. elim (or_cases (is_same (Item l b) t) false u) [
+  | inl s ↦ ap (λ x. is_under t x) (same_elements (Item l b) t s) ∙ under_itself t
+  | inr n ↦ absurd (true≢false (sym n))
+])

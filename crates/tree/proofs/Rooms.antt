@@ -7,9 +7,9 @@ use Rattle.semantics.specs.Elements.{Element, Doc, Field, Item, depth}
 use Rattle.semantics.specs.Paths.{Key, FieldKey, ItemKey, child, down}
 use Rattle.semantics.proofs.ElementPaths.{down-append}
 use Rattle.tree.specs.declared.node.Node.{Node}
-use Rattle.tree.specs.Nodes.{number, node_in, node_at, presence_room, IsTree, SameLinks, MoreRoom, RoomElse}
+use Rattle.tree.specs.Nodes.{number, node_in, node_at, presence_room, IsTree, SameChildren, SameLinks, MoreRoom, RoomElse}
 use Rattle.tree.specs.Writes.{end_of, HasRoom, RoomTo}
-use Rattle.tree.proofs.Shape.{number_same, one_element}
+use Rattle.tree.proofs.Shape.{children_number, number_same, one_element}
 
 depth_child : (e : Element) (k : Key) → depth (child e k) ≡ suc (depth e)
 depth_child e (FieldKey n) = refl
@@ -42,14 +42,14 @@ room_deeper now new t l at r e f p d h =
           let apart : i ≢ at = λ s. d (ap depth (one_element now t e f at p (q ∙ ap Some s))) in
           let kept = r.presence i apart in omega arith
 
-pub more_room : (ns ms : List Node) → SameLinks ns ms → MoreRoom ns ms → (e : Element) → 0 < presence_room (node_at ns e)
+pub more_room : (ns ms : List Node) → SameChildren ns ms → MoreRoom ns ms → (e : Element) → 0 < presence_room (node_at ns e)
     → 0 < presence_room (node_at ms e)
-more_room ns ms l r e h = subst (λ o. 0 < presence_room (node_in ms o)) (number_same ns ms l e) (by (number ns e) h) where
+more_room ns ms l r e h = subst (λ o. 0 < presence_room (node_in ms o)) (children_number ns ms l e) (by (number ns e) h) where
   by : (o : Option ℕ) → 0 < presence_room (node_in ns o) → 0 < presence_room (node_in ms o)
   by None q = absurd (omega arith)
   by (Some i) q = let kept = r.presence i in omega arith
 
-pub path_room : (ns ms : List Node) (path : List Key) → SameLinks ns ms → MoreRoom ns ms → HasRoom ns path → HasRoom ms path
+pub path_room : (ns ms : List Node) (path : List Key) → SameChildren ns ms → MoreRoom ns ms → HasRoom ns path → HasRoom ms path
 path_room ns ms path l r h = λ k lt. more_room ns ms l r (end_of (take k path)) (h k lt)
 
 room_last : (ns : List Node) (e : Element) → RoomTo ns e → 0 < presence_room (node_at ns e)

@@ -12,8 +12,10 @@ use Rattle.value.specs.declared.value.Scalar.{Scalar}
 use Rattle.tree.specs.declared.node.Node.{Node}
 use Rattle.tree.specs.Nodes.{IsEmptyNode, IsTree, Links, NodeBeside, child_number, context, linked_by, links, links_of, names_in, node_in}
 use Rattle.tree.specs.Nodes.{number, order_of, presence_of, register_of, visible_of}
+use Rattle.tree.specs.Nested.{IsNested}
 use Rattle.tree.specs.Trees.{IsPlanted}
 use Rattle.tree.proofs.Contexts.{context_same}
+use Rattle.tree.proofs.Nested.{nested_empty}
 use Rattle.tree.proofs.SameViews.{context_view}
 use Rattle.tree.proofs.Pushed.{empty_beside, push_each, push_view, push_visible}
 
@@ -56,6 +58,7 @@ module _ (n : Node) (e : IsEmptyNode n) where
   root_planted table s d = record {
     distinct = d;
     tree = root_tree;
+    nested = subst IsNested (sym root_empty) nested_empty;
     shown = λ x. sym (push_visible [] n e x) ∙ ap visible_of (nothing_there (number [] x)) ∙ sym (ap (λ C. visible_items C x) root_empty);
     beside = push_each (λ o i. NodeBeside table o) n (λ i h. empty_beside table n e) [] (λ i. tt);
   }

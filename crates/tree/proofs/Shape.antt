@@ -12,7 +12,7 @@ use Rattle.semantics.proofs.Orders.{element_itself, same_elements}
 use Rattle.semantics.proofs.ElementPaths.{down-append}
 use Rattle.tree.specs.declared.node.Node.{Node}
 use Rattle.tree.specs.Nodes.{links_of, links, linked_by, child_number, next_number, number, node_in, node_at, visible_of, IsTree, SameLinks}
-use Rattle.tree.specs.Nodes.{MoreRoom}
+use Rattle.tree.specs.Nodes.{MoreRoom, SameChildren}
 use Rattle.tree.specs.Writes.{end_of}
 use Rattle.tree.proofs.ListReads.{get_same, get_other, get_inside}
 
@@ -135,6 +135,24 @@ node_found ns e i n at g = ap (node_in ns) at ∙ g
 
 pub links_trans : (a b c : List Node) → SameLinks a b → SameLinks b c → SameLinks a c
 links_trans a b c p q = record { count = p.count ∙ q.count; same = λ i. p.same i ∙ q.same i; visible = λ i. p.visible i ∙ q.visible i }
+
+pub children_same : (ns : List Node) → SameChildren ns ns
+children_same ns = record { count = refl; same = λ i. refl }
+
+pub children_trans : (a b c : List Node) → SameChildren a b → SameChildren b c → SameChildren a c
+children_trans a b c p q = record { count = p.count ∙ q.count; same = λ i. p.same i ∙ q.same i }
+
+pub children_linked : (ns ms : List Node) → SameLinks ns ms → SameChildren ns ms
+children_linked ns ms h = record { count = h.count; same = h.same }
+
+pub children_number : (ns ms : List Node) → SameChildren ns ms → (e : Element) → number ns e ≡ number ms e
+children_number ns ms h e = number_links ns ms h.same e
+
+pub children_tree : (ns ms : List Node) → SameChildren ns ms → IsTree ns → IsTree ms
+children_tree ns ms h t = tree_links ns ms h.count h.same t
+
+pub room_same : (ns : List Node) → MoreRoom ns ns
+room_same ns = record { presence = λ i. omega arith; register = λ i. omega arith }
 
 pub room_trans : (a b c : List Node) → MoreRoom a b → MoreRoom b c → MoreRoom a c
 room_trans a b c p q = record {

@@ -1,29 +1,26 @@
 -- What lists show while flags are set one by one.
-use Rattle.std.proofs.Common.{◌≡◌, ℕ, ◌<◌, ◌+◌, ◌||◌, ◌&&◌, Bool, true, false, true≢false, cond, List, [], ◌∷◌, length, get_or, set, take}
-use Rattle.std.proofs.Common.{drop, Option, Some, None, refl, sym, ap, ◌∙◌, subst, length-set, inl, inr}
+use Rattle.std.proofs.Common.{◌≡◌, ℕ, ◌+◌, ◌||◌, ◌&&◌, Bool, true, false, true≢false, cond, List, set, take}
+use Rattle.std.proofs.Common.{Option, Some, None, refl, sym, ap, ◌∙◌, subst, length-set, inl, inr}
 use Rattle.std.specs.Prelude.{slice_get}
-use Rattle.std.specs.List.{filter, list_any}
+use Rattle.std.specs.List.{filter}
 use Rattle.std.proofs.lemmas.Bool.{or_cases, or_left, or_right}
-use Rattle.std.proofs.lemmas.List.{drop_more}
-use Rattle.std.proofs.lemmas.List.Folds.{list_any-append}
 use Rattle.semantics.specs.Ids.{OpId, is_same_id}
-use Rattle.semantics.specs.Elements.{Element, Field, Item, Name, is_same, is_under}
+use Rattle.semantics.specs.Elements.{Element, Item, is_same, is_under}
 use Rattle.semantics.specs.Paths.{Key, ItemKey, child}
 use Rattle.semantics.specs.DocumentAnswer.{is_any}
-use Rattle.semantics.proofs.Orders.{id_itself, ids_from_test, same_elements}
+use Rattle.semantics.proofs.Orders.{same_elements}
 use Rattle.columns.specs.Entries.{StandBeside}
-use Rattle.semantics.specs.Context.{has_item}
 use Rattle.tree.specs.declared.node.Node.{Node}
-use Rattle.tree.specs.Nodes.{IsTree, child_number, context, is_written, links, links_of, node_at, node_in, number, order_of, presence_of}
-use Rattle.tree.specs.Nodes.{register_of, tagged, valued, visible_of}
-use Rattle.tree.specs.Shown.{AreShown, SameButFlags, ShownBut, is_near}
-use Rattle.tree.specs.Writes.{end_of, fields_of, items_of}
-use Rattle.tree.proofs.Beneath.{beneath_child, way_lost}
+use Rattle.tree.specs.Nodes.{IsTree, SameChildren, SameLinks, child_number, context, is_written, links_of, node_at, node_in, number}
+use Rattle.tree.specs.Nodes.{order_of, presence_of, register_of, tagged, valued, visible_of}
+use Rattle.tree.specs.Shown.{AreShown, SameButFlags, ShownBut}
+use Rattle.tree.specs.Writes.{end_of}
+use Rattle.tree.proofs.Beneath.{way_lost}
 use Rattle.tree.proofs.Clears.{under_step}
 use Rattle.tree.proofs.Writes.{same_sym}
-use Rattle.tree.proofs.Shape.{links_each, node_found, node_set, number_child, number_links, tree_links, under_none}
+use Rattle.tree.proofs.Shape.{links_each, node_found, node_set, number_child, number_links, number_same, tree_links}
 use Rattle.tree.proofs.NodeWrites.{beside_at, beside_set}
-use Rattle.tree.proofs.SameViews.{context_view}
+use Rattle.tree.proofs.SameViews.{context_view, visible_view}
 use Rattle.tree.proofs.Widened.{same_set}
 
 pub flags_same : (ns : List Node) → SameButFlags ns ns
@@ -159,25 +156,9 @@ module _ (ns : List Node) (t : IsTree ns) (i : ℕ) (n m : Node) (g : slice_get 
           absent_set (s.flag l a) l a (is_same (Item l a) (Item e id)) refl none (s.absent l a none);
     }
 
-turned : (a b : OpId) → is_same_id a b ≡ false → is_same_id b a ≡ false
-turned a b e = by (is_same_id b a) refl where
-  by : (t : Bool) → is_same_id b a ≡ t → t ≡ false
-  by true f = absurd (true≢false (sym (ap (λ x. is_same_id x b) (sym (ids_from_test b a f)) ∙ id_itself b) ∙ e))
-  by false f = refl
-
-or_parts : (a b : Bool) → (a || b) ≡ false → (a ≡ false) × (b ≡ false)
+pub or_parts : (a b : Bool) → (a || b) ≡ false → (a ≡ false) × (b ≡ false)
 or_parts true b e = absurd (true≢false e)
 or_parts false b e = (refl, e)
-
--- an item that isn't there is no matter
-pub filter_lacking : (f : OpId → Bool) (id : OpId) (b : Bool) (xs : List OpId) → has_item id xs ≡ false
-    → filter f xs ≡ filter (λ a. cond (is_same_id a id) b (f a)) xs
-filter_lacking f id b [] h = refl
-filter_lacking f id b (x ∷ xs) h =
-    let parts = or_parts (is_same_id id x) (has_item id xs) h in
-    let rest = filter_lacking f id b xs parts.1 in
-    let same : f x ≡ cond (is_same_id x id) b (f x) = sym (ap (λ c. cond c b (f x)) (turned id x parts.0)) in
-    λ k. cond (same k) (x ∷ rest k) (rest k)
 
 -- where a hop leads to no node, no flag can be wrong there
 pub but_lost : (ns : List Node) (x : Element) (off : Element → OpId → Bool) → number ns x ≡ None
@@ -186,60 +167,6 @@ but_lost ns x off none = but_more ns _ off (λ l a j p u. elim (or_cases (is_sam
   | inl e ↦ absurd (none_some j (sym none ∙ ap (number ns) (sym (same_elements (Item l a) x e)) ∙ p))
   | inr o ↦ o
 ])
-
--- beneath what isn't there, no flag can be wrong
-pub below_lost : (ns : List Node) (x : Element) (off : Element → OpId → Bool) → number ns x ≡ None
-    → ShownBut ns (λ l a. is_under l x || off l a) → ShownBut ns off
-below_lost ns x off none = but_more ns _ off (λ l a j p u. elim (or_cases (is_under l x) (off l a) u) [
-  | inl e ↦ absurd (none_some j (sym (under_none ns x none (Item l a) (or_right (is_same (Item l a) x) (is_under l x) e)) ∙ p))
-  | inr o ↦ o
-])
-
--- the wrong flags beneath an element are beneath its children
-pub but_beneath : (ns : List Node) (e : Element) (i : ℕ) (off : Element → OpId → Bool) → number ns e ≡ Some i
-    → ShownBut ns (λ l a. is_under l e || off l a)
-    → ShownBut ns
-    (λ l a. list_any (is_under (Item l a)) (fields_of e (links ns i).0)
-    || (list_any (is_under (Item l a)) (items_of e (links ns i).1) || off l a))
-but_beneath ns e i off at = but_more ns _ _ (λ l a j p u. elim (or_cases (is_under l e) (off l a) u) [
-  | inl h ↦
-      let either = sym (list_any-append (is_under (Item l a)) (fields_of e (links ns i).0) (items_of e (links ns i).1))
-      ∙ beneath_child ns e i at l (ItemKey a) j p h in
-      elim (or_cases (list_any (is_under (Item l a)) (fields_of e (links ns i).0))
-      (list_any (is_under (Item l a)) (items_of e (links ns i).1)) either) [
-        | inl f ↦ or_left _ _ f
-        | inr g ↦ or_right (list_any (is_under (Item l a)) (fields_of e (links ns i).0)) _ (or_left _ (off l a) g)
-      ]
-  | inr o ↦ or_right (list_any (is_under (Item l a)) (fields_of e (links ns i).0)) _
-      (or_right (list_any (is_under (Item l a)) (items_of e (links ns i).1)) _ o)
-])
-
-or_three : (a b c : Bool) → ((a || b) || c) ≡ (a || (b || c))
-or_three true b c = refl
-or_three false b c = refl
-
-or_four : (a b c d : Bool) → (((a || b) || c) || d) ≡ (a || (b || (c || d)))
-or_four true b c d = refl
-or_four false b c d = or_three b c d
-
--- one turn of the loops over fields and over items
-pub but_field : (ns : List Node) (e : Element) (fs : List (Name × ℕ)) (k : ℕ) (d : Name × ℕ) (off : Element → OpId → Bool) → k < length fs
-    → ShownBut ns (λ l a. list_any (is_under (Item l a)) (fields_of e (drop k fs)) || off l a)
-    → ShownBut ns
-    (λ l a. is_under l (Field e (get_or fs k d).0) || (list_any (is_under (Item l a)) (fields_of e (drop (k + 1) fs)) || off l a))
-but_field ns e fs k d off lt = subst (ShownBut ns)
-    (λ t l a. (ap (λ xs. list_any (is_under (Item l a)) (fields_of e xs) || off l a) (drop_more fs k d lt)
-    ∙ or_three (is_under l (Field e (get_or fs k d).0)) (list_any (is_under (Item l a)) (fields_of e (drop (k + 1) fs))) (off l a)) t)
-
-pub but_item : (ns : List Node) (e : Element) (xs : List (OpId × ℕ)) (k : ℕ) (d : OpId × ℕ) (off : Element → OpId → Bool) → k < length xs
-    → ShownBut ns (λ l a. list_any (is_under (Item l a)) (items_of e (drop k xs)) || off l a)
-    → ShownBut ns
-    (λ l a. is_same (Item l a) (Item e (get_or xs k d).0)
-    || (is_under l (Item e (get_or xs k d).0) || (list_any (is_under (Item l a)) (items_of e (drop (k + 1) xs)) || off l a)))
-but_item ns e xs k d off lt = subst (ShownBut ns)
-    (λ t l a. (ap (λ ys. list_any (is_under (Item l a)) (items_of e ys) || off l a) (drop_more xs k d lt)
-    ∙ or_four (is_same (Item l a) (Item e (get_or xs k d).0)) (is_under l (Item e (get_or xs k d).0))
-    (list_any (is_under (Item l a)) (items_of e (drop (k + 1) xs))) (off l a)) t)
 
 -- one hop of the walk down a path
 pub but_hop : (ns : List Node) (path : List Key) (k : ℕ) (e : Element) (h : Key) (off : Element → OpId → Bool)
@@ -266,25 +193,58 @@ but_way ns path k e h off is none = but_more ns _ _ (λ l a j p u. elim (or_case
   | inr o ↦ or_right (is_under e (Item l a)) _ (or_right (is_same (Item l a) (child e h)) _ o)
 ])
 
--- a walk that was at the end of its path
-pub end_parts : (ns : List Node) (t : Element) → ShownBut ns (λ l a. is_under l t) → ShownBut ns (λ l a. is_under l t || false)
-end_parts ns t = subst (ShownBut ns) (λ k l a. or_nothing (is_under l t) k)
-  where
-    or_nothing : (b : Bool) → b ≡ (b || false)
-    or_nothing true = refl
-    or_nothing false = refl
+or_nothing : (b : Bool) → b ≡ (b || false)
+or_nothing true = refl
+or_nothing false = refl
 
-pub end_lost : (ns : List Node) (t : Element) → number ns t ≡ None → ShownBut ns (λ l a. is_under l t) → AreShown ns
-end_lost ns t none s = but_none ns (below_lost ns t (λ l a. false) none (end_parts ns t s))
+-- no other flag is wrong
+pub or_none : (ns : List Node) (off : Element → OpId → Bool) → ShownBut ns off → ShownBut ns (λ l a. off l a || false)
+or_none ns off = subst (ShownBut ns) (λ k l a. or_nothing (off l a) k)
 
 -- a new item, and the way to its list
-pub new_parts : (ns : List Node) (m : Element) (id : OpId) → ShownBut ns (is_near (Item m id))
-    → ShownBut ns (λ l a. is_under m (Item l a) || (is_same (Item l a) (Item m id) || is_under l (Item m id)))
+pub new_parts : (ns : List Node) (m : Element) (id : OpId) → ShownBut ns (λ l a. is_under (Item m id) (Item l a))
+    → ShownBut ns (λ l a. is_under m (Item l a) || (is_same (Item l a) (Item m id) || false))
 new_parts ns m id = subst (ShownBut ns)
-    (λ k l a. (ap (λ b. (b || is_under m (Item l a)) || is_under l (Item m id)) (same_sym (Item m id) (Item l a))
-    ∙ swapped (is_same (Item l a) (Item m id)) (is_under m (Item l a)) (is_under l (Item m id))) k)
+    (λ k l a. (ap (λ b. b || is_under m (Item l a)) (same_sym (Item m id) (Item l a))
+    ∙ swapped (is_same (Item l a) (Item m id)) (is_under m (Item l a))) k)
   where
-    swapped : (a b c : Bool) → ((a || b) || c) ≡ (b || (a || c))
-    swapped true true c = refl
-    swapped true false c = refl
-    swapped false b c = refl
+    swapped : (a b : Bool) → (a || b) ≡ (b || (a || false))
+    swapped true true = refl
+    swapped true false = refl
+    swapped false b = or_nothing b
+
+-- where each list shows its visible items, no flag is wrong
+pub shown_but : (ns : List Node) → AreShown ns → ShownBut ns (λ l a. false)
+shown_but ns shown = record {
+  flag = λ l a. is_any ((context ns).presence (Item l a));
+  flagged = shown;
+  right = λ l a far. refl;
+  absent = λ l a none. ap (λ o. is_any (presence_of (node_in ns o))) none;
+}
+
+-- where flags and orders stay, those at items whose presence stays are as right as they were
+pub but_kept : (ns ms : List Node) → SameLinks ns ms → ((l : Element) → order_of (node_at ms l) ≡ order_of (node_at ns l))
+    → (off new : Element → OpId → Bool)
+    → ((l : Element) (a : OpId) → new l a ≡ false
+    → (off l a ≡ false) × ((context ms).presence (Item l a) ≡ (context ns).presence (Item l a)))
+    → ShownBut ns off → ShownBut ms new
+but_kept ns ms links order off new same s = record {
+  flag = s.flag;
+  flagged = λ l. sym (visible_view ns ms links.same links.visible l) ∙ s.flagged l ∙ ap (filter (s.flag l)) (sym (order l));
+  right = λ l a far. let h = same l a far in s.right l a h.0 ∙ ap is_any (sym h.1);
+  absent = λ l a none. s.absent l a (number_same ns ms links (Item l a) ∙ none);
+}
+
+-- the same children, whatever the flags
+pub flags_children : (ns ms : List Node) → SameButFlags ns ms → SameChildren ns ms
+flags_children ns ms s = let v = s.view in record { count = s.count; same = v.links }
+
+-- with more flags that may be wrong
+pub but_wider : (ns : List Node) (b : Bool) (x : Element) (off : Element → OpId → Bool)
+    → ShownBut ns (λ l a. (b && is_same (Item l a) x) || off l a) → ShownBut ns (λ l a. is_same (Item l a) x || off l a)
+but_wider ns b x off = but_more ns _ _ (λ l a i p u. wider b (is_same (Item l a) x) (off l a) u)
+  where
+    wider : (b s o : Bool) → ((b && s) || o) ≡ true → (s || o) ≡ true
+    wider true s o u = u
+    wider false true o u = refl
+    wider false false o u = u

@@ -44,7 +44,7 @@ marked_over t x a k Q P o q none =
       | false ↦ λ p. q
     ] refl
 
-marked_presence : (C : Context) (t : Element) (a : OpId) (k : Tag) (x : Element)
+pub marked_presence : (C : Context) (t : Element) (a : OpId) (k : Tag) (x : Element)
     → (mark (entered C t a) t a k).presence x ≡ put_some id_cmp a (tag_at k t x) (C.presence x)
 marked_presence C Doc a k x = marked_over Doc x a k (C.presence x) (C.presence x) None refl (λ p. refl)
 marked_presence C (Field t n) a k x = marked_over (Field t n) x a k ((mark (entered C t a) t a AsMap).presence x) (C.presence x)
@@ -78,7 +78,7 @@ entered_register C Doc a x = refl
 entered_register C (Field t n) a x = entered_register C t a x
 entered_register C (Item t b) a x = entered_register C t a x
 
-entered_order : (C : Context) (t : Element) (a : OpId) (x : Element) → (entered C t a).order x ≡ C.order x
+pub entered_order : (C : Context) (t : Element) (a : OpId) (x : Element) → (entered C t a).order x ≡ C.order x
 entered_order C Doc a x = refl
 entered_order C (Field t n) a x = entered_order C t a x
 entered_order C (Item t b) a x = entered_order C t a x
@@ -134,7 +134,7 @@ abbrev pub after_place : Option OpId → Element → Place
 after_place None l = HeadOf l
 after_place (Some p) l = At (Item l p)
 
-order_linked : (C : Context) (l : Element) (p : Option OpId) (a : OpId) (x : Element)
+pub order_linked : (C : Context) (l : Element) (p : Option OpId) (a : OpId) (x : Element)
     → (linked C l p a).order x ≡ insert_some (cond (is_same l x) (Some p) None) a (C.order x)
 order_linked C l p a x =
     ap (λ b. cond b (insert_after p a (C.order x)) (C.order x)) (same_sym x l)

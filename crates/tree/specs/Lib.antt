@@ -1,5 +1,6 @@
 -- A document as numbered nodes, and what is written along a path.
 pub mod Nodes
+pub mod Nested
 pub mod Shown
 pub mod Writes
 pub mod Trees

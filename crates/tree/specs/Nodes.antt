@@ -120,6 +120,11 @@ NodeBeside table (Some n) = StandBeside table n.presence.entries n.presence.indi
 abbrev pub AreBeside : List ℕ → List Node → Type 0
 AreBeside table ns = (i : ℕ) → NodeBeside table (slice_get ns i)
 
+-- the same children
+pub record SameChildren (ns ms : List Node) : Type 0 where
+  pub count : length ns ≡ length ms
+  pub same : (i : ℕ) → links ns i ≡ links ms i
+
 -- the same children, and the same flags of items
 pub record SameLinks (ns ms : List Node) : Type 0 where
   pub count : length ns ≡ length ms

@@ -1,8 +1,8 @@
 -- Which items the lists show.
-use Rattle.std.specs.Prelude.{◌≡◌, ℕ, Bool, false, ◌||◌, List, length, None}
+use Rattle.std.specs.Prelude.{◌≡◌, ℕ, Bool, false, List, length, None}
 use Rattle.std.specs.List.{filter}
 use Rattle.semantics.specs.Ids.{OpId}
-use Rattle.semantics.specs.Elements.{Element, Item, is_under}
+use Rattle.semantics.specs.Elements.{Element, Item}
 use Rattle.semantics.specs.DocumentAnswer.{is_any, visible_items}
 use Rattle.tree.specs.declared.node.Node.{Node}
 use Rattle.tree.specs.Nodes.{AreBeside, SameView, context, node_at, number, order_of, visible_of}
@@ -24,7 +24,3 @@ pub record SameButFlags (ns ms : List Node) : Type 0 where
   pub count : length ns ≡ length ms
   pub view : SameView ns ms
   pub beside : (table : List ℕ) → AreBeside table ns → AreBeside table ms
-
--- the item a of l is on the way down to t, or stands beneath it
-abbrev pub is_near : Element → Element → OpId → Bool
-is_near t l a = is_under t (Item l a) || is_under l t

@@ -11,6 +11,7 @@ use Rattle.value.specs.declared.value.Scalar.{Scalar}
 use Rattle.value.specs.Meanings.{scalar_of}
 use Rattle.tree.specs.declared.node.Node.{Node}
 use Rattle.tree.specs.Nodes.{AreBeside, IsTree, context, node_at, order_room, register_room}
+use Rattle.tree.specs.Nested.{IsNested}
 use Rattle.tree.specs.Shown.{AreShown}
 use Rattle.cursor.specs.Meanings.{hop_of}
 use Rattle.tree.specs.declared.insert.Slot.{Slot}
@@ -26,11 +27,12 @@ pub record Planted : Type 0 where
 abbrev pub document : Planted → Context
 document t = context t.nodes
 
--- the numbers of the table differ, the nodes are a tree, lists show their visible items, and each id's index is its replica's in the
--- table
+-- the numbers of the table differ, the nodes are a tree, what stands beneath an element stands at it too, lists show their visible
+-- items, and each id's index is its replica's in the table
 pub record IsPlanted (t : Planted) : Type 0 where
   pub distinct : AreDistinct t.table
   pub tree : IsTree t.nodes
+  pub nested : IsNested (context t.nodes)
   pub shown : AreShown t.nodes
   pub beside : AreBeside t.table t.nodes
 

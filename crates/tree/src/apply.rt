@@ -2,16 +2,17 @@
 
 ghost use Rattle.std.specs.Prelude.{◌≡◌, Option, Some, IsSome, option_map};
 ghost use Rattle.semantics.specs.Ids.{OpId as TheId};
-ghost use Rattle.semantics.specs.Elements.{Element, Item, EmptyMap};
+ghost use Rattle.semantics.specs.Elements.{Element, Item, EmptyMap, is_under};
 ghost use Rattle.semantics.specs.LegalHistory.{IsFormed};
-ghost use Rattle.semantics.specs.Operations.{Insert, slot_of};
+ghost use Rattle.semantics.specs.Operations.{Insert, slot_of, target_in};
 ghost use Rattle.semantics.specs.Context.{apply};
 ghost use Rattle.semantics.specs.Stamped.{loose_operation};
 ghost use Rattle.value.specs.Meanings.{scalar_of};
 ghost use Rattle.cursor.specs.Meanings.{tag_of};
 ghost use Rattle.operation.specs.Meanings.{mutation_of, stamped_of};
-ghost use Rattle.tree.specs.Nodes.{AreBeside, IsTree, SameLinks, context};
-ghost use Rattle.tree.specs.Shown.{AreShown};
+ghost use Rattle.tree.specs.Nested.{IsNested};
+ghost use Rattle.tree.specs.Nodes.{AreBeside, IsTree, context};
+ghost use Rattle.tree.specs.Shown.{AreShown, ShownBut};
 ghost use Rattle.tree.specs.Writes.{IsStamp, assigned, deps_of, linked};
 ghost use Rattle.tree.specs.Trees.{CanInsert, IsPlaced, IsReserved};
 
@@ -32,12 +33,14 @@ pub fn apply(nodes: &mut [Node], op: &Op, stamp: &Stamp, scalar: Option<Scalar>)
     requires vector { stamp.now.vector.now ≡ op.now.deps }
     requires tree { IsTree nodes.old }
     requires beside { AreBeside stamp.now.table.now nodes.old }
+    requires nested { IsNested (context nodes.old) }
     requires shown { AreShown nodes.old }
     requires reserved { IsReserved (record { table = stamp.now.table.now; nodes = nodes.old; scalar = scalar })
         (stamped_of stamp.now.table.now op.now) }
     requires placed { IsPlaced (context nodes.old) (stamped_of stamp.now.table.now op.now) }
     requires formed { IsFormed (mutation_of op.now.mutation) op.now.place }
     ensures tree { IsTree nodes.new }
+    ensures nested { IsNested (context nodes.new) }
     ensures beside { AreBeside stamp.now.table.now nodes.new }
     ensures shown { AreShown nodes.new }
     ensures applied { context nodes.new ≡ apply (context nodes.old) (loose_operation (stamped_of stamp.now.table.now op.now)) }
@@ -46,20 +49,23 @@ pub fn apply(nodes: &mut [Node], op: &Op, stamp: &Stamp, scalar: Option<Scalar>)
     show(nodes, op);
 }
 
-/// Clears and writes what an operation's mutation says. The lists show what they showed.
+/// Clears and writes what an operation's mutation says. What lists show may be wrong then on the way to its target, and nowhere else.
 fn run(nodes: &mut [Node], op: &Op, stamp: &Stamp, scalar: Option<Scalar>)
     requires stamp { IsStamp stamp.now }
     requires id { stamp.now.id ≡ op.now.id }
     requires vector { stamp.now.vector.now ≡ op.now.deps }
     requires tree { IsTree nodes.old }
     requires beside { AreBeside stamp.now.table.now nodes.old }
+    requires nested { IsNested (context nodes.old) }
     requires reserved { IsReserved (record { table = stamp.now.table.now; nodes = nodes.old; scalar = scalar })
         (stamped_of stamp.now.table.now op.now) }
     requires placed { IsPlaced (context nodes.old) (stamped_of stamp.now.table.now op.now) }
     requires formed { IsFormed (mutation_of op.now.mutation) op.now.place }
     ensures tree { IsTree nodes.new }
-    ensures links { SameLinks nodes.old nodes.new }
     ensures beside { AreBeside stamp.now.table.now nodes.new }
+    ensures shown { AreShown nodes.old
+        → ShownBut nodes.new
+        (λ l a. is_under (target_in (slot_of (mutation_of op.now.mutation) op.now.place) op.now.id op.now.place) (Item l a)) }
     ensures applied { context nodes.new ≡ apply (context nodes.old) (loose_operation (stamped_of stamp.now.table.now op.now)) }
 {
     match &op.mutation {
@@ -74,12 +80,14 @@ fn insert_at(nodes: &mut [Node], place: &Place, stamp: &Stamp, tag: Tag, scalar:
     requires stamp { IsStamp stamp.now }
     requires tree { IsTree nodes.old }
     requires beside { AreBeside stamp.now.table.now nodes.old }
+    requires nested { IsNested (context nodes.old) }
     requires slot { IsSome (slot_of (Insert EmptyMap) place.now) }
     requires fits { (l : Element) (p : Option TheId) → slot_of (Insert EmptyMap) place.now ≡ Some (l, p)
         → CanInsert nodes.old l p stamp.now.id scalar }
     ensures tree { IsTree nodes.new }
-    ensures links { SameLinks nodes.old nodes.new }
     ensures beside { AreBeside stamp.now.table.now nodes.new }
+    ensures shown { (l : Element) (p : Option TheId) → slot_of (Insert EmptyMap) place.now ≡ Some (l, p) → AreShown nodes.old
+        → ShownBut nodes.new (λ y a. is_under (Item l stamp.now.id) (Item y a)) }
     ensures inserted { (l : Element) (p : Option TheId) → slot_of (Insert EmptyMap) place.now ≡ Some (l, p)
         → context nodes.new
         ≡ assigned (linked (context nodes.old) l p stamp.now.id) stamp.now.id (deps_of stamp.now) (Item l stamp.now.id) (tag_of tag)

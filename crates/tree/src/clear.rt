@@ -1,13 +1,19 @@
 //! Clearing an element and all that is beneath it.
 
-ghost use Rattle.std.specs.Prelude.{◌≡◌, ◌<◌, Some, length, map};
-ghost use Rattle.semantics.specs.Elements.{Element};
+ghost use Rattle.std.specs.Prelude.{◌≡◌, ◌<◌, ◌&&◌, ◌||◌, ℕ, Bool, Some, length, map, slice_get, slice_index_or};
+ghost use Rattle.semantics.specs.Ids.{OpId as TheId};
+ghost use Rattle.semantics.specs.Elements.{Element, Item, is_same};
 ghost use Rattle.semantics.specs.Context.{clear};
+ghost use Rattle.semantics.specs.DocumentAnswer.{is_any};
 ghost use Rattle.cursor.specs.Meanings.{hop_of};
-ghost use Rattle.tree.specs.Nodes.{AreBeside, IsTree, MoreRoom, SameLinks, context, number};
+ghost use Rattle.tree.specs.Nested.{IsNested};
+ghost use Rattle.tree.specs.Nodes.{AreBeside, IsTree, MoreRoom, SameChildren, SameLinks, context, links, number, presence_of};
+ghost use Rattle.tree.specs.Shown.{SameButFlags, ShownBut};
 ghost use Rattle.tree.specs.Writes.{IsStamp, clear_own, deps_of, end_of};
 
+use crate::answer::is_present;
 use crate::node::{Node, NodeNumber, node_at_mut};
+use crate::show::show_child;
 use crate::stamp::Stamp;
 use crate::walk::{count_fields, count_items, field_at, item_at, walk};
 use cursor::Hop;
@@ -29,18 +35,42 @@ fn clear_node(nodes: &mut [Node], at: NodeNumber, stamp: &Stamp)
     node.register.clear(stamp.vector);
 }
 
-/// Clears a node and all nodes beneath it, and visits each of them once.
+/// Sets what the list shows of the item with this index, if something stood there before it was cleared: else it isn't shown.
+fn show_cleared(nodes: &mut [Node], at: NodeNumber, position: usize, was_present: bool)
+    requires tree { IsTree nodes.old }
+    requires inside { at < length nodes.old }
+    requires within { position < length (links nodes.old at).1 }
+    ensures same { SameButFlags nodes.old nodes.new }
+    ensures room { MoreRoom nodes.old nodes.new }
+    ensures shown { (e : Element) (off : Element → TheId → Bool) (d : TheId × ℕ) → number nodes.old e ≡ Some at
+        → ShownBut nodes.old
+        (λ l a. (was_present && is_same (Item l a) (Item e (slice_index_or (links nodes.old at).1 position d).0)) || off l a)
+        → ShownBut nodes.new off }
+{
+    if was_present {
+        show_child(nodes, at, position);
+    }
+}
+
+/// Clears a node and all nodes beneath it, and sets what the lists beneath it show. Goes past what is empty with one look: nothing
+/// stands beneath it either.
 pub fn clear_below(nodes: &mut [Node], at: NodeNumber, stamp: &Stamp)
     requires tree { IsTree nodes.old }
     requires stamp { IsStamp stamp.now }
     requires beside { AreBeside stamp.now.table.now nodes.old }
+    requires nested { IsNested (context nodes.old) }
+    requires there { (e : Element) × (number nodes.old e ≡ Some at) }
     requires inside { at < length nodes.old }
-    ensures links { SameLinks nodes.old nodes.new }
+    ensures children { SameChildren nodes.old nodes.new }
     ensures room { MoreRoom nodes.old nodes.new }
     ensures beside { AreBeside stamp.now.table.now nodes.new }
     ensures cleared { (e : Element) → number nodes.old e ≡ Some at → context nodes.new ≡ clear (context nodes.old) e (deps_of stamp.now) }
+    ensures shown { (e : Element) (off : Element → TheId → Bool) → number nodes.old e ≡ Some at → ShownBut nodes.old off
+        → ShownBut nodes.new (λ l a. (is_any (presence_of (slice_get nodes.old at)) && is_same (Item l a) e) || off l a) }
 {
-    clear_node(nodes, at, stamp);
+    if !is_present(nodes, at) {
+        return;
+    }
     let fields = count_fields(nodes, at);
     'fields: for position in 0..fields {
         let child = field_at(nodes, at, position);
@@ -49,19 +79,26 @@ pub fn clear_below(nodes: &mut [Node], at: NodeNumber, stamp: &Stamp)
     let items = count_items(nodes, at);
     'items: for position in 0..items {
         let child = item_at(nodes, at, position);
+        let was_present = is_present(nodes, child);
         clear_below(nodes, child, stamp);
+        show_cleared(nodes, at, position, was_present);
     }
+    clear_node(nodes, at, stamp);
 }
 
-/// Clears the element at the end of a path and all beneath it, if a node was ever made there.
+/// Clears the element at the end of a path and all beneath it, if a node was ever made there. The lists beneath it then show what
+/// stands there.
 pub fn clear_at(nodes: &mut [Node], path: &[Hop], stamp: &Stamp)
     requires tree { IsTree nodes.old }
     requires stamp { IsStamp stamp.now }
     requires beside { AreBeside stamp.now.table.now nodes.old }
-    ensures links { SameLinks nodes.old nodes.new }
+    requires nested { IsNested (context nodes.old) }
+    ensures children { SameChildren nodes.old nodes.new }
     ensures room { MoreRoom nodes.old nodes.new }
     ensures beside { AreBeside stamp.now.table.now nodes.new }
     ensures cleared { context nodes.new ≡ clear (context nodes.old) (end_of (map hop_of path.now)) (deps_of stamp.now) }
+    ensures shown { (off : Element → TheId → Bool) → ShownBut nodes.old off
+        → ShownBut nodes.new (λ l a. is_same (Item l a) (end_of (map hop_of path.now)) || off l a) }
 {
     match walk(nodes, path) {
         Some(at) => clear_below(nodes, at, stamp),

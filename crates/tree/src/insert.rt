@@ -1,12 +1,14 @@
 //! Inserting a new item into a list, and writing it.
 
 ghost use Rattle.std.specs.Prelude.{◌≡◌, ◌<◌, ℕ, List, Option, Some, None, IsTrue, IsFalse, IsSome, length, map, option_map, slice_get};
-ghost use Rattle.semantics.specs.Elements.{Element, Item, EmptyMap};
+ghost use Rattle.semantics.specs.Elements.{Element, Item, EmptyMap, is_under};
 ghost use Rattle.semantics.specs.Operations.{Insert, slot_of};
 ghost use Rattle.value.specs.Meanings.{scalar_of};
 ghost use Rattle.cursor.specs.Meanings.{hop_of, tag_of};
 ghost use Rattle.semantics.specs.Context.{has_item, has_position};
+ghost use Rattle.tree.specs.Nested.{IsNested};
 ghost use Rattle.tree.specs.Nodes.{AreBeside, IsTree, MoreRoom, SameLinks, context, node_at, number, order_of, order_room};
+ghost use Rattle.tree.specs.Shown.{AreShown, ShownBut};
 ghost use Rattle.tree.specs.Writes.{IsStamp, assigned, deps_of, end_of, linked};
 ghost use Rattle.tree.specs.Trees.{CanInsert, SlotIs};
 
@@ -81,15 +83,17 @@ fn link_list(nodes: &mut [Node], slot: &Slot<'_>, id: &OpId) -> NodeNumber
     item
 }
 
-/// Inserts a new item into a list, and writes it.
+/// Inserts a new item into a list, and writes it. What lists show may be wrong then on the way to it, and nowhere else.
 pub fn insert(nodes: &mut [Node], slot: &Slot<'_>, stamp: &Stamp, tag: Tag, scalar: Option<Scalar>)
     requires tree { IsTree nodes.old }
     requires stamp { IsStamp stamp.now }
     requires beside { AreBeside stamp.now.table.now nodes.old }
+    requires nested { IsNested (context nodes.old) }
     requires fits { CanInsert nodes.old (end_of (map hop_of slot.now.list.now)) slot.now.prev stamp.now.id scalar }
     ensures tree { IsTree nodes.new }
-    ensures links { SameLinks nodes.old nodes.new }
     ensures beside { AreBeside stamp.now.table.now nodes.new }
+    ensures shown { AreShown nodes.old
+        → ShownBut nodes.new (λ l a. is_under (Item (end_of (map hop_of slot.now.list.now)) stamp.now.id) (Item l a)) }
     ensures inserted { context nodes.new
         ≡ assigned (linked (context nodes.old) (end_of (map hop_of slot.now.list.now)) slot.now.prev stamp.now.id) stamp.now.id
         (deps_of stamp.now) (Item (end_of (map hop_of slot.now.list.now)) stamp.now.id) (tag_of tag) (option_map scalar_of scalar) }

@@ -1,6 +1,6 @@
-//! Keeping what the lists show, once an operation was applied.
+//! Keeping what the lists show.
 
-ghost use Rattle.std.specs.Prelude.{◌≡◌, ◌<◌, ◌||◌, ℕ, Bool, Some, length, map, cond, slice_index_or, IfSome};
+ghost use Rattle.std.specs.Prelude.{◌≡◌, ◌<◌, ◌||◌, ℕ, Bool, false, Some, length, map, cond, slice_index_or, IfSome};
 ghost use Rattle.std.specs.List.{filter};
 ghost use Rattle.semantics.specs.Ids.{OpId as TheId, is_same_id};
 ghost use Rattle.semantics.specs.Elements.{Element, Item, EmptyMap, is_same, is_under};
@@ -8,54 +8,41 @@ ghost use Rattle.semantics.specs.Operations.{Insert, slot_of, target_in};
 ghost use Rattle.semantics.specs.Paths.{ItemKey, child};
 ghost use Rattle.cursor.specs.Meanings.{hop_of};
 ghost use Rattle.operation.specs.Meanings.{mutation_of};
-ghost use Rattle.tree.specs.Nodes.{IsTree, child_number, links, number};
-ghost use Rattle.tree.specs.Shown.{AreShown, SameButFlags, ShownBut, is_near};
+ghost use Rattle.tree.specs.Nodes.{IsTree, MoreRoom, child_number, links, number};
+ghost use Rattle.tree.specs.Shown.{AreShown, SameButFlags, ShownBut};
 ghost use Rattle.tree.specs.Writes.{end_of};
 
 use crate::answer::is_present;
 use crate::insert::{Slot, slot_of};
 use crate::node::{Node, NodeNumber, node_at, node_at_mut};
-use crate::walk::{child_of, count_fields, count_items, field_at, item_of};
-use columns::ListOrder;
+use crate::walk::{child_of, item_of};
 use cursor::{Hop, Place};
 use ids::OpId;
 use operation::{Mutation, Op};
 
-/// Shows an item, or hides it, if it is in the list. Binary search.
-fn set_flag(order: &mut ListOrder, id: &OpId, shown: bool)
-    ensures items { order.new.items ≡ order.old.items }
-    ensures visible { (f : TheId → Bool) → order.old.visible ≡ filter f order.old.items
-        → order.new.visible ≡ filter (λ a. cond (is_same_id a id.now) shown (f a)) order.old.items }
-{
-    if order.contains(id) {
-        order.set_shown(id, shown);
-    }
-}
-
-/// Shows an item of a node's list if something stands at its node, and hides it if nothing does.
+/// Shows an item of a node's list if something stands at its node, and hides it if nothing does. A binary search and a walk in one
+/// block of the list.
 fn show_item(nodes: &mut [Node], at: NodeNumber, id: &OpId, item: NodeNumber)
     requires tree { IsTree nodes.old }
     requires inside { at < length nodes.old }
     requires item { child_number nodes.old at (ItemKey id.now) ≡ Some item }
     ensures same { SameButFlags nodes.old nodes.new }
+    ensures room { MoreRoom nodes.old nodes.new }
     ensures shown { (e : Element) (off : Element → TheId → Bool) → number nodes.old e ≡ Some at
         → ShownBut nodes.old (λ l a. is_same (Item l a) (Item e id.now) || off l a) → ShownBut nodes.new off }
 {
     let shown = is_present(nodes, item);
     let node = node_at_mut(nodes, at);
-    set_flag(&mut node.order, id, shown);
+    node.order.set_shown(id, shown);
 }
 
-/// The same for the item with this index among those that have a node. Returns the node's number.
-fn show_child(nodes: &mut [Node], at: NodeNumber, position: usize) -> NodeNumber
+/// The same for the item with this index among those that have a node.
+pub fn show_child(nodes: &mut [Node], at: NodeNumber, position: usize)
     requires tree { IsTree nodes.old }
     requires inside { at < length nodes.old }
     requires within { position < length (links nodes.old at).1 }
-    ensures above { at < result }
-    ensures within { result < length nodes.old }
     ensures same { SameButFlags nodes.old nodes.new }
-    ensures number { (e : Element) (d : TheId × ℕ) → number nodes.old e ≡ Some at
-        → number nodes.old (Item e (slice_index_or (links nodes.old at).1 position d).0) ≡ Some result }
+    ensures room { MoreRoom nodes.old nodes.new }
     ensures shown { (e : Element) (off : Element → TheId → Bool) (d : TheId × ℕ) → number nodes.old e ≡ Some at
         → ShownBut nodes.old (λ l a. is_same (Item l a) (Item e (slice_index_or (links nodes.old at).1 position d).0) || off l a)
         → ShownBut nodes.new off }
@@ -63,27 +50,6 @@ fn show_child(nodes: &mut [Node], at: NodeNumber, position: usize) -> NodeNumber
     let (id, item) = node_at(nodes, at).items.at(position);
     let item = NodeNumber::new(item);
     show_item(nodes, at, &id, item);
-    item
-}
-
-/// The same for each item beneath a node, at any depth. Visits each node there once.
-fn show_below(nodes: &mut [Node], at: NodeNumber)
-    requires tree { IsTree nodes.old }
-    requires inside { at < length nodes.old }
-    ensures same { SameButFlags nodes.old nodes.new }
-    ensures shown { (e : Element) (off : Element → TheId → Bool) → number nodes.old e ≡ Some at
-        → ShownBut nodes.old (λ l a. is_under l e || off l a) → ShownBut nodes.new off }
-{
-    let fields = count_fields(nodes, at);
-    'fields: for position in 0..fields {
-        let child = field_at(nodes, at, position);
-        show_below(nodes, child);
-    }
-    let items = count_items(nodes, at);
-    'items: for position in 0..items {
-        let child = show_child(nodes, at, position);
-        show_below(nodes, child);
-    }
 }
 
 /// Sets what the list shows of the item that a hop leads to.
@@ -134,31 +100,25 @@ fn show_path(nodes: &mut [Node], path: &[Hop]) -> Option<NodeNumber>
     Some(at)
 }
 
-/// Sets what the lists show on the way down a path, and beneath its end.
+/// Sets what the lists show on the way down a path.
 fn show_at(nodes: &mut [Node], path: &[Hop])
     requires { IsTree nodes.old }
     ensures same { SameButFlags nodes.old nodes.new }
-    ensures shown { ShownBut nodes.old (is_near (end_of (map hop_of path.now))) → AreShown nodes.new }
+    ensures shown { ShownBut nodes.old (λ l a. is_under (end_of (map hop_of path.now)) (Item l a)) → AreShown nodes.new }
 {
-    match show_path(nodes, path) {
-        Some(at) => show_below(nodes, at),
-        None => {}
-    }
+    let _end = show_path(nodes, path);
 }
 
-/// Sets what the lists show at a new item of a node's list, and beneath it.
+/// Sets what the lists show at a new item of a node's list.
 fn show_entry(nodes: &mut [Node], at: NodeNumber, id: &OpId)
     requires tree { IsTree nodes.old }
     requires inside { at < length nodes.old }
     ensures same { SameButFlags nodes.old nodes.new }
     ensures shown { (e : Element) → number nodes.old e ≡ Some at
-        → ShownBut nodes.old (λ l a. is_same (Item l a) (Item e id.now) || is_under l (Item e id.now)) → AreShown nodes.new }
+        → ShownBut nodes.old (λ l a. is_same (Item l a) (Item e id.now) || false) → AreShown nodes.new }
 {
     match item_of(nodes, at, id) {
-        Some(item) => {
-            show_item(nodes, at, id, item);
-            show_below(nodes, item);
-        }
+        Some(item) => show_item(nodes, at, id, item),
         None => {}
     }
 }
@@ -167,7 +127,7 @@ fn show_entry(nodes: &mut [Node], at: NodeNumber, id: &OpId)
 fn show_new(nodes: &mut [Node], slot: &Slot<'_>, id: &OpId)
     requires { IsTree nodes.old }
     ensures same { SameButFlags nodes.old nodes.new }
-    ensures shown { ShownBut nodes.old (is_near (Item (end_of (map hop_of slot.now.list.now)) id.now)) → AreShown nodes.new }
+    ensures shown { ShownBut nodes.old (λ l a. is_under (Item (end_of (map hop_of slot.now.list.now)) id.now) (Item l a)) → AreShown nodes.new }
 {
     match show_path(nodes, slot.list) {
         Some(at) => show_entry(nodes, at, id),
@@ -179,7 +139,8 @@ fn show_new(nodes: &mut [Node], slot: &Slot<'_>, id: &OpId)
 fn show_insert(nodes: &mut [Node], place: &Place, id: &OpId)
     requires { IsTree nodes.old }
     ensures same { SameButFlags nodes.old nodes.new }
-    ensures shown { ShownBut nodes.old (is_near (target_in (slot_of (Insert EmptyMap) place.now) id.now place.now)) → AreShown nodes.new }
+    ensures shown { ShownBut nodes.old (λ l a. is_under (target_in (slot_of (Insert EmptyMap) place.now) id.now place.now) (Item l a))
+        → AreShown nodes.new }
 {
     match slot_of(place) {
         Some(slot) => show_new(nodes, &slot, id),
@@ -187,11 +148,12 @@ fn show_insert(nodes: &mut [Node], place: &Place, id: &OpId)
     }
 }
 
-/// Sets what the lists show, after an operation was applied: on the way to its target, and beneath it.
+/// Sets what the lists show on the way to an operation's target, after it was applied: beneath it they show that already.
 pub fn show(nodes: &mut [Node], op: &Op)
     requires { IsTree nodes.old }
     ensures same { SameButFlags nodes.old nodes.new }
-    ensures shown { ShownBut nodes.old (is_near (target_in (slot_of (mutation_of op.now.mutation) op.now.place) op.now.id op.now.place))
+    ensures shown { ShownBut nodes.old
+        (λ l a. is_under (target_in (slot_of (mutation_of op.now.mutation) op.now.place) op.now.id op.now.place) (Item l a))
         → AreShown nodes.new }
 {
     match &op.mutation {

@@ -1,11 +1,12 @@
-use Rattle.std.proofs.Common.{map, Option, sym, ap, ◌∙◌}
+use Rattle.std.proofs.Common.{map, Option, sym, ap, ◌∙◌, subst}
 use Rattle.std.specs.Prelude.{option_map}
 use Rattle.semantics.specs.Ids.{OpId}
-use Rattle.semantics.specs.Elements.{Element, Item, EmptyMap}
+use Rattle.semantics.specs.Elements.{Element, Item, EmptyMap, is_under}
 use Rattle.semantics.specs.Operations.{Insert, slot_of}
 use Rattle.value.specs.Meanings.{scalar_of}
 use Rattle.cursor.specs.Meanings.{hop_of, tag_of}
 use Rattle.tree.specs.Nodes.{context}
+use Rattle.tree.specs.Shown.{ShownBut}
 use Rattle.tree.specs.Writes.{assigned, deps_of, end_of, linked}
 use Rattle.tree.proofs.Slots.{one_slot}
 use Rattle.tree.proofs.apply.insert_at.Goals as goal
@@ -22,3 +23,9 @@ returns-clause-inserted c = λ l p q.
     (λ (x : Element × Option OpId). assigned (linked (context c.args.nodes.now) x.0 x.1 s.id) s.id (deps_of s) (Item x.0 s.id)
     (tag_of c.args.tag) (option_map scalar_of c.args.scalar))
     (one_slot (slot_of (Insert EmptyMap) c.args.place.now) slot (l, p) (sym c.in-Some.ensures) q)
+
+pub returns-clause-shown : goal.returns-clause-shown
+returns-clause-shown c = λ l p q shown.
+    let slot : Element × Option OpId = (end_of (map hop_of c.in-Some.slot.list.now), c.in-Some.slot.prev) in
+    subst (λ (x : Element × Option OpId). ShownBut c.insert.new.nodes (λ y a. is_under (Item x.0 c.args.stamp.now.id) (Item y a)))
+    (one_slot (slot_of (Insert EmptyMap) c.args.place.now) slot (l, p) (sym c.in-Some.ensures) q) (c.insert.ensures.shown shown)

@@ -1,14 +1,22 @@
-use Rattle.std.proofs.Common.{◌<◌, map, sym, subst}
+use Rattle.std.proofs.Common.{◌≡◌, ◌<◌, false, map, ap, sym, ◌∙◌, subst}
 use Rattle.std.specs.Prelude.{option_map}
-use Rattle.semantics.specs.Operations.{element_of}
-use Rattle.value.specs.Meanings.{scalar_of}
+use Rattle.semantics.specs.Elements.{Item, is_under}
+use Rattle.semantics.specs.LegalHistory.{IsFormed}
+use Rattle.semantics.specs.Operations.{element_of, slot_of, target_in}
+use Rattle.value.specs.Meanings.{scalar_of, value_of as meaning_of}
+use Rattle.operation.specs.Meanings.{mutation_of}
 use Rattle.cursor.specs.Meanings.{hop_of, tag_of}
 use Rattle.tree.specs.Nodes.{context, node_at, register_room}
-use Rattle.tree.specs.Writes.{RoomTo}
+use Rattle.tree.specs.Shown.{ShownBut}
+use Rattle.tree.specs.Writes.{RoomTo, end_of}
 use Rattle.tree.specs.Trees.{Planted}
 use Rattle.tree.proofs.Rooms.{room_along}
 use Rattle.tree.proofs.Applied.{end_is, assign_reserved, register_reserved, scalar_reserved, can_insert, assign_applied, insert_applied}
 use Rattle.tree.proofs.Applied.{delete_applied}
+use Rattle.tree.proofs.NearTarget.{at_way}
+use Rattle.tree.proofs.Shape.{children_tree}
+use Rattle.tree.proofs.Showing.{shown_but}
+use Rattle.tree.proofs.Slots.{formed_slot, slot_of_any}
 use Rattle.tree.proofs.apply.run.Goals as goal
 
 pub assign-requires-clause-room : goal.assign-requires-clause-room
@@ -58,3 +66,37 @@ returns-in-Delete-clause-applied c =
     delete_applied c.args.op.now c.args.stamp.now c.requires.id c.requires.vector c.requires.formed (context c.args.nodes.now)
     (context c.clear_at.new.nodes)
     c.in-Delete.is (map hop_of c.hops-in-Delete.result.now) c.hops-in-Delete.ensures c.clear_at.ensures.cleared
+
+pub returns-in-Assign-clause-shown : goal.returns-in-Assign-clause-shown
+returns-in-Assign-clause-shown c = λ shown.
+    let o = c.args.op.now in
+    let path = map hop_of c.hops.result.now in
+    let t : end_of path
+    ≡ target_in (slot_of (mutation_of o.mutation) o.place) o.id o.place = end_is o.place path c.hops.ensures
+    ∙ sym (ap (λ m. target_in (slot_of (mutation_of m) o.place) o.id o.place) c.in-Assign.is) in
+    subst (λ e. ShownBut c.assign.new.nodes (λ l a. is_under e (Item l a))) t (c.assign.ensures.shown shown)
+
+pub returns-in-Insert-clause-shown : goal.returns-in-Insert-clause-shown
+returns-in-Insert-clause-shown c = λ shown.
+    let o = c.args.op.now in
+    let v = meaning_of c.in-Insert.value in
+    let (l, p, slot, place) = formed_slot v o.place (subst (λ m. IsFormed (mutation_of m) o.place) c.in-Insert.is c.requires.formed) in
+    let t : Item l c.args.stamp.now.id ≡ target_in (slot_of (mutation_of o.mutation) o.place) o.id o.place =
+    ap (Item l) c.requires.id
+    ∙ sym (ap (λ m. target_in (slot_of (mutation_of m) o.place) o.id o.place) c.in-Insert.is
+    ∙ ap (λ x. target_in x o.id o.place) (slot_of_any v o.place ∙ slot)) in
+    subst (λ e. ShownBut c.insert_at.new.nodes (λ y a. is_under e (Item y a))) t (c.insert_at.ensures.shown l p slot shown)
+
+pub returns-in-Delete-clause-tree : goal.returns-in-Delete-clause-tree
+returns-in-Delete-clause-tree c = children_tree c.args.nodes.now c.clear_at.new.nodes c.clear_at.ensures.children c.requires.tree
+
+pub returns-in-Delete-clause-shown : goal.returns-in-Delete-clause-shown
+returns-in-Delete-clause-shown c = λ shown.
+    let o = c.args.op.now in
+    let new = c.clear_at.new.nodes in
+    let path = map hop_of c.hops-in-Delete.result.now in
+    let t : end_of path
+    ≡ target_in (slot_of (mutation_of o.mutation) o.place) o.id o.place = end_is o.place path c.hops-in-Delete.ensures
+    ∙ sym (ap (λ m. target_in (slot_of (mutation_of m) o.place) o.id o.place) c.in-Delete.is) in
+    subst (λ e. ShownBut new (λ l a. is_under e (Item l a))) t
+    (at_way new (end_of path) (c.clear_at.ensures.shown (λ l a. false) (shown_but c.args.nodes.now shown)))

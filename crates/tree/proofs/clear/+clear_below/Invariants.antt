@@ -1,7 +1,10 @@
-use Rattle.std.proofs.Common.{◌≡◌, ◌-◌, length, drop, Some}
+use Rattle.std.proofs.Common.{◌≡◌, ◌-◌, Bool, length, drop, Some}
+use Rattle.semantics.specs.Ids.{OpId}
 use Rattle.semantics.specs.Elements.{Element}
-use Rattle.tree.specs.Nodes.{AreBeside, SameLinks, MoreRoom, context, number, links}
-use Rattle.tree.specs.Writes.{clear_own, deps_of, fields_of, items_of}
+use Rattle.tree.specs.Nested.{IsNested}
+use Rattle.tree.specs.Nodes.{AreBeside, SameChildren, MoreRoom, context, number, links}
+use Rattle.tree.specs.Shown.{ShownBut}
+use Rattle.tree.specs.Writes.{deps_of, fields_of, items_of}
 use Rattle.tree.proofs.Clears.{clear_each}
 use Rattle.tree.proofs.clear.+clear_below.Given as goal
 
@@ -10,22 +13,25 @@ decreases-clear_below l = length l.nodes.now - l.at
 
 abbrev pub invariant-fields : goal.invariant-fields
 invariant-fields l = record {
-  shape : SameLinks l.fn.nodes l.nodes;
+  shape : SameChildren l.fn.nodes l.nodes;
   room : MoreRoom l.fn.nodes l.nodes;
   beside : AreBeside l.stamp.table.now l.nodes;
+  nested : IsNested (context l.nodes);
   rest : (e : Element) → number l.fn.nodes e ≡ Some l.at →
       clear_each (context l.nodes) (fields_of e (drop l.position (links l.fn.nodes l.at).0)) (deps_of l.stamp)
-      ≡ clear_each (clear_own (context l.fn.nodes) e (deps_of l.stamp)) (fields_of e (links l.fn.nodes l.at).0) (deps_of l.stamp);
+      ≡ clear_each (context l.fn.nodes) (fields_of e (links l.fn.nodes l.at).0) (deps_of l.stamp);
+  shown : (e : Element) (off : Element → OpId → Bool) → number l.fn.nodes e ≡ Some l.at → ShownBut l.fn.nodes off → ShownBut l.nodes off;
 }
 
 abbrev pub invariant-items : goal.invariant-items
 invariant-items l = record {
-  shape : SameLinks l.fn.nodes l.nodes;
+  shape : SameChildren l.fn.nodes l.nodes;
   room : MoreRoom l.fn.nodes l.nodes;
   beside : AreBeside l.stamp.table.now l.nodes;
+  nested : IsNested (context l.nodes);
   rest : (e : Element) → number l.fn.nodes e ≡ Some l.at →
       clear_each (context l.nodes) (items_of e (drop l.position (links l.fn.nodes l.at).1)) (deps_of l.stamp)
-      ≡ clear_each
-      (clear_each (clear_own (context l.fn.nodes) e (deps_of l.stamp)) (fields_of e (links l.fn.nodes l.at).0) (deps_of l.stamp))
+      ≡ clear_each (clear_each (context l.fn.nodes) (fields_of e (links l.fn.nodes l.at).0) (deps_of l.stamp))
       (items_of e (links l.fn.nodes l.at).1) (deps_of l.stamp);
+  shown : (e : Element) (off : Element → OpId → Bool) → number l.fn.nodes e ≡ Some l.at → ShownBut l.fn.nodes off → ShownBut l.nodes off;
 }

@@ -1,8 +1,9 @@
 use Rattle.std.proofs.Common.{◌≡◌, map, sym, ap, ◌∙◌, subst}
+use Rattle.semantics.specs.Elements.{Item, is_under}
 use Rattle.semantics.specs.Operations.{slot_of, target_in}
 use Rattle.cursor.specs.Meanings.{hop_of}
 use Rattle.operation.specs.Meanings.{mutation_of}
-use Rattle.tree.specs.Shown.{ShownBut, is_near}
+use Rattle.tree.specs.Shown.{ShownBut}
 use Rattle.tree.specs.Writes.{end_of}
 use Rattle.tree.proofs.Applied.{end_is}
 use Rattle.tree.proofs.show.show.Goals as goal
@@ -14,7 +15,7 @@ returns-in-Assign-clause-shown c = λ s.
     let t : target_in (slot_of (mutation_of o.mutation) o.place) o.id o.place
     ≡ end_of path = ap (λ m. target_in (slot_of (mutation_of m) o.place) o.id o.place) c.in-Assign.is
     ∙ sym (end_is o.place path c.hops.ensures) in
-    c.show_at.ensures.shown (subst (λ e. ShownBut c.args.nodes.now (is_near e)) t s)
+    c.show_at.ensures.shown (subst (λ e. ShownBut c.args.nodes.now (λ l a. is_under e (Item l a))) t s)
 
 pub returns-in-Delete-clause-shown : goal.returns-in-Delete-clause-shown
 returns-in-Delete-clause-shown c = λ s.
@@ -23,4 +24,4 @@ returns-in-Delete-clause-shown c = λ s.
     let t : target_in (slot_of (mutation_of o.mutation) o.place) o.id o.place
     ≡ end_of path = ap (λ m. target_in (slot_of (mutation_of m) o.place) o.id o.place) c.in-Delete.is
     ∙ sym (end_is o.place path c.hops-in-Delete.ensures) in
-    c.show_at-in-Delete.ensures.shown (subst (λ e. ShownBut c.args.nodes.now (is_near e)) t s)
+    c.show_at-in-Delete.ensures.shown (subst (λ e. ShownBut c.args.nodes.now (λ l a. is_under e (Item l a))) t s)

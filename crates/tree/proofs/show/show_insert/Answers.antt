@@ -1,8 +1,8 @@
 use Rattle.std.proofs.Common.{◌≡◌, map, sym, ap, ◌∙◌, subst}
-use Rattle.semantics.specs.Elements.{EmptyMap}
+use Rattle.semantics.specs.Elements.{EmptyMap, Item, is_under}
 use Rattle.semantics.specs.Operations.{Insert, slot_of, target_in}
 use Rattle.cursor.specs.Meanings.{hop_of}
-use Rattle.tree.specs.Shown.{ShownBut, is_near}
+use Rattle.tree.specs.Shown.{ShownBut}
 use Rattle.tree.specs.Writes.{end_of}
 use Rattle.tree.proofs.Applied.{end_is}
 use Rattle.tree.proofs.show.show_insert.Goals as goal
@@ -14,4 +14,4 @@ returns-in-None-clause-shown c = λ s.
     let t : target_in (slot_of (Insert EmptyMap) p) c.args.id.now p
     ≡ end_of path = ap (λ o. target_in o c.args.id.now p) (sym c.in-None.ensures)
     ∙ sym (end_is p path c.hops.ensures) in
-    c.show_at.ensures.shown (subst (λ e. ShownBut c.args.nodes.now (is_near e)) t s)
+    c.show_at.ensures.shown (subst (λ e. ShownBut c.args.nodes.now (λ l a. is_under e (Item l a))) t s)

@@ -1,10 +1,10 @@
-use Rattle.std.proofs.Common.{◌≡◌, ◌||◌, Some, None, map, ap, sym, ◌∙◌}
-use Rattle.semantics.specs.Elements.{Element, Item, is_same, is_under}
+use Rattle.std.proofs.Common.{◌≡◌, ◌||◌, Some, None, false, map, ap, sym, ◌∙◌}
+use Rattle.semantics.specs.Elements.{Element, Item, is_same}
 use Rattle.semantics.specs.Paths.{ItemKey}
 use Rattle.cursor.specs.Meanings.{hop_of}
 use Rattle.tree.specs.Nodes.{next_number, number}
 use Rattle.tree.specs.Writes.{end_of}
-use Rattle.tree.proofs.Showing.{but_lost, end_lost, flags_number, flags_trans, new_parts}
+use Rattle.tree.proofs.Showing.{but_lost, but_none, flags_number, flags_trans, new_parts}
 use Rattle.tree.proofs.show.show_new.Goals as goal
 
 pub returns-in-Some-clause-same : goal.returns-in-Some-clause-same
@@ -19,7 +19,7 @@ returns-in-Some-clause-shown c = λ s.
     let at : number mid m ≡ Some c.in-Some.at = sym (flags_number c.args.nodes.now mid c.show_path.ensures.same m)
     ∙ sym c.show_path.ensures.number ∙ c.in-Some.is in
     c.show_entry.ensures.shown m at
-    (c.show_path.ensures.shown (λ l a. is_same (Item l a) t || is_under l t) (new_parts c.args.nodes.now m c.args.id.now s))
+    (c.show_path.ensures.shown (λ l a. is_same (Item l a) t || false) (new_parts c.args.nodes.now m c.args.id.now s))
 
 pub returns-in-None-clause-shown : goal.returns-in-None-clause-shown
 returns-in-None-clause-shown c = λ s.
@@ -29,6 +29,5 @@ returns-in-None-clause-shown c = λ s.
     let none : number mid t
     ≡ None = ap (λ o. next_number mid o (ItemKey c.args.id.now))
     (sym (flags_number c.args.nodes.now mid c.show_path.ensures.same m) ∙ sym c.show_path.ensures.number ∙ c.in-None.is) in
-    end_lost mid t none
-    (but_lost mid t (λ l a. is_under l t) none
-    (c.show_path.ensures.shown (λ l a. is_same (Item l a) t || is_under l t) (new_parts c.args.nodes.now m c.args.id.now s)))
+    but_none mid (but_lost mid t (λ l a. false) none
+    (c.show_path.ensures.shown (λ l a. is_same (Item l a) t || false) (new_parts c.args.nodes.now m c.args.id.now s)))

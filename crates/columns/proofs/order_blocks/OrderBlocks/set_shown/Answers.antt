@@ -1,4 +1,4 @@
-use Rattle.std.proofs.Common.{◌≡◌, ◌∙◌, ap, sym, refl, slice_get, Some, is_some, subst, length, set, length-set, arith, true, cond}
+use Rattle.std.proofs.Common.{◌≡◌, ◌∙◌, ap, sym, refl, slice_get, Some, is_some, subst, length, set, length-set, arith, true, false, cond, rules}
 use Rattle.std.specs.Prelude.{min}
 use Rattle.std.specs.List.{filter}
 use Rattle.std.specs.FinMap.Entries.{is_some-find}
@@ -10,15 +10,27 @@ use Rattle.columns.specs.Blocks.{AreBlocks, IsFound, StandsAt, joined}
 use Rattle.columns.proofs.IndexedBlocks.{indexed_same}
 use Rattle.columns.proofs.Runs.{items_here}
 use Rattle.columns.proofs.Changed.{blocks_same, joined_same, room_same}
-use Rattle.columns.proofs.ShownItems.{shown_changed}
+use Rattle.columns.proofs.ShownItems.{filter_lacking, shown_changed}
 use Rattle.columns.proofs.order_blocks.OrderBlocks.set_shown.Goals as goal
 
-pub unwrap-home-requires : goal.unwrap-home-requires
-unwrap-home-requires c =
+pub returns-in_default-clause-visible : goal.returns-in_default-clause-visible
+returns-in_default-clause-visible c = λ f e.
     let d = c.self.inside in
-    let there : has_item c.args.id.now (joined d.blocks.items) ≡ true = ap (λ (o : Order). has_item c.args.id.now o.items) c.self.view_is
-    ∙ c.requires in
-    ap is_some c.get.ensures ∙ is_some-find id_cmp c.args.id.now d.homes.entries ∙ c.self.invariant.0.at_home.only c.args.id.now ∙ there
+    let id = c.args.id.now in
+    let lacks : has_item id (joined d.blocks.items) ≡ false = sym
+    (ap is_some c.get.ensures ∙ is_some-find id_cmp id d.homes.entries ∙ c.self.invariant.0.at_home.only id)
+    ∙ ap is_some c.in_default.is in
+    e ∙ filter_lacking f id c.args.shown c.args.self.now.items (ap (λ (o : Order). has_item id o.items) (sym c.self.view_is) ∙ lacks)
+
+pub unwrap-at-requires : goal.unwrap-at-requires
+unwrap-at-requires c =
+    let d = c.self.inside in
+    let id = c.args.id.now in
+    let there : has_item id (joined c.deref.result.now) ≡ true =
+    ap (λ rs. has_item id (joined rs)) c.deref.ensures.value
+    ∙ sym (ap is_some c.get.ensures ∙ is_some-find id_cmp id d.homes.entries ∙ c.self.invariant.0.at_home.only id)
+    ∙ ap is_some c.in-Some.is in
+    search rules
 
 pub set_shown-requires : goal.set_shown-requires
 set_shown-requires c =

@@ -1,3 +1,5 @@
+use Rattle.std.proofs.Common.{sym, subst}
+use Rattle.tree.specs.Nested.{IsNested}
 use Rattle.tree.proofs.Grown.{kept_shown}
 use Rattle.tree.proofs.tree.Tree.reserve.Goals as goal
 
@@ -5,6 +7,7 @@ pub invariant_of-self : goal.invariant_of-self
 invariant_of-self c = record {
   distinct = c.self.invariant.distinct;
   tree = c.reserve_operation.ensures.kept.tree;
+  nested = subst IsNested (sym c.reserve_operation.ensures.kept.same) c.self.invariant.nested;
   shown = kept_shown c.self.inside.nodes.items c.reserve_operation.new.nodes.items c.reserve_operation.ensures.kept c.self.invariant.shown;
   beside = c.reserve_operation.ensures.kept.beside c.self.inside.table c.self.invariant.beside;
 }
@@ -13,6 +16,7 @@ pub invariant_of-self-2 : goal.invariant_of-self-2
 invariant_of-self-2 c = record {
   distinct = c.self.invariant.distinct;
   tree = c.reserve_operation.ensures.kept.tree;
+  nested = subst IsNested (sym c.reserve_operation.ensures.kept.same) c.self.invariant.nested;
   shown = kept_shown c.self.inside.nodes.items c.reserve_operation.new.nodes.items c.reserve_operation.ensures.kept c.self.invariant.shown;
   beside = c.reserve_operation.ensures.kept.beside c.self.inside.table c.self.invariant.beside;
 }
