@@ -4,4 +4,5 @@ pub mod MissingOps
 pub mod NamedOfColumns
 pub mod PositionsOfIds
 pub mod ReceivedFaults
+pub mod AllApplied
 pub mod LawfulNext

@@ -27,10 +27,10 @@ pub fn check(log: &Log, applied: &VersionVector, tree: &Tree, op: &Op) -> Result
     if breaks_chain(log, applied, op) {
         return Err(Refusal::BrokenChain);
     }
-    if names_nothing(log, &op.deps) {
+    if names_nothing(log, applied, &op.deps) {
         return Err(Refusal::NamesNothing);
     }
-    if is_open(log, &op.deps) {
+    if is_open(log, applied, &op.deps) {
         return Err(Refusal::NotClosed);
     }
     if !tree.has_items(&op.place) {
@@ -53,12 +53,17 @@ fn breaks_chain(log: &Log, applied: &VersionVector, op: &Op) -> bool
     }
 }
 
-/// Whether the vector names a counter of no operation of the log.
-fn names_nothing(log: &Log, vector: &VersionVector) -> bool
+/// Whether the vector names a counter of no operation of the log. One comparison where it is that of all that was applied, as each
+/// vector is where nothing was written apart; else a binary search for each counter.
+fn names_nothing(log: &Log, applied: &VersionVector, vector: &VersionVector) -> bool
     requires distinct { AreDistinct log.now.table }
+    requires applied { (p : ℕ) → component log.now.table applied.now p ≡ greatest_counter (operations_in log.now.entries) p }
     requires width { length vector.now ≡ length log.now.table }
     ensures { (s : Stamped) → s.vector ≡ by_table log.now.table vector.now → result ≡ names_nothing (operations_in log.now.entries) s }
 {
+    if vector == applied {
+        return false;
+    }
     for index in 0..vector.width() {
         if is_of_nobody(log, vector, index) {
             return true;
@@ -79,13 +84,18 @@ fn is_of_nobody(log: &Log, vector: &VersionVector, index: usize) -> bool
     }
 }
 
-/// Whether an operation that the vector names has a vector that isn't at most this.
-fn is_open(log: &Log, vector: &VersionVector) -> bool
+/// Whether an operation that the vector names has a vector that isn't at most this. One comparison where it names all that was
+/// applied; else a binary search for each counter.
+fn is_open(log: &Log, applied: &VersionVector, vector: &VersionVector) -> bool
     requires distinct { AreDistinct log.now.table }
+    requires applied { (p : ℕ) → component log.now.table applied.now p ≡ greatest_counter (operations_in log.now.entries) p }
     requires legal { IsLegalStamped (stamped_entries log.now.entries) }
     requires width { length vector.now ≡ length log.now.table }
     ensures { result ≡ is_open (stamped_entries log.now.entries) (by_table log.now.table vector.now) }
 {
+    if vector == applied {
+        return false;
+    }
     for index in 0..vector.width() {
         if opens(log, vector, index) {
             return true;

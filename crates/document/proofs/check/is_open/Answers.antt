@@ -1,6 +1,18 @@
 use Rattle.std.proofs.Common.{sym, ◌∙◌, arith}
+use Rattle.semantics.specs.Entries.{stamped_entries}
+use Rattle.semantics.specs.Stamped.{operations_of}
+use Rattle.semantics.specs.Tables.{by_table}
+use Rattle.document.proofs.AllApplied.{all_closed, columns_name_all, same_counters}
 use Rattle.document.proofs.ReceivedFaults.{none_opens, open_there}
 use Rattle.document.proofs.check.is_open.Goals as goal
+
+pub returns-then-eq : goal.returns-then-eq
+returns-then-eq c =
+    let G = stamped_entries c.args.log.now.entries in
+    let table = c.args.log.now.table in
+    let same = same_counters c.args.vector.now c.args.applied.now (sym c.eq.ensures ∙ c.if-eq.true) in
+    sym (all_closed G (by_table table c.args.vector.now) c.requires.legal
+    (columns_name_all (operations_of G) table c.args.vector.now c.args.applied.now c.requires.distinct c.requires.applied same))
 
 pub returns-then-opens : goal.returns-then-opens
 returns-then-opens c =
