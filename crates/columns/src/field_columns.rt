@@ -17,7 +17,7 @@ pub struct FieldColumns {
     keys: SortedKeys,
     /// The number of each key, in the order in which the keys were put.
     numbers: Vec<usize>,
-    /// Where the last key went in. What is asked for next is often that one, or goes in behind it.
+    /// Where the last key went in or was sought. What is asked for next is often that one, or goes in behind it.
     last: usize,
 }
 
@@ -68,13 +68,32 @@ impl FieldColumns {
         )
     }
 
-    /// The number of a key. Binary search, unless it is the last one that was put.
+    /// The number of a key. Binary search, unless it is the last one that was put or sought.
     pub fn get(&self, key: &Key) -> Option<usize>
         ensures { result ≡ find name_cmp key.now self.now.entries }
     {
         match self.keys.find_near(key, self.last) {
             Ok(position) => Some(self.numbers[self.keys.number(position)]),
             Err(_) => None,
+        }
+    }
+
+    /// The number of a key, as `get` has it. Until another key is put or sought, this one is found by one comparison, or goes in
+    /// without a search.
+    pub fn seek(&mut self, key: &Key) -> Option<usize>
+        ensures number { result ≡ find name_cmp key.now self.old.entries }
+        ensures entries { self.new.entries ≡ self.old.entries }
+        ensures room { self.new.room ≡ self.old.room }
+    {
+        match self.keys.find_near(key, self.last) {
+            Ok(position) => {
+                self.last = position;
+                Some(self.numbers[self.keys.number(position)])
+            }
+            Err(position) => {
+                self.last = position.saturating_sub(1);
+                None
+            }
         }
     }
 

@@ -4,6 +4,7 @@ use Rattle.std.specs.Prelude.{slice_get}
 use Rattle.semantics.specs.Ids.{OpId}
 use Rattle.semantics.specs.Elements.{Name}
 use Rattle.columns.specs.Entries.{StandBeside}
+use Rattle.columns.specs.Numbered.{Numbered}
 use Rattle.tree.specs.declared.node.Node.{Node}
 use Rattle.tree.specs.Nodes.{IsTree, Kept, Links, NodeBeside, SameView, is_written, linked_by, links, links_of, order_of, order_room}
 use Rattle.tree.specs.Nodes.{presence_of, presence_room, register_of, register_room, tagged, valued, visible_of}
@@ -20,6 +21,17 @@ pub record Wider (n m : Node) : Type 0 where
       × (n.register.room ≤ m.register.room)
   pub order : (m.order.items ≡ n.order.items) × (m.order.visible ≡ n.order.visible) × (n.order.room ≤ m.order.room)
   pub written : m.is_written ≡ n.is_written
+
+-- a node whose children are the same has no less room
+pub wider_children : (n : Node) (f : Numbered Name) (i : Numbered OpId) → f.entries ≡ n.fields.entries → i.entries ≡ n.items.entries
+    → Wider n (record n { fields = f; items = i })
+wider_children n f i e d = record {
+  children = (e, d);
+  presence = (refl, refl, omega arith);
+  register = (refl, refl, omega arith);
+  order = (refl, refl, omega arith);
+  written = refl;
+}
 
 pub links_pair : (fs gs : List (Name × ℕ)) (xs ys : List (OpId × ℕ)) → fs ≡ gs → xs ≡ ys → ◌≡◌ {A = Links} (fs, xs) (gs, ys)
 links_pair fs gs xs ys p q = λ i. (p i, q i)

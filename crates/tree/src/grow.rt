@@ -9,7 +9,6 @@ ghost use Rattle.tree.specs.Nodes.{IsEmptyNode, IsOrphan, IsTree, Kept, child_nu
 ghost use Rattle.tree.specs.Nodes.{register_room};
 
 use crate::node::{Node, NodeNumber};
-use crate::walk::child_of;
 use cursor::Hop;
 use ids::OpId;
 use std::alloc::{AllocError, Global};
@@ -143,6 +142,21 @@ fn make_child(
     }
 }
 
+/// The number of a child, if there is one. A field is found again by one comparison then, as applying the operation asks for it.
+fn seek_child(nodes: &mut Vec<Node>, at: NodeNumber, hop: &Hop) -> Option<NodeNumber>
+    requires tree { IsTree nodes.old.items }
+    requires inside { at < length nodes.old.items }
+    ensures kept { Kept nodes.old.items nodes.new.items }
+    ensures shape { (i : ℕ) → links nodes.old.items i ≡ links nodes.new.items i }
+    ensures child { result ≡ child_number nodes.old.items at (hop_of hop.now) }
+{
+    let node = node_in_vec(nodes, at);
+    match hop {
+        Hop::Field(key) => node.fields.seek(key).map(NodeNumber::new),
+        Hop::Item(id) => node.items.get(id).map(NodeNumber::new),
+    }
+}
+
 /// The number of a child, which is made if it isn't there yet.
 pub fn reach(
     nodes: &mut Vec<Node>,
@@ -155,7 +169,7 @@ pub fn reach(
     ensures kept { Kept nodes.old.items nodes.new.items }
     ensures child { IfOk result (λ j. child_number nodes.new.items at (hop_of hop.now) ≡ Some j) }
 {
-    match child_of(nodes, at, hop) {
+    match seek_child(nodes, at, hop) {
         Some(child) => Ok(child),
         None => make_child(nodes, at, hop, alloc),
     }

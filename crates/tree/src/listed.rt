@@ -1,6 +1,7 @@
 //! Whether the items of a path stand in their lists.
 
-ghost use Rattle.std.specs.Prelude.{◌≡◌, ◌<◌, map, length, IfSome};
+ghost use Rattle.std.specs.Prelude.{◌≡◌, ◌<◌, map, length, IfSome, IsTrue};
+ghost use Rattle.semantics.specs.Context.{Context};
 ghost use Rattle.cursor.specs.Meanings.{hop_of};
 ghost use Rattle.tree.specs.Nodes.{IsTree, context, node_in, order_of};
 ghost use Rattle.tree.specs.Writes.{end_of};
@@ -10,11 +11,15 @@ use crate::node::{Node, NodeNumber, node_at};
 use crate::resolve::next_of;
 use cursor::Hop;
 
-/// Whether each item of the path was inserted into the list that it is entered from. A binary search for each hop.
+/// Whether each item of the path was inserted into the list that it is entered from. A binary search for each hop, unless all are to
+/// fields.
 pub fn items_stand(nodes: &[Node], path: &[Hop]) -> bool
     requires { IsTree nodes.now }
     ensures { result ≡ items_stand (context nodes.now) (end_of (map hop_of path.now)) }
 {
+    if goes_by_fields(path) {
+        return true;
+    }
     let mut node = Some(NodeNumber::ROOT);
     for hop in path {
         let here = node;
@@ -22,6 +27,18 @@ pub fn items_stand(nodes: &[Node], path: &[Hop]) -> bool
             return false;
         }
         node = next_of(nodes, node, hop);
+    }
+    true
+}
+
+/// Whether each hop of the path is to a field, so that no item has to stand anywhere.
+fn goes_by_fields(path: &[Hop]) -> bool
+    ensures { IsTrue result → (C : Context) → IsTrue (items_stand C (end_of (map hop_of path.now))) }
+{
+    for hop in path {
+        if let Hop::Item(_) = hop {
+            return false;
+        }
     }
     true
 }

@@ -1,40 +1,26 @@
-use Rattle.std.proofs.Common.{◌≡◌, ◌<◌, refl, sym, subst, arith, OnOk, set}
+use Rattle.std.proofs.Common.{◌<◌, refl, sym, subst, OnOk, set}
 use Rattle.std.specs.Prelude.{slice_get}
-use Rattle.semantics.specs.Ids.{OpId}
-use Rattle.semantics.specs.Elements.{Name}
 use Rattle.semantics.specs.Paths.{FieldKey, ItemKey}
 use Rattle.cursor.specs.Meanings.{hop_of}
-use Rattle.columns.specs.Numbered.{Numbered}
 use Rattle.tree.specs.declared.node.Node.{Node}
 use Rattle.tree.specs.Nodes.{child_room}
 use Rattle.tree.proofs.ListReads.{get_same}
-use Rattle.tree.proofs.Widened.{Wider, kept_set, wider_links}
+use Rattle.tree.proofs.Widened.{kept_set, wider_children, wider_links}
 use Rattle.tree.proofs.grow.reserve_child.Goals as goal
-
--- a node whose children are the same has no less room
-widened : (n : Node) (f : Numbered Name) (i : Numbered OpId) → f.entries ≡ n.fields.entries → i.entries ≡ n.items.entries
-    → Wider n (record n { fields = f; items = i })
-widened n f i e d = record {
-  children = (e, d);
-  presence = (refl, refl, omega arith);
-  register = (refl, refl, omega arith);
-  order = (refl, refl, omega arith);
-  written = refl;
-}
 
 pub returns-in-Field-clause-kept : goal.returns-in-Field-clause-kept
 returns-in-Field-clause-kept c =
     let n : Node = c.node_in_vec-node.result.now in
     let m : Node = record n { fields = c.reserve_one.new.self } in
     kept_set c.args.nodes.now.items c.args.at n m c.node_in_vec-node.ensures.node c.requires.tree
-    (widened n m.fields m.items c.reserve_one.ensures.same refl)
+    (wider_children n m.fields m.items c.reserve_one.ensures.same refl)
 
 pub returns-in-Field-clause-shape : goal.returns-in-Field-clause-shape
 returns-in-Field-clause-shape c =
     let n : Node = c.node_in_vec-node.result.now in
     let m : Node = record n { fields = c.reserve_one.new.self } in
     wider_links c.args.nodes.now.items c.args.at n m c.node_in_vec-node.ensures.node
-    (widened n m.fields m.items c.reserve_one.ensures.same refl)
+    (wider_children n m.fields m.items c.reserve_one.ensures.same refl)
 
 pub returns-in-Field-clause-room : goal.returns-in-Field-clause-room
 returns-in-Field-clause-room c =
@@ -50,14 +36,14 @@ returns-in-Item-clause-kept c =
     let n : Node = c.node_in_vec-node.result.now in
     let m : Node = record n { items = c.reserve_one-in-Item.new.self } in
     kept_set c.args.nodes.now.items c.args.at n m c.node_in_vec-node.ensures.node c.requires.tree
-    (widened n m.fields m.items refl c.reserve_one-in-Item.ensures.same)
+    (wider_children n m.fields m.items refl c.reserve_one-in-Item.ensures.same)
 
 pub returns-in-Item-clause-shape : goal.returns-in-Item-clause-shape
 returns-in-Item-clause-shape c =
     let n : Node = c.node_in_vec-node.result.now in
     let m : Node = record n { items = c.reserve_one-in-Item.new.self } in
     wider_links c.args.nodes.now.items c.args.at n m c.node_in_vec-node.ensures.node
-    (widened n m.fields m.items refl c.reserve_one-in-Item.ensures.same)
+    (wider_children n m.fields m.items refl c.reserve_one-in-Item.ensures.same)
 
 pub returns-in-Item-clause-room : goal.returns-in-Item-clause-room
 returns-in-Item-clause-room c =
