@@ -14,7 +14,6 @@ ghost use Rattle.tree.specs.Trees.{document};
 ghost use Rattle.document.specs.Documents.{IsBeside, IsConsistent, asked_of, said_by};
 
 use crate::question::{Question, Reading};
-use cursor::{ElementPlace, Expr};
 use ids::Refusal;
 use operation::{Op, Shared};
 use oplog::Log;
@@ -37,39 +36,15 @@ pub fn answer(
         (λ why. (why ≡ NoMemory) ⊎ (reading_of log.now.entries (asked_of log.now.table question.now) ≡ Answered (Refused why))) }
 {
     match question {
-        Question::Values(expression) => {
-            let element = find(alloc, tree, expression)?;
-            Ok(Reading::Values(tree.values(alloc, &element)?))
-        }
-        Question::Keys(expression) => {
-            let element = find(alloc, tree, expression)?;
-            Ok(Reading::Keys(tree.keys(alloc, &element)?))
-        }
-        Question::Items(expression) => {
-            let element = find(alloc, tree, expression)?;
-            Ok(Reading::Items(tree.items(alloc, &element)?))
-        }
-        Question::Conflicts(expression) => {
-            let element = find(alloc, tree, expression)?;
-            Ok(Reading::Conflicts(tree.conflicts(alloc, &element)?))
-        }
+        Question::Values(expression) => Ok(Reading::Values(tree.values_at(alloc, expression)?)),
+        Question::Keys(expression) => Ok(Reading::Keys(tree.keys_at(alloc, expression)?)),
+        Question::Items(expression) => Ok(Reading::Items(tree.items_at(alloc, expression)?)),
+        Question::Conflicts(expression) => Ok(Reading::Conflicts(tree.conflicts_at(
+            alloc, expression,
+        )?)),
         Question::Missing(vector) => Ok(Reading::Missing(missing(alloc, log, vector)?)),
         Question::Vector => Ok(Reading::Vector(applied.clone()?)),
     }
-}
-
-/// The element that an expression leads to.
-///
-/// # Errors
-/// Those of `resolve`, and `AtHead` where it leads to a head.
-fn find(alloc: Global, tree: &Tree, expression: &Expr) -> Result<ElementPlace, Refusal>
-    ensures ok { IfOk result (λ e. resolve (visible_items (document tree.now)) expression.now ≡ Ok (At e)) }
-    ensures err { IfErr result
-        (λ why. (why ≡ NoMemory)
-        ⊎ ((f : Element → Answer) → answer_at f (resolve (visible_items (document tree.now)) expression.now) ≡ Refused why)) }
-{
-    let place = tree.resolve(alloc, expression)?;
-    place.into_element().ok_or(Refusal::AtHead)
 }
 
 /// The operations that the vector doesn't cover, the oldest first.

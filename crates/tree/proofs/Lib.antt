@@ -8,6 +8,7 @@ pub mod Hops
 pub mod Contexts
 pub mod Answering
 pub mod Walking
+pub mod Finding
 pub mod Clears
 pub mod Writes
 pub mod Rooms

@@ -3,6 +3,7 @@ pub mod Nodes
 pub mod Nested
 pub mod Shown
 pub mod Writes
+pub mod Answers
 pub mod Trees
 pub mod Walkers
 pub mod Lending

@@ -1,9 +1,10 @@
 -- Where a walk along an expression stands.
-use Rattle.std.specs.Prelude.{◌≡◌, ◌≤◌, List, map}
+use Rattle.std.specs.Prelude.{◌≡◌, ◌≤◌, true, false, List, map}
 use Rattle.semantics.specs.Limits.{most_keys}
-use Rattle.semantics.specs.Elements.{Place as ThePlace}
+use Rattle.semantics.specs.Elements.{Place as ThePlace, At, HeadOf, depth}
 use Rattle.cursor.specs.Meanings.{hop_of}
 use Rattle.cursor.specs.Places.{depth_of, place_at}
+use Rattle.tree.specs.declared.find.Spot.{Spot}
 use Rattle.tree.specs.declared.node.Node.{Node}
 use Rattle.tree.specs.declared.resolve.Walker.{Walker}
 use Rattle.tree.specs.Nodes.{number}
@@ -17,3 +18,8 @@ stand_of w = place_at (map hop_of w.hops.items) w.is_head
 pub record IsWalking (ns : List Node) (w : Walker) : Type 0 where
   pub node : number ns (end_of (map hop_of w.hops.items)) ≡ w.node
   pub short : depth_of (stand_of w) ≤ most_keys
+
+-- a search that has come to p: at an element with its node and its depth, or at a head
+abbrev pub IsSpot : List Node → Spot → ThePlace → Type 0
+IsSpot ns s (At e) = (s.is_head ≡ false) × (number ns e ≡ s.node) × (depth e ≡ s.depth)
+IsSpot ns s (HeadOf l) = s.is_head ≡ true

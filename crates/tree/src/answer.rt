@@ -1,16 +1,20 @@
 //! What stands at an element, as questions ask for it.
 
-ghost use Rattle.std.specs.Prelude.{◌≡◌, ◌<◌, ◌&&◌, Some, IfOk, length, slice_get, IfSome};
+ghost use Rattle.std.specs.Prelude.{◌≡◌, ◌⊎◌, ◌<◌, ◌&&◌, Some, IfOk, IfErr, length, slice_get, IfSome};
+ghost use Rattle.ids.specs.declared.refusal.Refusal.TheVariants.{NoMemory};
 ghost use Rattle.semantics.specs.Elements.{Element};
 ghost use Rattle.semantics.specs.DocumentAnswer.{is_any, visible_items, visible_names};
+ghost use Rattle.semantics.specs.Questions.{Answer, ConflictsAre, ItemsAre, KeysAre, Refused, ValuesAre};
 ghost use Rattle.tree.specs.Nodes.{IsTree, context, is_written, number, presence_of, tagged, valued};
+ghost use Rattle.tree.specs.Answers.{IsAnswer};
 ghost use Rattle.tree.specs.Shown.{AreShown};
 
+use crate::find::find;
 use crate::node::{Node, NodeNumber, node_at};
 use crate::walk::{count_fields, field_at, walk};
 use columns::{Presence, Register};
-use cursor::{ElementPlace, Tag};
-use ids::OpId;
+use cursor::{ElementPlace, Expr, Tag};
+use ids::{OpId, Refusal};
 use std::alloc::{AllocError, Global};
 use value::{Key, Scalar};
 
@@ -23,7 +27,36 @@ pub fn values(
     requires { IsTree nodes.now }
     ensures { IfOk result (λ v. valued v.items ≡ (context nodes.now).register element.now) }
 {
-    match node_of(nodes, element) {
+    values_of(nodes, node_of(nodes, element), alloc)
+}
+
+/// The same at the element that an expression leads to.
+pub fn values_at(
+    nodes: &[Node],
+    expression: &Expr,
+    alloc: Global,
+) -> Result<Vec<(OpId, Scalar)>, Refusal>
+    requires tree { IsTree nodes.now }
+    requires shown { AreShown nodes.now }
+    ensures answer { IfOk result
+        (λ v. IsAnswer (context nodes.now) (λ e. ValuesAre ((context nodes.now).register e)) expression.now (ValuesAre (valued v.items))) }
+    ensures err { IfErr result
+        (λ why. (why ≡ NoMemory) ⊎ ((f : Element → Answer) → IsAnswer (context nodes.now) f expression.now (Refused why))) }
+{
+    let node = find(nodes, expression)?;
+    Ok(values_of(nodes, node, alloc)?)
+}
+
+/// The values at a node, none where there is no node.
+fn values_of(
+    nodes: &[Node],
+    node: Option<NodeNumber>,
+    alloc: Global,
+) -> Result<Vec<(OpId, Scalar)>, AllocError>
+    requires { IfSome node (λ at. at < length nodes.now) }
+    ensures { IfOk result (λ v. (e : Element) → number nodes.now e ≡ node → valued v.items ≡ (context nodes.now).register e) }
+{
+    match node {
         Some(at) => copy_values(&node_at(nodes, at).register, alloc),
         None => Ok(Vec::new(alloc)),
     }
@@ -38,7 +71,36 @@ pub fn conflicts(
     requires { IsTree nodes.now }
     ensures { IfOk result (λ v. tagged v.items ≡ (context nodes.now).presence element.now) }
 {
-    match node_of(nodes, element) {
+    conflicts_of(nodes, node_of(nodes, element), alloc)
+}
+
+/// The same at the element that an expression leads to.
+pub fn conflicts_at(
+    nodes: &[Node],
+    expression: &Expr,
+    alloc: Global,
+) -> Result<Vec<(OpId, Tag)>, Refusal>
+    requires tree { IsTree nodes.now }
+    requires shown { AreShown nodes.now }
+    ensures answer { IfOk result
+        (λ v. IsAnswer (context nodes.now) (λ e. ConflictsAre ((context nodes.now).presence e)) expression.now (ConflictsAre (tagged v.items))) }
+    ensures err { IfErr result
+        (λ why. (why ≡ NoMemory) ⊎ ((f : Element → Answer) → IsAnswer (context nodes.now) f expression.now (Refused why))) }
+{
+    let node = find(nodes, expression)?;
+    Ok(conflicts_of(nodes, node, alloc)?)
+}
+
+/// The presence of a node, empty where there is no node.
+fn conflicts_of(
+    nodes: &[Node],
+    node: Option<NodeNumber>,
+    alloc: Global,
+) -> Result<Vec<(OpId, Tag)>, AllocError>
+    requires { IfSome node (λ at. at < length nodes.now) }
+    ensures { IfOk result (λ v. (e : Element) → number nodes.now e ≡ node → tagged v.items ≡ (context nodes.now).presence e) }
+{
+    match node {
         Some(at) => copy_tags(&node_at(nodes, at).presence, alloc),
         None => Ok(Vec::new(alloc)),
     }
@@ -49,8 +111,30 @@ pub fn keys(nodes: &[Node], element: &ElementPlace, alloc: Global) -> Result<Vec
     requires { IsTree nodes.now }
     ensures { IfOk result (λ v. v.items ≡ visible_names (context nodes.now) element.now) }
 {
-    match node_of(nodes, element) {
-        Some(at) => keys_at(nodes, at, alloc),
+    keys_of(nodes, node_of(nodes, element), alloc)
+}
+
+/// The same at the element that an expression leads to.
+pub fn keys_at(nodes: &[Node], expression: &Expr, alloc: Global) -> Result<Vec<Key>, Refusal>
+    requires tree { IsTree nodes.now }
+    requires shown { AreShown nodes.now }
+    ensures answer { IfOk result
+        (λ v. IsAnswer (context nodes.now) (λ e. KeysAre (visible_names (context nodes.now) e)) expression.now (KeysAre v.items)) }
+    ensures err { IfErr result
+        (λ why. (why ≡ NoMemory) ⊎ ((f : Element → Answer) → IsAnswer (context nodes.now) f expression.now (Refused why))) }
+{
+    let node = find(nodes, expression)?;
+    Ok(keys_of(nodes, node, alloc)?)
+}
+
+/// The keys at a node, none where there is no node.
+fn keys_of(nodes: &[Node], node: Option<NodeNumber>, alloc: Global) -> Result<Vec<Key>, AllocError>
+    requires tree { IsTree nodes.now }
+    requires inside { IfSome node (λ at. at < length nodes.now) }
+    ensures { IfOk result (λ v. (e : Element) → number nodes.now e ≡ node → v.items ≡ visible_names (context nodes.now) e) }
+{
+    match node {
+        Some(at) => present_keys(nodes, at, alloc),
         None => Ok(Vec::new(alloc)),
     }
 }
@@ -61,8 +145,35 @@ pub fn items(nodes: &[Node], element: &ElementPlace, alloc: Global) -> Result<Ve
     requires shown { AreShown nodes.now }
     ensures { IfOk result (λ v. v.items ≡ visible_items (context nodes.now) element.now) }
 {
-    match node_of(nodes, element) {
-        Some(at) => items_at(nodes, at, alloc),
+    items_of(nodes, node_of(nodes, element), alloc)
+}
+
+/// The same at the element that an expression leads to.
+pub fn items_at(nodes: &[Node], expression: &Expr, alloc: Global) -> Result<Vec<OpId>, Refusal>
+    requires tree { IsTree nodes.now }
+    requires shown { AreShown nodes.now }
+    ensures answer { IfOk result
+        (λ v. IsAnswer (context nodes.now) (λ e. ItemsAre (visible_items (context nodes.now) e)) expression.now (ItemsAre v.items)) }
+    ensures err { IfErr result
+        (λ why. (why ≡ NoMemory) ⊎ ((f : Element → Answer) → IsAnswer (context nodes.now) f expression.now (Refused why))) }
+{
+    let node = find(nodes, expression)?;
+    Ok(items_of(nodes, node, alloc)?)
+}
+
+/// The items at a node, none where there is no node.
+fn items_of(
+    nodes: &[Node],
+    node: Option<NodeNumber>,
+    alloc: Global,
+) -> Result<Vec<OpId>, AllocError>
+    requires tree { IsTree nodes.now }
+    requires shown { AreShown nodes.now }
+    requires inside { IfSome node (λ at. at < length nodes.now) }
+    ensures { IfOk result (λ v. (e : Element) → number nodes.now e ≡ node → v.items ≡ visible_items (context nodes.now) e) }
+{
+    match node {
+        Some(at) => present_items(nodes, at, alloc),
         None => Ok(Vec::new(alloc)),
     }
 }
@@ -102,7 +213,7 @@ fn copy_tags(presence: &Presence, alloc: Global) -> Result<Vec<(OpId, Tag)>, All
 
 /// The keys of the map's fields at which something stands, in byte order. Looks at each field that ever was, and copies the keys
 /// that it returns.
-fn keys_at(nodes: &[Node], at: NodeNumber, alloc: Global) -> Result<Vec<Key>, AllocError>
+fn present_keys(nodes: &[Node], at: NodeNumber, alloc: Global) -> Result<Vec<Key>, AllocError>
     requires tree { IsTree nodes.now }
     requires inside { at < length nodes.now }
     ensures { IfOk result (λ v. (e : Element) → number nodes.now e ≡ Some at → v.items ≡ visible_names (context nodes.now) e) }
@@ -136,7 +247,7 @@ pub fn is_present(nodes: &[Node], at: NodeNumber) -> bool
 
 /// The items of the list at which something stands, in list order. Asks the list's order, which looks at each item that ever was,
 /// tombstones included, and at no node.
-fn items_at(nodes: &[Node], at: NodeNumber, alloc: Global) -> Result<Vec<OpId>, AllocError>
+fn present_items(nodes: &[Node], at: NodeNumber, alloc: Global) -> Result<Vec<OpId>, AllocError>
     requires tree { IsTree nodes.now }
     requires inside { at < length nodes.now }
     requires shown { AreShown nodes.now }

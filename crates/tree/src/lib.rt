@@ -4,6 +4,7 @@
 mod answer;
 mod apply;
 mod clear;
+mod find;
 mod grow;
 mod insert;
 mod listed;

@@ -7,13 +7,15 @@ ghost use Rattle.semantics.specs.LegalHistory.{IsFormed};
 ghost use Rattle.semantics.specs.Operations.{element_of};
 ghost use Rattle.semantics.specs.Context.{apply, empty};
 ghost use Rattle.semantics.specs.Stamped.{loose_operation};
-ghost use Rattle.semantics.specs.Questions.{resolve};
+ghost use Rattle.semantics.specs.Elements.{Element};
+ghost use Rattle.semantics.specs.Questions.{resolve, Answer, ConflictsAre, ItemsAre, KeysAre, Refused, ValuesAre};
 ghost use Rattle.semantics.specs.DocumentAnswer.{visible_items, visible_names};
 ghost use Rattle.operation.specs.Meanings.{mutation_of, stamped_of};
+ghost use Rattle.tree.specs.Answers.{IsAnswer};
 ghost use Rattle.tree.specs.Nodes.{context, tagged, valued};
 ghost use Rattle.tree.specs.Trees.{IsPlaced, IsReserved, Planted, document, items_stand};
 
-use crate::answer::{conflicts, items, keys, values};
+use crate::answer::{conflicts, conflicts_at, items, items_at, keys, keys_at, values, values_at};
 use crate::apply::apply;
 use crate::listed::items_stand;
 use crate::node::Node;
@@ -165,5 +167,66 @@ impl Tree {
         ensures { IfOk result (λ v. v.items ≡ visible_items (document self.now) element.now) }
     {
         items(&self.nodes, element, alloc)
+    }
+
+    /// The values at the element that an expression leads to, as `values`. Costs a walk along the expression, and copies no key.
+    ///
+    /// # Errors
+    /// The refusal of the expression, as `resolve`, and `AtHead` where it leads to a head; or `NoMemory` if allocation fails.
+    pub fn values_at(
+        &self,
+        alloc: Global,
+        expression: &Expr,
+    ) -> Result<Vec<(OpId, Scalar)>, Refusal>
+        ensures answer { IfOk result
+            (λ v. IsAnswer (document self.now) (λ e. ValuesAre ((document self.now).register e)) expression.now (ValuesAre (valued v.items))) }
+        ensures err { IfErr result
+            (λ why. (why ≡ NoMemory) ⊎ ((f : Element → Answer) → IsAnswer (document self.now) f expression.now (Refused why))) }
+    {
+        values_at(&self.nodes, expression, alloc)
+    }
+
+    /// The presence at the element that an expression leads to, as `conflicts`.
+    ///
+    /// # Errors
+    /// As `values_at`.
+    pub fn conflicts_at(
+        &self,
+        alloc: Global,
+        expression: &Expr,
+    ) -> Result<Vec<(OpId, Tag)>, Refusal>
+        ensures answer { IfOk result
+            (λ v. IsAnswer (document self.now) (λ e. ConflictsAre ((document self.now).presence e)) expression.now
+            (ConflictsAre (tagged v.items))) }
+        ensures err { IfErr result
+            (λ why. (why ≡ NoMemory) ⊎ ((f : Element → Answer) → IsAnswer (document self.now) f expression.now (Refused why))) }
+    {
+        conflicts_at(&self.nodes, expression, alloc)
+    }
+
+    /// The keys at the element that an expression leads to, as `keys`.
+    ///
+    /// # Errors
+    /// As `values_at`.
+    pub fn keys_at(&self, alloc: Global, expression: &Expr) -> Result<Vec<Key>, Refusal>
+        ensures answer { IfOk result
+            (λ v. IsAnswer (document self.now) (λ e. KeysAre (visible_names (document self.now) e)) expression.now (KeysAre v.items)) }
+        ensures err { IfErr result
+            (λ why. (why ≡ NoMemory) ⊎ ((f : Element → Answer) → IsAnswer (document self.now) f expression.now (Refused why))) }
+    {
+        keys_at(&self.nodes, expression, alloc)
+    }
+
+    /// The items at the element that an expression leads to, as `items`.
+    ///
+    /// # Errors
+    /// As `values_at`.
+    pub fn items_at(&self, alloc: Global, expression: &Expr) -> Result<Vec<OpId>, Refusal>
+        ensures answer { IfOk result
+            (λ v. IsAnswer (document self.now) (λ e. ItemsAre (visible_items (document self.now) e)) expression.now (ItemsAre v.items)) }
+        ensures err { IfErr result
+            (λ why. (why ≡ NoMemory) ⊎ ((f : Element → Answer) → IsAnswer (document self.now) f expression.now (Refused why))) }
+    {
+        items_at(&self.nodes, expression, alloc)
     }
 }

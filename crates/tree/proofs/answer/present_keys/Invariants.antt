@@ -3,7 +3,7 @@ use Rattle.std.specs.List.{filter}
 use Rattle.semantics.specs.Elements.{Element, Field}
 use Rattle.semantics.specs.DocumentAnswer.{is_any}
 use Rattle.tree.specs.Nodes.{number, context, links, names_in}
-use Rattle.tree.proofs.answer.keys_at.Given as goal
+use Rattle.tree.proofs.answer.present_keys.Given as goal
 
 abbrev pub invariant-loop-position : goal.invariant-loop-position
 invariant-loop-position l = (e : Element) → number l.fn.nodes e ≡ Some l.fn.at →

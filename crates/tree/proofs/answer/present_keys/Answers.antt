@@ -5,8 +5,8 @@ use Rattle.semantics.specs.Elements.{Field, Name}
 use Rattle.semantics.specs.DocumentAnswer.{is_any}
 use Rattle.tree.specs.Nodes.{context, links, links_of, names_in}
 use Rattle.tree.proofs.Answering.{field_shows, wanted_next}
-use Rattle.tree.proofs.answer.keys_at.Goals as goal
-use Rattle.tree.proofs.answer.keys_at.Goals.{then-is_field+in_ok-key+in_ok-push, else-is_field}
+use Rattle.tree.proofs.answer.present_keys.Goals as goal
+use Rattle.tree.proofs.answer.present_keys.Goals.{then-is_field+in_ok-key+in_ok-push, else-is_field}
 
 pub loop-position-preserved : goal.loop-position-preserved
 loop-position-preserved c = λ e at.
