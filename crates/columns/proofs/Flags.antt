@@ -12,6 +12,15 @@ module _ {X : Type 0} where
   shown_most (true ∷ bs) (x ∷ xs) = let rest = shown_most bs xs in omega arith
   shown_most (false ∷ bs) (x ∷ xs) = let rest = shown_most bs xs in omega arith
 
+  -- where as many are shown as there are, these are all
+  pub all_shown : (bs : List Bool) (xs : List X) → length bs ≡ length xs → length (items_where_true bs xs) ≡ length xs
+      → items_where_true bs xs ≡ xs
+  all_shown [] [] long all = refl
+  all_shown [] (x ∷ xs) long all = absurd (omega (arith, long))
+  all_shown (b ∷ bs) [] long all = absurd (omega (arith, long))
+  all_shown (true ∷ bs) (x ∷ xs) long all = ap (λ ys. x ∷ ys) (all_shown bs xs (omega (arith, long)) (omega (arith, all)))
+  all_shown (false ∷ bs) (x ∷ xs) long all = let most = shown_most bs xs in absurd (omega (arith, all, most))
+
   -- the flag at an index, and what is shown behind it
   shown_at : (bs : List Bool) (xs : List X) (i : ℕ) (d : X) (b : Bool) → length bs ≡ length xs → i < length xs → get_or bs i false ≡ b
       → items_where_true (drop i bs) (drop i xs) ≡ items_where_true (b ∷ drop (i + 1) bs) (get_or xs i d ∷ drop (i + 1) xs)

@@ -100,10 +100,13 @@ impl Block {
         }
     }
 
-    /// The item at which so many shown ones stand before. Looks at each flag up to there.
+    /// The item at which so many shown ones stand before. Looks at each flag up to there, unless all are shown.
     pub fn nth_shown(&self, index: usize) -> Option<OpId>
         ensures { result ≡ slice_get (items_where_true self.now.flags self.now.items) index }
     {
+        if self.shown == self.ids.len() {
+            return id_in(&self.ids, index);
+        }
         nth_shown_in(&self.ids, &self.flags, index)
     }
 
@@ -222,6 +225,13 @@ fn block_of(alloc: Global, number: usize, ids: &[OpId], flags: &[bool]) -> Resul
     block.ids.extend_from_slice(ids)?;
     block.flags.extend_from_slice(flags)?;
     Ok(block)
+}
+
+/// The id at an index, if there is one.
+fn id_in(ids: &[OpId], index: usize) -> Option<OpId>
+    ensures { result ≡ slice_get ids.now index }
+{
+    ids.get(index).copied()
 }
 
 /// What an item counts among the shown ones: 1 where it is shown, otherwise 0.

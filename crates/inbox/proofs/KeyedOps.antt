@@ -1,7 +1,7 @@
 -- Operations at keys: those of a slab, by a map from ids to its keys.
 use Rattle.std.proofs.Common.{◌≡◌, ◌⊎◌, inl, inr, ℕ, suc, Bool, true, false, not, cond, ◌||◌, List, [], ◌∷◌, length, Some, None, is_some}
-use Rattle.std.proofs.Common.{refl, sym, ap, subst, ◌∙◌, true≢false}
-use Rattle.std.specs.Prelude.{IfNone, Option}
+use Rattle.std.proofs.Common.{refl, sym, ap, subst, ◌∙◌, true≢false, Bor, option_copied}
+use Rattle.std.specs.Prelude.{IfNone, IfSome, Option}
 use Rattle.std.specs.List.{filter, cons_option}
 use Rattle.std.specs.declared.cmp.Ordering.{Ordering}
 use Rattle.std.specs.declared.cmp.Ordering.TheVariants.{Less, Equal, Greater}
@@ -75,6 +75,10 @@ pub record IsFound (s : Slab Op) (ops : List Op) (a : OpId) (k : ℕ) : Type 0 w
   pub id : op.id ≡ a
   pub among : IsAmong op ops
 
+-- so something does
+pub is_there : (s : Slab Op) (ops : List Op) (a : OpId) (k : ℕ) → IsFound s ops a k → None ≡ get s k → ⊥
+is_there s ops a k f none = let here = f.at_key in absurd (let no : ⊥ = cc in no)
+
 -- at the key that the map has for an id stands the operation with that id
 found_at : (s : Slab Op) (es : List (OpId × ℕ)) (a : OpId) (k : ℕ) → AreAtKeys s es → find id_cmp a es ≡ Some k
     → IsFound s (ops_at s es) a k
@@ -103,6 +107,11 @@ module _ (s : Slab Op) (es : List (OpId × ℕ)) (ops : List Op) (a : OpId) (h :
   not_found None table none =
       ap (λ os. is_waiting (waiting_in table os) a) (sym are) ∙ waiting-found table s es a h ∙ ap is_some none
   not_found (Some x) table none = tt
+
+-- what is looked up is a reference to it
+pub some_of : (P : Op → Type 0) (r : Option (Bor Op)) (o : Op) → option_copied r ≡ Some o → P o → IfSome r (λ x. P x.now)
+some_of P None o e p = tt
+some_of P (Some x) o e p = subst P (sym (let same : x.now ≡ o = cc in same)) p
 
 -- ---- what is left
 

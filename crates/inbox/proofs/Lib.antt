@@ -1,4 +1,7 @@
 -- What waits at keys, and which of it is ready.
+pub mod AwaitOrder
+pub mod Blocked
 pub mod KeyedOps
+pub mod KeptAwaits
 pub mod KeptOps
 pub mod Ready

@@ -1,11 +1,10 @@
 -- The operations that wait in an inbox.
-use Rattle.std.specs.Prelude.{◌≡◌, ◌≤◌, ◌+◌, ℕ, Bool, true, false, ⊤, cond, List, [], ◌∷◌, length, map, filter_map, Some, None}
+use Rattle.std.specs.Prelude.{◌≡◌, ℕ, Bool, true, false, ⊤, cond, List, [], ◌∷◌, length, map, filter_map, Some, None}
 use Rattle.ids.specs.declared.refusal.Refusal.TheVariants.{InboxFull}
 use Rattle.semantics.specs.Ids.{OpId, is_smaller_id}
 use Rattle.semantics.specs.Operations.{Operation}
 use Rattle.semantics.specs.LegalHistory.{IsAmong}
 use Rattle.semantics.specs.Stamped.{Stamped}
-use Rattle.semantics.specs.Tables.{greatest_in}
 use Rattle.semantics.specs.Faults.{is_ready}
 use Rattle.semantics.specs.Replica.{IsRising}
 use Rattle.semantics.specs.Delivery.{is_crowded, is_waiting}
@@ -16,6 +15,9 @@ use Rattle.operation.specs.declared.command.Delivered.TheVariants.{Known, Kept}
 use Rattle.operation.specs.Alone.{alone_fault_of_op}
 use Rattle.operation.specs.Meanings.{stamped_of}
 use Rattle.slab.specs.Slab.{Slab, get}
+use Rattle.std.specs.BTreeSet.{BTreeSet}
+use Rattle.inbox.specs.declared.awaited.Awaited.{Awaited}
+use Rattle.inbox.specs.Awaiting.{AreAwaiting}
 
 -- no fault of these can be seen without the history
 abbrev pub StandAlone : List ℕ → List Op → Type 0
@@ -62,12 +64,8 @@ abbrev pub AreAtKeys : Slab Op → List (OpId × ℕ) → Type 0
 AreAtKeys s [] = ⊤
 AreAtKeys s (e ∷ es) = ((o : Op) × (get s e.1 ≡ Some o) × (o.id ≡ e.0)) × AreAtKeys s es
 
--- no counter is more than n above the greatest of its vector
-abbrev pub AreWithin : ℕ → List Op → Type 0
-AreWithin n ops = (o : Op) → IsAmong o ops → o.id.counter ≤ greatest_in o.deps + n
-
 -- what an inbox keeps
-pub record IsStored (s : Slab Op) (entries : List (OpId × ℕ)) (lead : ℕ) : Type 0 where
+pub record IsStored (s : Slab Op) (entries : List (OpId × ℕ)) (awaits : BTreeSet Awaited) : Type 0 where
   pub at_keys : AreAtKeys s entries
   pub rising : AreRising (ops_at s entries)
-  pub within : AreWithin lead (ops_at s entries)
+  pub awaiting : AreAwaiting s entries awaits

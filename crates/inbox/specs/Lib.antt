@@ -1,2 +1,3 @@
 -- What an inbox holds, and what it answers.
+pub mod Awaiting
 pub mod Inboxes

@@ -12,12 +12,15 @@ ghost use Rattle.operation.specs.declared.command.Delivered.TheVariants.{Kept};
 ghost use Rattle.operation.specs.Meanings.{stamped_of};
 ghost use Rattle.inbox.specs.Inboxes.{answer_to_put, delivered_of, waiting_in, AreAsWide, AreNotReady, AreRising, IsLeastReady};
 
+use crate::awaited::{Awaited, awaited_index, forget};
+use crate::smallest::smallest;
 use columns::Numbers;
 use document::Document;
 use ids::{OpId, Refusal};
 use operation::{Delivered, Op, Shared};
 use slab::Slab;
 use std::alloc::Global;
+use std::collections::BTreeSet;
 use std::marker::Model;
 
 /// The most operations that wait.
@@ -29,8 +32,8 @@ pub struct Inbox {
     ops: Slab<Shared<Op>>,
     /// The slab's key of each operation, by its id.
     keys: Numbers,
-    /// The furthest that the counter of an operation put here was above the greatest of its vector: 1 if each passed `check_alone`.
-    lead: u64,
+    /// For each operation one counter of its vector: one that wasn't applied when it was put here, unless it was ready then.
+    awaits: BTreeSet<Awaited>,
 }
 
 impl Model for Inbox {
@@ -46,7 +49,7 @@ impl Model for Inbox {
 
     ghost view = { λ w. ops_at w.ops w.keys.entries };
 
-    ghost invariant = { λ w. IsStored w.ops w.keys.entries w.lead };
+    ghost invariant = { λ w. IsStored w.ops w.keys.entries w.awaits };
 }
 
 impl Inbox {
@@ -57,7 +60,7 @@ impl Inbox {
         Inbox {
             ops: Slab::new(alloc),
             keys: Numbers::new(alloc),
-            lead: 0,
+            awaits: BTreeSet::new(alloc),
         }
     }
 
@@ -97,8 +100,8 @@ impl Inbox {
         self.len() <= most
     }
 
-    /// Keeps an operation until it is taken, unless one with its id waits already. A binary search; moves the keys of greater ids,
-    /// and no operation.
+    /// Keeps an operation until it is taken, unless one with its id waits already. A binary search, and one insert into a set; moves
+    /// the keys of greater ids, and no operation.
     ///
     /// # Errors
     /// `InboxFull` if no more may wait, else `NoMemory` if allocation fails. What waited stays, and the operation is dropped.
@@ -120,19 +123,25 @@ impl Inbox {
             return Err(Refusal::InboxFull);
         }
         self.keys.reserve_one()?;
-        let id = op.id;
-        let lead = id.counter.saturating_sub(op.deps.greatest());
-        let Ok(key) = self.ops.insert(op) else {
+        self.ops.reserve(1)?;
+        let index = awaited_index(&op, document);
+        let awaited = Awaited {
+            index,
+            counter: op.deps.get(index),
+            key: self.ops.vacant_key(),
+        };
+        let Ok(_) = self.awaits.insert(awaited) else {
             return Err(Refusal::NoMemory);
         };
+        let id = op.id;
+        let key = self.ops.insert_reserved(op);
         self.keys.put(id, key);
-        self.lead = self.lead.max(lead);
         Ok(Delivered::Kept)
     }
 
-    /// The smallest operation that is causally ready, if there is one. Looks from the smallest on, and stops at a
-    /// counter so far above the greatest that was applied that nothing from there on is ready: if nothing smaller is
-    /// stuck, it looks at one operation.
+    /// The smallest operation that is causally ready, if there is one. Looks at the smallest of all first. If that isn't ready, it
+    /// costs a search for each index at which an operation waits for a counter that isn't applied, and a look at each operation
+    /// whose awaited counter is: at most one of each honest replica.
     pub fn smallest_ready(&self, document: &Document) -> Option<&Shared<Op>>
         requires width { AreAsWide document.now.table self.now }
         ensures some { IfSome result (λ o. IsLeastReady (applied document.now.entries) document.now.table self.now o.now) }
@@ -141,23 +150,22 @@ impl Inbox {
             (λ o. stamped_of document.now.table o.now) result
             ≡ first_ready (applied document.now.entries) (waiting_in document.now.table self.now) }
     {
-        let greatest = document.applied().greatest();
-        for position in 0..self.keys.len() {
-            let (id, key) = self.keys.at(position);
-            if id.counter.saturating_sub(self.lead) > greatest {
-                return None;
-            }
-            let Some(op) = self.ops.get(key) else {
-                unreachable!()
-            };
-            if document.ready(op) {
-                return Some(op);
-            }
+        if self.keys.len() == 0 {
+            return None;
         }
-        None
+        let first = self.keys.at(0);
+        let Some(op) = self.ops.get(first.1) else {
+            unreachable!()
+        };
+        if document.ready(op) {
+            return Some(op);
+        }
+        let least = smallest(&self.ops, &self.awaits, document)?;
+        self.ops.get(least.1)
     }
 
-    /// Takes an operation out. A binary search; moves the keys of greater ids.
+    /// Takes an operation out. A binary search, and one in a set for each counter of its vector at most; moves the keys of greater
+    /// ids.
     pub fn take(&mut self, id: OpId) -> Option<Shared<Op>>
         ensures some { IfSome result (λ o. (o.id ≡ id) × IsAmong o self.old) }
         ensures none { (table : List ℕ) → IfNone result (is_waiting (waiting_in table self.old) id ≡ false) }
@@ -165,6 +173,10 @@ impl Inbox {
         ensures among { (o : AnOp) → IsAmong o self.new → IsAmong o self.old }
     {
         let key = self.keys.remove(&id)?;
-        self.ops.try_remove(key)
+        let Some(op) = self.ops.try_remove(key) else {
+            unreachable!()
+        };
+        forget(&mut self.awaits, &op, key);
+        Some(op)
     }
 }

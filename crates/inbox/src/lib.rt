@@ -1,6 +1,8 @@
 //! The operations of peers that wait until all that they depend on is applied.
 #![tactic(auto)]
 
+mod awaited;
 mod inbox;
+mod smallest;
 
 pub use inbox::Inbox;

@@ -1,14 +1,9 @@
-use Rattle.std.proofs.Common.{◌≡◌, sym, subst, ◌∙◌, Bor, Option, Some, None, option_copied}
-use Rattle.std.specs.Prelude.{IfNone, IfSome}
+use Rattle.std.proofs.Common.{◌≡◌, sym, ◌∙◌, Bor, Option, Some, None, option_copied}
+use Rattle.std.specs.Prelude.{IfNone}
 use Rattle.semantics.specs.LegalHistory.{IsAmong}
 use Rattle.operation.specs.declared.op.Op.{Op}
-use Rattle.inbox.proofs.KeyedOps.{found, not_found}
+use Rattle.inbox.proofs.KeyedOps.{found, not_found, some_of}
 use Rattle.inbox.proofs.inbox.Inbox.get.Goals as goal
-
--- what is looked up is a reference to it
-some_of : (P : Op → Type 0) (r : Option (Bor Op)) (o : Op) → option_copied r ≡ Some o → P o → IfSome r (λ x. P x.now)
-some_of P None o e p = tt
-some_of P (Some x) o e p = subst P (sym (let same : x.now ≡ o = cc in same)) p
 
 none_of : (P : Type 0) (r : Option (Bor Op)) (o : Op) → option_copied r ≡ Some o → IfNone r P
 none_of P None o e = absurd (let no : ⊥ = cc in no)

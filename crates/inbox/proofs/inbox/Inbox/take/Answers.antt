@@ -1,13 +1,17 @@
-use Rattle.std.proofs.Common.{refl, sym, ◌∙◌}
-use Rattle.inbox.proofs.KeptOps.{IsWithout, left_out, taken_out}
-use Rattle.inbox.proofs.KeyedOps.{IsFound, found, not_found}
+use Rattle.std.proofs.Common.{◌≡◌, sym, subst}
+use Rattle.semantics.specs.LegalHistory.{IsAmong}
+use Rattle.operation.specs.declared.op.Op.{Op}
+use Rattle.inbox.specs.Awaiting.{IsAwaiting}
+use Rattle.inbox.proofs.KeptOps.{IsWithout, none_out, taken_out}
+use Rattle.inbox.proofs.KeyedOps.{IsFound, found, is_there, not_found}
 use Rattle.inbox.proofs.inbox.Inbox.take.Goals as goal
 
 -- ---- nothing was found
 
 without : (c : goal.After-from_residual)
-    → IsWithout c.args.id c.args.self.now c.self.inside.ops c.remove.new.self.entries c.self.inside.lead
-without c = left_out _ _ _ _ _ _ _ c.self.view_is c.remove.ensures.entries c.self.invariant (λ k o at differs. refl)
+    → IsWithout c.args.id c.args.self.now c.self.inside.ops c.remove.new.self.entries c.self.inside.awaits
+without c =
+    none_out _ _ _ _ _ _ c.self.view_is c.remove.ensures.entries (sym c.in_err-key.ensures.number) c.self.invariant
 
 pub invariant_of-self : goal.invariant_of-self
 invariant_of-self c = (without c).stored
@@ -24,21 +28,35 @@ returns-in_err-key-clause-among c = (without c).among
 
 -- ---- an operation was found
 
-at_key : (c : goal.After-try_remove) → IsFound c.self.inside.ops c.args.self.now c.args.id c.in_ok-key.key
+pub unreachable-requires : goal.unreachable-requires
+unreachable-requires c = is_there c.self.inside.ops c.args.self.now c.args.id c.in_ok-key.key
+    (found _ _ _ _ c.self.invariant.at_keys c.self.view_is c.in_ok-key.key (sym c.in_ok-key.ensures.number)) c.in_default.ensures.value
+
+pub forget-requires : goal.forget-requires
+forget-requires c =
+    let d = c.self.inside in
+    record {
+      held = subst (IsAwaiting d.awaits c.in_ok-key.key) (sym c.deref.ensures)
+          (c.self.invariant.awaiting.each c.in_ok-key.key c.in-Some.op (sym c.in-Some.ensures.value));
+      single = c.self.invariant.awaiting.only.single;
+    }
+
+at_key : (c : goal.After-forget) → IsFound c.self.inside.ops c.args.self.now c.args.id c.in_ok-key.key
 at_key c = found _ _ _ _ c.self.invariant.at_keys c.self.view_is _ (sym c.in_ok-key.ensures.number)
 
-taken : (c : goal.After-try_remove)
-    → IsWithout c.args.id c.args.self.now c.try_remove.new.self c.remove.new.self.entries c.self.inside.lead
-taken c = taken_out _ _ _ _ _ _ _ c.self.view_is c.remove.ensures.entries c.self.invariant _ (at_key c) c.try_remove.ensures.updates
+taken : (c : goal.After-forget)
+    → IsWithout c.args.id c.args.self.now c.try_remove.new.self c.remove.new.self.entries c.forget.new.awaits
+taken c = taken_out _ _ _ _ _ _ c.self.view_is c.remove.ensures.entries c.self.inside.awaits _ _ (sym c.in_ok-key.ensures.number) (at_key c)
+    c.try_remove.ensures.updates c.forget.ensures.kept c.forget.ensures.gone c.self.invariant
 
 pub invariant_of-self-2 : goal.invariant_of-self-2
 invariant_of-self-2 c = (taken c).stored
 
 pub returns-clause-some : goal.returns-clause-some
-returns-clause-some c = rw (c.try_remove.ensures.value ∙ (at_key c).at_key) ((at_key c).id, (at_key c).among)
-
-pub returns-clause-none : goal.returns-clause-none
-returns-clause-none c table = rw (c.try_remove.ensures.value ∙ (at_key c).at_key) tt
+returns-clause-some c =
+    let f = at_key c in
+    let one : f.op ≡ c.in-Some.op = (let here = f.at_key in let e = c.in-Some.ensures.value in cc) in
+    subst (λ (o : Op). (o.id ≡ c.args.id) × IsAmong o c.args.self.now) one (f.id, f.among)
 
 pub returns-clause-left : goal.returns-clause-left
 returns-clause-left c = (taken c).left
