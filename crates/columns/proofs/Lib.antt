@@ -18,6 +18,7 @@ pub mod Runs
 pub mod Walked
 pub mod Changed
 pub mod ShownItems
+pub mod ShownRuns
 pub mod Apart
 pub mod CutBlocks
 pub mod MovedHomes

@@ -311,8 +311,30 @@ fn first_smaller_in(ids: &[OpId], from: usize, id: &OpId) -> Option<usize>
     None
 }
 
-/// The id at which so many shown ones stand before.
+/// How many flags are counted at once as an item is sought by its index.
+const RUN: usize = 16;
+
+/// The id at which so many shown ones stand before. Counts sixteen flags at a time, which is done at once.
 fn nth_shown_in(ids: &[OpId], flags: &[bool], index: usize) -> Option<OpId>
+    requires { length flags.now ≡ length ids.now }
+    ensures { result ≡ slice_get (items_where_true flags.now ids.now) index }
+{
+    let mut left = index;
+    let mut at = 0;
+    while ids.len() - at >= RUN {
+        let run = &ids[at..at + RUN];
+        let shown = count_shown(run, &flags[at..at + RUN]);
+        if left < shown {
+            return nth_shown_among(run, &flags[at..at + RUN], left);
+        }
+        left -= shown;
+        at += RUN;
+    }
+    nth_shown_among(&ids[at..], &flags[at..], left)
+}
+
+/// The same, flag by flag.
+fn nth_shown_among(ids: &[OpId], flags: &[bool], index: usize) -> Option<OpId>
     requires { length flags.now ≡ length ids.now }
     ensures { result ≡ slice_get (items_where_true flags.now ids.now) index }
 {
@@ -328,8 +350,32 @@ fn nth_shown_in(ids: &[OpId], flags: &[bool], index: usize) -> Option<OpId>
     None
 }
 
-/// Appends the ids that are shown.
+/// Appends the ids that are shown. Passes sixteen that aren't at once.
 fn push_shown_of(ids: &[OpId], flags: &[bool], items: &mut Vec<OpId>) -> Result<(), AllocError>
+    requires { length flags.now ≡ length ids.now }
+    ensures { OnOk result (items.new.items ≡ items.old.items ++ items_where_true flags.now ids.now) }
+{
+    let mut at = 0;
+    while ids.len() - at >= RUN {
+        push_run(&ids[at..at + RUN], &flags[at..at + RUN], items)?;
+        at += RUN;
+    }
+    push_shown_among(&ids[at..], &flags[at..], items)
+}
+
+/// Appends the ids that are shown, if any is.
+fn push_run(ids: &[OpId], flags: &[bool], items: &mut Vec<OpId>) -> Result<(), AllocError>
+    requires { length flags.now ≡ length ids.now }
+    ensures { OnOk result (items.new.items ≡ items.old.items ++ items_where_true flags.now ids.now) }
+{
+    if count_shown(ids, flags) == 0 {
+        return Ok(());
+    }
+    push_shown_among(ids, flags, items)
+}
+
+/// Appends the ids that are shown, flag by flag.
+fn push_shown_among(ids: &[OpId], flags: &[bool], items: &mut Vec<OpId>) -> Result<(), AllocError>
     requires { length flags.now ≡ length ids.now }
     ensures { OnOk result (items.new.items ≡ items.old.items ++ items_where_true flags.now ids.now) }
 {

@@ -1,23 +1,23 @@
-use Rattle.std.proofs.Common.{◌+◌, ◌∙◌, ap, drop, get_or, slice_get}
-use Rattle.std.specs.List.{items_where_true}
-use Rattle.semantics.specs.Ids.{id_at}
-use Rattle.columns.proofs.Flags.{get_next, hidden_here, shown_here}
+use Rattle.std.proofs.Common.{◌≡◌, ◌∙◌, ◌≤◌, ◌+◌, ◌-◌, arith, sym, length}
+use Rattle.columns.proofs.ShownRuns.{found_in_run, past_run}
 use Rattle.columns.proofs.block.nth_shown_in.Goals as goal
-use Rattle.columns.proofs.block.nth_shown_in.Goals.{else-flags-at, then-flags-at+else-left-eq0}
+
+pub returns-then-left-shown : goal.returns-then-left-shown
+returns-then-left-shown c =
+    let i = c.loop-at.at in
+    c.nth_shown_among.ensures
+    ∙ sym (found_in_run c.args.flags.now c.args.ids.now i (i + 16 - i) c.requires c.loop-at.left c.count_shown-shown.result
+    c.count_shown-shown.ensures c.if-left-shown.true)
+    ∙ sym c.loop-at.invariant.rest
 
 pub loop-at-preserved : goal.loop-at-preserved
 loop-at-preserved c =
-    let bs = c.args.flags.now in
-    let xs = c.args.ids.now in
     let i = c.loop-at.at in
-    elim c.if-flags-at.branch [
-      | else-flags-at w ↦
-          rw w.left-is
-          (c.loop-at.invariant ∙ ap (λ zs. slice_get zs c.loop-at.left)
-          (hidden_here bs xs i (id_at 0 0) c.requires c.loop-at-test.true w.if-flags-at.false))
-      | then-flags-at+else-left-eq0 w ↦
-          rw w.left-is
-          (c.loop-at.invariant ∙ ap (λ zs. slice_get zs c.loop-at.left)
-          (shown_here bs xs i (id_at 0 0) c.requires c.loop-at-test.true w.if-flags-at.true)
-          ∙ get_next (get_or xs i (id_at 0 0)) (items_where_true (drop (i + 1) bs) (drop (i + 1) xs)) c.loop-at.left w.if-left-eq0.false)
-    ]
+    let within : i + 16 ≤ length c.args.ids.now = (let h = c.loop-at-test.true in let w = c.loop-at.invariant.within in omega arith) in
+    let on : i + 16 ≡ i + (i + 16 - i) = omega arith in
+    record {
+      within = within;
+      rest = c.loop-at.invariant.rest
+          ∙ past_run c.args.flags.now c.args.ids.now i (i + 16 - i) c.requires (i + 16) c.loop-at.left c.count_shown-shown.result on
+          c.count_shown-shown.ensures (let h = c.if-left-shown.false in omega arith);
+    }

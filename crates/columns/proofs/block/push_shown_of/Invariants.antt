@@ -1,7 +1,12 @@
-use Rattle.std.proofs.Common.{◌≡◌, ◌++◌, drop}
+use Rattle.std.proofs.Common.{◌≡◌, ◌≤◌, ◌-◌, ◌++◌, drop, length}
 use Rattle.std.specs.List.{items_where_true}
 use Rattle.columns.proofs.block.push_shown_of.Given as goal
 
+abbrev pub decreases-loop-at : goal.decreases-loop-at
+decreases-loop-at l = length l.ids - l.at
+
 abbrev pub invariant-loop-at : goal.invariant-loop-at
-invariant-loop-at l = l.items.items ++ items_where_true (drop l.at l.flags) (drop l.at l.ids)
-    ≡ l.initial.items.items ++ items_where_true l.flags l.ids
+invariant-loop-at l = record {
+  within : l.at ≤ length l.ids;
+  rest : l.items.items ++ items_where_true (drop l.at l.flags) (drop l.at l.ids) ≡ l.initial.items.items ++ items_where_true l.flags l.ids;
+}
