@@ -28,8 +28,9 @@ pub fn resolve(alloc: Global, nodes: &[Node], expression: &Expr) -> Result<Place
     ensures place { IfOk result (λ p. resolve (visible_items (context nodes.now)) expression.now ≡ Ok p) }
     ensures err { IfErr result (λ why. (why ≡ NoMemory) ⊎ (resolve (visible_items (context nodes.now)) expression.now ≡ Err why)) }
 {
-    let mut walker = Walker::new(alloc);
-    for step in expression.steps() {
+    let steps = expression.steps();
+    let mut walker = Walker::new(alloc, steps.len().min(MOST_KEYS))?;
+    for step in steps {
         walker.take(nodes, step)?;
     }
     Place::new(walker.hops, walker.is_head)
@@ -44,16 +45,16 @@ struct Walker {
 }
 
 impl Walker {
-    /// A walk that begins at the root.
-    fn new(alloc: Global) -> Walker
-        ensures stand { stand_of result ≡ At Doc }
-        ensures walking { (ns : List Node) → IsWalking ns result }
+    /// A walk that begins at the root, with room for this many hops: a place keeps its hops for good, so they have no more.
+    fn new(alloc: Global, most: usize) -> Result<Walker, AllocError>
+        ensures stand { IfOk result (λ w. stand_of w ≡ At Doc) }
+        ensures walking { IfOk result (λ w. (ns : List Node) → IsWalking ns w) }
     {
-        Walker {
-            hops: Vec::new(alloc),
+        Ok(Walker {
+            hops: Vec::with_capacity(alloc, most)?,
             is_head: false,
             node: Some(NodeNumber::ROOT),
-        }
+        })
     }
 
     /// Takes one step, or says why not.

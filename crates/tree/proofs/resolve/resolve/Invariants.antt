@@ -9,6 +9,6 @@ use Rattle.tree.proofs.resolve.resolve.Given as goal
 abbrev pub invariant-loop-step : goal.invariant-loop-step
 invariant-loop-step l = record {
   walking : IsWalking l.nodes l.walker;
-  rest : walk_from (visible_items (context l.nodes)) (map step_of (drop l.step-index l.step-items)) (Ok (stand_of l.walker))
+  rest : walk_from (visible_items (context l.nodes)) (map step_of (drop l.step-index l.steps)) (Ok (stand_of l.walker))
       ≡ resolve (visible_items (context l.nodes)) l.expression;
 }
