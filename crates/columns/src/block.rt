@@ -7,6 +7,7 @@ ghost use Rattle.semantics.specs.Ids.{OpId as TheId};
 ghost use Rattle.columns.specs.Blocks.{AreApart, AreGreater, IsFirstSmaller, IsFloor, IsPositionOf};
 
 use ids::OpId;
+use rings::insert_reserved;
 use std::alloc::{AllocError, Global};
 use std::marker::Model;
 use std::mem::replace;
@@ -159,9 +160,8 @@ impl Block {
         ensures flags { self.new.flags ≡ insert self.old.flags index false }
     {
         self.floor = lower(&self.floor, &id);
-        // There is room, so neither is refused.
-        let _ = self.ids.insert(index, id);
-        let _ = self.flags.insert(index, false);
+        insert_reserved(&mut self.ids, index, id);
+        insert_reserved(&mut self.flags, index, false);
     }
 
     /// Sets whether the item at an index is shown.

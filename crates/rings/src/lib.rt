@@ -4,4 +4,4 @@
 mod rings;
 mod starts;
 
-pub use rings::Rings;
+pub use rings::{Rings, insert_reserved};

@@ -9,8 +9,8 @@ invariant_of-self c =
     let d = c.self.inside in
     let i = c.args.index in
     let within : i ≤ length d.ids.items = subst (λ (r : ListBlock). i ≤ length r.items) (sym c.self.view_is) c.requires.within in
-    let ids : c.insert.new.self.items ≡ insert d.ids.items i c.args.id = search rules in
-    let flags : c.insert-2.new.self.items ≡ insert d.flags.items i false = search rules in
+    let ids : c.insert_reserved.new.items.items ≡ insert d.ids.items i c.args.id = search rules in
+    let flags : c.insert_reserved-2.new.items.items ≡ insert d.flags.items i false = search rules in
     rw (ids, flags)
     (block_put d.ids.items d.flags.items d.shown d.floor c.lower-self-inside.result i c.args.id within c.self.invariant
     (c.lower-self-inside.ensures d.ids.items c.self.invariant.bounded))
