@@ -14,3 +14,4 @@ pub mod LineEnds
 pub mod BundleBack
 pub mod WholeTexts
 pub mod WholeOperations
+pub mod SentOperations

@@ -1,5 +1,5 @@
 -- The pairs of a column indexed by a table whose numbers rise, one index after the other.
-use Rattle.std.proofs.Common.{◌≡◌, ◌<◌, ℕ, zero, suc, Bool, true, false, nat_lt, cond, ◌==◌, max, List, [], ◌∷◌, length, get_or, drop, Some}
+use Rattle.std.proofs.Common.{◌≡◌, ◌<◌, ◌≤◌, ℕ, zero, suc, Bool, true, false, nat_lt, cond, ◌==◌, max, min, List, [], ◌∷◌, length, get_or, drop, Some}
 use Rattle.std.proofs.Common.{None, refl, ap, ◌∙◌, arith, slice_get}
 use Rattle.std.proofs.lemmas.Bool.{lt-ltb, ne_eqb}
 use Rattle.ids.specs.Tables.{AreRising, IsBelowAll}
@@ -69,3 +69,12 @@ listed_none [] xs ys zero e = refl
 listed_none [] xs ys (suc i) e = refl
 listed_none (q ∷ ps) xs ys zero e = cc
 listed_none (q ∷ ps) xs ys (suc i) e = listed_none ps xs ys i e
+
+-- past one of both there is no pair
+pub by_table-past : (ps cs : List ℕ) (i : ℕ) → min (length ps) (length cs) ≤ i → by_table (drop i ps) (drop i cs) ≡ []
+by_table-past [] cs zero l = refl
+by_table-past [] cs (suc i) l = refl
+by_table-past (p ∷ ps) [] zero l = refl
+by_table-past (p ∷ ps) [] (suc i) l = by_table-nil (drop i ps)
+by_table-past (p ∷ ps) (c ∷ cs) zero l = absurd (omega arith)
+by_table-past (p ∷ ps) (c ∷ cs) (suc i) l = by_table-past ps cs i (omega arith)

@@ -19,7 +19,7 @@ use Rattle.semantics.proofs.ElementPaths.{down-keys_from_root}
 use Rattle.semantics.proofs.TableVectors.{canonical-by_table}
 use Rattle.operation.specs.declared.op.Op.{Op}
 use Rattle.operation.specs.Alone.{key_of_member}
-use Rattle.operation.specs.Meanings.{stamped_of}
+use Rattle.operation.specs.Meanings.{mutation_of, stamped_of}
 use Rattle.operation.proofs.AloneFaults.{all-by_table, members_all}
 use Rattle.operation.proofs.PlaceKeys.{items_of_members-keys}
 use Rattle.serde_json.specs.Data.{Data}
@@ -34,8 +34,7 @@ use Rattle.wire.specs.Operations.{path_json, phrase, root_json}
 use Rattle.wire.specs.Places.{Entered, count_parts, element_at, entered_of, is_list_head, key_form, parts_of, place_below, place_form}
 use Rattle.wire.specs.Reading.{mutation_form, operation_form}
 use Rattle.wire.specs.Sent.{AreReplicaNumbers, AreSentKeys, AreTypedKeys, CanBeSent, IsSent, IsSentId, IsSentKey, IsSentMutation}
-use Rattle.wire.specs.Sent.{IsSentVector}
-use Rattle.wire.specs.Sent.{IsTyped, are_counters, is_counter, key_counted}
+use Rattle.wire.specs.Sent.{IsReplicaNumber, IsSentVector, IsTypedPlace, are_counters, is_counter, key_counted}
 use Rattle.wire.specs.Vectors.{pair_json, pairs_above}
 
 -- ---- ids and vectors
@@ -214,21 +213,19 @@ sent_keys table (ItemKey a ∷ ks) typed members counters =
     let n = and_parts (is_counter a.counter) (list_all key_counted ks) counters in
     ((n.0, typed.0, m.0), sent_keys table ks typed.1 m.1 n.1)
 
-pub typed_back : (table : List ℕ) (o : Op) → IsTyped (stamped_of table o) → CanBeSent table (stamped_of table o)
-    → operation_form table (operation_json (stamped_of table o)) ≡ Ok (stamped_of table o)
-typed_back table o typed sent =
+-- what its types keep, and what a caller answers for, is all that a line wants
+pub typed_sent : (table : List ℕ) (o : Op) → IsReplicaNumber o.id.replica → AreReplicaNumbers (by_table table o.deps) → IsTypedPlace o.place
+    → IsSentMutation (mutation_of o.mutation) → CanBeSent table (stamped_of table o) → IsSent table (stamped_of table o)
+typed_sent table o own_typed vector_typed place_typed within sent =
     let s : Stamped = stamped_of table o in
     let parts = and_parts (is_member table s.id.replica && list_all (λ (a : OpId). is_member table a.replica) s.vector)
     (items_of_members table (element_of s.place)) sent.members in
     let own = and_parts (is_member table s.id.replica) (list_all (λ (a : OpId). is_member table a.replica) s.vector) parts.0 in
-    let id : IsSentId table s.id = (sent.id, typed.id, own.0) in
-    let keys : AreSentKeys table (keys_from_root (element_of s.place)) = sent_keys table
-    (keys_from_root (element_of s.place)) typed.place.keys
-    (sym (items_of_members-keys table (element_of s.place)) ∙ parts.1) sent.items in
-    rw (
-      id_back table s.id id,
-      pairs_back table 0 s.vector
-          (sent_column table o.deps typed.vector sent.vector),
-      place_back table s.place keys typed.place.few,
-      typed.mutation,
-    ) refl
+    record {
+      id = (sent.id, own_typed, own.0);
+      vector = sent_column table o.deps vector_typed sent.vector;
+      keys = sent_keys table (keys_from_root (element_of s.place)) place_typed.keys
+          (sym (items_of_members-keys table (element_of s.place)) ∙ parts.1) sent.items;
+      few = place_typed.few;
+      mutation = within;
+    }

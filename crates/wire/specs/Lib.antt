@@ -6,5 +6,6 @@ pub mod Operations
 pub mod Reading
 pub mod Meanings
 pub mod Sent
+pub mod Writing
 pub mod Messages
 pub mod Bundles

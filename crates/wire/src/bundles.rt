@@ -13,7 +13,8 @@ ghost use Rattle.wire.specs.Operations.{operation_json};
 ghost use Rattle.wire.specs.Reading.{op_form};
 ghost use Rattle.wire.specs.Sent.{CanBeSent};
 
-use crate::messages::{read_op, write_op};
+use crate::messages::read_op;
+use crate::writing::with_line;
 use ids::{Refusal, ReplicaTable};
 use json_lines::{LINE_END, Lines};
 use operation::{Op, Shared};
@@ -35,8 +36,10 @@ pub fn write_bundle(
         → bundle_form table.now text.items ≡ Ok (map (stamped_of table.now) ops.now)) }
 {
     let mut text = Vec::new(alloc);
+    let mut line = Vec::new(alloc);
     for op in ops {
-        let line = write_op(alloc, op, table)?;
+        line.clear();
+        line = with_line(line, op, table)?;
         text.extend_from_slice(line.as_slice())?;
         text.push(LINE_END)?;
     }

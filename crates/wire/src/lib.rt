@@ -2,12 +2,15 @@
 #![tactic(auto)]
 
 mod bundles;
+mod guess;
 mod members;
 mod messages;
 mod operations;
 mod places;
 mod reading;
+mod scan;
 mod vectors;
+mod writing;
 
 pub use bundles::{
     LinesRead, bundles_are_read_back, bundles_are_written_alike, read_bundle, read_lines,

@@ -13,15 +13,19 @@ ghost use Rattle.wire.specs.Operations.{operation_json};
 ghost use Rattle.wire.specs.Reading.{op_form, operation_form};
 ghost use Rattle.wire.specs.Sent.{AreReplicaNumbers, CanBeSent, IsSent, are_counters};
 
-use crate::operations::operation_value;
+use crate::guess::guess_op;
 use crate::reading::operation_in;
 use crate::vectors::{vector_in, vector_value};
+use crate::writing::with_line;
 use ids::{Refusal, ReplicaTable};
 use json_lines::{json_of, phrase_in};
 use operation::{Op, Shared};
 use serde_json::{Value, json};
 use std::alloc::{AllocError, Global};
 use version::VersionVector;
+
+/// Room for a line of usual length.
+const LINE_BYTES: usize = 128;
 
 /// The line of an operation, whose vector is indexed by the table. Where its names are of members, and its counters those of the
 /// wire, `read_op` reads it as the same operation.
@@ -33,7 +37,7 @@ pub fn write_op(alloc: Global, op: &Op, table: &ReplicaTable) -> Result<Vec<u8>,
     ensures reads_back { IfOk result
         (λ text. CanBeSent table.now (stamped_of table.now op.now) → op_form table.now text.items ≡ Ok (stamped_of table.now op.now)) }
 {
-    Ok(operation_value(alloc, table, op)?.to_vec(alloc)?)
+    with_line(Vec::with_capacity(alloc, LINE_BYTES)?, op, table)
 }
 
 /// The line of a vector indexed by the table, a hello. Where its counters are those of the wire, `read_vector` reads it as the same vector.
@@ -67,8 +71,9 @@ fn hello_value(
 
 /// The operation on a line, its vector as wide as the table.
 ///
-/// The whole line is parsed as JSON before its parts are looked at, so time and memory are proportional to its length: whoever
-/// takes lines from others bounds their length first. JSON nested deeper than 127 lists and objects is refused.
+/// A line as `write_op` writes it is read at once. Any other is parsed as JSON as a whole before its parts are looked at. Time and
+/// memory are proportional to its length: whoever takes lines from others bounds their length first. JSON nested deeper than 127
+/// lists and objects is refused.
 ///
 /// # Errors
 /// The first fault in this order: `BadLine` if the text is no JSON, or no list of six that begins with `op`; then the faults of the
@@ -79,9 +84,20 @@ pub fn read_op(alloc: Global, text: &[u8], table: &ReplicaTable) -> Result<Share
     ensures read { IsRead (stamped_of table.now) result (op_form table.now text.now) }
     ensures width { IfOk result (λ o. length o.deps ≡ length table.now) }
 {
-    let value = json_of(alloc, text)?;
-    let op = operation_in(alloc, table, &value)?;
+    let op = op_in(alloc, text, table)?;
     Ok(Shared::new(alloc, op)?)
+}
+
+/// The operation on a line: at once where the line is as it would be written, else as that of any JSON.
+fn op_in(alloc: Global, text: &[u8], table: &ReplicaTable) -> Result<Op, Refusal>
+    ensures read { IsRead (stamped_of table.now) result (op_form table.now text.now) }
+    ensures width { IfOk result (λ o. length o.deps ≡ length table.now) }
+{
+    if let Some(op) = guess_op(alloc, text, table) {
+        return Ok(op);
+    }
+    let value = json_of(alloc, text)?;
+    operation_in(alloc, table, &value)
 }
 
 /// The vector on a line.

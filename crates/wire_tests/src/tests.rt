@@ -1,6 +1,7 @@
 //! Lines with values from the rules, and each call once where it succeeds.
 
 mod bundles;
+mod guesses;
 mod operations;
 mod vectors;
 

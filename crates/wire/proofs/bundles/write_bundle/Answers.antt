@@ -21,7 +21,8 @@ loop-op-preserved c =
     let i : ℕ = c.loop-op.op-index in
     let o = c.op-item.result in
     let before = c.loop-op.text.items in
-    let line : c.in_ok-line.line.items ≡ op_line (f o) = c.in_ok-line.ensures.line ∙ ap (λ (x : Op). op_line (f x)) c.deref.ensures in
+    let line : c.in_ok-line.line.items ≡ op_line (f o) = c.in_ok-line.ensures.line
+    ∙ (λ j. c.clear.ensures.items j ++ op_line (f (c.deref.ensures j))) in
     let rest : List ℕ = bundle_text (map f (drop (i + 1) ops)) in
     let pushed : c.push.new.self.items ≡ (before ++ op_line (f o)) ++ 10 ∷ [] = c.in_ok-push.ensures.items
     ∙ ap (λ bs. bs ++ 10 ∷ []) (c.in_ok-extend_from_slice.ensures.items ∙ ap (λ bs. before ++ bs) (c.as_slice.ensures.value ∙ line)) in
@@ -37,8 +38,8 @@ loop-op-preserved c =
       back = All-more (λ (x : Op). IsBackIfSent table (f x)) ops i o c.loop-op-test.true c.loop-op.invariant.back
           (subst (λ (x : Op). IsBackIfSent table (f x)) c.op-item.is
           (record {
-            back = λ sent. rw (← line) (subst (λ (x : Op). CanBeSent table (f x) → op_form table c.in_ok-line.line.items ≡ Ok (f x))
-                c.deref.ensures c.in_ok-line.ensures.reads_back sent);
+            back = subst (λ (x : Op). CanBeSent table (f x) → op_form table (op_line (f x)) ≡ Ok (f x))
+                c.deref.ensures c.in_ok-line.ensures.reads_back;
           }));
     }
 

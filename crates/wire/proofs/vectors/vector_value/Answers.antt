@@ -1,4 +1,4 @@
-use Rattle.std.proofs.Common.{◌≡◌, ◌<◌, ◌≤◌, ◌++◌, ◌∷◌, [], ℕ, zero, suc, min, Vec, List, length, map, drop, refl, sym, ap, ◌∙◌}
+use Rattle.std.proofs.Common.{◌≡◌, ◌<◌, ◌++◌, ◌∷◌, [], ℕ, suc, Vec, List, length, map, drop, sym, ap, ◌∙◌}
 use Rattle.std.proofs.Common.{append_assoc, append-nil, add-one, subst, arith}
 use Rattle.std.proofs.lemmas.List.{map-append}
 use Rattle.std.specs.declared.alloc.Global.{Global}
@@ -10,7 +10,7 @@ use Rattle.serde_json.specs.View.{view, items_of}
 use Rattle.serde_json.proofs.Views.{view-Array}
 use Rattle.wire.specs.Sent.{AreReplicaNumbers}
 use Rattle.wire.specs.Vectors.{pair_json}
-use Rattle.wire.proofs.ListedVectors.{by_table-nil, listed_none, listed_some, listed_zero}
+use Rattle.wire.proofs.ListedVectors.{by_table-past, listed_none, listed_some, listed_zero}
 use Rattle.wire.proofs.vectors.vector_value.Goals as goal
 use Rattle.wire.proofs.vectors.vector_value.Goals.{then-counter-gt0+in-Some+in_ok-pair_value+in_ok-push, then-counter-gt0+in_default}
 use Rattle.wire.proofs.vectors.vector_value.Goals.{else-counter-gt0}
@@ -63,22 +63,13 @@ loop-index-preserved c =
           }
     ])
 
--- past one of both there is no pair
-past : (ps cs : List ℕ) (i : ℕ) → min (length ps) (length cs) ≤ i → by_table (drop i ps) (drop i cs) ≡ []
-past [] cs zero l = refl
-past [] cs (suc i) l = refl
-past (p ∷ ps) [] zero l = refl
-past (p ∷ ps) [] (suc i) l = by_table-nil (drop i ps)
-past (p ∷ ps) (c ∷ cs) zero l = absurd (omega arith)
-past (p ∷ ps) (c ∷ cs) (suc i) l = past ps cs i (omega arith)
-
 pub returns-clause-json : goal.returns-clause-json
 returns-clause-json c =
     let ps = c.args.table.now in
     let cs = c.args.vector.now in
     let i : ℕ = c.loop-index.index in
     let ended : by_table (drop i ps) (drop i cs)
-    ≡ [] = past ps cs i (omega (arith, c.loop-index-test.false, c.min-count.ensures, c.width.ensures, c.len.ensures.length)) in
+    ≡ [] = by_table-past ps cs i (omega (arith, c.loop-index-test.false, c.min-count.ensures, c.width.ensures, c.len.ensures.length)) in
     let all : map view c.loop-index.pairs.items ≡ map pair_json (by_table ps cs) =
     sym (append-nil (map view c.loop-index.pairs.items))
     ∙ ap (λ (ids : List OpId). map view c.loop-index.pairs.items ++ map pair_json ids) (sym ended)
@@ -91,5 +82,5 @@ returns-clause-typed c =
     let cs = c.args.vector.now in
     let i : ℕ = c.loop-index.index in
     let ended : by_table (drop i ps) (drop i cs)
-    ≡ [] = past ps cs i (omega (arith, c.loop-index-test.false, c.min-count.ensures, c.width.ensures, c.len.ensures.length)) in
+    ≡ [] = by_table-past ps cs i (omega (arith, c.loop-index-test.false, c.min-count.ensures, c.width.ensures, c.len.ensures.length)) in
     c.loop-index.invariant.typed (subst AreReplicaNumbers (sym ended) tt)

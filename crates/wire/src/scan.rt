@@ -1,0 +1,260 @@
+//! The bytes of a line, taken apart in the one form in which an operation is written.
+//!
+//! Nothing is asked of what these methods find, since it is written again and compared: commas, tags and the end of a line are passed
+//! without much care. Each takes a number of steps that its part of the line bounds, and none calls itself.
+
+ghost use Rattle.std.specs.Prelude.{◌≡◌, ◌<◌, IfSome, length};
+
+use cursor::{Hop, MOST_KEYS, Place};
+use ids::{OpId, ReplicaId, ReplicaTable};
+use memchr::memchr;
+use operation::{Mutation, Op};
+use std::alloc::Global;
+use value::{Key, MOST_KEY_BYTES, MOST_TEXT_BYTES, Scalar, Val};
+use version::VersionVector;
+
+/// The most digits that a number of 64 bits has.
+const MOST_DIGITS: usize = 20;
+
+/// The bytes of a line that are left. Each method takes its part off the front, or gives up.
+#[derive(Drop)]
+pub(crate) struct Scan<'a> {
+    rest: &'a [u8],
+}
+
+impl<'a> Scan<'a> {
+    /// All bytes of a line.
+    pub(crate) fn new(line: &'a [u8]) -> Scan<'a> {
+        Scan { rest: line }
+    }
+
+    /// The operation, with a vector as wide as the table. `None` where the line has another form, or where memory is refused.
+    pub(crate) fn op(&mut self, alloc: Global, table: &ReplicaTable) -> Option<Op>
+        ensures { IfSome result (λ o. length o.deps ≡ length table.now) }
+    {
+        self.bytes(b"[\"op\",")?;
+        let id = self.id()?;
+        let deps = self.vector(alloc, table)?;
+        let place = self.place(alloc)?;
+        let mutation = self.mutation(alloc)?;
+        Some(Op {
+            id,
+            deps,
+            place,
+            mutation,
+        })
+    }
+
+    /// Counter and replica.
+    fn id(&mut self) -> Option<OpId> {
+        let (counter, replica) = self.two_numbers()?;
+        id_of(counter, replica)
+    }
+
+    /// The vector, after its comma.
+    fn vector(&mut self, alloc: Global, table: &ReplicaTable) -> Option<VersionVector>
+        ensures { IfSome result (λ v. length v ≡ length table.now) }
+    {
+        let mut vector = VersionVector::zero(alloc, table.len()).ok()?;
+        self.pairs(table, &mut vector)?;
+        Some(vector)
+    }
+
+    /// Raises the vector by each pair of a replica and its counter. There is at most one for each member.
+    fn pairs(&mut self, table: &ReplicaTable, vector: &mut VersionVector) -> Option<()>
+        requires { length vector.old ≡ length table.now }
+        ensures { length vector.new ≡ length vector.old }
+    {
+        self.bytes(b",[")?;
+        for near in 0..table.len() {
+            if self.peek()? == b']' {
+                break;
+            }
+            let id = self.pair()?;
+            let index = index_near(table, near, id.replica)?;
+            vector.raise(index, id.counter);
+            self.takes(b',');
+        }
+        self.byte(b']')
+    }
+
+    /// Replica and counter.
+    fn pair(&mut self) -> Option<OpId> {
+        let (replica, counter) = self.two_numbers()?;
+        id_of(counter, replica)
+    }
+
+    /// The numbers of a list of two.
+    fn two_numbers(&mut self) -> Option<(u64, u64)> {
+        self.byte(b'[')?;
+        let first = self.number()?;
+        self.byte(b',')?;
+        let second = self.number()?;
+        self.byte(b']')?;
+        Some((first, second))
+    }
+
+    /// The place of a path and its last key, after their comma.
+    fn place(&mut self, alloc: Global) -> Option<Place> {
+        let mut hops = Vec::new(alloc);
+        let is_head = self.hops(alloc, &mut hops)?;
+        Place::new(hops, is_head).ok()
+    }
+
+    /// Appends the hops of a path and of its last key. Whether that is the key of a head.
+    fn hops(&mut self, alloc: Global, hops: &mut Vec<Hop>) -> Option<bool> {
+        self.bytes(b",[")?;
+        for _ in 0..MOST_KEYS {
+            if self.peek()? == b']' {
+                break;
+            }
+            self.part(alloc, hops)?;
+            self.takes(b',');
+        }
+        self.bytes(b"],")?;
+        self.key(alloc, hops)
+    }
+
+    /// Appends the hop of a part of a path. Its tag says no more than the next key.
+    fn part(&mut self, alloc: Global, hops: &mut Vec<Hop>) -> Option<()> {
+        self.bytes(b"[\"")?;
+        if !self.takes(b'm') {
+            self.byte(b'l')?;
+        }
+        self.bytes(b"\",")?;
+        self.key(alloc, hops)?;
+        self.byte(b']')
+    }
+
+    /// Appends the hop of a key. The root has none, and a head has none. Whether it is the key of a head.
+    fn key(&mut self, alloc: Global, hops: &mut Vec<Hop>) -> Option<bool> {
+        if self.takes(b'0') {
+            return Some(false);
+        }
+        if self.takes(b'1') {
+            return Some(true);
+        }
+        let hop = self.hop(alloc)?;
+        if hops.push(hop).is_err() {
+            return None;
+        }
+        Some(false)
+    }
+
+    /// The hop to an item or a field.
+    fn hop(&mut self, alloc: Global) -> Option<Hop> {
+        if self.peek()? == b'[' {
+            return Some(Hop::Item(self.id()?));
+        }
+        let name = self.text(MOST_KEY_BYTES)?;
+        Some(Hop::Field(Key::new(alloc, name).ok()?))
+    }
+
+    /// The mutation, after its comma, as far as its value. What ends the line is left.
+    fn mutation(&mut self, alloc: Global) -> Option<Mutation> {
+        self.bytes(b",[\"")?;
+        if self.takes(b'd') {
+            return Some(Mutation::Delete);
+        }
+        if self.takes(b'i') {
+            return Some(Mutation::Insert(self.value(alloc)?));
+        }
+        self.byte(b'a')?;
+        Some(Mutation::Assign(self.value(alloc)?))
+    }
+
+    /// The value, after the end of its word.
+    fn value(&mut self, alloc: Global) -> Option<Val> {
+        self.bytes(b"\",")?;
+        match self.peek()? {
+            b'"' => Val::text(alloc, self.text(MOST_TEXT_BYTES)?).ok(),
+            b'{' => Some(Val::EmptyMap),
+            b'[' => Some(Val::EmptyList),
+            b'n' => Some(Val::Scalar(Scalar::Null)),
+            b't' => Some(Val::Scalar(Scalar::Bool(true))),
+            b'f' => Some(Val::Scalar(Scalar::Bool(false))),
+            _ => Some(Val::Scalar(Scalar::Whole(self.whole()?))),
+        }
+    }
+
+    /// A whole number, unless it is the least.
+    fn whole(&mut self) -> Option<i64> {
+        let is_negative = self.takes(b'-');
+        let number = i64::try_from(self.number()?).ok()?;
+        if is_negative {
+            return number.checked_neg();
+        }
+        Some(number)
+    }
+
+    /// A text of at most so many bytes, up to the first quote.
+    fn text(&mut self, most: usize) -> Option<&'a str> {
+        self.byte(b'"')?;
+        let rest = self.rest;
+        let end = memchr(b'"', rest)?;
+        if end > most {
+            return None;
+        }
+        self.rest = &rest[end + 1..];
+        str::from_utf8(&rest[..end]).ok()
+    }
+
+    /// A number, up to the first byte that is no digit.
+    fn number(&mut self) -> Option<u64> {
+        let mut rest = self.rest;
+        let mut number = 0_u64;
+        for _ in 0..=MOST_DIGITS {
+            let (first, others) = rest.split_first()?;
+            let digit = first.wrapping_sub(b'0');
+            if digit > 9 {
+                self.rest = rest;
+                return Some(number);
+            }
+            number = number.checked_mul(10)?.checked_add(u64::from(digit))?;
+            rest = others;
+        }
+        None
+    }
+
+    /// These bytes.
+    fn bytes(&mut self, bytes: &[u8]) -> Option<()> {
+        self.rest = self.rest.strip_prefix(bytes)?;
+        Some(())
+    }
+
+    /// This byte.
+    fn byte(&mut self, byte: u8) -> Option<()> {
+        self.takes(byte).then_some(())
+    }
+
+    /// Whether this byte came next, and was taken.
+    fn takes(&mut self, byte: u8) -> bool {
+        match self.rest.split_first() {
+            Some((first, others)) if *first == byte => {
+                self.rest = others;
+                true
+            }
+            _ => false,
+        }
+    }
+
+    /// The byte that comes next, and stays.
+    fn peek(&self) -> Option<u8> {
+        self.rest.first().copied()
+    }
+}
+
+fn id_of(counter: u64, replica: u64) -> Option<OpId> {
+    let replica = ReplicaId::new(u32::try_from(replica).ok()?)?;
+    Some(OpId { counter, replica })
+}
+
+/// The index of a replica. It is looked for at this one first, where it stands if all members before it have a pair.
+fn index_near(table: &ReplicaTable, near: usize, replica: ReplicaId) -> Option<usize>
+    ensures { IfSome result (λ index. index < length table.now) }
+{
+    if table.at(near) == Some(replica) {
+        return Some(near);
+    }
+    table.index_of(replica)
+}

@@ -1,0 +1,99 @@
+//! A line that is as it would be written is read at once, and any other as JSON, as it is after a space. Both ways give the same.
+
+use super::LINES;
+use ids::{Refusal, ReplicaTable};
+use operation::{Op, Shared};
+use std::alloc::{AllocError, Global};
+use std::process::Abort;
+use std::test::Fail;
+use wire::read_op;
+
+/// Lines at the limits, beyond them, and in other forms.
+const OTHERS: &[&str] = &[
+    r#"["op",[9,2],[[1,7],[2,8]],[["m",0],["m",""],["l","é"],["l",[3,1]]],[4,2],["a","\n🦀"]]"#,
+    r#"["op",[1,1],[],[["l",0]],1,["i",-9223372036854775808]]"#,
+    r#"["op",[1,1],[],[["l",0]],1,["i",-9223372036854775809]]"#,
+    r#"["op",[1,1],[],[["l",0]],1,["i",9223372036854775807]]"#,
+    r#"["op",[1,1],[],[["l",0]],1,["i",9223372036854775808]]"#,
+    r#"["op",[1,1],[],[["m",0],["m",0]],"a",["a",-0]]"#,
+    r#"["op",[1,1],[],[["m",0],["m",1]],"a",["a",-12]]"#,
+    r#"["op",[1,1],[],[["m",1]],"a",["a",true]]"#,
+    r#"["op",[1,1],[],[["m",0]],"a",["a",false]]"#,
+    r#"["op",[1,1],[],[],0,["a",null]]"#,
+    r#"["op",[1,1],[],[],1,["d"]]"#,
+    r#"["op",[1,1],[],[["m",0]],"a",["a",1.5]]"#,
+    r#"["op",[1,1],[],[["m",0]],"a",["a","\u0061"]]"#,
+    r#"["op",[1,1],[],[["m",0]],"a",["a",[1]]]"#,
+    r#"["op",[1,1],[[2,8],[1,7]],[],0,["d"]]"#,
+    r#"["op",[1,1],[[1,7],[1,7]],[],0,["d"]]"#,
+    r#"["op",[1,1],[[1,7],[2,8],[3,9]],[],0,["d"]]"#,
+    r#"["op",[1,1],[[1,0]],[],0,["d"]]"#,
+    r#"["op",[4611686018427387904,1],[[2,4611686018427387904]],[["l",0]],[4611686018427387904,2],["d"]]"#,
+    r#"["op",[4611686018427387905,1],[],[],0,["d"]]"#,
+    r#"["op",[1,1],[[2,4611686018427387905]],[],0,["d"]]"#,
+    r#"["op",[1,1],[],[["l",0]],[4611686018427387905,2],["d"]]"#,
+    r#"["op",[1,1],[],[["l",0]],[1,3],["d"]]"#,
+    r#"["op",[1,4294967297],[],[],0,["d"]]"#,
+    r#"["op",[18446744073709551617,1],[],[],0,["d"]]"#,
+];
+
+/// What stands in place of a byte of a line.
+const BYTES: [u8; 6] = *b"09\" ],";
+
+/// The line after a space.
+fn spaced(alloc: Global, line: &[u8]) -> Result<Vec<u8>, AllocError> {
+    let mut text = Vec::new(alloc);
+    text.push(b' ')?;
+    text.extend_from_slice(line)?;
+    Ok(text)
+}
+
+/// The line with another byte at this index.
+fn changed(alloc: Global, line: &[u8], index: usize, byte: u8) -> Result<Vec<u8>, AllocError> {
+    let mut text = Vec::new(alloc);
+    text.extend_from_slice(line)?;
+    if let Some(place) = text.get_mut(index) {
+        *place = byte;
+    }
+    Ok(text)
+}
+
+/// What is read with the table 1, 2.
+fn read(alloc: Global, line: &[u8]) -> Result<Shared<Op>, Refusal> {
+    let table = ReplicaTable::new(alloc, &[1, 2])?;
+    read_op(alloc, line, &table)
+}
+
+/// Asserts that the line is read as it is after a space.
+fn is_read_alike(rt: &impl Abort, alloc: Global, line: &[u8]) -> Result<(), AllocError> {
+    let spaced = spaced(alloc, line)?;
+    match (read(alloc, line), read(alloc, spaced.as_slice())) {
+        (Ok(op), Ok(other)) => assert!(rt; *op == *other),
+        (Err(why), Err(other)) => assert_eq!(rt; why, other),
+        _ => panic!(rt; "a space in front changes what is read"),
+    }
+    Ok(())
+}
+
+/// Asserts it of the line, of all that it begins with, and of what it is with one other byte.
+fn are_read_alike(rt: &impl Abort, alloc: Global, line: &[u8]) -> Result<(), AllocError> {
+    for index in 0..line.len() {
+        is_read_alike(rt, alloc, &line[..index])?;
+        for byte in BYTES {
+            let other = changed(alloc, line, index, byte)?;
+            is_read_alike(rt, alloc, other.as_slice())?;
+        }
+    }
+    is_read_alike(rt, alloc, line)
+}
+
+#[test]
+fn a_space_in_front_changes_nothing(rt: HostRuntime) -> Result<(), Fail> {
+    for line in LINES {
+        are_read_alike(&rt, rt.alloc(), line.as_bytes())?;
+    }
+    for line in OTHERS {
+        are_read_alike(&rt, rt.alloc(), line.as_bytes())?;
+    }
+    Ok(())
+}
