@@ -36,6 +36,7 @@ pub fn write_bundle(
         → bundle_form table.now text.items ≡ Ok (map (stamped_of table.now) ops.now)) }
 {
     let mut text = Vec::new(alloc);
+    // A line is written apart, and copied: the writer clears the room that its text has left, which for a long text is much.
     let mut line = Vec::new(alloc);
     for op in ops {
         line.clear();

@@ -1,7 +1,7 @@
 //! The bytes of a line, taken apart in the one form in which an operation is written.
 //!
 //! Nothing is asked of what these methods find, since it is written again and compared: commas, tags and the end of a line are passed
-//! without much care. Each takes a number of steps that its part of the line bounds, and none calls itself.
+//! without much care. Each takes a number of steps that its part of the line bounds, or the table's width, and none calls itself.
 
 ghost use Rattle.std.specs.Prelude.{◌≡◌, ◌<◌, IfSome, length};
 

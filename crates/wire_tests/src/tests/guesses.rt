@@ -10,6 +10,8 @@ use wire::read_op;
 
 /// Lines at the limits, beyond them, and in other forms.
 const OTHERS: &[&str] = &[
+    r#"["op",[1,1],[],[["m",0]],"a",["a","\"\\\/\n\t\r\b\f"]]"#,
+    r#"["op",[1,1],[],[["m",0]],"a\"b",["a","c"]]"#,
     r#"["op",[9,2],[[1,7],[2,8]],[["m",0],["m",""],["l","é"],["l",[3,1]]],[4,2],["a","\n🦀"]]"#,
     r#"["op",[1,1],[],[["l",0]],1,["i",-9223372036854775808]]"#,
     r#"["op",[1,1],[],[["l",0]],1,["i",-9223372036854775809]]"#,
@@ -37,6 +39,9 @@ const OTHERS: &[&str] = &[
     r#"["op",[18446744073709551617,1],[],[],0,["d"]]"#,
 ];
 
+/// Bytes of a key and of a text, about their limits and about the longest line that is read at once.
+const LENGTHS: &[(usize, usize)] = &[(256, 4096), (257, 1), (1, 4097), (1, 16_320), (1, 16_400)];
+
 /// What stands in place of a byte of a line.
 const BYTES: [u8; 6] = *b"09\" ],";
 
@@ -56,6 +61,24 @@ fn changed(alloc: Global, line: &[u8], index: usize, byte: u8) -> Result<Vec<u8>
         *place = byte;
     }
     Ok(text)
+}
+
+/// A line with a key and a text of so many bytes.
+fn long_line(alloc: Global, key: usize, text: usize) -> Result<Vec<u8>, AllocError> {
+    let mut line = Vec::new(alloc);
+    line.extend_from_slice(br#"["op",[1,1],[],[["m",0]],""#)?;
+    push_letters(&mut line, key)?;
+    line.extend_from_slice(br#"",["a",""#)?;
+    push_letters(&mut line, text)?;
+    line.extend_from_slice(br#""]]"#)?;
+    Ok(line)
+}
+
+fn push_letters(line: &mut Vec<u8>, count: usize) -> Result<(), AllocError> {
+    for _ in 0..count {
+        line.push(b'a')?;
+    }
+    Ok(())
 }
 
 /// What is read with the table 1, 2.
@@ -94,6 +117,15 @@ fn a_space_in_front_changes_nothing(rt: HostRuntime) -> Result<(), Fail> {
     }
     for line in OTHERS {
         are_read_alike(&rt, rt.alloc(), line.as_bytes())?;
+    }
+    Ok(())
+}
+
+#[test]
+fn a_space_in_front_changes_nothing_at_the_limits(rt: HostRuntime) -> Result<(), Fail> {
+    for (key, text) in LENGTHS {
+        let line = long_line(rt.alloc(), *key, *text)?;
+        is_read_alike(&rt, rt.alloc(), line.as_slice())?;
     }
     Ok(())
 }
