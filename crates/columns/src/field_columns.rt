@@ -78,8 +78,8 @@ impl FieldColumns {
         }
     }
 
-    /// The number of a key, as `get` has it. Until another key is put or sought, this one is found by one comparison, or goes in
-    /// without a search.
+    /// The number of a key, as `get` has it. Until another key is put or sought, this one is found by one comparison, or goes in by
+    /// two, unless it goes in before all others.
     pub fn seek(&mut self, key: &Key) -> Option<usize>
         ensures number { result ≡ find name_cmp key.now self.old.entries }
         ensures entries { self.new.entries ≡ self.old.entries }

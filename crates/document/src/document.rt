@@ -127,7 +127,7 @@ impl Document {
 
     /// Tests a causally ready operation against the history. One that passed `check_alone` for this table may follow the
     /// history exactly where this answers `Ok`. Takes no memory. Costs a binary search for each counter of its vector,
-    /// and a walk down its place.
+    /// or one comparison where that is all that was applied, and a walk down its place.
     ///
     /// # Errors
     /// In this order: `BrokenChain` where its vector doesn't name all that was applied of its own replica; `NamesNothing` where a

@@ -197,7 +197,7 @@ impl Replica {
         Ok(Some(op.clone()?))
     }
 
-    /// Appends what the last `next_ready` returned, which has this id. A binary search in the inbox. Takes no memory.
+    /// Appends what the last `next_ready` returned, which has this id. Takes it out of the inbox, as `Inbox::take`. Takes no memory.
     pub fn commit_peer(&mut self, id: OpId)
         requires { (s : Stamped) × (s.id ≡ id) × IsNextReady self.old s }
         ensures { replica_of self.new ≡ drain_for 1 (replica_of self.old) }

@@ -246,8 +246,8 @@ pub fn is_present(nodes: &[Node], at: NodeNumber) -> bool
     node_at(nodes, at).presence.len() > 0
 }
 
-/// The items of the list at which something stands, in list order. Asks the list's order, which looks at each item that ever was,
-/// tombstones included, and at no node.
+/// The items of the list at which something stands, in list order. Asks the list's order, which looks at each item of the blocks in
+/// which one is shown, tombstones included, and at no node.
 fn present_items(nodes: &[Node], at: NodeNumber, alloc: Global) -> Result<Vec<OpId>, AllocError>
     requires tree { IsTree nodes.now }
     requires inside { at < length nodes.now }

@@ -82,8 +82,9 @@ impl Tree {
         Ok(())
     }
 
-    /// Applies an operation that was reserved. Takes no memory. Visits each node beneath an assign's or a delete's element, and
-    /// writes at each element of the path, and then sets whether the lists show the items there.
+    /// Applies an operation that was reserved. Takes no memory. Beneath an assign's or a delete's element it visits each node at
+    /// which something stands, and each child of those. It writes at each element of the path, and then sets whether the lists show
+    /// the items there.
     pub fn apply(&mut self, op: &Op)
         requires reserved { IsReserved self.old (stamped_of self.old.table op.now) }
         requires placed { IsPlaced (document self.old) (stamped_of self.old.table op.now) }
@@ -102,7 +103,8 @@ impl Tree {
         apply(&mut self.nodes, op, &stamp, scalar);
     }
 
-    /// Whether each item on the way to the place was inserted into the list that it is entered from. A binary search for each key.
+    /// Whether each item on the way to the place was inserted into the list that it is entered from. A binary search for each key,
+    /// unless all are of fields.
     pub fn has_items(&self, place: &Place) -> bool
         ensures { result ≡ items_stand (document self.now) (element_of place.now) }
     {
@@ -159,7 +161,7 @@ impl Tree {
         keys(&self.nodes, element, alloc)
     }
 
-    /// The visible items there, in list order. Looks at each item that ever was, tombstones included.
+    /// The visible items there, in list order. Looks at each item of the blocks in which one is shown, tombstones included.
     ///
     /// # Errors
     /// `AllocError` if allocation fails.
