@@ -12,7 +12,8 @@ ghost use Rattle.version.specs.Columns.{is_uncovered};
 ghost use Rattle.columns.specs.Rank.{keys_of};
 ghost use Rattle.columns.specs.Entries.{StandBeside, put_index};
 
-use crate::held::{Entry, Held};
+use crate::entry::Entry;
+use crate::held::Held;
 use cursor::Tag;
 use ids::OpId;
 use std::alloc::{AllocError, Global};
@@ -22,8 +23,8 @@ use version::VersionVector;
 
 /// A finite map by id.
 ///
-/// Most maps hold one entry, so a single one is inline: the map is 32 bytes and a value, and takes no memory. From the second on all
-/// are in columns, which take a box and five vectors, and stay when entries go.
+/// Most maps hold one entry, so a single one is inline: the map is 28 bytes and a value, and takes no memory. From the second on all
+/// stand one after the other in a vector, which takes a box too and stays when entries go.
 ///
 /// Contracts see the entries, rising by id, the index of each entry's replica in the table, and for how many more entries there is room.
 #[derive(Debug, Drop)]
@@ -79,7 +80,7 @@ impl<T> ById<T> {
     {
         match &self.held {
             Held::Empty => unreachable!(),
-            Held::Single(entry) => (entry.id, &entry.value),
+            Held::Single(entry) => (entry.id(), &entry.value),
             Held::Columns(columns) => columns.at(position),
         }
     }
@@ -116,7 +117,7 @@ impl<T: Drop> ById<T> {
         ensures room { self.old.room ≤ self.new.room + 1 }
     {
         match &mut self.held {
-            Held::Empty => self.held = Held::Single(Entry { id, index, value }),
+            Held::Empty => self.held = Held::Single(Entry::new(id, index, value)),
             Held::Single(_) => unreachable!(),
             Held::Columns(columns) => columns.put(id, index, value),
         }
@@ -138,7 +139,7 @@ impl<T: Drop> ById<T> {
         match &mut self.held {
             Held::Empty => {}
             Held::Single(entry) => {
-                if vector.covers(entry.index, entry.id.counter) {
+                if vector.covers(entry.index, entry.counter) {
                     let _ = self.held.take_single();
                 }
             }

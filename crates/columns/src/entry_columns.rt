@@ -1,7 +1,7 @@
-//! Entries by id in columns: the ids in columns of their own, and a value for each.
+//! Entries by id, one after the other.
 
-ghost use Rattle.std.specs.Prelude.{◌≡◌, ◌↔◌, ◌≤◌, ◌<◌, ◌+◌, ℕ, List, [], length, map, Some, slice_get, slice_index_or, IsTrue, OnOk};
-ghost use Rattle.std.specs.Prelude.{MatchResult, vec_len, vec_capacity};
+ghost use Rattle.std.specs.Prelude.{◌≡◌, ◌↔◌, ◌≤◌, ◌<◌, ◌+◌, ◌&&◌, ℕ, List, [], length, Some, nat_le, nat_lt, slice_get, slice_index};
+ghost use Rattle.std.specs.Prelude.{slice_index_or, IsTrue, OnOk, MatchResult};
 ghost use Rattle.std.specs.List.{All, filter, zip};
 ghost use Rattle.std.specs.FinMap.{put, is_sorted};
 ghost use Rattle.ids.specs.Members.{AreDistinct};
@@ -11,37 +11,40 @@ ghost use Rattle.semantics.specs.Tables.{by_table};
 ghost use Rattle.semantics.specs.Context.{without};
 ghost use Rattle.version.specs.Columns.{is_uncovered};
 ghost use Rattle.columns.specs.Rank.{GoesTo, StandsAt, keys_of};
-ghost use Rattle.columns.specs.Entries.{AreEntries, StandBeside, entries_of, indices_of, put_index};
+ghost use Rattle.columns.specs.Entries.{StandBeside, entries_of, indices_of, put_index};
 
-use ids::{OpId, ReplicaId};
+use crate::entry::Entry;
+use ids::OpId;
 use rings::Rings;
 use std::alloc::{AllocError, Global};
 use std::cmp::Ordering;
 use std::marker::Model;
-use version::{IdColumns, VersionVector};
+use version::VersionVector;
 
-/// A finite map by id. The counters of the ids are in a column of their own, so that a vector is compared with eight of them at once.
+/// A finite map by id. Id, index and value stand together, so that what is read or put touches one place in memory, and what comes
+/// late moves by one move.
 ///
 /// Contracts see the entries, rising by id, the index of each entry's replica in the table, and for how many more entries there is room.
 #[derive(Debug, Drop)]
 pub struct EntryColumns<T> {
-    ids: IdColumns,
-    beside: Rings<(ReplicaId, T)>,
+    entries: Rings<Entry<T>>,
 }
 
 impl<T> Model for EntryColumns<T> {
-    ghost use Rattle.std.specs.Prelude.{min, ◌-◌, vec_len, vec_capacity};
-    ghost use Rattle.columns.specs.Entries.{AreEntries, Entries, entries_of, indices_of};
+    ghost use Rattle.std.specs.Prelude.{IsTrue};
+    ghost use Rattle.std.specs.FinMap.{is_sorted};
+    ghost use Rattle.semantics.specs.Ids.{id_cmp};
+    ghost use Rattle.columns.specs.Entries.{Entries, entries_of, indices_of};
 
     ghost Value = { Entries T };
 
     ghost view = { λ m. record {
-      entries = entries_of m.ids.ids m.beside.items;
-      indices = indices_of m.ids.ids;
-      room = min m.ids.room m.beside.room;
+      entries = entries_of m.entries.items;
+      indices = indices_of m.entries.items;
+      room = m.entries.room;
     } };
 
-    ghost invariant = { λ m. AreEntries m.ids.ids m.beside.items };
+    ghost invariant = { λ m. IsTrue (is_sorted id_cmp (entries_of m.entries.items)) };
 }
 
 impl<T> EntryColumns<T> {
@@ -50,8 +53,7 @@ impl<T> EntryColumns<T> {
         ensures indices { result.indices ≡ [] }
     {
         EntryColumns {
-            ids: IdColumns::new(alloc),
-            beside: Rings::new(alloc),
+            entries: Rings::new(alloc),
         }
     }
 
@@ -61,7 +63,7 @@ impl<T> EntryColumns<T> {
         ensures rising { IsTrue (is_sorted id_cmp self.now.entries) }
         ensures beside { length self.now.indices ≡ length self.now.entries }
     {
-        self.beside.len()
+        self.entries.len()
     }
 
     /// The id at a position, and its value.
@@ -69,10 +71,8 @@ impl<T> EntryColumns<T> {
         requires { position < length self.now.entries }
         ensures { slice_get self.now.entries position ≡ Some (result.0, result.1.now) }
     {
-        (
-            id_at(&self.ids, &self.beside, position),
-            &self.beside.get(position).1,
-        )
+        let entry = self.entries.get(position);
+        (entry.id(), &entry.value)
     }
 
     /// Makes room for one more entry.
@@ -85,37 +85,33 @@ impl<T> EntryColumns<T> {
         ensures room { OnOk result (0 < self.new.room) }
         ensures kept { self.old.room ≤ self.new.room }
     {
-        self.ids.reserve_one()?;
-        self.beside.reserve_one()
+        self.entries.reserve_one()
     }
 }
 
 /// The id at a position.
-fn id_at<T>(ids: &IdColumns, beside: &Rings<(ReplicaId, T)>, position: usize) -> OpId
-    requires long { length beside.now.items ≡ length ids.now.ids }
-    requires within { position < length beside.now.items }
-    ensures { (d : TheId) → slice_index_or (keys_of (entries_of ids.now.ids beside.now.items)) position d ≡ result }
+fn id_at<T>(entries: &Rings<Entry<T>>, position: usize) -> OpId
+    requires { position < length entries.now.items }
+    ensures { (d : TheId) → slice_index_or (keys_of (entries_of entries.now.items)) position d ≡ result }
 {
-    let (counter, _) = ids.at(position);
-    let replica = beside.get(position).0;
-    OpId { counter, replica }
+    entries.get(position).id()
 }
 
 /// The position of an id, or `Err` with the one where it would be inserted. One comparison for an id greater than all, otherwise a
 /// binary search.
-fn find_id<T>(ids: &IdColumns, beside: &Rings<(ReplicaId, T)>, id: OpId) -> Result<usize, usize>
-    requires { AreEntries ids.now.ids beside.now.items }
-    ensures { MatchResult result (StandsAt id_cmp id (keys_of (entries_of ids.now.ids beside.now.items)))
-        (GoesTo id_cmp id (keys_of (entries_of ids.now.ids beside.now.items))) }
+fn find_id<T>(entries: &Rings<Entry<T>>, id: OpId) -> Result<usize, usize>
+    requires { IsTrue (is_sorted id_cmp (entries_of entries.now.items)) }
+    ensures { MatchResult result (StandsAt id_cmp id (keys_of (entries_of entries.now.items)))
+        (GoesTo id_cmp id (keys_of (entries_of entries.now.items))) }
 {
-    if is_greatest(ids, beside, id) {
-        return Err(beside.len());
+    if is_greatest(entries, id) {
+        return Err(entries.len());
     }
     let mut low = 0;
-    let mut high = beside.len();
+    let mut high = entries.len();
     while low < high {
         let middle = low + (high - low) / 2;
-        match id.cmp(&id_at(ids, beside, middle)) {
+        match id.cmp(&id_at(entries, middle)) {
             Ordering::Less => high = middle,
             Ordering::Equal => return Ok(middle),
             Ordering::Greater => low = middle + 1,
@@ -125,15 +121,22 @@ fn find_id<T>(ids: &IdColumns, beside: &Rings<(ReplicaId, T)>, id: OpId) -> Resu
 }
 
 /// Whether the id is greater than all that are there.
-fn is_greatest<T>(ids: &IdColumns, beside: &Rings<(ReplicaId, T)>, id: OpId) -> bool
-    requires { AreEntries ids.now.ids beside.now.items }
-    ensures { IsTrue result ↔ GoesTo id_cmp id (keys_of (entries_of ids.now.ids beside.now.items)) (length beside.now.items) }
+fn is_greatest<T>(entries: &Rings<Entry<T>>, id: OpId) -> bool
+    requires { IsTrue (is_sorted id_cmp (entries_of entries.now.items)) }
+    ensures { IsTrue result ↔ GoesTo id_cmp id (keys_of (entries_of entries.now.items)) (length entries.now.items) }
 {
-    let count = beside.len();
+    let count = entries.len();
     if count == 0 {
         return true;
     }
-    id.cmp(&id_at(ids, beside, count - 1)).is_gt()
+    id.cmp(&id_at(entries, count - 1)).is_gt()
+}
+
+/// Whether the vector covers the id of an entry, whose index may be past the vector.
+fn is_covered<T>(vector: &VersionVector, entry: &Entry<T>) -> bool
+    ensures { result ≡ (nat_lt entry.now.index (length vector.now) && nat_le entry.now.counter (slice_index vector.now entry.now.index)) }
+{
+    entry.index < vector.width() && vector.covers(entry.index, entry.counter)
 }
 
 impl<T: Drop> EntryColumns<T> {
@@ -148,7 +151,7 @@ impl<T: Drop> EntryColumns<T> {
             → StandBeside table self.new.entries self.new.indices }
         ensures room { self.old.room ≤ self.new.room + 1 }
     {
-        put_in(&mut self.ids, &mut self.beside, id, index, value);
+        put_in(&mut self.entries, id, index, value);
     }
 
     /// Removes the entries whose ids the vector covers. Takes no memory, straightens the rings, looks at each entry once, and moves
@@ -164,36 +167,38 @@ impl<T: Drop> EntryColumns<T> {
             → StandBeside table self.new.entries self.new.indices }
         ensures room { self.old.room ≤ self.new.room }
     {
-        vector.keep_uncovered_beside(&mut self.ids, &mut self.beside);
+        self.entries.retain(|entry| !is_covered(vector, entry));
     }
 }
 
 /// Puts an entry where its id belongs. Replaces the id's value, if it has one.
-fn put_in<T: Drop>(
-    ids: &mut IdColumns,
-    beside: &mut Rings<(ReplicaId, T)>,
-    id: OpId,
-    index: usize,
-    value: T,
-)
-    requires entries { AreEntries ids.old.ids beside.old.items }
-    requires room_for_the_id { 0 < ids.old.room }
-    requires room_beside { 0 < beside.old.room }
-    ensures entries { entries_of ids.new.ids beside.new.items ≡ put id_cmp id value (entries_of ids.old.ids beside.old.items) }
-    ensures indices { indices_of ids.new.ids
-        ≡ put_index id index (keys_of (entries_of ids.old.ids beside.old.items)) (indices_of ids.old.ids) }
-    ensures long { length beside.new.items ≡ length ids.new.ids }
-    ensures room { ids.old.room ≤ ids.new.room + 1 }
-    ensures room_beside { beside.old.room ≤ beside.new.room + 1 }
+fn put_in<T: Drop>(entries: &mut Rings<Entry<T>>, id: OpId, index: usize, value: T)
+    requires rising { IsTrue (is_sorted id_cmp (entries_of entries.old.items)) }
+    requires room { 0 < entries.old.room }
+    ensures entries { entries_of entries.new.items ≡ put id_cmp id value (entries_of entries.old.items) }
+    ensures indices { indices_of entries.new.items
+        ≡ put_index id index (keys_of (entries_of entries.old.items)) (indices_of entries.old.items) }
+    ensures room { entries.old.room ≤ entries.new.room + 1 }
 {
     let OpId { counter, replica } = id;
-    match find_id(ids, beside, id) {
+    match find_id(entries, id) {
         Ok(position) => {
-            let _ = beside.replace(position, (replica, value));
+            let entry = Entry {
+                counter,
+                index: entries.get(position).index,
+                replica,
+                value,
+            };
+            let _ = entries.replace(position, entry);
         }
         Err(position) => {
-            ids.insert(position, counter, index);
-            beside.insert(position, (replica, value));
+            let entry = Entry {
+                counter,
+                index,
+                replica,
+                value,
+            };
+            entries.insert(position, entry);
         }
     }
 }

@@ -2,18 +2,10 @@
 
 ghost use Rattle.std.specs.Prelude.{◌≡◌, ◌<◌, [], IfOk, OnOk};
 
+use crate::entry::Entry;
 use crate::entry_columns::EntryColumns;
-use ids::OpId;
 use std::alloc::{AllocError, Global};
 use std::mem::replace;
-
-/// An id, the index of its replica in the table, and what stands at it.
-#[derive(Debug, Drop)]
-pub struct Entry<T> {
-    pub id: OpId,
-    pub index: usize,
-    pub value: T,
-}
 
 /// The entries of a map by id.
 #[derive(Debug, Drop)]
@@ -50,8 +42,8 @@ impl<T: Drop> Held<T> {
         ensures room { OnOk result (0 < (held_entries self.new).room) }
     {
         let mut columns = first_columns(alloc)?;
-        let Entry { id, index, value } = self.take_single();
-        columns.put(id, index, value);
+        let entry = self.take_single();
+        columns.put(entry.id(), entry.index, entry.value);
         let reserved = columns.reserve_one();
         *self = Held::Columns(columns);
         reserved

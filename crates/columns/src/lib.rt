@@ -5,6 +5,7 @@
 mod block;
 mod block_indices;
 mod by_id;
+mod entry;
 mod entry_columns;
 mod field_columns;
 mod fields;

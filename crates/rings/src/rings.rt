@@ -2,7 +2,9 @@
 
 ghost use Rattle.std.specs.Prelude.{◌≡◌, ◌<◌, ◌≤◌, ◌+◌, ◌*◌, ◌/◌, ◌++◌, ◌∷◌, [], length, Some, slice_get, slice_index_or, slice_set, take};
 ghost use Rattle.std.specs.Prelude.{IsTrue, List, OnOk, vec_len, vec_capacity};
+ghost use Rattle.std.specs.Fn.{CalledAt};
 ghost use Rattle.std.specs.List.{All, insert, remove};
+ghost use Rattle.std.specs.List.Retain.{IsFiltered};
 ghost use Rattle.rings.specs.Rings.{AreRings, IsClosed, IsSlot, are_zero, straight, turned};
 ghost use Rattle.rings.specs.Starts.{capacity_of, starts_of};
 
@@ -145,6 +147,17 @@ impl<T: Drop> Rings<T> {
     {
         straighten_all(&mut self.slots, &mut self.starts);
         truncate_in(&mut self.slots, &mut self.starts, count);
+    }
+
+    /// Keeps the items for which `keep` returns true, in their order, and drops the others. Takes no memory; all rings are
+    /// straightened first.
+    pub fn retain<F: FnMut(&T) -> bool>(&mut self, keep: F)
+        requires { F.IsAlwaysCallable keep }
+        ensures kept { IsFiltered (CalledAt F.FnMut) keep self.old.items self.new.items }
+        ensures room { self.old.room ≤ self.new.room }
+    {
+        straighten_all(&mut self.slots, &mut self.starts);
+        retain_in(&mut self.slots, &mut self.starts, keep);
     }
 
     /// Puts an item at this position; those from there on come one later. Takes no memory. In its ring it moves those before it at
@@ -460,6 +473,22 @@ fn truncate_in<T: Drop>(slots: &mut Vec<T>, starts: &mut Starts, count: usize)
 {
     slots.truncate(count);
     starts.truncate(count / RING);
+}
+
+/// Keeps the items for which `keep` returns true, where all rings begin at their first slots.
+fn retain_in<T: Drop, F: FnMut(&T) -> bool>(slots: &mut Vec<T>, starts: &mut Starts, keep: F)
+    requires callable { F.IsAlwaysCallable keep }
+    requires rings { AreRings 2048 (starts_of starts.old) (length slots.old.items) }
+    requires straight { IsTrue (are_zero (starts_of starts.old)) }
+    ensures kept { IsFiltered (CalledAt F.FnMut) keep (straight 2048 (starts_of starts.old) slots.old.items)
+        (straight 2048 (starts_of starts.new) slots.new.items) }
+    ensures rings { AreRings 2048 (starts_of starts.new) (length slots.new.items) }
+    ensures few { vec_len slots.new ≤ vec_len slots.old }
+    ensures slots { vec_capacity slots.new ≡ vec_capacity slots.old }
+    ensures starts { capacity_of starts.new ≡ capacity_of starts.old }
+{
+    slots.retain(keep);
+    starts.truncate(slots.len() / RING);
 }
 
 /// Removes the item at a position where all rings begin at their first slots, and returns it.

@@ -6,7 +6,7 @@ use Rattle.columns.proofs.Sought.{IsSought}
 use Rattle.columns.proofs.entry_columns.find_id.Given as goal
 
 abbrev pub invariant-loop-low : goal.invariant-loop-low
-invariant-loop-low g l = IsSought id_cmp l.id (keys_of (entries_of l.ids.ids l.beside.items)) l.low l.high
+invariant-loop-low g l = IsSought id_cmp l.id (keys_of (entries_of l.entries.items)) l.low l.high
 
 abbrev pub decreases-loop-low : goal.decreases-loop-low
 decreases-loop-low g l = l.high - l.low

@@ -17,12 +17,12 @@ greater Greater e = refl
 
 pub returns : goal.returns
 returns g c =
-    let es = entries_of c.args.ids.now.ids c.args.beside.now.items in
+    let es = entries_of c.args.entries.now.items in
     let keys = keys_of es in
-    let long : length keys ≡ length c.args.beside.now.items = length-keys_of es
-    ∙ length-entries_of c.args.ids.now.ids c.args.beside.now.items c.requires.long in
-    let rising : IsTrue (is_sorted id_cmp (as_set keys)) = rising_keys id_cmp es ∙ c.requires.rising in
-    let i : ℕ = length c.args.beside.now.items - 1 in
+    let long : length keys ≡ length c.args.entries.now.items = length-keys_of es
+    ∙ length-entries_of c.args.entries.now.items in
+    let rising : IsTrue (is_sorted id_cmp (as_set keys)) = rising_keys id_cmp es ∙ c.requires in
+    let i : ℕ = length c.args.entries.now.items - 1 in
     let x = c.id_at.result in
     let at_last : c.cmp.result ≡ id_cmp c.args.id (get_or keys i x) = c.cmp.ensures ∙ ap (id_cmp c.args.id) (sym (c.id_at.ensures x))
     ∙ ap (λ n. id_cmp c.args.id (get_or keys (n - 1) x)) c.len-count.ensures in (
@@ -30,7 +30,7 @@ returns g c =
           let is : id_cmp c.args.id (get_or keys i x) ≡ Greater = sym at_last ∙ greater c.cmp.result (sym c.is_gt.ensures ∙ t) in
           let above : i < rank id_cmp c.args.id keys = rank_above id_cmp id_total c.args.id keys i x rising (omega arith) is in
           let most = rank_in id_cmp c.args.id keys in
-          goes_here id_cmp id_total c.args.id keys (length c.args.beside.now.items) x rising (omega arith) (λ h. absurd (omega arith)),
+          goes_here id_cmp id_total c.args.id keys (length c.args.entries.now.items) x rising (omega arith) (λ h. absurd (omega arith)),
       λ goes. at_test (c.is_gt.result) refl (λ least. (
           let low : rank id_cmp c.args.id keys ≤ i = rank_le id_cmp c.args.id keys i x (omega arith)
           (ap is_gt (sym at_last) ∙ sym c.is_gt.ensures ∙ least) in

@@ -1,21 +1,18 @@
-use Rattle.std.proofs.Common.{rules, ◌≡◌, ◌∙◌, ap, sym, length}
+use Rattle.std.proofs.Common.{◌∙◌, ap, sym, length}
 use Rattle.std.proofs.lemmas.List.{length-map}
 use Rattle.columns.specs.Entries.{Entries}
+use Rattle.columns.specs.declared.entry.Entry.{Entry}
 use Rattle.columns.proofs.Columns.{length-entries_of}
 use Rattle.columns.proofs.entry_columns.EntryColumns.len.Goals as goal
 
 pub returns-clause-length : goal.returns-clause-length
-returns-clause-length g c =
-    let d = c.self.inside in
-    let long : c.len.result ≡ length d.beside.items = search rules in
-    long ∙ sym (length-entries_of d.ids.ids d.beside.items c.self.invariant.long)
+returns-clause-length g c = c.len.ensures ∙ sym (length-entries_of c.self.inside.entries.items)
     ∙ ap (λ (m : Entries g.row.T.Denot). length m.entries) c.self.view_is
 
 pub returns-clause-beside : goal.returns-clause-beside
 returns-clause-beside g c =
-    let d = c.self.inside in
+    let es = c.self.inside.entries.items in
     ap (λ (m : Entries g.row.T.Denot). length m.indices) (sym c.self.view_is)
-    ∙ length-map d.ids.ids (λ id. id.1)
-    ∙ sym c.self.invariant.long
-    ∙ sym (length-entries_of d.ids.ids d.beside.items c.self.invariant.long)
+    ∙ length-map es (λ (e : Entry g.row.T.Denot). e.index)
+    ∙ sym (length-entries_of es)
     ∙ ap (λ (m : Entries g.row.T.Denot). length m.entries) c.self.view_is

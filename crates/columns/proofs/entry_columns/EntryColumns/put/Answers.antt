@@ -7,19 +7,13 @@ use Rattle.columns.proofs.Beside.{stand_beside-put}
 use Rattle.columns.proofs.entry_columns.EntryColumns.put.Goals as goal
 
 pub invariant_of-self : goal.invariant_of-self
-invariant_of-self g c =
-    let d = c.self.inside in
-    record {
-      long = c.put_in.ensures.long;
-      rising = rw c.put_in.ensures.entries
-          (rising_put id_cmp id_total c.args.id c.args.value (entries_of d.ids.ids d.beside.items) c.self.invariant.rising);
-    }
+invariant_of-self g c = rw c.put_in.ensures.entries
+    (rising_put id_cmp id_total c.args.id c.args.value (entries_of c.self.inside.entries.items) c.self.invariant)
 
 pub returns-clause-beside : goal.returns-clause-beside
 returns-clause-beside g c table at stand =
-    let d = c.self.inside in
-    let es = entries_of d.ids.ids d.beside.items in
-    let old : StandBeside table es (indices_of d.ids.ids) = subst (λ (m : Entries g.row.T.Denot). StandBeside table m.entries m.indices)
-    (sym c.self.view_is) stand in
-    let new = stand_beside-put table c.args.id c.args.index c.args.value es (indices_of d.ids.ids) c.self.invariant.rising at old in
+    let es = c.self.inside.entries.items in
+    let old : StandBeside table (entries_of es) (indices_of es) = subst
+    (λ (m : Entries g.row.T.Denot). StandBeside table m.entries m.indices) (sym c.self.view_is) stand in
+    let new = stand_beside-put table c.args.id c.args.index c.args.value (entries_of es) (indices_of es) c.self.invariant at old in
     rw (c.put_in.ensures.entries, c.put_in.ensures.indices) new
