@@ -29,11 +29,20 @@ pub fn resolve(alloc: Global, nodes: &[Node], expression: &Expr) -> Result<Place
     ensures err { IfErr result (λ why. (why ≡ NoMemory) ⊎ (resolve (visible_items (context nodes.now)) expression.now ≡ Err why)) }
 {
     let steps = expression.steps();
-    let mut walker = Walker::new(alloc, steps.len().min(MOST_KEYS))?;
+    let mut walker = Walker::new(alloc, count_hops(steps))?;
     for step in steps {
         walker.take(nodes, step)?;
     }
     Place::new(walker.hops, walker.is_head)
+}
+
+/// How many hops the place has that the steps lead to: one for each, but none to the head of a list. A place has 32 at most.
+fn count_hops(steps: &[Step]) -> usize {
+    let hops = match steps.split_last() {
+        Some((Step::Idx(0), before)) => before.len(),
+        _ => steps.len(),
+    };
+    hops.min(MOST_KEYS)
 }
 
 /// A walk from the root: the hops so far, and the number of the node at their end, if one was made.
