@@ -20,23 +20,23 @@ use crate::scan::Scan;
 use crate::writing::with_line;
 use cursor::Hop;
 use ids::{MOST_COUNTER, ReplicaTable};
-use memchr::memchr;
 use operation::{Op, names_members};
 use std::alloc::Global;
 
 /// How much more room the writer asks for than the line has bytes.
 const ROOM_AHEAD: usize = 8;
 
-/// No line without an escape is longer: it has at most 64 pairs of 33 bytes, 33 keys of 265, and a text of 4,096.
+/// No line without an escape is longer: it has at most 64 pairs of 33 bytes, 33 keys of 265, and a text of 4,096. Longer ones are left to
+/// the JSON reader, before anything is asked for.
 const LONGEST: usize = 1 << 14;
 
-/// The operation on a line in the form in which it is written, or `None` where it has another form, an escape or the least whole
-/// number, or where memory is refused. Time is proportional to the length of the line at most.
+/// The operation on a line in the form in which it is written, or `None` where it has another form, a character that is escaped by its
+/// number or the least whole number, or where memory is refused. Time is proportional to the length of the line at most.
 pub(crate) fn guess_op(alloc: Global, text: &[u8], table: &ReplicaTable) -> Option<Op>
     ensures read { IfSome result (λ o. op_form table.now text.now ≡ Ok (stamped_of table.now o)) }
     ensures width { IfSome result (λ o. length o.deps ≡ length table.now) }
 {
-    if !may_be_written(text) {
+    if text.len() > LONGEST {
         return None;
     }
     let op = Scan::new(text).op(alloc, table)?;
@@ -44,11 +44,6 @@ pub(crate) fn guess_op(alloc: Global, text: &[u8], table: &ReplicaTable) -> Opti
         return None;
     }
     Some(op)
-}
-
-/// Whether the text is short enough and has no escape. Others are left to the JSON reader, before anything is asked for.
-fn may_be_written(text: &[u8]) -> bool {
-    text.len() <= LONGEST && memchr(b'\\', text).is_none()
 }
 
 /// Whether the text is the line of the operation, which can be sent.

@@ -2,6 +2,7 @@
 #![tactic(auto)]
 
 mod bundles;
+mod escapes;
 mod guess;
 mod members;
 mod messages;

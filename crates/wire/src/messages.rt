@@ -71,9 +71,9 @@ fn hello_value(
 
 /// The operation on a line, its vector as wide as the table.
 ///
-/// A line as `write_op` writes it is read at once, unless it has an escape or the least whole number. Any other is parsed as JSON as
-/// a whole before its parts are looked at. Time and memory are proportional to its length: whoever takes lines from others bounds
-/// their length first. JSON nested deeper than 127 lists and objects is refused.
+/// A line as `write_op` writes it is read at once, unless a character in it is escaped by its number or it has the least whole number.
+/// Any other is parsed as JSON as a whole before its parts are looked at. Time and memory are proportional to its length: whoever takes
+/// lines from others bounds their length first. JSON nested deeper than 127 lists and objects is refused.
 ///
 /// # Errors
 /// The first fault in this order: `BadLine` if the text is no JSON, or no list of six that begins with `op`; then the faults of the
@@ -88,7 +88,7 @@ pub fn read_op(alloc: Global, text: &[u8], table: &ReplicaTable) -> Result<Share
     Ok(Shared::new(alloc, op)?)
 }
 
-/// The operation on a line: at once where the line is as it would be written and has no escape, else as that of any JSON.
+/// The operation on a line: at once where the line is as it would be written, else as that of any JSON.
 fn op_in(alloc: Global, text: &[u8], table: &ReplicaTable) -> Result<Op, Refusal>
     ensures read { IsRead (stamped_of table.now) result (op_form table.now text.now) }
     ensures width { IfOk result (λ o. length o.deps ≡ length table.now) }

@@ -5,12 +5,13 @@
 
 ghost use Rattle.std.specs.Prelude.{◌≡◌, ◌<◌, IfSome, length};
 
+use crate::escapes::{closed_at, unescaped};
 use cursor::{Hop, MOST_KEYS, Place};
 use ids::{OpId, ReplicaId, ReplicaTable};
 use memchr::memchr;
 use operation::{Mutation, Op};
 use std::alloc::Global;
-use value::{Key, MOST_KEY_BYTES, MOST_TEXT_BYTES, Scalar, Val};
+use value::{Key, Scalar, Val};
 use version::VersionVector;
 
 /// The most digits that a number of 64 bits has.
@@ -20,12 +21,17 @@ const MOST_DIGITS: usize = 20;
 #[derive(Drop)]
 pub(crate) struct Scan<'a> {
     rest: &'a [u8],
+    /// Whether a byte of the line is escaped.
+    has_escapes: bool,
 }
 
 impl<'a> Scan<'a> {
     /// All bytes of a line.
     pub(crate) fn new(line: &'a [u8]) -> Scan<'a> {
-        Scan { rest: line }
+        Scan {
+            rest: line,
+            has_escapes: memchr(b'\\', line).is_some(),
+        }
     }
 
     /// The operation, with a vector as wide as the table. `None` where the line has another form, or where memory is refused.
@@ -146,8 +152,7 @@ impl<'a> Scan<'a> {
         if self.peek()? == b'[' {
             return Some(Hop::Item(self.id()?));
         }
-        let name = self.text(MOST_KEY_BYTES)?;
-        Some(Hop::Field(Key::new(alloc, name).ok()?))
+        Some(Hop::Field(self.name(alloc)?))
     }
 
     /// The mutation, after its comma, as far as its value. What ends the line is left.
@@ -167,7 +172,7 @@ impl<'a> Scan<'a> {
     fn value(&mut self, alloc: Global) -> Option<Val> {
         self.bytes(b"\",")?;
         match self.peek()? {
-            b'"' => Val::text(alloc, self.text(MOST_TEXT_BYTES)?).ok(),
+            b'"' => self.string(alloc),
             b'{' => Some(Val::EmptyMap),
             b'[' => Some(Val::EmptyList),
             b'n' => Some(Val::Scalar(Scalar::Null)),
@@ -187,16 +192,42 @@ impl<'a> Scan<'a> {
         Some(number)
     }
 
-    /// A text of at most so many bytes, up to the first quote.
-    fn text(&mut self, most: usize) -> Option<&'a str> {
+    /// A field's name.
+    fn name(&mut self, alloc: Global) -> Option<Key> {
+        let text = self.text()?;
+        if !self.is_escaped(text) {
+            return Key::new(alloc, str::from_utf8(text).ok()?).ok();
+        }
+        let text = unescaped(alloc, text)?;
+        Key::new(alloc, str::from_utf8(&text).ok()?).ok()
+    }
+
+    /// A text as a value.
+    fn string(&mut self, alloc: Global) -> Option<Val> {
+        let text = self.text()?;
+        if !self.is_escaped(text) {
+            return Val::text(alloc, str::from_utf8(text).ok()?).ok();
+        }
+        let text = unescaped(alloc, text)?;
+        Val::text(alloc, str::from_utf8(&text).ok()?).ok()
+    }
+
+    /// The bytes of a text as they stand between its quotes.
+    fn text(&mut self) -> Option<&'a [u8]> {
         self.byte(b'"')?;
         let rest = self.rest;
-        let end = memchr(b'"', rest)?;
-        if end > most {
-            return None;
-        }
+        let end = if self.has_escapes {
+            closed_at(rest)?
+        } else {
+            memchr(b'"', rest)?
+        };
         self.rest = &rest[end + 1..];
-        str::from_utf8(&rest[..end]).ok()
+        Some(&rest[..end])
+    }
+
+    /// Whether a byte of this text is escaped.
+    fn is_escaped(&self, text: &[u8]) -> bool {
+        self.has_escapes && memchr(b'\\', text).is_some()
     }
 
     /// A number, up to the first byte that is no digit.
