@@ -12,7 +12,7 @@ ghost use Rattle.operation.specs.declared.command.Delivered.TheVariants.{Kept};
 ghost use Rattle.operation.specs.Meanings.{stamped_of};
 ghost use Rattle.inbox.specs.Inboxes.{answer_to_put, delivered_of, waiting_in, AreAsWide, AreNotReady, AreRising, IsLeastReady};
 
-use crate::awaited::{Awaited, awaited_index, forget};
+use crate::awaited::{Awaited, Waiting, awaited_index, forget, op_at};
 use crate::smallest::smallest;
 use columns::Numbers;
 use document::Document;
@@ -29,7 +29,7 @@ const MOST_WAITING: usize = 4096;
 /// A set of operations that wait to become causally ready. Contracts see them by rising id, each id once.
 #[derive(Debug, Drop)]
 pub struct Inbox {
-    ops: Slab<Shared<Op>>,
+    ops: Slab<Waiting>,
     /// The slab's key of each operation, by its id.
     keys: Numbers,
     /// For each operation one counter of its vector: one that wasn't applied when it was put here, unless it was ready then.
@@ -85,7 +85,7 @@ impl Inbox {
         ensures none { (table : List ℕ) → IfNone result (is_waiting (waiting_in table self.now) id ≡ false) }
     {
         let key = self.keys.get(&id)?;
-        self.ops.get(key)
+        op_at(&self.ops, key)
     }
 
     /// Whether one more may wait: 4,096 at most, and one more that is ready.
@@ -134,7 +134,7 @@ impl Inbox {
             return Err(Refusal::NoMemory);
         };
         let id = op.id;
-        let key = self.ops.insert_reserved(op);
+        let key = self.ops.insert_reserved(Waiting::new(op, index));
         self.keys.put(id, key);
         Ok(Delivered::Kept)
     }
@@ -154,18 +154,17 @@ impl Inbox {
             return None;
         }
         let first = self.keys.at(0);
-        let Some(op) = self.ops.get(first.1) else {
+        let Some(op) = op_at(&self.ops, first.1) else {
             unreachable!()
         };
         if document.ready(op) {
             return Some(op);
         }
         let least = smallest(&self.ops, &self.awaits, document)?;
-        self.ops.get(least.1)
+        op_at(&self.ops, least.1)
     }
 
-    /// Takes an operation out. A binary search, and one in a set for each counter of its vector at most; moves the keys of greater
-    /// ids.
+    /// Takes an operation out. A binary search, and one in a set; moves the keys of greater ids.
     pub fn take(&mut self, id: OpId) -> Option<Shared<Op>>
         ensures some { IfSome result (λ o. (o.id ≡ id) × IsAmong o self.old) }
         ensures none { (table : List ℕ) → IfNone result (is_waiting (waiting_in table self.old) id ≡ false) }
@@ -173,10 +172,10 @@ impl Inbox {
         ensures among { (o : AnOp) → IsAmong o self.new → IsAmong o self.old }
     {
         let key = self.keys.remove(&id)?;
-        let Some(op) = self.ops.try_remove(key) else {
+        let Some(waiting) = self.ops.try_remove(key) else {
             unreachable!()
         };
-        forget(&mut self.awaits, &op, key);
-        Some(op)
+        forget(&mut self.awaits, &waiting, key);
+        Some(waiting.into_op())
     }
 }

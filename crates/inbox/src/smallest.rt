@@ -11,10 +11,10 @@ ghost use Rattle.semantics.specs.Faults.{is_ready};
 ghost use Rattle.operation.specs.Meanings.{stamped_of};
 ghost use Rattle.inbox.specs.Awaiting.{await_cmp, is_above, AreThisWide, IsAwaiting, IsMet, IsPassed, IsReadyAt, IsSettled};
 
-use crate::awaited::Awaited;
+use crate::awaited::{Awaited, Waiting, op_at};
 use document::Document;
 use ids::OpId;
-use operation::{Op, Shared};
+use operation::Op;
 use slab::Slab;
 use std::alloc::Global;
 use std::collections::BTreeSet;
@@ -22,7 +22,7 @@ use std::collections::BTreeSet;
 /// Returns the smallest operation that is ready, as its id and its key in the slab, if there is one. For each index at which an
 /// operation waits, looks at those whose counter is applied, and passes all the others over by one search.
 pub fn smallest(
-    ops: &Slab<Shared<Op>>,
+    ops: &Slab<Waiting>,
     awaits: &BTreeSet<Awaited>,
     document: &Document,
 ) -> Option<(OpId, usize)>
@@ -43,7 +43,7 @@ pub fn smallest(
 /// Looks at the operations that wait from this index on, up to the first counter that isn't applied: those behind it at its index
 /// aren't ready either. Returns the smaller one of the smallest before and the smallest of these that is ready, and the next index.
 fn smallest_from(
-    ops: &Slab<Shared<Op>>,
+    ops: &Slab<Waiting>,
     awaits: &BTreeSet<Awaited>,
     document: &Document,
     index: usize,
@@ -81,7 +81,7 @@ fn smallest_from(
 
 /// Returns the smaller one of the smallest before and the operation at this key, if it is ready.
 fn smaller(
-    ops: &Slab<Shared<Op>>,
+    ops: &Slab<Waiting>,
     document: &Document,
     before: Option<(OpId, usize)>,
     key: usize,
@@ -92,7 +92,7 @@ fn smaller(
     ensures met { (a : TheId) → IsMet before a → IsMet result a }
     ensures settled { IsSettled (applied document.now.entries) document.now.table ops.now result key }
 {
-    let Some(op) = ops.get(key) else {
+    let Some(op) = op_at(ops, key) else {
         return before;
     };
     if is_above(&before, op) {

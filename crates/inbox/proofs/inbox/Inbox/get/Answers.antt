@@ -16,9 +16,9 @@ returns-in_err-key-clause-none c table =
 pub returns-clause-some : goal.returns-clause-some
 returns-clause-some c =
     let f = found c.self.inside.ops _ _ c.args.id c.self.invariant.at_keys c.self.view_is c.in_ok-key.key (sym c.in_ok-key.ensures) in
-    some_of (λ o. (o.id ≡ c.args.id) × IsAmong o c.args.self.now) c.get-2.result f.op (c.get-2.ensures ∙ f.at_key) (f.id, f.among)
+    some_of (λ o. (o.id ≡ c.args.id) × IsAmong o c.args.self.now) c.op_at.result f.op (c.op_at.ensures ∙ f.at_key) (f.id, f.among)
 
 pub returns-clause-none : goal.returns-clause-none
 returns-clause-none c table =
     let f = found c.self.inside.ops _ _ c.args.id c.self.invariant.at_keys c.self.view_is c.in_ok-key.key (sym c.in_ok-key.ensures) in
-    none_of _ c.get-2.result f.op (c.get-2.ensures ∙ f.at_key)
+    none_of _ c.op_at.result f.op (c.op_at.ensures ∙ f.at_key)

@@ -1,10 +1,11 @@
-use Rattle.std.proofs.Common.{◌≡◌, ◌<◌, length, slice_index, true, inr, ap, sym, subst, ◌∙◌}
+use Rattle.std.proofs.Common.{◌≡◌, ◌<◌, Some, length, slice_index, true, inr, ap, sym, subst, ◌∙◌}
 use Rattle.std.specs.FinMap.{put}
 use Rattle.std.specs.BTreeSet as sorted
 use Rattle.semantics.specs.Ids.{id_cmp}
 use Rattle.semantics.specs.LegalHistory.{IsAmong}
 use Rattle.semantics.specs.Delivery.{is_waiting}
 use Rattle.operation.specs.declared.op.Op.{Op}
+use Rattle.slab.specs.Slab.{Updates}
 use Rattle.inbox.specs.declared.awaited.Awaited.{Awaited}
 use Rattle.inbox.specs.Awaiting.{await_cmp, awaited_at}
 use Rattle.inbox.specs.Inboxes.{IsStored, waiting_in}
@@ -63,7 +64,9 @@ kept c =
     (λ i. record { index = index; counter = counter i; key = one i }) c.in-Ok.ensures.updates in
     put_in c.reserve.new.self c.insert_reserved-key.new.self c.reserve_one.new.self.entries _ _ key c.args.op d.awaits c.insert.new.self
     index table room.1 (c.put.ensures.entries ∙ ap (λ (o : Op). put id_cmp o.id key c.reserve_one.new.self.entries) c.deref-5.ensures)
-    c.insert_reserved-key.ensures.was_vacant c.insert_reserved-key.ensures.updates
+    c.insert_reserved-key.ensures.was_vacant
+    (subst (λ (o : Op). Updates c.reserve.new.self c.insert_reserved-key.new.self key (Some o)) c.new.ensures
+    c.insert_reserved-key.ensures.updates)
     (ap (λ (o : Op). is_waiting (waiting_in table c.args.self.now) o.id) (sym c.deref.ensures)
     ∙ sym (c.contains.ensures table) ∙ c.if-contains.false)
     within updates room.0

@@ -68,7 +68,7 @@ returns-in_err-least-clause-first c = rw c.from_residual.ensures
 
 -- ---- the smallest is ready
 
-least : (c : goal.After-get-2)
+least : (c : goal.After-op_at-2)
     → IsLeastReady (applied c.args.document.now.entries) c.args.document.now.table c.args.self.now c.in_ok-least.ensures.ready.0
 least c =
     let d = c.self.inside in
@@ -80,8 +80,8 @@ least c =
 pub returns-clause-some : goal.returns-clause-some
 returns-clause-some c =
     let it = c.in_ok-least.ensures.ready in
-    some_of (IsLeastReady (applied c.args.document.now.entries) c.args.document.now.table c.args.self.now) c.get-2.result it.0
-    (c.get-2.ensures ∙ it.1) (least c)
+    some_of (IsLeastReady (applied c.args.document.now.entries) c.args.document.now.table c.args.self.now) c.op_at-2.result it.0
+    (c.op_at-2.ensures ∙ it.1) (least c)
 
 mapped : (f : Op → Stamped) (r : Option (Bor Op)) (o : Op) → option_copied r ≡ Some o → option_map (λ x. f x.now) r ≡ Some (f o)
 mapped f None o e = absurd (let no : ⊥ = cc in no)
@@ -90,6 +90,6 @@ mapped f (Some x) o e = ap (λ y. Some (f y)) (let same : x.now ≡ o = cc in sa
 pub returns-clause-first : goal.returns-clause-first
 returns-clause-first c =
     let it = c.in_ok-least.ensures.ready in
-    mapped (stamped_of c.args.document.now.table) c.get-2.result it.0 (c.get-2.ensures ∙ it.1)
+    mapped (stamped_of c.args.document.now.table) c.op_at-2.result it.0 (c.op_at-2.ensures ∙ it.1)
     ∙ sym (least_first (applied c.args.document.now.entries) c.args.document.now.table c.args.self.now it.0
     (subst AreRising c.self.view_is c.self.invariant.rising) (least c))

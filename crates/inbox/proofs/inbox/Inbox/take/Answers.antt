@@ -1,7 +1,6 @@
-use Rattle.std.proofs.Common.{◌≡◌, sym, subst}
+use Rattle.std.proofs.Common.{◌≡◌, ◌∙◌, sym, subst}
 use Rattle.semantics.specs.LegalHistory.{IsAmong}
 use Rattle.operation.specs.declared.op.Op.{Op}
-use Rattle.inbox.specs.Awaiting.{IsAwaiting}
 use Rattle.inbox.proofs.KeptOps.{IsWithout, none_out, taken_out}
 use Rattle.inbox.proofs.KeyedOps.{IsFound, found, is_there, not_found}
 use Rattle.inbox.proofs.inbox.Inbox.take.Goals as goal
@@ -33,18 +32,15 @@ unreachable-requires c = is_there c.self.inside.ops c.args.self.now c.args.id c.
     (found _ _ _ _ c.self.invariant.at_keys c.self.view_is c.in_ok-key.key (sym c.in_ok-key.ensures.number)) c.in_default.ensures.value
 
 pub forget-requires : goal.forget-requires
-forget-requires c =
-    let d = c.self.inside in
-    record {
-      held = subst (IsAwaiting d.awaits c.in_ok-key.key) (sym c.deref.ensures)
-          (c.self.invariant.awaiting.each c.in_ok-key.key c.in-Some.op (sym c.in-Some.ensures.value));
-      single = c.self.invariant.awaiting.only.single;
-    }
+forget-requires c = record {
+  held = c.self.invariant.awaiting.each c.in_ok-key.key c.in-Some.waiting (sym c.in-Some.ensures.value);
+  single = c.self.invariant.awaiting.only.single;
+}
 
-at_key : (c : goal.After-forget) → IsFound c.self.inside.ops c.args.self.now c.args.id c.in_ok-key.key
+at_key : (c : goal.After-into_op) → IsFound c.self.inside.ops c.args.self.now c.args.id c.in_ok-key.key
 at_key c = found _ _ _ _ c.self.invariant.at_keys c.self.view_is _ (sym c.in_ok-key.ensures.number)
 
-taken : (c : goal.After-forget)
+taken : (c : goal.After-into_op)
     → IsWithout c.args.id c.args.self.now c.try_remove.new.self c.remove.new.self.entries c.forget.new.awaits
 taken c = taken_out _ _ _ _ _ _ c.self.view_is c.remove.ensures.entries c.self.inside.awaits _ _ (sym c.in_ok-key.ensures.number) (at_key c)
     c.try_remove.ensures.updates c.forget.ensures.kept c.forget.ensures.gone c.self.invariant
@@ -55,8 +51,8 @@ invariant_of-self-2 c = (taken c).stored
 pub returns-clause-some : goal.returns-clause-some
 returns-clause-some c =
     let f = at_key c in
-    let one : f.op ≡ c.in-Some.op = (let here = f.at_key in let e = c.in-Some.ensures.value in cc) in
-    subst (λ (o : Op). (o.id ≡ c.args.id) × IsAmong o c.args.self.now) one (f.id, f.among)
+    let one : f.op ≡ c.in-Some.waiting = (let here = f.at_key in let e = c.in-Some.ensures.value in cc) in
+    subst (λ (o : Op). (o.id ≡ c.args.id) × IsAmong o c.args.self.now) (one ∙ sym c.into_op.ensures) (f.id, f.among)
 
 pub returns-clause-left : goal.returns-clause-left
 returns-clause-left c = (taken c).left

@@ -1,0 +1,11 @@
+use Rattle.std.proofs.Common.{refl, sym, ◌∙◌}
+use Rattle.inbox.proofs.KeptAwaits.{gone_here, kept_elsewhere}
+use Rattle.inbox.proofs.awaited.forget_at.Goals as goal
+
+pub returns-clause-kept : goal.returns-clause-kept
+returns-clause-kept c = kept_elsewhere c.args.awaits.now c.args.awaits.now c.remove.new.self _ (λ q. refl) c.remove.ensures.updates
+
+pub returns-clause-gone : goal.returns-clause-gone
+returns-clause-gone c found =
+    gone_here c.args.awaits.now c.args.awaits.now c.remove.new.self _ (λ q. refl) c.remove.ensures.updates c.requires.single
+    (sym c.remove.ensures.test ∙ found)
