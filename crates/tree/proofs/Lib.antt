@@ -26,5 +26,6 @@ pub mod Reserved
 pub mod Roots
 pub mod Nested
 pub mod Beneath
+pub mod Gone
 pub mod Showing
 pub mod NearTarget

@@ -10,7 +10,7 @@ use Rattle.columns.specs.Entries.{StandBeside}
 use Rattle.tree.specs.declared.node.Node.{Node}
 use Rattle.tree.specs.Nodes.{IsOrphan, IsTree, Kept, child_number, context, links, links_of, names_in, next_number, node_at, node_in}
 use Rattle.tree.specs.Nodes.{number, order_of, order_room, presence_of, presence_room, register_of, register_room, tagged, valued}
-use Rattle.tree.specs.Nodes.{visible_of}
+use Rattle.tree.specs.Nodes.{gone_of, visible_of}
 use Rattle.tree.proofs.ListReads.{get_inside}
 use Rattle.tree.proofs.NodeWrites.{beside_at, beside_set}
 use Rattle.tree.proofs.Contexts.{context_same}
@@ -25,6 +25,7 @@ pub record Linked (at : ℕ) (key : Key) (j : ℕ) (ns ms : List Node) : Type 0 
   pub register : (i : ℕ) → register_of (slice_get ns i) ≡ register_of (slice_get ms i)
   pub order : (i : ℕ) → order_of (slice_get ns i) ≡ order_of (slice_get ms i)
   pub visible : (i : ℕ) → visible_of (slice_get ns i) ≡ visible_of (slice_get ms i)
+  pub gone : (i : ℕ) → gone_of (slice_get ns i) ≡ gone_of (slice_get ms i)
   pub names : (i : ℕ) → names_in ns (links ns i).0 ≡ names_in ms (links ms i).0
   pub sorted_names : (i : ℕ) → IsTrue (is_sorted name_cmp (links ms i).0)
   pub sorted_ids : (i : ℕ) → IsTrue (is_sorted id_cmp (links ms i).1)
@@ -103,6 +104,9 @@ module _ (at : ℕ) (key : Key) (j : ℕ) (ns ms : List Node) (l : Linked at key
   linked_visible : (e : Element) → visible_of (node_at ms e) ≡ visible_of (node_at ns e)
   linked_visible e = sym (kept visible_of visible_of refl l.visible (sym o.empty.visible) _ _ (moved e))
 
+  linked_gone : (e : Element) → gone_of (node_at ms e) ≡ gone_of (node_at ns e)
+  linked_gone e = sym (kept gone_of gone_of refl l.gone (sym o.empty.gone) _ _ (moved e))
+
   linked_children : (i : ℕ) (k : Key) (h : ℕ) → child_number ns i k ≡ Some h → child_number ms i k ≡ Some h
   linked_children i k h c = elim (l.children i k) [
     | inl e ↦ e ∙ c
@@ -118,6 +122,7 @@ pub record OnlyLinks (n m : Node) : Type 0 where
   pub presence : m.presence ≡ n.presence
   pub register : m.register ≡ n.register
   pub order : m.order ≡ n.order
+  pub gone : m.gone ≡ n.gone
   pub written : m.is_written ≡ n.is_written
 
 pub linked_kept : (at : ℕ) (key : Key) (j : ℕ) (ns : List Node) (n m : Node) → slice_get ns at ≡ Some n → OnlyLinks n m
@@ -126,6 +131,7 @@ linked_kept at key j ns n m g s l t above o = record {
   tree = linked_tree at key j ns (set ns at m) l t above o;
   same = linked_context at key j ns (set ns at m) l t above o;
   visible = linked_visible at key j ns (set ns at m) l t above o;
+  gone = linked_gone at key j ns (set ns at m) l t above o;
   grows = record {
     count = let c = l.count in omega arith;
     children = linked_children at key j ns (set ns at m) l t above o;

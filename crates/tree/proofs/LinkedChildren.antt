@@ -17,7 +17,7 @@ use Rattle.semantics.proofs.Orders.{Equal_from_test, id_total, name_total, same_
 use Rattle.columns.proofs.Puts.{rising_put}
 use Rattle.tree.specs.declared.node.Node.{Node}
 use Rattle.tree.specs.Nodes.{IsOrphan, IsTree, child_number, is_written, links, links_of, names_in, order_of, presence_of, register_of}
-use Rattle.tree.specs.Nodes.{tagged, valued, visible_of}
+use Rattle.tree.specs.Nodes.{gone_of, tagged, valued, visible_of}
 use Rattle.tree.proofs.ListReads.{get_inside, get_other, get_same}
 use Rattle.tree.proofs.NodeWrites.{set_each}
 use Rattle.tree.proofs.Contexts.{names_same}
@@ -119,6 +119,7 @@ module _ (ns : List Node) (at : ℕ) (n m : Node) (j : ℕ) (g : slice_get ns at
         register = same_set register_of ns at n m g (ap (λ c. valued c.entries) s.register);
         order = same_set order_of ns at n m g (ap (λ c. c.items) s.order);
         visible = same_set visible_of ns at n m g (ap (λ c. c.visible) s.order);
+        gone = same_set gone_of ns at n m g s.gone;
         names = names;
         sorted_names = set_each (λ x i. IsTrue (is_sorted name_cmp (links_of x).0)) ns at n m g
             (subst (λ xs. IsTrue (is_sorted name_cmp xs)) (sym put_field)
@@ -150,6 +151,7 @@ module _ (ns : List Node) (at : ℕ) (n m : Node) (j : ℕ) (g : slice_get ns at
         register = same_set register_of ns at n m g (ap (λ c. valued c.entries) s.register);
         order = same_set order_of ns at n m g (ap (λ c. c.items) s.order);
         visible = same_set visible_of ns at n m g (ap (λ c. c.visible) s.order);
+        gone = same_set gone_of ns at n m g s.gone;
         names = λ i. names_same ns (set ns at m) (flags s) (links ns i).0 ∙ ap (names_in (set ns at m)) (fields i);
         sorted_names = λ i. subst (λ xs. IsTrue (is_sorted name_cmp xs)) (fields i) (t.sorted_names i);
         sorted_ids = set_each (λ x i. IsTrue (is_sorted id_cmp (links_of x).1)) ns at n m g

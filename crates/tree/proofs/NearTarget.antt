@@ -1,6 +1,6 @@
 -- What lists show once a new item is linked in, and once an operation is written on the way to its target.
-use Rattle.std.proofs.Common.{◌≡◌, ◌||◌, ◌&&◌, Bool, true, false, true≢false, cond, List, [], ◌∷◌, Option, Some, None, refl, sym, ap, ◌∙◌}
-use Rattle.std.proofs.Common.{inl, inr}
+use Rattle.std.proofs.Common.{◌≡◌, ◌<◌, ◌||◌, ◌&&◌, Bool, true, false, true≢false, cond, List, [], ◌∷◌, Option, Some, None, refl, sym, ap}
+use Rattle.std.proofs.Common.{◌∙◌, inl, inr, subst}
 use Rattle.std.proofs.lemmas.Bool.{or_cases}
 use Rattle.std.specs.List.{filter}
 use Rattle.semantics.specs.Ids.{OpId, id_cmp, is_same_id, is_smaller_id}
@@ -11,11 +11,11 @@ use Rattle.semantics.specs.DocumentAnswer.{is_any}
 use Rattle.semantics.proofs.Orders.{id_itself, same_elements}
 use Rattle.tree.specs.declared.node.Node.{Node}
 use Rattle.tree.specs.Nodes.{SameLinks, context, node_in, presence_of}
-use Rattle.tree.specs.Shown.{AreShown, ShownBut}
+use Rattle.tree.specs.Shown.{AreGone, AreShown, ShownBut}
 use Rattle.tree.specs.Trees.{FitsIn}
 use Rattle.tree.specs.Writes.{entered, linked, mark, registered}
 use Rattle.tree.proofs.Shape.{number_same}
-use Rattle.tree.proofs.SameViews.{visible_view}
+use Rattle.tree.proofs.SameViews.{gone_view, visible_view}
 use Rattle.tree.proofs.Clears.{under_itself}
 use Rattle.tree.proofs.Showing.{but_kept, but_more}
 use Rattle.tree.proofs.Writes.{entered_order, marked_presence, order_linked, same_sym}
@@ -100,9 +100,9 @@ hidden false = refl
 
 -- where a new item comes in and the flags stay, only its own may be wrong
 pub linked_shown : (ns ms : List Node) → SameLinks ns ms → (l : Element) (p : Option OpId) (id : OpId)
-    → context ms ≡ linked (context ns) l p id → FitsIn (context ns) id (Some (l, p)) → AreShown ns
+    → context ms ≡ linked (context ns) l p id → FitsIn (context ns) id (Some (l, p)) → AreShown ns → AreGone ns
     → ShownBut ms (λ y a. is_same (Item y a) (Item l id))
-linked_shown ns ms links l p id is fits shown =
+linked_shown ns ms links l p id is fits shown gone =
     let C = context ns in
     record {
       flag = flag_of C (Some (l, p)) id;
@@ -114,6 +114,8 @@ linked_shown ns ms links l p id is fits shown =
       absent = λ y a none.
           ap (λ o. cond (new_at (Some (l, p)) id y a) false (is_any (presence_of (node_in ns o)))) (number_same ns ms links (Item y a) ∙ none)
           ∙ hidden (new_at (Some (l, p)) id y a);
+      gone = λ y a far lt. ap (λ (D : Context). is_any (D.presence (Item y a))) is
+          ∙ gone y a (subst (λ g. a.counter < g) (sym (gone_view ns ms links.same links.gone y)) lt);
     }
 
 -- an operation that was written at t: what stands beside the way to t keeps its presence, and each list its order

@@ -4,14 +4,14 @@ use Rattle.std.specs.Prelude.{IsTrue}
 use Rattle.std.specs.FinMap.{is_sorted}
 use Rattle.ids.specs.Members.{AreDistinct}
 use Rattle.semantics.specs.Ids.{id_cmp}
-use Rattle.semantics.specs.Elements.{name_cmp}
+use Rattle.semantics.specs.Elements.{Item, name_cmp}
 use Rattle.semantics.specs.Paths.{Key, FieldKey, ItemKey}
 use Rattle.semantics.specs.Context.{empty}
-use Rattle.semantics.specs.DocumentAnswer.{visible_items}
+use Rattle.semantics.specs.DocumentAnswer.{is_any, visible_items}
 use Rattle.value.specs.declared.value.Scalar.{Scalar}
 use Rattle.tree.specs.declared.node.Node.{Node}
-use Rattle.tree.specs.Nodes.{IsEmptyNode, IsTree, Links, NodeBeside, child_number, context, linked_by, links, links_of, names_in, node_in}
-use Rattle.tree.specs.Nodes.{number, order_of, presence_of, register_of, visible_of}
+use Rattle.tree.specs.Nodes.{IsEmptyNode, IsTree, Links, NodeBeside, child_number, context, linked_by, links, links_of, names_in}
+use Rattle.tree.specs.Nodes.{node_in, number, order_of, presence_of, register_of, visible_of}
 use Rattle.tree.specs.Nested.{IsNested}
 use Rattle.tree.specs.Trees.{IsPlanted}
 use Rattle.tree.proofs.Contexts.{context_same}
@@ -60,5 +60,6 @@ module _ (n : Node) (e : IsEmptyNode n) where
     tree = root_tree;
     nested = subst IsNested (sym root_empty) nested_empty;
     shown = λ x. sym (push_visible [] n e x) ∙ ap visible_of (nothing_there (number [] x)) ∙ sym (ap (λ C. visible_items C x) root_empty);
+    gone = λ l a lt. ap (λ C. is_any (C.presence (Item l a))) root_empty;
     beside = push_each (λ o i. NodeBeside table o) n (λ i h. empty_beside table n e) [] (λ i. tt);
   }

@@ -3,8 +3,8 @@ use Rattle.std.proofs.Common.{◌≡◌, ℕ, List, Option, Some, None, refl, ap
 use Rattle.std.specs.Prelude.{slice_get}
 use Rattle.semantics.specs.Elements.{Element}
 use Rattle.tree.specs.declared.node.Node.{Node}
-use Rattle.tree.specs.Nodes.{SameView, context, links_of, links, names_in, node_at, node_in, number, order_of, presence_of, register_of}
-use Rattle.tree.specs.Nodes.{visible_of}
+use Rattle.tree.specs.Nodes.{SameView, context, gone_of, links_of, links, names_in, node_at, node_in, number, order_of, presence_of}
+use Rattle.tree.specs.Nodes.{register_of, visible_of}
 use Rattle.tree.proofs.Shape.{number_links}
 use Rattle.tree.proofs.Contexts.{context_same, names_same}
 
@@ -28,3 +28,7 @@ pub visible_view : (ns ms : List Node) → ((i : ℕ) → links ns i ≡ links m
     → ((i : ℕ) → visible_of (slice_get ns i) ≡ visible_of (slice_get ms i)) → (e : Element)
     → visible_of (node_at ns e) ≡ visible_of (node_at ms e)
 visible_view ns ms links h e = at_view ns ms visible_of h (number ns e) ∙ ap (λ o. visible_of (node_in ms o)) (number_links ns ms links e)
+
+pub gone_view : (ns ms : List Node) → ((i : ℕ) → links ns i ≡ links ms i)
+    → ((i : ℕ) → gone_of (slice_get ns i) ≡ gone_of (slice_get ms i)) → (e : Element) → gone_of (node_at ns e) ≡ gone_of (node_at ms e)
+gone_view ns ms links h e = at_view ns ms gone_of h (number ns e) ∙ ap (λ o. gone_of (node_in ms o)) (number_links ns ms links e)

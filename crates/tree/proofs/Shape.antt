@@ -11,8 +11,8 @@ use Rattle.semantics.specs.Paths.{Key, FieldKey, ItemKey, child, down}
 use Rattle.semantics.proofs.Orders.{element_itself, same_elements}
 use Rattle.semantics.proofs.ElementPaths.{down-append}
 use Rattle.tree.specs.declared.node.Node.{Node}
-use Rattle.tree.specs.Nodes.{links_of, links, linked_by, child_number, next_number, number, node_in, node_at, visible_of, IsTree, SameLinks}
-use Rattle.tree.specs.Nodes.{MoreRoom, SameChildren}
+use Rattle.tree.specs.Nodes.{links_of, links, linked_by, child_number, next_number, number, node_in, node_at, visible_of, gone_of, IsTree}
+use Rattle.tree.specs.Nodes.{MoreRoom, SameChildren, SameLinks}
 use Rattle.tree.specs.Writes.{end_of}
 use Rattle.tree.proofs.ListReads.{get_same, get_other, get_inside}
 
@@ -100,21 +100,25 @@ links_each ns i n m g l j = elim (cases_eq j i) [
   | inr n ↦ sym (ap links_of (get_other ns i m j n))
 ]
 
--- and its flags
+-- and its flags, and the items that are gone
 pub links_set : (ns : List Node) (i : ℕ) (n m : Node) → slice_get ns i ≡ Some n → links_of (Some m) ≡ links_of (Some n)
-    → visible_of (Some m) ≡ visible_of (Some n) → SameLinks ns (set ns i m)
-links_set ns i n m g l v = record {
+    → visible_of (Some m) ≡ visible_of (Some n) → gone_of (Some m) ≡ gone_of (Some n) → SameLinks ns (set ns i m)
+links_set ns i n m g l v d = record {
   count = sym (length-set ns i m);
   same = links_each ns i n m g l;
-  visible = λ j. elim (cases_eq j i) [
-    | inl e ↦ ap (λ k. visible_of (slice_get ns k)) e ∙ ap visible_of g ∙ sym v
-        ∙ sym (ap visible_of (get_same ns i m (get_inside ns i n g))) ∙ ap (λ k. visible_of (slice_get (set ns i m) k)) (sym e)
-    | inr n ↦ sym (ap visible_of (get_other ns i m j n))
-  ];
+  visible = each visible_of v;
+  gone = each gone_of d;
 }
+  where
+    each : {A : Type 0} (f : Option Node → A) → f (Some m) ≡ f (Some n) → (j : ℕ) → f (slice_get ns j) ≡ f (slice_get (set ns i m) j)
+    each f same j = elim (cases_eq j i) [
+      | inl e ↦ ap (λ k. f (slice_get ns k)) e ∙ ap f g ∙ sym same
+          ∙ sym (ap f (get_same ns i m (get_inside ns i n g))) ∙ ap (λ k. f (slice_get (set ns i m) k)) (sym e)
+      | inr o ↦ sym (ap f (get_other ns i m j o))
+    ]
 
 pub links_same : (ns : List Node) → SameLinks ns ns
-links_same ns = record { count = refl; same = λ i. refl; visible = λ i. refl }
+links_same ns = record { count = refl; same = λ i. refl; visible = λ i. refl; gone = λ i. refl }
 
 pub node_set : (ns : List Node) → IsTree ns → (e : Element) (i : ℕ) (n m : Node) → number ns e ≡ Some i → slice_get ns i ≡ Some n
     → links_of (Some m) ≡ links_of (Some n) → (x : Element) → node_at (set ns i m) x ≡ cond (is_same x e) (Some m) (node_at ns x)
@@ -134,7 +138,12 @@ pub node_found : (ns : List Node) (e : Element) (i : ℕ) (n : Node) → number 
 node_found ns e i n at g = ap (node_in ns) at ∙ g
 
 pub links_trans : (a b c : List Node) → SameLinks a b → SameLinks b c → SameLinks a c
-links_trans a b c p q = record { count = p.count ∙ q.count; same = λ i. p.same i ∙ q.same i; visible = λ i. p.visible i ∙ q.visible i }
+links_trans a b c p q = record {
+  count = p.count ∙ q.count;
+  same = λ i. p.same i ∙ q.same i;
+  visible = λ i. p.visible i ∙ q.visible i;
+  gone = λ i. p.gone i ∙ q.gone i;
+}
 
 pub children_same : (ns : List Node) → SameChildren ns ns
 children_same ns = record { count = refl; same = λ i. refl }

@@ -1,26 +1,28 @@
 -- What lists show while flags are set one by one.
-use Rattle.std.proofs.Common.{◌≡◌, ℕ, ◌+◌, ◌||◌, ◌&&◌, Bool, true, false, true≢false, cond, List, set, take}
+use Rattle.std.proofs.Common.{◌≡◌, ℕ, ◌+◌, ◌<◌, ◌≤◌, min, arith, ◌||◌, ◌&&◌, Bool, true, false, true≢false, cond, List, set, take}
 use Rattle.std.proofs.Common.{Option, Some, None, refl, sym, ap, ◌∙◌, subst, length-set, inl, inr}
 use Rattle.std.specs.Prelude.{slice_get}
+use Rattle.std.proofs.Math.Nat.{min-le_left, min-le_right}
 use Rattle.std.specs.List.{filter}
-use Rattle.std.proofs.lemmas.Bool.{or_cases, or_left, or_right}
+use Rattle.std.proofs.lemmas.Bool.{false_from_ne_true, or_cases, or_left, or_right}
 use Rattle.semantics.specs.Ids.{OpId, is_same_id}
 use Rattle.semantics.specs.Elements.{Element, Item, is_same, is_under}
+use Rattle.semantics.specs.Context.{Context}
 use Rattle.semantics.specs.Paths.{Key, ItemKey, child}
 use Rattle.semantics.specs.DocumentAnswer.{is_any}
-use Rattle.semantics.proofs.Orders.{same_elements}
+use Rattle.semantics.proofs.Orders.{element_itself, same_elements}
 use Rattle.columns.specs.Entries.{StandBeside}
 use Rattle.tree.specs.declared.node.Node.{Node}
-use Rattle.tree.specs.Nodes.{IsTree, SameChildren, SameLinks, child_number, context, is_written, links_of, node_at, node_in, number}
-use Rattle.tree.specs.Nodes.{order_of, presence_of, register_of, tagged, valued, visible_of}
-use Rattle.tree.specs.Shown.{AreShown, SameButFlags, ShownBut}
+use Rattle.tree.specs.Nodes.{IsTree, SameChildren, SameLinks, child_number, context, gone_of, is_written, links_of, node_at}
+use Rattle.tree.specs.Nodes.{node_in, number, order_of, presence_of, register_of, tagged, valued, visible_of}
+use Rattle.tree.specs.Shown.{AreGone, AreShown, IsGoneBelow, SameButFlags, ShownBut}
 use Rattle.tree.specs.Writes.{end_of}
 use Rattle.tree.proofs.Beneath.{way_lost}
 use Rattle.tree.proofs.Clears.{under_step}
 use Rattle.tree.proofs.Writes.{same_sym}
 use Rattle.tree.proofs.Shape.{links_each, node_found, node_set, number_child, number_links, number_same, tree_links}
 use Rattle.tree.proofs.NodeWrites.{beside_at, beside_set}
-use Rattle.tree.proofs.SameViews.{context_view, visible_view}
+use Rattle.tree.proofs.SameViews.{context_view, gone_view, visible_view}
 use Rattle.tree.proofs.Widened.{same_set}
 
 pub flags_same : (ns : List Node) → SameButFlags ns ns
@@ -64,17 +66,27 @@ but_more ns off new h s = record {
   flagged = s.flagged;
   right = λ l a n. by l a n (number ns (Item l a)) refl (off l a) refl;
   absent = s.absent;
+  gone = λ l a n lt. still l a n lt (number ns (Item l a)) refl (off l a) refl;
 }
   where
+    still : (l : Element) (a : OpId) → new l a ≡ false → a.counter < gone_of (node_at ns l) → (o : Option ℕ) → number ns (Item l a) ≡ o
+        → (b : Bool) → off l a ≡ b → is_any ((context ns).presence (Item l a)) ≡ false
+    still l a n lt None p b q = ap (λ o. is_any (presence_of (node_in ns o))) p
+    still l a n lt (Some i) p true q = absurd (true≢false (sym (h l a i p q) ∙ n))
+    still l a n lt (Some i) p false q = s.gone l a q lt
+
     by : (l : Element) (a : OpId) → new l a ≡ false → (o : Option ℕ) → number ns (Item l a) ≡ o → (b : Bool) → off l a ≡ b
         → s.flag l a ≡ is_any ((context ns).presence (Item l a))
     by l a n None p b q = s.absent l a p ∙ sym (ap (λ o. is_any (presence_of (node_in ns o))) p)
     by l a n (Some i) p true q = absurd (true≢false (sym (h l a i p q) ∙ n))
     by l a n (Some i) p false q = s.right l a q
 
--- where none is wrong, each list shows its visible items
-pub but_none : (ns : List Node) → ShownBut ns (λ l a. false) → AreShown ns
-but_none ns s e = s.flagged e ∙ (λ i. filter (λ a. s.right e a refl i) (order_of (node_at ns e)))
+-- where none is wrong, each list shows its visible items, and nothing stands at what is gone
+pub but_none : (ns : List Node) → ShownBut ns (λ l a. false) → AreShown ns × AreGone ns
+but_none ns s = (
+  λ e. s.flagged e ∙ (λ i. filter (λ a. s.right e a refl i) (order_of (node_at ns e))),
+  λ l a lt. s.gone l a refl lt,
+)
 
 none_some : (j : ℕ) → ◌≡◌ {A = Option ℕ} None (Some j) → ⊥
 none_some j e = cc
@@ -95,7 +107,18 @@ here f e l id b d a =
     elim (is_same_id a id) as (λ c. cond c b (f l a) ≡ cond (c && true) b (f l a)) [ true ↦ refl | false ↦ refl ]
     ∙ sym (ap (λ c. cond (is_same_id a id && c) b (f l a)) d)
 
--- a write to a node's flags
+-- beside an item, no more is gone than was, and no further than to the item, if it stands
+pub lower : (b : Bool) (g k r : ℕ) → r ≡ cond b (min g k) g → (r ≤ g) × (b ≡ true → r ≤ k)
+lower true g k r is = let x = min-le_left g k in let y = min-le_right g k in (omega arith, λ yes. omega arith)
+lower false g k r is = (omega arith, λ no. absurd (true≢false (sym no)))
+
+list_is : (l e : Element) (a b : OpId) → Item l a ≡ Item e b → l ≡ e
+list_is l e a b p = cc
+
+id_is : (l e : Element) (a b : OpId) → Item l a ≡ Item e b → a ≡ b
+id_is l e a b p = cc
+
+-- a write to a node's flags, and to what is gone of its list
 module _ (ns : List Node) (t : IsTree ns) (i : ℕ) (n m : Node) (g : slice_get ns i ≡ Some n)
     (same_links : links_of (Some m) ≡ links_of (Some n)) (same_order : m.order.items ≡ n.order.items) where
   pub flag_same : m.presence ≡ n.presence → m.register ≡ n.register → m.is_written ≡ n.is_written → SameButFlags ns (set ns i m)
@@ -111,6 +134,61 @@ module _ (ns : List Node) (t : IsTree ns) (i : ℕ) (n m : Node) (g : slice_get 
     beside = λ table b. beside_set table ns i n m g b (let h = beside_at table ns i n g b in
         (subst (λ c. StandBeside table c.entries c.indices) (sym p) h.0, subst (λ c. StandBeside table c.entries c.indices) (sym r) h.1));
   }
+
+  -- what is gone of e is what the write says, and elsewhere what it was
+  gone_set : (e : Element) → number ns e ≡ Some i → (l : Element) (b : Bool) → is_same l e ≡ b
+      → gone_of (node_at (set ns i m) l) ≡ cond b m.gone (gone_of (node_at ns l))
+  gone_set e at l true q = ap gone_of (node_set ns t e i n m at g same_links l ∙ ap (λ b. cond b (Some m) (node_at ns l)) q)
+  gone_set e at l false q = ap gone_of (node_set ns t e i n m at g same_links l ∙ ap (λ b. cond b (Some m) (node_at ns l)) q)
+
+  gone_no_more : (e : Element) → number ns e ≡ Some i → m.gone ≤ n.gone → (l : Element) (b : Bool) → is_same l e ≡ b
+      → gone_of (node_at (set ns i m) l) ≤ gone_of (node_at ns l)
+  gone_no_more e at less l true q =
+      let new = gone_set e at l true q in
+      let old : gone_of (node_at ns l) ≡ n.gone = ap (λ x. gone_of (node_at ns x)) (same_elements l e q)
+      ∙ ap gone_of (node_found ns e i n at g) in
+      omega arith
+  gone_no_more e at less l false q = let new = gone_set e at l false q in omega arith
+
+  -- where no more is gone than was, nothing stands there still
+  pub gone_lower : SameButFlags ns (set ns i m) → (e : Element) → number ns e ≡ Some i → m.gone ≤ n.gone → AreGone ns
+      → AreGone (set ns i m)
+  gone_lower same e at less gone l a lt =
+      let le = gone_no_more e at less l (is_same l e) refl in
+      ap (λ C. is_any (C.presence (Item l a))) (sym (flags_context ns (set ns i m) same)) ∙ gone l a (omega arith)
+
+  -- what is gone now was gone, or is gone by the write
+  gone_or_set : (e : Element) → number ns e ≡ Some i → IsGoneBelow ns e m.gone → (l : Element) (a : OpId)
+      → (a.counter < gone_of (node_at ns l) → is_any ((context ns).presence (Item l a)) ≡ false)
+      → a.counter < gone_of (node_at (set ns i m) l) → is_any ((context ns).presence (Item l a)) ≡ false
+  gone_or_set e at below l a was lt = by (is_same l e) refl
+    where
+      by : (b : Bool) → is_same l e ≡ b → is_any ((context ns).presence (Item l a)) ≡ false
+      by true q = ap (λ y. is_any ((context ns).presence (Item y a))) (same_elements l e q)
+          ∙ below a (subst (λ k. a.counter < k) (gone_set e at l true q) lt)
+      by false q = was (subst (λ k. a.counter < k) (gone_set e at l false q) lt)
+
+  pub gone_raised : SameButFlags ns (set ns i m) → (e : Element) → number ns e ≡ Some i → IsGoneBelow ns e m.gone → AreGone ns
+      → AreGone (set ns i m)
+  gone_raised same e at below gone l a lt =
+      ap (λ C. is_any (C.presence (Item l a))) (sym (flags_context ns (set ns i m) same)) ∙ gone_or_set e at below l a (gone l a) lt
+
+  -- the flags stay
+  pub but_raised : m.order ≡ n.order → SameButFlags ns (set ns i m) → (e : Element) → number ns e ≡ Some i → IsGoneBelow ns e m.gone
+      → (off : Element → OpId → Bool) → ShownBut ns off → ShownBut (set ns i m) off
+  but_raised order same e at below off s =
+      let new = set ns i m in
+      let C = flags_context ns new same in
+      let links = links_each ns i n m g same_links in
+      record {
+        flag = s.flag;
+        flagged = λ l. sym (visible_view ns new links (same_set visible_of ns i n m g (ap (λ o. o.visible) order)) l) ∙ s.flagged l
+            ∙ ap (λ (D : Context). filter (s.flag l) (D.order l)) C;
+        right = λ l a far. s.right l a far ∙ ap (λ (D : Context). is_any (D.presence (Item l a))) C;
+        absent = λ l a none. s.absent l a (flags_number ns new same (Item l a) ∙ none);
+        gone = λ l a far lt. ap (λ (D : Context). is_any (D.presence (Item l a))) (sym C)
+            ∙ gone_or_set e at below l a (s.gone l a far) lt;
+      }
 
   module _ (e : Element) (at : number ns e ≡ Some i) (id : OpId) (j : ℕ) (child : child_number ns i (ItemKey id) ≡ Some j) (shown : Bool)
       (is : shown ≡ is_any (presence_of (slice_get ns j))) where
@@ -139,12 +217,28 @@ module _ (ns : List Node) (t : IsTree ns) (i : ℕ) (n m : Node) (g : slice_get 
     absent_set s l a true q p h = absurd (none_some j (sym p ∙ ap (number ns) (same_elements (Item l a) (Item e id) q) ∙ there))
     absent_set s l a false q p h = h
 
+    -- the item whose flag is set is gone no longer, if it is shown
+    gone_here : m.gone ≤ n.gone → (shown ≡ true → m.gone ≤ id.counter) → (l : Element) (a : OpId) (b : Bool)
+        → is_same (Item l a) (Item e id) ≡ b
+        → (b ≡ false → a.counter < gone_of (node_at ns l) → is_any ((context ns).presence (Item l a)) ≡ false)
+        → a.counter < gone_of (node_at (set ns i m) l) → is_any ((context ns).presence (Item l a)) ≡ false
+    gone_here less reached l a false q was lt =
+        let le = gone_no_more e at less l (is_same l e) refl in
+        was refl (omega arith)
+    gone_here less reached l a true q was lt =
+        let same = same_elements (Item l a) (Item e id) q in
+        let here : shown ≡ is_any ((context ns).presence (Item l a)) = is ∙ ap (λ o. is_any (presence_of (node_in ns o))) (sym there)
+        ∙ ap (λ x. is_any ((context ns).presence x)) (sym same) in
+        let new = gone_set e at l true (ap (λ x. is_same x e) (list_is l e a id same) ∙ element_itself e) in
+        let counter = ap (λ (b : OpId). b.counter) (id_is l e a id same) in
+        sym here ∙ false_from_ne_true shown (λ yes. let le = reached yes in omega arith)
+
     -- sets the flag right
-    pub flag_set : SameButFlags ns (set ns i m)
+    pub flag_set : SameButFlags ns (set ns i m) → m.gone ≤ n.gone → (shown ≡ true → m.gone ≤ id.counter)
         → ((f : OpId → Bool) → n.order.visible ≡ filter f n.order.items
         → m.order.visible ≡ filter (λ a. cond (is_same_id a id) shown (f a)) n.order.items)
         → (off : Element → OpId → Bool) → ShownBut ns (λ l a. is_same (Item l a) (Item e id) || off l a) → ShownBut (set ns i m) off
-    flag_set same sets off s = record {
+    flag_set same less reached sets off s = record {
       flag = flag_at s.flag e id shown;
       flagged = λ l. let new = node_set ns t e i n m at g same_links l in
           ap visible_of new ∙ flagged_set s.flag s.flagged sets l (is_same l e) refl
@@ -154,6 +248,9 @@ module _ (ns : List Node) (t : IsTree ns) (i : ℕ) (n m : Node) (g : slice_get 
           ∙ ap (λ C. is_any (C.presence (Item l a))) (flags_context ns (set ns i m) same);
       absent = λ l a p. let none = flags_number ns (set ns i m) same (Item l a) ∙ p in
           absent_set (s.flag l a) l a (is_same (Item l a) (Item e id)) refl none (s.absent l a none);
+      gone = λ l a o lt.
+          ap (λ C. is_any (C.presence (Item l a))) (sym (flags_context ns (set ns i m) same))
+          ∙ gone_here less reached l a (is_same (Item l a) (Item e id)) refl (λ q. s.gone l a (ap (λ b. b || off l a) q ∙ o)) lt;
     }
 
 pub or_parts : (a b : Bool) → (a || b) ≡ false → (a ≡ false) × (b ≡ false)
@@ -213,13 +310,14 @@ new_parts ns m id = subst (ShownBut ns)
     swapped true false = refl
     swapped false b = or_nothing b
 
--- where each list shows its visible items, no flag is wrong
-pub shown_but : (ns : List Node) → AreShown ns → ShownBut ns (λ l a. false)
-shown_but ns shown = record {
+-- where each list shows its visible items, and nothing stands at what is gone, no flag is wrong
+pub shown_but : (ns : List Node) → AreShown ns → AreGone ns → ShownBut ns (λ l a. false)
+shown_but ns shown gone = record {
   flag = λ l a. is_any ((context ns).presence (Item l a));
   flagged = shown;
   right = λ l a far. refl;
   absent = λ l a none. ap (λ o. is_any (presence_of (node_in ns o))) none;
+  gone = λ l a far lt. gone l a lt;
 }
 
 -- where flags and orders stay, those at items whose presence stays are as right as they were
@@ -233,7 +331,16 @@ but_kept ns ms links order off new same s = record {
   flagged = λ l. sym (visible_view ns ms links.same links.visible l) ∙ s.flagged l ∙ ap (filter (s.flag l)) (sym (order l));
   right = λ l a far. let h = same l a far in s.right l a h.0 ∙ ap is_any (sym h.1);
   absent = λ l a none. s.absent l a (number_same ns ms links (Item l a) ∙ none);
+  gone = λ l a far lt.
+      let h = same l a far in
+      ap is_any h.1 ∙ s.gone l a h.0 (subst (λ g. a.counter < g) (sym (gone_view ns ms links.same links.gone l)) lt);
 }
+
+-- where what is gone stays, nothing stands there if nothing new stands anywhere
+pub gone_kept : (ns ms : List Node) → SameLinks ns ms
+    → ((x : Element) → is_any ((context ns).presence x) ≡ false → is_any ((context ms).presence x) ≡ false) → AreGone ns → AreGone ms
+gone_kept ns ms links fewer gone l a lt =
+    fewer (Item l a) (gone l a (subst (λ g. a.counter < g) (sym (gone_view ns ms links.same links.gone l)) lt))
 
 -- the same children, whatever the flags
 pub flags_children : (ns ms : List Node) → SameButFlags ns ms → SameChildren ns ms

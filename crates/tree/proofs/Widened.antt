@@ -6,11 +6,11 @@ use Rattle.semantics.specs.Elements.{Name}
 use Rattle.columns.specs.Entries.{StandBeside}
 use Rattle.columns.specs.Numbered.{Numbered}
 use Rattle.tree.specs.declared.node.Node.{Node}
-use Rattle.tree.specs.Nodes.{IsTree, Kept, Links, NodeBeside, SameView, is_written, linked_by, links, links_of, order_of, order_room}
-use Rattle.tree.specs.Nodes.{presence_of, presence_room, register_of, register_room, tagged, valued, visible_of}
+use Rattle.tree.specs.Nodes.{IsTree, Kept, Links, NodeBeside, SameView, gone_of, is_written, linked_by, links, links_of, order_of}
+use Rattle.tree.specs.Nodes.{order_room, presence_of, presence_room, register_of, register_room, tagged, valued, visible_of}
 use Rattle.tree.proofs.Shape.{tree_links}
 use Rattle.tree.proofs.NodeWrites.{beside_at, beside_set, set_each}
-use Rattle.tree.proofs.SameViews.{context_view, visible_view}
+use Rattle.tree.proofs.SameViews.{context_view, gone_view, visible_view}
 
 -- m is n with no less room
 pub record Wider (n m : Node) : Type 0 where
@@ -20,6 +20,7 @@ pub record Wider (n m : Node) : Type 0 where
   pub register : (m.register.entries ≡ n.register.entries) × (m.register.indices ≡ n.register.indices)
       × (n.register.room ≤ m.register.room)
   pub order : (m.order.items ≡ n.order.items) × (m.order.visible ≡ n.order.visible) × (n.order.room ≤ m.order.room)
+  pub gone : m.gone ≡ n.gone
   pub written : m.is_written ≡ n.is_written
 
 -- a node whose children are the same has no less room
@@ -30,6 +31,7 @@ wider_children n f i e d = record {
   presence = (refl, refl, omega arith);
   register = (refl, refl, omega arith);
   order = (refl, refl, omega arith);
+  gone = refl;
   written = refl;
 }
 
@@ -73,6 +75,7 @@ kept_set ns at n m g t w =
       tree = tree_links ns (set ns at m) long v.links t;
       same = sym (context_view ns (set ns at m) v);
       visible = λ e. sym (visible_view ns (set ns at m) v.links (same_set visible_of ns at n m g w.order.1) e);
+      gone = λ e. sym (gone_view ns (set ns at m) v.links (same_set gone_of ns at n m g w.gone) e);
       grows = record {
         count = omega arith;
         children = λ i k j h. sym (ap (λ l. linked_by l k) (v.links i)) ∙ h;

@@ -82,6 +82,11 @@ abbrev pub visible_of : Option Node → List OpId
 visible_of None = []
 visible_of (Some n) = n.order.visible
 
+-- nothing stands at an item of its list whose id has a smaller counter; 0, where there is no node
+abbrev pub gone_of : Option Node → ℕ
+gone_of None = 0
+gone_of (Some n) = n.gone
+
 -- whether it was written to
 abbrev pub is_written : Option Node → Bool
 is_written None = false
@@ -125,11 +130,12 @@ pub record SameChildren (ns ms : List Node) : Type 0 where
   pub count : length ns ≡ length ms
   pub same : (i : ℕ) → links ns i ≡ links ms i
 
--- the same children, and the same flags of items
+-- the same children, the same flags of items, and the same items gone
 pub record SameLinks (ns ms : List Node) : Type 0 where
   pub count : length ns ≡ length ms
   pub same : (i : ℕ) → links ns i ≡ links ms i
   pub visible : (i : ℕ) → visible_of (slice_get ns i) ≡ visible_of (slice_get ms i)
+  pub gone : (i : ℕ) → gone_of (slice_get ns i) ≡ gone_of (slice_get ms i)
 
 -- for how many more ids the presence of a node has room
 abbrev pub presence_room : Option Node → ℕ
@@ -172,6 +178,7 @@ pub record IsEmptyNode (n : Node) : Type 0 where
   pub items : n.items.entries ≡ []
   pub order : n.order.items ≡ []
   pub visible : n.order.visible ≡ []
+  pub gone : n.gone ≡ 0
   pub unwritten : n.is_written ≡ false
 
 -- each child and all room stays
@@ -182,11 +189,12 @@ pub record Grows (ns ms : List Node) : Type 0 where
   pub register : (i : ℕ) → register_room (slice_get ns i) ≤ register_room (slice_get ms i)
   pub order : (i : ℕ) → order_room (slice_get ns i) ≤ order_room (slice_get ms i)
 
--- a tree of the same context and flags, with all that was there
+-- a tree of the same context and flags, with the same items gone, and all that was there
 pub record Kept (ns ms : List Node) : Type 0 where
   pub tree : IsTree ms
   pub same : context ms ≡ context ns
   pub visible : (e : Element) → visible_of (node_at ms e) ≡ visible_of (node_at ns e)
+  pub gone : (e : Element) → gone_of (node_at ms e) ≡ gone_of (node_at ns e)
   pub grows : Grows ns ms
   pub beside : (table : List ℕ) → AreBeside table ns → AreBeside table ms
 

@@ -12,7 +12,7 @@ ghost use Rattle.cursor.specs.Meanings.{tag_of};
 ghost use Rattle.operation.specs.Meanings.{mutation_of, stamped_of};
 ghost use Rattle.tree.specs.Nested.{IsNested};
 ghost use Rattle.tree.specs.Nodes.{AreBeside, IsTree, context};
-ghost use Rattle.tree.specs.Shown.{AreShown, ShownBut};
+ghost use Rattle.tree.specs.Shown.{AreGone, AreShown, ShownBut};
 ghost use Rattle.tree.specs.Writes.{IsStamp, assigned, deps_of, linked};
 ghost use Rattle.tree.specs.Trees.{CanInsert, IsPlaced, IsReserved};
 
@@ -26,7 +26,7 @@ use cursor::{Place, Tag};
 use operation::{Mutation, Op};
 use value::Scalar;
 
-/// Applies an operation, and then sets what the lists show.
+/// Applies an operation, and then sets what the lists show, and what is gone of them.
 pub fn apply(nodes: &mut [Node], op: &Op, stamp: &Stamp, scalar: Option<Scalar>)
     requires stamp { IsStamp stamp.now }
     requires id { stamp.now.id ≡ op.now.id }
@@ -35,6 +35,7 @@ pub fn apply(nodes: &mut [Node], op: &Op, stamp: &Stamp, scalar: Option<Scalar>)
     requires beside { AreBeside stamp.now.table.now nodes.old }
     requires nested { IsNested (context nodes.old) }
     requires shown { AreShown nodes.old }
+    requires gone { AreGone nodes.old }
     requires reserved { IsReserved (record { table = stamp.now.table.now; nodes = nodes.old; scalar = scalar })
         (stamped_of stamp.now.table.now op.now) }
     requires placed { IsPlaced (context nodes.old) (stamped_of stamp.now.table.now op.now) }
@@ -43,13 +44,15 @@ pub fn apply(nodes: &mut [Node], op: &Op, stamp: &Stamp, scalar: Option<Scalar>)
     ensures nested { IsNested (context nodes.new) }
     ensures beside { AreBeside stamp.now.table.now nodes.new }
     ensures shown { AreShown nodes.new }
+    ensures gone { AreGone nodes.new }
     ensures applied { context nodes.new ≡ apply (context nodes.old) (loose_operation (stamped_of stamp.now.table.now op.now)) }
 {
     run(nodes, op, stamp, scalar);
     show(nodes, op);
 }
 
-/// Clears and writes what an operation's mutation says. What lists show may be wrong then on the way to its target, and nowhere else.
+/// Clears and writes what an operation's mutation says. What lists show, and what is gone of them, may be wrong then on the way to its
+/// target, and nowhere else.
 fn run(nodes: &mut [Node], op: &Op, stamp: &Stamp, scalar: Option<Scalar>)
     requires stamp { IsStamp stamp.now }
     requires id { stamp.now.id ≡ op.now.id }
@@ -57,6 +60,7 @@ fn run(nodes: &mut [Node], op: &Op, stamp: &Stamp, scalar: Option<Scalar>)
     requires tree { IsTree nodes.old }
     requires beside { AreBeside stamp.now.table.now nodes.old }
     requires nested { IsNested (context nodes.old) }
+    requires gone { AreGone nodes.old }
     requires reserved { IsReserved (record { table = stamp.now.table.now; nodes = nodes.old; scalar = scalar })
         (stamped_of stamp.now.table.now op.now) }
     requires placed { IsPlaced (context nodes.old) (stamped_of stamp.now.table.now op.now) }
@@ -81,6 +85,7 @@ fn insert_at(nodes: &mut [Node], place: &Place, stamp: &Stamp, tag: Tag, scalar:
     requires tree { IsTree nodes.old }
     requires beside { AreBeside stamp.now.table.now nodes.old }
     requires nested { IsNested (context nodes.old) }
+    requires gone { AreGone nodes.old }
     requires slot { IsSome (slot_of (Insert EmptyMap) place.now) }
     requires fits { (l : Element) (p : Option TheId) → slot_of (Insert EmptyMap) place.now ≡ Some (l, p)
         → CanInsert nodes.old l p stamp.now.id scalar }

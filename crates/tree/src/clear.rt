@@ -1,19 +1,21 @@
 //! Clearing an element and all that is beneath it.
 
-ghost use Rattle.std.specs.Prelude.{◌≡◌, ◌<◌, ◌&&◌, ◌||◌, ℕ, Bool, Some, length, map, slice_get, slice_index_or};
+ghost use Rattle.std.specs.Prelude.{◌≡◌, ◌<◌, ◌≤◌, ◌&&◌, ◌||◌, ℕ, Bool, Some, cond, drop, length, map, min, nat_le, slice_get};
+ghost use Rattle.std.specs.Prelude.{slice_index_or};
+ghost use Rattle.std.specs.List.{filter};
 ghost use Rattle.semantics.specs.Ids.{OpId as TheId};
 ghost use Rattle.semantics.specs.Elements.{Element, Item, is_same};
 ghost use Rattle.semantics.specs.Context.{clear};
 ghost use Rattle.semantics.specs.DocumentAnswer.{is_any};
 ghost use Rattle.cursor.specs.Meanings.{hop_of};
 ghost use Rattle.tree.specs.Nested.{IsNested};
-ghost use Rattle.tree.specs.Nodes.{AreBeside, IsTree, MoreRoom, SameChildren, SameLinks, context, links, number, presence_of};
-ghost use Rattle.tree.specs.Shown.{SameButFlags, ShownBut};
+ghost use Rattle.tree.specs.Nodes.{AreBeside, IsTree, MoreRoom, SameChildren, SameLinks, context, gone_of, links, number, presence_of};
+ghost use Rattle.tree.specs.Shown.{AreGone, IsGoneBelow, SameButFlags, ShownBut};
 ghost use Rattle.tree.specs.Writes.{IsStamp, clear_own, deps_of, end_of};
 
 use crate::answer::is_present;
-use crate::node::{Node, NodeNumber, node_at_mut};
-use crate::show::show_child;
+use crate::node::{Node, NodeNumber, node_at, node_at_mut};
+use crate::show::{gone_with, show_child};
 use crate::stamp::Stamp;
 use crate::walk::{count_fields, count_items, field_at, item_at, walk};
 use cursor::Hop;
@@ -46,19 +48,64 @@ fn show_cleared(nodes: &mut [Node], at: NodeNumber, position: usize, was_present
         → ShownBut nodes.old
         (λ l a. (was_present && is_same (Item l a) (Item e (slice_index_or (links nodes.old at).1 position d).0)) || off l a)
         → ShownBut nodes.new off }
+    ensures gone { (e : Element) → number nodes.old e ≡ Some at → AreGone nodes.old → AreGone nodes.new }
 {
     if was_present {
         show_child(nodes, at, position);
     }
 }
 
+/// The position of the first item at which something may stand: nothing does at those before it. Binary search.
+fn first_item(nodes: &[Node], at: NodeNumber) -> usize
+    requires { at < length nodes.now }
+    ensures from { drop result (links nodes.now at).1
+        ≡ filter (λ x. nat_le (gone_of (slice_get nodes.now at)) x.0.counter) (links nodes.now at).1 }
+    ensures within { result ≤ length (links nodes.now at).1 }
+{
+    let node = node_at(nodes, at);
+    if node.gone == 0 {
+        return 0;
+    }
+    node.items.first_above(node.gone - 1)
+}
+
+/// How far a list is gone once the item with this index, whose node is `child`, was cleared too: no further than to the item, if
+/// something still stands there.
+fn gone_after(nodes: &[Node], at: NodeNumber, position: usize, child: NodeNumber, gone: u64) -> u64
+    requires inside { at < length nodes.now }
+    requires within { position < length (links nodes.now at).1 }
+    requires child { child < length nodes.now }
+    ensures { (d : TheId × ℕ) → result ≡ cond (is_any (presence_of (slice_get nodes.now child)))
+        (min gone (slice_index_or (links nodes.now at).1 position d).0.counter) gone }
+{
+    let (id, _) = node_at(nodes, at).items.at(position);
+    let stands = is_present(nodes, child);
+    gone_with(gone, &id, stands)
+}
+
+/// Notes that nothing stands at an item of a node's list whose id has a smaller counter.
+fn set_gone(nodes: &mut [Node], at: NodeNumber, gone: u64)
+    requires tree { IsTree nodes.old }
+    requires inside { at < length nodes.old }
+    ensures same { SameButFlags nodes.old nodes.new }
+    ensures room { MoreRoom nodes.old nodes.new }
+    ensures gone { (e : Element) → number nodes.old e ≡ Some at → IsGoneBelow nodes.old e gone → AreGone nodes.old → AreGone nodes.new }
+    ensures shown { (e : Element) (off : Element → TheId → Bool) → number nodes.old e ≡ Some at → IsGoneBelow nodes.old e gone
+        → ShownBut nodes.old off → ShownBut nodes.new off }
+{
+    let node = node_at_mut(nodes, at);
+    node.gone = gone;
+}
+
 /// Clears a node and all nodes beneath it, and sets what the lists beneath it show. Goes past what is empty with one look: nothing
-/// stands beneath it either.
+/// stands beneath it either. Of a list it looks at no item that was gone when the list was last cleared: a list that is emptied
+/// again and again, each time for new items, costs its newest items alone.
 pub fn clear_below(nodes: &mut [Node], at: NodeNumber, stamp: &Stamp)
     requires tree { IsTree nodes.old }
     requires stamp { IsStamp stamp.now }
     requires beside { AreBeside stamp.now.table.now nodes.old }
     requires nested { IsNested (context nodes.old) }
+    requires gone { AreGone nodes.old }
     requires there { (e : Element) × (number nodes.old e ≡ Some at) }
     requires inside { at < length nodes.old }
     ensures children { SameChildren nodes.old nodes.new }
@@ -67,6 +114,7 @@ pub fn clear_below(nodes: &mut [Node], at: NodeNumber, stamp: &Stamp)
     ensures cleared { (e : Element) → number nodes.old e ≡ Some at → context nodes.new ≡ clear (context nodes.old) e (deps_of stamp.now) }
     ensures shown { (e : Element) (off : Element → TheId → Bool) → number nodes.old e ≡ Some at → ShownBut nodes.old off
         → ShownBut nodes.new (λ l a. (is_any (presence_of (slice_get nodes.old at)) && is_same (Item l a) e) || off l a) }
+    ensures gone { AreGone nodes.new }
 {
     if !is_present(nodes, at) {
         return;
@@ -77,12 +125,17 @@ pub fn clear_below(nodes: &mut [Node], at: NodeNumber, stamp: &Stamp)
         clear_below(nodes, child, stamp);
     }
     let items = count_items(nodes, at);
-    'items: for position in 0..items {
+    let from = first_item(nodes, at);
+    // Where nothing is left all is gone, whatever its counter. The next item that is shown, new or late, brings it down to its own.
+    let mut gone = u64::MAX;
+    'items: for position in from..items {
         let child = item_at(nodes, at, position);
         let was_present = is_present(nodes, child);
         clear_below(nodes, child, stamp);
         show_cleared(nodes, at, position, was_present);
+        gone = gone_after(nodes, at, position, child, gone);
     }
+    set_gone(nodes, at, gone);
     clear_node(nodes, at, stamp);
 }
 
@@ -93,6 +146,7 @@ pub fn clear_at(nodes: &mut [Node], path: &[Hop], stamp: &Stamp)
     requires stamp { IsStamp stamp.now }
     requires beside { AreBeside stamp.now.table.now nodes.old }
     requires nested { IsNested (context nodes.old) }
+    requires gone { AreGone nodes.old }
     ensures children { SameChildren nodes.old nodes.new }
     ensures room { MoreRoom nodes.old nodes.new }
     ensures beside { AreBeside stamp.now.table.now nodes.new }

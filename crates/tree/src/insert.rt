@@ -8,7 +8,7 @@ ghost use Rattle.cursor.specs.Meanings.{hop_of, tag_of};
 ghost use Rattle.semantics.specs.Context.{has_item, has_position};
 ghost use Rattle.tree.specs.Nested.{IsNested};
 ghost use Rattle.tree.specs.Nodes.{AreBeside, IsTree, MoreRoom, SameLinks, context, node_at, number, order_of, order_room};
-ghost use Rattle.tree.specs.Shown.{AreShown, ShownBut};
+ghost use Rattle.tree.specs.Shown.{AreGone, AreShown, ShownBut};
 ghost use Rattle.tree.specs.Writes.{IsStamp, assigned, deps_of, end_of, linked};
 ghost use Rattle.tree.specs.Trees.{CanInsert, SlotIs};
 
@@ -83,12 +83,14 @@ fn link_list(nodes: &mut [Node], slot: &Slot<'_>, id: &OpId) -> NodeNumber
     item
 }
 
-/// Inserts a new item into a list, and writes it. What lists show may be wrong then on the way to it, and nowhere else.
+/// Inserts a new item into a list, and writes it. What lists show, and what is gone of them, may be wrong then on the way to it, and
+/// nowhere else.
 pub fn insert(nodes: &mut [Node], slot: &Slot<'_>, stamp: &Stamp, tag: Tag, scalar: Option<Scalar>)
     requires tree { IsTree nodes.old }
     requires stamp { IsStamp stamp.now }
     requires beside { AreBeside stamp.now.table.now nodes.old }
     requires nested { IsNested (context nodes.old) }
+    requires gone { AreGone nodes.old }
     requires fits { CanInsert nodes.old (end_of (map hop_of slot.now.list.now)) slot.now.prev stamp.now.id scalar }
     ensures tree { IsTree nodes.new }
     ensures beside { AreBeside stamp.now.table.now nodes.new }

@@ -53,6 +53,8 @@ pub struct Node {
     pub fields: Fields,
     /// The nodes of the list's items.
     pub items: Numbers,
+    /// Nothing stands at an item of the list whose id has a smaller counter.
+    pub gone: u64,
     /// The order of the list's items.
     pub order: ListOrder,
     /// Whether it was written to. A node that was only reserved is no field yet.
@@ -69,6 +71,7 @@ impl Node {
             register: Register::new(alloc),
             fields: Fields::new(alloc),
             items: Numbers::new(alloc),
+            gone: 0,
             order: ListOrder::new(alloc),
             is_written: false,
         }

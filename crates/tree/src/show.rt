@@ -1,6 +1,6 @@
-//! Keeping what the lists show.
+//! Keeping what the lists show, and from where on something may stand at their items.
 
-ghost use Rattle.std.specs.Prelude.{◌≡◌, ◌<◌, ◌||◌, ℕ, Bool, false, Some, length, map, cond, slice_index_or, IfSome};
+ghost use Rattle.std.specs.Prelude.{◌≡◌, ◌<◌, ◌||◌, ℕ, Bool, false, Some, length, map, min, cond, slice_index_or, IfSome};
 ghost use Rattle.std.specs.List.{filter};
 ghost use Rattle.semantics.specs.Ids.{OpId as TheId, is_same_id};
 ghost use Rattle.semantics.specs.Elements.{Element, Item, EmptyMap, is_same, is_under};
@@ -9,7 +9,7 @@ ghost use Rattle.semantics.specs.Paths.{ItemKey, child};
 ghost use Rattle.cursor.specs.Meanings.{hop_of};
 ghost use Rattle.operation.specs.Meanings.{mutation_of};
 ghost use Rattle.tree.specs.Nodes.{IsTree, MoreRoom, child_number, links, number};
-ghost use Rattle.tree.specs.Shown.{AreShown, SameButFlags, ShownBut};
+ghost use Rattle.tree.specs.Shown.{AreGone, AreShown, SameButFlags, ShownBut};
 ghost use Rattle.tree.specs.Writes.{end_of};
 
 use crate::answer::is_present;
@@ -20,8 +20,15 @@ use cursor::{Hop, Place};
 use ids::OpId;
 use operation::{Mutation, Op};
 
-/// Shows an item of a node's list if something stands at its node, and hides it if nothing does. A binary search and a walk in one
-/// block of the list.
+/// How far a list is gone that has an item with this id: no further than to the item, if something stands there.
+pub fn gone_with(gone: u64, id: &OpId, stands: bool) -> u64
+    ensures { result ≡ cond stands (min gone id.now.counter) gone }
+{
+    if stands { gone.min(id.counter) } else { gone }
+}
+
+/// Shows an item of a node's list if something stands at its node, and hides it if nothing does. An item that is shown is gone no
+/// longer, however old it is. A binary search and a walk in one block of the list.
 fn show_item(nodes: &mut [Node], at: NodeNumber, id: &OpId, item: NodeNumber)
     requires tree { IsTree nodes.old }
     requires inside { at < length nodes.old }
@@ -30,10 +37,12 @@ fn show_item(nodes: &mut [Node], at: NodeNumber, id: &OpId, item: NodeNumber)
     ensures room { MoreRoom nodes.old nodes.new }
     ensures shown { (e : Element) (off : Element → TheId → Bool) → number nodes.old e ≡ Some at
         → ShownBut nodes.old (λ l a. is_same (Item l a) (Item e id.now) || off l a) → ShownBut nodes.new off }
+    ensures gone { (e : Element) → number nodes.old e ≡ Some at → AreGone nodes.old → AreGone nodes.new }
 {
     let shown = is_present(nodes, item);
     let node = node_at_mut(nodes, at);
     node.order.set_shown(id, shown);
+    node.gone = gone_with(node.gone, id, shown);
 }
 
 /// The same for the item with this index among those that have a node.
@@ -46,6 +55,7 @@ pub fn show_child(nodes: &mut [Node], at: NodeNumber, position: usize)
     ensures shown { (e : Element) (off : Element → TheId → Bool) (d : TheId × ℕ) → number nodes.old e ≡ Some at
         → ShownBut nodes.old (λ l a. is_same (Item l a) (Item e (slice_index_or (links nodes.old at).1 position d).0) || off l a)
         → ShownBut nodes.new off }
+    ensures gone { (e : Element) → number nodes.old e ≡ Some at → AreGone nodes.old → AreGone nodes.new }
 {
     let (id, item) = node_at(nodes, at).items.at(position);
     let item = NodeNumber::new(item);
@@ -104,7 +114,8 @@ fn show_path(nodes: &mut [Node], path: &[Hop]) -> Option<NodeNumber>
 fn show_at(nodes: &mut [Node], path: &[Hop])
     requires { IsTree nodes.old }
     ensures same { SameButFlags nodes.old nodes.new }
-    ensures shown { ShownBut nodes.old (λ l a. is_under (end_of (map hop_of path.now)) (Item l a)) → AreShown nodes.new }
+    ensures shown { ShownBut nodes.old (λ l a. is_under (end_of (map hop_of path.now)) (Item l a))
+        → AreShown nodes.new × AreGone nodes.new }
 {
     let _end = show_path(nodes, path);
 }
@@ -115,7 +126,7 @@ fn show_entry(nodes: &mut [Node], at: NodeNumber, id: &OpId)
     requires inside { at < length nodes.old }
     ensures same { SameButFlags nodes.old nodes.new }
     ensures shown { (e : Element) → number nodes.old e ≡ Some at
-        → ShownBut nodes.old (λ l a. is_same (Item l a) (Item e id.now) || false) → AreShown nodes.new }
+        → ShownBut nodes.old (λ l a. is_same (Item l a) (Item e id.now) || false) → AreShown nodes.new × AreGone nodes.new }
 {
     match item_of(nodes, at, id) {
         Some(item) => show_item(nodes, at, id, item),
@@ -127,7 +138,8 @@ fn show_entry(nodes: &mut [Node], at: NodeNumber, id: &OpId)
 fn show_new(nodes: &mut [Node], slot: &Slot<'_>, id: &OpId)
     requires { IsTree nodes.old }
     ensures same { SameButFlags nodes.old nodes.new }
-    ensures shown { ShownBut nodes.old (λ l a. is_under (Item (end_of (map hop_of slot.now.list.now)) id.now) (Item l a)) → AreShown nodes.new }
+    ensures shown { ShownBut nodes.old (λ l a. is_under (Item (end_of (map hop_of slot.now.list.now)) id.now) (Item l a))
+        → AreShown nodes.new × AreGone nodes.new }
 {
     match show_path(nodes, slot.list) {
         Some(at) => show_entry(nodes, at, id),
@@ -140,7 +152,7 @@ fn show_insert(nodes: &mut [Node], place: &Place, id: &OpId)
     requires { IsTree nodes.old }
     ensures same { SameButFlags nodes.old nodes.new }
     ensures shown { ShownBut nodes.old (λ l a. is_under (target_in (slot_of (Insert EmptyMap) place.now) id.now place.now) (Item l a))
-        → AreShown nodes.new }
+        → AreShown nodes.new × AreGone nodes.new }
 {
     match slot_of(place) {
         Some(slot) => show_new(nodes, &slot, id),
@@ -148,13 +160,14 @@ fn show_insert(nodes: &mut [Node], place: &Place, id: &OpId)
     }
 }
 
-/// Sets what the lists show on the way to an operation's target, after it was applied: beneath it they show that already.
+/// Sets what the lists show, and what is gone of them, on the way to an operation's target, after it was applied: beneath it both are
+/// right already.
 pub fn show(nodes: &mut [Node], op: &Op)
     requires { IsTree nodes.old }
     ensures same { SameButFlags nodes.old nodes.new }
     ensures shown { ShownBut nodes.old
         (λ l a. is_under (target_in (slot_of (mutation_of op.now.mutation) op.now.place) op.now.id op.now.place) (Item l a))
-        → AreShown nodes.new }
+        → AreShown nodes.new × AreGone nodes.new }
 {
     match &op.mutation {
         Mutation::Assign(_) => show_at(nodes, op.place.hops()),

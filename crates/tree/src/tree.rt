@@ -83,7 +83,8 @@ impl Tree {
     }
 
     /// Applies an operation that was reserved. Takes no memory. Beneath an assign's or a delete's element it visits each node at
-    /// which something stands, and each child of those. It writes at each element of the path, and then sets whether the lists show
+    /// which something stands, and each child of those, but of a list only the items from the first on that stood after the list
+    /// was last cleared, or that was written to since. It writes at each element of the path, and then sets whether the lists show
     /// the items there.
     pub fn apply(&mut self, op: &Op)
         requires reserved { IsReserved self.old (stamped_of self.old.table op.now) }

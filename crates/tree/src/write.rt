@@ -7,7 +7,7 @@ ghost use Rattle.cursor.specs.Meanings.{hop_of, tag_of};
 ghost use Rattle.tree.specs.Nested.{IsNested};
 ghost use Rattle.tree.specs.Nodes.{AreBeside, IsTree, MoreRoom, RoomElse, SameLinks, child_number, context, node_at, number, presence_room};
 ghost use Rattle.tree.specs.Nodes.{register_room};
-ghost use Rattle.tree.specs.Shown.{AreShown, ShownBut};
+ghost use Rattle.tree.specs.Shown.{AreGone, AreShown, ShownBut};
 ghost use Rattle.tree.specs.Writes.{HasRoom, IsStamp, assigned, deps_of, end_of, entered, entered_by, mark, name_at, registered};
 
 use crate::clear::clear_at;
@@ -148,12 +148,14 @@ pub fn settle(nodes: &mut [Node], at: NodeNumber, stamp: &Stamp, tag: Tag, scala
     put_scalar(nodes, at, stamp, scalar);
 }
 
-/// Clears what stands at the end of a path, and writes there. What lists show may be wrong then on the way there, and nowhere else.
+/// Clears what stands at the end of a path, and writes there. What lists show, and what is gone of them, may be wrong then on the way
+/// there, and nowhere else.
 pub fn assign(nodes: &mut [Node], path: &[Hop], stamp: &Stamp, tag: Tag, scalar: Option<Scalar>)
     requires tree { IsTree nodes.old }
     requires stamp { IsStamp stamp.now }
     requires beside { AreBeside stamp.now.table.now nodes.old }
     requires nested { IsNested (context nodes.old) }
+    requires gone { AreGone nodes.old }
     requires room { HasRoom nodes.old (map hop_of path.now) }
     requires register { IsSome scalar → 0 < register_room (node_at nodes.old (end_of (map hop_of path.now))) }
     ensures tree { IsTree nodes.new }

@@ -139,3 +139,59 @@ fn a_map_and_a_list_stand_at_one_key(rt: HostRuntime) -> Result<(), Fail> {
     const LAST: &[Turn] = &[Conflicts(KEY, &[((2, 1), Tag::Map), ((2, 2), Tag::List)])];
     on_each(&rt, rt.alloc(), ROWS, LAST)
 }
+
+const LETTERS: Where = Where::Field(&["letters"]);
+
+/// A list of two items, which is cleared.
+const CLEARED: &[Turn] = &[
+    Play((1, 1), [0, 0], LETTERS, Does::List),
+    Play((2, 1), [1, 0], Where::Head("letters"), Does::Insert("a")),
+    Play(
+        (3, 1),
+        [2, 0],
+        Where::Item("letters", (2, 1)),
+        Does::Insert("b"),
+    ),
+    Play((4, 1), [3, 0], LETTERS, Does::List),
+    Items(LETTERS, &[]),
+];
+
+#[test]
+fn late_items_of_a_cleared_list_go_with_a_clear_that_saw_them(rt: HostRuntime) -> Result<(), Fail> {
+    const LATE: Where = Where::Item("letters", (2, 2));
+    // The second clear saw x, which is older than the first one, and didn't see c.
+    const TURNS: &[Turn] = &[
+        Play((2, 2), [1, 0], Where::Head("letters"), Does::Insert("x")),
+        Items(LETTERS, &[(2, 2)]),
+        Values(LATE, &[((2, 2), "x")]),
+        Play((5, 1), [4, 2], Where::Head("letters"), Does::Insert("c")),
+        Items(LETTERS, &[(5, 1), (2, 2)]),
+        Play((5, 2), [4, 2], LETTERS, Does::List),
+        Items(LETTERS, &[(5, 1)]),
+        Values(LATE, &[]),
+        Conflicts(LATE, &[]),
+        Play((6, 1), [5, 5], LETTERS, Does::List),
+        Items(LETTERS, &[]),
+    ];
+    const PARTS: &[&[Turn]] = &[CLEARED, TURNS];
+    on_new(&rt, rt.alloc(), PARTS)
+}
+
+#[test]
+fn late_values_at_items_of_a_cleared_list_go_with_a_clear_that_saw_them(
+    rt: HostRuntime,
+) -> Result<(), Fail> {
+    const AT_A: Where = Where::Item("letters", (2, 1));
+    const TURNS: &[Turn] = &[
+        Play((3, 2), [2, 0], AT_A, Does::Text("late")),
+        Items(LETTERS, &[(2, 1)]),
+        Values(AT_A, &[((3, 2), "late")]),
+        Play((5, 1), [4, 2], LETTERS, Does::List),
+        Items(LETTERS, &[(2, 1)]),
+        Play((6, 1), [5, 3], LETTERS, Does::List),
+        Items(LETTERS, &[]),
+        Conflicts(AT_A, &[]),
+    ];
+    const PARTS: &[&[Turn]] = &[CLEARED, TURNS];
+    on_new(&rt, rt.alloc(), PARTS)
+}

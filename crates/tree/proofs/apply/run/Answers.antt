@@ -99,4 +99,4 @@ returns-in-Delete-clause-shown c = λ shown.
     ≡ target_in (slot_of (mutation_of o.mutation) o.place) o.id o.place = end_is o.place path c.hops-in-Delete.ensures
     ∙ sym (ap (λ m. target_in (slot_of (mutation_of m) o.place) o.id o.place) c.in-Delete.is) in
     subst (λ e. ShownBut new (λ l a. is_under e (Item l a))) t
-    (at_way new (end_of path) (c.clear_at.ensures.shown (λ l a. false) (shown_but c.args.nodes.now shown)))
+    (at_way new (end_of path) (c.clear_at.ensures.shown (λ l a. false) (shown_but c.args.nodes.now shown c.requires.gone)))

@@ -11,7 +11,7 @@ returns-clause-kept c =
     let n : Node = c.node_in_vec-node.result.now in
     let m : Node = record n { items = c.put.new.self } in
     let there = c.node_in_vec-node.ensures.node in
-    let only : OnlyLinks n m = record { presence = refl; register = refl; order = refl; written = refl } in
+    let only : OnlyLinks n m = record { presence = refl; register = refl; order = refl; gone = refl; written = refl } in
     linked_kept c.args.at (ItemKey c.args.id) c.args.number ns n m there only
     (linked_item ns c.args.at n m c.args.number there c.args.id (rw c.index.ensures at c.put.ensures.entries) only c.requires.tree
     c.requires.absent refl)

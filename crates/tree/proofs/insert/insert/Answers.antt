@@ -4,7 +4,7 @@ use Rattle.std.specs.Prelude.{option_map}
 use Rattle.std.proofs.lemmas.List.{length-map}
 use Rattle.semantics.specs.DocumentAnswer.{is_any}
 use Rattle.semantics.specs.Elements.{Element, Item, AsList, is_same}
-use Rattle.semantics.specs.Context.{clear}
+use Rattle.semantics.specs.Context.{Context, clear}
 use Rattle.value.specs.Meanings.{scalar_of}
 use Rattle.cursor.specs.Meanings.{hop_of, tag_of}
 use Rattle.tree.specs.Nested.{IsNested}
@@ -14,7 +14,7 @@ use Rattle.tree.proofs.NearTarget.{linked_shown, way_itself, written, written_sh
 use Rattle.tree.proofs.Nested.{nested_linked}
 use Rattle.tree.proofs.Shape.{children_linked, children_number, children_tree, children_trans, links_trans, number_inside, number_same}
 use Rattle.tree.proofs.Shape.{room_trans, tree_same}
-use Rattle.tree.proofs.Showing.{but_wider}
+use Rattle.tree.proofs.Showing.{but_wider, gone_kept}
 use Rattle.tree.proofs.Rooms.{depth_whole, more_room, path_room, room_along}
 use Rattle.tree.proofs.insert.insert.Goals as goal
 
@@ -34,6 +34,10 @@ clear_below-requires-clause-nested c =
     let l = end_of (map hop_of c.args.slot.now.list.now) in
     subst IsNested (sym c.link_list-item.ensures.linked)
     (nested_linked (context c.args.nodes.now) l c.args.slot.now.prev s.id c.requires.nested)
+
+pub clear_below-requires-clause-gone : goal.clear_below-requires-clause-gone
+clear_below-requires-clause-gone c = gone_kept c.args.nodes.now c.link_list-item.new.nodes c.link_list-item.ensures.links
+    (λ x none. ap (λ (C : Context). is_any (C.presence x)) c.link_list-item.ensures.linked ∙ none) c.requires.gone
 
 pub clear_below-requires-clause-there : goal.clear_below-requires-clause-there
 clear_below-requires-clause-there c =
@@ -139,7 +143,7 @@ returns-clause-shown c = λ shown.
     c.settle.ensures.settled t at3
     ∙ ap (λ C. registered (mark C t s.id (tag_of c.args.tag)) t s.id (option_map scalar_of c.args.scalar)) c.write_path.ensures.written in
     let new = linked_shown n0 n1 c.link_list-item.ensures.links l p s.id c.link_list-item.ensures.linked
-    (c.requires.fits.position, c.requires.fits.fresh) shown in
+    (c.requires.fits.position, c.requires.fits.fresh) shown c.requires.gone in
     let cleared = but_wider n2 (is_any (presence_of (slice_get n1 c.link_list-item.result))) t (λ y b. is_same (Item y b) t)
     (c.clear_below.ensures.shown t (λ y b. is_same (Item y b) t) at1 new) in
     written_shown n2 n4 (links_trans n2 n3 n4 c.write_path.ensures.links c.settle.ensures.links) t s.id (tag_of c.args.tag)

@@ -53,4 +53,4 @@ returns-clause-shown c = λ shown.
     c.put_scalar.ensures.written t at ∙ ap (λ C. registered C t a (option_map scalar_of c.args.scalar)) c.write_path-at.ensures.written in
     written_shown mid new (links_trans mid on new c.write_path-at.ensures.links c.put_scalar.ensures.links) t a (tag_of c.args.tag)
     (option_map scalar_of c.args.scalar) is (λ l b. is_same (Item l b) t || false) (λ l b far. ap (λ x. x || false) (way_itself t l b far))
-    (c.clear_at.ensures.shown (λ l b. false) (shown_but c.args.nodes.now shown))
+    (c.clear_at.ensures.shown (λ l b. false) (shown_but c.args.nodes.now shown c.requires.gone))
