@@ -121,12 +121,16 @@ fn change(rt: &impl Abort, numbers: &mut Rings<usize>, beside: &mut [usize], a: 
     beside[a] = 7;
 }
 
-/// Two positions of a list of three rings and a half, turned: its items change, and those before the second one stay.
+/// Two positions of a list of three rings and a half, turned: its items change, those that three doesn't divide stay, and of these the
+/// ones before the second position.
 fn assert_changed(rt: &impl Abort, alloc: Global, a: usize, b: usize) -> Result<(), Fail> {
     let mut numbers = Rings::new(alloc);
     let mut beside = Vec::new(alloc);
     fill(&mut numbers, &mut beside, &(7200, 1_000_003))?;
     change(rt, &mut numbers, &mut beside, a, b);
+    assert_items(rt, &numbers, &beside);
+    numbers.retain(|number| number % 3 != 0);
+    beside.retain(|number| number % 3 != 0);
     assert_items(rt, &numbers, &beside);
     numbers.truncate(b);
     beside.truncate(b);
