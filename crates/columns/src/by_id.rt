@@ -23,8 +23,8 @@ use version::VersionVector;
 
 /// A finite map by id.
 ///
-/// Most maps hold one entry, so a single one is inline: the map is 28 bytes and a value, and takes no memory. From the second on all
-/// stand one after the other in a vector, which takes a box too and stays when entries go.
+/// Most maps hold one entry, so a single one is inline: the map is 32 bytes with a tag, 48 with a scalar, and takes no memory. From the
+/// second on all stand one after the other in a vector, which takes a box too and stays when entries go.
 ///
 /// Contracts see the entries, rising by id, the index of each entry's replica in the table, and for how many more entries there is room.
 #[derive(Debug, Drop)]

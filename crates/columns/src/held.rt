@@ -1,4 +1,4 @@
-//! Where a map by id holds its entries: a single one inline, more of them in columns.
+//! Where a map by id holds its entries: a single one inline, more of them one after the other.
 
 ghost use Rattle.std.specs.Prelude.{◌≡◌, ◌<◌, [], IfOk, OnOk};
 

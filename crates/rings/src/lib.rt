@@ -3,5 +3,6 @@
 
 mod rings;
 mod starts;
+mod straightened;
 
 pub use rings::{Rings, insert_reserved};

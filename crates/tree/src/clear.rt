@@ -98,8 +98,8 @@ fn set_gone(nodes: &mut [Node], at: NodeNumber, gone: u64)
 }
 
 /// Clears a node and all nodes beneath it, and sets what the lists beneath it show. Goes past what is empty with one look: nothing
-/// stands beneath it either. Of a list it looks at no item that was gone when the list was last cleared: a list that is emptied
-/// again and again, each time for new items, costs its newest items alone.
+/// stands beneath it either. Of a list it begins at the first item that stood after the list's last clear, or that was shown since: a
+/// list that is emptied again and again, each time for new items, costs its newest items alone.
 pub fn clear_below(nodes: &mut [Node], at: NodeNumber, stamp: &Stamp)
     requires tree { IsTree nodes.old }
     requires stamp { IsStamp stamp.now }

@@ -4,8 +4,8 @@ ghost use Rattle.std.specs.Prelude.{◌<◌, length, IfSome};
 
 use std::alloc::Global;
 
-/// How many bytes the text begins with before its closing quote, which the first quote is that no backslash stands before. `None` where
-/// it isn't closed. Looks at each of these bytes.
+/// How many bytes stand before the text's closing quote, the first one that isn't escaped. `None` where it isn't closed. Looks at each of
+/// these bytes.
 pub(crate) fn closed_at(text: &[u8]) -> Option<usize>
     ensures { IfSome result (λ end. end < length text.now) }
 {
@@ -22,8 +22,8 @@ pub(crate) fn closed_at(text: &[u8]) -> Option<usize>
     None
 }
 
-/// The text of these bytes. `None` where one is escaped by its number, as few are, or in no way that JSON has, or where memory is
-/// refused.
+/// The text of these bytes. `None` where one is escaped by its number, as few are, or in a way in which no line is written, or where
+/// memory is refused.
 pub(crate) fn unescaped(alloc: Global, bytes: &[u8]) -> Option<Vec<u8>> {
     let mut text = Vec::with_capacity(alloc, bytes.len()).ok()?;
     let mut is_escaped = false;

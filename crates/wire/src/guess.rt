@@ -31,7 +31,8 @@ const ROOM_AHEAD: usize = 8;
 const LONGEST: usize = 1 << 14;
 
 /// The operation on a line in the form in which it is written, or `None` where it has another form, a character that is escaped by its
-/// number or the least whole number, or where memory is refused. Time is proportional to the length of the line at most.
+/// number or the least whole number, where it is longer than `LONGEST`, or where memory is refused. Time is proportional to the length of
+/// the line at most.
 pub(crate) fn guess_op(alloc: Global, text: &[u8], table: &ReplicaTable) -> Option<Op>
     ensures read { IfSome result (λ o. op_form table.now text.now ≡ Ok (stamped_of table.now o)) }
     ensures width { IfSome result (λ o. length o.deps ≡ length table.now) }

@@ -71,9 +71,9 @@ fn hello_value(
 
 /// The operation on a line, its vector as wide as the table.
 ///
-/// A line as `write_op` writes it is read at once, unless a character in it is escaped by its number or it has the least whole number.
-/// Any other is parsed as JSON as a whole before its parts are looked at. Time and memory are proportional to its length: whoever takes
-/// lines from others bounds their length first. JSON nested deeper than 127 lists and objects is refused.
+/// A line as `write_op` writes it is read at once, unless a character in it is escaped by its number, it has the least whole number, or
+/// it is longer than 16 KB. Any other is parsed as JSON as a whole before its parts are looked at. Time and memory are proportional to
+/// its length: whoever takes lines from others bounds their length first. JSON nested deeper than 127 lists and objects is refused.
 ///
 /// # Errors
 /// The first fault in this order: `BadLine` if the text is no JSON, or no list of six that begins with `op`; then the faults of the

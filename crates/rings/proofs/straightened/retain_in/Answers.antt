@@ -2,7 +2,7 @@ use Rattle.std.proofs.Common.{◌∙◌, ◌/◌, ap, take}
 use Rattle.rings.specs.Rings.{straight}
 use Rattle.rings.specs.Starts.{starts_of}
 use Rattle.rings.proofs.Turned.{zero_straight, zero_take}
-use Rattle.rings.proofs.rings.retain_in.Goals as goal
+use Rattle.rings.proofs.straightened.retain_in.Goals as goal
 
 pub returns-clause-kept : goal.returns-clause-kept
 returns-clause-kept g c =

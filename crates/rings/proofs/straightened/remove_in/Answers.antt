@@ -4,7 +4,7 @@ use Rattle.std.proofs.lemmas.Option.{slice_get_read}
 use Rattle.rings.specs.Rings.{straight}
 use Rattle.rings.specs.Starts.{starts_of}
 use Rattle.rings.proofs.Turned.{zero_straight, zero_take}
-use Rattle.rings.proofs.rings.remove_in.Goals as goal
+use Rattle.rings.proofs.straightened.remove_in.Goals as goal
 
 pub returns-clause-items : goal.returns-clause-items
 returns-clause-items g c =
