@@ -4,7 +4,6 @@ pub mod Entries
 pub mod Held
 pub mod Keys
 pub mod Prefix
-pub mod Placed
 pub mod Numbered
 pub mod Orders
 pub mod Blocks

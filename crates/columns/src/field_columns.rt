@@ -111,7 +111,7 @@ impl FieldColumns {
     }
 
     /// Puts a key that isn't there yet, with its number. Takes no memory. A binary search, unless it goes in behind the last one that
-    /// was put or sought, and one insert into `Rings`.
+    /// was put or sought, and two inserts into `Rings`.
     pub fn put(&mut self, key: Key, number: usize)
         requires new { find name_cmp key self.old.entries ≡ None }
         requires room { 0 < self.old.room }

@@ -5,7 +5,6 @@ ghost use Rattle.std.specs.List.{insert};
 ghost use Rattle.std.specs.FinMap.{put, is_sorted};
 ghost use Rattle.semantics.specs.Elements.{Name, name_cmp};
 ghost use Rattle.columns.specs.Keys.{AreNumbers, AreOrdered, Finds, numbered};
-ghost use Rattle.columns.specs.Placed.{numbers_of};
 ghost use Rattle.columns.specs.Prefix.{AreBytes, first_bytes};
 ghost use Rattle.columns.specs.Rank.{GoesTo, as_set, rank};
 
@@ -25,33 +24,27 @@ use value::Key;
 pub struct SortedKeys {
     /// In the order in which they were put.
     keys: Vec<Key>,
-    /// The prefix and the number of the key at each position in byte order.
-    order: Rings<Placed>,
-}
-
-/// The prefix of a key, and how many keys were put before it. They stand together, since a look at a key reads both.
-#[derive(Clone, Copy, Debug)]
-struct Placed {
-    prefix: u64,
-    number: usize,
+    /// The number of the key at each position in byte order.
+    order: Rings<usize>,
+    /// The prefix of the key at each position in byte order.
+    prefixes: Rings<u64>,
 }
 
 impl Model for SortedKeys {
     ghost use Rattle.std.specs.Prelude.{[], min, vec_len, vec_capacity, ◌-◌};
     ghost use Rattle.columns.specs.Keys.{AreOrdered, Keys, numbered};
-    ghost use Rattle.columns.specs.Placed.{numbers_of, prefixes_of};
     ghost use Rattle.columns.specs.Prefix.{ArePrefixes};
 
     ghost Value = { Keys };
 
     ghost view = { λ k. record {
-      keys = numbered [] k.keys.items (numbers_of k.order.items);
-      numbers = numbers_of k.order.items;
-      room = min (vec_capacity k.keys - vec_len k.keys) k.order.room;
+      keys = numbered [] k.keys.items k.order.items;
+      numbers = k.order.items;
+      room = min (vec_capacity k.keys - vec_len k.keys) (min k.order.room k.prefixes.room);
     } };
 
-    ghost invariant = { λ k. AreOrdered k.keys.items (numbers_of k.order.items)
-        × ArePrefixes (numbered [] k.keys.items (numbers_of k.order.items)) (prefixes_of k.order.items) };
+    ghost invariant = { λ k. AreOrdered k.keys.items k.order.items
+        × ArePrefixes (numbered [] k.keys.items k.order.items) k.prefixes.items };
 }
 
 impl SortedKeys {
@@ -62,6 +55,7 @@ impl SortedKeys {
         SortedKeys {
             keys: Vec::new(alloc),
             order: Rings::new(alloc),
+            prefixes: Rings::new(alloc),
         }
     }
 
@@ -87,7 +81,7 @@ impl SortedKeys {
         ensures number { slice_get self.now.numbers position ≡ Some result }
         ensures numbers { AreNumbers (length self.now.keys) self.now.numbers }
     {
-        number_at(&self.order, position)
+        *self.order.get(position)
     }
 
     /// Makes room for one more key.
@@ -101,7 +95,8 @@ impl SortedKeys {
         ensures kept { self.old.room ≤ self.new.room }
     {
         self.keys.reserve(1)?;
-        self.order.reserve_one()
+        self.order.reserve_one()?;
+        self.prefixes.reserve_one()
     }
 
     /// The position of a key, or `Err` with the one where it would be inserted. A binary search that compares the key with at most
@@ -188,7 +183,7 @@ impl SortedKeys {
         Err(low)
     }
 
-    /// Puts a key that isn't there yet at the position that `find` gives for it. Takes no memory. One insert into `Rings`.
+    /// Puts a key that isn't there yet at the position that `find` gives for it. Takes no memory. Two inserts into `Rings`.
     pub fn put(&mut self, position: usize, key: Key)
         requires position { GoesTo name_cmp key self.old.keys position }
         requires room { 0 < self.old.room }
@@ -197,11 +192,9 @@ impl SortedKeys {
         ensures numbers { self.new.numbers ≡ insert self.old.numbers position (length self.old.keys) }
         ensures room { self.old.room ≤ self.new.room + 1 }
     {
-        let placed = Placed {
-            prefix: prefix_of(key.as_str().as_bytes()),
-            number: self.keys.len(),
-        };
-        self.order.insert(position, placed);
+        let prefix = prefix_of(key.as_str().as_bytes());
+        self.order.insert(position, self.keys.len());
+        self.prefixes.insert(position, prefix);
         self.keys.push_reserved(key);
     }
 
@@ -212,26 +205,18 @@ impl SortedKeys {
         requires within { position < length self.now.keys }
         ensures { (d : Name) → result ≡ name_cmp key.now (slice_index_or self.now.keys position d) }
     {
-        match prefix.cmp(&self.order.get(position).prefix) {
+        match prefix.cmp(self.prefixes.get(position)) {
             Ordering::Equal => key.cmp(self.at(position)),
             apart => apart,
         }
     }
 }
 
-/// The number of the key at a position in byte order.
-fn number_at(order: &Rings<Placed>, position: usize) -> usize
-    requires { position < length (numbers_of order.now.items) }
-    ensures { slice_get (numbers_of order.now.items) position ≡ Some result }
-{
-    order.get(position).number
-}
-
 /// The key at a position in byte order.
-fn key_at<'a>(keys: &'a [Key], order: &Rings<Placed>, position: usize) -> &'a Key
-    requires numbers { AreNumbers (length keys.now) (numbers_of order.now.items) }
-    requires within { position < length (numbers_of order.now.items) }
-    ensures { (d : Name) → slice_index_or (numbered [] keys.now (numbers_of order.now.items)) position d ≡ result.now }
+fn key_at<'a>(keys: &'a [Key], order: &Rings<usize>, position: usize) -> &'a Key
+    requires numbers { AreNumbers (length keys.now) order.now.items }
+    requires within { position < length order.now.items }
+    ensures { (d : Name) → slice_index_or (numbered [] keys.now order.now.items) position d ≡ result.now }
 {
-    &keys[number_at(order, position)]
+    &keys[*order.get(position)]
 }
