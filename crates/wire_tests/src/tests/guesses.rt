@@ -42,8 +42,21 @@ const OTHERS: &[&str] = &[
     r#"["op",[18446744073709551617,1],[],[],0,["d"]]"#,
 ];
 
-/// Bytes of a key and of a text, about their limits and about the longest line that is read at once.
-const LENGTHS: &[(usize, usize)] = &[(256, 4096), (257, 1), (1, 4097), (1, 16_320), (1, 16_400)];
+/// Of a line: what its keys and its text repeat, the hops to fields in its place, and how often each key and the text repeat it. They stand
+/// about the limits, and about the longest line that is read at once, 16,384 bytes: the last two are lawful, one some 200 bytes shorter,
+/// the other one longer.
+const LONG: &[(&str, usize, usize, usize)] = &[
+    ("a", 0, 256, 4096),
+    ("a", 0, 257, 1),
+    ("a", 0, 1, 4097),
+    ("a", 0, 1, 16_320),
+    ("a", 0, 1, 16_400),
+    (r#"\""#, 0, 256, 4096),
+    (r#"\""#, 0, 257, 1),
+    (r#"\""#, 0, 1, 4097),
+    (r#"\""#, 30, 256, 1),
+    (r#"\""#, 30, 256, 4096),
+];
 
 /// What stands in place of a byte of a line.
 const BYTES: [u8; 7] = *b"09\" ],\\";
@@ -66,20 +79,32 @@ fn changed(alloc: Global, line: &[u8], index: usize, byte: u8) -> Result<Vec<u8>
     Ok(text)
 }
 
-/// A line with a key and a text of so many bytes.
-fn long_line(alloc: Global, key: usize, text: usize) -> Result<Vec<u8>, AllocError> {
+/// The line of these measures.
+fn long_line(
+    alloc: Global,
+    fill: &str,
+    hops: usize,
+    key: usize,
+    text: usize,
+) -> Result<Vec<u8>, AllocError> {
     let mut line = Vec::new(alloc);
-    line.extend_from_slice(br#"["op",[1,1],[],[["m",0]],""#)?;
-    push_letters(&mut line, key)?;
+    line.extend_from_slice(br#"["op",[1,1],[],[["m",0]"#)?;
+    for _ in 0..hops {
+        line.extend_from_slice(br#",["m",""#)?;
+        push_times(&mut line, fill, key)?;
+        line.extend_from_slice(br#""]"#)?;
+    }
+    line.extend_from_slice(br#"],""#)?;
+    push_times(&mut line, fill, key)?;
     line.extend_from_slice(br#"",["a",""#)?;
-    push_letters(&mut line, text)?;
+    push_times(&mut line, fill, text)?;
     line.extend_from_slice(br#""]]"#)?;
     Ok(line)
 }
 
-fn push_letters(line: &mut Vec<u8>, count: usize) -> Result<(), AllocError> {
+fn push_times(line: &mut Vec<u8>, fill: &str, count: usize) -> Result<(), AllocError> {
     for _ in 0..count {
-        line.push(b'a')?;
+        line.extend_from_slice(fill.as_bytes())?;
     }
     Ok(())
 }
@@ -126,8 +151,8 @@ fn a_space_in_front_changes_nothing(rt: HostRuntime) -> Result<(), Fail> {
 
 #[test]
 fn a_space_in_front_changes_nothing_at_the_limits(rt: HostRuntime) -> Result<(), Fail> {
-    for (key, text) in LENGTHS {
-        let line = long_line(rt.alloc(), *key, *text)?;
+    for (fill, hops, key, text) in LONG {
+        let line = long_line(rt.alloc(), fill, *hops, *key, *text)?;
         is_read_alike(&rt, rt.alloc(), line.as_slice())?;
     }
     Ok(())
