@@ -42,20 +42,20 @@ const OTHERS: &[&str] = &[
     r#"["op",[18446744073709551617,1],[],[],0,["d"]]"#,
 ];
 
-/// Of a line: what its keys and its text repeat, the hops to fields in its place, and how often each key and the text repeat it. They stand
-/// about the limits, and about the longest line that is read at once, 16,384 bytes: the last two are lawful, one some 200 bytes shorter,
-/// the other one longer.
-const LONG: &[(&str, usize, usize, usize)] = &[
-    ("a", 0, 256, 4096),
-    ("a", 0, 257, 1),
-    ("a", 0, 1, 4097),
-    ("a", 0, 1, 16_320),
-    ("a", 0, 1, 16_400),
-    (r#"\""#, 0, 256, 4096),
-    (r#"\""#, 0, 257, 1),
-    (r#"\""#, 0, 1, 4097),
-    (r#"\""#, 30, 256, 1),
-    (r#"\""#, 30, 256, 4096),
+/// Of a line: what its keys and its text repeat, the hops to fields in its place, how often each key and the text repeat it, and whether it
+/// is an operation's. They stand about the limits, and the last two about the longest line that is read at once, 16,384 bytes: one is some
+/// 200 bytes shorter, the other one longer.
+const LONG: &[(&str, usize, usize, usize, bool)] = &[
+    ("a", 0, 256, 4096, true),
+    ("a", 0, 257, 1, false),
+    ("a", 0, 1, 4097, false),
+    ("a", 0, 1, 16_320, false),
+    ("a", 0, 1, 16_400, false),
+    (r#"\""#, 0, 256, 4096, true),
+    (r#"\""#, 0, 257, 1, false),
+    (r#"\""#, 0, 1, 4097, false),
+    (r#"\""#, 30, 256, 1, true),
+    (r#"\""#, 30, 256, 4096, true),
 ];
 
 /// What stands in place of a byte of a line.
@@ -151,8 +151,9 @@ fn a_space_in_front_changes_nothing(rt: HostRuntime) -> Result<(), Fail> {
 
 #[test]
 fn a_space_in_front_changes_nothing_at_the_limits(rt: HostRuntime) -> Result<(), Fail> {
-    for (fill, hops, key, text) in LONG {
+    for (fill, hops, key, text, is_lawful) in LONG {
         let line = long_line(rt.alloc(), fill, *hops, *key, *text)?;
+        assert_eq!(rt; read(rt.alloc(), line.as_slice()).is_ok(), *is_lawful);
         is_read_alike(&rt, rt.alloc(), line.as_slice())?;
     }
     Ok(())
