@@ -84,6 +84,21 @@ le_from Less h = refl
 le_from Equal h = refl
 le_from Greater h = absurd (true≢false h)
 
+among_kept : (p : Awaited → Bool) (q : Awaited) (ks : List Awaited) → IsAmong q (filter p ks) → p q ≡ true
+among_kept p q [] m = absurd m
+among_kept p q (k ∷ ks) m = at_test (among_kept p q ks) (p k) refl m
+  where
+    at_test : (IsAmong q (filter p ks) → p q ≡ true) → (b : Bool) → p k ≡ b → IsAmong q (cond b (k ∷ filter p ks) (filter p ks))
+        → p q ≡ true
+    at_test rest true e (inl here) = ap p here ∙ e
+    at_test rest true e (inr there) = rest there
+    at_test rest false e there = rest there
+
+gt_from : (o : Ordering) → (is_le o && true) ≡ true → is_gt o ≡ false
+gt_from Less h = refl
+gt_from Equal h = refl
+gt_from Greater h = absurd (true≢false (sym h))
+
 -- all from an index on, in their order
 module _ (awaits : BTreeSet Awaited) (r : List Awaited) (i : ℕ)
     (is : r ≡ keys_between await_cmp (Included (first_at i)) Unbounded awaits) where
@@ -91,6 +106,13 @@ module _ (awaits : BTreeSet Awaited) (r : List Awaited) (i : ℕ)
   all_from q held from =
       rw is (among_filter (range_contains await_cmp (Included (first_at i)) Unbounded) q awaits.keys held
       (let low = le_from (await_cmp (first_at i) q) (from_first i q from) in ap (λ b. b && true) low))
+
+  -- and no others
+  pub none_before : (q : Awaited) → IsAmong q r → i ≤ q.index
+  none_before q m =
+      rises (first_at i) q
+      (gt_from (await_cmp (first_at i) q)
+      (among_kept (range_contains await_cmp (Included (first_at i)) Unbounded) q awaits.keys (subst (IsAmong q) is m)))
 
   pub in_order : IsOrdered await_cmp awaits → IsStrictlySortedBy await_cmp r
   in_order ordered =
@@ -114,6 +136,14 @@ next_below a q r h (inr m) = ap is_gt (all_below a q r h.0 m)
 behind_next : (a : Awaited) (r : List Awaited) → IsStrictlySortedBy await_cmp (a ∷ r) → IsStrictlySortedBy await_cmp r
 unfolding IsStrictlySortedBy
 behind_next a r h = h.1
+
+-- what is left has its next one, and what is left behind that
+module _ (r rest : List Awaited) (next : Awaited) (is : r ≡ next ∷ rest) where
+  pub first_left : IsAmong next r
+  first_left = subst (IsAmong next) (sym is) (inl refl)
+
+  pub rest_left : (q : Awaited) → IsAmong q rest → IsAmong q r
+  rest_left q m = subst (IsAmong q) (sym is) (inr m)
 
 -- the next one of what is left
 module _ (r rest : List Awaited) (next : Awaited) (is : r ≡ next ∷ rest) (rising : IsStrictlySortedBy await_cmp r) where

@@ -1,7 +1,9 @@
 -- What waits at keys, and which of it is ready.
 pub mod AwaitOrder
 pub mod Blocked
+pub mod FirstReady
 pub mod KeyedOps
 pub mod KeptAwaits
 pub mod KeptOps
+pub mod MovedAwaits
 pub mod Ready

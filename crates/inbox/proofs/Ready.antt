@@ -1,22 +1,19 @@
 -- The first of what waits that is ready.
 use Rattle.std.proofs.Common.{◌≡◌, inl, inr, ℕ, true, false, cond, List, [], ◌∷◌, length, Option, Some}
 use Rattle.std.proofs.Common.{None, refl, sym, ap, ◌∙◌, subst, true≢false}
-use Rattle.std.proofs.Common.{◌⊎◌, slice_get, zero, suc}
 use Rattle.std.proofs.lemmas.Bool.{false_from_ne_true}
-use Rattle.std.specs.BTreeSet.{BTreeSet}
 use Rattle.semantics.specs.Ids.{OpId, is_smaller_id}
 use Rattle.semantics.specs.Operations.{Operation}
 use Rattle.semantics.specs.LegalHistory.{IsAmong}
 use Rattle.semantics.specs.Stamped.{Stamped}
 use Rattle.semantics.specs.Faults.{is_ready}
 use Rattle.semantics.specs.Drain.{first_ready}
-use Rattle.semantics.proofs.SkipOrder.{not_back, not_itself}
 use Rattle.semantics.proofs.Waiting.{none_ready as none_waits, ready_first}
 use Rattle.operation.specs.declared.op.Op.{Op}
 use Rattle.operation.specs.Meanings.{stamped_of}
 use Rattle.slab.specs.Slab.{Slab, get}
-use Rattle.inbox.specs.declared.awaited.Awaited.{Awaited}
-use Rattle.inbox.specs.Awaiting.{AreThisWide, IsAwaiting}
+use Rattle.inbox.specs.declared.waits.Waits.{Waits}
+use Rattle.inbox.specs.Awaiting.{AreThisWide}
 use Rattle.inbox.specs.Inboxes.{AreAsWide, AreAtKeys, AreNotReady, AreRising, IsLeastReady, IsStored, ops_at, waiting_in}
 use Rattle.inbox.proofs.KeyedOps.{found, ops_at-first}
 
@@ -66,45 +63,7 @@ least_first H table ops o rising least = at_first (first_ready H (waiting_in tab
               ∙ least.least p.0 p.1 (ap (is_ready H) (sym p.2) ∙ it.1)))
         ]
 
--- the first ready one is the least
-pub first_is_least : (H : List Operation) (table : List ℕ) (ops : List Op) (o : Op) → AreRising ops → IsAmong o ops
-    → first_ready H (waiting_in table ops) ≡ Some (stamped_of table o) → IsLeastReady H table ops o
-first_is_least H table ops o rising among first = record {
-  waits = among;
-  ready = it.1;
-  least = λ p m ready. least p (it.2 (stamped_of table p) (among_stamped table ops p m) ready);
-}
-  where
-    it : IsAmong (stamped_of table o) (waiting_in table ops) × (is_ready H (stamped_of table o) ≡ true)
-        × ((x : Stamped) → IsAmong x (waiting_in table ops) → is_ready H x ≡ true
-        → (x ≡ stamped_of table o) ⊎ (is_smaller_id o.id x.id ≡ true))
-    it = ready_first H (waiting_in table ops) (rising table) (stamped_of table o) first
-
-    least : (p : Op) → (stamped_of table p ≡ stamped_of table o) ⊎ (is_smaller_id o.id p.id ≡ true) → is_smaller_id p.id o.id ≡ false
-    least p (inl e) = ap (λ (s : Stamped). is_smaller_id s.id o.id) e ∙ not_itself o.id
-    least p (inr smaller) = not_back o.id p.id smaller
-
 -- ---- what stands at keys
-
--- something stands at each key
-pub stands_at : (s : Slab Op) (es : List (OpId × ℕ)) (i : ℕ) (e : OpId × ℕ) → AreAtKeys s es → slice_get es i ≡ Some e
-    → None ≡ get s e.1 → ⊥
-stands_at s [] i e h there none = absurd (let no : ⊥ = cc in no)
-stands_at s (x ∷ es) zero e h there none =
-    let same : x ≡ e = cc in
-    let here : get s e.1 ≡ Some h.0.0 = ap (λ (y : OpId × ℕ). get s y.1) (sym same) ∙ h.0.1 in
-    absurd (let no : ⊥ = cc in no)
-stands_at s (x ∷ es) (suc i) e h there none = stands_at s es i e h.1 there none
-
--- where what stands at the first key is ready, it is the first
-head_first : (H : List Operation) (table : List ℕ) (s : Slab Op) (es : List (OpId × ℕ)) (e : OpId × ℕ) (o : Op) → AreAtKeys s es
-    → slice_get es 0 ≡ Some e → get s e.1 ≡ Some o → is_ready H (stamped_of table o) ≡ true
-    → first_ready H (waiting_in table (ops_at s es)) ≡ Some (stamped_of table o)
-head_first H table s [] e o h there stands ready = absurd (let no : ⊥ = cc in no)
-head_first H table s (x ∷ es) e o h there stands ready =
-    let same : x ≡ e = cc in
-    ap (λ ops. first_ready H (waiting_in table ops)) (ops_at-first s x es o (ap (λ (y : OpId × ℕ). get s y.1) same ∙ stands))
-    ∙ ap (λ b. cond b (Some (stamped_of table o)) (first_ready H (waiting_in table (ops_at s es)))) ready
 
 -- each operation stands at a key
 key_of : (s : Slab Op) (es : List (OpId × ℕ)) → AreAtKeys s es → (o : Op) → IsAmong o (ops_at s es) → (k : ℕ) × (get s k ≡ Some o)
@@ -115,8 +74,7 @@ key_of s (e ∷ es) h o m = elim (subst (IsAmong o) (ops_at-first s e es h.0.0 h
 ]
 
 -- these are what an inbox keeps, and the operations in it
-module _ (s : Slab Op) (es : List (OpId × ℕ)) (awaits : BTreeSet Awaited) (ops : List Op) (h : IsStored s es awaits)
-    (are : ops_at s es ≡ ops) where
+module _ (s : Slab Op) (es : List (OpId × ℕ)) (w : Waits) (ops : List Op) (h : IsStored s es w) (are : ops_at s es ≡ ops) where
   -- what stands at a key is one of them
   among_at : (k : ℕ) (o : Op) → get s k ≡ Some o → IsAmong o ops
   among_at k o stands =
@@ -128,31 +86,17 @@ module _ (s : Slab Op) (es : List (OpId × ℕ)) (awaits : BTreeSet Awaited) (op
   wide_at table wide k o stands = wide o (among_at k o stands)
 
   module _ (H : List Operation) (table : List ℕ) where
-    -- where what stands at the first key is ready, it is the first, and the least
-    pub head_is_first : (e : OpId × ℕ) (o : Op) → slice_get es 0 ≡ Some e → get s e.1 ≡ Some o → is_ready H (stamped_of table o) ≡ true
-        → first_ready H (waiting_in table ops) ≡ Some (stamped_of table o)
-    head_is_first e o there stands ready =
-        ap (λ os. first_ready H (waiting_in table os)) (sym are) ∙ head_first H table s es e o h.at_keys there stands ready
-
-    pub head_is_least : (e : OpId × ℕ) (o : Op) → slice_get es 0 ≡ Some e → get s e.1 ≡ Some o → is_ready H (stamped_of table o) ≡ true
-        → IsLeastReady H table ops o
-    head_is_least e o there stands ready =
-        first_is_least H table ops o (subst AreRising are h.rising) (among_at e.1 o stands) (head_is_first e o there stands ready)
-
     -- where nothing at a key is ready, none of them is
-    pub none_ready : ((k : ℕ) (o : Op) → get s k ≡ Some o → IsAwaiting awaits k o → is_ready H (stamped_of table o) ≡ true → ⊥)
-        → AreNotReady H table ops
+    pub none_ready : ((k : ℕ) (o : Op) → get s k ≡ Some o → is_ready H (stamped_of table o) ≡ true → ⊥) → AreNotReady H table ops
     none_ready none o m = false_from_ne_true (is_ready H (stamped_of table o))
-        (let at = key_of s es h.at_keys o (subst (IsAmong o) (sym are) m) in none at.0 o at.1 (h.awaiting.each at.0 o at.1))
+        (let at = key_of s es h.at_keys o (subst (IsAmong o) (sym are) m) in none at.0 o at.1)
 
     -- where nothing ready at a key is smaller than what stands here, that is the least
     pub least_ready : (k : ℕ) (o : Op) → get s k ≡ Some o → is_ready H (stamped_of table o) ≡ true
-        → ((n : ℕ) (p : Op) → get s n ≡ Some p → IsAwaiting awaits n p → is_ready H (stamped_of table p) ≡ true
-        → is_smaller_id p.id o.id ≡ false)
+        → ((n : ℕ) (p : Op) → get s n ≡ Some p → is_ready H (stamped_of table p) ≡ true → is_smaller_id p.id o.id ≡ false)
         → IsLeastReady H table ops o
     least_ready k o stands ready least = record {
       waits = among_at k o stands;
       ready = ready;
-      least = λ p m r.
-          let at = key_of s es h.at_keys p (subst (IsAmong p) (sym are) m) in least at.0 p at.1 (h.awaiting.each at.0 p at.1) r;
+      least = λ p m r. let at = key_of s es h.at_keys p (subst (IsAmong p) (sym are) m) in least at.0 p at.1 r;
     }

@@ -15,8 +15,7 @@ use Rattle.operation.specs.declared.command.Delivered.TheVariants.{Known, Kept}
 use Rattle.operation.specs.Alone.{alone_fault_of_op}
 use Rattle.operation.specs.Meanings.{stamped_of}
 use Rattle.slab.specs.Slab.{Slab, get}
-use Rattle.std.specs.BTreeSet.{BTreeSet}
-use Rattle.inbox.specs.declared.awaited.Awaited.{Awaited}
+use Rattle.inbox.specs.declared.waits.Waits.{Waits}
 use Rattle.inbox.specs.Awaiting.{AreAwaiting}
 
 -- no fault of these can be seen without the history
@@ -65,7 +64,7 @@ AreAtKeys s [] = ⊤
 AreAtKeys s (e ∷ es) = ((o : Op) × (get s e.1 ≡ Some o) × (o.id ≡ e.0)) × AreAtKeys s es
 
 -- what an inbox keeps
-pub record IsStored (s : Slab Op) (entries : List (OpId × ℕ)) (awaits : BTreeSet Awaited) : Type 0 where
+pub record IsStored (s : Slab Op) (entries : List (OpId × ℕ)) (w : Waits) : Type 0 where
   pub at_keys : AreAtKeys s entries
   pub rising : AreRising (ops_at s entries)
-  pub awaiting : AreAwaiting s entries awaits
+  pub awaiting : AreAwaiting s entries w

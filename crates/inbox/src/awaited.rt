@@ -1,23 +1,24 @@
-//! The counters that waiting operations wait for.
+//! Waiting operations, and the counters that they wait for.
 
-ghost use Rattle.std.specs.Prelude.{◌≡◌, ◌≢◌, ◌<◌, length, true, IsTrue, IsFalse, option_copied};
+ghost use Rattle.std.specs.Prelude.{◌≡◌, ◌≢◌, ◌<◌, ◌≤◌, ℕ, length, true, IsTrue, IsFalse, IfSome, IfNone, option_copied, slice_index};
 ghost use Rattle.std.specs.BTreeSet.{contains};
-ghost use Rattle.slab.specs.Slab.{get};
-ghost use Rattle.inbox.specs.Awaiting.{await_cmp, awaited_at, AreSingle, IsAwaiting};
+ghost use Rattle.slab.specs.Slab.{SameValues, get};
+ghost use Rattle.inbox.specs.Awaiting.{await_cmp, awaited_at, seen_at, AreSingle, IsAhead, IsAwaiting};
 ghost use Rattle.inbox.specs.declared.awaited.Awaited.{Awaited as AnAwaited};
 
-use document::Document;
+use ids::ReplicaTable;
 use operation::{Op, Shared};
 use slab::Slab;
 use std::alloc::Global;
 use std::collections::BTreeSet;
 use std::marker::Model;
+use version::VersionVector;
 
 /// An operation that waits. Contracts see the operation.
 #[derive(Debug, Drop)]
 pub struct Waiting {
     op: Shared<Op>,
-    /// The index of the counter of its vector that it waits for.
+    /// The index of the counter of its vector that it waits for. Only a hint: where the operation is entered is searched for anyway.
     index: usize,
 }
 
@@ -54,6 +55,13 @@ impl Waiting {
     {
         self.op
     }
+
+    /// Notes that it waits for the counter at another index.
+    fn set_index(&mut self, index: usize)
+        ensures { self.new ≡ self.old }
+    {
+        self.index = index;
+    }
 }
 
 /// The operation at a key of the slab, if there is one.
@@ -61,6 +69,15 @@ pub fn op_at(ops: &Slab<Waiting>, key: usize) -> Option<&Shared<Op>>
     ensures { option_copied result ≡ get ops.now key }
 {
     ops.get(key).map(Waiting::op)
+}
+
+/// Notes that what stands at a key of the slab waits for the counter at another index of its vector.
+pub fn set_index(ops: &mut Slab<Waiting>, key: usize, index: usize)
+    ensures { SameValues ops.old ops.new }
+{
+    if let Some(waiting) = ops.get_mut(key) {
+        waiting.set_index(index);
+    }
 }
 
 /// A counter of an operation's vector: until that much is applied of the replica at this index, the operation isn't ready. Rises
@@ -73,25 +90,74 @@ pub struct Awaited {
     pub key: usize,
 }
 
-/// Returns the index of a counter of the vector that isn't applied yet, or 0 if the operation is ready. That of its own replica
-/// comes first: each operation of an honest replica names the one before it, so of all that wait at most one doesn't wait for that.
-pub fn awaited_index(op: &Op, document: &Document) -> usize
-    requires { length op.now.deps ≡ length document.now.table }
-    ensures { result < length op.now.deps }
+/// How much was seen of the replica at an index: 0 where nothing was.
+pub fn seen_at(seen: &Option<VersionVector>, index: usize) -> u64
+    ensures { result ≡ seen_at seen.now index }
 {
-    let applied = document.applied();
-    let width = document.table().len();
-    if let Some(own) = document.table().index_of(op.id.replica) {
-        if op.deps.get(own) > applied.get(own) {
-            return own;
+    match seen {
+        Some(seen) if index < seen.width() => seen.get(index),
+        _ => 0,
+    }
+}
+
+/// Returns the index of a counter of the operation's vector that is neither applied nor seen, if there is one. That of its own replica
+/// comes first: each operation of an honest replica names the one before it, so of all that wait at most one doesn't wait for that.
+pub fn awaited_index(
+    op: &Op,
+    table: &ReplicaTable,
+    applied: &VersionVector,
+    seen: &Option<VersionVector>,
+) -> Option<usize>
+    requires width { length op.now.deps ≡ length table.now }
+    requires applied { length applied.now ≡ length table.now }
+    ensures { IfSome result (λ i. IsAhead applied.now seen.now op.now i) }
+{
+    if let Some(own) = table.index_of(op.id.replica) {
+        if is_ahead(op, own, applied, seen) {
+            return Some(own);
         }
     }
-    for index in 0..width {
-        if op.deps.get(index) > applied.get(index) {
-            return index;
+    for index in 0..applied.width() {
+        if is_ahead(op, index, applied, seen) {
+            return Some(index);
         }
     }
-    0
+    None
+}
+
+/// Whether the counter at an index of the operation's vector is neither applied nor seen.
+fn is_ahead(op: &Op, index: usize, applied: &VersionVector, seen: &Option<VersionVector>) -> bool
+    requires within { index < length op.now.deps }
+    requires applied { length applied.now ≡ length op.now.deps }
+    ensures { IsTrue result → IsAhead applied.now seen.now op.now index }
+{
+    let counter = op.deps.get(index);
+    counter > applied.get(index) && counter > seen_at(seen, index)
+}
+
+/// The first that waits for a counter of the replica at this index which is applied, if there is one. One search.
+pub fn first_met(
+    awaits: &BTreeSet<Awaited>,
+    applied: &VersionVector,
+    index: usize,
+) -> Option<Awaited>
+    requires { index < length applied.now }
+    ensures some { IfSome result
+        (λ q. (contains await_cmp awaits.now q ≡ true) × (q.index ≡ index) × (q.counter ≤ slice_index applied.now index)) }
+    ensures none { IfNone result
+        ((q : AnAwaited) → contains await_cmp awaits.now q ≡ true → q.index ≡ index → slice_index applied.now index < q.counter) }
+{
+    let first = Awaited {
+        index,
+        counter: 0,
+        key: 0,
+    };
+    let awaited = awaits.range(first..).next()?;
+    if awaited.index == index && awaited.counter <= applied.get(index) {
+        Some(*awaited)
+    } else {
+        None
+    }
 }
 
 /// Removes the counter at an index of the operation's vector, where that is what the operation at this key waits for. Returns whether

@@ -12,15 +12,15 @@ ghost use Rattle.operation.specs.declared.command.Delivered.TheVariants.{Kept};
 ghost use Rattle.operation.specs.Meanings.{stamped_of};
 ghost use Rattle.inbox.specs.Inboxes.{answer_to_put, delivered_of, waiting_in, AreAsWide, AreNotReady, AreRising, IsLeastReady};
 
-use crate::awaited::{Awaited, Waiting, awaited_index, forget, op_at};
+use crate::awaited::{Waiting, op_at};
 use crate::smallest::smallest;
+use crate::waits::Waits;
 use columns::Numbers;
 use document::Document;
 use ids::{OpId, Refusal};
 use operation::{Delivered, Op, Shared};
 use slab::Slab;
 use std::alloc::Global;
-use std::collections::BTreeSet;
 use std::marker::Model;
 
 /// The most operations that wait.
@@ -32,8 +32,8 @@ pub struct Inbox {
     ops: Slab<Waiting>,
     /// The slab's key of each operation, by its id.
     keys: Numbers,
-    /// For each operation one counter of its vector: one that wasn't applied when it was put here, unless it was ready then.
-    awaits: BTreeSet<Awaited>,
+    /// What each of them waits for.
+    waits: Waits,
 }
 
 impl Model for Inbox {
@@ -49,7 +49,7 @@ impl Model for Inbox {
 
     ghost view = { λ w. ops_at w.ops w.keys.entries };
 
-    ghost invariant = { λ w. IsStored w.ops w.keys.entries w.awaits };
+    ghost invariant = { λ w. IsStored w.ops w.keys.entries w.waits };
 }
 
 impl Inbox {
@@ -60,7 +60,7 @@ impl Inbox {
         Inbox {
             ops: Slab::new(alloc),
             keys: Numbers::new(alloc),
-            awaits: BTreeSet::new(alloc),
+            waits: Waits::new(alloc),
         }
     }
 
@@ -124,24 +124,31 @@ impl Inbox {
         }
         self.keys.reserve_one()?;
         self.ops.reserve(1)?;
-        let index = awaited_index(&op, document);
-        let awaited = Awaited {
-            index,
-            counter: op.deps.get(index),
-            key: self.ops.vacant_key(),
-        };
-        let Ok(_) = self.awaits.insert(awaited) else {
-            return Err(Refusal::NoMemory);
-        };
+        let key = self.ops.vacant_key();
+        let index = self
+            .waits
+            .enter(&op, key, document.table(), document.applied())?;
         let id = op.id;
         let key = self.ops.insert_reserved(Waiting::new(op, index));
         self.keys.put(id, key);
         Ok(Delivered::Kept)
     }
 
-    /// The smallest operation that is causally ready, if there is one. Looks at the smallest of all first. If that isn't ready, it
-    /// costs a search for each index at which an operation waits for a counter that isn't applied, and a look at each operation
-    /// whose awaited counter is: at most one of each honest replica.
+    /// Moves on what waits for counters that were applied since the last call, so that `smallest_ready` needn't look at it. Changes no
+    /// answer. Costs a look at each counter of what is applied, a search for each that rose, and a few searches for each operation
+    /// that moves: over its life at most once for each replica that it names. Where allocation fails it ends early, and the next
+    /// call goes on.
+    pub fn advance(&mut self, document: &Document)
+        requires width { AreAsWide document.now.table self.old }
+        ensures same { self.new ≡ self.old }
+    {
+        self.waits
+            .advance(&mut self.ops, document.table(), document.applied());
+    }
+
+    /// The smallest operation that is causally ready, if there is one. Costs a look at each counter of what is applied, and a look at
+    /// those that may be ready, up to the first that is. Where counters were applied that `advance` hasn't seen yet, also a search
+    /// for each of these, and a look at each operation that waits for one.
     pub fn smallest_ready(&self, document: &Document) -> Option<&Shared<Op>>
         requires width { AreAsWide document.now.table self.now }
         ensures some { IfSome result (λ o. IsLeastReady (applied document.now.entries) document.now.table self.now o.now) }
@@ -150,17 +157,7 @@ impl Inbox {
             (λ o. stamped_of document.now.table o.now) result
             ≡ first_ready (applied document.now.entries) (waiting_in document.now.table self.now) }
     {
-        if self.keys.len() == 0 {
-            return None;
-        }
-        let first = self.keys.at(0);
-        let Some(op) = op_at(&self.ops, first.1) else {
-            unreachable!()
-        };
-        if document.ready(op) {
-            return Some(op);
-        }
-        let least = smallest(&self.ops, &self.awaits, document)?;
+        let least = smallest(&self.ops, &self.waits, document)?;
         op_at(&self.ops, least.1)
     }
 
@@ -175,7 +172,7 @@ impl Inbox {
         let Some(waiting) = self.ops.try_remove(key) else {
             unreachable!()
         };
-        forget(&mut self.awaits, &waiting, key);
+        self.waits.forget(&waiting, key);
         Some(waiting.into_op())
     }
 }

@@ -4,5 +4,6 @@
 mod awaited;
 mod inbox;
 mod smallest;
+mod waits;
 
 pub use inbox::Inbox;

@@ -1,82 +1,109 @@
 //! The search for the smallest operation that is ready.
 
-ghost use Rattle.std.specs.Prelude.{◌≡◌, ◌≤◌, ◌<◌, ℕ, Some, length, true};
+ghost use Rattle.std.specs.Prelude.{◌≡◌, ◌≤◌, ◌<◌, ℕ, List, Some, length, true, IsTrue};
 ghost use Rattle.std.specs.BTreeSet.{contains};
-ghost use Rattle.semantics.specs.Ids.{OpId as TheId};
+ghost use Rattle.ids.specs.Members.{AreDistinct};
+ghost use Rattle.std.specs.FinMap.{is_sorted};
+ghost use Rattle.semantics.specs.Ids.{OpId as TheId, id_cmp};
 ghost use Rattle.semantics.specs.Entries.{applied};
 ghost use Rattle.inbox.specs.declared.awaited.Awaited.{Awaited as AnAwaited};
 ghost use Rattle.operation.specs.declared.op.Op.{Op as AnOp};
 ghost use Rattle.slab.specs.Slab.{get};
 ghost use Rattle.semantics.specs.Faults.{is_ready};
 ghost use Rattle.operation.specs.Meanings.{stamped_of};
-ghost use Rattle.inbox.specs.Awaiting.{await_cmp, is_above, AreThisWide, IsAwaiting, IsMet, IsPassed, IsReadyAt, IsSettled};
+ghost use Rattle.inbox.specs.Awaiting.{await_cmp, first_of, is_above, is_ready_at, AreAwaiting, AreThisWide, AreUnseen, IsMet, IsPassed, IsReadyAt};
+ghost use Rattle.inbox.specs.Awaiting.{IsSettled};
 
-use crate::awaited::{Awaited, Waiting, op_at};
+use crate::awaited::{Awaited, Waiting, op_at, seen_at};
+use crate::waits::Waits;
+use columns::Numbers;
 use document::Document;
 use ids::OpId;
 use operation::Op;
 use slab::Slab;
 use std::alloc::Global;
-use std::collections::BTreeSet;
 
-/// Returns the smallest operation that is ready, as its id and its key in the slab, if there is one. For each index at which an
-/// operation waits, looks at those whose counter is applied, and passes all the others over by one search.
-pub fn smallest(
-    ops: &Slab<Waiting>,
-    awaits: &BTreeSet<Awaited>,
-    document: &Document,
-) -> Option<(OpId, usize)>
-    requires { AreThisWide (length document.now.table) ops.now }
+/// Returns the smallest operation that is ready, as its id and its key in the slab, if there is one. Looks at those that may be ready,
+/// up to the first that is, and at those that wait for a counter which was applied and not seen yet.
+pub fn smallest(ops: &Slab<Waiting>, waits: &Waits, document: &Document) -> Option<(OpId, usize)>
+    requires wide { AreThisWide (length document.now.table) ops.now }
+    requires there { (es : List (TheId × ℕ)) × AreAwaiting ops.now es waits.now }
     ensures ready { IsReadyAt (applied document.now.entries) document.now.table ops.now result }
-    ensures met { (k : ℕ) (o : AnOp) → get ops.now k ≡ Some o → IsAwaiting awaits.now k o
+    ensures met { (k : ℕ) (o : AnOp) → get ops.now k ≡ Some o
         → is_ready (applied document.now.entries) (stamped_of document.now.table o) ≡ true → IsMet result o.id }
 {
-    let width = document.table().len();
-    let mut least = None;
-    let mut index = 0;
-    while index < width {
-        (least, index) = smallest_from(ops, awaits, document, index, least);
+    let mut least = first_ready(ops, &waits.ready, document);
+    for index in 0..document.table().len() {
+        least = smallest_at(ops, waits, document, index, least);
     }
     least
 }
 
-/// Looks at the operations that wait from this index on, up to the first counter that isn't applied: those behind it at its index
-/// aren't ready either. Returns the smaller one of the smallest before and the smallest of these that is ready, and the next index.
-fn smallest_from(
+/// Returns the first entry whose operation is ready, if there is one: the smallest of these.
+fn first_ready(ops: &Slab<Waiting>, ready: &Numbers, document: &Document) -> Option<(OpId, usize)>
+    requires { AreThisWide (length document.now.table) ops.now }
+    ensures first { result ≡ first_of (applied document.now.entries) document.now.table ops.now ready.now.entries }
+    ensures rising { IsTrue (is_sorted id_cmp ready.now.entries) }
+{
+    for position in 0..ready.len() {
+        let (id, key) = ready.at(position);
+        if is_ready_at(ops, document, key) {
+            return Some((id, key));
+        }
+    }
+    None
+}
+
+/// Whether an operation stands at this key, and is ready.
+fn is_ready_at(ops: &Slab<Waiting>, document: &Document, key: usize) -> bool
+    requires { AreThisWide (length document.now.table) ops.now }
+    ensures { result ≡ is_ready_at (applied document.now.entries) document.now.table ops.now key }
+{
+    match op_at(ops, key) {
+        Some(op) => document.ready(op),
+        None => false,
+    }
+}
+
+/// Looks at the operations that wait for counters of the replica at this index which were applied and not seen yet. Returns the smaller
+/// one of the smallest before and the smallest of these that is ready.
+fn smallest_at(
     ops: &Slab<Waiting>,
-    awaits: &BTreeSet<Awaited>,
+    waits: &Waits,
     document: &Document,
     index: usize,
     before: Option<(OpId, usize)>,
-) -> (Option<(OpId, usize)>, usize)
-    requires width { AreThisWide (length document.now.table) ops.now }
+) -> Option<(OpId, usize)>
+    requires distinct { AreDistinct document.now.table }
+    requires wide { AreThisWide (length document.now.table) ops.now }
+    requires unseen { AreUnseen waits.now }
     requires ready { IsReadyAt (applied document.now.entries) document.now.table ops.now before }
     requires index { index < length document.now.table }
-    ensures ready { IsReadyAt (applied document.now.entries) document.now.table ops.now result.0 }
-    ensures met { (a : TheId) → IsMet before a → IsMet result.0 a }
-    ensures next { index < result.1 }
-    ensures passed { (q : AnAwaited) → contains await_cmp awaits.now q ≡ true → index ≤ q.index → q.index < result.1
-        → IsPassed (applied document.now.entries) document.now.table ops.now result.0 q }
+    ensures ready { IsReadyAt (applied document.now.entries) document.now.table ops.now result }
+    ensures met { (a : TheId) → IsMet before a → IsMet result a }
+    ensures passed { (q : AnAwaited) → contains await_cmp waits.now.awaits q ≡ true → q.index ≡ index
+        → IsPassed (applied document.now.entries) document.now.table ops.now result q }
 {
-    let applied = document.applied();
-    let width = document.table().len();
+    let counter = document.applied().get(index);
+    if counter <= seen_at(&waits.seen, index) {
+        return before;
+    }
     let first = Awaited {
         index,
         counter: 0,
         key: 0,
     };
     let mut least = before;
-    for awaited in awaits.range(first..) {
-        let at = awaited.index;
-        if at >= width {
-            return (least, width);
+    for awaited in waits.awaits.range(first..) {
+        if awaited.index > index {
+            return least;
         }
-        if awaited.counter > applied.get(at) {
-            return (least, at + 1);
+        if awaited.counter > counter {
+            return least;
         }
         least = smaller(ops, document, least, awaited.key);
     }
-    (least, width)
+    least
 }
 
 /// Returns the smaller one of the smallest before and the operation at this key, if it is ready.

@@ -235,6 +235,7 @@ impl Replica {
         ensures none { result ≡ Ok None → next_of (replica_of self.new) ≡ None }
         ensures next { (a : OpId) → result ≡ Ok (Some a) → (s : Stamped) × (s.id ≡ a) × IsNextReady self.new s }
     {
+        self.advance();
         while let Some(turn) = next_turn(alloc, &mut self.document, &self.inbox)? {
             match turn {
                 Turn::Append(id) => return Ok(Some(id)),
@@ -245,6 +246,13 @@ impl Replica {
             }
         }
         Ok(None)
+    }
+
+    /// Lets the inbox move on what waits for counters that were applied since the last time.
+    fn advance(&mut self)
+        ensures { self.new ≡ self.old }
+    {
+        self.inbox.advance(&self.document);
     }
 
     /// The entries of the history, the oldest first. Takes no memory. What waits is dropped.

@@ -39,6 +39,37 @@ fn what_comes_too_early_waits(rt: HostRuntime) -> Result<(), Fail> {
 }
 
 #[test]
+fn what_waits_for_two_replicas_waits_for_each(rt: HostRuntime) -> Result<(), Fail> {
+    const TURNS: &[Turn<'static>] = &[
+        Turn::Deliver((3, 3), &[2, 0, 1], LINK, KEPT),
+        Turn::Drain(0, 0),
+        Turn::Deliver((1, 3), &[0, 0, 0], LINK, KEPT),
+        Turn::Drain(1, 0),
+        Turn::Deliver((2, 1), &[1, 0, 0], LINK, KEPT),
+        Turn::Drain(1, 0),
+        Turn::Deliver((1, 1), &[0, 0, 0], LINK, KEPT),
+        Turn::Drain(4, 0),
+    ];
+    on_new(&rt, rt.alloc(), 2, TURNS, &[(1, 3), (1, 1), (2, 1), (3, 3)])
+}
+
+#[test]
+fn what_becomes_ready_at_once_comes_by_rising_id(rt: HostRuntime) -> Result<(), Fail> {
+    const TURNS: &[Turn<'static>] = &[
+        Turn::Deliver((3, 3), &[2, 0, 1], LINK, KEPT),
+        Turn::Deliver((2, 3), &[0, 0, 1], LINK, KEPT),
+        Turn::Deliver((2, 1), &[0, 0, 1], LINK, KEPT),
+        Turn::Drain(0, 0),
+        Turn::Deliver((1, 3), &[0, 0, 0], LINK, KEPT),
+        Turn::Next(Some((1, 3))),
+        Turn::Next(Some((2, 1))),
+        Turn::Next(Some((2, 3))),
+        Turn::Drain(3, 1),
+    ];
+    on_new(&rt, rt.alloc(), 2, TURNS, &[(1, 3), (2, 1), (2, 3)])
+}
+
+#[test]
 fn what_waits_or_was_applied_is_known(rt: HostRuntime) -> Result<(), Fail> {
     const TURNS: &[Turn<'static>] = &[
         Turn::Deliver((3, 1), &[2, 0, 0], LINK, KEPT),

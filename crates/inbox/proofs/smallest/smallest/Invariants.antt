@@ -1,16 +1,21 @@
-use Rattle.std.proofs.Common.{◌≡◌, ◌<◌, ◌-◌, true}
+use Rattle.std.proofs.Common.{◌≡◌, ◌<◌, ℕ, Some, true}
+use Rattle.semantics.specs.Ids.{id_cmp}
 use Rattle.semantics.specs.Entries.{applied}
+use Rattle.semantics.specs.Faults.{is_ready}
 use Rattle.std.specs.BTreeSet.{contains}
+use Rattle.std.specs.FinMap.{find}
+use Rattle.slab.specs.Slab.{get}
+use Rattle.operation.specs.declared.op.Op.{Op}
+use Rattle.operation.specs.Meanings.{stamped_of}
 use Rattle.inbox.specs.declared.awaited.Awaited.{Awaited}
-use Rattle.inbox.specs.Awaiting.{await_cmp, IsPassed, IsReadyAt}
+use Rattle.inbox.specs.Awaiting.{await_cmp, IsMet, IsPassed, IsReadyAt}
 use Rattle.inbox.proofs.smallest.smallest.Given as goal
 
 abbrev pub invariant-loop-index : goal.invariant-loop-index
 invariant-loop-index l = record {
   ready : IsReadyAt (applied l.document.entries) l.document.table l.ops l.least;
-  passed : (q : Awaited) → contains await_cmp l.awaits q ≡ true → q.index < l.index
+  may : (k : ℕ) (o : Op) → get l.ops k ≡ Some o → find id_cmp o.id l.waits.ready.entries ≡ Some k
+      → is_ready (applied l.document.entries) (stamped_of l.document.table o) ≡ true → IsMet l.least o.id;
+  passed : (q : Awaited) → contains await_cmp l.waits.awaits q ≡ true → q.index < l.index
       → IsPassed (applied l.document.entries) l.document.table l.ops l.least q;
 }
-
-abbrev pub decreases-loop-index : goal.decreases-loop-index
-decreases-loop-index l = l.width - l.index

@@ -1,62 +1,29 @@
-use Rattle.std.proofs.Common.{true, length}
 use Rattle.std.proofs.Common.{◌≡◌, Bor, Option, Some, None, option_copied, option_map, sym, ap, subst, ◌∙◌}
 use Rattle.semantics.specs.Ids.{is_smaller_id}
 use Rattle.semantics.specs.Entries.{applied}
-use Rattle.semantics.specs.Faults.{is_ready}
 use Rattle.semantics.specs.Stamped.{Stamped}
 use Rattle.operation.specs.declared.op.Op.{Op}
 use Rattle.operation.specs.Meanings.{stamped_of}
 use Rattle.inbox.specs.Inboxes.{AreNotReady, AreRising, IsLeastReady}
 use Rattle.inbox.proofs.KeyedOps.{some_of}
-use Rattle.inbox.proofs.Ready.{head_is_first, head_is_least, least_first, least_ready, none_first, none_ready, stands_at, wide_at}
+use Rattle.inbox.proofs.Ready.{least_first, least_ready, none_first, none_ready, wide_at}
 use Rattle.inbox.proofs.inbox.Inbox.smallest_ready.Goals as goal
 
 pub smallest-requires : goal.smallest-requires
 smallest-requires c =
     let d = c.self.inside in
-    wide_at d.ops d.keys.entries d.awaits c.args.self.now c.self.invariant c.self.view_is c.args.document.now.table c.requires.width
-
--- ---- nothing waits, or the smallest of all is ready
-
-pub unreachable-requires : goal.unreachable-requires
-unreachable-requires c =
-    stands_at c.self.inside.ops c.self.inside.keys.entries _ c.at-first.result c.self.invariant.at_keys c.at-first.ensures
-    c.in_default.ensures
-
-pub ready-requires : goal.ready-requires
-ready-requires c =
-    let d = c.self.inside in
     record {
-      width = ap (λ (o : Op). length o.deps) c.deref.ensures
-          ∙ wide_at d.ops d.keys.entries d.awaits c.args.self.now c.self.invariant c.self.view_is c.args.document.now.table c.requires.width
-          c.at-first.result.1 c.in-Some.op.now (sym c.in-Some.ensures);
+      wide = wide_at d.ops d.keys.entries d.waits c.args.self.now c.self.invariant c.self.view_is c.args.document.now.table
+          c.requires.width;
+      there = (d.keys.entries, c.self.invariant.awaiting);
     }
-
-head_ready : (c : goal.Then-ready)
-    → is_ready (applied c.args.document.now.entries) (stamped_of c.args.document.now.table c.in-Some.op.now) ≡ true
-head_ready c =
-    ap (λ (o : Op). is_ready (applied c.args.document.now.entries) (stamped_of c.args.document.now.table o)) (sym c.deref.ensures)
-    ∙ sym c.ready.ensures ∙ c.if-ready.true
-
-pub returns-then-ready-clause-some : goal.returns-then-ready-clause-some
-returns-then-ready-clause-some c =
-    let d = c.self.inside in
-    head_is_least d.ops d.keys.entries d.awaits c.args.self.now c.self.invariant c.self.view_is (applied c.args.document.now.entries)
-    c.args.document.now.table c.at-first.result c.in-Some.op.now c.at-first.ensures (sym c.in-Some.ensures) (head_ready c)
-
-pub returns-then-ready-clause-first : goal.returns-then-ready-clause-first
-returns-then-ready-clause-first c =
-    let d = c.self.inside in
-    sym
-    (head_is_first d.ops d.keys.entries d.awaits c.args.self.now c.self.invariant c.self.view_is (applied c.args.document.now.entries)
-    c.args.document.now.table c.at-first.result c.in-Some.op.now c.at-first.ensures (sym c.in-Some.ensures) (head_ready c))
 
 -- ---- none is ready
 
 not_ready : (c : goal.After-from_residual) → AreNotReady (applied c.args.document.now.entries) c.args.document.now.table c.args.self.now
 not_ready c =
     let d = c.self.inside in
-    none_ready d.ops d.keys.entries d.awaits c.args.self.now c.self.invariant c.self.view_is (applied c.args.document.now.entries)
+    none_ready d.ops d.keys.entries d.waits c.args.self.now c.self.invariant c.self.view_is (applied c.args.document.now.entries)
     c.args.document.now.table c.in_err-least.ensures.met
 
 pub returns-in_err-least-clause-none : goal.returns-in_err-least-clause-none
@@ -68,20 +35,20 @@ returns-in_err-least-clause-first c = rw c.from_residual.ensures
 
 -- ---- the smallest is ready
 
-least : (c : goal.After-op_at-2)
+least : (c : goal.After-op_at)
     → IsLeastReady (applied c.args.document.now.entries) c.args.document.now.table c.args.self.now c.in_ok-least.ensures.ready.0
 least c =
     let d = c.self.inside in
     let it = c.in_ok-least.ensures.ready in
-    least_ready d.ops d.keys.entries d.awaits c.args.self.now c.self.invariant c.self.view_is (applied c.args.document.now.entries)
+    least_ready d.ops d.keys.entries d.waits c.args.self.now c.self.invariant c.self.view_is (applied c.args.document.now.entries)
     c.args.document.now.table c.in_ok-least.least.1 it.0 it.1 it.3
-    (λ n p stands awaiting ready. ap (is_smaller_id p.id) it.2 ∙ c.in_ok-least.ensures.met n p stands awaiting ready)
+    (λ n p stands ready. ap (is_smaller_id p.id) it.2 ∙ c.in_ok-least.ensures.met n p stands ready)
 
 pub returns-clause-some : goal.returns-clause-some
 returns-clause-some c =
     let it = c.in_ok-least.ensures.ready in
-    some_of (IsLeastReady (applied c.args.document.now.entries) c.args.document.now.table c.args.self.now) c.op_at-2.result it.0
-    (c.op_at-2.ensures ∙ it.1) (least c)
+    some_of (IsLeastReady (applied c.args.document.now.entries) c.args.document.now.table c.args.self.now) c.op_at.result it.0
+    (c.op_at.ensures ∙ it.1) (least c)
 
 mapped : (f : Op → Stamped) (r : Option (Bor Op)) (o : Op) → option_copied r ≡ Some o → option_map (λ x. f x.now) r ≡ Some (f o)
 mapped f None o e = absurd (let no : ⊥ = cc in no)
@@ -90,6 +57,6 @@ mapped f (Some x) o e = ap (λ y. Some (f y)) (let same : x.now ≡ o = cc in sa
 pub returns-clause-first : goal.returns-clause-first
 returns-clause-first c =
     let it = c.in_ok-least.ensures.ready in
-    mapped (stamped_of c.args.document.now.table) c.op_at-2.result it.0 (c.op_at-2.ensures ∙ it.1)
+    mapped (stamped_of c.args.document.now.table) c.op_at.result it.0 (c.op_at.ensures ∙ it.1)
     ∙ sym (least_first (applied c.args.document.now.entries) c.args.document.now.table c.args.self.now it.0
     (subst AreRising c.self.view_is c.self.invariant.rising) (least c))

@@ -1,6 +1,7 @@
-use Rattle.std.proofs.Common.{◌≡◌, ◌∙◌, sym, subst}
+use Rattle.std.proofs.Common.{◌≡◌, ◌∙◌, ap, sym, subst}
 use Rattle.semantics.specs.LegalHistory.{IsAmong}
 use Rattle.operation.specs.declared.op.Op.{Op}
+use Rattle.inbox.specs.Awaiting.{IsForgotten}
 use Rattle.inbox.proofs.KeptOps.{IsWithout, none_out, taken_out}
 use Rattle.inbox.proofs.KeyedOps.{IsFound, found, is_there, not_found}
 use Rattle.inbox.proofs.inbox.Inbox.take.Goals as goal
@@ -8,7 +9,7 @@ use Rattle.inbox.proofs.inbox.Inbox.take.Goals as goal
 -- ---- nothing was found
 
 without : (c : goal.After-from_residual)
-    → IsWithout c.args.id c.args.self.now c.self.inside.ops c.remove.new.self.entries c.self.inside.awaits
+    → IsWithout c.args.id c.args.self.now c.self.inside.ops c.remove.new.self.entries c.self.inside.waits
 without c =
     none_out _ _ _ _ _ _ c.self.view_is c.remove.ensures.entries (sym c.in_err-key.ensures.number) c.self.invariant
 
@@ -33,17 +34,23 @@ unreachable-requires c = is_there c.self.inside.ops c.args.self.now c.args.id c.
 
 pub forget-requires : goal.forget-requires
 forget-requires c = record {
-  held = c.self.invariant.awaiting.each c.in_ok-key.key c.in-Some.waiting (sym c.in-Some.ensures.value);
-  single = c.self.invariant.awaiting.only.single;
+  there = (c.self.inside.ops, c.self.inside.keys.entries, sym c.in-Some.ensures.value, c.self.invariant.awaiting);
 }
 
 at_key : (c : goal.After-into_op) → IsFound c.self.inside.ops c.args.self.now c.args.id c.in_ok-key.key
 at_key c = found _ _ _ _ c.self.invariant.at_keys c.self.view_is _ (sym c.in_ok-key.ensures.number)
 
+-- it is the one that was taken out of the slab
+is_it : (c : goal.After-into_op) → (at_key c).op ≡ c.in-Some.waiting
+is_it c = let f = at_key c in let here = f.at_key in let e = c.in-Some.ensures.value in cc
+
 taken : (c : goal.After-into_op)
-    → IsWithout c.args.id c.args.self.now c.try_remove.new.self c.remove.new.self.entries c.forget.new.awaits
-taken c = taken_out _ _ _ _ _ _ c.self.view_is c.remove.ensures.entries c.self.inside.awaits _ _ (sym c.in_ok-key.ensures.number) (at_key c)
-    c.try_remove.ensures.updates c.forget.ensures.kept c.forget.ensures.gone c.self.invariant
+    → IsWithout c.args.id c.args.self.now c.try_remove.new.self c.remove.new.self.entries c.forget.new.self
+taken c = taken_out _ _ _ _ _ _ c.self.view_is c.remove.ensures.entries c.self.inside.waits _ _ (sym c.in_ok-key.ensures.number) (at_key c)
+    c.try_remove.ensures.updates
+    (subst (λ a. IsForgotten c.self.inside.waits c.forget.new.self a c.in_ok-key.key)
+    (ap (λ (o : Op). o.id) (sym (is_it c)) ∙ (at_key c).id) c.forget.ensures)
+    c.self.invariant
 
 pub invariant_of-self-2 : goal.invariant_of-self-2
 invariant_of-self-2 c = (taken c).stored
@@ -51,8 +58,7 @@ invariant_of-self-2 c = (taken c).stored
 pub returns-clause-some : goal.returns-clause-some
 returns-clause-some c =
     let f = at_key c in
-    let one : f.op ≡ c.in-Some.waiting = (let here = f.at_key in let e = c.in-Some.ensures.value in cc) in
-    subst (λ (o : Op). (o.id ≡ c.args.id) × IsAmong o c.args.self.now) (one ∙ sym c.into_op.ensures) (f.id, f.among)
+    subst (λ (o : Op). (o.id ≡ c.args.id) × IsAmong o c.args.self.now) (is_it c ∙ sym c.into_op.ensures) (f.id, f.among)
 
 pub returns-clause-left : goal.returns-clause-left
 returns-clause-left c = (taken c).left
