@@ -1,6 +1,7 @@
 //! Whether an operation that is ready may follow the history.
 
-ghost use Rattle.std.specs.Prelude.{◌≡◌, ◌<◌, ℕ, None, Some, MatchResult, length};
+ghost use Rattle.std.specs.Prelude.{◌≡◌, ◌<◌, ◌==◌, ℕ, None, Some, MatchResult, length};
+ghost use Rattle.std.specs.Cmp.Lexicographic.{pointwise};
 ghost use Rattle.ids.specs.Members.{AreDistinct};
 ghost use Rattle.semantics.specs.NamedIds.{greatest_counter};
 ghost use Rattle.semantics.specs.Tables.{by_table, component};
@@ -53,15 +54,24 @@ fn breaks_chain(log: &Log, applied: &VersionVector, op: &Op) -> bool
     }
 }
 
+/// Whether the vector names all that was applied. One comparison.
+fn names_all(vector: &VersionVector, applied: &VersionVector) -> bool
+    requires { length vector.now ≡ length applied.now }
+    ensures { result ≡ pointwise (λ a b. a == b) vector.now applied.now }
+{
+    vector == applied
+}
+
 /// Whether the vector names a counter of no operation of the log. One comparison where it is that of all that was applied, as each
 /// vector is where nothing was written apart; else a binary search for each counter.
 fn names_nothing(log: &Log, applied: &VersionVector, vector: &VersionVector) -> bool
     requires distinct { AreDistinct log.now.table }
     requires applied { (p : ℕ) → component log.now.table applied.now p ≡ greatest_counter (operations_in log.now.entries) p }
+    requires beside { length applied.now ≡ length log.now.table }
     requires width { length vector.now ≡ length log.now.table }
     ensures { (s : Stamped) → s.vector ≡ by_table log.now.table vector.now → result ≡ names_nothing (operations_in log.now.entries) s }
 {
-    if vector == applied {
+    if names_all(vector, applied) {
         return false;
     }
     for index in 0..vector.width() {
@@ -90,10 +100,11 @@ fn is_open(log: &Log, applied: &VersionVector, vector: &VersionVector) -> bool
     requires distinct { AreDistinct log.now.table }
     requires applied { (p : ℕ) → component log.now.table applied.now p ≡ greatest_counter (operations_in log.now.entries) p }
     requires legal { IsLegalStamped (stamped_entries log.now.entries) }
+    requires beside { length applied.now ≡ length log.now.table }
     requires width { length vector.now ≡ length log.now.table }
     ensures { result ≡ is_open (stamped_entries log.now.entries) (by_table log.now.table vector.now) }
 {
-    if vector == applied {
+    if names_all(vector, applied) {
         return false;
     }
     for index in 0..vector.width() {

@@ -6,11 +6,11 @@ use Rattle.document.proofs.AllApplied.{all_closed, columns_name_all, same_counte
 use Rattle.document.proofs.ReceivedFaults.{none_opens, open_there}
 use Rattle.document.proofs.check.is_open.Goals as goal
 
-pub returns-then-eq : goal.returns-then-eq
-returns-then-eq c =
+pub returns-then-names_all : goal.returns-then-names_all
+returns-then-names_all c =
     let G = stamped_entries c.args.log.now.entries in
     let table = c.args.log.now.table in
-    let same = same_counters c.args.vector.now c.args.applied.now (sym c.eq.ensures ∙ c.if-eq.true) in
+    let same = same_counters c.args.vector.now c.args.applied.now (sym c.names_all.ensures ∙ c.if-names_all.true) in
     sym (all_closed G (by_table table c.args.vector.now) c.requires.legal
     (columns_name_all (operations_of G) table c.args.vector.now c.args.applied.now c.requires.distinct c.requires.applied same))
 

@@ -7,11 +7,11 @@ use Rattle.document.proofs.AllApplied.{columns_name_all, none_unknown, same_coun
 use Rattle.document.proofs.ReceivedFaults.{all_known, unknown_there}
 use Rattle.document.proofs.check.names_nothing.Goals as goal
 
-pub returns-then-eq : goal.returns-then-eq
-returns-then-eq c = λ s is.
+pub returns-then-names_all : goal.returns-then-names_all
+returns-then-names_all c = λ s is.
     let H = applied c.args.log.now.entries in
     let table = c.args.log.now.table in
-    let same = same_counters c.args.vector.now c.args.applied.now (sym c.eq.ensures ∙ c.if-eq.true) in
+    let same = same_counters c.args.vector.now c.args.applied.now (sym c.names_all.ensures ∙ c.if-names_all.true) in
     sym (none_unknown H (by_table table c.args.vector.now)
     (columns_name_all H table c.args.vector.now c.args.applied.now c.requires.distinct c.requires.applied same))
     ∙ ap (λ v. list_any (λ a. is_of_nobody H v a.replica) v) (sym is)
