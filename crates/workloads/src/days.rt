@@ -75,7 +75,9 @@ fn open_and_play<N: EngineName, R: Wait>(
 {
     let (mut writer, clients, readers) = open::<N>(rt, alloc, parts)?;
     let lines = play_with(rt, alloc, hands, day, &mut writer, clients, readers);
-    let _history = close(rt, writer, Vec::new(alloc)).history;
+    let closed = close(rt, writer, Vec::new(alloc));
+    hands.digest.number(closed.history.len() as u64);
+    hands.digest.number(closed.left);
     lines
 }
 
@@ -109,9 +111,9 @@ fn play_on<N: EngineName, R: Wait>(
     hands: &mut Hands,
     day: &Day,
 ) -> Result<Vec<u8>, Refusal> {
-    let empty = hello(alloc, stage.reader)?;
+    let empty = say_hello(alloc, stage, hands)?;
     stage.take(rt, alloc, hands, day.before)?;
-    let first = hello(alloc, stage.reader)?;
+    let first = say_hello(alloc, stage, hands)?;
     write(rt, alloc, stage, hands, day.work, day.count)?;
     stage.take(rt, alloc, hands, day.after)?;
     if day.shows {
@@ -119,6 +121,16 @@ fn play_on<N: EngineName, R: Wait>(
     }
     let asked = if day.answers_all { &empty } else { &first };
     let lines = answer(alloc, stage.reader, asked.as_slice())?;
-    hands.note_bytes(lines.as_slice());
+    hands.digest.bytes(lines.as_slice());
     Ok(lines)
+}
+
+fn say_hello<N: EngineName>(
+    alloc: Global,
+    stage: &mut Stage<N>,
+    hands: &mut Hands,
+) -> Result<Vec<u8>, Refusal> {
+    let line = hello(alloc, stage.reader)?;
+    hands.digest.bytes(line.as_slice());
+    Ok(line)
 }

@@ -17,6 +17,9 @@ const DEVICES: u32 = 32;
 /// How many operations wait for the one that was lost.
 const WAITING: u32 = 4_000;
 
+/// About how many operations of another engine come in meanwhile.
+const OTHERS: u32 = 10_000;
+
 /// Plays the job of this name; an unknown one is nothing to do.
 pub fn play<R: Wait>(
     rt: &R,
@@ -30,7 +33,7 @@ pub fn play<R: Wait>(
         "apart" => apart(rt, alloc, hands, count),
         "typing" => alone(rt, alloc, hands, Work::Typing, 1, count),
         "saves" => alone(rt, alloc, hands, Work::Saves, 256, count),
-        "lost" => lost(rt, alloc, hands, count),
+        "lost" => lose(rt, alloc, hands, count),
         "devices" => devices(rt, alloc, hands, count),
         _ => Ok(()),
     }
@@ -105,8 +108,16 @@ fn apart<R: Wait>(rt: &R, alloc: Global, hands: &mut Hands, count: u32) -> Resul
     Ok(())
 }
 
+/// Loses a line this many times, each time among new engines.
+fn lose<R: Wait>(rt: &R, alloc: Global, hands: &mut Hands, count: u32) -> Result<(), Refusal> {
+    for _ in 0..count {
+        lose_a_line(rt, alloc, hands)?;
+    }
+    Ok(())
+}
+
 /// The first line of one engine is lost: its later ones wait, while another's operations come in. Then it comes.
-fn lost<R: Wait>(rt: &R, alloc: Global, hands: &mut Hands, count: u32) -> Result<(), Refusal> {
+fn lose_a_line<R: Wait>(rt: &R, alloc: Global, hands: &mut Hands) -> Result<(), Refusal> {
     let waiting = Day {
         own: 2,
         members: 3,
@@ -118,7 +129,7 @@ fn lost<R: Wait>(rt: &R, alloc: Global, hands: &mut Hands, count: u32) -> Result
         own: 3,
         members: 3,
         shows: false,
-        ..day_of(Work::Mixed, 64, count)
+        ..day_of(Work::Mixed, 64, OTHERS)
     };
     let others = play_day(rt, alloc, hands, &going)?;
     let (line, rest) = held.as_slice().split_at(end_of_lines(&held, 1));

@@ -1,7 +1,7 @@
 //! Where the plays write, and the texts that they write.
 
 use crate::draws::Hands;
-use engine::{Expr, Refusal, Val};
+use engine::{Expr, Refusal, Scalar, Val};
 use std::alloc::Global;
 
 /// Lines of notes and values of fields.
@@ -36,12 +36,12 @@ const LEVELS: [&str; 8] = [
     "shortcuts",
 ];
 
-/// A value: mostly a text, else a number, a truth or nothing.
+/// A value: mostly a text, else a number of either sign, a truth or nothing.
 pub fn drawn_value(alloc: Global, hands: &mut Hands) -> Result<Val, Refusal> {
     match hands.below(16) {
-        0 => Ok(Val::Scalar(engine::Scalar::Null)),
-        1 => Ok(Val::Scalar(engine::Scalar::Bool(true))),
-        2 | 3 | 4 => Ok(Val::Scalar(engine::Scalar::Whole(i64::from(hands.below(1_000_000))))),
+        0 => Ok(Val::Scalar(Scalar::Null)),
+        1 => Ok(Val::Scalar(Scalar::Bool(hands.below(2) == 1))),
+        2 | 3 | 4 => Ok(Val::Scalar(Scalar::Whole(i64::from(hands.below(1_000_000)) - 500_000))),
         _ => Val::text(alloc, LINES[hands.below(16) as usize % 16]),
     }
 }

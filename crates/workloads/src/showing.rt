@@ -3,39 +3,30 @@
 use crate::draws::Hands;
 use crate::places::{field, item};
 use crate::stage::Stage;
-use engine::{EngineName, Expr, Key, OpId, Question, Reading, Refusal, Scalar};
+use engine::{EngineName, Expr, Key, Question, Reading, Refusal};
 use std::alloc::Global;
 use std::sync::Wait;
 
 /// How many items stand on a screen.
 const SCREEN: u32 = 50;
 
-/// The values at a place.
+/// Adds a reading to the digest, and returns it.
+fn noted(alloc: Global, hands: &mut Hands, reading: Reading) -> Result<Reading, Refusal> {
+    hands.digest.reading(alloc, &reading)?;
+    Ok(reading)
+}
+
+/// Asks for the values at a place.
 fn show_values<N: EngineName>(
     alloc: Global,
     stage: &mut Stage<N>,
     hands: &mut Hands,
     place: Expr,
 ) -> Result<(), Refusal> {
-    hands.count();
-    match stage.reader.ask(alloc, &Question::Values(place))? {
-        Reading::Values(values) => {
-            note_values(hands, values.as_slice());
-            Ok(())
-        }
+    let reading = stage.reader.ask(alloc, &Question::Values(place))?;
+    match noted(alloc, hands, reading)? {
+        Reading::Values(_) => Ok(()),
         _ => Err(Refusal::NoReading),
-    }
-}
-
-fn note_values(hands: &mut Hands, values: &[(OpId, Scalar)]) {
-    for (id, value) in values {
-        hands.note(id.counter);
-        match value {
-            Scalar::Null => hands.note(1),
-            Scalar::Bool(truth) => hands.note(if *truth { 2 } else { 3 }),
-            Scalar::Whole(whole) => hands.note(whole.unsigned_abs()),
-            Scalar::Text(text) => hands.note_bytes(text.as_str().as_bytes()),
-        }
     }
 }
 
@@ -46,31 +37,22 @@ pub fn count_items<N: EngineName>(
     hands: &mut Hands,
     place: Expr,
 ) -> Result<u32, Refusal> {
-    hands.count();
-    match stage.reader.ask(alloc, &Question::Items(place))? {
-        Reading::Items(items) => {
-            note_ids(hands, items.as_slice());
-            Ok(u32::try_from(items.len()).unwrap_or(u32::MAX))
-        }
+    let reading = stage.reader.ask(alloc, &Question::Items(place))?;
+    match noted(alloc, hands, reading)? {
+        Reading::Items(items) => Ok(u32::try_from(items.len()).unwrap_or(u32::MAX)),
         _ => Err(Refusal::NoReading),
     }
 }
 
-fn note_ids(hands: &mut Hands, ids: &[OpId]) {
-    for id in ids {
-        hands.note(id.counter);
-    }
-}
-
 /// The keys of the map at the place.
-pub fn keys_at<N: EngineName>(
+fn keys_at<N: EngineName>(
     alloc: Global,
     stage: &mut Stage<N>,
     hands: &mut Hands,
     place: Expr,
 ) -> Result<Vec<Key>, Refusal> {
-    hands.count();
-    match stage.reader.ask(alloc, &Question::Keys(place))? {
+    let reading = stage.reader.ask(alloc, &Question::Keys(place))?;
+    match noted(alloc, hands, reading)? {
         Reading::Keys(keys) => Ok(keys),
         _ => Err(Refusal::NoReading),
     }
@@ -143,7 +125,7 @@ fn show_at<N: EngineName>(
     let length = count_items(alloc, stage, hands, place.clone()?)?;
     push_items(places, place, length)?;
     let keys = keys_at(alloc, stage, hands, place.clone()?)?;
-    push_fields(alloc, hands, places, place, keys.as_slice())?;
+    push_fields(alloc, places, place, keys.as_slice())?;
     show_values(alloc, stage, hands, place.clone()?)
 }
 
@@ -157,13 +139,11 @@ fn push_items(places: &mut Vec<Expr>, place: &Expr, length: u32) -> Result<(), R
 
 fn push_fields(
     alloc: Global,
-    hands: &mut Hands,
     places: &mut Vec<Expr>,
     place: &Expr,
     keys: &[Key],
 ) -> Result<(), Refusal> {
     for key in keys {
-        hands.note_bytes(key.as_str().as_bytes());
         let below = place.clone()?.get(alloc, key.as_str())?;
         places.push(below)?;
     }

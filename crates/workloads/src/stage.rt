@@ -44,13 +44,13 @@ impl<N: EngineName> Stage<'_, N> {
         alloc: Global,
         hands: &mut Hands,
     ) -> Result<(), Refusal> {
-        self.step_all(rt, alloc)?;
+        self.step_all(rt, alloc, hands)?;
         for _ in rt.forever() {
             let Some(ticket) = hands.tickets.pop() else {
                 break;
             };
             match self.client.poll(&ticket)? {
-                Some(reply) => hands.note_reply(reply),
+                Some(reply) => hands.digest.reply(&reply),
                 None => return Err(Refusal::NoReading),
             }
         }
@@ -58,11 +58,16 @@ impl<N: EngineName> Stage<'_, N> {
     }
 
     /// Steps until the queue is empty.
-    fn step_all<R: Wait>(&mut self, rt: &R, alloc: Global) -> Result<(), Refusal> {
+    fn step_all<R: Wait>(
+        &mut self,
+        rt: &R,
+        alloc: Global,
+        hands: &mut Hands,
+    ) -> Result<(), Refusal> {
         for _ in rt.forever() {
             match self.writer.step(rt, alloc) {
                 Step::Idle => break,
-                Step::Published(_) => {}
+                Step::Published(count) => hands.digest.number(count as u64),
                 Step::Held => return Err(Refusal::NoMemory),
             }
         }
@@ -91,11 +96,13 @@ impl<N: EngineName> Stage<'_, N> {
         Ok(())
     }
 
-    /// Keeps the tickets of what was received.
+    /// Keeps the tickets of what was received, whose serials and number go into the digest.
     fn keep_received(&mut self, hands: &mut Hands, received: &Received) -> Result<(), Refusal> {
         if let Some((_, refusal)) = received.stopped {
             return Err(refusal);
         }
+        hands.digest.number(received.first_serial);
+        hands.digest.number(received.submitted);
         for number in 0..received.submitted {
             let ticket = self
                 .client
