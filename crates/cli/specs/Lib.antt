@@ -1,4 +1,4 @@
+pub mod Faults
 pub mod Plays
 pub mod Runs
-pub mod Statuses
 pub mod Words

@@ -13,3 +13,7 @@ agreement replicas operations = codes "agree "
 -- the line that says that what was read differs from what was written, or from what another replica shows
 abbrev pub difference : List ℕ
 difference = codes "differ\n"
+
+-- the line that says that a thread waited for too long
+abbrev pub limit : List ℕ
+limit = codes "turn limit\n"

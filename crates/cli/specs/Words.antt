@@ -83,8 +83,3 @@ IsRefusedBy words OutOfRange = (job : Job) → IsJobOf words job → ⊥
 abbrev pub IsOutOfMemory : BadWords → Type 0
 IsOutOfMemory (Refused error) = kind_of error ≡ kind.OutOfMemory
 IsOutOfMemory OutOfRange = ⊥
-
--- help that was asked for
-abbrev pub IsHelp : BadWords → Type 0
-IsHelp (Refused error) = kind_of error ≡ kind.DisplayHelp
-IsHelp OutOfRange = ⊥

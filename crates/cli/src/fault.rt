@@ -1,13 +1,14 @@
 //! Why a run ends without its replies, and the statuses that a run ends with.
 
 ghost use Rattle.std.specs.Prelude.{◌≡◌, ◌≢◌, ◌⊎◌};
+ghost use Rattle.std.specs.Io.KnownBytes.{Appends};
 ghost use Rattle.std.specs.IoError.{error_kind};
-ghost use Rattle.cli.specs.Statuses.{status_of};
+ghost use Rattle.cli.specs.Faults.{line_of, status_of};
 ghost use Rattle.cli.specs.declared.fault.Status.TheVariants.{NotWritten};
 
 use scripts::ScriptError;
-use std::io;
 use std::io::{ErrorKind, Write};
+use std::{fmt, io};
 use thiserror::Error;
 
 /// How a run ended, by the status that the process exits with.
@@ -29,16 +30,32 @@ pub enum Status {
 #[derive(Debug, Drop, Error)]
 pub enum Fault<'a> {
     /// A line of the script is bad, or there was no memory for it.
-    #[error("jdoc: {0}")]
-    Script(#[from] ScriptError),
-    #[error("jdoc: cannot read {0}: {1}")]
-    CannotRead(&'a str, ErrorKind),
-    #[error("jdoc: a word is no text")]
+    Script(ScriptError),
+    /// The file or stream of this name can't be read.
+    CannotRead(&'a str),
+    /// One of the program's words isn't UTF-8.
     BadWord,
-    #[error("jdoc: a number of bench is out of range")]
+    /// A number of `bench` is outside its limits.
     OutOfRange,
-    #[error("jdoc: no memory")]
     NoMemory,
+}
+
+// Written out, since no contract says what a derived one prints.
+impl fmt::Display for Fault<'_> {
+    ghost use Rattle.std.specs.Prelude.{Some};
+    ghost use Rattle.cli.specs.Faults.{fault_text};
+
+    ghost output = { λ fault. Some (fault_text fault) };
+
+    fn fmt<W: fmt::Write>(&self, f: &mut fmt::Formatter<W>) -> fmt::Result {
+        match self {
+            Fault::Script(error) => write!(f, "jdoc: {error}"),
+            Fault::CannotRead(name) => write!(f, "jdoc: cannot read {name}"),
+            Fault::BadWord => f.write_str("jdoc: a word is no text"),
+            Fault::OutOfRange => f.write_str("jdoc: a number of bench is out of range"),
+            Fault::NoMemory => f.write_str("jdoc: no memory"),
+        }
+    }
 }
 
 impl<'a> Fault<'a> {
@@ -47,11 +64,11 @@ impl<'a> Fault<'a> {
     /// The fault of a file or stream of this name that can't be read.
     pub fn of_read(name: &'a str, error: &io::Error) -> Fault<'a>
         ensures memory { error_kind error.now ≡ ErrorKind.OutOfMemory → result ≡ NoMemory }
-        ensures other { error_kind error.now ≢ ErrorKind.OutOfMemory → result ≡ CannotRead name.entry (error_kind error.now) }
+        ensures other { error_kind error.now ≢ ErrorKind.OutOfMemory → result ≡ CannotRead name.entry }
     {
         match error.kind() {
             ErrorKind::OutOfMemory => Fault::NoMemory,
-            kind => Fault::CannotRead(name, kind),
+            _ => Fault::CannotRead(name),
         }
     }
 
@@ -77,9 +94,12 @@ impl<'a> Fault<'a> {
         }
     }
 
-    /// Tells the fault on standard error, and returns the status of the run.
+    /// Tells the fault on standard error, as a line, and returns the status of the run.
     pub fn report<W: Write>(&self, faults: &mut W) -> Status
-        ensures { (result ≡ status_of self.now) ⊎ (result ≡ NotWritten) }
+        ensures status { (result ≡ status_of self.now) ⊎ (result ≡ NotWritten) }
+
+        // Only what holds of known bytes can be said.
+        ensures told { result ≢ NotWritten → Appends (W.contents faults.old) (W.contents faults.new) (line_of self.now) }
     {
         match writeln!(faults, "{self}") {
             Ok(()) => self.status(),

@@ -2,7 +2,9 @@
 
 ghost use Rattle.std.specs.Prelude.{◌≡◌, ◌⊎◌, ◌*◌};
 ghost use Rattle.std.specs.Io.KnownBytes.{Appends};
-ghost use Rattle.cli.specs.Plays.{IsBenchStatus, agreement, difference};
+ghost use Rattle.cli.specs.Faults.{line_of};
+ghost use Rattle.cli.specs.Plays.{IsBenchStatus, agreement, difference, limit};
+ghost use Rattle.cli.specs.declared.fault.Fault.TheVariants as fault;
 ghost use Rattle.cli.specs.declared.fault.Status.TheVariants.{Done, Differ, NoMemory, NotWritten, TurnLimit};
 
 use crate::fault::{Fault, Status};
@@ -15,7 +17,8 @@ use std::sync::Wait;
 use std::thread::Threads;
 
 /// Plays the plan. Prints `agree N replicas M operations` if each thread read back what it wrote and all N engines show the
-/// same in histories of M operations, as many as were submitted, else `differ`. Returns the status that the process exits with.
+/// same in histories of M operations, as many as were submitted, else `differ`. A line of `faults` says that a thread waited for too
+/// long, or that there was no memory. Returns the status that the process exits with.
 pub fn bench<R: Threads + Wait + Sync, O: Write, F: Write>(
     rt: &R,
     alloc: Global,
@@ -31,6 +34,8 @@ pub fn bench<R: Threads + Wait + Sync, O: Write, F: Write>(
     ensures differ { result ≡ 1 → Appends (O.contents out.old) (O.contents out.new) difference }
     ensures silent { (result ≡ 3) ⊎ (result ≡ 4) → O.contents out.new ≡ O.contents out.old }
     ensures no_fault { (result ≡ 0) ⊎ (result ≡ 1) → F.contents faults.new ≡ F.contents faults.old }
+    ensures limit { result ≡ 3 → Appends (F.contents faults.old) (F.contents faults.new) limit }
+    ensures no_memory { result ≡ 4 → Appends (F.contents faults.old) (F.contents faults.new) (line_of fault.NoMemory) }
 {
     match play(rt, alloc, plan) {
         Ok(Verdict::Agree(operations)) => agree(
@@ -62,6 +67,7 @@ fn agree<O: Write, F: Write>(
         → Appends (O.contents out.old) (O.contents out.new) (agreement replicas operations)
         × (F.contents faults.new ≡ F.contents faults.old) }
     ensures silent { result ≡ NoMemory → O.contents out.new ≡ O.contents out.old }
+    ensures no_memory { result ≡ NoMemory → Appends (F.contents faults.old) (F.contents faults.new) (line_of fault.NoMemory) }
 {
     match format!(in alloc; "agree {replicas} replicas {operations} operations\n") {
         Ok(line) => print(out, line.as_bytes()),
@@ -82,7 +88,8 @@ fn differ<O: Write>(out: &mut O) -> Status
 
 /// Tells that a thread waited for too long.
 fn tell_limit<W: Write>(faults: &mut W) -> Status
-    ensures { (result ≡ TurnLimit) ⊎ (result ≡ NotWritten) }
+    ensures status { (result ≡ TurnLimit) ⊎ (result ≡ NotWritten) }
+    ensures told { result ≡ TurnLimit → Appends (W.contents faults.old) (W.contents faults.new) limit }
 {
     match writeln!(faults, "turn limit") {
         Ok(()) => Status::TurnLimit,

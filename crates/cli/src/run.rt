@@ -1,9 +1,11 @@
 //! Runs a script.
 
-ghost use Rattle.std.specs.Prelude.{◌≡◌, ◌⊎◌, IfOk, IfSome, string_bytes};
+ghost use Rattle.std.specs.Prelude.{◌≡◌, ◌⊎◌, IfErr, IfOk, IfSome, string_bytes};
 ghost use Rattle.std.specs.Io.KnownBytes.{Appends};
+ghost use Rattle.cli.specs.declared.fault.Fault.TheVariants as fault;
 ghost use Rattle.cli.specs.declared.fault.Status.TheVariants.{Done, NotWritten};
-ghost use Rattle.cli.specs.Runs.{AppendsReplies, IsStatus};
+ghost use Rattle.cli.specs.Faults.{line_of};
+ghost use Rattle.cli.specs.Runs.{AppendsReplies, IsFaultOf, IsStatus, TellsBadScript};
 ghost use Rattle.scripts.specs.Runs.{IsReplyText};
 
 use crate::fault::{Fault, Status};
@@ -11,8 +13,8 @@ use scripts::replies_to;
 use std::alloc::Global;
 use std::io::{Read, Write};
 
-/// Reads a whole script, checks each line, runs its steps, and then prints the replies. The name is told if the script can't be
-/// read. Returns the status that the process exits with.
+/// Reads a whole script, checks each line, runs its steps, and then prints the replies. A line of `faults` names a script that can't
+/// be read, or the first bad line. Returns the status that the process exits with.
 pub fn run_script<R: Read, O: Write, F: Write>(
     alloc: Global,
     name: &str,
@@ -26,6 +28,9 @@ pub fn run_script<R: Read, O: Write, F: Write>(
     ensures done { result ≡ 0 → AppendsReplies (R.remaining reader.old) (O.contents out.old) (O.contents out.new) }
     ensures silent { (result ≡ 2) ⊎ (result ≡ 4) → O.contents out.new ≡ O.contents out.old }
     ensures no_fault { result ≡ 0 → F.contents faults.new ≡ F.contents faults.old }
+    ensures bad { result ≡ 2
+        → TellsBadScript name.now (R.remaining reader.old) (F.contents faults.old) (F.contents faults.new) }
+    ensures no_memory { result ≡ 4 → Appends (F.contents faults.old) (F.contents faults.new) (line_of fault.NoMemory) }
 {
     match replies_of(alloc, name, reader) {
         Ok(replies) => print(out, replies.as_bytes()) as u8,
@@ -51,10 +56,14 @@ fn replies_of<'a, R: Read>(
     reader: &mut R,
 ) -> Result<String, Fault<'a>>
     ensures ok { IfOk result (λ s. IfSome (R.remaining reader.old) (λ bytes. IsReplyText bytes (string_bytes s))) }
+    ensures err { IfErr result (IsFaultOf name.entry.now (R.remaining reader.old)) }
 {
     let mut bytes = Vec::new(alloc);
     if let Err(error) = reader.read_to_end(&mut bytes) {
         return Err(Fault::of_read(name, &error));
     }
-    Ok(replies_to(alloc, bytes.as_slice())?)
+    match replies_to(alloc, bytes.as_slice()) {
+        Ok(replies) => Ok(replies),
+        Err(error) => Err(Fault::Script(error)),
+    }
 }

@@ -1,11 +1,12 @@
 //! The program's words: its arguments.
 
 ghost use Rattle.std.specs.Prelude.{◌≡◌, ◌≢◌, ◌⊎◌, ◌<◌, ℕ, true, false, None, IfOk, IfErr, IfSome, map};
+ghost use Rattle.std.specs.Io.KnownBytes.{Appends};
 ghost use Rattle.clap.specs.Words.{app_of, found_of, has_subcommand, kind_of, rows_of, rule_of, subcommand_of, subcommand_rows_of};
 ghost use Rattle.clap.specs.Faults.{fault_of};
 ghost use Rattle.clap.specs.declared.builder.command.Command.TheViews.{out-Command as fields_of};
 ghost use Rattle.clap.specs.Kinds.{FailsBy};
-ghost use Rattle.cli.specs.declared.fault.Status.TheVariants.{BadInput, Done, NoMemory, NotWritten};
+ghost use Rattle.cli.specs.declared.fault.Status.TheVariants.{BadInput, NoMemory, NotWritten};
 
 use crate::fault::{Fault, Status};
 use bench::Plan;
@@ -27,14 +28,16 @@ pub enum Job<'a> {
 /// Why the words ask for nothing.
 #[derive(Debug, Drop)]
 pub enum BadWords {
-    /// What `clap` says of them, help that they ask for included.
+    /// What `clap` answers to them, help that they ask for included.
     Refused(Error),
     /// A number of `bench` is outside its limits.
     OutOfRange,
 }
 
-ghost use Rattle.cli.specs.Words.{IsHelp, IsJobOf, IsNumber, IsOutOfMemory, IsPlanOf, IsRefusedBy, bench_app, jdoc_app, number_rule};
+ghost use Rattle.cli.specs.Faults.{line_of};
+ghost use Rattle.cli.specs.Words.{IsJobOf, IsNumber, IsOutOfMemory, IsPlanOf, IsRefusedBy, bench_app, jdoc_app, number_rule};
 ghost use Rattle.cli.specs.Words.{queue_rule, run_app};
+ghost use Rattle.cli.specs.declared.fault.Fault.TheVariants as fault;
 ghost use Rattle.cli.specs.declared.words.BadWords.TheVariants.{Refused as RefusedBy};
 
 impl From<Error> for BadWords {
@@ -161,40 +164,37 @@ fn queue_option<'a>(alloc: Global) -> Arg<'a>
 }
 
 impl BadWords {
-    /// Tells the help that the words ask for on standard output, or what is wrong with them on standard error. Returns the status of
-    /// the run.
-    pub fn report<O: Write, W: Write>(&self, out: &mut O, faults: &mut W) -> Status
-        ensures help { IsHelp self.now → (result ≡ Done) ⊎ (result ≡ NotWritten) }
+    /// Prints on standard error what `clap` answers, help included, or that there was no memory. Returns the status of the run.
+    pub fn report<W: Write>(&self, faults: &mut W) -> Status
         ensures memory { IsOutOfMemory self.now → (result ≡ NoMemory) ⊎ (result ≡ NotWritten) }
-        ensures other { (IsHelp self.now → ⊥) → (IsOutOfMemory self.now → ⊥) → (result ≡ BadInput) ⊎ (result ≡ NotWritten) }
+        ensures other { (IsOutOfMemory self.now → ⊥) → (result ≡ BadInput) ⊎ (result ≡ NotWritten) }
+        ensures no_memory { result ≡ NoMemory → Appends (W.contents faults.old) (W.contents faults.new) (line_of fault.NoMemory) }
     {
         match self {
-            BadWords::Refused(error) => report(error, out, faults),
+            BadWords::Refused(error) => report(error, faults),
             BadWords::OutOfRange => Fault::OutOfRange.report(faults),
         }
     }
 }
 
-/// Tells what `clap` says, and returns the status of the run.
-fn report<O: Write, W: Write>(error: &Error, out: &mut O, faults: &mut W) -> Status
-    ensures help { kind_of error.now ≡ ErrorKind.DisplayHelp → (result ≡ Done) ⊎ (result ≡ NotWritten) }
+/// Prints what `clap` answers, or that there was no memory, and returns the status of the run.
+fn report<W: Write>(error: &Error, faults: &mut W) -> Status
     ensures memory { kind_of error.now ≡ ErrorKind.OutOfMemory → (result ≡ NoMemory) ⊎ (result ≡ NotWritten) }
-    ensures other { kind_of error.now ≢ ErrorKind.DisplayHelp → kind_of error.now ≢ ErrorKind.OutOfMemory
-        → (result ≡ BadInput) ⊎ (result ≡ NotWritten) }
+    ensures other { kind_of error.now ≢ ErrorKind.OutOfMemory → (result ≡ BadInput) ⊎ (result ≡ NotWritten) }
+    ensures no_memory { result ≡ NoMemory → Appends (W.contents faults.old) (W.contents faults.new) (line_of fault.NoMemory) }
 {
     match error.kind() {
-        ErrorKind::DisplayHelp => tell(error, out, Status::Done),
         ErrorKind::OutOfMemory => Fault::NoMemory.report(faults),
-        _ => tell(error, faults, Status::BadInput),
+        _ => tell(error, faults),
     }
 }
 
-/// Writes the text of an error, and returns this status where that was written.
-fn tell<W: Write>(error: &Error, to: &mut W, status: Status) -> Status
-    ensures { (result ≡ status) ⊎ (result ≡ NotWritten) }
+/// Prints what `clap` answers; the words are bad, or the text wasn't written.
+fn tell<W: Write>(error: &Error, faults: &mut W) -> Status
+    ensures { (result ≡ BadInput) ⊎ (result ≡ NotWritten) }
 {
-    if write!(to, "{error}").is_err() || to.flush().is_err() {
+    if write!(faults, "{error}").is_err() || faults.flush().is_err() {
         return Status::NotWritten;
     }
-    status
+    Status::BadInput
 }

@@ -39,7 +39,7 @@ fn start<R: Threads + Wait + Sync>(rt: &HostRuntime, threads: &R, owned: &[Strin
         Ok(Job::Run { script: None }) => run_input(rt),
         Ok(Job::Run { script: Some(name) }) => run_file(rt, name),
         Ok(Job::Bench(plan)) => bench(threads, rt.alloc(), plan, &mut rt.stdout(), &mut faults),
-        Err(why) => why.report(&mut rt.stdout(), &mut faults) as u8,
+        Err(why) => why.report(&mut faults) as u8,
     }
 }
 

@@ -1,7 +1,8 @@
 -- What is told of a bad script.
-use Rattle.std.specs.Prelude.{◌≡◌, ◌⊎◌, ℕ, Result, Err}
+use Rattle.std.specs.Prelude.{◌≡◌, ◌⊎◌, ◌++◌, ℕ, List, Result, Err, codes, decimal}
 use Rattle.ids.specs.declared.refusal.Refusal.{Refusal}
 use Rattle.ids.specs.declared.refusal.Refusal.TheVariants.{NoMemory}
+use Rattle.ids.specs.Refusals.{number_of}
 use Rattle.scripts.specs.declared.error.ScriptError.{ScriptError}
 use Rattle.scripts.specs.declared.error.ScriptError.TheVariants as error
 use Rattle.json_lines.specs.Lines.{Bad}
@@ -10,6 +11,11 @@ use Rattle.json_lines.specs.Lines.{Bad}
 abbrev pub error_of : ℕ → Refusal → ScriptError
 error_of line NoMemory = error.NoMemory
 error_of line why = error.BadLine line why
+
+-- the line's number and the number of the refusal, as in `line 3: E22`
+abbrev pub error_text : ScriptError → List ℕ
+error_text (error.BadLine line why) = codes "line " ++ (decimal line ++ (codes ": E" ++ decimal (number_of why)))
+error_text error.NoMemory = codes "no memory"
 
 -- the error is that of the first bad line, or a failed allocation
 abbrev pub IsErrorOf : {T : Type 0} → Result T Bad → ScriptError → Type 0

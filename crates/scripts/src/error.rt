@@ -5,16 +5,33 @@ ghost use Rattle.scripts.specs.Errors.{error_of};
 
 use ids::Refusal;
 use std::alloc::{AllocError, AllocFailed};
+use std::fmt;
 use thiserror::Error;
 
 /// Why a script has no replies.
 #[derive(Debug, Drop, Error)]
 pub enum ScriptError {
     /// The first line that is bad, counted from 1, and why.
-    #[error("line {line}: {refusal} (docs/FORMATS.md, 'Bad lines')")]
     BadLine { line: u64, refusal: Refusal },
-    #[error("no memory")]
     NoMemory,
+}
+
+// Written out, since no contract says what a derived one prints.
+impl fmt::Display for ScriptError {
+    ghost use Rattle.std.specs.Prelude.{Some};
+    ghost use Rattle.scripts.specs.Errors.{error_text};
+
+    ghost output = { λ e. Some (error_text e) };
+
+    fn fmt<W: fmt::Write>(&self, f: &mut fmt::Formatter<W>) -> fmt::Result {
+        match self {
+            ScriptError::BadLine { line, refusal } => {
+                let number = refusal.number();
+                write!(f, "line {line}: E{number}")
+            }
+            ScriptError::NoMemory => f.write_str("no memory"),
+        }
+    }
 }
 
 impl ScriptError {

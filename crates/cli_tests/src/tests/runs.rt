@@ -27,9 +27,18 @@ const RUNS: &[Run] = &[
 ["push",0,0,["assign",["a"],1.5]]
 "#,
         "",
-        "jdoc: line 3: E21 (docs/FORMATS.md, 'Bad lines')\n",
+        "jdoc: line 3: E21\n",
         2,
     ),
+    (
+        r#"["world",[[1,[1],1,1,4,4,10]]]
+["push"
+"#,
+        "",
+        "jdoc: line 2: E22\n",
+        2,
+    ),
+    ("", "", "jdoc: line 1: E22\n", 2),
 ];
 
 /// Asserts how the script's run ends.

@@ -64,27 +64,12 @@ const BROKEN: &[Broken] = &[
     (
         0,
         ErrorKind::PermissionDenied,
-        "jdoc: cannot read a b/c: permission denied\n",
+        "jdoc: cannot read a b/c\n",
         2,
     ),
-    (
-        13,
-        ErrorKind::IsADirectory,
-        "jdoc: cannot read a b/c: is a directory\n",
-        2,
-    ),
-    (
-        31,
-        ErrorKind::Other,
-        "jdoc: cannot read a b/c: other error\n",
-        2,
-    ),
-    (
-        53,
-        ErrorKind::UnexpectedEof,
-        "jdoc: cannot read a b/c: unexpected end of file\n",
-        2,
-    ),
+    (13, ErrorKind::IsADirectory, "jdoc: cannot read a b/c\n", 2),
+    (31, ErrorKind::Other, "jdoc: cannot read a b/c\n", 2),
+    (53, ErrorKind::UnexpectedEof, "jdoc: cannot read a b/c\n", 2),
     (31, ErrorKind::OutOfMemory, "jdoc: no memory\n", 4),
 ];
 

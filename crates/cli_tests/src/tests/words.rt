@@ -4,6 +4,7 @@ use bench::Plan;
 use clap::error::ErrorKind;
 use cli::{BadWords, Job, Status, read_words};
 use std::alloc::Global;
+use std::process::Abort;
 use std::test::Fail;
 
 /// Words, and the script that they name.
@@ -66,41 +67,60 @@ fn a_plan(rt: HostRuntime) -> Result<(), Fail> {
     Ok(())
 }
 
-/// Why there is no job, the status of that, and whether whole lines are told on standard output and on standard error.
-fn refusal(alloc: Global, words: &[&str]) -> Option<(ErrorKind, Status, bool, bool)> {
+/// Why there is no job, the status of that, and what is told.
+fn refusal(alloc: Global, words: &[&str]) -> Option<(ErrorKind, Status, Vec<u8>)> {
     let why = read_words(alloc, words).err()?;
-    let mut out = Vec::new(alloc);
-    let mut faults = Vec::new(alloc);
-    let status = why.report(&mut out, &mut faults);
+    let mut told = Vec::new(alloc);
+    let status = why.report(&mut told);
     let BadWords::Refused(error) = why else {
         return None;
     };
-    Some((
-        error.kind(),
-        status,
-        ends_a_line(&out),
-        ends_a_line(&faults),
-    ))
+    Some((error.kind(), status, told))
 }
 
-fn ends_a_line(text: &[u8]) -> bool {
-    text.last().copied() == Some(b'\n')
-}
+/// How the help of the program begins: what it is for, and how it is called.
+const HELP: &str = "Runs engines of a shared document
 
-/// Words that ask for help.
-const HELPS: &[&[&str]] = &[
-    &["--help", "run"],
-    &["-h", "run"],
-    &["help", "run"],
-    &["run", "--help"],
+Usage: jdoc <COMMAND>
+";
+
+/// How the help of `run` begins.
+const RUN_HELP: &str = "Runs a script and prints what each step replies
+
+Usage: jdoc run [SCRIPT]
+";
+
+/// Words that ask for help, and how that begins.
+const HELPS: &[(&[&str], &str)] = &[
+    (&["--help", "run"], HELP),
+    (&["-h", "run"], HELP),
+    (&["help"], HELP),
+    (&["help", "run"], RUN_HELP),
+    (&["run", "--help"], RUN_HELP),
 ];
 
 #[test]
-fn help_is_told_on_the_output(rt: HostRuntime) {
-    for words in HELPS {
-        let told = Some((ErrorKind::DisplayHelp, Status::Done, true, false));
-        assert_eq!(rt; refusal(rt.alloc(), words), told, "{words:?}");
+fn help_is_told_as_a_fault(rt: HostRuntime) {
+    for (words, wanted) in HELPS {
+        let told = refusal(rt.alloc(), words);
+        is_told(&rt, told, ErrorKind::DisplayHelp, words, wanted);
     }
+}
+
+/// Asserts that words are refused for this reason, with the status of bad words, and that what is told begins so and ends a line.
+fn is_told(
+    rt: &impl Abort,
+    told: Option<(ErrorKind, Status, Vec<u8>)>,
+    kind: ErrorKind,
+    words: &[&str],
+    wanted: &str,
+) {
+    let Some((found, status, text)) = told else {
+        panic!(rt; "{words:?} are a job");
+    };
+    assert_eq!(rt; (found, status), (kind, Status::BadInput), "{words:?}");
+    assert!(rt; text.starts_with(wanted.as_bytes()), "{words:?}: {text:?}");
+    assert_eq!(rt; text.last().copied(), Some(b'\n'), "{words:?}");
 }
 
 /// Words that are no job, and why.
@@ -174,7 +194,7 @@ const OTHERS: &[(&[&str], ErrorKind)] = &[
 #[test]
 fn other_words(rt: HostRuntime) {
     for (words, kind) in OTHERS {
-        let told = Some((*kind, Status::BadInput, false, true));
-        assert_eq!(rt; refusal(rt.alloc(), words), told, "{words:?}");
+        let told = refusal(rt.alloc(), words);
+        is_told(&rt, told, *kind, words, "error: ");
     }
 }

@@ -49,7 +49,7 @@ pub fn is_refused(
 ) -> Result<(), AllocError> {
     let told = told_of(rt, alloc, script, name)?;
     let (line, why) = fault;
-    let wanted = format!(in alloc; "line {line}: {why} (docs/FORMATS.md, 'Bad lines')")?;
+    let wanted = format!(in alloc; "line {line}: {why}")?;
     assert_eq!(rt; told.as_str(), wanted.as_str(), "{name}");
     Ok(())
 }
