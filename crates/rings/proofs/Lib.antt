@@ -5,3 +5,4 @@ pub mod Turned
 pub mod Around
 pub mod Pushed
 pub mod Sunk
+pub mod Runs

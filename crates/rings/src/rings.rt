@@ -1,7 +1,7 @@
 //! A list whose items lie in rings, and the moves that keep them there.
 
 ghost use Rattle.std.specs.Prelude.{◌≡◌, ◌<◌, ◌≤◌, ◌+◌, ◌*◌, ◌/◌, ◌++◌, ◌∷◌, [], length, Some, slice_get, slice_index_or, slice_set, take};
-ghost use Rattle.std.specs.Prelude.{IsTrue, List, OnOk, vec_len, vec_capacity};
+ghost use Rattle.std.specs.Prelude.{ℕ, IsTrue, List, OnOk, vec_len, vec_capacity};
 ghost use Rattle.std.specs.Fn.{CalledAt};
 ghost use Rattle.std.specs.List.{All, insert, remove};
 ghost use Rattle.std.specs.List.Retain.{IsFiltered};
@@ -69,6 +69,17 @@ impl<T> Rings<T> {
         ensures { slice_get self.now.items position ≡ Some result.now }
     {
         item(&self.slots, self.starts.as_slice(), position)
+    }
+
+    /// Returns the items from this position on that lie next to each other, in constant time: at least one, and all that stand
+    /// behind the rings. A ring is one or two such runs.
+    pub fn run(&self, position: usize) -> &[T]
+        requires { position < length self.now.items }
+        ensures any { 0 < length result.now }
+        ensures within { position + length result.now ≤ length self.now.items }
+        ensures items { (i : ℕ) → i < length result.now → slice_get self.now.items (position + i) ≡ slice_get result.now i }
+    {
+        run_in(&self.slots, self.starts.as_slice(), position)
     }
 
     /// Puts the value where another item stands, in constant time, and returns that item.
@@ -193,6 +204,39 @@ fn item<'a, T>(slots: &'a [T], starts: &[usize], position: usize) -> &'a T
     ensures { slice_get (straight 2048 starts.now slots.now) position ≡ Some result.now }
 {
     &slots[slot_of(starts, position)]
+}
+
+/// Returns the items from a position on that lie next to each other: those of a ring go on to its last slot, or to the one before it
+/// begins.
+fn run_in<'a, T>(slots: &'a [T], starts: &[usize], position: usize) -> &'a [T]
+    requires rings { AreRings 2048 starts.now (length slots.now) }
+    requires within { position < length slots.now }
+    ensures any { 0 < length result.now }
+    ensures within { position + length result.now ≤ length slots.now }
+    ensures items { (i : ℕ)
+        → i < length result.now → slice_get (straight 2048 starts.now slots.now) (position + i) ≡ slice_get result.now i }
+{
+    let first = slot_of(starts, position);
+    if position / RING >= starts.len() {
+        return &slots[first..];
+    }
+    let count = rest_of_ring(position % RING, first % RING);
+    &slots[first..first + count]
+}
+
+/// Returns how many items of a ring lie next to each other from a place on that lies at this slot of the ring.
+fn rest_of_ring(place: usize, slot: usize) -> usize
+    requires place { place < 2048 }
+    requires slot { slot < 2048 }
+    ensures any { 0 < result }
+    ensures place { place + result ≤ 2048 }
+    ensures slot { slot + result ≤ 2048 }
+{
+    if place < slot {
+        RING - slot
+    } else {
+        RING - place
+    }
 }
 
 /// Puts the value where another item stands, and returns that item.
