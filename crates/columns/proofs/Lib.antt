@@ -23,3 +23,5 @@ pub mod Apart
 pub mod CutBlocks
 pub mod MovedHomes
 pub mod IndexedBlocks
+pub mod Raised
+pub mod Marked

@@ -5,5 +5,6 @@ pub mod Held
 pub mod Keys
 pub mod Prefix
 pub mod Numbered
+pub mod Flagged
 pub mod Orders
 pub mod Blocks

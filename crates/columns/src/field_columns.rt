@@ -1,50 +1,56 @@
 //! Keys in columns, each with a number.
 
-ghost use Rattle.std.specs.Prelude.{◌≡◌, ◌≤◌, ◌<◌, ◌+◌, [], length, Some, None, slice_get, IsTrue, OnOk};
+ghost use Rattle.std.specs.Prelude.{◌≡◌, ◌≤◌, ◌<◌, ◌+◌, ℕ, [], length, true, false, Some, None, slice_get, MatchOption, IsTrue, OnOk};
 ghost use Rattle.std.specs.FinMap.{find, put, is_sorted};
-ghost use Rattle.semantics.specs.Elements.{name_cmp};
+ghost use Rattle.semantics.specs.Elements.{Name, name_cmp};
 
+use crate::flag_row::FlagRow;
 use crate::sorted_keys::SortedKeys;
 use std::alloc::{AllocError, Global};
 use std::marker::Model;
 use value::Key;
 
-/// A finite map from keys to numbers.
+/// A finite map from keys to numbers, with a flag for each key.
 ///
-/// Contracts see the entries, rising by the bytes of their keys, and for how many more there is room.
+/// Contracts see the entries and the flags, each rising by the bytes of their keys, and for how many more keys there is room.
 #[derive(Debug, Drop)]
 pub struct FieldColumns {
     keys: SortedKeys,
     /// The number of each key, in the order in which the keys were put.
     numbers: Vec<usize>,
+    /// The flag of the key at each position in byte order.
+    flags: FlagRow,
     /// Where the last key went in or was sought. What is asked for next is often that one, or goes in behind it.
     last: usize,
 }
 
 impl Model for FieldColumns {
-    ghost use Rattle.std.specs.Prelude.{◌-◌, min, vec_len, vec_capacity};
+    ghost use Rattle.std.specs.Prelude.{◌≡◌, ◌-◌, length, min, vec_len, vec_capacity};
     ghost use Rattle.std.specs.List.{zip};
     ghost use Rattle.semantics.specs.Elements.{Name};
     ghost use Rattle.columns.specs.Keys.{AreFields, numbered};
-    ghost use Rattle.columns.specs.Numbered.{Numbered};
+    ghost use Rattle.columns.specs.Flagged.{Flagged};
 
-    ghost Value = { Numbered Name };
+    ghost Value = { Flagged Name };
 
     ghost view = { λ f. record {
       entries = zip f.keys.keys (numbered 0 f.numbers.items f.keys.numbers);
-      room = min f.keys.room (vec_capacity f.numbers - vec_len f.numbers);
+      flags = zip f.keys.keys f.flags.flags;
+      room = min f.keys.room (min (vec_capacity f.numbers - vec_len f.numbers) f.flags.room);
     } };
 
-    ghost invariant = { λ f. AreFields f.keys f.numbers.items };
+    ghost invariant = { λ f. AreFields f.keys f.numbers.items × (length f.flags.flags ≡ length f.keys.keys) };
 }
 
 impl FieldColumns {
     pub fn new(alloc: Global) -> FieldColumns
-        ensures { result.entries ≡ [] }
+        ensures entries { result.entries ≡ [] }
+        ensures flags { result.flags ≡ [] }
     {
         FieldColumns {
             keys: SortedKeys::new(alloc),
             numbers: Vec::new(alloc),
+            flags: FlagRow::new(alloc),
             last: 0,
         }
     }
@@ -78,11 +84,23 @@ impl FieldColumns {
         }
     }
 
+    /// The position of a key in byte order, and its number. Binary search, unless it is the last one that was put or sought.
+    pub fn locate(&self, key: &Key) -> Option<(usize, usize)>
+        ensures { MatchOption result (find name_cmp key.now self.now.entries ≡ None)
+            (λ r. (slice_get self.now.entries r.0 ≡ Some (key.now, r.1)) × (find name_cmp key.now self.now.entries ≡ Some r.1)) }
+    {
+        match self.keys.find_near(key, self.last) {
+            Ok(position) => Some((position, self.numbers[self.keys.number(position)])),
+            Err(_) => None,
+        }
+    }
+
     /// The number of a key, as `get` has it. Until another key is put or sought, this one is found by one comparison, or goes in by
     /// two, unless it goes in before all others.
     pub fn seek(&mut self, key: &Key) -> Option<usize>
         ensures number { result ≡ find name_cmp key.now self.old.entries }
         ensures entries { self.new.entries ≡ self.old.entries }
+        ensures flags { self.new.flags ≡ self.old.flags }
         ensures room { self.new.room ≡ self.old.room }
     {
         match self.keys.find_near(key, self.last) {
@@ -97,25 +115,55 @@ impl FieldColumns {
         }
     }
 
+    /// Raises or lowers the flag of the key at a position in byte order, in constant time.
+    pub fn set_flag(&mut self, position: usize, flag: bool)
+        requires { position < length self.old.entries }
+        ensures entries { self.new.entries ≡ self.old.entries }
+        ensures flags { (n : Name) (i : ℕ) → slice_get self.old.entries position ≡ Some (n, i)
+            → self.new.flags ≡ put name_cmp n flag self.old.flags }
+        ensures room { self.new.room ≡ self.old.room }
+    {
+        prove!(position < self.keys.len());
+        self.flags.set(position, flag);
+    }
+
+    /// The first position in byte order, from this one on, of a key whose flag is raised, or how many fields there are if none is.
+    /// Looks at many flags at a time, and at no key.
+    pub fn next_flagged(&self, from: usize) -> usize
+        requires { from ≤ length self.now.entries }
+        ensures from { from ≤ result }
+        ensures within { result ≤ length self.now.entries }
+        ensures passed { (i : ℕ) (n : Name) (j : ℕ) → from ≤ i → i < result → slice_get self.now.entries i ≡ Some (n, j)
+            → find name_cmp n self.now.flags ≡ Some false }
+        ensures flagged { (n : Name) (j : ℕ) → slice_get self.now.entries result ≡ Some (n, j)
+            → find name_cmp n self.now.flags ≡ Some true }
+    {
+        prove!(from <= self.keys.len());
+        self.flags.next_raised(from)
+    }
+
     /// Makes room for one more field.
     ///
     /// # Errors
     /// `AllocError` if allocation fails.
     pub fn reserve_one(&mut self) -> Result<(), AllocError>
         ensures same { self.new.entries ≡ self.old.entries }
+        ensures flags { self.new.flags ≡ self.old.flags }
         ensures room { OnOk result (0 < self.new.room) }
         ensures kept { self.old.room ≤ self.new.room }
     {
         self.keys.reserve_one()?;
-        self.numbers.reserve(1)
+        self.numbers.reserve(1)?;
+        self.flags.reserve_one()
     }
 
-    /// Puts a key that isn't there yet, with its number. Takes no memory. A binary search, unless it goes in behind the last one that
-    /// was put or sought, and two inserts into `Rings`.
+    /// Puts a key that isn't there yet, with its number and a lowered flag. Takes no memory. A binary search, unless it goes in behind
+    /// the last one that was put or sought, and three inserts into `Rings`.
     pub fn put(&mut self, key: Key, number: usize)
         requires new { find name_cmp key self.old.entries ≡ None }
         requires room { 0 < self.old.room }
         ensures entries { self.new.entries ≡ put name_cmp key number self.old.entries }
+        ensures flags { self.new.flags ≡ put name_cmp key false self.old.flags }
         ensures room { self.old.room ≤ self.new.room + 1 }
     {
         let Err(position) = self.keys.find_near(&key, self.last) else {
@@ -123,6 +171,7 @@ impl FieldColumns {
         };
         self.keys.put(position, key);
         self.numbers.push_reserved(number);
+        self.flags.insert_lowered(position);
         self.last = position;
     }
 }

@@ -9,6 +9,7 @@ mod entry;
 mod entry_columns;
 mod field_columns;
 mod fields;
+mod flag_row;
 mod held;
 mod list_order;
 mod numbers;

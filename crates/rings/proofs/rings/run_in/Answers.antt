@@ -1,4 +1,4 @@
-use Rattle.std.proofs.Common.{rules, ◌≡◌, ◌<◌, ◌≤◌, ◌+◌, ◌-◌, ℕ, length, arith, subst, take, drop}
+use Rattle.std.proofs.Common.{rules, ◌≡◌, ◌<◌, ◌+◌, ◌-◌, ℕ, length, arith, subst, take, drop}
 use Rattle.std.specs.Prelude.{slice_get}
 use Rattle.rings.specs.Rings.{straight}
 use Rattle.rings.proofs.Runs.{run_behind, run_in_ring, run_items}

@@ -4,7 +4,7 @@ use Rattle.std.proofs.lemmas.Option.{slice_get_within}
 use Rattle.semantics.specs.Elements.{Name, name_cmp}
 use Rattle.semantics.proofs.Orders.{name_total}
 use Rattle.columns.specs.Keys.{numbered}
-use Rattle.columns.specs.Numbered.{Numbered}
+use Rattle.columns.specs.Flagged.{Flagged}
 use Rattle.columns.proofs.Placed.{value_at, value_inside, values_long}
 use Rattle.columns.proofs.Zipped.{find_there-zip, find_absent-zip}
 use Rattle.columns.proofs.field_columns.FieldColumns.get.Goals as goal
@@ -15,7 +15,7 @@ number-requires c = slice_get_within c.self.inside.keys.keys c.in-Ok.position c.
 pub index-requires : goal.index-requires
 index-requires c =
     let d = c.self.inside in
-    let inside = value_inside d.keys d.numbers.items c.in-Ok.position c.number.result c.self.invariant c.number.ensures.number in
+    let inside = value_inside d.keys d.numbers.items c.in-Ok.position c.number.result c.self.invariant.0 c.number.ensures.number in
     omega arith
 
 pub returns-in-Ok : goal.returns-in-Ok
@@ -24,15 +24,15 @@ returns-in-Ok c =
     let ns = d.numbers.items in
     let at = c.in-Ok.ensures in
     ap Some
-    (value_at d.keys ns c.in-Ok.position c.number.result c.index.result.now c.self.invariant c.number.ensures.number c.index.ensures)
+    (value_at d.keys ns c.in-Ok.position c.number.result c.index.result.now c.self.invariant.0 c.number.ensures.number c.index.ensures)
     ∙ sym
     (find_there-zip name_cmp d.keys.keys (numbered 0 ns d.keys.numbers)
-    (values_long d.keys ns c.self.invariant) name_total c.args.key.now c.in-Ok.position c.index.result.now at.0 at.1)
-    ∙ ap (λ (m : Numbered Name). find name_cmp c.args.key.now m.entries) c.self.view_is
+    (values_long d.keys ns c.self.invariant.0) name_total c.args.key.now c.in-Ok.position c.index.result.now at.0 at.1)
+    ∙ ap (λ (m : Flagged Name). find name_cmp c.args.key.now m.entries) c.self.view_is
 
 pub returns-in-Err : goal.returns-in-Err
 returns-in-Err c =
     let d = c.self.inside in
     sym (find_absent-zip name_cmp d.keys.keys (numbered 0 d.numbers.items d.keys.numbers)
-    (values_long d.keys d.numbers.items c.self.invariant) c.args.key.now c.in-Err.field-0 c.in-Err.ensures)
-    ∙ ap (λ (m : Numbered Name). find name_cmp c.args.key.now m.entries) c.self.view_is
+    (values_long d.keys d.numbers.items c.self.invariant.0) c.args.key.now c.in-Err.field-0 c.in-Err.ensures)
+    ∙ ap (λ (m : Flagged Name). find name_cmp c.args.key.now m.entries) c.self.view_is
