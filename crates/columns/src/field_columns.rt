@@ -164,6 +164,7 @@ impl FieldColumns {
         requires room { 0 < self.old.room }
         ensures entries { self.new.entries ≡ put name_cmp key number self.old.entries }
         ensures flags { self.new.flags ≡ put name_cmp key false self.old.flags }
+        ensures unflagged { find name_cmp key self.old.flags ≡ None }
         ensures room { self.old.room ≤ self.new.room + 1 }
     {
         let Err(position) = self.keys.find_near(&key, self.last) else {

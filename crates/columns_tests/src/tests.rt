@@ -1,6 +1,7 @@
 //! Limits and examples with values from the rules, and each call once where it succeeds.
 
 mod fields;
+mod flags;
 mod keys;
 mod numbers;
 mod orders;

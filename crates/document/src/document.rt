@@ -189,8 +189,8 @@ impl Document {
     }
 
     /// The answer to a question: the history's, which for a question to the document is the view of its operations as a set. Copies
-    /// what it returns. Costs a walk along the expression and what is answered; for keys and items, a look at each that ever stood
-    /// there.
+    /// what it returns. Costs a walk along the expression and what is answered; for items, a look at each, tombstones included, of the
+    /// blocks of the list in which one is shown.
     ///
     /// # Errors
     /// The refusal of the expression: those of `resolve`, and `AtHead` where it leads to a head. The history and the view of its

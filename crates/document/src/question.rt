@@ -11,9 +11,9 @@ use version::VersionVector;
 pub enum Question {
     /// For the values at the element: none, one, or one for each of several concurrent assigns.
     Values(Expr),
-    /// For the keys of the map at the element. Costs a look at each that ever stood there.
+    /// For the keys of the map at the element. Costs a look at each, and at many flags of other fields at a time.
     Keys(Expr),
-    /// For the items of the list at the element. Costs a look at each that ever stood there.
+    /// For the items of the list at the element. Costs a look at each, tombstones included, of the blocks in which one is shown.
     Items(Expr),
     /// For the ids of the live writes at the element and beneath it, each with what it is there.
     Conflicts(Expr),

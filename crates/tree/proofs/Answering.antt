@@ -1,6 +1,6 @@
 -- What a tree answers at a node.
-use Rattle.std.proofs.Common.{◌≡◌, ℕ, zero, suc, ◌+◌, ◌<◌, ◌&&◌, Bool, true, false, cond, List, [], ◌∷◌, ◌++◌, length, get_or, take, map}
-use Rattle.std.proofs.Common.{Option, Some, None, refl, sym, ap, ◌∙◌, arith}
+use Rattle.std.proofs.Common.{◌≡◌, ℕ, zero, suc, ◌+◌, ◌-◌, ◌<◌, ◌≤◌, ◌&&◌, Bool, true, false, cond, List, [], ◌∷◌, ◌++◌, length, get_or, take, map}
+use Rattle.std.proofs.Common.{Option, Some, None, refl, sym, ap, ◌∙◌, append-nil, arith}
 use Rattle.std.specs.Prelude.{slice_get}
 use Rattle.std.specs.List.{filter}
 use Rattle.std.proofs.lemmas.List.{map-append, take_more}
@@ -55,6 +55,32 @@ wanted_next ns p fs k d h =
     ∙ ap (filter p) (map-append (λ x. x.0) (names_in ns (take k fs)) (names_in ns (get_or fs k d ∷ [])))
     ∙ filter-append p (map (λ x. x.0) (names_in ns (take k fs))) (map (λ x. x.0) (names_in ns (get_or fs k d ∷ [])))
     ∙ ap (λ xs. filter p (map (λ x. x.0) (names_in ns (take k fs))) ++ xs) (wanted_is ns p (get_or fs k d))
+
+-- fields that p doesn't want add nothing
+unwanted : (ns : List Node) (p : Name → Bool) (fs : List (Name × ℕ)) (d : Name × ℕ) (count from : ℕ) → from + count ≤ length fs
+    → ((i : ℕ) → from ≤ i → i < from + count → p (get_or fs i d).0 ≡ false)
+    → filter p (map (λ x. x.0) (names_in ns (take (from + count) fs))) ≡ filter p (map (λ x. x.0) (names_in ns (take from fs)))
+unwanted ns p fs d zero from within none = ap (λ k. filter p (map (λ x. x.0) (names_in ns (take k fs)))) (omega arith)
+unwanted ns p fs d (suc count) from within none =
+    let here = filter p (map (λ x. x.0) (names_in ns (take from fs))) in
+    ap (λ k. filter p (map (λ x. x.0) (names_in ns (take k fs)))) (omega arith)
+    ∙ unwanted ns p fs d count (from + 1) (omega (arith, within)) (λ i low high. none i (omega (arith, low)) (omega (arith, high)))
+    ∙ wanted_next ns p fs from d (omega (arith, within))
+    ∙ ap (λ b. here ++ cond (is_written (slice_get ns (get_or fs from d).1) && b) ((get_or fs from d).0 ∷ []) [])
+    (none from (omega arith) (omega arith))
+    ∙ elim (is_written (slice_get ns (get_or fs from d).1)) as (λ b. here ++ cond (b && false) ((get_or fs from d).0 ∷ []) [] ≡ here) [
+      | true ↦ append-nil here
+      | false ↦ append-nil here
+    ]
+
+-- nor do those from one position up to another
+pub wanted_skip : (ns : List Node) (p : Name → Bool) (fs : List (Name × ℕ)) (d : Name × ℕ) (from to : ℕ) → from ≤ to → to ≤ length fs
+    → ((i : ℕ) → from ≤ i → i < to → p (get_or fs i d).0 ≡ false)
+    → filter p (map (λ x. x.0) (names_in ns (take to fs))) ≡ filter p (map (λ x. x.0) (names_in ns (take from fs)))
+wanted_skip ns p fs d from to low high none =
+    let all : from + (to - from) ≡ to = omega (arith, low) in
+    ap (λ k. filter p (map (λ x. x.0) (names_in ns (take k fs)))) (sym all)
+    ∙ unwanted ns p fs d (to - from) from (omega (arith, all, high)) (λ i a b. none i a (omega (arith, b, all)))
 
 -- whether a field shows is seen at its node
 pub field_shows : (ns : List Node) → IsTree ns → (e : Element) (i k j : ℕ) (d : Name × ℕ) → number ns e ≡ Some i → k < length (links ns i).0

@@ -1,5 +1,5 @@
 -- What a clear of a list goes past, and what stands once it has gone past it.
-use Rattle.std.proofs.Common.{◌≡◌, ℕ, ◌+◌, ◌<◌, nat_le, true, false, true≢false, cond, List, [], ◌∷◌, length, get_or, drop, Bool}
+use Rattle.std.proofs.Common.{◌≡◌, ℕ, zero, suc, ◌+◌, ◌-◌, ◌<◌, ◌≤◌, nat_le, true, false, true≢false, cond, List, [], ◌∷◌, length, get_or, drop, Bool}
 use Rattle.std.proofs.Common.{Option, Some, None, is_some, refl, sym, ap, ◌∙◌, subst, arith, inl, inr}
 use Rattle.std.specs.Prelude.{slice_get}
 use Rattle.std.specs.FinMap.{find}
@@ -7,7 +7,7 @@ use Rattle.std.specs.List.{filter}
 use Rattle.std.proofs.lemmas.Bool.{cases_lt, false_from_ne_true, le-leb, leb-false, true_from_ne_false}
 use Rattle.std.proofs.lemmas.List.{drop_more}
 use Rattle.semantics.specs.Ids.{OpId, IdSet, id_cmp, is_same_id}
-use Rattle.semantics.specs.Elements.{Element, Item, is_under}
+use Rattle.semantics.specs.Elements.{Element, Field, Item, Name, is_under}
 use Rattle.semantics.specs.Paths.{ItemKey}
 use Rattle.semantics.specs.Context.{Context, clear, without}
 use Rattle.semantics.specs.DocumentAnswer.{is_any}
@@ -16,8 +16,8 @@ use Rattle.semantics.proofs.Orders.{ids_from_test}
 use Rattle.tree.specs.declared.node.Node.{Node}
 use Rattle.tree.specs.Nested.{IsNested}
 use Rattle.tree.specs.Nodes.{context, gone_of, links, node_in, number, presence_of}
-use Rattle.tree.specs.Shown.{AreGone, IsGoneBelow}
-use Rattle.tree.specs.Writes.{items_of}
+use Rattle.tree.specs.Shown.{AreEmpty, IsGoneBelow}
+use Rattle.tree.specs.Writes.{fields_of, items_of}
 use Rattle.tree.proofs.Clears.{clear_each}
 use Rattle.tree.proofs.Nested.{clear_empty, nested_clear}
 use Rattle.tree.proofs.Shape.{number_child}
@@ -79,9 +79,9 @@ found_there ns e i at a any = by (number ns (Item e a)) refl
     by None p = absurd (true≢false (sym any ∙ ap (λ o. is_any (presence_of (node_in ns o))) p))
     by (Some j) p = ap is_some (sym (number_child ns e i (ItemKey a) at) ∙ p)
 
-module _ (ns : List Node) (e : Element) (i : ℕ) (at : number ns e ≡ Some i) (gone : AreGone ns) where
+module _ (ns : List Node) (e : Element) (i : ℕ) (at : number ns e ≡ Some i) (empty : AreEmpty ns) where
   below : IsGoneBelow ns e (gone_of (slice_get ns i))
-  below a lt = gone e a (subst (λ o. a.counter < gone_of (node_in ns o)) (sym at) lt)
+  below a lt = empty.items e a (subst (λ o. a.counter < gone_of (node_in ns o)) (sym at) lt)
 
   -- nothing stands at the items that the loop doesn't come to
   pub none_before : (a : OpId) → nat_le (gone_of (slice_get ns i)) a.counter ≡ false → is_any ((context ns).presence (Item e a)) ≡ false
@@ -117,3 +117,26 @@ pub none_left : (ns : List Node) (e : Element) (g : ℕ) (xs : List (OpId × ℕ
     → IsGoneBelow ns e g
 none_left ns e g xs none left a lt = false_from_ne_true (is_any ((context ns).presence (Item e a)))
     (λ any. true≢false (sym (left a lt any) ∙ ap (λ ys. is_some (find id_cmp a ys)) none))
+
+-- so many fields at which nothing stands needn't be cleared
+past_count : (e : Element) (S : IdSet) (fs : List (Name × ℕ)) (C : Context) (d : Name × ℕ) → IsNested C → (count from : ℕ)
+    → from + count ≤ length fs
+    → ((i : ℕ) → from ≤ i → i < from + count → is_any (C.presence (Field e (get_or fs i d).0)) ≡ false)
+    → clear_each C (fields_of e (drop from fs)) S ≡ clear_each C (fields_of e (drop (from + count) fs)) S
+past_count e S fs C d n zero from within none = ap (λ k. clear_each C (fields_of e (drop k fs)) S) (omega arith)
+past_count e S fs C d n (suc count) from within none =
+    ap (λ ys. clear_each C (fields_of e ys) S) (drop_more fs from d (omega (arith, within)))
+    ∙ ap (λ D. clear_each D (fields_of e (drop (from + 1) fs)) S)
+    (sym (clear_empty C (Field e (get_or fs from d).0) S n
+    (none_any (C.presence (Field e (get_or fs from d).0)) (none from (omega arith) (omega arith)))))
+    ∙ past_count e S fs C d n count (from + 1) (omega (arith, within)) (λ i low high. none i (omega (arith, low)) (omega (arith, high)))
+    ∙ ap (λ k. clear_each C (fields_of e (drop k fs)) S) (omega arith)
+
+-- nor those from one position up to another
+pub past_fields : (e : Element) (S : IdSet) (fs : List (Name × ℕ)) (C : Context) (d : Name × ℕ) → IsNested C → (from to : ℕ)
+    → from ≤ to → to ≤ length fs → ((i : ℕ) → from ≤ i → i < to → is_any (C.presence (Field e (get_or fs i d).0)) ≡ false)
+    → clear_each C (fields_of e (drop from fs)) S ≡ clear_each C (fields_of e (drop to fs)) S
+past_fields e S fs C d n from to low high none =
+    let all : from + (to - from) ≡ to = omega (arith, low) in
+    past_count e S fs C d n (to - from) from (omega (arith, all, high)) (λ i a b. none i a (omega (arith, b, all)))
+    ∙ ap (λ k. clear_each C (fields_of e (drop k fs)) S) all

@@ -6,7 +6,7 @@ use Rattle.semantics.specs.DocumentAnswer.{is_any, visible_items}
 use Rattle.semantics.specs.Paths.{FieldKey, ItemKey}
 use Rattle.tree.specs.declared.node.Node.{Node}
 use Rattle.tree.specs.Nodes.{Grows, IsTree, Kept, next_number, node_at, node_in, number, order_room, presence_room, register_room}
-use Rattle.tree.specs.Shown.{AreGone, AreShown}
+use Rattle.tree.specs.Shown.{AreEmpty, AreShown}
 use Rattle.tree.specs.Writes.{RoomTo}
 use Rattle.tree.proofs.Shape.{next_some}
 
@@ -29,7 +29,7 @@ grows_trans p q = record {
 }
 
 pub kept_same : (ns : List Node) → IsTree ns → Kept ns ns
-kept_same ns t = record { tree = t; same = refl; visible = λ e. refl; gone = λ e. refl; grows = grows_same ns; beside = λ table b. b }
+kept_same ns t = record { tree = t; same = refl; visible = λ e. refl; gone = λ e. refl; flagged = λ e k. refl; grows = grows_same ns; beside = λ table b. b }
 
 pub kept_trans : {a b c : List Node} → Kept a b → Kept b c → Kept a c
 kept_trans p q = record {
@@ -37,6 +37,7 @@ kept_trans p q = record {
   same = q.same ∙ p.same;
   visible = λ e. q.visible e ∙ p.visible e;
   gone = λ e. q.gone e ∙ p.gone e;
+  flagged = λ e k. q.flagged e k ∙ p.flagged e k;
   grows = grows_trans p.grows q.grows;
   beside = λ table b. q.beside table (p.beside table b);
 }
@@ -45,9 +46,12 @@ kept_trans p q = record {
 pub kept_shown : (ns ms : List Node) → Kept ns ms → AreShown ns → AreShown ms
 kept_shown ns ms k s e = k.visible e ∙ s e ∙ ap (λ C. visible_items C e) (sym k.same)
 
--- and the same items are gone
-pub kept_gone : (ns ms : List Node) → Kept ns ms → AreGone ns → AreGone ms
-kept_gone ns ms k d l a lt = ap (λ C. is_any (C.presence (Item l a))) k.same ∙ d l a (subst (λ g. a.counter < g) (k.gone l) lt)
+-- and nothing stands where nothing did
+pub kept_empty : (ns ms : List Node) → Kept ns ms → AreEmpty ns → AreEmpty ms
+kept_empty ns ms k d = record {
+  items = λ l a lt. ap (λ C. is_any (C.presence (Item l a))) k.same ∙ d.items l a (subst (λ g. a.counter < g) (k.gone l) lt);
+  fields = λ e n low. ap (λ C. is_any (C.presence (Field e n))) k.same ∙ d.fields e n (sym (k.flagged e n) ∙ low);
+}
 
 -- an element keeps its number
 pub number_grows : (ns ms : List Node) → Grows ns ms → (e : Element) (i : ℕ) → number ns e ≡ Some i → number ms e ≡ Some i

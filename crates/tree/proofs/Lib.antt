@@ -29,3 +29,4 @@ pub mod Beneath
 pub mod Gone
 pub mod Showing
 pub mod NearTarget
+pub mod Flagging

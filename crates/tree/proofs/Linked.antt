@@ -1,16 +1,16 @@
 -- A node that was the child of none becomes one, and no context changes.
-use Rattle.std.proofs.Common.{◌≡◌, ◌⊎◌, ℕ, ◌<◌, ◌≤◌, IsTrue, List, length, set, Option, Some, None, refl, sym, ap, ◌∙◌, subst, arith, inl}
+use Rattle.std.proofs.Common.{◌≡◌, ◌⊎◌, ℕ, ◌<◌, ◌≤◌, IsTrue, false, List, length, set, Option, Some, None, refl, sym, ap, ◌∙◌, subst, arith, inl}
 use Rattle.std.proofs.Common.{inr}
-use Rattle.std.specs.Prelude.{slice_get}
+use Rattle.std.specs.Prelude.{slice_get, unwrap_or}
 use Rattle.std.specs.FinMap.{find, is_sorted}
 use Rattle.semantics.specs.Ids.{id_cmp}
-use Rattle.semantics.specs.Elements.{Element, Doc, Field, Item, name_cmp}
+use Rattle.semantics.specs.Elements.{Element, Doc, Field, Item, Name, name_cmp}
 use Rattle.semantics.specs.Paths.{Key, FieldKey, ItemKey}
 use Rattle.columns.specs.Entries.{StandBeside}
 use Rattle.tree.specs.declared.node.Node.{Node}
 use Rattle.tree.specs.Nodes.{IsOrphan, IsTree, Kept, child_number, context, links, links_of, names_in, next_number, node_at, node_in}
 use Rattle.tree.specs.Nodes.{number, order_of, order_room, presence_of, presence_room, register_of, register_room, tagged, valued}
-use Rattle.tree.specs.Nodes.{gone_of, visible_of}
+use Rattle.tree.specs.Nodes.{gone_of, is_flagged, visible_of}
 use Rattle.tree.proofs.ListReads.{get_inside}
 use Rattle.tree.proofs.NodeWrites.{beside_at, beside_set}
 use Rattle.tree.proofs.Contexts.{context_same}
@@ -26,6 +26,7 @@ pub record Linked (at : ℕ) (key : Key) (j : ℕ) (ns ms : List Node) : Type 0 
   pub order : (i : ℕ) → order_of (slice_get ns i) ≡ order_of (slice_get ms i)
   pub visible : (i : ℕ) → visible_of (slice_get ns i) ≡ visible_of (slice_get ms i)
   pub gone : (i : ℕ) → gone_of (slice_get ns i) ≡ gone_of (slice_get ms i)
+  pub flagged : (i : ℕ) (n : Name) → is_flagged (slice_get ns i) n ≡ is_flagged (slice_get ms i) n
   pub names : (i : ℕ) → names_in ns (links ns i).0 ≡ names_in ms (links ms i).0
   pub sorted_names : (i : ℕ) → IsTrue (is_sorted name_cmp (links ms i).0)
   pub sorted_ids : (i : ℕ) → IsTrue (is_sorted id_cmp (links ms i).1)
@@ -107,6 +108,10 @@ module _ (at : ℕ) (key : Key) (j : ℕ) (ns ms : List Node) (l : Linked at key
   linked_gone : (e : Element) → gone_of (node_at ms e) ≡ gone_of (node_at ns e)
   linked_gone e = sym (kept gone_of gone_of refl l.gone (sym o.empty.gone) _ _ (moved e))
 
+  linked_flagged : (e : Element) (n : Name) → is_flagged (node_at ms e) n ≡ is_flagged (node_at ns e) n
+  linked_flagged e n = sym (kept (λ x. is_flagged x n) (λ x. is_flagged x n) refl (λ i. l.flagged i n)
+      (ap (λ fs. unwrap_or (find name_cmp n fs) false) (sym o.empty.flags)) _ _ (moved e))
+
   linked_children : (i : ℕ) (k : Key) (h : ℕ) → child_number ns i k ≡ Some h → child_number ms i k ≡ Some h
   linked_children i k h c = elim (l.children i k) [
     | inl e ↦ e ∙ c
@@ -132,6 +137,7 @@ linked_kept at key j ns n m g s l t above o = record {
   same = linked_context at key j ns (set ns at m) l t above o;
   visible = linked_visible at key j ns (set ns at m) l t above o;
   gone = linked_gone at key j ns (set ns at m) l t above o;
+  flagged = linked_flagged at key j ns (set ns at m) l t above o;
   grows = record {
     count = let c = l.count in omega arith;
     children = linked_children at key j ns (set ns at m) l t above o;

@@ -3,7 +3,7 @@ use Rattle.std.proofs.Common.{◌≡◌, ◌⊎◌, ℕ, true, false, cond, IsTr
 use Rattle.std.proofs.Common.{inl, inr, length-set}
 use Rattle.std.specs.declared.cmp.Ordering.{Ordering}
 use Rattle.std.specs.declared.cmp.Ordering.TheVariants.{Less, Equal, Greater}
-use Rattle.std.specs.Prelude.{slice_get}
+use Rattle.std.specs.Prelude.{slice_get, unwrap_or}
 use Rattle.std.specs.Cmp.{IsTotalOrder}
 use Rattle.std.specs.Ordering.{is_eq, eq_by_cmp}
 use Rattle.std.specs.FinMap.{find, put, is_sorted}
@@ -17,7 +17,7 @@ use Rattle.semantics.proofs.Orders.{Equal_from_test, id_total, name_total, same_
 use Rattle.columns.proofs.Puts.{rising_put}
 use Rattle.tree.specs.declared.node.Node.{Node}
 use Rattle.tree.specs.Nodes.{IsOrphan, IsTree, child_number, is_written, links, links_of, names_in, order_of, presence_of, register_of}
-use Rattle.tree.specs.Nodes.{gone_of, tagged, valued, visible_of}
+use Rattle.tree.specs.Nodes.{gone_of, is_flagged, tagged, valued, visible_of}
 use Rattle.tree.proofs.ListReads.{get_inside, get_other, get_same}
 use Rattle.tree.proofs.NodeWrites.{set_each}
 use Rattle.tree.proofs.Contexts.{names_same}
@@ -88,7 +88,21 @@ module _ (ns : List Node) (at : ℕ) (n m : Node) (j : ℕ) (g : slice_get ns at
         ∙ put_there name_cmp name_total key j n.fields.entries
 
     module _ (s : OnlyLinks n m) (t : IsTree ns) (o : IsOrphan ns j) (none : child_number ns at (FieldKey key) ≡ None)
-        (same_items : m.items ≡ n.items) where
+        (same_items : m.items ≡ n.items) (put_flag : m.fields.flags ≡ put name_cmp key false n.fields.flags)
+        (unflagged : find name_cmp key n.fields.flags ≡ None) where
+      -- the new field's flag isn't raised, as it wasn't when there was none
+      lowered : (k : Name) → is_flagged (Some m) k ≡ is_flagged (Some n) k
+      lowered k =
+          ap (λ fs. unwrap_or (find name_cmp k fs) false) put_flag
+          ∙ ap (λ o. unwrap_or o false) (find-put name_cmp name_total k key false n.fields.flags)
+          ∙ elim (eq_by_cmp name_cmp k key) as
+          (λ b. eq_by_cmp name_cmp k key ≡ b
+          → unwrap_or (cond b (Some false) (find name_cmp k n.fields.flags)) false ≡ is_flagged (Some n) k) [
+            | true ↦ λ q. ap (λ o. unwrap_or o false)
+                (sym unflagged ∙ ap (λ x. find name_cmp x n.fields.flags) (sym (same_names k key (Equal_from_test _ q))))
+            | false ↦ λ q. refl
+          ] refl
+
       items : (i : ℕ) → (links ns i).1 ≡ (links (set ns at m) i).1
       items = same_set (λ o. (links_of o).1) ns at n m g (ap (λ c. c.entries) same_items)
 
@@ -120,6 +134,7 @@ module _ (ns : List Node) (at : ℕ) (n m : Node) (j : ℕ) (g : slice_get ns at
         order = same_set order_of ns at n m g (ap (λ c. c.items) s.order);
         visible = same_set visible_of ns at n m g (ap (λ c. c.visible) s.order);
         gone = same_set gone_of ns at n m g s.gone;
+        flagged = λ i k. same_set (λ x. is_flagged x k) ns at n m g (lowered k) i;
         names = names;
         sorted_names = set_each (λ x i. IsTrue (is_sorted name_cmp (links_of x).0)) ns at n m g
             (subst (λ xs. IsTrue (is_sorted name_cmp xs)) (sym put_field)
@@ -152,6 +167,8 @@ module _ (ns : List Node) (at : ℕ) (n m : Node) (j : ℕ) (g : slice_get ns at
         order = same_set order_of ns at n m g (ap (λ c. c.items) s.order);
         visible = same_set visible_of ns at n m g (ap (λ c. c.visible) s.order);
         gone = same_set gone_of ns at n m g s.gone;
+        flagged = λ i k. same_set (λ x. is_flagged x k) ns at n m g
+            (ap (λ c. unwrap_or (find name_cmp k c.flags) false) same_fields) i;
         names = λ i. names_same ns (set ns at m) (flags s) (links ns i).0 ∙ ap (names_in (set ns at m)) (fields i);
         sorted_names = λ i. subst (λ xs. IsTrue (is_sorted name_cmp xs)) (fields i) (t.sorted_names i);
         sorted_ids = set_each (λ x i. IsTrue (is_sorted id_cmp (links_of x).1)) ns at n m g

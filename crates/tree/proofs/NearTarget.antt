@@ -11,11 +11,11 @@ use Rattle.semantics.specs.DocumentAnswer.{is_any}
 use Rattle.semantics.proofs.Orders.{id_itself, same_elements}
 use Rattle.tree.specs.declared.node.Node.{Node}
 use Rattle.tree.specs.Nodes.{SameLinks, context, node_in, presence_of}
-use Rattle.tree.specs.Shown.{AreGone, AreShown, ShownBut}
+use Rattle.tree.specs.Shown.{AreEmpty, AreShown, ShownBut}
 use Rattle.tree.specs.Trees.{FitsIn}
 use Rattle.tree.specs.Writes.{entered, linked, mark, registered}
 use Rattle.tree.proofs.Shape.{number_same}
-use Rattle.tree.proofs.SameViews.{gone_view, visible_view}
+use Rattle.tree.proofs.SameViews.{flagged_view, gone_view, visible_view}
 use Rattle.tree.proofs.Clears.{under_itself}
 use Rattle.tree.proofs.Showing.{but_kept, but_more}
 use Rattle.tree.proofs.Writes.{entered_order, marked_presence, order_linked, same_sym}
@@ -100,9 +100,9 @@ hidden false = refl
 
 -- where a new item comes in and the flags stay, only its own may be wrong
 pub linked_shown : (ns ms : List Node) → SameLinks ns ms → (l : Element) (p : Option OpId) (id : OpId)
-    → context ms ≡ linked (context ns) l p id → FitsIn (context ns) id (Some (l, p)) → AreShown ns → AreGone ns
-    → ShownBut ms (λ y a. is_same (Item y a) (Item l id))
-linked_shown ns ms links l p id is fits shown gone =
+    → context ms ≡ linked (context ns) l p id → FitsIn (context ns) id (Some (l, p)) → AreShown ns → AreEmpty ns
+    → ShownBut ms (λ x. is_same x (Item l id))
+linked_shown ns ms links l p id is fits shown empty =
     let C = context ns in
     record {
       flag = flag_of C (Some (l, p)) id;
@@ -115,7 +115,9 @@ linked_shown ns ms links l p id is fits shown gone =
           ap (λ o. cond (new_at (Some (l, p)) id y a) false (is_any (presence_of (node_in ns o)))) (number_same ns ms links (Item y a) ∙ none)
           ∙ hidden (new_at (Some (l, p)) id y a);
       gone = λ y a far lt. ap (λ (D : Context). is_any (D.presence (Item y a))) is
-          ∙ gone y a (subst (λ g. a.counter < g) (sym (gone_view ns ms links.same links.gone y)) lt);
+          ∙ empty.items y a (subst (λ g. a.counter < g) (sym (gone_view ns ms links.same links.gone y)) lt);
+      fields = λ y n far low. ap (λ (D : Context). is_any (D.presence (Field y n))) is
+          ∙ empty.fields y n (flagged_view ns ms links.same links.flags y n ∙ low);
     }
 
 -- an operation that was written at t: what stands beside the way to t keeps its presence, and each list its order
@@ -133,23 +135,20 @@ written_order C t a k (Some r) l = entered_order C t a l
 
 -- where the flags stay while it is written, only those on the way to t may be wrong
 pub written_shown : (ns ms : List Node) → SameLinks ns ms → (t : Element) (a : OpId) (k : Tag) (s : Option Scalar)
-    → context ms ≡ written (context ns) t a k s → (off : Element → OpId → Bool)
-    → ((l : Element) (b : OpId) → is_under t (Item l b) ≡ false → off l b ≡ false)
-    → ShownBut ns off → ShownBut ms (λ l b. is_under t (Item l b))
+    → context ms ≡ written (context ns) t a k s → (off : Element → Bool)
+    → ((x : Element) → is_under t x ≡ false → off x ≡ false)
+    → ShownBut ns off → ShownBut ms (is_under t)
 written_shown ns ms links t a k s is off within = but_kept ns ms links
-    (λ l. ap (λ (D : Context). D.order l) is ∙ written_order (context ns) t a k s l) off (λ l b. is_under t (Item l b))
-    (λ l b far. (
-      within l b far,
-      ap (λ (D : Context). D.presence (Item l b)) is ∙ written_presence (context ns) t a k s (Item l b) far,
-    ))
+    (λ l. ap (λ (D : Context). D.order l) is ∙ written_order (context ns) t a k s l) off (is_under t)
+    (λ x far. (within x far, ap (λ (D : Context). D.presence x) is ∙ written_presence (context ns) t a k s x far))
 
 -- what isn't on the way to t isn't t
-pub way_itself : (t : Element) (l : Element) (b : OpId) → is_under t (Item l b) ≡ false → is_same (Item l b) t ≡ false
-way_itself t l b far = same_sym (Item l b) t ∙ not_same t (Item l b) far
+pub way_itself : (t x : Element) → is_under t x ≡ false → is_same x t ≡ false
+way_itself t x far = same_sym x t ∙ not_same t x far
 
 -- t is on the way to itself
-pub at_way : (ns : List Node) (t : Element) → ShownBut ns (λ l b. is_same (Item l b) t || false) → ShownBut ns (λ l b. is_under t (Item l b))
-at_way ns t = but_more ns _ _ (λ l b i p u. elim (or_cases (is_same (Item l b) t) false u) [
-  | inl s ↦ ap (λ x. is_under t x) (same_elements (Item l b) t s) ∙ under_itself t
+pub at_way : (ns : List Node) (t : Element) → ShownBut ns (λ x. is_same x t || false) → ShownBut ns (is_under t)
+at_way ns t = but_more ns _ _ (λ x i p u. elim (or_cases (is_same x t) false u) [
+  | inl s ↦ ap (is_under t) (same_elements x t s) ∙ under_itself t
   | inr n ↦ absurd (true≢false (sym n))
 ])

@@ -4,7 +4,7 @@ use Rattle.std.proofs.Common.{subst, arith, length-append}
 use Rattle.std.specs.Prelude.{slice_get}
 use Rattle.std.specs.FinMap.{is_sorted}
 use Rattle.semantics.specs.Ids.{id_cmp}
-use Rattle.semantics.specs.Elements.{Element, name_cmp}
+use Rattle.semantics.specs.Elements.{Element, Name, name_cmp}
 use Rattle.semantics.specs.Paths.{Key}
 use Rattle.cursor.specs.declared.tag.Tag.{Tag}
 use Rattle.value.specs.declared.value.Scalar.{Scalar}
@@ -12,8 +12,8 @@ use Rattle.columns.specs.Entries.{StandBeside}
 use Rattle.tree.specs.declared.node.Node.{Node}
 use Rattle.tree.specs.Nodes.{Grows, IsEmptyNode, IsOrphan, IsTree, Kept, Links, NodeBeside, SameView, child_room, is_written, linked_by}
 use Rattle.tree.specs.Nodes.{links_of, order_of, order_room, presence_of, presence_room, register_of, register_room, tagged, valued}
-use Rattle.tree.specs.Nodes.{gone_of, visible_of, node_at}
-use Rattle.tree.proofs.SameViews.{context_view, gone_view, visible_view}
+use Rattle.tree.specs.Nodes.{flags_of, gone_of, is_flagged, visible_of, node_at}
+use Rattle.tree.proofs.SameViews.{context_view, flagged_view, gone_view, visible_view}
 use Rattle.tree.proofs.Widened.{links_pair}
 
 -- what holds of each node, and of an empty one where it holds of none
@@ -90,12 +90,16 @@ module _ (ns : List Node) (n : Node) (e : IsEmptyNode n) where
   pub push_gone : (x : Element) → gone_of (node_at ns x) ≡ gone_of (node_at (ns ++ n ∷ []) x)
   push_gone = gone_view ns (ns ++ n ∷ []) (push_view ns n e).links (pushed gone_of n (sym e.gone) ns)
 
+  pub push_flagged : (x : Element) (k : Name) → is_flagged (node_at ns x) k ≡ is_flagged (node_at (ns ++ n ∷ []) x) k
+  push_flagged = flagged_view ns (ns ++ n ∷ []) (push_view ns n e).links (pushed flags_of n (sym e.flags) ns)
+
   pub push_kept : IsTree ns → Kept ns (ns ++ n ∷ [])
   push_kept t = record {
     tree = push_tree t;
     same = sym (context_view ns (ns ++ n ∷ []) (push_view ns n e));
     visible = λ x. sym (push_visible x);
     gone = λ x. sym (push_gone x);
+    flagged = λ x k. sym (push_flagged x k);
     grows = push_grows;
     beside = λ table b. push_each (λ o i. NodeBeside table o) n (λ i h. empty_beside table n e) ns b;
   }

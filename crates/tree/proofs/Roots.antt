@@ -4,7 +4,7 @@ use Rattle.std.specs.Prelude.{IsTrue}
 use Rattle.std.specs.FinMap.{is_sorted}
 use Rattle.ids.specs.Members.{AreDistinct}
 use Rattle.semantics.specs.Ids.{id_cmp}
-use Rattle.semantics.specs.Elements.{Item, name_cmp}
+use Rattle.semantics.specs.Elements.{Field, Item, name_cmp}
 use Rattle.semantics.specs.Paths.{Key, FieldKey, ItemKey}
 use Rattle.semantics.specs.Context.{empty}
 use Rattle.semantics.specs.DocumentAnswer.{is_any, visible_items}
@@ -60,6 +60,9 @@ module _ (n : Node) (e : IsEmptyNode n) where
     tree = root_tree;
     nested = subst IsNested (sym root_empty) nested_empty;
     shown = λ x. sym (push_visible [] n e x) ∙ ap visible_of (nothing_there (number [] x)) ∙ sym (ap (λ C. visible_items C x) root_empty);
-    gone = λ l a lt. ap (λ C. is_any (C.presence (Item l a))) root_empty;
+    empty = record {
+      items = λ l a lt. ap (λ C. is_any (C.presence (Item l a))) root_empty;
+      fields = λ x k low. ap (λ C. is_any (C.presence (Field x k))) root_empty;
+    };
     beside = push_each (λ o i. NodeBeside table o) n (λ i h. empty_beside table n e) [] (λ i. tt);
   }

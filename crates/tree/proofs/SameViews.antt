@@ -1,9 +1,10 @@
 -- Nodes of the same view stand for the same context.
-use Rattle.std.proofs.Common.{◌≡◌, ℕ, List, Option, Some, None, refl, ap, ◌∙◌}
-use Rattle.std.specs.Prelude.{slice_get}
-use Rattle.semantics.specs.Elements.{Element}
+use Rattle.std.proofs.Common.{◌≡◌, ℕ, false, List, Option, Some, None, refl, ap, ◌∙◌}
+use Rattle.std.specs.Prelude.{slice_get, unwrap_or}
+use Rattle.std.specs.FinMap.{find}
+use Rattle.semantics.specs.Elements.{Element, Name, name_cmp}
 use Rattle.tree.specs.declared.node.Node.{Node}
-use Rattle.tree.specs.Nodes.{SameView, context, gone_of, links_of, links, names_in, node_at, node_in, number, order_of, presence_of}
+use Rattle.tree.specs.Nodes.{SameView, context, flags_of, gone_of, is_flagged, links_of, links, names_in, node_at, node_in, number, order_of, presence_of}
 use Rattle.tree.specs.Nodes.{register_of, visible_of}
 use Rattle.tree.proofs.Shape.{number_links}
 use Rattle.tree.proofs.Contexts.{context_same, names_same}
@@ -32,3 +33,9 @@ visible_view ns ms links h e = at_view ns ms visible_of h (number ns e) ∙ ap (
 pub gone_view : (ns ms : List Node) → ((i : ℕ) → links ns i ≡ links ms i)
     → ((i : ℕ) → gone_of (slice_get ns i) ≡ gone_of (slice_get ms i)) → (e : Element) → gone_of (node_at ns e) ≡ gone_of (node_at ms e)
 gone_view ns ms links h e = at_view ns ms gone_of h (number ns e) ∙ ap (λ o. gone_of (node_in ms o)) (number_links ns ms links e)
+
+pub flagged_view : (ns ms : List Node) → ((i : ℕ) → links ns i ≡ links ms i)
+    → ((i : ℕ) → flags_of (slice_get ns i) ≡ flags_of (slice_get ms i)) → (e : Element) (n : Name)
+    → is_flagged (node_at ns e) n ≡ is_flagged (node_at ms e) n
+flagged_view ns ms links h e n = ap (λ fs. unwrap_or (find name_cmp n fs) false)
+    (at_view ns ms flags_of h (number ns e) ∙ ap (λ o. flags_of (node_in ms o)) (number_links ns ms links e))

@@ -11,7 +11,7 @@ use Rattle.semantics.specs.Paths.{Key, FieldKey, ItemKey, child, down}
 use Rattle.semantics.proofs.Orders.{element_itself, same_elements}
 use Rattle.semantics.proofs.ElementPaths.{down-append}
 use Rattle.tree.specs.declared.node.Node.{Node}
-use Rattle.tree.specs.Nodes.{links_of, links, linked_by, child_number, next_number, number, node_in, node_at, visible_of, gone_of, IsTree}
+use Rattle.tree.specs.Nodes.{links_of, links, linked_by, child_number, next_number, number, node_in, node_at, visible_of, gone_of, flags_of, IsTree}
 use Rattle.tree.specs.Nodes.{MoreRoom, SameChildren, SameLinks}
 use Rattle.tree.specs.Writes.{end_of}
 use Rattle.tree.proofs.ListReads.{get_same, get_other, get_inside}
@@ -100,14 +100,15 @@ links_each ns i n m g l j = elim (cases_eq j i) [
   | inr n ↦ sym (ap links_of (get_other ns i m j n))
 ]
 
--- and its flags, and the items that are gone
+-- and its flags, those of its fields, and the items that are gone
 pub links_set : (ns : List Node) (i : ℕ) (n m : Node) → slice_get ns i ≡ Some n → links_of (Some m) ≡ links_of (Some n)
-    → visible_of (Some m) ≡ visible_of (Some n) → gone_of (Some m) ≡ gone_of (Some n) → SameLinks ns (set ns i m)
-links_set ns i n m g l v d = record {
+    → visible_of (Some m) ≡ visible_of (Some n) → gone_of (Some m) ≡ gone_of (Some n) → flags_of (Some m) ≡ flags_of (Some n) → SameLinks ns (set ns i m)
+links_set ns i n m g l v d f = record {
   count = sym (length-set ns i m);
   same = links_each ns i n m g l;
   visible = each visible_of v;
   gone = each gone_of d;
+  flags = each flags_of f;
 }
   where
     each : {A : Type 0} (f : Option Node → A) → f (Some m) ≡ f (Some n) → (j : ℕ) → f (slice_get ns j) ≡ f (slice_get (set ns i m) j)
@@ -118,7 +119,7 @@ links_set ns i n m g l v d = record {
     ]
 
 pub links_same : (ns : List Node) → SameLinks ns ns
-links_same ns = record { count = refl; same = λ i. refl; visible = λ i. refl; gone = λ i. refl }
+links_same ns = record { count = refl; same = λ i. refl; visible = λ i. refl; gone = λ i. refl; flags = λ i. refl }
 
 pub node_set : (ns : List Node) → IsTree ns → (e : Element) (i : ℕ) (n m : Node) → number ns e ≡ Some i → slice_get ns i ≡ Some n
     → links_of (Some m) ≡ links_of (Some n) → (x : Element) → node_at (set ns i m) x ≡ cond (is_same x e) (Some m) (node_at ns x)
@@ -143,6 +144,7 @@ links_trans a b c p q = record {
   same = λ i. p.same i ∙ q.same i;
   visible = λ i. p.visible i ∙ q.visible i;
   gone = λ i. p.gone i ∙ q.gone i;
+  flags = λ i. p.flags i ∙ q.flags i;
 }
 
 pub children_same : (ns : List Node) → SameChildren ns ns

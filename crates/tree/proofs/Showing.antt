@@ -6,23 +6,23 @@ use Rattle.std.proofs.Math.Nat.{min-le_left, min-le_right}
 use Rattle.std.specs.List.{filter}
 use Rattle.std.proofs.lemmas.Bool.{false_from_ne_true, or_cases, or_left, or_right}
 use Rattle.semantics.specs.Ids.{OpId, is_same_id}
-use Rattle.semantics.specs.Elements.{Element, Item, is_same, is_under}
+use Rattle.semantics.specs.Elements.{Element, Field, Item, Name, is_same, is_under}
 use Rattle.semantics.specs.Context.{Context}
 use Rattle.semantics.specs.Paths.{Key, ItemKey, child}
 use Rattle.semantics.specs.DocumentAnswer.{is_any}
 use Rattle.semantics.proofs.Orders.{element_itself, same_elements}
 use Rattle.columns.specs.Entries.{StandBeside}
 use Rattle.tree.specs.declared.node.Node.{Node}
-use Rattle.tree.specs.Nodes.{IsTree, SameChildren, SameLinks, child_number, context, gone_of, is_written, links_of, node_at}
+use Rattle.tree.specs.Nodes.{IsTree, SameChildren, SameLinks, child_number, context, flags_of, gone_of, is_flagged, is_written, links_of, node_at}
 use Rattle.tree.specs.Nodes.{node_in, number, order_of, presence_of, register_of, tagged, valued, visible_of}
-use Rattle.tree.specs.Shown.{AreGone, AreShown, IsGoneBelow, SameButFlags, ShownBut}
+use Rattle.tree.specs.Shown.{AreEmpty, AreShown, IsGoneBelow, SameButFlags, ShownBut}
 use Rattle.tree.specs.Writes.{end_of}
 use Rattle.tree.proofs.Beneath.{way_lost}
 use Rattle.tree.proofs.Clears.{under_step}
 use Rattle.tree.proofs.Writes.{same_sym}
 use Rattle.tree.proofs.Shape.{links_each, node_found, node_set, number_child, number_links, number_same, tree_links}
 use Rattle.tree.proofs.NodeWrites.{beside_at, beside_set}
-use Rattle.tree.proofs.SameViews.{context_view, gone_view, visible_view}
+use Rattle.tree.proofs.SameViews.{context_view, flagged_view, gone_view, visible_view}
 use Rattle.tree.proofs.Widened.{same_set}
 
 pub flags_same : (ns : List Node) → SameButFlags ns ns
@@ -58,34 +58,34 @@ pub flags_context : (ns ms : List Node) → SameButFlags ns ms → context ns �
 flags_context ns ms s = context_view ns ms s.view
 
 -- with fewer wrong flags, if those that have a node are among the wrong ones
-pub but_more : (ns : List Node) (off new : Element → OpId → Bool)
-    → ((l : Element) (a : OpId) (i : ℕ) → number ns (Item l a) ≡ Some i → off l a ≡ true → new l a ≡ true) → ShownBut ns off
-    → ShownBut ns new
+pub but_more : (ns : List Node) (off new : Element → Bool) → ((x : Element) (i : ℕ) → number ns x ≡ Some i → off x ≡ true → new x ≡ true)
+    → ShownBut ns off → ShownBut ns new
 but_more ns off new h s = record {
   flag = s.flag;
   flagged = s.flagged;
-  right = λ l a n. by l a n (number ns (Item l a)) refl (off l a) refl;
+  right = λ l a n. by l a n (number ns (Item l a)) refl (off (Item l a)) refl;
   absent = s.absent;
-  gone = λ l a n lt. still l a n lt (number ns (Item l a)) refl (off l a) refl;
+  gone = λ l a n lt. nothing (Item l a) n (λ q. s.gone l a q lt) (number ns (Item l a)) refl (off (Item l a)) refl;
+  fields = λ e k n low. nothing (Field e k) n (λ q. s.fields e k q low) (number ns (Field e k)) refl (off (Field e k)) refl;
 }
   where
-    still : (l : Element) (a : OpId) → new l a ≡ false → a.counter < gone_of (node_at ns l) → (o : Option ℕ) → number ns (Item l a) ≡ o
-        → (b : Bool) → off l a ≡ b → is_any ((context ns).presence (Item l a)) ≡ false
-    still l a n lt None p b q = ap (λ o. is_any (presence_of (node_in ns o))) p
-    still l a n lt (Some i) p true q = absurd (true≢false (sym (h l a i p q) ∙ n))
-    still l a n lt (Some i) p false q = s.gone l a q lt
+    nothing : (x : Element) → new x ≡ false → (off x ≡ false → is_any ((context ns).presence x) ≡ false) → (o : Option ℕ)
+        → number ns x ≡ o → (b : Bool) → off x ≡ b → is_any ((context ns).presence x) ≡ false
+    nothing x n was None p b q = ap (λ o. is_any (presence_of (node_in ns o))) p
+    nothing x n was (Some i) p true q = absurd (true≢false (sym (h x i p q) ∙ n))
+    nothing x n was (Some i) p false q = was q
 
-    by : (l : Element) (a : OpId) → new l a ≡ false → (o : Option ℕ) → number ns (Item l a) ≡ o → (b : Bool) → off l a ≡ b
+    by : (l : Element) (a : OpId) → new (Item l a) ≡ false → (o : Option ℕ) → number ns (Item l a) ≡ o → (b : Bool) → off (Item l a) ≡ b
         → s.flag l a ≡ is_any ((context ns).presence (Item l a))
     by l a n None p b q = s.absent l a p ∙ sym (ap (λ o. is_any (presence_of (node_in ns o))) p)
-    by l a n (Some i) p true q = absurd (true≢false (sym (h l a i p q) ∙ n))
+    by l a n (Some i) p true q = absurd (true≢false (sym (h (Item l a) i p q) ∙ n))
     by l a n (Some i) p false q = s.right l a q
 
--- where none is wrong, each list shows its visible items, and nothing stands at what is gone
-pub but_none : (ns : List Node) → ShownBut ns (λ l a. false) → AreShown ns × AreGone ns
+-- where none is wrong, each list shows its visible items, and nothing stands at what is empty
+pub but_none : (ns : List Node) → ShownBut ns (λ x. false) → AreShown ns × AreEmpty ns
 but_none ns s = (
   λ e. s.flagged e ∙ (λ i. filter (λ a. s.right e a refl i) (order_of (node_at ns e))),
-  λ l a lt. s.gone l a refl lt,
+  record { items = λ l a lt. s.gone l a refl lt; fields = λ e n low. s.fields e n refl low },
 )
 
 none_some : (j : ℕ) → ◌≡◌ {A = Option ℕ} None (Some j) → ⊥
@@ -135,6 +135,10 @@ module _ (ns : List Node) (t : IsTree ns) (i : ℕ) (n m : Node) (g : slice_get 
         (subst (λ c. StandBeside table c.entries c.indices) (sym p) h.0, subst (λ c. StandBeside table c.entries c.indices) (sym r) h.1));
   }
 
+  -- where the flags of its fields stay, they stay everywhere
+  same_flagged : m.fields.flags ≡ n.fields.flags → (x : Element) (k : Name) → is_flagged (node_at ns x) k ≡ is_flagged (node_at (set ns i m) x) k
+  same_flagged q = flagged_view ns (set ns i m) (links_each ns i n m g same_links) (same_set flags_of ns i n m g q)
+
   -- what is gone of e is what the write says, and elsewhere what it was
   gone_set : (e : Element) → number ns e ≡ Some i → (l : Element) (b : Bool) → is_same l e ≡ b
       → gone_of (node_at (set ns i m) l) ≡ cond b m.gone (gone_of (node_at ns l))
@@ -151,11 +155,15 @@ module _ (ns : List Node) (t : IsTree ns) (i : ℕ) (n m : Node) (g : slice_get 
   gone_no_more e at less l false q = let new = gone_set e at l false q in omega arith
 
   -- where no more is gone than was, nothing stands there still
-  pub gone_lower : SameButFlags ns (set ns i m) → (e : Element) → number ns e ≡ Some i → m.gone ≤ n.gone → AreGone ns
-      → AreGone (set ns i m)
-  gone_lower same e at less gone l a lt =
-      let le = gone_no_more e at less l (is_same l e) refl in
-      ap (λ C. is_any (C.presence (Item l a))) (sym (flags_context ns (set ns i m) same)) ∙ gone l a (omega arith)
+  pub gone_lower : m.fields.flags ≡ n.fields.flags → SameButFlags ns (set ns i m) → (e : Element) → number ns e ≡ Some i
+      → m.gone ≤ n.gone → AreEmpty ns → AreEmpty (set ns i m)
+  gone_lower fields same e at less empty =
+      let C = flags_context ns (set ns i m) same in
+      record {
+        items = λ l a lt. let le = gone_no_more e at less l (is_same l e) refl in
+            ap (λ D. is_any (D.presence (Item l a))) (sym C) ∙ empty.items l a (omega arith);
+        fields = λ x k low. ap (λ D. is_any (D.presence (Field x k))) (sym C) ∙ empty.fields x k (same_flagged fields x k ∙ low);
+      }
 
   -- what is gone now was gone, or is gone by the write
   gone_or_set : (e : Element) → number ns e ≡ Some i → IsGoneBelow ns e m.gone → (l : Element) (a : OpId)
@@ -168,15 +176,19 @@ module _ (ns : List Node) (t : IsTree ns) (i : ℕ) (n m : Node) (g : slice_get 
           ∙ below a (subst (λ k. a.counter < k) (gone_set e at l true q) lt)
       by false q = was (subst (λ k. a.counter < k) (gone_set e at l false q) lt)
 
-  pub gone_raised : SameButFlags ns (set ns i m) → (e : Element) → number ns e ≡ Some i → IsGoneBelow ns e m.gone → AreGone ns
-      → AreGone (set ns i m)
-  gone_raised same e at below gone l a lt =
-      ap (λ C. is_any (C.presence (Item l a))) (sym (flags_context ns (set ns i m) same)) ∙ gone_or_set e at below l a (gone l a) lt
+  pub gone_raised : m.fields.flags ≡ n.fields.flags → SameButFlags ns (set ns i m) → (e : Element) → number ns e ≡ Some i
+      → IsGoneBelow ns e m.gone → AreEmpty ns → AreEmpty (set ns i m)
+  gone_raised fields same e at below empty =
+      let C = flags_context ns (set ns i m) same in
+      record {
+        items = λ l a lt. ap (λ D. is_any (D.presence (Item l a))) (sym C) ∙ gone_or_set e at below l a (empty.items l a) lt;
+        fields = λ x k low. ap (λ D. is_any (D.presence (Field x k))) (sym C) ∙ empty.fields x k (same_flagged fields x k ∙ low);
+      }
 
   -- the flags stay
-  pub but_raised : m.order ≡ n.order → SameButFlags ns (set ns i m) → (e : Element) → number ns e ≡ Some i → IsGoneBelow ns e m.gone
-      → (off : Element → OpId → Bool) → ShownBut ns off → ShownBut (set ns i m) off
-  but_raised order same e at below off s =
+  pub but_raised : m.order ≡ n.order → m.fields.flags ≡ n.fields.flags → SameButFlags ns (set ns i m) → (e : Element) → number ns e ≡ Some i → IsGoneBelow ns e m.gone
+      → (off : Element → Bool) → ShownBut ns off → ShownBut (set ns i m) off
+  but_raised order fields same e at below off s =
       let new = set ns i m in
       let C = flags_context ns new same in
       let links = links_each ns i n m g same_links in
@@ -188,6 +200,8 @@ module _ (ns : List Node) (t : IsTree ns) (i : ℕ) (n m : Node) (g : slice_get 
         absent = λ l a none. s.absent l a (flags_number ns new same (Item l a) ∙ none);
         gone = λ l a far lt. ap (λ (D : Context). is_any (D.presence (Item l a))) (sym C)
             ∙ gone_or_set e at below l a (s.gone l a far) lt;
+        fields = λ x k far low. ap (λ (D : Context). is_any (D.presence (Field x k))) (sym C)
+            ∙ s.fields x k far (same_flagged fields x k ∙ low);
       }
 
   module _ (e : Element) (at : number ns e ≡ Some i) (id : OpId) (j : ℕ) (child : child_number ns i (ItemKey id) ≡ Some j) (shown : Bool)
@@ -234,23 +248,25 @@ module _ (ns : List Node) (t : IsTree ns) (i : ℕ) (n m : Node) (g : slice_get 
         sym here ∙ false_from_ne_true shown (λ yes. let le = reached yes in omega arith)
 
     -- sets the flag right
-    pub flag_set : SameButFlags ns (set ns i m) → m.gone ≤ n.gone → (shown ≡ true → m.gone ≤ id.counter)
+    pub flag_set : m.fields.flags ≡ n.fields.flags → SameButFlags ns (set ns i m) → m.gone ≤ n.gone → (shown ≡ true → m.gone ≤ id.counter)
         → ((f : OpId → Bool) → n.order.visible ≡ filter f n.order.items
         → m.order.visible ≡ filter (λ a. cond (is_same_id a id) shown (f a)) n.order.items)
-        → (off : Element → OpId → Bool) → ShownBut ns (λ l a. is_same (Item l a) (Item e id) || off l a) → ShownBut (set ns i m) off
-    flag_set same less reached sets off s = record {
+        → (off : Element → Bool) → ShownBut ns (λ x. is_same x (Item e id) || off x) → ShownBut (set ns i m) off
+    flag_set fields same less reached sets off s = record {
       flag = flag_at s.flag e id shown;
       flagged = λ l. let new = node_set ns t e i n m at g same_links l in
           ap visible_of new ∙ flagged_set s.flag s.flagged sets l (is_same l e) refl
           ∙ ap (λ o. filter (flag_at s.flag e id shown l) (order_of o)) (sym new);
       right = λ l a o.
-          right_set (s.flag l a) l a (is_same (Item l a) (Item e id)) refl (λ q. s.right l a (ap (λ b. b || off l a) q ∙ o))
+          right_set (s.flag l a) l a (is_same (Item l a) (Item e id)) refl (λ q. s.right l a (ap (λ b. b || off (Item l a)) q ∙ o))
           ∙ ap (λ C. is_any (C.presence (Item l a))) (flags_context ns (set ns i m) same);
       absent = λ l a p. let none = flags_number ns (set ns i m) same (Item l a) ∙ p in
           absent_set (s.flag l a) l a (is_same (Item l a) (Item e id)) refl none (s.absent l a none);
       gone = λ l a o lt.
           ap (λ C. is_any (C.presence (Item l a))) (sym (flags_context ns (set ns i m) same))
-          ∙ gone_here less reached l a (is_same (Item l a) (Item e id)) refl (λ q. s.gone l a (ap (λ b. b || off l a) q ∙ o)) lt;
+          ∙ gone_here less reached l a (is_same (Item l a) (Item e id)) refl (λ q. s.gone l a (ap (λ b. b || off (Item l a)) q ∙ o)) lt;
+      fields = λ x k far low. ap (λ C. is_any (C.presence (Field x k))) (sym (flags_context ns (set ns i m) same))
+          ∙ s.fields x k far (same_flagged fields x k ∙ low);
     }
 
 pub or_parts : (a b : Bool) → (a || b) ≡ false → (a ≡ false) × (b ≡ false)
@@ -258,22 +274,21 @@ or_parts true b e = absurd (true≢false e)
 or_parts false b e = (refl, e)
 
 -- where a hop leads to no node, no flag can be wrong there
-pub but_lost : (ns : List Node) (x : Element) (off : Element → OpId → Bool) → number ns x ≡ None
-    → ShownBut ns (λ l a. is_same (Item l a) x || off l a) → ShownBut ns off
-but_lost ns x off none = but_more ns _ off (λ l a j p u. elim (or_cases (is_same (Item l a) x) (off l a) u) [
-  | inl e ↦ absurd (none_some j (sym none ∙ ap (number ns) (sym (same_elements (Item l a) x e)) ∙ p))
+pub but_lost : (ns : List Node) (x : Element) (off : Element → Bool) → number ns x ≡ None
+    → ShownBut ns (λ y. is_same y x || off y) → ShownBut ns off
+but_lost ns x off none = but_more ns _ off (λ y j p u. elim (or_cases (is_same y x) (off y) u) [
+  | inl e ↦ absurd (none_some j (sym none ∙ ap (number ns) (sym (same_elements y x e)) ∙ p))
   | inr o ↦ o
 ])
 
 -- one hop of the walk down a path
-pub but_hop : (ns : List Node) (path : List Key) (k : ℕ) (e : Element) (h : Key) (off : Element → OpId → Bool)
+pub but_hop : (ns : List Node) (path : List Key) (k : ℕ) (e : Element) (h : Key) (off : Element → Bool)
     → end_of (take (k + 1) path) ≡ child e h
-    → ShownBut ns (λ l a. is_under (end_of (take (k + 1) path)) (Item l a) || off l a)
-    → ShownBut ns (λ l a. is_under e (Item l a) || (is_same (Item l a) (child e h) || off l a))
+    → ShownBut ns (λ x. is_under (end_of (take (k + 1) path)) x || off x)
+    → ShownBut ns (λ x. is_under e x || (is_same x (child e h) || off x))
 but_hop ns path k e h off is = subst (ShownBut ns)
-    (λ t l a. (ap (λ x. is_under x (Item l a) || off l a) is ∙ ap (λ b. b || off l a) (under_step e (Item l a) h)
-    ∙ ap (λ b. (b || is_under e (Item l a)) || off l a) (same_sym (child e h) (Item l a))
-    ∙ or_swap (is_same (Item l a) (child e h)) (is_under e (Item l a)) (off l a)) t)
+    (λ t y. (ap (λ x. is_under x y || off y) is ∙ ap (λ b. b || off y) (under_step e y h)
+    ∙ ap (λ b. (b || is_under e y) || off y) (same_sym (child e h) y) ∙ or_swap (is_same y (child e h)) (is_under e y) (off y)) t)
   where
     or_swap : (a b c : Bool) → ((a || b) || c) ≡ (b || (a || c))
     or_swap true true c = refl
@@ -281,13 +296,13 @@ but_hop ns path k e h off is = subst (ShownBut ns)
     or_swap false b c = refl
 
 -- where a hop leads to no node, the way ends
-pub but_way : (ns : List Node) (path : List Key) (k : ℕ) (e : Element) (h : Key) (off : Element → OpId → Bool)
+pub but_way : (ns : List Node) (path : List Key) (k : ℕ) (e : Element) (h : Key) (off : Element → Bool)
     → end_of (take (k + 1) path) ≡ child e h → number ns (child e h) ≡ None
-    → ShownBut ns (λ l a. is_under (end_of path) (Item l a) || off l a)
-    → ShownBut ns (λ l a. is_under e (Item l a) || (is_same (Item l a) (child e h) || off l a))
-but_way ns path k e h off is none = but_more ns _ _ (λ l a j p u. elim (or_cases (is_under (end_of path) (Item l a)) (off l a) u) [
-  | inl v ↦ or_left _ _ (way_lost ns path (k + 1) e h is none (Item l a) j p v)
-  | inr o ↦ or_right (is_under e (Item l a)) _ (or_right (is_same (Item l a) (child e h)) _ o)
+    → ShownBut ns (λ x. is_under (end_of path) x || off x)
+    → ShownBut ns (λ x. is_under e x || (is_same x (child e h) || off x))
+but_way ns path k e h off is none = but_more ns _ _ (λ y j p u. elim (or_cases (is_under (end_of path) y) (off y) u) [
+  | inl v ↦ or_left _ _ (way_lost ns path (k + 1) e h is none y j p v)
+  | inr o ↦ or_right (is_under e y) _ (or_right (is_same y (child e h)) _ o)
 ])
 
 or_nothing : (b : Bool) → b ≡ (b || false)
@@ -295,61 +310,65 @@ or_nothing true = refl
 or_nothing false = refl
 
 -- no other flag is wrong
-pub or_none : (ns : List Node) (off : Element → OpId → Bool) → ShownBut ns off → ShownBut ns (λ l a. off l a || false)
-or_none ns off = subst (ShownBut ns) (λ k l a. or_nothing (off l a) k)
+pub or_none : (ns : List Node) (off : Element → Bool) → ShownBut ns off → ShownBut ns (λ x. off x || false)
+or_none ns off = subst (ShownBut ns) (λ k x. or_nothing (off x) k)
 
 -- a new item, and the way to its list
-pub new_parts : (ns : List Node) (m : Element) (id : OpId) → ShownBut ns (λ l a. is_under (Item m id) (Item l a))
-    → ShownBut ns (λ l a. is_under m (Item l a) || (is_same (Item l a) (Item m id) || false))
+pub new_parts : (ns : List Node) (m : Element) (id : OpId) → ShownBut ns (is_under (Item m id))
+    → ShownBut ns (λ x. is_under m x || (is_same x (Item m id) || false))
 new_parts ns m id = subst (ShownBut ns)
-    (λ k l a. (ap (λ b. b || is_under m (Item l a)) (same_sym (Item m id) (Item l a))
-    ∙ swapped (is_same (Item l a) (Item m id)) (is_under m (Item l a))) k)
+    (λ k x. (ap (λ b. b || is_under m x) (same_sym (Item m id) x) ∙ swapped (is_same x (Item m id)) (is_under m x)) k)
   where
     swapped : (a b : Bool) → (a || b) ≡ (b || (a || false))
     swapped true true = refl
     swapped true false = refl
     swapped false b = or_nothing b
 
--- where each list shows its visible items, and nothing stands at what is gone, no flag is wrong
-pub shown_but : (ns : List Node) → AreShown ns → AreGone ns → ShownBut ns (λ l a. false)
-shown_but ns shown gone = record {
+-- where each list shows its visible items, and nothing stands at what is empty, no flag is wrong
+pub shown_but : (ns : List Node) → AreShown ns → AreEmpty ns → ShownBut ns (λ x. false)
+shown_but ns shown empty = record {
   flag = λ l a. is_any ((context ns).presence (Item l a));
   flagged = shown;
   right = λ l a far. refl;
   absent = λ l a none. ap (λ o. is_any (presence_of (node_in ns o))) none;
-  gone = λ l a far lt. gone l a lt;
+  gone = λ l a far lt. empty.items l a lt;
+  fields = λ e n far low. empty.fields e n low;
 }
 
--- where flags and orders stay, those at items whose presence stays are as right as they were
+-- where flags and orders stay, those at elements whose presence stays are as right as they were
 pub but_kept : (ns ms : List Node) → SameLinks ns ms → ((l : Element) → order_of (node_at ms l) ≡ order_of (node_at ns l))
-    → (off new : Element → OpId → Bool)
-    → ((l : Element) (a : OpId) → new l a ≡ false
-    → (off l a ≡ false) × ((context ms).presence (Item l a) ≡ (context ns).presence (Item l a)))
+    → (off new : Element → Bool)
+    → ((x : Element) → new x ≡ false → (off x ≡ false) × ((context ms).presence x ≡ (context ns).presence x))
     → ShownBut ns off → ShownBut ms new
 but_kept ns ms links order off new same s = record {
   flag = s.flag;
   flagged = λ l. sym (visible_view ns ms links.same links.visible l) ∙ s.flagged l ∙ ap (filter (s.flag l)) (sym (order l));
-  right = λ l a far. let h = same l a far in s.right l a h.0 ∙ ap is_any (sym h.1);
+  right = λ l a far. let h = same (Item l a) far in s.right l a h.0 ∙ ap is_any (sym h.1);
   absent = λ l a none. s.absent l a (number_same ns ms links (Item l a) ∙ none);
   gone = λ l a far lt.
-      let h = same l a far in
+      let h = same (Item l a) far in
       ap is_any h.1 ∙ s.gone l a h.0 (subst (λ g. a.counter < g) (sym (gone_view ns ms links.same links.gone l)) lt);
+  fields = λ e n far low.
+      let h = same (Field e n) far in
+      ap is_any h.1 ∙ s.fields e n h.0 (flagged_view ns ms links.same links.flags e n ∙ low);
 }
 
--- where what is gone stays, nothing stands there if nothing new stands anywhere
-pub gone_kept : (ns ms : List Node) → SameLinks ns ms
-    → ((x : Element) → is_any ((context ns).presence x) ≡ false → is_any ((context ms).presence x) ≡ false) → AreGone ns → AreGone ms
-gone_kept ns ms links fewer gone l a lt =
-    fewer (Item l a) (gone l a (subst (λ g. a.counter < g) (sym (gone_view ns ms links.same links.gone l)) lt))
+-- where flags and what is gone stay, nothing stands there if nothing new stands anywhere
+pub empty_kept : (ns ms : List Node) → SameLinks ns ms
+    → ((x : Element) → is_any ((context ns).presence x) ≡ false → is_any ((context ms).presence x) ≡ false) → AreEmpty ns → AreEmpty ms
+empty_kept ns ms links fewer empty = record {
+  items = λ l a lt. fewer (Item l a) (empty.items l a (subst (λ g. a.counter < g) (sym (gone_view ns ms links.same links.gone l)) lt));
+  fields = λ e n low. fewer (Field e n) (empty.fields e n (flagged_view ns ms links.same links.flags e n ∙ low));
+}
 
 -- the same children, whatever the flags
 pub flags_children : (ns ms : List Node) → SameButFlags ns ms → SameChildren ns ms
 flags_children ns ms s = let v = s.view in record { count = s.count; same = v.links }
 
 -- with more flags that may be wrong
-pub but_wider : (ns : List Node) (b : Bool) (x : Element) (off : Element → OpId → Bool)
-    → ShownBut ns (λ l a. (b && is_same (Item l a) x) || off l a) → ShownBut ns (λ l a. is_same (Item l a) x || off l a)
-but_wider ns b x off = but_more ns _ _ (λ l a i p u. wider b (is_same (Item l a) x) (off l a) u)
+pub but_wider : (ns : List Node) (b : Bool) (x : Element) (off : Element → Bool)
+    → ShownBut ns (λ y. (b && is_same y x) || off y) → ShownBut ns (λ y. is_same y x || off y)
+but_wider ns b x off = but_more ns _ _ (λ y i p u. wider b (is_same y x) (off y) u)
   where
     wider : (b s o : Bool) → ((b && s) || o) ≡ true → (s || o) ≡ true
     wider true s o u = u

@@ -4,13 +4,14 @@ use Rattle.std.specs.Prelude.{slice_get}
 use Rattle.semantics.specs.Ids.{OpId}
 use Rattle.semantics.specs.Elements.{Name}
 use Rattle.columns.specs.Entries.{StandBeside}
+use Rattle.columns.specs.Flagged.{Flagged}
 use Rattle.columns.specs.Numbered.{Numbered}
 use Rattle.tree.specs.declared.node.Node.{Node}
-use Rattle.tree.specs.Nodes.{IsTree, Kept, Links, NodeBeside, SameView, gone_of, is_written, linked_by, links, links_of, order_of}
+use Rattle.tree.specs.Nodes.{IsTree, Kept, Links, NodeBeside, SameView, flags_of, gone_of, is_written, linked_by, links, links_of, order_of}
 use Rattle.tree.specs.Nodes.{order_room, presence_of, presence_room, register_of, register_room, tagged, valued, visible_of}
 use Rattle.tree.proofs.Shape.{tree_links}
 use Rattle.tree.proofs.NodeWrites.{beside_at, beside_set, set_each}
-use Rattle.tree.proofs.SameViews.{context_view, gone_view, visible_view}
+use Rattle.tree.proofs.SameViews.{context_view, flagged_view, gone_view, visible_view}
 
 -- m is n with no less room
 pub record Wider (n m : Node) : Type 0 where
@@ -21,17 +22,20 @@ pub record Wider (n m : Node) : Type 0 where
       × (n.register.room ≤ m.register.room)
   pub order : (m.order.items ≡ n.order.items) × (m.order.visible ≡ n.order.visible) × (n.order.room ≤ m.order.room)
   pub gone : m.gone ≡ n.gone
+  pub flags : m.fields.flags ≡ n.fields.flags
   pub written : m.is_written ≡ n.is_written
 
 -- a node whose children are the same has no less room
-pub wider_children : (n : Node) (f : Numbered Name) (i : Numbered OpId) → f.entries ≡ n.fields.entries → i.entries ≡ n.items.entries
+pub wider_children : (n : Node) (f : Flagged Name) (i : Numbered OpId) → f.entries ≡ n.fields.entries
+    → f.flags ≡ n.fields.flags → i.entries ≡ n.items.entries
     → Wider n (record n { fields = f; items = i })
-wider_children n f i e d = record {
+wider_children n f i e s d = record {
   children = (e, d);
   presence = (refl, refl, omega arith);
   register = (refl, refl, omega arith);
   order = (refl, refl, omega arith);
   gone = refl;
+  flags = s;
   written = refl;
 }
 
@@ -76,6 +80,7 @@ kept_set ns at n m g t w =
       same = sym (context_view ns (set ns at m) v);
       visible = λ e. sym (visible_view ns (set ns at m) v.links (same_set visible_of ns at n m g w.order.1) e);
       gone = λ e. sym (gone_view ns (set ns at m) v.links (same_set gone_of ns at n m g w.gone) e);
+      flagged = λ e k. sym (flagged_view ns (set ns at m) v.links (same_set flags_of ns at n m g w.flags) e k);
       grows = record {
         count = omega arith;
         children = λ i k j h. sym (ap (λ l. linked_by l k) (v.links i)) ∙ h;

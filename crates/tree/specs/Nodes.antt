@@ -1,5 +1,5 @@
 -- Nodes that are named by their numbers, and the context that they stand for.
-use Rattle.std.specs.Prelude.{◌≡◌, ◌≢◌, ℕ, ◌<◌, ◌≤◌, Bool, false, cond, IsTrue, List, [], ◌∷◌, length, map, Option, Some, None, slice_get}
+use Rattle.std.specs.Prelude.{◌≡◌, ◌≢◌, ℕ, ◌<◌, ◌≤◌, Bool, false, cond, IsTrue, List, [], ◌∷◌, length, map, Option, Some, None, slice_get, unwrap_or}
 use Rattle.std.specs.FinMap.{find, is_sorted}
 use Rattle.semantics.specs.Ids.{OpId, id_cmp}
 use Rattle.semantics.specs.Elements.{Element, Doc, Field, Item, Name, Scalar, Tag, name_cmp}
@@ -87,6 +87,15 @@ abbrev pub gone_of : Option Node → ℕ
 gone_of None = 0
 gone_of (Some n) = n.gone
 
+-- the flags of its fields
+abbrev pub flags_of : Option Node → List (Name × Bool)
+flags_of None = []
+flags_of (Some n) = n.fields.flags
+
+-- whether the flag of this field is raised: one that isn't there has none
+abbrev pub is_flagged : Option Node → Name → Bool
+is_flagged o n = unwrap_or (find name_cmp n (flags_of o)) false
+
 -- whether it was written to
 abbrev pub is_written : Option Node → Bool
 is_written None = false
@@ -130,12 +139,13 @@ pub record SameChildren (ns ms : List Node) : Type 0 where
   pub count : length ns ≡ length ms
   pub same : (i : ℕ) → links ns i ≡ links ms i
 
--- the same children, the same flags of items, and the same items gone
+-- the same children, the same flags of items and fields, and the same items gone
 pub record SameLinks (ns ms : List Node) : Type 0 where
   pub count : length ns ≡ length ms
   pub same : (i : ℕ) → links ns i ≡ links ms i
   pub visible : (i : ℕ) → visible_of (slice_get ns i) ≡ visible_of (slice_get ms i)
   pub gone : (i : ℕ) → gone_of (slice_get ns i) ≡ gone_of (slice_get ms i)
+  pub flags : (i : ℕ) → flags_of (slice_get ns i) ≡ flags_of (slice_get ms i)
 
 -- for how many more ids the presence of a node has room
 abbrev pub presence_room : Option Node → ℕ
@@ -175,6 +185,7 @@ pub record IsEmptyNode (n : Node) : Type 0 where
   pub register : n.register.entries ≡ []
   pub no_register : n.register.indices ≡ []
   pub fields : n.fields.entries ≡ []
+  pub flags : n.fields.flags ≡ []
   pub items : n.items.entries ≡ []
   pub order : n.order.items ≡ []
   pub visible : n.order.visible ≡ []
@@ -195,6 +206,7 @@ pub record Kept (ns ms : List Node) : Type 0 where
   pub same : context ms ≡ context ns
   pub visible : (e : Element) → visible_of (node_at ms e) ≡ visible_of (node_at ns e)
   pub gone : (e : Element) → gone_of (node_at ms e) ≡ gone_of (node_at ns e)
+  pub flagged : (e : Element) (n : Name) → is_flagged (node_at ms e) n ≡ is_flagged (node_at ns e) n
   pub grows : Grows ns ms
   pub beside : (table : List ℕ) → AreBeside table ns → AreBeside table ms
 

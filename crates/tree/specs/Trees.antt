@@ -12,7 +12,7 @@ use Rattle.value.specs.Meanings.{scalar_of}
 use Rattle.tree.specs.declared.node.Node.{Node}
 use Rattle.tree.specs.Nodes.{AreBeside, IsTree, context, node_at, order_room, register_room}
 use Rattle.tree.specs.Nested.{IsNested}
-use Rattle.tree.specs.Shown.{AreGone, AreShown}
+use Rattle.tree.specs.Shown.{AreEmpty, AreShown}
 use Rattle.cursor.specs.Meanings.{hop_of}
 use Rattle.tree.specs.declared.insert.Slot.{Slot}
 use Rattle.tree.specs.Writes.{RoomTo, end_of}
@@ -28,13 +28,13 @@ abbrev pub document : Planted → Context
 document t = context t.nodes
 
 -- the numbers of the table differ, the nodes are a tree, what stands beneath an element stands at it too, lists show their visible
--- items, nothing stands at those that are gone, and each id's index is its replica's in the table
+-- items, nothing stands at items that are gone nor at fields whose flag is lowered, and each id's index is its replica's in the table
 pub record IsPlanted (t : Planted) : Type 0 where
   pub distinct : AreDistinct t.table
   pub tree : IsTree t.nodes
   pub nested : IsNested (context t.nodes)
   pub shown : AreShown t.nodes
-  pub gone : AreGone t.nodes
+  pub empty : AreEmpty t.nodes
   pub beside : AreBeside t.table t.nodes
 
 -- the element that s writes at

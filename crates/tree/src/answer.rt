@@ -7,11 +7,11 @@ ghost use Rattle.semantics.specs.DocumentAnswer.{is_any, visible_items, visible_
 ghost use Rattle.semantics.specs.Questions.{Answer, ConflictsAre, ItemsAre, KeysAre, Refused, ValuesAre};
 ghost use Rattle.tree.specs.Nodes.{IsTree, context, is_written, number, presence_of, tagged, valued};
 ghost use Rattle.tree.specs.Answers.{IsAnswer};
-ghost use Rattle.tree.specs.Shown.{AreShown};
+ghost use Rattle.tree.specs.Shown.{AreEmpty, AreShown};
 
 use crate::find::find;
 use crate::node::{Node, NodeNumber, node_at};
-use crate::walk::{count_fields, field_at, walk};
+use crate::walk::{count_fields, field_at, next_field, walk};
 use columns::{Presence, Register};
 use cursor::{ElementPlace, Expr, Tag};
 use ids::{OpId, Refusal};
@@ -108,7 +108,8 @@ fn conflicts_of(
 
 /// The keys of an element's fields at which something stands, in byte order.
 pub fn keys(nodes: &[Node], element: &ElementPlace, alloc: Global) -> Result<Vec<Key>, AllocError>
-    requires { IsTree nodes.now }
+    requires tree { IsTree nodes.now }
+    requires empty { AreEmpty nodes.now }
     ensures { IfOk result (λ v. v.items ≡ visible_names (context nodes.now) element.now) }
 {
     keys_of(nodes, node_of(nodes, element), alloc)
@@ -117,6 +118,7 @@ pub fn keys(nodes: &[Node], element: &ElementPlace, alloc: Global) -> Result<Vec
 /// The same at the element that an expression leads to.
 pub fn keys_at(nodes: &[Node], expression: &Expr, alloc: Global) -> Result<Vec<Key>, Refusal>
     requires tree { IsTree nodes.now }
+    requires empty { AreEmpty nodes.now }
     requires shown { AreShown nodes.now }
     ensures answer { IfOk result
         (λ v. IsAnswer (context nodes.now) (λ e. KeysAre (visible_names (context nodes.now) e)) expression.now (KeysAre v.items)) }
@@ -130,6 +132,7 @@ pub fn keys_at(nodes: &[Node], expression: &Expr, alloc: Global) -> Result<Vec<K
 /// The keys at a node, none where there is no node.
 fn keys_of(nodes: &[Node], node: Option<NodeNumber>, alloc: Global) -> Result<Vec<Key>, AllocError>
     requires tree { IsTree nodes.now }
+    requires empty { AreEmpty nodes.now }
     requires inside { IfSome node (λ at. at < length nodes.now) }
     ensures { IfOk result (λ v. (e : Element) → number nodes.now e ≡ node → v.items ≡ visible_names (context nodes.now) e) }
 {
@@ -211,20 +214,24 @@ fn copy_tags(presence: &Presence, alloc: Global) -> Result<Vec<(OpId, Tag)>, All
     Ok(tags)
 }
 
-/// The keys of the map's fields at which something stands, in byte order. Looks at each field that ever was, and copies the keys
-/// that it returns.
+/// The keys of the map's fields at which something stands, in byte order. Looks at the node of each field whose flag is raised, and
+/// copies the keys that it returns.
 fn present_keys(nodes: &[Node], at: NodeNumber, alloc: Global) -> Result<Vec<Key>, AllocError>
     requires tree { IsTree nodes.now }
+    requires empty { AreEmpty nodes.now }
     requires inside { at < length nodes.now }
     ensures { IfOk result (λ v. (e : Element) → number nodes.now e ≡ Some at → v.items ≡ visible_names (context nodes.now) e) }
 {
     let mut keys = Vec::new(alloc);
-    for position in 0..count_fields(nodes, at) {
+    let fields = count_fields(nodes, at);
+    let mut position = next_field(nodes, at, 0);
+    while position < fields {
         if is_field(nodes, field_at(nodes, at, position)) {
             let (key, _) = node_at(nodes, at).fields.at(position);
             let key = key.clone()?;
             keys.push(key)?;
         }
+        position = next_field(nodes, at, position + 1);
     }
     Ok(keys)
 }

@@ -12,7 +12,7 @@ ghost use Rattle.cursor.specs.Meanings.{tag_of};
 ghost use Rattle.operation.specs.Meanings.{mutation_of, stamped_of};
 ghost use Rattle.tree.specs.Nested.{IsNested};
 ghost use Rattle.tree.specs.Nodes.{AreBeside, IsTree, context};
-ghost use Rattle.tree.specs.Shown.{AreGone, AreShown, ShownBut};
+ghost use Rattle.tree.specs.Shown.{AreEmpty, AreShown, ShownBut};
 ghost use Rattle.tree.specs.Writes.{IsStamp, assigned, deps_of, linked};
 ghost use Rattle.tree.specs.Trees.{CanInsert, IsPlaced, IsReserved};
 
@@ -35,7 +35,7 @@ pub fn apply(nodes: &mut [Node], op: &Op, stamp: &Stamp, scalar: Option<Scalar>)
     requires beside { AreBeside stamp.now.table.now nodes.old }
     requires nested { IsNested (context nodes.old) }
     requires shown { AreShown nodes.old }
-    requires gone { AreGone nodes.old }
+    requires empty { AreEmpty nodes.old }
     requires reserved { IsReserved (record { table = stamp.now.table.now; nodes = nodes.old; scalar = scalar })
         (stamped_of stamp.now.table.now op.now) }
     requires placed { IsPlaced (context nodes.old) (stamped_of stamp.now.table.now op.now) }
@@ -44,7 +44,7 @@ pub fn apply(nodes: &mut [Node], op: &Op, stamp: &Stamp, scalar: Option<Scalar>)
     ensures nested { IsNested (context nodes.new) }
     ensures beside { AreBeside stamp.now.table.now nodes.new }
     ensures shown { AreShown nodes.new }
-    ensures gone { AreGone nodes.new }
+    ensures empty { AreEmpty nodes.new }
     ensures applied { context nodes.new ≡ apply (context nodes.old) (loose_operation (stamped_of stamp.now.table.now op.now)) }
 {
     run(nodes, op, stamp, scalar);
@@ -60,7 +60,7 @@ fn run(nodes: &mut [Node], op: &Op, stamp: &Stamp, scalar: Option<Scalar>)
     requires tree { IsTree nodes.old }
     requires beside { AreBeside stamp.now.table.now nodes.old }
     requires nested { IsNested (context nodes.old) }
-    requires gone { AreGone nodes.old }
+    requires empty { AreEmpty nodes.old }
     requires reserved { IsReserved (record { table = stamp.now.table.now; nodes = nodes.old; scalar = scalar })
         (stamped_of stamp.now.table.now op.now) }
     requires placed { IsPlaced (context nodes.old) (stamped_of stamp.now.table.now op.now) }
@@ -69,7 +69,7 @@ fn run(nodes: &mut [Node], op: &Op, stamp: &Stamp, scalar: Option<Scalar>)
     ensures beside { AreBeside stamp.now.table.now nodes.new }
     ensures shown { AreShown nodes.old
         → ShownBut nodes.new
-        (λ l a. is_under (target_in (slot_of (mutation_of op.now.mutation) op.now.place) op.now.id op.now.place) (Item l a)) }
+        (is_under (target_in (slot_of (mutation_of op.now.mutation) op.now.place) op.now.id op.now.place)) }
     ensures applied { context nodes.new ≡ apply (context nodes.old) (loose_operation (stamped_of stamp.now.table.now op.now)) }
 {
     match &op.mutation {
@@ -85,14 +85,14 @@ fn insert_at(nodes: &mut [Node], place: &Place, stamp: &Stamp, tag: Tag, scalar:
     requires tree { IsTree nodes.old }
     requires beside { AreBeside stamp.now.table.now nodes.old }
     requires nested { IsNested (context nodes.old) }
-    requires gone { AreGone nodes.old }
+    requires empty { AreEmpty nodes.old }
     requires slot { IsSome (slot_of (Insert EmptyMap) place.now) }
     requires fits { (l : Element) (p : Option TheId) → slot_of (Insert EmptyMap) place.now ≡ Some (l, p)
         → CanInsert nodes.old l p stamp.now.id scalar }
     ensures tree { IsTree nodes.new }
     ensures beside { AreBeside stamp.now.table.now nodes.new }
     ensures shown { (l : Element) (p : Option TheId) → slot_of (Insert EmptyMap) place.now ≡ Some (l, p) → AreShown nodes.old
-        → ShownBut nodes.new (λ y a. is_under (Item l stamp.now.id) (Item y a)) }
+        → ShownBut nodes.new (is_under (Item l stamp.now.id)) }
     ensures inserted { (l : Element) (p : Option TheId) → slot_of (Insert EmptyMap) place.now ≡ Some (l, p)
         → context nodes.new
         ≡ assigned (linked (context nodes.old) l p stamp.now.id) stamp.now.id (deps_of stamp.now) (Item l stamp.now.id) (tag_of tag)

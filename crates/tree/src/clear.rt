@@ -10,14 +10,14 @@ ghost use Rattle.semantics.specs.DocumentAnswer.{is_any};
 ghost use Rattle.cursor.specs.Meanings.{hop_of};
 ghost use Rattle.tree.specs.Nested.{IsNested};
 ghost use Rattle.tree.specs.Nodes.{AreBeside, IsTree, MoreRoom, SameChildren, SameLinks, context, gone_of, links, number, presence_of};
-ghost use Rattle.tree.specs.Shown.{AreGone, IsGoneBelow, SameButFlags, ShownBut};
+ghost use Rattle.tree.specs.Shown.{AreEmpty, IsGoneBelow, SameButFlags, ShownBut};
 ghost use Rattle.tree.specs.Writes.{IsStamp, clear_own, deps_of, end_of};
 
 use crate::answer::is_present;
 use crate::node::{Node, NodeNumber, node_at, node_at_mut};
-use crate::show::{gone_with, show_child};
+use crate::show::{flag_field, gone_with, show_child};
 use crate::stamp::Stamp;
-use crate::walk::{count_fields, count_items, field_at, item_at, walk};
+use crate::walk::{count_fields, count_items, field_at, item_at, next_field, walk};
 use cursor::Hop;
 
 /// Removes from a node every id that the stamp's vector covers.
@@ -44,11 +44,11 @@ fn show_cleared(nodes: &mut [Node], at: NodeNumber, position: usize, was_present
     requires within { position < length (links nodes.old at).1 }
     ensures same { SameButFlags nodes.old nodes.new }
     ensures room { MoreRoom nodes.old nodes.new }
-    ensures shown { (e : Element) (off : Element → TheId → Bool) (d : TheId × ℕ) → number nodes.old e ≡ Some at
+    ensures shown { (e : Element) (off : Element → Bool) (d : TheId × ℕ) → number nodes.old e ≡ Some at
         → ShownBut nodes.old
-        (λ l a. (was_present && is_same (Item l a) (Item e (slice_index_or (links nodes.old at).1 position d).0)) || off l a)
+        (λ x. (was_present && is_same x (Item e (slice_index_or (links nodes.old at).1 position d).0)) || off x)
         → ShownBut nodes.new off }
-    ensures gone { (e : Element) → number nodes.old e ≡ Some at → AreGone nodes.old → AreGone nodes.new }
+    ensures empty { (e : Element) → number nodes.old e ≡ Some at → AreEmpty nodes.old → AreEmpty nodes.new }
 {
     if was_present {
         show_child(nodes, at, position);
@@ -89,8 +89,8 @@ fn set_gone(nodes: &mut [Node], at: NodeNumber, gone: u64)
     requires inside { at < length nodes.old }
     ensures same { SameButFlags nodes.old nodes.new }
     ensures room { MoreRoom nodes.old nodes.new }
-    ensures gone { (e : Element) → number nodes.old e ≡ Some at → IsGoneBelow nodes.old e gone → AreGone nodes.old → AreGone nodes.new }
-    ensures shown { (e : Element) (off : Element → TheId → Bool) → number nodes.old e ≡ Some at → IsGoneBelow nodes.old e gone
+    ensures empty { (e : Element) → number nodes.old e ≡ Some at → IsGoneBelow nodes.old e gone → AreEmpty nodes.old → AreEmpty nodes.new }
+    ensures shown { (e : Element) (off : Element → Bool) → number nodes.old e ≡ Some at → IsGoneBelow nodes.old e gone
         → ShownBut nodes.old off → ShownBut nodes.new off }
 {
     let node = node_at_mut(nodes, at);
@@ -98,31 +98,35 @@ fn set_gone(nodes: &mut [Node], at: NodeNumber, gone: u64)
 }
 
 /// Clears a node and all nodes beneath it, and sets what the lists beneath it show. Goes past what is empty with one look: nothing
-/// stands beneath it either. Of a list it begins at the first item that stood after the list's last clear, or that was shown since: a
-/// list that is emptied again and again, each time for new items, costs its newest items alone.
+/// stands beneath it either. Of a map it comes to the fields whose flags are raised alone, and lowers the flags of those that it leaves
+/// empty. Of a list it begins at the first item that stood after the list's last clear, or that was shown since. So a map or a list
+/// that is emptied again and again, each time for new fields or items, costs its newest ones alone.
 pub fn clear_below(nodes: &mut [Node], at: NodeNumber, stamp: &Stamp)
     requires tree { IsTree nodes.old }
     requires stamp { IsStamp stamp.now }
     requires beside { AreBeside stamp.now.table.now nodes.old }
     requires nested { IsNested (context nodes.old) }
-    requires gone { AreGone nodes.old }
+    requires empty { AreEmpty nodes.old }
     requires there { (e : Element) × (number nodes.old e ≡ Some at) }
     requires inside { at < length nodes.old }
     ensures children { SameChildren nodes.old nodes.new }
     ensures room { MoreRoom nodes.old nodes.new }
     ensures beside { AreBeside stamp.now.table.now nodes.new }
     ensures cleared { (e : Element) → number nodes.old e ≡ Some at → context nodes.new ≡ clear (context nodes.old) e (deps_of stamp.now) }
-    ensures shown { (e : Element) (off : Element → TheId → Bool) → number nodes.old e ≡ Some at → ShownBut nodes.old off
-        → ShownBut nodes.new (λ l a. (is_any (presence_of (slice_get nodes.old at)) && is_same (Item l a) e) || off l a) }
-    ensures gone { AreGone nodes.new }
+    ensures shown { (e : Element) (off : Element → Bool) → number nodes.old e ≡ Some at → ShownBut nodes.old off
+        → ShownBut nodes.new (λ x. (is_any (presence_of (slice_get nodes.old at)) && is_same x e) || off x) }
+    ensures empty { AreEmpty nodes.new }
 {
     if !is_present(nodes, at) {
         return;
     }
     let fields = count_fields(nodes, at);
-    'fields: for position in 0..fields {
+    let mut position = next_field(nodes, at, 0);
+    'fields: while position < fields {
         let child = field_at(nodes, at, position);
         clear_below(nodes, child, stamp);
+        flag_field(nodes, at, position, child);
+        position = next_field(nodes, at, position + 1);
     }
     let items = count_items(nodes, at);
     let from = first_item(nodes, at);
@@ -146,13 +150,13 @@ pub fn clear_at(nodes: &mut [Node], path: &[Hop], stamp: &Stamp)
     requires stamp { IsStamp stamp.now }
     requires beside { AreBeside stamp.now.table.now nodes.old }
     requires nested { IsNested (context nodes.old) }
-    requires gone { AreGone nodes.old }
+    requires empty { AreEmpty nodes.old }
     ensures children { SameChildren nodes.old nodes.new }
     ensures room { MoreRoom nodes.old nodes.new }
     ensures beside { AreBeside stamp.now.table.now nodes.new }
     ensures cleared { context nodes.new ≡ clear (context nodes.old) (end_of (map hop_of path.now)) (deps_of stamp.now) }
-    ensures shown { (off : Element → TheId → Bool) → ShownBut nodes.old off
-        → ShownBut nodes.new (λ l a. is_same (Item l a) (end_of (map hop_of path.now)) || off l a) }
+    ensures shown { (off : Element → Bool) → ShownBut nodes.old off
+        → ShownBut nodes.new (λ x. is_same x (end_of (map hop_of path.now)) || off x) }
 {
     match walk(nodes, path) {
         Some(at) => clear_below(nodes, at, stamp),

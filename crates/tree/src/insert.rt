@@ -8,7 +8,7 @@ ghost use Rattle.cursor.specs.Meanings.{hop_of, tag_of};
 ghost use Rattle.semantics.specs.Context.{has_item, has_position};
 ghost use Rattle.tree.specs.Nested.{IsNested};
 ghost use Rattle.tree.specs.Nodes.{AreBeside, IsTree, MoreRoom, SameLinks, context, node_at, number, order_of, order_room};
-ghost use Rattle.tree.specs.Shown.{AreGone, AreShown, ShownBut};
+ghost use Rattle.tree.specs.Shown.{AreEmpty, AreShown, ShownBut};
 ghost use Rattle.tree.specs.Writes.{IsStamp, assigned, deps_of, end_of, linked};
 ghost use Rattle.tree.specs.Trees.{CanInsert, SlotIs};
 
@@ -90,12 +90,12 @@ pub fn insert(nodes: &mut [Node], slot: &Slot<'_>, stamp: &Stamp, tag: Tag, scal
     requires stamp { IsStamp stamp.now }
     requires beside { AreBeside stamp.now.table.now nodes.old }
     requires nested { IsNested (context nodes.old) }
-    requires gone { AreGone nodes.old }
+    requires empty { AreEmpty nodes.old }
     requires fits { CanInsert nodes.old (end_of (map hop_of slot.now.list.now)) slot.now.prev stamp.now.id scalar }
     ensures tree { IsTree nodes.new }
     ensures beside { AreBeside stamp.now.table.now nodes.new }
     ensures shown { AreShown nodes.old
-        → ShownBut nodes.new (λ l a. is_under (Item (end_of (map hop_of slot.now.list.now)) stamp.now.id) (Item l a)) }
+        → ShownBut nodes.new (is_under (Item (end_of (map hop_of slot.now.list.now)) stamp.now.id)) }
     ensures inserted { context nodes.new
         ≡ assigned (linked (context nodes.old) (end_of (map hop_of slot.now.list.now)) slot.now.prev stamp.now.id) stamp.now.id
         (deps_of stamp.now) (Item (end_of (map hop_of slot.now.list.now)) stamp.now.id) (tag_of tag) (option_map scalar_of scalar) }

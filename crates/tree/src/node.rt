@@ -49,7 +49,7 @@ impl NodeNumber {
 pub struct Node {
     pub presence: Presence,
     pub register: Register,
-    /// The nodes of the map's fields.
+    /// The nodes of the map's fields. Nothing stands at a field whose flag isn't raised.
     pub fields: Fields,
     /// The nodes of the list's items.
     pub items: Numbers,

@@ -1,24 +1,25 @@
-//! Keeping what the lists show, and from where on something may stand at their items.
+//! Keeping what the lists show, from where on something may stand at their items, and the flags of fields.
 
 ghost use Rattle.std.specs.Prelude.{◌≡◌, ◌<◌, ◌||◌, ℕ, Bool, false, Some, length, map, min, cond, slice_index_or, IfSome};
 ghost use Rattle.std.specs.List.{filter};
 ghost use Rattle.semantics.specs.Ids.{OpId as TheId, is_same_id};
-ghost use Rattle.semantics.specs.Elements.{Element, Item, EmptyMap, is_same, is_under};
+ghost use Rattle.semantics.specs.Elements.{Element, Field, Item, EmptyMap, Name, is_same, is_under};
 ghost use Rattle.semantics.specs.Operations.{Insert, slot_of, target_in};
-ghost use Rattle.semantics.specs.Paths.{ItemKey, child};
+ghost use Rattle.semantics.specs.Paths.{FieldKey, ItemKey, child};
 ghost use Rattle.cursor.specs.Meanings.{hop_of};
 ghost use Rattle.operation.specs.Meanings.{mutation_of};
 ghost use Rattle.tree.specs.Nodes.{IsTree, MoreRoom, child_number, links, number};
-ghost use Rattle.tree.specs.Shown.{AreGone, AreShown, SameButFlags, ShownBut};
+ghost use Rattle.tree.specs.Shown.{AreEmpty, AreShown, SameButFlags, ShownBut};
 ghost use Rattle.tree.specs.Writes.{end_of};
 
 use crate::answer::is_present;
 use crate::insert::{Slot, slot_of};
 use crate::node::{Node, NodeNumber, node_at, node_at_mut};
-use crate::walk::{child_of, item_of};
+use crate::walk::item_of;
 use cursor::{Hop, Place};
 use ids::OpId;
 use operation::{Mutation, Op};
+use value::Key;
 
 /// How far a list is gone that has an item with this id: no further than to the item, if something stands there.
 pub fn gone_with(gone: u64, id: &OpId, stands: bool) -> u64
@@ -35,9 +36,9 @@ fn show_item(nodes: &mut [Node], at: NodeNumber, id: &OpId, item: NodeNumber)
     requires item { child_number nodes.old at (ItemKey id.now) ≡ Some item }
     ensures same { SameButFlags nodes.old nodes.new }
     ensures room { MoreRoom nodes.old nodes.new }
-    ensures shown { (e : Element) (off : Element → TheId → Bool) → number nodes.old e ≡ Some at
-        → ShownBut nodes.old (λ l a. is_same (Item l a) (Item e id.now) || off l a) → ShownBut nodes.new off }
-    ensures gone { (e : Element) → number nodes.old e ≡ Some at → AreGone nodes.old → AreGone nodes.new }
+    ensures shown { (e : Element) (off : Element → Bool) → number nodes.old e ≡ Some at
+        → ShownBut nodes.old (λ x. is_same x (Item e id.now) || off x) → ShownBut nodes.new off }
+    ensures empty { (e : Element) → number nodes.old e ≡ Some at → AreEmpty nodes.old → AreEmpty nodes.new }
 {
     let shown = is_present(nodes, item);
     let node = node_at_mut(nodes, at);
@@ -52,43 +53,76 @@ pub fn show_child(nodes: &mut [Node], at: NodeNumber, position: usize)
     requires within { position < length (links nodes.old at).1 }
     ensures same { SameButFlags nodes.old nodes.new }
     ensures room { MoreRoom nodes.old nodes.new }
-    ensures shown { (e : Element) (off : Element → TheId → Bool) (d : TheId × ℕ) → number nodes.old e ≡ Some at
-        → ShownBut nodes.old (λ l a. is_same (Item l a) (Item e (slice_index_or (links nodes.old at).1 position d).0) || off l a)
+    ensures shown { (e : Element) (off : Element → Bool) (d : TheId × ℕ) → number nodes.old e ≡ Some at
+        → ShownBut nodes.old (λ x. is_same x (Item e (slice_index_or (links nodes.old at).1 position d).0) || off x)
         → ShownBut nodes.new off }
-    ensures gone { (e : Element) → number nodes.old e ≡ Some at → AreGone nodes.old → AreGone nodes.new }
+    ensures empty { (e : Element) → number nodes.old e ≡ Some at → AreEmpty nodes.old → AreEmpty nodes.new }
 {
     let (id, item) = node_at(nodes, at).items.at(position);
     let item = NodeNumber::new(item);
     show_item(nodes, at, &id, item);
 }
 
-/// Sets what the list shows of the item that a hop leads to.
-fn show_key(nodes: &mut [Node], at: NodeNumber, hop: &Hop, next: NodeNumber)
+/// Raises the flag of the field with this index if something stands at its node, and lowers it if nothing does, in constant time.
+pub fn flag_field(nodes: &mut [Node], at: NodeNumber, position: usize, field: NodeNumber)
     requires tree { IsTree nodes.old }
     requires inside { at < length nodes.old }
-    requires next { child_number nodes.old at (hop_of hop.now) ≡ Some next }
+    requires within { position < length (links nodes.old at).0 }
+    requires field { (d : Name × ℕ) → child_number nodes.old at (FieldKey (slice_index_or (links nodes.old at).0 position d).0) ≡ Some field }
     ensures same { SameButFlags nodes.old nodes.new }
-    ensures shown { (e : Element) (off : Element → TheId → Bool) → number nodes.old e ≡ Some at
-        → ShownBut nodes.old (λ l a. is_same (Item l a) (child e (hop_of hop.now)) || off l a) → ShownBut nodes.new off }
+    ensures room { MoreRoom nodes.old nodes.new }
+    ensures shown { (e : Element) (off : Element → Bool) (d : Name × ℕ) → number nodes.old e ≡ Some at
+        → ShownBut nodes.old (λ x. is_same x (Field e (slice_index_or (links nodes.old at).0 position d).0) || off x)
+        → ShownBut nodes.new off }
+    ensures empty { (e : Element) → number nodes.old e ≡ Some at → AreEmpty nodes.old → AreEmpty nodes.new }
 {
-    match hop {
-        Hop::Field(_) => {}
-        Hop::Item(id) => show_item(nodes, at, id, next),
-    }
+    let stands = is_present(nodes, field);
+    let node = node_at_mut(nodes, at);
+    node.fields.set_flag(position, stands);
 }
 
-/// Goes one hop down, and sets what the list shows there. Returns the number of the node there, if there is one.
+/// Sets the flag of a node's field, if it has a node, and returns that node's number. A binary search, as `Fields::locate`.
+fn show_field(nodes: &mut [Node], at: NodeNumber, key: &Key) -> Option<NodeNumber>
+    requires tree { IsTree nodes.old }
+    requires inside { at < length nodes.old }
+    ensures same { SameButFlags nodes.old nodes.new }
+    ensures number { result ≡ child_number nodes.old at (FieldKey key.now) }
+    ensures shown { (e : Element) (off : Element → Bool) → number nodes.old e ≡ Some at
+        → ShownBut nodes.old (λ x. is_same x (Field e key.now) || off x) → ShownBut nodes.new off }
+{
+    let (position, number) = node_at(nodes, at).fields.locate(key)?;
+    let field = NodeNumber::new(number);
+    flag_field(nodes, at, position, field);
+    Some(field)
+}
+
+/// Sets what a node's list shows of an item, if it has a node, and returns that node's number.
+fn show_entry(nodes: &mut [Node], at: NodeNumber, id: &OpId) -> Option<NodeNumber>
+    requires tree { IsTree nodes.old }
+    requires inside { at < length nodes.old }
+    ensures same { SameButFlags nodes.old nodes.new }
+    ensures number { result ≡ child_number nodes.old at (ItemKey id.now) }
+    ensures shown { (e : Element) (off : Element → Bool) → number nodes.old e ≡ Some at
+        → ShownBut nodes.old (λ x. is_same x (Item e id.now) || off x) → ShownBut nodes.new off }
+{
+    let item = item_of(nodes, at, id)?;
+    show_item(nodes, at, id, item);
+    Some(item)
+}
+
+/// Goes one hop down, and sets what the list shows there, or the field's flag. Returns the number of the node there, if there is one.
 fn show_hop(nodes: &mut [Node], at: NodeNumber, hop: &Hop) -> Option<NodeNumber>
     requires tree { IsTree nodes.old }
     requires inside { at < length nodes.old }
     ensures same { SameButFlags nodes.old nodes.new }
     ensures number { result ≡ child_number nodes.old at (hop_of hop.now) }
-    ensures shown { (e : Element) (off : Element → TheId → Bool) → number nodes.old e ≡ Some at
-        → ShownBut nodes.old (λ l a. is_same (Item l a) (child e (hop_of hop.now)) || off l a) → ShownBut nodes.new off }
+    ensures shown { (e : Element) (off : Element → Bool) → number nodes.old e ≡ Some at
+        → ShownBut nodes.old (λ x. is_same x (child e (hop_of hop.now)) || off x) → ShownBut nodes.new off }
 {
-    let next = child_of(nodes, at, hop)?;
-    show_key(nodes, at, hop, next);
-    Some(next)
+    match hop {
+        Hop::Field(key) => show_field(nodes, at, key),
+        Hop::Item(id) => show_entry(nodes, at, id),
+    }
 }
 
 /// Goes down a path hop by hop, as far as there are nodes. Returns the number of the last, if all are there.
@@ -97,8 +131,8 @@ fn show_path(nodes: &mut [Node], path: &[Hop]) -> Option<NodeNumber>
     ensures same { SameButFlags nodes.old nodes.new }
     ensures number { result ≡ number nodes.old (end_of (map hop_of path.now)) }
     ensures inside { IfSome result (λ at. at < length nodes.new) }
-    ensures shown { (off : Element → TheId → Bool)
-        → ShownBut nodes.old (λ l a. is_under (end_of (map hop_of path.now)) (Item l a) || off l a) → ShownBut nodes.new off }
+    ensures shown { (off : Element → Bool)
+        → ShownBut nodes.old (λ x. is_under (end_of (map hop_of path.now)) x || off x) → ShownBut nodes.new off }
 {
     let mut at = NodeNumber::ROOT;
     for hop in path {
@@ -114,36 +148,21 @@ fn show_path(nodes: &mut [Node], path: &[Hop]) -> Option<NodeNumber>
 fn show_at(nodes: &mut [Node], path: &[Hop])
     requires { IsTree nodes.old }
     ensures same { SameButFlags nodes.old nodes.new }
-    ensures shown { ShownBut nodes.old (λ l a. is_under (end_of (map hop_of path.now)) (Item l a))
-        → AreShown nodes.new × AreGone nodes.new }
+    ensures shown { ShownBut nodes.old (is_under (end_of (map hop_of path.now)))
+        → AreShown nodes.new × AreEmpty nodes.new }
 {
     let _end = show_path(nodes, path);
-}
-
-/// Sets what the lists show at a new item of a node's list.
-fn show_entry(nodes: &mut [Node], at: NodeNumber, id: &OpId)
-    requires tree { IsTree nodes.old }
-    requires inside { at < length nodes.old }
-    ensures same { SameButFlags nodes.old nodes.new }
-    ensures shown { (e : Element) → number nodes.old e ≡ Some at
-        → ShownBut nodes.old (λ l a. is_same (Item l a) (Item e id.now) || false) → AreShown nodes.new × AreGone nodes.new }
-{
-    match item_of(nodes, at, id) {
-        Some(item) => show_item(nodes, at, id, item),
-        None => {}
-    }
 }
 
 /// Sets what the lists show on the way to a new item of a list, and at it.
 fn show_new(nodes: &mut [Node], slot: &Slot<'_>, id: &OpId)
     requires { IsTree nodes.old }
     ensures same { SameButFlags nodes.old nodes.new }
-    ensures shown { ShownBut nodes.old (λ l a. is_under (Item (end_of (map hop_of slot.now.list.now)) id.now) (Item l a))
-        → AreShown nodes.new × AreGone nodes.new }
+    ensures shown { ShownBut nodes.old (is_under (Item (end_of (map hop_of slot.now.list.now)) id.now))
+        → AreShown nodes.new × AreEmpty nodes.new }
 {
-    match show_path(nodes, slot.list) {
-        Some(at) => show_entry(nodes, at, id),
-        None => {}
+    if let Some(at) = show_path(nodes, slot.list) {
+        let _item = show_entry(nodes, at, id);
     }
 }
 
@@ -151,8 +170,8 @@ fn show_new(nodes: &mut [Node], slot: &Slot<'_>, id: &OpId)
 fn show_insert(nodes: &mut [Node], place: &Place, id: &OpId)
     requires { IsTree nodes.old }
     ensures same { SameButFlags nodes.old nodes.new }
-    ensures shown { ShownBut nodes.old (λ l a. is_under (target_in (slot_of (Insert EmptyMap) place.now) id.now place.now) (Item l a))
-        → AreShown nodes.new × AreGone nodes.new }
+    ensures shown { ShownBut nodes.old (is_under (target_in (slot_of (Insert EmptyMap) place.now) id.now place.now))
+        → AreShown nodes.new × AreEmpty nodes.new }
 {
     match slot_of(place) {
         Some(slot) => show_new(nodes, &slot, id),
@@ -166,8 +185,8 @@ pub fn show(nodes: &mut [Node], op: &Op)
     requires { IsTree nodes.old }
     ensures same { SameButFlags nodes.old nodes.new }
     ensures shown { ShownBut nodes.old
-        (λ l a. is_under (target_in (slot_of (mutation_of op.now.mutation) op.now.place) op.now.id op.now.place) (Item l a))
-        → AreShown nodes.new × AreGone nodes.new }
+        (is_under (target_in (slot_of (mutation_of op.now.mutation) op.now.place) op.now.id op.now.place))
+        → AreShown nodes.new × AreEmpty nodes.new }
 {
     match &op.mutation {
         Mutation::Assign(_) => show_at(nodes, op.place.hops()),

@@ -83,9 +83,9 @@ impl Tree {
     }
 
     /// Applies an operation that was reserved. Takes no memory. Beneath an assign's or a delete's element it visits each node at
-    /// which something stands, and each child of those, but of a list only the items from the first on that stood after the list
-    /// was last cleared, or that was written to since. It writes at each element of the path, and then sets whether the lists show
-    /// the items there.
+    /// which something stands, and of the children of those the fields whose flags are raised, and the items from the first on that
+    /// stood after the list was last cleared, or that was written to since. It writes at each element of the path, and then sets the
+    /// flags of the fields there, and whether the lists show the items there.
     pub fn apply(&mut self, op: &Op)
         requires reserved { IsReserved self.old (stamped_of self.old.table op.now) }
         requires placed { IsPlaced (document self.old) (stamped_of self.old.table op.now) }
@@ -152,7 +152,8 @@ impl Tree {
         conflicts(&self.nodes, element, alloc)
     }
 
-    /// The keys of the fields there at which something stands, in byte order. Looks at each field that ever was.
+    /// The keys of the fields there at which something stands, in byte order. Looks at the node of each field whose flag is raised, and
+    /// passes the flags of the others many at a time.
     ///
     /// # Errors
     /// `AllocError` if allocation fails.

@@ -1,11 +1,13 @@
 //! From node to node, down a path.
 
-ghost use Rattle.std.specs.Prelude.{◌≡◌, ◌<◌, ℕ, Option, Some, None, length, map, slice_index_or, IfSome};
+ghost use Rattle.std.specs.Prelude.{◌≡◌, ◌<◌, ◌≤◌, ℕ, Option, Some, None, false, true, length, map, slice_get, slice_index_or, IfSome};
 ghost use Rattle.semantics.specs.Ids.{OpId as TheId};
 ghost use Rattle.semantics.specs.Elements.{Element, Field, Item, Name};
+ghost use Rattle.semantics.specs.DocumentAnswer.{is_any};
 ghost use Rattle.semantics.specs.Paths.{ItemKey};
 ghost use Rattle.cursor.specs.Meanings.{hop_of};
-ghost use Rattle.tree.specs.Nodes.{IsTree, child_number, links, number};
+ghost use Rattle.tree.specs.Nodes.{IsTree, child_number, context, is_flagged, links, number};
+ghost use Rattle.tree.specs.Shown.{AreEmpty};
 ghost use Rattle.tree.specs.Writes.{end_of};
 
 use crate::node::{Node, NodeNumber, node_at};
@@ -39,6 +41,22 @@ pub fn field_at(nodes: &[Node], at: NodeNumber, position: usize) -> NodeNumber
         → number nodes.now (Field e (slice_index_or (links nodes.now at).0 position d).0) ≡ Some result }
 {
     NodeNumber::new(node_at(nodes, at).fields.at(position).1)
+}
+
+/// The index of the first field, from this one on, whose flag is raised, or how many fields there are: nothing stands at those
+/// before it. Looks at many flags at a time.
+pub fn next_field(nodes: &[Node], at: NodeNumber, from: usize) -> usize
+    requires tree { IsTree nodes.now }
+    requires inside { at < length nodes.now }
+    requires from { from ≤ length (links nodes.now at).0 }
+    ensures from { from ≤ result }
+    ensures within { result ≤ length (links nodes.now at).0 }
+    ensures passed { (e : Element) (i : ℕ) (d : Name × ℕ) → number nodes.now e ≡ Some at → AreEmpty nodes.now → from ≤ i → i < result
+        → is_any ((context nodes.now).presence (Field e (slice_index_or (links nodes.now at).0 i d).0)) ≡ false }
+    ensures flagged { (d : Name × ℕ) → result < length (links nodes.now at).0
+        → is_flagged (slice_get nodes.now at) (slice_index_or (links nodes.now at).0 result d).0 ≡ true }
+{
+    node_at(nodes, at).fields.next_flagged(from)
 }
 
 /// The number of an item's node, by the item's index.

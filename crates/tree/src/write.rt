@@ -7,7 +7,7 @@ ghost use Rattle.cursor.specs.Meanings.{hop_of, tag_of};
 ghost use Rattle.tree.specs.Nested.{IsNested};
 ghost use Rattle.tree.specs.Nodes.{AreBeside, IsTree, MoreRoom, RoomElse, SameLinks, child_number, context, node_at, number, presence_room};
 ghost use Rattle.tree.specs.Nodes.{register_room};
-ghost use Rattle.tree.specs.Shown.{AreGone, AreShown, ShownBut};
+ghost use Rattle.tree.specs.Shown.{AreEmpty, AreShown, ShownBut};
 ghost use Rattle.tree.specs.Writes.{HasRoom, IsStamp, assigned, deps_of, end_of, entered, entered_by, mark, name_at, registered};
 
 use crate::clear::clear_at;
@@ -155,12 +155,12 @@ pub fn assign(nodes: &mut [Node], path: &[Hop], stamp: &Stamp, tag: Tag, scalar:
     requires stamp { IsStamp stamp.now }
     requires beside { AreBeside stamp.now.table.now nodes.old }
     requires nested { IsNested (context nodes.old) }
-    requires gone { AreGone nodes.old }
+    requires empty { AreEmpty nodes.old }
     requires room { HasRoom nodes.old (map hop_of path.now) }
     requires register { IsSome scalar → 0 < register_room (node_at nodes.old (end_of (map hop_of path.now))) }
     ensures tree { IsTree nodes.new }
     ensures beside { AreBeside stamp.now.table.now nodes.new }
-    ensures shown { AreShown nodes.old → ShownBut nodes.new (λ l a. is_under (end_of (map hop_of path.now)) (Item l a)) }
+    ensures shown { AreShown nodes.old → ShownBut nodes.new (is_under (end_of (map hop_of path.now))) }
     ensures assigned { context nodes.new
         ≡ assigned (context nodes.old) stamp.now.id (deps_of stamp.now) (end_of (map hop_of path.now)) (tag_of tag)
         (option_map scalar_of scalar) }

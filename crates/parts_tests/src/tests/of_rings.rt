@@ -43,6 +43,62 @@ fn assert_items(rt: &impl Abort, numbers: &Rings<usize>, want: &[usize]) {
     }
 }
 
+/// Each run has the items from its position on: its first one and its last one, and it ends within the list.
+fn assert_runs(rt: &impl Abort, numbers: &Rings<usize>, want: &[usize]) {
+    for position in 0..numbers.len() {
+        let run = numbers.run(position);
+        let rest = want.get(position..position + run.len());
+        assert_eq!(rt; rest, Some(run), "from {position}");
+        assert!(rt; !run.is_empty(), "from {position}");
+    }
+}
+
+/// A ring lends one or two runs, and what stands behind the rings one: this many items before the next run.
+fn assert_lengths(rt: &impl Abort, numbers: &Rings<usize>, rows: &[(usize, usize)]) {
+    for (position, want) in rows {
+        assert!(rt; *position < numbers.len());
+        assert_eq!(rt; numbers.run(*position).len(), *want, "from {position}");
+    }
+}
+
+#[test]
+fn items_are_lent_in_runs(rt: HostRuntime) -> Result<(), Fail> {
+    let mut numbers = Rings::new(rt.alloc());
+    let mut beside = Vec::new(rt.alloc());
+    fill(&mut numbers, &mut beside, &(4200, 1))?;
+    assert_lengths(
+        &rt,
+        &numbers,
+        &[
+            (0, 2048),
+            (2047, 1),
+            (2048, 2048),
+            (4095, 1),
+            (4096, 104),
+            (4199, 1),
+        ],
+    );
+    // Three more at the front: each ring begins three slots before the end of its memory, and goes round behind them.
+    for _ in 0..3 {
+        put_next(&mut numbers, &mut beside, 0)?;
+    }
+    assert_lengths(
+        &rt,
+        &numbers,
+        &[
+            (0, 3),
+            (2, 1),
+            (3, 2045),
+            (2047, 1),
+            (2048, 3),
+            (2051, 2045),
+            (4096, 107),
+        ],
+    );
+    assert_runs(&rt, &numbers, &beside);
+    Ok(())
+}
+
 /// What a row puts stands where the vector has it, also as one slice, and takes one more at its front.
 fn assert_filled(rt: &impl Abort, alloc: Global, row: &Row) -> Result<(), Fail> {
     let mut numbers = Rings::new(alloc);

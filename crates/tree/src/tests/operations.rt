@@ -140,6 +140,40 @@ fn a_map_and_a_list_stand_at_one_key(rt: HostRuntime) -> Result<(), Fail> {
     on_each(&rt, rt.alloc(), ROWS, LAST)
 }
 
+#[test]
+fn fields_come_and_go(rt: HostRuntime) -> Result<(), Fail> {
+    const SET: Where = Where::Field(&["set"]);
+    const A: Where = Where::Field(&["set", "a"]);
+    const B: Where = Where::Field(&["set", "b"]);
+    const C: Where = Where::Field(&["set", "c"]);
+    const GO: &[Turn] = &[
+        Play((1, 1), [0, 0], SET, Does::Map),
+        Play((2, 1), [1, 0], B, Does::Text("b")),
+        Play((3, 1), [2, 0], A, Does::Text("a")),
+        Keys(SET, &["a", "b"]),
+        Play((4, 1), [3, 0], A, Does::Delete),
+        Keys(SET, &["b"]),
+        Play((5, 1), [4, 0], SET, Does::Map),
+        Keys(SET, &[]),
+    ];
+    // A late value comes back, stays where a clear didn't see it, and goes with one that did.
+    const COME: &[Turn] = &[
+        Play((4, 2), [3, 0], A, Does::Text("late")),
+        Keys(SET, &["a"]),
+        Play((6, 1), [5, 0], SET, Does::Map),
+        Keys(SET, &["a"]),
+        Values(A, &[((4, 2), "late")]),
+        Play((7, 1), [6, 4], SET, Does::Map),
+        Keys(SET, &[]),
+        Reserve((8, 1), [7, 4], C, Does::Text("c")),
+        Keys(SET, &[]),
+        Play((8, 1), [7, 4], B, Does::Text("again")),
+        Keys(SET, &["b"]),
+    ];
+    const PARTS: &[&[Turn]] = &[GO, COME];
+    on_new(&rt, rt.alloc(), PARTS)
+}
+
 const LETTERS: Where = Where::Field(&["letters"]);
 
 /// A list of two items, which is cleared.

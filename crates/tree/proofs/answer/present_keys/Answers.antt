@@ -1,12 +1,21 @@
-use Rattle.std.proofs.Common.{◌<◌, ◌++◌, ◌∷◌, [], ℕ, Bool, cond, filter, get_or, length, map, take, ap, sym, ◌∙◌, arith, append-nil, Vec}
+use Rattle.std.proofs.Common.{◌+◌, ◌<◌, ◌++◌, ◌∷◌, [], ℕ, Bool, cond, filter, get_or, length, map, take, ap, sym, ◌∙◌, arith, append-nil, Vec}
 use Rattle.std.proofs.Common.{Global}
 use Rattle.std.proofs.lemmas.Option.{get_or_from_slice_get}
 use Rattle.semantics.specs.Elements.{Field, Name}
 use Rattle.semantics.specs.DocumentAnswer.{is_any}
 use Rattle.tree.specs.Nodes.{context, links, links_of, names_in}
-use Rattle.tree.proofs.Answering.{field_shows, wanted_next}
+use Rattle.tree.proofs.Answering.{field_shows, wanted_next, wanted_skip}
 use Rattle.tree.proofs.answer.present_keys.Goals as goal
 use Rattle.tree.proofs.answer.present_keys.Goals.{then-is_field+in_ok-key+in_ok-push, else-is_field}
+
+pub loop-position-init : goal.loop-position-init
+loop-position-init c = λ e at.
+    let ns = c.args.nodes.now in
+    let next = c.next_field-position in
+    c.new-keys.ensures.items
+    ∙ sym
+    (wanted_skip ns (λ n. is_any ((context ns).presence (Field e n))) (links ns c.args.at).0 ([], 0) 0 next.result next.ensures.from
+    next.ensures.within (λ i low high. next.ensures.passed e i ([], 0) at c.requires.empty low high))
 
 pub loop-position-preserved : goal.loop-position-preserved
 loop-position-preserved c = λ e at.
@@ -15,11 +24,14 @@ loop-position-preserved c = λ e at.
     let k = c.loop-position.position in
     let d : Name × ℕ = ([], 0) in
     let p : Name → Bool = λ n. is_any ((context ns).presence (Field e n)) in
-    let within : k < length fs = let n = c.count_fields-position-end.ensures in omega arith in
+    let within : k < length fs = let n = c.count_fields-fields.ensures in omega arith in
     let shows = sym (field_shows ns c.requires.tree e c.args.at k c.field_at.result d at within (c.field_at.ensures.number e d at))
     ∙ sym c.is_field.ensures in
     let next = wanted_next ns p fs k d within
     ∙ ap (λ b. filter p (map (λ x. x.0) (names_in ns (take k fs))) ++ cond b ((get_or fs k d).0 ∷ []) []) shows in
+    let skip = wanted_skip ns p fs d (k + 1) c.next_field-position-in-loop-position.result c.next_field-position-in-loop-position.ensures.from
+    c.next_field-position-in-loop-position.ensures.within
+    (λ i low high. c.next_field-position-in-loop-position.ensures.passed e i d at c.requires.empty low high) in
     elim c.if-is_field.branch [
       | then-is_field+in_ok-key+in_ok-push w ↦
           let here = ap (λ o. (get_or (links_of o).0 k d).0) w.node_at.ensures in
@@ -29,12 +41,12 @@ loop-position-preserved c = λ e at.
           ∙ ap (λ ks. ks ++ w.in_ok-key.key ∷ []) (c.loop-position.invariant e at)
           ∙ ap (λ n. filter p (map (λ x. x.0) (names_in ns (take k fs))) ++ n ∷ []) (sym key)
           ∙ sym
-          (next ∙ ap
+          (skip ∙ next ∙ ap
           (λ b. filter p (map (λ x. x.0) (names_in ns (take k fs))) ++ cond b ((get_or fs k d).0 ∷ []) []) w.if-is_field.true)
       | else-is_field w ↦
           ap (λ (v : Vec Name Global). v.items) w.keys-is ∙ c.loop-position.invariant e at
           ∙ sym (append-nil (filter p (map (λ x. x.0) (names_in ns (take k fs)))))
           ∙ sym
-          (next ∙ ap
+          (skip ∙ next ∙ ap
           (λ b. filter p (map (λ x. x.0) (names_in ns (take k fs))) ++ cond b ((get_or fs k d).0 ∷ []) []) w.if-is_field.false)
     ]

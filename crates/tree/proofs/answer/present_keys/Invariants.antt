@@ -1,9 +1,12 @@
-use Rattle.std.proofs.Common.{◌≡◌, Some, map, take}
+use Rattle.std.proofs.Common.{◌≡◌, ◌-◌, Some, map, take}
 use Rattle.std.specs.List.{filter}
 use Rattle.semantics.specs.Elements.{Element, Field}
 use Rattle.semantics.specs.DocumentAnswer.{is_any}
 use Rattle.tree.specs.Nodes.{number, context, links, names_in}
 use Rattle.tree.proofs.answer.present_keys.Given as goal
+
+abbrev pub decreases-loop-position : goal.decreases-loop-position
+decreases-loop-position l = l.fields - l.position
 
 abbrev pub invariant-loop-position : goal.invariant-loop-position
 invariant-loop-position l = (e : Element) → number l.fn.nodes e ≡ Some l.fn.at →

@@ -22,8 +22,8 @@ returns-clause-beside c = c.show.ensures.same.beside c.args.stamp.now.table.now 
 pub returns-clause-shown : goal.returns-clause-shown
 returns-clause-shown c = (c.show.ensures.shown (c.run.ensures.shown c.requires.shown)).0
 
-pub returns-clause-gone : goal.returns-clause-gone
-returns-clause-gone c = (c.show.ensures.shown (c.run.ensures.shown c.requires.shown)).1
+pub returns-clause-empty : goal.returns-clause-empty
+returns-clause-empty c = (c.show.ensures.shown (c.run.ensures.shown c.requires.shown)).1
 
 pub returns-clause-applied : goal.returns-clause-applied
 returns-clause-applied c = sym (flags_context c.run.new.nodes c.show.new.nodes c.show.ensures.same) ∙ c.run.ensures.applied

@@ -27,5 +27,5 @@ returns-clause-inserted c = λ l p q.
 pub returns-clause-shown : goal.returns-clause-shown
 returns-clause-shown c = λ l p q shown.
     let slot : Element × Option OpId = (end_of (map hop_of c.in-Some.slot.list.now), c.in-Some.slot.prev) in
-    subst (λ (x : Element × Option OpId). ShownBut c.insert.new.nodes (λ y a. is_under (Item x.0 c.args.stamp.now.id) (Item y a)))
+    subst (λ (x : Element × Option OpId). ShownBut c.insert.new.nodes (is_under (Item x.0 c.args.stamp.now.id)))
     (one_slot (slot_of (Insert EmptyMap) c.args.place.now) slot (l, p) (sym c.in-Some.ensures) q) (c.insert.ensures.shown shown)

@@ -74,7 +74,7 @@ returns-in-Assign-clause-shown c = λ shown.
     let t : end_of path
     ≡ target_in (slot_of (mutation_of o.mutation) o.place) o.id o.place = end_is o.place path c.hops.ensures
     ∙ sym (ap (λ m. target_in (slot_of (mutation_of m) o.place) o.id o.place) c.in-Assign.is) in
-    subst (λ e. ShownBut c.assign.new.nodes (λ l a. is_under e (Item l a))) t (c.assign.ensures.shown shown)
+    subst (λ e. ShownBut c.assign.new.nodes (is_under e)) t (c.assign.ensures.shown shown)
 
 pub returns-in-Insert-clause-shown : goal.returns-in-Insert-clause-shown
 returns-in-Insert-clause-shown c = λ shown.
@@ -85,7 +85,7 @@ returns-in-Insert-clause-shown c = λ shown.
     ap (Item l) c.requires.id
     ∙ sym (ap (λ m. target_in (slot_of (mutation_of m) o.place) o.id o.place) c.in-Insert.is
     ∙ ap (λ x. target_in x o.id o.place) (slot_of_any v o.place ∙ slot)) in
-    subst (λ e. ShownBut c.insert_at.new.nodes (λ y a. is_under e (Item y a))) t (c.insert_at.ensures.shown l p slot shown)
+    subst (λ e. ShownBut c.insert_at.new.nodes (is_under e)) t (c.insert_at.ensures.shown l p slot shown)
 
 pub returns-in-Delete-clause-tree : goal.returns-in-Delete-clause-tree
 returns-in-Delete-clause-tree c = children_tree c.args.nodes.now c.clear_at.new.nodes c.clear_at.ensures.children c.requires.tree
@@ -98,5 +98,5 @@ returns-in-Delete-clause-shown c = λ shown.
     let t : end_of path
     ≡ target_in (slot_of (mutation_of o.mutation) o.place) o.id o.place = end_is o.place path c.hops-in-Delete.ensures
     ∙ sym (ap (λ m. target_in (slot_of (mutation_of m) o.place) o.id o.place) c.in-Delete.is) in
-    subst (λ e. ShownBut new (λ l a. is_under e (Item l a))) t
-    (at_way new (end_of path) (c.clear_at.ensures.shown (λ l a. false) (shown_but c.args.nodes.now shown c.requires.gone)))
+    subst (λ e. ShownBut new (is_under e)) t
+    (at_way new (end_of path) (c.clear_at.ensures.shown (λ x. false) (shown_but c.args.nodes.now shown c.requires.empty)))

@@ -5,18 +5,19 @@ use Rattle.std.specs.FinMap.{find}
 use Rattle.std.specs.List.{filter}
 use Rattle.std.proofs.lemmas.List.{drop_all}
 use Rattle.semantics.specs.Ids.{OpId, id_at, id_cmp}
-use Rattle.semantics.specs.Elements.{Element, Field, Item, is_same}
+use Rattle.semantics.specs.Elements.{Element, Field, Item, Name, is_same}
+use Rattle.semantics.specs.Paths.{FieldKey}
 use Rattle.semantics.specs.Context.{Context, clear, without}
 use Rattle.semantics.specs.DocumentAnswer.{is_any}
 use Rattle.tree.specs.Nested.{IsNested}
 use Rattle.tree.specs.Nodes.{number, gone_of, links, context, Links, node_in, presence_of}
 use Rattle.tree.specs.Shown.{ShownBut}
 use Rattle.tree.specs.Writes.{clear_own, deps_of, fields_of, items_of}
-use Rattle.tree.proofs.Shape.{children_linked, children_number, children_trans, children_tree, room_trans}
+use Rattle.tree.proofs.Shape.{children_linked, children_number, children_same, children_trans, children_tree, number_child, room_same, room_trans}
 use Rattle.tree.proofs.Clears.{clear_each, turn_field, turn_item, clear_whole}
-use Rattle.tree.proofs.Gone.{left_none, none_any, none_before, none_left, past_gone, stands_behind, stands_more, stood_before}
+use Rattle.tree.proofs.Gone.{left_none, none_any, none_before, none_left, past_fields, past_gone, stands_behind, stands_more, stood_before}
 use Rattle.tree.proofs.Nested.{clear_empty, nested_clear}
-use Rattle.tree.proofs.Showing.{but_kept, flags_children, flags_context, flags_number, flags_tree, gone_kept, lower, or_parts}
+use Rattle.tree.proofs.Showing.{but_kept, but_wider, flags_children, flags_context, flags_number, flags_tree, empty_kept, lower, or_parts}
 use Rattle.tree.proofs.clear.+clear_below.Goals as goal
 
 pub returns-then-not-is_present-clause-cleared : goal.returns-then-not-is_present-clause-cleared
@@ -25,6 +26,23 @@ returns-then-not-is_present-clause-cleared t c = λ e at.
     clear_empty (context ns) e (deps_of c.args.stamp.now) c.requires.nested
     (ap (λ o. presence_of (node_in ns o)) at
     ∙ none_any _ (sym c.is_present.ensures ∙ c.if-not-is_present.true))
+
+-- the fields before the first raised flag are empty, and clearing these would change nothing
+pub fields-init : goal.fields-init
+fields-init t c =
+    let old = c.args.nodes.now in
+    let next = c.next_field-position in
+    let fs = (links old c.args.at).0 in
+    record {
+      shape = children_same old;
+      room = room_same old;
+      beside = c.requires.beside;
+      nested = c.requires.nested;
+      empty = c.requires.empty;
+      rest = λ e p. sym (past_fields e (deps_of c.args.stamp.now) fs (context old) ([], 0) c.requires.nested 0 next.result
+          (omega arith) next.ensures.within (λ i low high. next.ensures.passed e i ([], 0) p c.requires.empty low high));
+      shown = λ e off p s. s;
+    }
 
 pub clear_below-requires : goal.clear_below-requires
 clear_below-requires t c =
@@ -39,40 +57,78 @@ clear_below-requires t c =
     let there : (y : Element) × (number now y ≡ Some c.field_at-child.result) = (x, child) in
     search rules
 
+pub flag_field-requires-clause-field : goal.flag_field-requires-clause-field
+flag_field-requires-clause-field t c = λ d.
+    let old = c.args.nodes.now in
+    let now = c.fields.nodes in
+    let mid = c.clear_below.new.nodes in
+    let inv = c.fields.invariant in
+    let one = c.clear_below.ensures in
+    let (e, p) = c.requires.there in
+    let here : number now e ≡ Some c.args.at = sym (children_number old now inv.shape e) ∙ p in
+    let at : number mid e ≡ Some c.args.at = sym (children_number now mid one.children e) ∙ here in
+    let x : Element = Field e (get_or (links mid c.args.at).0 c.fields.position d).0 in
+    sym (number_child mid e c.args.at (FieldKey (get_or (links mid c.args.at).0 c.fields.position d).0) at)
+    ∙ sym (children_number now mid one.children x)
+    ∙ ap (λ (l : Links). number now (Field e (get_or l.0 c.fields.position d).0)) (sym (one.children.same c.args.at))
+    ∙ c.field_at-child.ensures.number e d here
+
+pub next_field-position-requires-in-fields-clause-tree : goal.next_field-position-requires-in-fields-clause-tree
+next_field-position-requires-in-fields-clause-tree t c =
+    let now = c.fields.nodes in
+    let mid = c.clear_below.new.nodes in
+    flags_tree mid c.flag_field.new.nodes c.flag_field.ensures.same
+    (children_tree now mid c.clear_below.ensures.children (children_tree c.args.nodes.now now c.fields.invariant.shape c.requires.tree))
+
 pub fields-preserved : goal.fields-preserved
 fields-preserved t c =
     let old = c.args.nodes.now in
     let now = c.fields.nodes in
-    let new = c.clear_below.new.nodes in
+    let mid = c.clear_below.new.nodes in
+    let new = c.flag_field.new.nodes in
     let fs = (links old c.args.at).0 in
     let k = c.fields.position in
+    let d : Name × ℕ = ([], 0) in
     let S = deps_of c.args.stamp.now in
     let inv = c.fields.invariant in
+    let one = c.clear_below.ensures in
+    let two = c.flag_field.ensures in
+    let next = c.next_field-position-in-fields in
     let count = c.count_fields-fields.ensures in
     let within : k < length fs = omega arith in
-    let child : (e : Element) → number old e ≡ Some c.args.at → number now (Field e (get_or fs k ([], 0)).0) ≡ Some c.field_at-child.result =
-    λ e p. ap (λ (l : Links). number now (Field e (get_or l.0 k ([], 0)).0)) (inv.shape.same c.args.at)
-    ∙ c.field_at-child.ensures.number e ([], 0) (sym (children_number old now inv.shape e) ∙ p) in
+    let same = flags_context mid new two.same in
+    let shape = children_trans old now mid inv.shape one.children in
+    let whole = children_trans old mid new shape (flags_children mid new two.same) in
+    let child : (e : Element) → number old e ≡ Some c.args.at → number now (Field e (get_or fs k d).0) ≡ Some c.field_at-child.result =
+    λ e p. ap (λ (l : Links). number now (Field e (get_or l.0 k d).0)) (inv.shape.same c.args.at)
+    ∙ c.field_at-child.ensures.number e d (sym (children_number old now inv.shape e) ∙ p) in
+    let cleared : (e : Element) → number old e ≡ Some c.args.at → context new ≡ clear (context now) (Field e (get_or fs k d).0) S = λ e p.
+    sym same ∙ one.cleared (Field e (get_or fs k d).0) (child e p) in
     let (e, p) = c.requires.there in
-    let x : Element = Field e (get_or fs k ([], 0)).0 in
+    let nested = subst IsNested (sym (cleared e p)) (nested_clear (context now) (Field e (get_or fs k d).0) S inv.nested) in
+    let empty = two.empty e (sym (children_number old mid shape e) ∙ p) one.empty in
+    let long : length (links new c.args.at).0 ≡ length fs = ap (λ (l : Links). length l.0) (sym (whole.same c.args.at)) in
+    let high = next.ensures.within in
     record {
-      shape = children_trans old now new inv.shape c.clear_below.ensures.children;
-      room = room_trans old now new inv.room c.clear_below.ensures.room;
-      beside = c.clear_below.ensures.beside;
-      nested = subst IsNested (sym (c.clear_below.ensures.cleared x (child e p))) (nested_clear (context now) x S inv.nested);
-      gone = c.clear_below.ensures.gone;
-      rest = λ e p. ap (λ C. clear_each C (fields_of e (drop (k + 1) fs)) S)
-          (c.clear_below.ensures.cleared (Field e (get_or fs k ([], 0)).0) (child e p))
-          ∙ sym (turn_field (context now) e fs S k ([], 0) within) ∙ inv.rest e p;
+      shape = whole;
+      room = room_trans old mid new (room_trans old now mid inv.room one.room) two.room;
+      beside = two.same.beside c.args.stamp.now.table.now one.beside;
+      nested = nested;
+      empty = empty;
+      rest = λ e p.
+          sym (past_fields e S fs (context new) d nested (k + 1) next.result next.ensures.from (omega (arith, high, long))
+          (λ i from to. ap (λ (l : Links). is_any ((context new).presence (Field e (get_or l.0 i d).0))) (whole.same c.args.at)
+          ∙ next.ensures.passed e i d (sym (children_number old new whole e) ∙ p) empty from to))
+          ∙ ap (λ C. clear_each C (fields_of e (drop (k + 1) fs)) S) (cleared e p)
+          ∙ sym (turn_field (context now) e fs S k d within) ∙ inv.rest e p;
       shown = λ e off p s.
-          let x : Element = Field e (get_or fs k ([], 0)).0 in
-          subst (ShownBut new) (λ i l a. nothing (is_any (presence_of (slice_get now c.field_at-child.result))) (off l a) i)
-          (c.clear_below.ensures.shown x off (child e p) (inv.shown e off p s));
+          let x : Element = Field e (get_or fs k d).0 in
+          let at : number mid e ≡ Some c.args.at = sym (children_number old mid shape e) ∙ p in
+          let b = is_any (presence_of (slice_get now c.field_at-child.result)) in
+          two.shown e off d at
+          (subst (λ (l : Links). ShownBut mid (λ y. is_same y (Field e (get_or l.0 k d).0) || off y)) (shape.same c.args.at)
+          (but_wider mid b x off (one.shown x off (child e p) (inv.shown e off p s))));
     }
-  where
-    nothing : (b o : Bool) → ((b && false) || o) ≡ o
-    nothing true o = refl
-    nothing false o = refl
 
 -- the loop passes by the items that are gone, and clearing these would change nothing
 pub items-init : goal.items-init
@@ -96,15 +152,15 @@ items-init t c =
       room = inv.room;
       beside = inv.beside;
       nested = inv.nested;
-      gone = inv.gone;
+      empty = inv.empty;
       rest = λ e p.
           ap (λ ys. clear_each (context now) (items_of e ys) S) from
           ∙ past_gone e S (λ a. nat_le g a.counter) (links now c.args.at).1 (context now) inv.nested
-          (none_before now e c.args.at (here e p) inv.gone)
+          (none_before now e c.args.at (here e p) inv.empty)
           ∙ ap (λ ys. clear_each (context now) (items_of e ys) S) same
           ∙ ap (λ C. clear_each C (items_of e xs) S)
           (ap (λ ys. clear_each (context now) (fields_of e ys) S) (sym none) ∙ inv.rest e p);
-      left = λ e p a lt any. ap (λ ys. is_some (find id_cmp a ys)) from ∙ stands_behind now e c.args.at (here e p) inv.gone a any;
+      left = λ e p a lt any. ap (λ ys. is_some (find id_cmp a ys)) from ∙ stands_behind now e c.args.at (here e p) inv.empty a any;
       shown = inv.shown;
     }
 
@@ -159,7 +215,7 @@ items-preserved t c =
       room = room_trans old mid new (room_trans old now mid inv.room one.room) two.room;
       beside = two.same.beside c.args.stamp.now.table.now one.beside;
       nested = subst IsNested (sym (one.cleared x (child e p)) ∙ same) (nested_clear (context now) x S inv.nested);
-      gone = two.gone e (sym (children_number old mid shape e) ∙ p) one.gone;
+      empty = two.empty e (sym (children_number old mid shape e) ∙ p) one.empty;
       rest = λ e p. ap (λ C. clear_each C (items_of e (drop (k + 1) xs)) S)
           (sym same ∙ one.cleared (Item e (get_or xs k d).0) (child e p))
           ∙ sym (turn_item (context now) e xs S k d within) ∙ inv.rest e p;
@@ -192,9 +248,9 @@ items-preserved t c =
           sym c.is_present-was_present.ensures in
           two.shown e off d at
           (subst (λ (b : Bool). ShownBut mid
-          (λ l a. (b && is_same (Item l a) (Item e (get_or (links mid c.args.at).1 k d).0)) || off l a)) was
+          (λ x. (b && is_same x (Item e (get_or (links mid c.args.at).1 k d).0)) || off x)) was
           (subst (λ (l : Links). ShownBut mid
-          (λ y a. (is_any (presence_of (slice_get now c.item_at-child.result)) && is_same (Item y a) (Item e (get_or l.1 k d).0)) || off y a))
+          (λ x. (is_any (presence_of (slice_get now c.item_at-child.result)) && is_same x (Item e (get_or l.1 k d).0)) || off x))
           (shape.same c.args.at) cleared));
     }
 
@@ -240,8 +296,8 @@ returns-clause-cleared t c = λ e p.
     c.clear_node.ensures.cleared e (sym (flags_number now mid c.set_gone.ensures.same e) ∙ here)
     ∙ ap (λ C. clear_own C e S) (sym (flags_context now mid c.set_gone.ensures.same) ∙ all) ∙ clear_whole old e c.args.at S p
 
-pub returns-clause-gone : goal.returns-clause-gone
-returns-clause-gone t c =
+pub returns-clause-empty : goal.returns-clause-empty
+returns-clause-empty t c =
     let old = c.args.nodes.now in
     let now = c.items.nodes in
     let mid = c.set_gone.new.nodes in
@@ -254,11 +310,11 @@ returns-clause-gone t c =
     let (e, p) = c.requires.there in
     let here : number now e ≡ Some c.args.at = sym (children_number old now c.items.invariant.shape e) ∙ p in
     let at : number mid e ≡ Some c.args.at = sym (flags_number now mid c.set_gone.ensures.same e) ∙ here in
-    gone_kept mid new c.clear_node.ensures.links
+    empty_kept mid new c.clear_node.ensures.links
     (λ x empty. ap (λ (C : Context). is_any (C.presence x)) (c.clear_node.ensures.cleared e at)
     ∙ left_none S (is_same x e) ((context mid).presence x) empty)
-    (c.set_gone.ensures.gone e here (none_left now e c.items.gone (drop c.items.position xs) none (c.items.invariant.left e p))
-    c.items.invariant.gone)
+    (c.set_gone.ensures.empty e here (none_left now e c.items.gone (drop c.items.position xs) none (c.items.invariant.left e p))
+    c.items.invariant.empty)
 
 pub returns-clause-shown : goal.returns-clause-shown
 returns-clause-shown t c = λ e off p s.
@@ -274,13 +330,12 @@ returns-clause-shown t c = λ e off p s.
     let here : number now e ≡ Some c.args.at = sym (children_number old now c.items.invariant.shape e) ∙ p in
     let done = c.clear_node.ensures.cleared e (sym (flags_number now mid c.set_gone.ensures.same e) ∙ here) in
     let present : is_any (presence_of (slice_get old c.args.at)) ≡ true = sym c.is_present.ensures ∙ c.if-not-is_present.false in
-    subst (λ b. ShownBut new (λ l a. (b && is_same (Item l a) e) || off l a)) (sym present)
-    (but_kept mid new c.clear_node.ensures.links (λ l. ap (λ (C : Context). C.order l) done) off (λ l a. is_same (Item l a) e || off l a)
-    (λ l a far. (
-      (or_parts (is_same (Item l a) e) (off l a) far).1,
-      ap (λ (C : Context). C.presence (Item l a)) done
-          ∙ ap (λ b. cond b (without S ((context mid).presence (Item l a))) ((context mid).presence (Item l a)))
-          (or_parts (is_same (Item l a) e) (off l a) far).0,
+    subst (λ b. ShownBut new (λ x. (b && is_same x e) || off x)) (sym present)
+    (but_kept mid new c.clear_node.ensures.links (λ l. ap (λ (C : Context). C.order l) done) off (λ x. is_same x e || off x)
+    (λ x far. (
+      (or_parts (is_same x e) (off x) far).1,
+      ap (λ (C : Context). C.presence x) done
+          ∙ ap (λ b. cond b (without S ((context mid).presence x)) ((context mid).presence x)) (or_parts (is_same x e) (off x) far).0,
     ))
     (c.set_gone.ensures.shown e off here
     (none_left now e c.items.gone (drop c.items.position xs) none (c.items.invariant.left e p)) (c.items.invariant.shown e off p s)))

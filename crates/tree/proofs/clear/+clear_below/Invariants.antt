@@ -5,7 +5,7 @@ use Rattle.semantics.specs.Elements.{Element, Item}
 use Rattle.semantics.specs.DocumentAnswer.{is_any}
 use Rattle.tree.specs.Nested.{IsNested}
 use Rattle.tree.specs.Nodes.{AreBeside, SameChildren, MoreRoom, context, number, links}
-use Rattle.tree.specs.Shown.{AreGone, ShownBut}
+use Rattle.tree.specs.Shown.{AreEmpty, ShownBut}
 use Rattle.tree.specs.Writes.{deps_of, fields_of, items_of}
 use Rattle.tree.proofs.Clears.{clear_each}
 use Rattle.tree.proofs.clear.+clear_below.Given as goal
@@ -13,17 +13,20 @@ use Rattle.tree.proofs.clear.+clear_below.Given as goal
 abbrev pub decreases-clear_below : goal.decreases-clear_below
 decreases-clear_below l = length l.nodes.now - l.at
 
+abbrev pub decreases-fields : goal.decreases-fields
+decreases-fields l = l.fields - l.position
+
 abbrev pub invariant-fields : goal.invariant-fields
 invariant-fields l = record {
   shape : SameChildren l.fn.nodes l.nodes;
   room : MoreRoom l.fn.nodes l.nodes;
   beside : AreBeside l.stamp.table.now l.nodes;
   nested : IsNested (context l.nodes);
-  gone : AreGone l.nodes;
+  empty : AreEmpty l.nodes;
   rest : (e : Element) → number l.fn.nodes e ≡ Some l.at →
       clear_each (context l.nodes) (fields_of e (drop l.position (links l.fn.nodes l.at).0)) (deps_of l.stamp)
       ≡ clear_each (context l.fn.nodes) (fields_of e (links l.fn.nodes l.at).0) (deps_of l.stamp);
-  shown : (e : Element) (off : Element → OpId → Bool) → number l.fn.nodes e ≡ Some l.at → ShownBut l.fn.nodes off → ShownBut l.nodes off;
+  shown : (e : Element) (off : Element → Bool) → number l.fn.nodes e ≡ Some l.at → ShownBut l.fn.nodes off → ShownBut l.nodes off;
 }
 
 abbrev pub invariant-items : goal.invariant-items
@@ -32,12 +35,12 @@ invariant-items l = record {
   room : MoreRoom l.fn.nodes l.nodes;
   beside : AreBeside l.stamp.table.now l.nodes;
   nested : IsNested (context l.nodes);
-  gone : AreGone l.nodes;
+  empty : AreEmpty l.nodes;
   rest : (e : Element) → number l.fn.nodes e ≡ Some l.at →
       clear_each (context l.nodes) (items_of e (drop l.position (links l.fn.nodes l.at).1)) (deps_of l.stamp)
       ≡ clear_each (clear_each (context l.fn.nodes) (fields_of e (links l.fn.nodes l.at).0) (deps_of l.stamp))
       (items_of e (links l.fn.nodes l.at).1) (deps_of l.stamp);
   left : (e : Element) → number l.fn.nodes e ≡ Some l.at → (a : OpId) → a.counter < l.gone
       → is_any ((context l.nodes).presence (Item e a)) ≡ true → is_some (find id_cmp a (drop l.position (links l.fn.nodes l.at).1)) ≡ true;
-  shown : (e : Element) (off : Element → OpId → Bool) → number l.fn.nodes e ≡ Some l.at → ShownBut l.fn.nodes off → ShownBut l.nodes off;
+  shown : (e : Element) (off : Element → Bool) → number l.fn.nodes e ≡ Some l.at → ShownBut l.fn.nodes off → ShownBut l.nodes off;
 }

@@ -30,7 +30,7 @@ returns-clause-links c =
     let ns = c.args.nodes.now in
     let n : Node = c.node_at_mut-node.result.now in
     let m : Node = record n { presence = c.clear.new.self; register = c.clear-2.new.self } in
-    links_set ns c.args.at n m c.node_at_mut-node.ensures.node refl refl refl
+    links_set ns c.args.at n m c.node_at_mut-node.ensures.node refl refl refl refl
 
 pub returns-clause-room : goal.returns-clause-room
 returns-clause-room c =

@@ -15,14 +15,14 @@ returns-clause-room c =
     let n : Node = c.node_at_mut-node.result.now in
     room_set c.args.nodes.now c.args.at n (record n { gone = c.args.gone }) c.node_at_mut-node.ensures.node (omega arith) (omega arith)
 
-pub returns-clause-gone : goal.returns-clause-gone
-returns-clause-gone c = λ e at below gone.
+pub returns-clause-empty : goal.returns-clause-empty
+returns-clause-empty c = λ e at below empty.
     let ns = c.args.nodes.now in
     let n : Node = c.node_at_mut-node.result.now in
     let m : Node = record n { gone = c.args.gone } in
     let g = c.node_at_mut-node.ensures.node in
-    gone_raised ns c.requires.tree c.args.at n m g refl refl (flag_same ns c.requires.tree c.args.at n m g refl refl refl refl refl) e at
-    below gone
+    gone_raised ns c.requires.tree c.args.at n m g refl refl refl (flag_same ns c.requires.tree c.args.at n m g refl refl refl refl refl)
+    e at below empty
 
 pub returns-clause-shown : goal.returns-clause-shown
 returns-clause-shown c = λ e off at below s.
@@ -30,5 +30,5 @@ returns-clause-shown c = λ e off at below s.
     let n : Node = c.node_at_mut-node.result.now in
     let m : Node = record n { gone = c.args.gone } in
     let g = c.node_at_mut-node.ensures.node in
-    but_raised ns c.requires.tree c.args.at n m g refl refl refl (flag_same ns c.requires.tree c.args.at n m g refl refl refl refl refl)
+    but_raised ns c.requires.tree c.args.at n m g refl refl refl refl (flag_same ns c.requires.tree c.args.at n m g refl refl refl refl refl)
     e at below off s

@@ -8,5 +8,5 @@ pub returns-then-was_present-clause-shown : goal.returns-then-was_present-clause
 returns-then-was_present-clause-shown c = λ e off d at s.
     let ns = c.args.nodes.now in
     c.show_child.ensures.shown e off d at
-    (subst (λ b. ShownBut ns (λ l a. (b && is_same (Item l a) (Item e (get_or (links ns c.args.at).1 c.args.position d).0)) || off l a))
+    (subst (λ b. ShownBut ns (λ x. (b && is_same x (Item e (get_or (links ns c.args.at).1 c.args.position d).0)) || off x))
     c.if-was_present.true s)

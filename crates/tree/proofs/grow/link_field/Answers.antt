@@ -14,7 +14,7 @@ returns-clause-kept c =
     let only : OnlyLinks n m = record { presence = refl; register = refl; order = refl; gone = refl; written = refl } in
     linked_kept c.args.at (FieldKey c.args.key) c.args.number ns n m there only
     (linked_field ns c.args.at n m c.args.number there c.args.key (rw c.index.ensures at c.put.ensures.entries) only c.requires.tree
-    c.requires.orphan c.requires.absent refl)
+    c.requires.orphan c.requires.absent refl c.put.ensures.flags c.put.ensures.unflagged)
     c.requires.tree c.requires.above c.requires.orphan
 
 pub returns-clause-child : goal.returns-clause-child

@@ -13,14 +13,14 @@ returns-in-Field-clause-kept c =
     let n : Node = c.node_in_vec-node.result.now in
     let m : Node = record n { fields = c.reserve_one.new.self } in
     kept_set c.args.nodes.now.items c.args.at n m c.node_in_vec-node.ensures.node c.requires.tree
-    (wider_children n m.fields m.items c.reserve_one.ensures.same refl)
+    (wider_children n m.fields m.items c.reserve_one.ensures.same c.reserve_one.ensures.flags refl)
 
 pub returns-in-Field-clause-shape : goal.returns-in-Field-clause-shape
 returns-in-Field-clause-shape c =
     let n : Node = c.node_in_vec-node.result.now in
     let m : Node = record n { fields = c.reserve_one.new.self } in
     wider_links c.args.nodes.now.items c.args.at n m c.node_in_vec-node.ensures.node
-    (wider_children n m.fields m.items c.reserve_one.ensures.same refl)
+    (wider_children n m.fields m.items c.reserve_one.ensures.same c.reserve_one.ensures.flags refl)
 
 pub returns-in-Field-clause-room : goal.returns-in-Field-clause-room
 returns-in-Field-clause-room c =
@@ -36,14 +36,14 @@ returns-in-Item-clause-kept c =
     let n : Node = c.node_in_vec-node.result.now in
     let m : Node = record n { items = c.reserve_one-in-Item.new.self } in
     kept_set c.args.nodes.now.items c.args.at n m c.node_in_vec-node.ensures.node c.requires.tree
-    (wider_children n m.fields m.items refl c.reserve_one-in-Item.ensures.same)
+    (wider_children n m.fields m.items refl refl c.reserve_one-in-Item.ensures.same)
 
 pub returns-in-Item-clause-shape : goal.returns-in-Item-clause-shape
 returns-in-Item-clause-shape c =
     let n : Node = c.node_in_vec-node.result.now in
     let m : Node = record n { items = c.reserve_one-in-Item.new.self } in
     wider_links c.args.nodes.now.items c.args.at n m c.node_in_vec-node.ensures.node
-    (wider_children n m.fields m.items refl c.reserve_one-in-Item.ensures.same)
+    (wider_children n m.fields m.items refl refl c.reserve_one-in-Item.ensures.same)
 
 pub returns-in-Item-clause-room : goal.returns-in-Item-clause-room
 returns-in-Item-clause-room c =

@@ -16,6 +16,7 @@ returns-clause-kept c =
       register = (refl, refl, omega arith);
       order = (c.reserve_one.ensures.same, c.reserve_one.ensures.visible, c.reserve_one.ensures.kept);
       gone = refl;
+      flags = refl;
       written = refl;
     })
 

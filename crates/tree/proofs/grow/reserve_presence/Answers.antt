@@ -16,6 +16,7 @@ returns-clause-kept c =
       register = (refl, refl, omega arith);
       order = (refl, refl, omega arith);
       gone = refl;
+      flags = refl;
       written = refl;
     })
 

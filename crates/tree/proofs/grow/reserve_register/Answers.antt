@@ -16,6 +16,7 @@ returns-clause-kept c =
       register = (c.reserve_one.ensures.entries, c.reserve_one.ensures.indices, c.reserve_one.ensures.kept);
       order = (refl, refl, omega arith);
       gone = refl;
+      flags = refl;
       written = refl;
     })
 

@@ -14,7 +14,7 @@ use Rattle.tree.proofs.NearTarget.{linked_shown, way_itself, written, written_sh
 use Rattle.tree.proofs.Nested.{nested_linked}
 use Rattle.tree.proofs.Shape.{children_linked, children_number, children_tree, children_trans, links_trans, number_inside, number_same}
 use Rattle.tree.proofs.Shape.{room_trans, tree_same}
-use Rattle.tree.proofs.Showing.{but_wider, gone_kept}
+use Rattle.tree.proofs.Showing.{but_wider, empty_kept}
 use Rattle.tree.proofs.Rooms.{depth_whole, more_room, path_room, room_along}
 use Rattle.tree.proofs.insert.insert.Goals as goal
 
@@ -35,9 +35,9 @@ clear_below-requires-clause-nested c =
     subst IsNested (sym c.link_list-item.ensures.linked)
     (nested_linked (context c.args.nodes.now) l c.args.slot.now.prev s.id c.requires.nested)
 
-pub clear_below-requires-clause-gone : goal.clear_below-requires-clause-gone
-clear_below-requires-clause-gone c = gone_kept c.args.nodes.now c.link_list-item.new.nodes c.link_list-item.ensures.links
-    (λ x none. ap (λ (C : Context). is_any (C.presence x)) c.link_list-item.ensures.linked ∙ none) c.requires.gone
+pub clear_below-requires-clause-empty : goal.clear_below-requires-clause-empty
+clear_below-requires-clause-empty c = empty_kept c.args.nodes.now c.link_list-item.new.nodes c.link_list-item.ensures.links
+    (λ x none. ap (λ (C : Context). is_any (C.presence x)) c.link_list-item.ensures.linked ∙ none) c.requires.empty
 
 pub clear_below-requires-clause-there : goal.clear_below-requires-clause-there
 clear_below-requires-clause-there c =
@@ -143,9 +143,9 @@ returns-clause-shown c = λ shown.
     c.settle.ensures.settled t at3
     ∙ ap (λ C. registered (mark C t s.id (tag_of c.args.tag)) t s.id (option_map scalar_of c.args.scalar)) c.write_path.ensures.written in
     let new = linked_shown n0 n1 c.link_list-item.ensures.links l p s.id c.link_list-item.ensures.linked
-    (c.requires.fits.position, c.requires.fits.fresh) shown c.requires.gone in
-    let cleared = but_wider n2 (is_any (presence_of (slice_get n1 c.link_list-item.result))) t (λ y b. is_same (Item y b) t)
-    (c.clear_below.ensures.shown t (λ y b. is_same (Item y b) t) at1 new) in
+    (c.requires.fits.position, c.requires.fits.fresh) shown c.requires.empty in
+    let cleared = but_wider n2 (is_any (presence_of (slice_get n1 c.link_list-item.result))) t (λ x. is_same x t)
+    (c.clear_below.ensures.shown t (λ x. is_same x t) at1 new) in
     written_shown n2 n4 (links_trans n2 n3 n4 c.write_path.ensures.links c.settle.ensures.links) t s.id (tag_of c.args.tag)
-    (option_map scalar_of c.args.scalar) is (λ y b. is_same (Item y b) t || is_same (Item y b) t)
-    (λ y b far. ap (λ x. x || x) (way_itself t y b far)) cleared
+    (option_map scalar_of c.args.scalar) is (λ x. is_same x t || is_same x t)
+    (λ x far. ap (λ b. b || b) (way_itself t x far)) cleared

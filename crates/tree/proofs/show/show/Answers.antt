@@ -15,7 +15,7 @@ returns-in-Assign-clause-shown c = λ s.
     let t : target_in (slot_of (mutation_of o.mutation) o.place) o.id o.place
     ≡ end_of path = ap (λ m. target_in (slot_of (mutation_of m) o.place) o.id o.place) c.in-Assign.is
     ∙ sym (end_is o.place path c.hops.ensures) in
-    c.show_at.ensures.shown (subst (λ e. ShownBut c.args.nodes.now (λ l a. is_under e (Item l a))) t s)
+    c.show_at.ensures.shown (subst (λ e. ShownBut c.args.nodes.now (is_under e)) t s)
 
 pub returns-in-Delete-clause-shown : goal.returns-in-Delete-clause-shown
 returns-in-Delete-clause-shown c = λ s.
@@ -24,4 +24,4 @@ returns-in-Delete-clause-shown c = λ s.
     let t : target_in (slot_of (mutation_of o.mutation) o.place) o.id o.place
     ≡ end_of path = ap (λ m. target_in (slot_of (mutation_of m) o.place) o.id o.place) c.in-Delete.is
     ∙ sym (end_is o.place path c.hops-in-Delete.ensures) in
-    c.show_at-in-Delete.ensures.shown (subst (λ e. ShownBut c.args.nodes.now (λ l a. is_under e (Item l a))) t s)
+    c.show_at-in-Delete.ensures.shown (subst (λ e. ShownBut c.args.nodes.now (is_under e)) t s)

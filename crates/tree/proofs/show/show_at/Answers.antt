@@ -9,4 +9,4 @@ pub returns-clause-shown : goal.returns-clause-shown
 returns-clause-shown c = λ s.
     let t = end_of (map hop_of c.args.path.now) in
     but_none c.show_path-end.new.nodes
-    (c.show_path-end.ensures.shown (λ l a. false) (or_none c.args.nodes.now (λ l a. is_under t (Item l a)) s))
+    (c.show_path-end.ensures.shown (λ x. false) (or_none c.args.nodes.now (is_under t) s))

@@ -15,4 +15,4 @@ pub returns-clause-shown : goal.returns-clause-shown
 returns-clause-shown c = λ e off d at s.
     let ns = c.args.nodes.now in
     let entry = item_entry ns c.args.at c.args.position c.node_at.result.now c.at-id.result c.node_at.ensures c.at-id.ensures d in
-    c.show_item.ensures.shown e off at (subst (λ (x : OpId × ℕ). ShownBut ns (λ l a. is_same (Item l a) (Item e x.0) || off l a)) entry s)
+    c.show_item.ensures.shown e off at (subst (λ (x : OpId × ℕ). ShownBut ns (λ y. is_same y (Item e x.0) || off y)) entry s)

@@ -1,17 +1,12 @@
-use Rattle.std.proofs.Common.{◌≡◌, None, false, sym, ◌∙◌}
-use Rattle.semantics.specs.Elements.{Element, Item}
+use Rattle.std.proofs.Common.{sym, ◌∙◌}
+use Rattle.semantics.specs.Elements.{Item}
 use Rattle.semantics.specs.Paths.{ItemKey}
-use Rattle.tree.specs.Nodes.{number}
 use Rattle.tree.proofs.Shape.{number_child}
-use Rattle.tree.proofs.Showing.{but_lost, but_none}
+use Rattle.tree.proofs.Showing.{but_lost}
 use Rattle.tree.proofs.show.show_entry.Goals as goal
 
-pub returns-in-Some-clause-shown : goal.returns-in-Some-clause-shown
-returns-in-Some-clause-shown c = λ e at s. but_none c.show_item.new.nodes (c.show_item.ensures.shown e (λ l a. false) at s)
-
-pub returns-in-None-clause-shown : goal.returns-in-None-clause-shown
-returns-in-None-clause-shown c = λ e at s.
-    let old = c.args.nodes.now in
-    let t : Element = Item e c.args.id.now in
-    let none : number old t ≡ None = number_child old e c.args.at (ItemKey c.args.id.now) at ∙ sym c.item_of.ensures ∙ c.in-None.is in
-    but_none old (but_lost old t (λ l a. false) none s)
+pub returns-in_err-item-clause-shown : goal.returns-in_err-item-clause-shown
+returns-in_err-item-clause-shown c = λ e off at s.
+    let ns = c.args.nodes.now in
+    but_lost ns (Item e c.args.id.now) off
+    (number_child ns e c.args.at (ItemKey c.args.id.now) at ∙ sym c.item_of.ensures ∙ c.in_err-item.was) s

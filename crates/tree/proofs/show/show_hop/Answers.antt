@@ -1,12 +1,14 @@
-use Rattle.std.proofs.Common.{sym, ◌∙◌}
+use Rattle.std.proofs.Common.{◌||◌, subst}
+use Rattle.semantics.specs.Elements.{is_same}
 use Rattle.semantics.specs.Paths.{child}
 use Rattle.cursor.specs.Meanings.{hop_of}
-use Rattle.tree.proofs.Shape.{number_child}
-use Rattle.tree.proofs.Showing.{but_lost}
+use Rattle.tree.specs.Shown.{ShownBut}
 use Rattle.tree.proofs.show.show_hop.Goals as goal
 
-pub returns-in_err-next-clause-shown : goal.returns-in_err-next-clause-shown
-returns-in_err-next-clause-shown c = λ e off at s.
-    let ns = c.args.nodes.now in
-    let h = hop_of c.args.hop.now in
-    but_lost ns (child e h) off (number_child ns e c.args.at h at ∙ sym c.child_of.ensures ∙ c.in_err-next.was) s
+pub returns-in-Field-clause-shown : goal.returns-in-Field-clause-shown
+returns-in-Field-clause-shown c = λ e off at s. c.show_field.ensures.shown e off at
+    (subst (λ h. ShownBut c.args.nodes.now (λ x. is_same x (child e (hop_of h)) || off x)) c.in-Field.is s)
+
+pub returns-in-Item-clause-shown : goal.returns-in-Item-clause-shown
+returns-in-Item-clause-shown c = λ e off at s. c.show_entry.ensures.shown e off at
+    (subst (λ h. ShownBut c.args.nodes.now (λ x. is_same x (child e (hop_of h)) || off x)) c.in-Item.is s)

@@ -14,4 +14,4 @@ returns-in-None-clause-shown c = λ s.
     let t : target_in (slot_of (Insert EmptyMap) p) c.args.id.now p
     ≡ end_of path = ap (λ o. target_in o c.args.id.now p) (sym c.in-None.ensures)
     ∙ sym (end_is p path c.hops.ensures) in
-    c.show_at.ensures.shown (subst (λ e. ShownBut c.args.nodes.now (λ l a. is_under e (Item l a))) t s)
+    c.show_at.ensures.shown (subst (λ e. ShownBut c.args.nodes.now (is_under e)) t s)

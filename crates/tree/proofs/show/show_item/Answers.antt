@@ -23,17 +23,17 @@ returns-clause-shown c = λ e off at s.
     let same = flag_same ns c.requires.tree c.args.at n m g refl c.set_shown.ensures.items refl refl refl in
     let le = lower c.is_present-shown.result n.gone c.args.id.now.counter m.gone c.gone_with-node.ensures in
     flag_set ns c.requires.tree c.args.at n m g refl c.set_shown.ensures.items e at c.args.id.now c.args.item c.requires.item
-    c.is_present-shown.result c.is_present-shown.ensures same le.0 le.1 c.set_shown.ensures.visible off s
+    c.is_present-shown.result c.is_present-shown.ensures refl same le.0 le.1 c.set_shown.ensures.visible off s
 
-pub returns-clause-gone : goal.returns-clause-gone
-returns-clause-gone c = λ e at gone.
+pub returns-clause-empty : goal.returns-clause-empty
+returns-clause-empty c = λ e at empty.
     let ns = c.args.nodes.now in
     let n : Node = c.node_at_mut-node.result.now in
     let m : Node = record n { order = c.set_shown.new.self; gone = c.gone_with-node.result } in
     let g = c.node_at_mut-node.ensures.node in
     let same = flag_same ns c.requires.tree c.args.at n m g refl c.set_shown.ensures.items refl refl refl in
     let le = lower c.is_present-shown.result n.gone c.args.id.now.counter m.gone c.gone_with-node.ensures in
-    gone_lower ns c.requires.tree c.args.at n m g refl c.set_shown.ensures.items same e at le.0 gone
+    gone_lower ns c.requires.tree c.args.at n m g refl c.set_shown.ensures.items refl same e at le.0 empty
 
 pub returns-clause-room : goal.returns-clause-room
 returns-clause-room c =

@@ -39,7 +39,7 @@ returns-in-None-clause-shown c = λ off s.
     let none : number old (child e x) ≡ None = number_child old e c.loop-hop.at x inv.here
     ∙ ap (λ l. linked_by l x) (view.links c.loop-hop.at) ∙ sym c.show_hop.ensures.number ∙ c.in-None.is in
     c.show_hop.ensures.shown e off here
-    (inv.rest (λ y a. is_same (Item y a) (child e x) || off y a) (but_way old path k e x off more none s))
+    (inv.rest (λ z. is_same z (child e x) || off z) (but_way old path k e x off more none s))
 
 pub loop-hop-preserved : goal.loop-hop-preserved
 loop-hop-preserved c =
@@ -63,5 +63,5 @@ loop-hop-preserved c =
       inside = number_inside new (flags_tree old new same c.requires) (end_of (take (k + 1) path)) c.in-Some.next
           (sym (flags_number old new same (end_of (take (k + 1) path))) ∙ there);
       rest = λ off s. c.show_hop.ensures.shown e off here
-          (inv.rest (λ y a. is_same (Item y a) (child e x) || off y a) (but_hop old path k e x off more s));
+          (inv.rest (λ z. is_same z (child e x) || off z) (but_hop old path k e x off more s));
     }

@@ -12,6 +12,6 @@ invariant-loop-hop l = record {
   same : SameButFlags l.fn.nodes l.nodes;
   here : number l.fn.nodes (end_of (take l.hop-index (map hop_of l.path))) ≡ Some l.at;
   inside : l.at < length l.nodes;
-  rest : (off : Element → OpId → Bool)
-      → ShownBut l.fn.nodes (λ y a. is_under (end_of (take l.hop-index (map hop_of l.path))) (Item y a) || off y a) → ShownBut l.nodes off;
+  rest : (off : Element → Bool)
+      → ShownBut l.fn.nodes (λ x. is_under (end_of (take l.hop-index (map hop_of l.path))) x || off x) → ShownBut l.nodes off;
 }

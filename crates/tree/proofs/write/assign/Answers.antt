@@ -52,5 +52,5 @@ returns-clause-shown c = λ shown.
     let is : context new ≡ written (context mid) t a (tag_of c.args.tag) (option_map scalar_of c.args.scalar) =
     c.put_scalar.ensures.written t at ∙ ap (λ C. registered C t a (option_map scalar_of c.args.scalar)) c.write_path-at.ensures.written in
     written_shown mid new (links_trans mid on new c.write_path-at.ensures.links c.put_scalar.ensures.links) t a (tag_of c.args.tag)
-    (option_map scalar_of c.args.scalar) is (λ l b. is_same (Item l b) t || false) (λ l b far. ap (λ x. x || false) (way_itself t l b far))
-    (c.clear_at.ensures.shown (λ l b. false) (shown_but c.args.nodes.now shown c.requires.gone))
+    (option_map scalar_of c.args.scalar) is (λ x. is_same x t || false) (λ x far. ap (λ b. b || false) (way_itself t x far))
+    (c.clear_at.ensures.shown (λ x. false) (shown_but c.args.nodes.now shown c.requires.empty))

@@ -7,7 +7,7 @@ use Rattle.semantics.proofs.Orders.{name_total}
 use Rattle.columns.specs.Keys.{numbered}
 use Rattle.columns.specs.Flagged.{Flagged}
 use Rattle.columns.proofs.Placed.{entries_more, fields_more, values_long}
-use Rattle.columns.proofs.Zipped.{find_there-zip, put_new-zip}
+use Rattle.columns.proofs.Zipped.{find_absent-zip, find_there-zip, put_new-zip}
 use Rattle.columns.proofs.field_columns.FieldColumns.put.Goals as goal
 
 pub unreachable-requires : goal.unreachable-requires
@@ -46,3 +46,9 @@ returns-clause-flags c =
     (λ t. zip (c.put.ensures.keys t) (c.insert_lowered.ensures.flags t))
     ∙ put_new-zip name_cmp d.keys.keys d.flags.flags c.self.invariant.1 c.args.key false c.in-Err.position c.in-Err.ensures
     ∙ ap (λ (m : Flagged Name). put name_cmp c.args.key false m.flags) c.self.view_is
+
+pub returns-clause-unflagged : goal.returns-clause-unflagged
+returns-clause-unflagged c =
+    let d = c.self.inside in
+    ap (λ (m : Flagged Name). find name_cmp c.args.key m.flags) (sym c.self.view_is)
+    ∙ find_absent-zip name_cmp d.keys.keys d.flags.flags c.self.invariant.1 c.args.key c.in-Err.position c.in-Err.ensures

@@ -1,6 +1,6 @@
 use Rattle.std.proofs.Common.{sym, subst}
 use Rattle.tree.specs.Nested.{IsNested}
-use Rattle.tree.proofs.Grown.{kept_gone, kept_shown}
+use Rattle.tree.proofs.Grown.{kept_empty, kept_shown}
 use Rattle.tree.proofs.tree.Tree.reserve.Goals as goal
 
 pub invariant_of-self : goal.invariant_of-self
@@ -9,7 +9,7 @@ invariant_of-self c = record {
   tree = c.reserve_operation.ensures.kept.tree;
   nested = subst IsNested (sym c.reserve_operation.ensures.kept.same) c.self.invariant.nested;
   shown = kept_shown c.self.inside.nodes.items c.reserve_operation.new.nodes.items c.reserve_operation.ensures.kept c.self.invariant.shown;
-  gone = kept_gone c.self.inside.nodes.items c.reserve_operation.new.nodes.items c.reserve_operation.ensures.kept c.self.invariant.gone;
+  empty = kept_empty c.self.inside.nodes.items c.reserve_operation.new.nodes.items c.reserve_operation.ensures.kept c.self.invariant.empty;
   beside = c.reserve_operation.ensures.kept.beside c.self.inside.table c.self.invariant.beside;
 }
 
@@ -19,7 +19,7 @@ invariant_of-self-2 c = record {
   tree = c.reserve_operation.ensures.kept.tree;
   nested = subst IsNested (sym c.reserve_operation.ensures.kept.same) c.self.invariant.nested;
   shown = kept_shown c.self.inside.nodes.items c.reserve_operation.new.nodes.items c.reserve_operation.ensures.kept c.self.invariant.shown;
-  gone = kept_gone c.self.inside.nodes.items c.reserve_operation.new.nodes.items c.reserve_operation.ensures.kept c.self.invariant.gone;
+  empty = kept_empty c.self.inside.nodes.items c.reserve_operation.new.nodes.items c.reserve_operation.ensures.kept c.self.invariant.empty;
   beside = c.reserve_operation.ensures.kept.beside c.self.inside.table c.self.invariant.beside;
 }
 

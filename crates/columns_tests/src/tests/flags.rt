@@ -1,0 +1,142 @@
+//! The flags of a map's fields, on each side of the borders of rings.
+
+use super::*;
+use std::alloc::Global;
+use std::process::Abort;
+use value::Key;
+
+/// Puts a field whose key is a number of four digits.
+fn put(alloc: Global, fields: &mut Fields, number: usize) -> Result<(), Fail> {
+    fields.reserve_one()?;
+    let text = format!(in alloc; "{number:04}")?;
+    let key = Key::new(alloc, text.as_str())?;
+    if fields.get(&key).is_some() {
+        return Err("a field that is there".into());
+    }
+    fields.put(key, number);
+    Ok(())
+}
+
+/// This many fields. First come those of even numbers, and then the others go in between them.
+fn fields_of(alloc: Global, count: usize) -> Result<Fields, Fail> {
+    let mut fields = Fields::new(alloc);
+    for half in 0..count.div_ceil(2) {
+        put(alloc, &mut fields, half * 2)?;
+    }
+    for half in 0..count / 2 {
+        put(alloc, &mut fields, half * 2 + 1)?;
+    }
+    Ok(fields)
+}
+
+/// Sets the flags at these positions, as far as there are fields.
+fn set_flags(fields: &mut Fields, positions: &[usize], flag: bool) {
+    for position in positions {
+        if *position < fields.len() {
+            fields.set_flag(*position, flag);
+        }
+    }
+}
+
+/// The first of these positions, which rise, from this one on, or how many fields there are if none of them has a field.
+fn first_from(positions: &[usize], from: usize, count: usize) -> usize {
+    for position in positions {
+        if *position >= from {
+            return count.min(*position);
+        }
+    }
+    count
+}
+
+/// The positions at the borders of the first two rings, and of what stands behind them.
+const BORDERS: &[usize] = &[0, 1, 2046, 2047, 2048, 2049, 4095, 4096, 4097, 4099];
+
+/// Asserts that flags are raised at these positions alone, as seen from the borders.
+fn assert_raised(rt: &impl Abort, fields: &Fields, raised: &[usize]) {
+    let count = fields.len();
+    for from in BORDERS {
+        if *from <= count {
+            let want = first_from(raised, *from, count);
+            assert_eq!(rt; fields.next_flagged(*from), want, "from {from} of {count}");
+        }
+    }
+}
+
+/// Raises flags at the borders one by one, at all of them, and none.
+fn assert_borders(rt: &impl Abort, alloc: Global, count: usize) -> Result<(), Fail> {
+    let mut fields = fields_of(alloc, count)?;
+    assert_eq!(rt; fields.len(), count);
+    assert_raised(rt, &fields, &[]);
+    for position in BORDERS {
+        let one = &[*position];
+        set_flags(&mut fields, one, true);
+        assert_raised(rt, &fields, one);
+        set_flags(&mut fields, one, false);
+    }
+    set_flags(&mut fields, BORDERS, true);
+    assert_raised(rt, &fields, BORDERS);
+    set_flags(&mut fields, BORDERS, false);
+    assert_raised(rt, &fields, &[]);
+    Ok(())
+}
+
+#[test]
+fn flags_are_found_on_each_side_of_a_border(rt: HostRuntime) -> Result<(), Fail> {
+    for count in [0, 1, 2, 2047, 2048, 2049, 4096, 4100] {
+        assert_borders(&rt, rt.alloc(), count)?;
+    }
+    Ok(())
+}
+
+/// The fields of even numbers below 8,200, so that four digits are enough for those between them.
+fn even_fields(alloc: Global) -> Result<Fields, Fail> {
+    let mut fields = Fields::new(alloc);
+    for half in 0..4100 {
+        put(alloc, &mut fields, half * 2)?;
+    }
+    Ok(fields)
+}
+
+#[test]
+fn flags_move_with_their_fields(rt: HostRuntime) -> Result<(), Fail> {
+    let mut fields = even_fields(rt.alloc())?;
+    set_flags(&mut fields, &[1, 2046, 4095, 4099], true);
+    // A field goes in between 2 and 4, one between 5,000 and 5,002, and one behind all: their flags are lowered.
+    put(rt.alloc(), &mut fields, 3)?;
+    assert_raised(&rt, &fields, &[1, 2047, 4096, 4100]);
+    put(rt.alloc(), &mut fields, 5001)?;
+    assert_raised(&rt, &fields, &[1, 2047, 4097, 4101]);
+    put(rt.alloc(), &mut fields, 9999)?;
+    assert_raised(&rt, &fields, &[1, 2047, 4097, 4101]);
+    Ok(())
+}
+
+/// Asserts the position and the number of a field.
+fn assert_located(
+    rt: &impl Abort,
+    alloc: Global,
+    fields: &Fields,
+    number: usize,
+    want: Option<(usize, usize)>,
+) -> Result<(), Fail> {
+    let text = format!(in alloc; "{number:04}")?;
+    let key = Key::new(alloc, text.as_str())?;
+    assert_eq!(rt; fields.locate(&key), want, "of {number}");
+    Ok(())
+}
+
+#[test]
+fn fields_are_located_by_their_keys(rt: HostRuntime) -> Result<(), Fail> {
+    let fields = even_fields(rt.alloc())?;
+    for (number, want) in [
+        (0, Some((0, 0))),
+        (1, None),
+        (4094, Some((2047, 4094))),
+        (4096, Some((2048, 4096))),
+        (8198, Some((4099, 8198))),
+        (9999, None),
+    ] {
+        assert_located(&rt, rt.alloc(), &fields, number, want)?;
+    }
+    Ok(())
+}
