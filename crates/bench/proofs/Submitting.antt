@@ -1,7 +1,7 @@
 -- What a worker submitted, one number after another.
 use Rattle.std.proofs.Common.{◌≡◌, ℕ, suc, List, [], ◌∷◌, ◌++◌, length, Some, map, slice_get, ap, ◌∙◌, arith, append_assoc}
 use Rattle.semantics.specs.LegalAnswer.{OfCommand}
-use Rattle.engine.specs.Clients.{Client}
+use Rattle.peer_sync.specs.engine.Clients.{Client}
 use Rattle.bench.specs.Workers.{assignment, assignments, requests_by}
 
 -- one more request after those for the numbers below n

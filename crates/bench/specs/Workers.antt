@@ -7,8 +7,8 @@ use Rattle.semantics.specs.Operations.{Assign}
 use Rattle.semantics.specs.Making.{Command}
 use Rattle.semantics.specs.Questions.{Get, Values, ValuesAre}
 use Rattle.semantics.specs.LegalAnswer.{Request, OfCommand, OfDocument, Answered, reading_of}
-use Rattle.items.specs.Meanings.{request_of}
-use Rattle.engine.specs.Clients.{Client, items_by}
+use Rattle.peer_sync.specs.items.Meanings.{request_of}
+use Rattle.peer_sync.specs.engine.Clients.{Client, items_by}
 
 -- what the client asked of the writer so far, in order
 abbrev pub requests_by : List ℕ → Client → List Request

@@ -3,14 +3,11 @@
 ghost use Rattle.std.specs.Prelude.{◌≡◌, ◌∷◌, [], IfOk, IfErr, true, false};
 ghost use Rattle.semantics.specs.Questions.{Get};
 ghost use Rattle.ids.specs.declared.refusal.Refusal.TheVariants.{NoMemory};
-ghost use Rattle.document.specs.declared.question.Question.TheVariants.{Values as AskValues};
+ghost use Rattle.peer_sync.specs.document.declared.question.Question.TheVariants.{Values as AskValues};
 
-use cursor::{Expr, Step as Hop};
-use document::{Question, Reading};
-use engine::{Client, EngineName};
 use ids::Refusal;
+use peer_sync::{Client, EngineName, Expr, ExprStep as Hop, Key, Question, Reading};
 use std::alloc::{AllocError, Global};
-use value::Key;
 
 /// Says whether a worker may submit its next command.
 pub trait Gate {

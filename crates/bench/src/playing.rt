@@ -5,12 +5,11 @@ ghost use Rattle.std.specs.Prelude.{◌<◌};
 use crate::gate::Meeting;
 use crate::plan::{MOST_TURNS, Plan, Stop};
 use crate::working::worker;
-use engine::{Client, EngineName, Step, Writer};
 use ids::Refusal;
+use peer_sync::{Client, EngineName, Key, Step, Writer};
 use std::alloc::{AllocError, Global};
 use std::sync::Wait;
 use std::thread::{Threads, for_each_mut, join, yield_now};
-use value::Key;
 
 /// What a client has to do, and how it ended.
 #[derive(Drop)]

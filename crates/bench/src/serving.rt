@@ -4,15 +4,14 @@ use crate::gate::values_at;
 use crate::links::{Desk, Request};
 use crate::plan::{MOST_TURNS, Stop};
 use crate::showing::Shown;
-use cursor::Expr;
-use document::{Question, Reading};
-use engine::{Client, EngineName, ReaderToken, Step, Writer};
 use ids::{OpId, Refusal};
-use peer_sync::{answer, hello, receive};
+use peer_sync::{
+    Client, EngineName, Expr, Key, Question, ReaderToken, Reading, Scalar, Step, Writer, answer,
+    hello, receive,
+};
 use std::alloc::Global;
 use std::sync::Wait;
 use std::thread::yield_now;
-use value::{Key, Scalar};
 
 /// What a thread needs of its engine to serve requests.
 #[derive(Drop)]

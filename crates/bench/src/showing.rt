@@ -7,7 +7,7 @@ ghost use Rattle.bench.specs.Showing.{ShowAlike, is_same_view, view_of};
 
 use crate::plan::Verdict;
 use ids::OpId;
-use value::{Key, Scalar};
+use peer_sync::{Key, Scalar};
 
 /// What an engine shows to a reader.
 #[derive(Debug, Drop)]

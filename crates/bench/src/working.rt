@@ -4,21 +4,17 @@ ghost use Rattle.std.specs.Prelude.{◌≡◌, ◌<◌, ◌≤◌, ◌-◌, ◌+
 ghost use Rattle.semantics.specs.Ids.{OpId as AnId};
 ghost use Rattle.semantics.specs.Elements.{Scalar as TheScalar, Whole};
 ghost use Rattle.semantics.specs.LegalAnswer.{OfCommand};
-ghost use Rattle.operation.specs.Meanings.{command_of};
-ghost use Rattle.value.specs.Meanings.{scalar_of};
+ghost use Rattle.peer_sync.specs.operation.Meanings.{command_of};
+ghost use Rattle.peer_sync.specs.value.Meanings.{scalar_of};
 ghost use Rattle.bench.specs.Workers.{Shows, assignment, assignments, requests_by};
 
 use crate::gate::{Gate, at, values_at};
 use crate::plan::{MOST_TURNS, Stop};
-use document::Reading;
-use engine::{Client, EngineName, Ticket};
 use ids::{OpId, Refusal};
-use items::Reply;
-use operation::Command;
+use peer_sync::{Client, Command, EngineName, Key, Reading, Reply, Scalar, Ticket, Val};
 use std::alloc::{AllocError, Global};
 use std::sync::Wait;
 use std::thread::yield_now;
-use value::{Key, Scalar, Val};
 
 /// Assigns the numbers from 0 to `ops - 1` at the key, in turn: waits until the gate lets it, submits, polls the answer, and reads the
 /// number back. False if a number wasn't read back; then the rest isn't submitted.

@@ -14,11 +14,10 @@ ghost use Rattle.columns.specs.Entries.{StandBeside, put_index};
 
 use crate::entry::Entry;
 use crate::held::Held;
-use cursor::Tag;
+use cursor::{Scalar, Tag};
 use ids::OpId;
 use std::alloc::{AllocError, Global};
 use std::marker::Model;
-use value::Scalar;
 use version::VersionVector;
 
 /// A finite map by id.

@@ -6,9 +6,9 @@ ghost use Rattle.semantics.specs.Elements.{Name, name_cmp};
 
 use crate::flag_row::FlagRow;
 use crate::sorted_keys::SortedKeys;
+use cursor::Key;
 use std::alloc::{AllocError, Global};
 use std::marker::Model;
-use value::Key;
 
 /// A finite map from keys to numbers, with a flag for each key.
 ///

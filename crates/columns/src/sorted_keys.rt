@@ -9,11 +9,11 @@ ghost use Rattle.columns.specs.Prefix.{AreBytes, first_bytes};
 ghost use Rattle.columns.specs.Rank.{GoesTo, as_set, rank};
 
 use crate::prefix::prefix_of;
+use cursor::Key;
 use rings::Rings;
 use std::alloc::{AllocError, Global};
 use std::cmp::Ordering;
 use std::marker::Model;
-use value::Key;
 
 /// Distinct keys in byte order. What belongs to each key is in columns of the caller's.
 ///

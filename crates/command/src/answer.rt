@@ -2,11 +2,9 @@
 
 ghost use Rattle.std.specs.Prelude.{◌≡◌, Some, None, MatchOption};
 ghost use Rattle.semantics.specs.PeerAnswers.{IsAnswer};
-ghost use Rattle.items.specs.Meanings.{reply_of, submitted_of};
+ghost use Rattle.published.specs.items.Meanings.{reply_of, submitted_of};
 
-use items::{Item, Reply};
-use operation::Shared;
-use published::{EngineName, Notice};
+use published::{EngineName, Item, Notice, Reply, Shared};
 use std::marker::Model;
 
 /// A reply, with a notice of the history in which it is legal.
@@ -29,7 +27,7 @@ impl<N: EngineName> Model for Answer<N> {
     ghost use Rattle.std.specs.Coded.{codes};
     ghost use Rattle.semantics.specs.Codes.{coded_element};
     ghost use Rattle.semantics.specs.PeerAnswers.{IsAnswer};
-    ghost use Rattle.items.specs.Meanings.{reply_of, submitted_of};
+    ghost use Rattle.published.specs.items.Meanings.{reply_of, submitted_of};
     ghost use Rattle.command.specs.Answers.{Answered};
 
     ghost Value = { Answered };

@@ -2,3 +2,5 @@
 pub mod Meanings
 pub mod Places
 pub mod Equality
+-- Handed on from the crates below, for users of this one.
+pub use Rattle.value.specs as value

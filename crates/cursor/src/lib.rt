@@ -10,3 +10,6 @@ pub use expression::{Expr, Step};
 pub use hop::{Hop, Last};
 pub use place::{ElementPlace, MOST_KEYS, Place};
 pub use tag::Tag;
+
+// Handed on from the crates below, for users of this one.
+pub use value::{Key, MOST_KEY_BYTES, Scalar, Text, Val};

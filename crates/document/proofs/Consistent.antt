@@ -29,7 +29,7 @@ use Rattle.semantics.proofs.LooseApply.{apply_loose}
 use Rattle.semantics.proofs.PlacedItems.{item_among, prev_there}
 use Rattle.tree.specs.Trees.{FitsIn, IsPlaced, Planted, document}
 use Rattle.document.specs.Documents.{IsConsistent, MayFollowEntries}
-use Rattle.version.proofs.TableColumns.{component-zeros}
+use Rattle.oplog.proofs.version.TableColumns.{component-zeros}
 
 pub kept_first : (table : List ℕ) (n : ℕ) (t : Planted) → AreDistinct table → n ≡ length table → t.table ≡ table → document t ≡ empty
     → IsConsistent table (replicate n 0) [] t

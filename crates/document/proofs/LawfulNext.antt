@@ -14,11 +14,11 @@ use Rattle.semantics.proofs.NamedOperations.{legal, ready_where_follows}
 use Rattle.semantics.proofs.FollowsFaultless.{no_fault_where_follows}
 use Rattle.semantics.proofs.EntryHistories.{entries_legal, length-applied}
 use Rattle.semantics.proofs.LawfulAlone.{no_fault_alone}
-use Rattle.operation.specs.declared.command.Entry.{Entry}
-use Rattle.operation.specs.declared.op.Op.{Op}
-use Rattle.operation.specs.Alone.{alone_fault_of_op}
-use Rattle.operation.specs.Meanings.{entry_of, op_in, stamped_of}
-use Rattle.operation.proofs.StandingAlone.{stamped_same}
+use Rattle.oplog.specs.operation.declared.command.Entry.{Entry}
+use Rattle.oplog.specs.operation.declared.op.Op.{Op}
+use Rattle.oplog.specs.operation.Alone.{alone_fault_of_op}
+use Rattle.oplog.specs.operation.Meanings.{entry_of, op_in, stamped_of}
+use Rattle.oplog.proofs.operation.StandingAlone.{stamped_same}
 use Rattle.oplog.specs.Logs.{AreOfMembers}
 use Rattle.oplog.proofs.KnownMembers.{known_members}
 use Rattle.document.specs.Lawful.{is_lawful}

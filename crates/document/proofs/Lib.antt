@@ -6,3 +6,7 @@ pub mod PositionsOfIds
 pub mod ReceivedFaults
 pub mod AllApplied
 pub mod LawfulNext
+-- Handed on from the crates below, for users of this one.
+pub use Rattle.oplog.proofs.version
+pub use Rattle.oplog.proofs.operation
+pub use Rattle.oplog.proofs as oplog

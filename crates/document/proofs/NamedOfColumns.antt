@@ -7,7 +7,7 @@ use Rattle.std.proofs.lemmas.Option.{get_or_from_slice_get, slice_get_within}
 use Rattle.ids.specs.Members.{AreDistinct, is_member}
 use Rattle.semantics.specs.Ids.{OpId, id_at}
 use Rattle.semantics.specs.Tables.{component}
-use Rattle.version.proofs.TableColumns.{component-get, component-none}
+use Rattle.oplog.proofs.version.TableColumns.{component-get, component-none}
 use Rattle.document.specs.Checks.{named_at}
 
 -- the counter of the replica at an index

@@ -24,7 +24,7 @@ use Rattle.semantics.proofs.TableVectors.{at-by_table}
 use Rattle.semantics.proofs.VectorCounters.{none-at, none-from}
 use Rattle.semantics.proofs.NamedOperations.{legal}
 use Rattle.semantics.proofs.PlacedItems.{items_inserted}
-use Rattle.version.proofs.TableColumns.{component-none}
+use Rattle.oplog.proofs.version.TableColumns.{component-none}
 use Rattle.tree.specs.Trees.{Planted, document, items_stand as items_in_tree}
 use Rattle.document.specs.Checks.{is_unknown, named_at, opens}
 use Rattle.document.proofs.NamedOfColumns.{component_there, named_counter, named_index}

@@ -9,9 +9,9 @@ use Rattle.semantics.specs.Entries.{Entry as TheEntry, applied, stamped_in, stam
 use Rattle.semantics.specs.Questions.{Values as AskValues, Keys as AskKeys, Items as AskItems, Conflicts as AskConflicts, AppliedVector}
 use Rattle.semantics.specs.Questions.{ValuesAre, KeysAre, ItemsAre, ConflictsAre, VectorIs}
 use Rattle.semantics.specs.LegalAnswer.{Asked, OfDocument, Missing as AskMissing, Reading as TheReading, Answered, MissingAre}
-use Rattle.value.specs.Meanings.{scalar_of}
-use Rattle.cursor.specs.Meanings.{tag_of}
-use Rattle.operation.specs.Meanings.{stamped_of}
+use Rattle.oplog.specs.value.Meanings.{scalar_of}
+use Rattle.oplog.specs.cursor.Meanings.{tag_of}
+use Rattle.oplog.specs.operation.Meanings.{stamped_of}
 use Rattle.tree.specs.Trees.{Planted, IsReserved, document}
 use Rattle.document.specs.declared.question.Question.{Question}
 use Rattle.document.specs.declared.question.Question.TheVariants.{Values, Keys, Items, Conflicts, Missing, Vector}

@@ -2,9 +2,9 @@
 use Rattle.std.specs.Prelude.{ℕ, Bool, ◌&&◌, List, is_none}
 use Rattle.semantics.specs.Faults.{fault_of, is_ready}
 use Rattle.semantics.specs.Entries.{Entry as TheEntry, applied, stamped_entries}
-use Rattle.operation.specs.declared.op.Op.{Op}
-use Rattle.operation.specs.Alone.{alone_fault_of_op}
-use Rattle.operation.specs.Meanings.{stamped_of}
+use Rattle.oplog.specs.operation.declared.op.Op.{Op}
+use Rattle.oplog.specs.operation.Alone.{alone_fault_of_op}
+use Rattle.oplog.specs.operation.Meanings.{stamped_of}
 
 -- no test of a received operation finds a fault of it after these entries
 abbrev pub is_lawful : List ℕ → List TheEntry → Op → Bool

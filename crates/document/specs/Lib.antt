@@ -2,3 +2,8 @@
 pub mod Documents
 pub mod Checks
 pub mod Lawful
+-- Handed on from the crates below, for users of this one.
+pub use Rattle.oplog.specs.value
+pub use Rattle.oplog.specs.cursor
+pub use Rattle.oplog.specs.operation
+pub use Rattle.oplog.specs as oplog

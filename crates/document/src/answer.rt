@@ -9,17 +9,15 @@ ghost use Rattle.semantics.specs.Entries.{entry_at, missing, stamped_in, stamped
 ghost use Rattle.semantics.specs.DocumentAnswer.{visible_items};
 ghost use Rattle.semantics.specs.Questions.{answer_at, resolve, Answer, Refused};
 ghost use Rattle.semantics.specs.LegalAnswer.{reading_of, Answered};
-ghost use Rattle.operation.specs.Meanings.{stamped_of};
+ghost use Rattle.oplog.specs.operation.Meanings.{stamped_of};
 ghost use Rattle.tree.specs.Trees.{document};
 ghost use Rattle.document.specs.Documents.{IsBeside, IsConsistent, asked_of, said_by};
 
 use crate::question::{Question, Reading};
 use ids::Refusal;
-use operation::{Op, Shared};
-use oplog::Log;
+use oplog::{Log, Op, Shared, VersionVector};
 use std::alloc::{AllocError, Global};
 use tree::Tree;
-use version::VersionVector;
 
 /// What the history answers, where the tree holds its document.
 pub fn answer(

@@ -8,15 +8,13 @@ ghost use Rattle.semantics.specs.Tables.{by_table, component};
 ghost use Rattle.semantics.specs.Stamped.{Stamped, IsLegalStamped};
 ghost use Rattle.semantics.specs.Entries.{applied as operations_in, stamped_entries};
 ghost use Rattle.semantics.specs.Faults.{breaks_chain, fault_of, is_open, names_nothing};
-ghost use Rattle.operation.specs.Meanings.{stamped_of};
+ghost use Rattle.oplog.specs.operation.Meanings.{stamped_of};
 ghost use Rattle.document.specs.Documents.{IsConsistent};
 ghost use Rattle.document.specs.Checks.{is_unknown, named_at, opens};
 
 use ids::{OpId, Refusal};
-use operation::Op;
-use oplog::Log;
+use oplog::{Log, Op, VersionVector};
 use tree::Tree;
-use version::VersionVector;
 
 /// The first fault of an operation against the history, where the tree holds its document.
 pub fn check(log: &Log, applied: &VersionVector, tree: &Tree, op: &Op) -> Result<(), Refusal>

@@ -17,21 +17,18 @@ ghost use Rattle.semantics.specs.DocumentAnswer.{visible_items};
 ghost use Rattle.semantics.specs.Questions.{resolve, Question as TheQuestion, Refused};
 ghost use Rattle.semantics.specs.LegalAnswer.{reading_of, Answered, OfDocument};
 ghost use Rattle.semantics.specs.View.{view};
-ghost use Rattle.operation.specs.Alone.{alone_fault_of_op};
-ghost use Rattle.operation.specs.Meanings.{entry_of, op_in, stamped_of};
+ghost use Rattle.oplog.specs.operation.Alone.{alone_fault_of_op};
+ghost use Rattle.oplog.specs.operation.Meanings.{entry_of, op_in, stamped_of};
 ghost use Rattle.oplog.specs.Logs.{history};
 
 use crate::answer::{answer, missing};
 use crate::check::check;
 use crate::question::{Question, Reading};
-use cursor::{Expr, Place};
 use ids::{OpId, Refusal, ReplicaTable};
-use operation::{Entry, Op, Shared};
-use oplog::Log;
+use oplog::{Entry, Expr, Log, Op, Place, Shared, VersionVector};
 use std::alloc::{AllocError, Global};
 use std::marker::Model;
 use tree::Tree;
-use version::VersionVector;
 
 /// A replica's history and its content. Contracts see the table of replicas and the entries, the newest first.
 #[derive(Debug, Drop)]

@@ -1,10 +1,7 @@
 //! Questions to a document, and its answers.
 
-use cursor::{Expr, Tag};
 use ids::OpId;
-use operation::{Op, Shared};
-use value::{Key, Scalar};
-use version::VersionVector;
+use oplog::{Expr, Key, Op, Scalar, Shared, Tag, VersionVector};
 
 /// A question to a document. Where nothing stands, or something of another type, the answer is empty. `peer_sync` asks the last two.
 #[derive(Debug, Drop)]

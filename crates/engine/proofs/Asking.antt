@@ -8,11 +8,11 @@ use Rattle.semantics.specs.LegalAnswer.{Submitted, Reply as TheReply}
 use Rattle.semantics.specs.WorldHistory.{BeginsWith}
 use Rattle.semantics.specs.PeerAnswers.{IsAnswer}
 use Rattle.semantics.proofs.HandledAnswers.{answer_stays}
-use Rattle.items.specs.declared.item.Item.{Item}
-use Rattle.items.specs.declared.item.Reply.{Reply}
-use Rattle.items.specs.Meanings.{submitted_of}
-use Rattle.items.specs.Same.{is_same_item}
-use Rattle.items.proofs.SameItems.{one_submission}
+use Rattle.handling.specs.items.declared.item.Item.{Item}
+use Rattle.handling.specs.items.declared.item.Reply.{Reply}
+use Rattle.handling.specs.items.Meanings.{submitted_of}
+use Rattle.handling.specs.items.Same.{is_same_item}
+use Rattle.handling.proofs.items.SameItems.{one_submission}
 use Rattle.command.specs.Answers.{Answered, Given}
 use Rattle.engine.specs.Clients.{Keeps, Client, items_by, answer_in, answer_of, Polls}
 

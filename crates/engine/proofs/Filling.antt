@@ -11,8 +11,8 @@ use Rattle.semantics.specs.Handling.{Handler, Handles}
 use Rattle.semantics.specs.Batches.{ComeFrom, AreAnswers, IsBatch, items_of}
 use Rattle.semantics.specs.WorldHistory.{of_client}
 use Rattle.semantics.proofs.HandledBatches.{next_above, no_batch, one_more}
-use Rattle.items.specs.declared.item.Item.{Item}
-use Rattle.items.specs.Meanings.{submitted_of}
+use Rattle.handling.specs.items.declared.item.Item.{Item}
+use Rattle.handling.specs.items.Meanings.{submitted_of}
 use Rattle.command.specs.InOrder.{of}
 use Rattle.engine.specs.Turns.{submitted_in}
 

@@ -8,7 +8,7 @@ use Rattle.std.specs.Option.{option_map}
 use Rattle.atomic_table.specs.Seated.{TableId}
 use Rattle.semantics.specs.Entries.{Entry}
 use Rattle.semantics.specs.WorldHistory.{BeginsWith}
-use Rattle.items.specs.declared.item.Item.{Item}
+use Rattle.handling.specs.items.declared.item.Item.{Item}
 use Rattle.engine.specs.Clients.{Client, items_by, AreClients}
 
 -- the history begins with what each of them had seen

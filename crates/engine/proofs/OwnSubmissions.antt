@@ -10,8 +10,8 @@ use Rattle.semantics.specs.WorldHistory.{BeginsWith, of_client}
 use Rattle.semantics.specs.Batches.{AsksFor, ComeFrom}
 use Rattle.semantics.proofs.Beginnings.{entry_in_longer}
 use Rattle.semantics.proofs.HandledBatches.{of-append}
-use Rattle.items.specs.declared.item.Item.{Item}
-use Rattle.items.specs.Meanings.{submitted_of}
+use Rattle.handling.specs.items.declared.item.Item.{Item}
+use Rattle.handling.specs.items.Meanings.{submitted_of}
 use Rattle.command.specs.InOrder.{of}
 use Rattle.engine.specs.Turns.{submitted_in}
 

@@ -1,7 +1,7 @@
 -- What a client is once it has sent.
 use Rattle.std.proofs.Common.{◌≡◌, ℕ, ◌+◌, ◌++◌, None, List, [], ◌∷◌, length, refl}
-use Rattle.items.specs.declared.item.Item.{Item}
-use Rattle.items.specs.declared.item.Request.{Request}
+use Rattle.handling.specs.items.declared.item.Item.{Item}
+use Rattle.handling.specs.items.declared.item.Request.{Request}
 use Rattle.engine.specs.Clients.{Keeps, Client}
 
 -- the item of the next serial

@@ -4,10 +4,10 @@ use Rattle.std.specs.Prelude.{slice_get, slice_set}
 use Rattle.atomic_table.specs.Seated.{TableId}
 use Rattle.ids.specs.Configurations.{Configuration}
 use Rattle.semantics.specs.Entries.{Entry}
-use Rattle.items.specs.declared.item.Item.{Item}
-use Rattle.items.specs.declared.item.Reply.{Reply}
-use Rattle.items.specs.declared.item.Request.{Request}
-use Rattle.items.specs.Same.{is_same_item}
+use Rattle.handling.specs.items.declared.item.Item.{Item}
+use Rattle.handling.specs.items.declared.item.Reply.{Reply}
+use Rattle.handling.specs.items.declared.item.Request.{Request}
+use Rattle.handling.specs.items.Same.{is_same_item}
 use Rattle.command.specs.Answers.{Answered, Given}
 use Rattle.command.specs.declared.ticket.Ticket.{Ticket}
 

@@ -8,8 +8,8 @@ use Rattle.semantics.specs.Engine.{Handled}
 use Rattle.semantics.specs.Handling.{Handler, Resumes, Runs}
 use Rattle.semantics.specs.Batches.{ComeFrom, AreAnswers, items_of}
 use Rattle.semantics.specs.Publication.{Publication, Holds}
-use Rattle.items.specs.declared.item.Item.{Item}
-use Rattle.items.specs.Meanings.{submitted_of}
+use Rattle.handling.specs.items.declared.item.Item.{Item}
+use Rattle.handling.specs.items.Meanings.{submitted_of}
 use Rattle.command.specs.declared.hand.Hand.{Hand}
 use Rattle.engine.specs.declared.writer.Step.{Step}
 use Rattle.engine.specs.declared.writer.Step.TheVariants.{Idle, Published, Held}

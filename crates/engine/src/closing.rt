@@ -6,16 +6,16 @@ ghost use Rattle.semantics.specs.Entries.{IsEntryHistory, Own, entry_at};
 ghost use Rattle.semantics.specs.Making.{Command};
 ghost use Rattle.semantics.specs.Stamped.{Stamped};
 ghost use Rattle.semantics.specs.WorldHistory.{BeginsWith};
-ghost use Rattle.oplog.specs.Logs.{history};
-ghost use Rattle.items.specs.declared.item.Item.{Item as AnItem};
+ghost use Rattle.handling.specs.oplog.Logs.{history};
+ghost use Rattle.handling.specs.items.declared.item.Item.{Item as AnItem};
 ghost use Rattle.command.specs.InOrder.{of};
 ghost use Rattle.engine.specs.Clients.{Client as TheClient, AreClients, items_by};
 ghost use Rattle.engine.specs.Turns.{submitted_in};
 
 use crate::client::Client;
 use crate::writer::Writer;
-use operation::Entry;
-use published::EngineName;
+use command::EngineName;
+use handling::Entry;
 use std::sync::Wait;
 
 /// What is left of an engine: the published history, the oldest entry first, and how many submissions weren't answered.

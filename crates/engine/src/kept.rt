@@ -1,16 +1,14 @@
 //! What a client keeps for a serial.
 
 ghost use Rattle.std.specs.Prelude.{◌≡◌, Some, None, MatchOption, IfSome};
-ghost use Rattle.items.specs.Meanings.{reply_of, submitted_of};
+ghost use Rattle.handling.specs.items.Meanings.{reply_of, submitted_of};
 ghost use Rattle.semantics.specs.PeerAnswers.{IsAnswer};
 ghost use Rattle.command.specs.Answers.{Given as TheGiven};
 ghost use Rattle.engine.specs.Clients.{answer_in, answer_of};
 
-use command::{Answer, Given};
-use items::{Item, Reply};
+use command::{Answer, EngineName, Given, Notice};
+use handling::{Item, Reply, Shared};
 use once_cell::race::{Note, OnceBox};
-use operation::Shared;
-use published::{EngineName, Notice};
 use std::marker::Model;
 use std::sync::Arc;
 

@@ -15,15 +15,15 @@ mod writer;
 
 pub use client::Client;
 pub use closing::{Final, close};
-pub use command::Ticket;
+pub use command::{EngineName, Notice, Seat as ReaderToken, Ticket};
 pub use opening::{Parts, open, prepare};
-pub use published::{EngineName, Notice, Seat as ReaderToken};
 pub use writer::{Step, Writer};
 
 // What else an application names: commands and questions, and what they are answered.
-pub use cursor::{Expr, Step as ExprStep, Tag};
-pub use document::{Question, Reading};
+pub use handling::{
+    Command, Entry, Expr, ExprStep, Key, Question, Reading, Reply, Scalar, Tag, Text, Val,
+};
 pub use ids::{Config, OpId, Refusal};
-pub use items::Reply;
-pub use operation::{Command, Entry};
-pub use value::{Key, Scalar, Text, Val};
+
+// Handed on from the crates below, for users of this one.
+pub use handling::{Op, Shared, VersionVector};

@@ -14,11 +14,9 @@ ghost use Rattle.engine.specs.Clients.{AreClients, IsNewClient};
 
 use crate::client::Client;
 use crate::writer::{Handled, Writer};
-use command::{Queue, Taker};
-use document::Document;
+use command::{EngineName, Opened, Queue, Seat, Taker};
+use handling::{Document, Replica};
 use ids::{Config, Refusal, ReplicaId};
-use published::{EngineName, Opened, Seat};
-use replica::Replica;
 use std::alloc::Global;
 use std::sync::Wait;
 
@@ -121,7 +119,9 @@ pub fn open<N: EngineName>(
         second,
     } = parts;
     let tokens = config.clients as usize + config.readers as usize;
-    let (publisher, mut seats) = published::open::<N>(rt, alloc, opened, first, second, tokens)?;
+    let (publisher, mut seats) = command::open_published::<N>(
+        rt, alloc, opened, first, second, tokens,
+    )?;
     match new_ends::<N>(alloc, &config, own, &mut seats) {
         Ok((taker, held, clients)) => {
             let batch = config.batch as usize;

@@ -8,18 +8,15 @@ ghost use Rattle.semantics.specs.Replica.{IsRunning};
 ghost use Rattle.semantics.specs.Handling.{Handles};
 ghost use Rattle.semantics.specs.Batches.{AreAnswers, IsBatch, ComeFrom, items_of};
 ghost use Rattle.semantics.specs.Publication.{Holds};
-ghost use Rattle.items.specs.declared.item.Item.{Item as AnItem};
-ghost use Rattle.items.specs.Meanings.{submitted_of};
-ghost use Rattle.replica.specs.Replicas.{replica_of};
+ghost use Rattle.handling.specs.items.declared.item.Item.{Item as AnItem};
+ghost use Rattle.handling.specs.items.Meanings.{submitted_of};
+ghost use Rattle.handling.specs.replica.Replicas.{replica_of};
 ghost use Rattle.handling.specs.Meanings.{handler_of};
 ghost use Rattle.engine.specs.Turns.{Ends, IsTurn, Shows, publication_of, submitted_in};
 
-use command::{Envelope, Taker};
-use handling::Handler;
+use command::{EngineName, Envelope, Notice, Publisher, Taker};
+use handling::{Handler, Replica, Reply};
 use ids::Refusal;
-use items::Reply;
-use published::{EngineName, Notice, Publisher};
-use replica::Replica;
 use std::alloc::Global;
 use std::marker::Model;
 use std::sync::Wait;
@@ -51,7 +48,7 @@ impl<N: EngineName> Model for Handled<N> {
     ghost use Rattle.std.specs.Coded.{codes};
     ghost use Rattle.semantics.specs.Codes.{coded_element};
     ghost use Rattle.semantics.specs.Engine.{Handled};
-    ghost use Rattle.items.specs.Meanings.{reply_of, submitted_of};
+    ghost use Rattle.handling.specs.items.Meanings.{reply_of, submitted_of};
 
     ghost Value = { Handled };
 

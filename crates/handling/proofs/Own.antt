@@ -12,9 +12,9 @@ use Rattle.semantics.proofs.AppliedVectors.{at-vector_of}
 use Rattle.semantics.proofs.EntryHistories.{length-applied}
 use Rattle.semantics.proofs.HandledItems.{as_stamped}
 use Rattle.semantics.specs.Publication.{Publication, Holds}
-use Rattle.operation.specs.declared.op.Op.{Op}
-use Rattle.operation.specs.declared.command.Command.{Command as ACommand}
-use Rattle.operation.specs.Meanings.{command_of, stamped_of}
+use Rattle.replica.specs.operation.declared.op.Op.{Op}
+use Rattle.replica.specs.operation.declared.command.Command.{Command as ACommand}
+use Rattle.replica.specs.operation.Meanings.{command_of, stamped_of}
 use Rattle.replica.specs.Replicas.{Running, IsMade, replica_of}
 
 own_history : (p client serial : ℕ) (c : Command) (G : List Entry) (s : Stamped) → IsEntryHistory p G → IsAbove client serial G

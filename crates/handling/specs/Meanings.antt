@@ -2,8 +2,8 @@
 use Rattle.std.specs.Prelude.{Result, Ok, Err}
 use Rattle.ids.specs.declared.refusal.Refusal.{Refusal}
 use Rattle.semantics.specs.Delivery as delivery
-use Rattle.operation.specs.declared.command.Delivered.{Delivered}
-use Rattle.inbox.specs.Inboxes.{delivered_of}
+use Rattle.replica.specs.operation.declared.command.Delivered.{Delivered}
+use Rattle.replica.specs.inbox.Inboxes.{delivered_of}
 use Rattle.replica.specs.Replicas.{replica_of}
 use Rattle.semantics.specs.Handling.{Handler as TheHandler}
 use Rattle.handling.specs.declared.handler.Handler.{Handler}

@@ -9,8 +9,8 @@ ghost use Rattle.semantics.specs.Replica.{IsRunning, commit_own};
 ghost use Rattle.semantics.specs.Delivery.{answer_to, deliver};
 ghost use Rattle.semantics.specs.Drain.{counted, drain, drain_for};
 ghost use Rattle.semantics.specs.WriteSteps.{reply_delivered};
-ghost use Rattle.operation.specs.Meanings.{command_of, stamped_of};
-ghost use Rattle.document.specs.Documents.{HasRoomFor};
+ghost use Rattle.replica.specs.operation.Meanings.{command_of, stamped_of};
+ghost use Rattle.replica.specs.document.Documents.{HasRoomFor};
 ghost use Rattle.replica.specs.Replicas.{IsMade, replica_of};
 ghost use Rattle.semantics.specs.Handling.{Handles, Resumes};
 ghost use Rattle.semantics.specs.Publication.{Holds};
@@ -19,8 +19,7 @@ ghost use Rattle.handling.specs.Meanings.{outcome_of, handler_of};
 
 use ids::Refusal;
 use items::{Item, Publish, Reply, Request};
-use operation::{Command, Delivered, Entry, Op, Shared};
-use replica::Replica;
+use replica::{Command, Delivered, Entry, Op, Replica, Shared};
 use std::alloc::Global;
 
 /// A replica whose entries each go to a publisher before they are appended.

@@ -5,3 +5,10 @@
 mod handler;
 
 pub use handler::Handler;
+
+// Handed on from the crates below, for users of this one.
+pub use items::{Item, Publish, Reply, Request};
+pub use replica::{
+    Command, Document, Entry, Expr, ExprStep, Key, Op, Question, Reading, Replica, Scalar, Shared,
+    Tag, Text, Val, VersionVector, names_members,
+};

@@ -11,8 +11,8 @@ use Rattle.semantics.proofs.AppliedVectors.{at-vector_of}
 use Rattle.semantics.proofs.ColumnComparison.{ready-by_table}
 use Rattle.semantics.proofs.TableVectors.{at-by_table}
 use Rattle.ids.specs.Members.{AreDistinct}
-use Rattle.operation.specs.declared.op.Op.{Op}
-use Rattle.operation.specs.Meanings.{stamped_of}
+use Rattle.document.specs.operation.declared.op.Op.{Op}
+use Rattle.document.specs.operation.Meanings.{stamped_of}
 
 each_at_most : (cs ds : List ℕ) → all_at_most cs ds ≡ true → (i : ℕ) → i < length cs → slice_index cs i ≤ slice_index ds i
 each_at_most [] ds h i lt = absurd (omega arith)

@@ -9,7 +9,7 @@ use Rattle.std.specs.FinMap.{find, put}
 use Rattle.std.specs.FinMap.Entries.{find-put, find-where_key}
 use Rattle.semantics.specs.Ids.{OpId, id_cmp, is_same_id}
 use Rattle.semantics.proofs.Orders.{id_total, ids_from_test, id_tested}
-use Rattle.operation.specs.declared.op.Op.{Op}
+use Rattle.document.specs.operation.declared.op.Op.{Op}
 use Rattle.slab.specs.Slab.{Slab, get, Updates}
 use Rattle.inbox.specs.declared.awaited.Awaited.{Awaited}
 use Rattle.inbox.specs.declared.waits.Waits.{Waits}

@@ -13,8 +13,8 @@ use Rattle.semantics.specs.LegalHistory.{IsAmong}
 use Rattle.semantics.specs.Delivery.{is_waiting, put_waiting}
 use Rattle.semantics.specs.Drain.{without_waiting}
 use Rattle.semantics.proofs.Orders.{id_total, ids_from_test, id_tested}
-use Rattle.operation.specs.declared.op.Op.{Op}
-use Rattle.operation.specs.Meanings.{stamped_of}
+use Rattle.document.specs.operation.declared.op.Op.{Op}
+use Rattle.document.specs.operation.Meanings.{stamped_of}
 use Rattle.slab.specs.Slab.{Slab, get, Updates}
 use Rattle.inbox.specs.Inboxes.{AreAtKeys, ops_at, waiting_in}
 

@@ -7,7 +7,7 @@ use Rattle.std.specs.BTreeSet.{contains}
 use Rattle.std.specs.BTreeSet as sorted
 use Rattle.std.specs.FinMap.{find, put}
 use Rattle.semantics.specs.Ids.{OpId, id_cmp}
-use Rattle.operation.specs.declared.op.Op.{Op}
+use Rattle.document.specs.operation.declared.op.Op.{Op}
 use Rattle.slab.specs.Slab.{Slab, get}
 use Rattle.inbox.specs.declared.awaited.Awaited.{Awaited}
 use Rattle.inbox.specs.declared.waits.Waits.{Waits}

@@ -9,11 +9,11 @@ use Rattle.semantics.specs.Faults.{is_ready}
 use Rattle.semantics.specs.Replica.{IsRising}
 use Rattle.semantics.specs.Delivery.{is_crowded, is_waiting}
 use Rattle.semantics.specs.Delivery as delivery
-use Rattle.operation.specs.declared.op.Op.{Op}
-use Rattle.operation.specs.declared.command.Delivered.{Delivered}
-use Rattle.operation.specs.declared.command.Delivered.TheVariants.{Known, Kept}
-use Rattle.operation.specs.Alone.{alone_fault_of_op}
-use Rattle.operation.specs.Meanings.{stamped_of}
+use Rattle.document.specs.operation.declared.op.Op.{Op}
+use Rattle.document.specs.operation.declared.command.Delivered.{Delivered}
+use Rattle.document.specs.operation.declared.command.Delivered.TheVariants.{Known, Kept}
+use Rattle.document.specs.operation.Alone.{alone_fault_of_op}
+use Rattle.document.specs.operation.Meanings.{stamped_of}
 use Rattle.slab.specs.Slab.{Slab, get}
 use Rattle.inbox.specs.declared.waits.Waits.{Waits}
 use Rattle.inbox.specs.Awaiting.{AreAwaiting}

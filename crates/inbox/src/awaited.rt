@@ -6,13 +6,12 @@ ghost use Rattle.slab.specs.Slab.{SameValues, get};
 ghost use Rattle.inbox.specs.Awaiting.{await_cmp, awaited_at, seen_at, AreSingle, IsAhead, IsAwaiting};
 ghost use Rattle.inbox.specs.declared.awaited.Awaited.{Awaited as AnAwaited};
 
+use document::{Op, Shared, VersionVector};
 use ids::ReplicaTable;
-use operation::{Op, Shared};
 use slab::Slab;
 use std::alloc::Global;
 use std::collections::BTreeSet;
 use std::marker::Model;
-use version::VersionVector;
 
 /// An operation that waits. Contracts see the operation.
 #[derive(Debug, Drop)]
@@ -25,7 +24,7 @@ pub struct Waiting {
 impl Model for Waiting {
     ghost use Rattle.std.specs.Coded.{codes};
     ghost use Rattle.semantics.specs.Codes.{coded_element};
-    ghost use Rattle.operation.specs.declared.op.Op.{Op as AnOp};
+    ghost use Rattle.document.specs.operation.declared.op.Op.{Op as AnOp};
 
     ghost Value = { AnOp };
 

@@ -7,18 +7,16 @@ ghost use Rattle.semantics.specs.Entries.{applied};
 ghost use Rattle.semantics.specs.Faults.{is_ready};
 ghost use Rattle.semantics.specs.Delivery.{Kept as ToBeKept, NotKept, is_crowded, is_waiting, put_waiting};
 ghost use Rattle.semantics.specs.Drain.{first_ready, without_waiting};
-ghost use Rattle.operation.specs.declared.op.Op.{Op as AnOp};
-ghost use Rattle.operation.specs.declared.command.Delivered.TheVariants.{Kept};
-ghost use Rattle.operation.specs.Meanings.{stamped_of};
+ghost use Rattle.document.specs.operation.declared.op.Op.{Op as AnOp};
+ghost use Rattle.document.specs.operation.declared.command.Delivered.TheVariants.{Kept};
+ghost use Rattle.document.specs.operation.Meanings.{stamped_of};
 ghost use Rattle.inbox.specs.Inboxes.{answer_to_put, delivered_of, waiting_in, AreAsWide, AreNotReady, AreRising, IsLeastReady};
 
 use crate::awaited::{Waiting, op_at};
 use crate::smallest::smallest;
 use crate::waits::Waits;
-use columns::Numbers;
-use document::Document;
+use document::{Delivered, Document, Numbers, Op, Shared};
 use ids::{OpId, Refusal};
-use operation::{Delivered, Op, Shared};
 use slab::Slab;
 use std::alloc::Global;
 use std::marker::Model;
@@ -40,7 +38,7 @@ impl Model for Inbox {
     ghost use Rattle.std.specs.Prelude.{List};
     ghost use Rattle.std.specs.Coded.{codes};
     ghost use Rattle.semantics.specs.Codes.{coded_element};
-    ghost use Rattle.operation.specs.declared.op.Op.{Op as AnOp};
+    ghost use Rattle.document.specs.operation.declared.op.Op.{Op as AnOp};
     ghost use Rattle.inbox.specs.Inboxes.{IsStored, ops_at};
 
     ghost Value = { List AnOp };

@@ -7,3 +7,9 @@ mod smallest;
 mod waits;
 
 pub use inbox::Inbox;
+
+// Handed on from the crates below, for users of this one.
+pub use document::{
+    Command, Delivered, Document, Entry, Expr, ExprStep, Key, Misplaced, Op, Place, Question,
+    Reading, Scalar, Shared, Tag, Text, Val, VersionVector, check_alone, names_members,
+};

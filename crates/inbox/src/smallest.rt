@@ -7,19 +7,17 @@ ghost use Rattle.std.specs.FinMap.{is_sorted};
 ghost use Rattle.semantics.specs.Ids.{OpId as TheId, id_cmp};
 ghost use Rattle.semantics.specs.Entries.{applied};
 ghost use Rattle.inbox.specs.declared.awaited.Awaited.{Awaited as AnAwaited};
-ghost use Rattle.operation.specs.declared.op.Op.{Op as AnOp};
+ghost use Rattle.document.specs.operation.declared.op.Op.{Op as AnOp};
 ghost use Rattle.slab.specs.Slab.{get};
 ghost use Rattle.semantics.specs.Faults.{is_ready};
-ghost use Rattle.operation.specs.Meanings.{stamped_of};
+ghost use Rattle.document.specs.operation.Meanings.{stamped_of};
 ghost use Rattle.inbox.specs.Awaiting.{await_cmp, first_of, is_above, is_ready_at, AreAwaiting, AreThisWide, AreUnseen, IsMet, IsPassed, IsReadyAt};
 ghost use Rattle.inbox.specs.Awaiting.{IsSettled};
 
 use crate::awaited::{Awaited, Waiting, op_at, seen_at};
 use crate::waits::Waits;
-use columns::Numbers;
-use document::Document;
+use document::{Document, Numbers, Op};
 use ids::OpId;
-use operation::Op;
 use slab::Slab;
 use std::alloc::Global;
 

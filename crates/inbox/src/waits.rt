@@ -3,7 +3,7 @@
 ghost use Rattle.std.specs.Prelude.{◌≡◌, ◌<◌, ◌≤◌, ◌⊎◌, ℕ, List, [], Some, length, true, false, IsTrue, OnErr, OnOk, slice_index};
 ghost use Rattle.std.specs.BTreeSet.{contains};
 ghost use Rattle.slab.specs.Slab.{Slab as TheSlab, SameValues, get};
-ghost use Rattle.operation.specs.declared.op.Op.{Op as AnOp};
+ghost use Rattle.document.specs.operation.declared.op.Op.{Op as AnOp};
 ghost use Rattle.semantics.specs.Ids.{OpId as TheId};
 ghost use Rattle.inbox.specs.Awaiting.{await_cmp, AreAwaiting, AreThisWide, AreUnseen, IsAhead, IsEntered, IsForgotten, SameWaits};
 ghost use Rattle.inbox.specs.declared.awaited.Awaited.{Awaited as AnAwaited};
@@ -11,13 +11,11 @@ ghost use Rattle.inbox.specs.declared.awaited.Awaited.{Awaited as AnAwaited};
 use crate::awaited::{
     Awaited, Waiting, awaited_index, first_met, forget, op_at, seen_at, set_index,
 };
-use columns::Numbers;
+use document::{Numbers, Op, VersionVector};
 use ids::ReplicaTable;
-use operation::Op;
 use slab::Slab;
 use std::alloc::{AllocError, Global};
 use std::collections::BTreeSet;
-use version::VersionVector;
 
 /// What the operations of an inbox wait for.
 #[derive(Debug, Drop)]

@@ -3,3 +3,6 @@ pub mod PlaceKeys
 pub mod AloneFaults
 pub mod PassedAlone
 pub mod StandingAlone
+-- Handed on from the crates below, for users of this one.
+pub use Rattle.version.proofs as version
+pub use Rattle.cursor.proofs as cursor

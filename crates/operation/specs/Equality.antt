@@ -10,7 +10,7 @@ use Rattle.semantics.specs.Elements.{Place}
 use Rattle.semantics.specs.Operations.{Mutation, Assign, Insert, Delete}
 use Rattle.semantics.specs.Making.{Command}
 use Rattle.semantics.proofs.Orders.{id_itself, ids_from_test}
-use Rattle.value.specs.Equality.{is_same_value, value_decides}
+use Rattle.cursor.specs.value.Equality.{is_same_value, value_decides}
 use Rattle.cursor.specs.Equality.{expression_decides, is_same_place, is_same_step, place_decides}
 use Rattle.operation.specs.declared.op.Op.{Op}
 use Rattle.operation.specs.Meanings.{mutation_of}

@@ -2,3 +2,6 @@
 pub mod Meanings
 pub mod Alone
 pub mod Equality
+-- Handed on from the crates below, for users of this one.
+pub use Rattle.cursor.specs.value
+pub use Rattle.cursor.specs as cursor

@@ -7,7 +7,7 @@ use Rattle.semantics.specs.Tables.{by_table}
 use Rattle.semantics.specs.Stamped.{Stamped}
 use Rattle.semantics.specs.Making.{Command as TheCommand}
 use Rattle.semantics.specs.Entries.{Entry as TheEntry, Own as TheOwn, Peer as ThePeer}
-use Rattle.value.specs.Meanings.{value_of}
+use Rattle.cursor.specs.value.Meanings.{value_of}
 use Rattle.operation.specs.declared.misplaced.Misplaced.{Misplaced}
 use Rattle.operation.specs.declared.misplaced.Misplaced.TheVariants.{OutsideList, OnHead}
 use Rattle.operation.specs.declared.op.Mutation.{Mutation}

@@ -7,9 +7,8 @@ ghost use Rattle.operation.specs.Meanings.{command_of};
 
 use crate::op::{Mutation, Op};
 use crate::shared::Shared;
-use cursor::Expr;
+use cursor::{Expr, Val};
 use std::alloc::AllocError;
-use value::Val;
 
 /// What a client wants done: a mutation, and the expression of where. Each may be refused with `HistoryFull`, `AtHead`, `PastEnd` or
 /// `TooDeep`, in its reply. Maps and lists come into being as a path goes through them.

@@ -12,3 +12,10 @@ pub use command::{Command, Delivered, Entry};
 pub use misplaced::Misplaced;
 pub use op::{Mutation, Op};
 pub use shared::Shared;
+
+// Handed on from the crates below, for users of this one.
+pub use cursor::{
+    ElementPlace, Expr, Hop, Key, MOST_KEY_BYTES, MOST_KEYS, Place, Scalar, Step as ExprStep, Tag,
+    Text, Val,
+};
+pub use version::VersionVector;

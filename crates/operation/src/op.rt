@@ -5,10 +5,9 @@ ghost use Rattle.std.specs.Cmp;
 ghost use Rattle.operation.specs.Equality.{counted_of, is_same_mutation, is_same_operation, same_mutation_equiv, same_operation_equiv};
 ghost use Rattle.operation.specs.Meanings.{mutation_of};
 
-use cursor::Place;
+use cursor::{Place, Val};
 use ids::OpId;
 use std::alloc::AllocError;
-use value::Val;
 use version::VersionVector;
 
 /// What an operation does at its place.

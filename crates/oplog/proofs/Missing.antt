@@ -20,7 +20,7 @@ use Rattle.semantics.specs.Tables.{by_table}
 use Rattle.semantics.specs.Stamped.{Stamped}
 use Rattle.semantics.specs.Entries.{Entry as TheEntry, entry_at, missing, stamped_in, stamped_entries}
 use Rattle.semantics.proofs.TableVectors.{at-by_table}
-use Rattle.version.proofs.TableColumns.{component-get}
+use Rattle.operation.proofs.version.TableColumns.{component-get}
 use Rattle.columns.specs.Numbered.{Numbered}
 use Rattle.oplog.specs.Logs.{AreOfMembers, HaveOwnIds, missing_positions, numbers_above, numbers_of, position_of, positions_by}
 use Rattle.oplog.proofs.Positions.{all_others, positions_by-find, positions_by-other, positions_by-own}

@@ -4,3 +4,10 @@
 mod log;
 
 pub use log::{Log, positions_name_what_is_missing, what_may_follow_is_new};
+
+// Handed on from the crates below, for users of this one.
+pub use columns::Numbers;
+pub use operation::{
+    Command, Delivered, Entry, Expr, ExprStep, Key, Misplaced, Mutation, Op, Place, Scalar, Shared,
+    Tag, Text, Val, VersionVector, check_alone, names_members,
+};

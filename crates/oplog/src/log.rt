@@ -16,10 +16,9 @@ ghost use Rattle.oplog.specs.Logs.{history, least_room, missing_positions, numbe
 
 use columns::Numbers;
 use ids::{OpId, ReplicaTable};
-use operation::Entry;
+use operation::{Entry, VersionVector};
 use std::alloc::{AllocError, Global};
 use std::marker::Model;
-use version::VersionVector;
 
 /// The entries of a history, with the table of its replicas. Contracts see the table, the entries, the newest first, and for how
 /// many more there is room.

@@ -6,8 +6,8 @@ use Rattle.ids.specs.declared.refusal.Refusal.{Refusal}
 use Rattle.semantics.specs.Stamped.{Stamped}
 use Rattle.semantics.specs.Tables.{by_table}
 use Rattle.semantics.specs.Vectors.{Vector}
-use Rattle.operation.specs.declared.op.Op.{Op}
-use Rattle.operation.specs.Meanings.{stamped_of}
+use Rattle.engine.specs.operation.declared.op.Op.{Op}
+use Rattle.engine.specs.operation.Meanings.{stamped_of}
 use Rattle.wire.specs.Bundles.{bundle_form}
 use Rattle.wire.specs.Messages.{hello_form}
 use Rattle.wire.specs.Sent.{CanBeSent, are_counters}

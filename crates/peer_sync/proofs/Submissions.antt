@@ -7,9 +7,9 @@ use Rattle.std.proofs.lemmas.List.Elements.{All-push}
 use Rattle.ids.specs.declared.refusal.Refusal.{Refusal}
 use Rattle.ids.specs.declared.refusal.Refusal.TheVariants.{BadLine, NoMemory}
 use Rattle.semantics.specs.Stamped.{Stamped}
-use Rattle.operation.specs.declared.op.Op.{Op}
-use Rattle.operation.specs.Meanings.{stamped_of}
-use Rattle.items.specs.declared.item.Request.TheVariants.{Peer}
+use Rattle.engine.specs.operation.declared.op.Op.{Op}
+use Rattle.engine.specs.operation.Meanings.{stamped_of}
+use Rattle.engine.specs.items.declared.item.Request.TheVariants.{Peer}
 use Rattle.engine.specs.Clients.{Client}
 use Rattle.wire.specs.Bundles.{Readable, readable}
 use Rattle.json_lines.specs.Lines.{HasNoEnd, IsFirstLine}

@@ -2,9 +2,9 @@
 use Rattle.std.specs.Prelude.{ℕ, ◌≡◌, ◌+◌, ◌<◌, ◌≤◌, ◌⊎◌, List, [], ◌∷◌, ◌++◌, length, Some, None}
 use Rattle.ids.specs.declared.refusal.Refusal.{Refusal}
 use Rattle.ids.specs.declared.refusal.Refusal.TheVariants.{NoMemory, QueueFull, SerialEnd}
-use Rattle.operation.specs.declared.op.Op.{Op}
-use Rattle.items.specs.declared.item.Item.{Item}
-use Rattle.items.specs.declared.item.Request.TheVariants.{Peer}
+use Rattle.engine.specs.operation.declared.op.Op.{Op}
+use Rattle.engine.specs.items.declared.item.Item.{Item}
+use Rattle.engine.specs.items.declared.item.Request.TheVariants.{Peer}
 use Rattle.engine.specs.Clients.{Client, items_by, with_request}
 use Rattle.wire.specs.Bundles.{Readable}
 

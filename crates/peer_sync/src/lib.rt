@@ -12,3 +12,9 @@ mod sending;
 pub use agreement::tokens_answer_alike;
 pub use receiving::{Received, receive};
 pub use sending::{answer, hello};
+
+// Handed on from the crates below, for users of this one.
+pub use engine::{
+    Client, Command, EngineName, Expr, ExprStep, Key, Parts, Question, ReaderToken, Reading, Reply,
+    Scalar, Step, Ticket, Val, Writer, close, open, prepare,
+};

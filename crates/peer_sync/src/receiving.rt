@@ -4,8 +4,8 @@ ghost use Rattle.std.specs.Prelude.{◌≡◌, ◌≢◌, ◌⊎◌, ◌+◌, �
 ghost use Rattle.std.specs.Prelude.{map, take};
 ghost use Rattle.std.specs.List.{All};
 ghost use Rattle.ids.specs.declared.refusal.Refusal.TheVariants.{BadLine, NoMemory};
-ghost use Rattle.operation.specs.declared.op.Op.{Op};
-ghost use Rattle.operation.specs.Meanings.{stamped_of};
+ghost use Rattle.engine.specs.operation.declared.op.Op.{Op};
+ghost use Rattle.engine.specs.operation.Meanings.{stamped_of};
 ghost use Rattle.wire.specs.Bundles.{readable};
 ghost use Rattle.wire.specs.Reading.{op_form};
 ghost use Rattle.peer_sync.specs.Receiving.{EndsAfter, IsDenied, StopsAfter, all_submitted, submitted};

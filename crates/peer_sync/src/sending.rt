@@ -8,18 +8,15 @@ ghost use Rattle.semantics.specs.NamedIds.{vector_of};
 ghost use Rattle.semantics.specs.Tables.{by_table};
 ghost use Rattle.semantics.specs.Vectors.{Vector};
 ghost use Rattle.semantics.specs.WorldHistory.{BeginsWith};
-ghost use Rattle.operation.specs.Meanings.{stamped_of};
+ghost use Rattle.engine.specs.operation.Meanings.{stamped_of};
 ghost use Rattle.wire.specs.Bundles.{bundle_form, bundle_text};
 ghost use Rattle.wire.specs.Messages.{hello_form};
 ghost use Rattle.wire.specs.Sent.{CanBeSent, are_counters};
 ghost use Rattle.peer_sync.specs.Sending.{hello_text, without_end};
 
-use document::{Question, Reading};
-use engine::{EngineName, ReaderToken};
+use engine::{EngineName, Op, Question, ReaderToken, Reading, Shared, VersionVector};
 use ids::Refusal;
-use operation::{Op, Shared};
 use std::alloc::Global;
-use version::VersionVector;
 use wire::{read_vector, write_bundle, write_vector};
 
 /// The line, with its line feed, of the vector of all that the token sees in this read, which it has then seen. Where its counters are

@@ -6,7 +6,7 @@ use Rattle.std.proofs.lemmas.Bool.Decides.{nat_tests}
 use mathlib.Core.List.{IsPrefix}
 use prog.Atomic.{either}
 use Rattle.logbook.specs.Pages.{Cell, Goes, Moves, cell, keeps, no_nib, step}
-use Rattle.operation.specs.declared.command.Entry.{Entry}
+use Rattle.document.specs.operation.declared.command.Entry.{Entry}
 use Rattle.published.specs.Rules.{Adds, CountsEntries}
 use Rattle.published.proofs.Prefixes.{prefix_whole}
 

@@ -3,9 +3,9 @@ use Rattle.std.proofs.Common.{◌≡◌, ℕ, ◌≤◌, List, [], ◌∷◌, �
 use mathlib.Core.List.{IsPrefix}
 use Rattle.semantics.specs.Entries.{Entry as TheEntry}
 use Rattle.semantics.specs.WorldHistory.{BeginsWith}
-use Rattle.operation.specs.declared.command.Entry.{Entry}
-use Rattle.oplog.specs.Logs.{history}
-use Rattle.oplog.proofs.LongerHistories.{begins_of}
+use Rattle.document.specs.operation.declared.command.Entry.{Entry}
+use Rattle.document.specs.oplog.Logs.{history}
+use Rattle.document.proofs.oplog.LongerHistories.{begins_of}
 
 -- of two prefixes of one list the shorter is a prefix of the longer
 pub prefix_shorter : {A : Type 0} (xs ys zs : List A) → IsPrefix xs zs → IsPrefix ys zs → length xs ≤ length ys → IsPrefix xs ys

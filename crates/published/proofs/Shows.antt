@@ -13,10 +13,10 @@ use Rattle.semantics.specs.Making.{is_full}
 use Rattle.semantics.specs.Entries.{Entry as TheEntry, IsEntryHistory, stamped_in}
 use Rattle.semantics.specs.WorldHistory.{BeginsWith}
 use Rattle.semantics.proofs.GrownEngines.{begins_trans}
-use Rattle.operation.specs.declared.command.Entry.{Entry}
-use Rattle.operation.specs.Meanings.{entry_of, op_in}
-use Rattle.oplog.specs.Logs.{AreOfMembers, history}
-use Rattle.oplog.proofs.Oldest.{history-more}
+use Rattle.document.specs.operation.declared.command.Entry.{Entry}
+use Rattle.document.specs.operation.Meanings.{entry_of, op_in}
+use Rattle.document.specs.oplog.Logs.{AreOfMembers, history}
+use Rattle.document.proofs.oplog.Oldest.{history-more}
 use Rattle.published.specs.declared.seen.View.{View}
 use Rattle.published.specs.Beginnings.{Beginning}
 use Rattle.document.specs.Lawful.{is_lawful}

@@ -1,7 +1,7 @@
 -- A beginning of a history, with the name of the logbook that it is written in.
 use Rattle.std.specs.Prelude.{List}
 use Rattle.logbook.specs.Pages.{Book}
-use Rattle.operation.specs.declared.command.Entry.{Entry}
+use Rattle.document.specs.operation.declared.command.Entry.{Entry}
 
 -- the entries, the oldest first
 pub record Beginning : Type 0 where

@@ -6,9 +6,9 @@ use lib.ListN.{get_elem?}
 use Rattle.logbook.specs.Pages.{Book}
 use Rattle.semantics.specs.Entries.{Entry as TheEntry, IsEntryHistory}
 use Rattle.semantics.specs.WorldHistory.{BeginsWith}
-use Rattle.operation.specs.declared.command.Entry.{Entry}
-use Rattle.operation.specs.Meanings.{entry_of, op_in}
-use Rattle.oplog.specs.Logs.{history}
+use Rattle.document.specs.operation.declared.command.Entry.{Entry}
+use Rattle.document.specs.operation.Meanings.{entry_of, op_in}
+use Rattle.document.specs.oplog.Logs.{history}
 use Rattle.document.specs.Lawful.{is_lawful}
 use Rattle.published.specs.declared.seen.View.{View}
 

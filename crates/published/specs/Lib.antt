@@ -4,3 +4,5 @@ pub mod Rules
 pub mod Copies
 pub mod Publishers
 pub mod Seats
+-- Handed on from the crates below, for users of this one.
+pub use Rattle.items.specs as items

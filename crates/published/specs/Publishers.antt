@@ -2,7 +2,7 @@
 use Rattle.std.specs.Prelude.{ℕ, ◌≡◌, List, fold}
 use Rattle.logbook.specs.Pages.{Book, Named}
 use Rattle.semantics.specs.Entries.{IsEntryHistory}
-use Rattle.oplog.specs.Logs.{AreOfMembers, history}
+use Rattle.document.specs.oplog.Logs.{AreOfMembers, history}
 use Rattle.published.specs.Beginnings.{Beginning}
 use Rattle.published.specs.Rules.{head_of}
 use Rattle.published.specs.Copies.{Snapshot, Pending, applied_to, snapshot}

@@ -3,7 +3,7 @@ use Rattle.std.specs.Prelude.{Option, Some, None, List, []}
 use Rattle.left_right.specs.Sides.{view}
 use Rattle.left_right.specs.declared.reader.Reader.{Reader}
 use Rattle.semantics.specs.Entries.{Entry as TheEntry}
-use Rattle.operation.specs.declared.command.Entry.{Entry}
+use Rattle.document.specs.operation.declared.command.Entry.{Entry}
 use Rattle.published.specs.declared.seen.View.{View}
 
 -- the history that a seat has seen, and the one that was published at the step of its last read

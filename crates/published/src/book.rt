@@ -4,8 +4,8 @@ ghost use Rattle.std.specs.Prelude.{◌≡◌, ◌+◌, ◌==◌, ◌<◌, ◌�
 ghost use mathlib.Core.List.{IsPrefix};
 ghost use Rattle.published.specs.Rules.{head_of};
 
+use document::Entry;
 use logbook::{Gain, Offer, Plain, Play, Rule, Seen, Start, Word};
-use operation::Entry;
 use std::marker::Model;
 
 /// The rule of the logbook: its word counts the entries.

@@ -5,14 +5,13 @@ ghost use Rattle.ids.specs.Members.{is_member};
 ghost use Rattle.semantics.specs.Faults.{StandsAlone};
 ghost use Rattle.semantics.specs.Stamped.{MayFollow};
 ghost use Rattle.semantics.specs.Entries.{applied};
-ghost use Rattle.operation.specs.Alone.{alone_fault_of_op};
-ghost use Rattle.operation.specs.Meanings.{entry_of, op_in, stamped_of};
+ghost use Rattle.document.specs.operation.Alone.{alone_fault_of_op};
+ghost use Rattle.document.specs.operation.Meanings.{entry_of, op_in, stamped_of};
 ghost use Rattle.document.specs.Lawful.{is_lawful};
 
 use crate::book::Point;
-use document::Document;
+use document::{Document, Entry, Op, check_alone};
 use left_right::Absorb;
-use operation::{Entry, Op, check_alone};
 use std::alloc::{AllocError, Global};
 use std::marker::Model;
 

@@ -21,3 +21,7 @@ pub use book::Opened;
 pub use notice::{EngineName, Notice};
 pub use publisher::{Publisher, open};
 pub use seat::Seat;
+
+// Handed on from the crates below, for users of this one.
+pub use document::Shared;
+pub use items::{Item, Reply};

@@ -3,7 +3,7 @@
 ghost use Rattle.std.specs.Prelude.{◌≡◌, ◌≤◌, length};
 ghost use Rattle.semantics.specs.Entries.{IsEntryHistory};
 ghost use Rattle.semantics.specs.WorldHistory.{BeginsWith};
-ghost use Rattle.oplog.specs.Logs.{history};
+ghost use Rattle.document.specs.oplog.Logs.{history};
 
 use crate::book::Point;
 use std::marker::{Brand, Model, PhantomData};
@@ -45,7 +45,7 @@ impl<N: EngineName> Model for Notice<N> {
     ghost use Rattle.std.specs.Coded.{codes};
     ghost use Rattle.semantics.specs.Codes.{coded_element};
     ghost use Rattle.semantics.specs.Entries.{Entry as TheEntry, IsEntryHistory};
-    ghost use Rattle.oplog.specs.Logs.{history};
+    ghost use Rattle.document.specs.oplog.Logs.{history};
 
     ghost Value = { List TheEntry };
 

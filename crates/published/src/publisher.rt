@@ -8,9 +8,9 @@ ghost use Rattle.ids.specs.Members.{is_member};
 ghost use Rattle.semantics.specs.Making.{is_full};
 ghost use Rattle.semantics.specs.Entries.{IsEntryHistory, stamped_in};
 ghost use Rattle.semantics.specs.WorldHistory.{BeginsWith};
-ghost use Rattle.operation.specs.declared.command.Entry.{Entry as AnEntry};
-ghost use Rattle.operation.specs.Meanings.{entry_of, op_in};
-ghost use Rattle.oplog.specs.Logs.{history};
+ghost use Rattle.document.specs.operation.declared.command.Entry.{Entry as AnEntry};
+ghost use Rattle.document.specs.operation.Meanings.{entry_of, op_in};
+ghost use Rattle.document.specs.oplog.Logs.{history};
 ghost use Rattle.published.specs.Copies.{applied_to, snapshot};
 
 use crate::book::{Law, Opened, Point};
@@ -19,11 +19,10 @@ use crate::notice::{EngineName, Notice};
 use crate::seat::{Seat, Sees, Shown};
 use crate::seen::View;
 use core::mem::replace_with;
-use document::Document;
+use document::{Document, Entry};
 use ids::{Refusal, ReplicaTable};
 use left_right::writer::Writer;
 use logbook::Word;
-use operation::Entry;
 use std::alloc::Global;
 use std::marker::Model;
 use std::sync::Wait;
@@ -41,7 +40,7 @@ impl<N: EngineName> Model for Publisher<N> {
     ghost use Rattle.std.specs.Prelude.{◌++◌, drop, option_to_list};
     ghost use Rattle.std.specs.Coded.{codes};
     ghost use Rattle.semantics.specs.Codes.{coded_element};
-    ghost use Rattle.oplog.specs.Logs.{history};
+    ghost use Rattle.document.specs.oplog.Logs.{history};
     ghost use Rattle.published.specs.Publishers.{IsPublisher};
     ghost use Rattle.semantics.specs.Publication.{Publication};
 

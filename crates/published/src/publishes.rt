@@ -2,9 +2,9 @@
 
 use crate::notice::EngineName;
 use crate::publisher::Publisher;
+use document::Entry;
 use ids::Refusal;
 use items::Publish;
-use operation::Entry;
 
 impl<N: EngineName> Publish for Publisher<N> {
     ghost publication = { λ p. record p { own = N.own; members = N.table } };

@@ -7,7 +7,7 @@ ghost use Rattle.semantics.specs.WorldHistory.{BeginsWith};
 ghost use Rattle.semantics.specs.Questions.{Question as TheQuestion, Refused};
 ghost use Rattle.semantics.specs.LegalAnswer.{Answered, OfDocument, reading_of};
 ghost use Rattle.semantics.specs.View.{view};
-ghost use Rattle.oplog.specs.Logs.{history};
+ghost use Rattle.document.specs.oplog.Logs.{history};
 ghost use Rattle.document.specs.Documents.{IsBeside, asked_of, said_by};
 
 use crate::book::Point;
@@ -61,7 +61,7 @@ impl<N: EngineName> Model for Seat<N> {
     ghost use Rattle.std.specs.Coded.{codes};
     ghost use Rattle.semantics.specs.Codes.{coded_element};
     ghost use Rattle.semantics.specs.Entries.{IsEntryHistory};
-    ghost use Rattle.oplog.specs.Logs.{history};
+    ghost use Rattle.document.specs.oplog.Logs.{history};
     ghost use Rattle.published.specs.Seats.{Seated, read_of};
 
     ghost Value = { Seated };

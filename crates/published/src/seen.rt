@@ -1,6 +1,6 @@
 //! What the rule of the copies keeps of each reader.
 
-use operation::Entry;
+use document::Entry;
 use std::collections::LinkedList;
 
 /// The history that a seat read last, the oldest entry first. It exists in proofs alone: no value of it is made.

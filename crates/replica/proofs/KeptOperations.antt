@@ -7,12 +7,12 @@ use Rattle.semantics.specs.Faults.{alone_fault}
 use Rattle.semantics.specs.Replica.{Replica, IsRunning, operations}
 use Rattle.semantics.specs.Delivery.{Kept as IsKept, Known, answer_after, answer_to_new, deliver, is_waiting, kept_by, put_waiting}
 use Rattle.semantics.proofs.Delivered.{delivered}
-use Rattle.operation.specs.declared.op.Op.{Op}
-use Rattle.operation.specs.declared.command.Delivered.{Delivered}
-use Rattle.operation.specs.declared.command.Delivered.TheVariants as answer
-use Rattle.operation.specs.Alone.{alone_fault_of_op}
-use Rattle.operation.specs.Meanings.{stamped_of}
-use Rattle.operation.proofs.PassedAlone.{alone}
+use Rattle.inbox.specs.operation.declared.op.Op.{Op}
+use Rattle.inbox.specs.operation.declared.command.Delivered.{Delivered}
+use Rattle.inbox.specs.operation.declared.command.Delivered.TheVariants as answer
+use Rattle.inbox.specs.operation.Alone.{alone_fault_of_op}
+use Rattle.inbox.specs.operation.Meanings.{stamped_of}
+use Rattle.inbox.proofs.operation.PassedAlone.{alone}
 use Rattle.inbox.specs.Inboxes.{waiting_in}
 use Rattle.replica.specs.Replicas.{Running, IsReplica, replica_of}
 

@@ -15,9 +15,9 @@ use Rattle.semantics.proofs.Orders.{id_tested}
 use Rattle.semantics.proofs.SkipOrder.{not_itself}
 use Rattle.semantics.proofs.Taken.{taken_running}
 use Rattle.semantics.proofs.Waiting.{ready_first}
-use Rattle.operation.specs.declared.op.Op.{Op}
-use Rattle.operation.specs.Meanings.{stamped_of}
-use Rattle.document.specs.Documents.{Contents, HasRoomFor}
+use Rattle.inbox.specs.operation.declared.op.Op.{Op}
+use Rattle.inbox.specs.operation.Meanings.{stamped_of}
+use Rattle.inbox.specs.document.Documents.{Contents, HasRoomFor}
 use Rattle.inbox.specs.Inboxes.{StandAlone, waiting_in}
 use Rattle.inbox.proofs.Ready.{among_stamped}
 use Rattle.replica.specs.Replicas.{Running, IsReplica, IsNextReady, next_of, replica_of}

@@ -6,3 +6,7 @@ pub mod KeptOperations
 pub mod Turns
 pub mod Leaving
 pub mod Dropping
+-- Handed on from the crates below, for users of this one.
+pub use Rattle.inbox.proofs.version
+pub use Rattle.inbox.proofs.operation
+pub use Rattle.inbox.proofs.oplog

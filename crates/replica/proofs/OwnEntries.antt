@@ -12,7 +12,7 @@ use Rattle.semantics.proofs.EntryHistories.{entries_legal}
 use Rattle.semantics.proofs.NamedOperations.{legal}
 use Rattle.semantics.proofs.MadeLawful.{made_lawful}
 use Rattle.semantics.proofs.HandledItems.{as_stamped}
-use Rattle.document.specs.Documents.{Contents}
+use Rattle.inbox.specs.document.Documents.{Contents}
 use Rattle.replica.specs.Replicas.{Running, IsMade, IsReplica, replica_of}
 use Rattle.inbox.specs.Inboxes.{waiting_in}
 

@@ -10,10 +10,10 @@ use Rattle.semantics.specs.Replica.{Replica as TheReplica, IsRunning, operations
 use Rattle.semantics.specs.Delivery.{Delivered, answer_after}
 use Rattle.semantics.specs.Drain.{first_ready}
 use Rattle.semantics.specs.WriteSteps.{stamp}
-use Rattle.operation.specs.declared.op.Op.{Op}
-use Rattle.operation.specs.Alone.{alone_fault_of_op}
-use Rattle.document.specs.Documents.{HasRoomFor, Contents}
-use Rattle.operation.specs.Meanings.{stamped_of}
+use Rattle.inbox.specs.operation.declared.op.Op.{Op}
+use Rattle.inbox.specs.operation.Alone.{alone_fault_of_op}
+use Rattle.inbox.specs.document.Documents.{HasRoomFor, Contents}
+use Rattle.inbox.specs.operation.Meanings.{stamped_of}
 use Rattle.inbox.specs.Inboxes.{StandAlone, waiting_in}
 
 -- a replica: its own number, its document, what waits by rising id, and how many operations were dropped

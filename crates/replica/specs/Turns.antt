@@ -5,8 +5,8 @@ use Rattle.semantics.specs.Ids.{OpId}
 use Rattle.semantics.specs.Stamped.{Stamped}
 use Rattle.semantics.specs.Faults.{fault_of}
 use Rattle.semantics.specs.Entries.{stamped_entries}
-use Rattle.operation.specs.declared.op.Op.{Op}
-use Rattle.document.specs.Documents.{HasRoomFor, Contents}
+use Rattle.inbox.specs.operation.declared.op.Op.{Op}
+use Rattle.inbox.specs.document.Documents.{HasRoomFor, Contents}
 use Rattle.replica.specs.Replicas.{next_in}
 use Rattle.replica.specs.declared.waiting.Turn.{Turn}
 use Rattle.replica.specs.declared.waiting.Turn.TheVariants.{Append, Drop}

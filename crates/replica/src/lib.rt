@@ -6,3 +6,9 @@ mod replica;
 mod waiting;
 
 pub use replica::Replica;
+
+// Handed on from the crates below, for users of this one.
+pub use inbox::{
+    Command, Delivered, Document, Entry, Expr, ExprStep, Key, Op, Question, Reading, Scalar,
+    Shared, Tag, Text, Val, VersionVector, names_members,
+};

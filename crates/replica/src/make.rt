@@ -5,13 +5,11 @@ ghost use Rattle.ids.specs.declared.refusal.Refusal.TheVariants.{NoMemory};
 ghost use Rattle.semantics.specs.Operations.{misplaced};
 ghost use Rattle.semantics.specs.Entries.{applied};
 ghost use Rattle.semantics.specs.Making.{is_full, make, place_unless};
-ghost use Rattle.operation.specs.Meanings.{command_of, stamped_of};
+ghost use Rattle.inbox.specs.operation.Meanings.{command_of, stamped_of};
 ghost use Rattle.replica.specs.Replicas.{IsMade};
 
-use cursor::Place;
-use document::Document;
 use ids::{OpId, Refusal, ReplicaId};
-use operation::{Command, Misplaced, Op};
+use inbox::{Command, Document, Misplaced, Op, Place};
 use std::alloc::Global;
 
 /// The most operations that a history holds.

@@ -12,18 +12,16 @@ ghost use Rattle.semantics.specs.Making.{make};
 ghost use Rattle.semantics.specs.Replica.{IsRunning, commit_own};
 ghost use Rattle.semantics.specs.Delivery.{Kept as ToBeKept, NotKept, deliver};
 ghost use Rattle.semantics.specs.Drain.{counted, IsDrained, drain, drain_for};
-ghost use Rattle.operation.specs.Alone.{alone_fault_of_op};
-ghost use Rattle.operation.specs.Meanings.{command_of, stamped_of};
-ghost use Rattle.oplog.specs.Logs.{history};
-ghost use Rattle.document.specs.Documents.{HasRoomFor};
+ghost use Rattle.inbox.specs.operation.Alone.{alone_fault_of_op};
+ghost use Rattle.inbox.specs.operation.Meanings.{command_of, stamped_of};
+ghost use Rattle.inbox.specs.oplog.Logs.{history};
+ghost use Rattle.inbox.specs.document.Documents.{HasRoomFor};
 ghost use Rattle.inbox.specs.Inboxes.{delivered_of};
 
 use crate::make::make;
 use crate::waiting::{Turn, check_wanted, next_turn};
-use document::Document;
 use ids::{OpId, Refusal, ReplicaId};
-use inbox::Inbox;
-use operation::{Command, Delivered, Entry, Op, Shared, check_alone};
+use inbox::{Command, Delivered, Document, Entry, Inbox, Op, Shared, check_alone};
 use std::alloc::{AllocError, Global};
 use std::marker::Model;
 

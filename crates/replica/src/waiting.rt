@@ -4,16 +4,14 @@ ghost use Rattle.std.specs.Prelude.{◌≡◌, Some, None, length, IfOk, MatchRe
 ghost use Rattle.semantics.specs.Entries.{stamped_entries};
 ghost use Rattle.semantics.specs.Faults.{fault_of};
 ghost use Rattle.semantics.specs.Delivery.{Kept as IsKept, NotKept, answer_to_new};
-ghost use Rattle.operation.specs.Meanings.{stamped_of};
+ghost use Rattle.inbox.specs.operation.Meanings.{stamped_of};
 ghost use Rattle.inbox.specs.Inboxes.{StandAlone};
 ghost use Rattle.replica.specs.Replicas.{replica_with};
 ghost use Rattle.replica.specs.Turns.{IsNextTurn};
 
 use crate::make::is_full;
-use document::Document;
 use ids::{OpId, Refusal, ReplicaId};
-use inbox::Inbox;
-use operation::Op;
+use inbox::{Document, Inbox, Op};
 use std::alloc::{AllocError, Global};
 
 /// Tests whether an operation that is neither applied nor waits may wait.

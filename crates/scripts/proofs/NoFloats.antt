@@ -7,8 +7,8 @@ use Rattle.semantics.specs.Engine.{StepReply, Ticket, Denied, Took, Published, G
 use Rattle.semantics.specs.Engine.{SentBundle, NoMessage, Received, Dropped}
 use Rattle.serde_json.specs.Data.{string}
 use Rattle.serde_json.specs.Written.{has_float}
-use Rattle.wire.specs.Operations.{id_json, operation_json}
-use Rattle.wire.proofs.NoFloats.{has_float-operation_json, has_float-scalar_json, has_float-vector_json, no_float_in}
+use Rattle.world.specs.wire.Operations.{id_json, operation_json}
+use Rattle.world.proofs.wire.NoFloats.{has_float-operation_json, has_float-scalar_json, has_float-vector_json, no_float_in}
 use Rattle.scripts.specs.Replies.{conflict_json, reading_json, received_json, reply_json, row_json, step_reply_json}
 
 has_float-reading_json : (seen : ℕ) (r : Reading) → has_float (reading_json seen r) ≡ false

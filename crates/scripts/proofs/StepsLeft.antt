@@ -8,7 +8,7 @@ use Rattle.json_lines.specs.Lines.{Bad, HasNoEnd, IsFirstLine, unless_bad}
 use Rattle.scripts.specs.Steps.{step_line}
 use Rattle.scripts.specs.Engines.{engines_line}
 use Rattle.scripts.specs.Scripts.{script_form, steps_left}
-use Rattle.wire.proofs.CutLines.{cut-first_line, cut-no_end}
+use Rattle.world.proofs.wire.CutLines.{cut-first_line, cut-no_end}
 
 -- these steps, and then those
 abbrev pub after : List WorldStep → Result (List WorldStep) Bad → Result (List WorldStep) Bad

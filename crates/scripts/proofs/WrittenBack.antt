@@ -15,13 +15,13 @@ use Rattle.semantics.specs.World.{WorldAct, WorldStep, step_by, Push, Take, Publ
 use Rattle.semantics.specs.World.{Deliver, CountDropped}
 use Rattle.serde_json.specs.Data.{Data, null, boolean, number, string, array, object, Items, no_items, item}
 use Rattle.serde_json.specs.View.{items_of}
-use Rattle.value.specs.Forms.{json_of, value_form}
-use Rattle.wire.specs.Bundles.{readable}
+use Rattle.world.specs.value.Forms.{json_of, value_form}
+use Rattle.world.specs.wire.Bundles.{readable}
 use Rattle.json_lines.specs.Forms.{and_then, json_form, list_form, number_form, phrase_form, text_form}
-use Rattle.wire.specs.Vectors.{vector_form, vector_json}
-use Rattle.wire.proofs.NormalNumbers.{AreNormal, IsNormal}
-use Rattle.wire.proofs.WrittenBack.{made_of, list_in, number_in, phrase_in, same_ok, value_in, vector_in, word_is}
-use Rattle.wire.proofs.WrittenLines.{json_normal}
+use Rattle.world.specs.wire.Vectors.{vector_form, vector_json}
+use Rattle.world.proofs.wire.NormalNumbers.{AreNormal, IsNormal}
+use Rattle.world.proofs.wire.WrittenBack.{made_of, list_in, number_in, phrase_in, same_ok, value_in, vector_in, word_is}
+use Rattle.world.proofs.wire.WrittenLines.{json_normal}
 use Rattle.world.specs.Worlds.{table_at}
 use Rattle.scripts.specs.Expressions.{expression_form, path_step_form, path_steps_of}
 use Rattle.scripts.specs.NumberedSteps.{engine_step_of, message_step_of, numbered_step_of}

@@ -11,9 +11,9 @@ use Rattle.semantics.specs.Engine.{SentBundle, NoMessage, Received, Dropped}
 use Rattle.serde_json.specs.Data.{Data, string, array}
 use Rattle.serde_json.specs.View.{items_of}
 use Rattle.serde_json.specs.Written.{compact_text}
-use Rattle.value.specs.Forms.{scalar_json}
-use Rattle.wire.specs.Operations.{id_json, operation_json, phrase}
-use Rattle.wire.specs.Vectors.{count, vector_json}
+use Rattle.world.specs.value.Forms.{scalar_json}
+use Rattle.world.specs.wire.Operations.{id_json, operation_json, phrase}
+use Rattle.world.specs.wire.Vectors.{count, vector_json}
 
 -- as `E22`
 abbrev pub refusal_name : Refusal → List ℕ

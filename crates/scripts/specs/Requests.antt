@@ -10,10 +10,10 @@ use Rattle.semantics.specs.Questions.{Step, Question, Values, Keys, Items as Ite
 use Rattle.semantics.specs.Vectors.{Vector}
 use Rattle.semantics.specs.LegalAnswer.{Asked, OfDocument, Missing}
 use Rattle.serde_json.specs.Data.{Data, Items, no_items, item}
-use Rattle.value.specs.Forms.{value_form}
+use Rattle.world.specs.value.Forms.{value_form}
 use Rattle.json_lines.specs.Forms.{and_then, phrase_form}
 use Rattle.scripts.specs.Expressions.{expression_form}
-use Rattle.wire.specs.Vectors.{vector_form}
+use Rattle.world.specs.wire.Vectors.{vector_form}
 
 -- ---- commands
 

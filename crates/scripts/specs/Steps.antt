@@ -7,7 +7,7 @@ use Rattle.ids.specs.declared.refusal.Refusal.{Refusal}
 use Rattle.ids.specs.declared.refusal.Refusal.TheVariants.{BadLine}
 use Rattle.semantics.specs.World.{WorldStep, Push, Ask, Lines, step_by}
 use Rattle.serde_json.specs.Data.{Data, Items, no_items, item}
-use Rattle.wire.specs.Bundles.{Readable, readable}
+use Rattle.world.specs.wire.Bundles.{Readable, readable}
 use Rattle.json_lines.specs.Forms.{and_then, json_form, number_form, phrase_form, text_form}
 use Rattle.world.specs.Worlds.{table_at}
 use Rattle.scripts.specs.NumberedSteps.{numbered_step_of}

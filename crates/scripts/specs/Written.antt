@@ -6,9 +6,9 @@ use Rattle.semantics.specs.Questions.{Step, Get, Idx, Values, Keys, Items, Confl
 use Rattle.semantics.specs.LegalAnswer.{Asked, OfDocument, Missing}
 use Rattle.serde_json.specs.Data.{Data, string, array}
 use Rattle.serde_json.specs.View.{items_of}
-use Rattle.value.specs.Forms.{json_of}
-use Rattle.wire.specs.Operations.{phrase}
-use Rattle.wire.specs.Vectors.{count, vector_json}
+use Rattle.world.specs.value.Forms.{json_of}
+use Rattle.world.specs.wire.Operations.{phrase}
+use Rattle.world.specs.wire.Vectors.{count, vector_json}
 
 -- the key of a field, or the index of an item
 abbrev pub path_step_json : Step → Data

@@ -3,22 +3,18 @@
 ghost use Rattle.std.specs.Prelude.{◌≡◌, ◌∷◌, ℕ, [], map, codes, IfOk};
 ghost use Rattle.serde_json.specs.Data.{array, string};
 ghost use Rattle.serde_json.specs.View.{view, items_of};
-ghost use Rattle.cursor.specs.Meanings.{tag_of};
-ghost use Rattle.value.specs.Meanings.{scalar_of};
-ghost use Rattle.operation.specs.Meanings.{stamped_of};
-ghost use Rattle.document.specs.Documents.{said_by};
-ghost use Rattle.wire.specs.Operations.{id_json, operation_json, phrase};
+ghost use Rattle.world.specs.cursor.Meanings.{tag_of};
+ghost use Rattle.world.specs.value.Meanings.{scalar_of};
+ghost use Rattle.world.specs.operation.Meanings.{stamped_of};
+ghost use Rattle.world.specs.document.Documents.{said_by};
+ghost use Rattle.world.specs.wire.Operations.{id_json, operation_json, phrase};
 ghost use Rattle.scripts.specs.Replies.{conflict_json, reading_json, row_json, tag_name};
-ghost use Rattle.wire.specs.Vectors.{count};
+ghost use Rattle.world.specs.wire.Vectors.{count};
 
-use cursor::Tag;
-use document::Reading;
 use ids::{OpId, ReplicaTable};
-use operation::{Op, Shared};
 use serde_json::{Value, json};
 use std::alloc::{AllocError, Global};
-use value::{Key, Scalar};
-use wire::{id_value, operation_value, vector_value};
+use world::{Key, Op, Reading, Scalar, Shared, Tag, id_value, operation_value, vector_value};
 
 /// The reply to a question of a token that has seen this many entries.
 pub fn reading_value(

@@ -6,19 +6,17 @@ ghost use Rattle.semantics.specs.LegalAnswer.{Made, NotMade};
 ghost use Rattle.semantics.specs.Tables.{by_table};
 ghost use Rattle.serde_json.specs.Written.{compact_text};
 ghost use Rattle.serde_json.specs.View.{view};
-ghost use Rattle.items.specs.Meanings.{reply_of};
+ghost use Rattle.world.specs.items.Meanings.{reply_of};
 ghost use Rattle.world.specs.Meanings.{step_reply_of};
-ghost use Rattle.wire.specs.Operations.{phrase};
-ghost use Rattle.wire.specs.Vectors.{count};
+ghost use Rattle.world.specs.wire.Operations.{phrase};
+ghost use Rattle.world.specs.wire.Vectors.{count};
 ghost use Rattle.scripts.specs.Replies.{received_json, refusal_name, reply_json, reply_text, step_reply_json};
 
 use crate::readings::reading_value;
 use ids::{OpId, Refusal, ReplicaTable};
 use serde_json::{Value, json};
 use std::alloc::{AllocError, Global};
-use version::VersionVector;
-use wire::{id_value, vector_value};
-use world::{Reply, WorldReply};
+use world::{Reply, VersionVector, WorldReply, id_value, vector_value};
 
 /// The replies, one a line.
 pub fn reply_lines(alloc: Global, replies: &[WorldReply]) -> Result<String, AllocError>

@@ -10,9 +10,9 @@ ghost use Rattle.semantics.specs.LegalAnswer.{Asked, OfDocument};
 ghost use Rattle.semantics.specs.Making.{Command as TheCommand};
 ghost use Rattle.semantics.specs.World.{Push, Ask, step_by};
 ghost use Rattle.semantics.specs.Tables.{by_table};
-ghost use Rattle.value.specs.Meanings.{value_of};
-ghost use Rattle.operation.specs.Meanings.{command_of};
-ghost use Rattle.document.specs.Documents.{IsBeside, asked_of};
+ghost use Rattle.world.specs.value.Meanings.{value_of};
+ghost use Rattle.world.specs.operation.Meanings.{command_of};
+ghost use Rattle.world.specs.document.Documents.{IsBeside, asked_of};
 ghost use Rattle.json_lines.specs.Forms.{IsRead, and_then, json_form};
 ghost use Rattle.scripts.specs.Requests.{applied_of, asking_of, command_form, delete_of, missing_of, question_form, script_vector};
 ghost use Rattle.scripts.specs.Requests.{table_in, writing_of};
@@ -20,16 +20,11 @@ ghost use Rattle.scripts.specs.Steps.{step_form};
 ghost use Rattle.scripts.specs.Written.{ask_json, command_json, push_json, question_json};
 
 use crate::expressions::expression_in;
-use cursor::Expr;
-use document::Question;
 use ids::{Refusal, ReplicaTable};
 use json_lines::phrase_in;
-use operation::Command;
 use serde_json::Value;
 use std::alloc::Global;
-use value::Val;
-use version::VersionVector;
-use wire::vector_in;
+use world::{Command, Expr, Question, Val, VersionVector, vector_in};
 
 pub fn command_in(alloc: Global, value: &Value) -> Result<Command, Refusal>
     ensures { IsRead command_of result (command_form (view value.now)) }

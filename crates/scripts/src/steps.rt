@@ -13,10 +13,9 @@ use crate::presence::is_there;
 use crate::requests::{command_in, question_in};
 use ids::{Config, Refusal};
 use json_lines::{json_of, phrase_in, text_in};
-use operation::Shared;
 use serde_json::Value;
 use std::alloc::Global;
-use world::{World, WorldAct, WorldStep};
+use world::{Shared, World, WorldAct, WorldStep};
 
 /// The step on a line, whose engine, client and token exist. The world is that of the engines.
 pub fn read_step(

@@ -11,8 +11,8 @@ use Rattle.semantics.specs.Tables.{by_table}
 use Rattle.semantics.specs.Context.{Context, clear, apply}
 use Rattle.semantics.specs.Stamped.{loose_operation}
 use Rattle.semantics.proofs.ElementPaths.{down-keys_from_root}
-use Rattle.value.specs.declared.value.Val.{Val}
-use Rattle.value.specs.Meanings.{scalar_of, value_of as meaning_of}
+use Rattle.operation.specs.value.declared.value.Val.{Val}
+use Rattle.operation.specs.value.Meanings.{scalar_of, value_of as meaning_of}
 use Rattle.operation.specs.declared.op.Mutation.TheVariants as mutation
 use Rattle.operation.specs.declared.op.Op.{Op}
 use Rattle.operation.specs.Meanings.{mutation_of, stamped_of}

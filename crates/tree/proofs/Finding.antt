@@ -8,7 +8,7 @@ use Rattle.semantics.specs.Ids.{OpId}
 use Rattle.semantics.specs.Elements.{Element, Place, At, HeadOf, depth}
 use Rattle.semantics.specs.Paths.{Key, child}
 use Rattle.semantics.specs.Questions.{Step, enter, step_from}
-use Rattle.cursor.proofs.RootPaths.{depth-child}
+use Rattle.operation.proofs.cursor.RootPaths.{depth-child}
 use Rattle.tree.specs.declared.find.Spot.{Spot}
 use Rattle.tree.specs.declared.node.Node.{Node}
 use Rattle.tree.specs.Nodes.{IsTree, child_number, next_number, number}

@@ -4,8 +4,8 @@ use Rattle.std.proofs.lemmas.List.{take_more, length-map, get_or-map}
 use Rattle.semantics.specs.Elements.{Doc}
 use Rattle.semantics.specs.Paths.{Key, child}
 use Rattle.semantics.proofs.ElementPaths.{down-append}
-use Rattle.cursor.specs.declared.hop.Hop.{Hop}
-use Rattle.cursor.specs.Meanings.{hop_of}
+use Rattle.operation.specs.cursor.declared.hop.Hop.{Hop}
+use Rattle.operation.specs.cursor.Meanings.{hop_of}
 use Rattle.tree.specs.declared.node.Node.{Node}
 use Rattle.tree.specs.Nodes.{number, child_number}
 use Rattle.tree.specs.Writes.{end_of}

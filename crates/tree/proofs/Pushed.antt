@@ -6,8 +6,8 @@ use Rattle.std.specs.FinMap.{is_sorted}
 use Rattle.semantics.specs.Ids.{id_cmp}
 use Rattle.semantics.specs.Elements.{Element, Name, name_cmp}
 use Rattle.semantics.specs.Paths.{Key}
-use Rattle.cursor.specs.declared.tag.Tag.{Tag}
-use Rattle.value.specs.declared.value.Scalar.{Scalar}
+use Rattle.operation.specs.cursor.declared.tag.Tag.{Tag}
+use Rattle.operation.specs.value.declared.value.Scalar.{Scalar}
 use Rattle.columns.specs.Entries.{StandBeside}
 use Rattle.tree.specs.declared.node.Node.{Node}
 use Rattle.tree.specs.Nodes.{Grows, IsEmptyNode, IsOrphan, IsTree, Kept, Links, NodeBeside, SameView, child_room, is_written, linked_by}

@@ -5,8 +5,8 @@ use Rattle.semantics.specs.Ids.{OpId}
 use Rattle.semantics.specs.Elements.{Element, Value}
 use Rattle.semantics.specs.Operations.{element_of, scalar_in, slot_of, target_in, value_of}
 use Rattle.semantics.specs.Paths.{Key, keys_from_root}
-use Rattle.value.specs.declared.value.Scalar.{Scalar}
-use Rattle.value.specs.Meanings.{scalar_of}
+use Rattle.operation.specs.value.declared.value.Scalar.{Scalar}
+use Rattle.operation.specs.value.Meanings.{scalar_of}
 use Rattle.operation.specs.declared.op.Op.{Op}
 use Rattle.operation.specs.Meanings.{mutation_of, stamped_of}
 use Rattle.tree.specs.declared.node.Node.{Node}

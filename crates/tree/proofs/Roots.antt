@@ -8,7 +8,7 @@ use Rattle.semantics.specs.Elements.{Field, Item, name_cmp}
 use Rattle.semantics.specs.Paths.{Key, FieldKey, ItemKey}
 use Rattle.semantics.specs.Context.{empty}
 use Rattle.semantics.specs.DocumentAnswer.{is_any, visible_items}
-use Rattle.value.specs.declared.value.Scalar.{Scalar}
+use Rattle.operation.specs.value.declared.value.Scalar.{Scalar}
 use Rattle.tree.specs.declared.node.Node.{Node}
 use Rattle.tree.specs.Nodes.{IsEmptyNode, IsTree, Links, NodeBeside, child_number, context, linked_by, links, links_of, names_in}
 use Rattle.tree.specs.Nodes.{node_in, number, order_of, presence_of, register_of, visible_of}

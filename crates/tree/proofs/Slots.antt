@@ -7,7 +7,7 @@ use Rattle.semantics.specs.LegalHistory.{IsFormed}
 use Rattle.semantics.specs.Operations.{Insert, element_of, slot_of}
 use Rattle.semantics.specs.Paths.{Key, ItemKey, keys_from_root}
 use Rattle.semantics.proofs.ElementPaths.{down-append, down-keys_from_root}
-use Rattle.cursor.specs.Places.{is_head}
+use Rattle.operation.specs.cursor.Places.{is_head}
 use Rattle.tree.specs.Writes.{end_of}
 use Rattle.tree.proofs.Writes.{after_place}
 

@@ -8,8 +8,8 @@ use Rattle.semantics.specs.Elements.{Element, Doc}
 use Rattle.semantics.specs.Paths.{Key, FieldKey, ItemKey, child, down}
 use Rattle.semantics.specs.Context.{Context}
 use Rattle.semantics.proofs.ElementPaths.{down-append}
-use Rattle.cursor.specs.declared.hop.Hop.{Hop}
-use Rattle.cursor.specs.Meanings.{hop_of}
+use Rattle.operation.specs.cursor.declared.hop.Hop.{Hop}
+use Rattle.operation.specs.cursor.Meanings.{hop_of}
 use Rattle.tree.specs.declared.node.Node.{Node}
 use Rattle.tree.specs.Nodes.{IsTree, context, next_number, node_in, number, order_of}
 use Rattle.tree.specs.Trees.{has_key, items_stand}

@@ -12,12 +12,12 @@ use Rattle.semantics.specs.Paths.{child}
 use Rattle.semantics.specs.DocumentAnswer.{is_any, visible_items}
 use Rattle.semantics.specs.Questions.{Step, enter, step_from, walk_from}
 use Rattle.semantics.proofs.ElementPaths.{down-append}
-use Rattle.cursor.specs.declared.hop.Hop.{Hop}
-use Rattle.cursor.specs.declared.expression.Step.{Step as Step'}
-use Rattle.cursor.specs.Meanings.{hop_of, step_of}
-use Rattle.cursor.specs.Places.{room_at, depth_of, place_from}
-use Rattle.cursor.proofs.Below.{depth_below}
-use Rattle.cursor.proofs.RootPaths.{depth-hops}
+use Rattle.operation.specs.cursor.declared.hop.Hop.{Hop}
+use Rattle.operation.specs.cursor.declared.expression.Step.{Step as Step'}
+use Rattle.operation.specs.cursor.Meanings.{hop_of, step_of}
+use Rattle.operation.specs.cursor.Places.{room_at, depth_of, place_from}
+use Rattle.operation.proofs.cursor.Below.{depth_below}
+use Rattle.operation.proofs.cursor.RootPaths.{depth-hops}
 use Rattle.tree.specs.declared.node.Node.{Node}
 use Rattle.tree.specs.declared.resolve.Walker.{Walker}
 use Rattle.tree.specs.Nodes.{IsTree, context, node_in, number, order_of}

@@ -5,10 +5,10 @@ use Rattle.semantics.specs.Ids.{OpId, id_cmp}
 use Rattle.semantics.specs.Elements.{Element, Doc, Field, Item, Name, Scalar, Tag, name_cmp}
 use Rattle.semantics.specs.Paths.{Key, FieldKey, ItemKey}
 use Rattle.semantics.specs.Context.{Context}
-use Rattle.cursor.specs.declared.tag.Tag.{Tag as ATag}
-use Rattle.cursor.specs.Meanings.{tag_of}
-use Rattle.value.specs.declared.value.Scalar.{Scalar as AScalar}
-use Rattle.value.specs.Meanings.{scalar_of}
+use Rattle.operation.specs.cursor.declared.tag.Tag.{Tag as ATag}
+use Rattle.operation.specs.cursor.Meanings.{tag_of}
+use Rattle.operation.specs.value.declared.value.Scalar.{Scalar as AScalar}
+use Rattle.operation.specs.value.Meanings.{scalar_of}
 use Rattle.columns.specs.Entries.{StandBeside}
 use Rattle.tree.specs.declared.node.Node.{Node}
 

@@ -7,13 +7,13 @@ use Rattle.semantics.specs.Operations.{scalar_in, slot_of, target_in, value_of}
 use Rattle.semantics.specs.Paths.{Key, FieldKey, ItemKey}
 use Rattle.semantics.specs.Context.{Context, has_item, has_position}
 use Rattle.semantics.specs.Stamped.{Stamped}
-use Rattle.value.specs.declared.value.Scalar.{Scalar}
-use Rattle.value.specs.Meanings.{scalar_of}
+use Rattle.operation.specs.value.declared.value.Scalar.{Scalar}
+use Rattle.operation.specs.value.Meanings.{scalar_of}
 use Rattle.tree.specs.declared.node.Node.{Node}
 use Rattle.tree.specs.Nodes.{AreBeside, IsTree, context, node_at, order_room, register_room}
 use Rattle.tree.specs.Nested.{IsNested}
 use Rattle.tree.specs.Shown.{AreEmpty, AreShown}
-use Rattle.cursor.specs.Meanings.{hop_of}
+use Rattle.operation.specs.cursor.Meanings.{hop_of}
 use Rattle.tree.specs.declared.insert.Slot.{Slot}
 use Rattle.tree.specs.Writes.{RoomTo, end_of}
 

@@ -2,8 +2,8 @@
 use Rattle.std.specs.Prelude.{◌≡◌, ◌≤◌, true, false, List, map}
 use Rattle.semantics.specs.Limits.{most_keys}
 use Rattle.semantics.specs.Elements.{Place as ThePlace, At, HeadOf, depth}
-use Rattle.cursor.specs.Meanings.{hop_of}
-use Rattle.cursor.specs.Places.{depth_of, place_at}
+use Rattle.operation.specs.cursor.Meanings.{hop_of}
+use Rattle.operation.specs.cursor.Places.{depth_of, place_at}
 use Rattle.tree.specs.declared.find.Spot.{Spot}
 use Rattle.tree.specs.declared.node.Node.{Node}
 use Rattle.tree.specs.declared.resolve.Walker.{Walker}

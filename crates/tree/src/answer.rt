@@ -13,10 +13,9 @@ use crate::find::find;
 use crate::node::{Node, NodeNumber, node_at};
 use crate::walk::{count_fields, field_at, next_field, walk};
 use columns::{Presence, Register};
-use cursor::{ElementPlace, Expr, Tag};
 use ids::{OpId, Refusal};
+use operation::{ElementPlace, Expr, Key, Scalar, Tag};
 use std::alloc::{AllocError, Global};
-use value::{Key, Scalar};
 
 /// The register's values at an element, rising by id. Copies each.
 pub fn values(

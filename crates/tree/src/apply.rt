@@ -7,8 +7,8 @@ ghost use Rattle.semantics.specs.LegalHistory.{IsFormed};
 ghost use Rattle.semantics.specs.Operations.{Insert, slot_of, target_in};
 ghost use Rattle.semantics.specs.Context.{apply};
 ghost use Rattle.semantics.specs.Stamped.{loose_operation};
-ghost use Rattle.value.specs.Meanings.{scalar_of};
-ghost use Rattle.cursor.specs.Meanings.{tag_of};
+ghost use Rattle.operation.specs.value.Meanings.{scalar_of};
+ghost use Rattle.operation.specs.cursor.Meanings.{tag_of};
 ghost use Rattle.operation.specs.Meanings.{mutation_of, stamped_of};
 ghost use Rattle.tree.specs.Nested.{IsNested};
 ghost use Rattle.tree.specs.Nodes.{AreBeside, IsTree, context};
@@ -22,9 +22,7 @@ use crate::node::Node;
 use crate::show::show;
 use crate::stamp::Stamp;
 use crate::write::assign;
-use cursor::{Place, Tag};
-use operation::{Mutation, Op};
-use value::Scalar;
+use operation::{Mutation, Op, Place, Scalar, Tag};
 
 /// Applies an operation, and then sets what the lists show, and what is gone of them.
 pub fn apply(nodes: &mut [Node], op: &Op, stamp: &Stamp, scalar: Option<Scalar>)

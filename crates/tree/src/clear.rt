@@ -7,7 +7,7 @@ ghost use Rattle.semantics.specs.Ids.{OpId as TheId};
 ghost use Rattle.semantics.specs.Elements.{Element, Item, is_same};
 ghost use Rattle.semantics.specs.Context.{clear};
 ghost use Rattle.semantics.specs.DocumentAnswer.{is_any};
-ghost use Rattle.cursor.specs.Meanings.{hop_of};
+ghost use Rattle.operation.specs.cursor.Meanings.{hop_of};
 ghost use Rattle.tree.specs.Nested.{IsNested};
 ghost use Rattle.tree.specs.Nodes.{AreBeside, IsTree, MoreRoom, SameChildren, SameLinks, context, gone_of, links, number, presence_of};
 ghost use Rattle.tree.specs.Shown.{AreEmpty, IsGoneBelow, SameButFlags, ShownBut};
@@ -18,7 +18,7 @@ use crate::node::{Node, NodeNumber, node_at, node_at_mut};
 use crate::show::{flag_field, gone_with, show_child};
 use crate::stamp::Stamp;
 use crate::walk::{count_fields, count_items, field_at, item_at, next_field, walk};
-use cursor::Hop;
+use operation::Hop;
 
 /// Removes from a node every id that the stamp's vector covers.
 fn clear_node(nodes: &mut [Node], at: NodeNumber, stamp: &Stamp)

@@ -5,7 +5,7 @@ ghost use Rattle.semantics.specs.Elements.{At, Element, Place as ThePlace};
 ghost use Rattle.semantics.specs.Paths.{FieldKey, ItemKey};
 ghost use Rattle.semantics.specs.DocumentAnswer.{visible_items};
 ghost use Rattle.semantics.specs.Questions.{answer_at, resolve, step_from, Answer, Idx, Refused};
-ghost use Rattle.cursor.specs.Meanings.{step_of};
+ghost use Rattle.operation.specs.cursor.Meanings.{step_of};
 ghost use Rattle.tree.specs.Nodes.{IsTree, context, next_number, number};
 ghost use Rattle.tree.specs.Shown.{AreShown};
 ghost use Rattle.tree.specs.Walkers.{IsSpot};
@@ -13,9 +13,8 @@ ghost use Rattle.tree.specs.Walkers.{IsSpot};
 use crate::answer::item_at;
 use crate::node::{Node, NodeNumber, node_at};
 use crate::walk::item_of;
-use cursor::{Expr, MOST_KEYS, Step};
 use ids::{OpId, Refusal};
-use value::Key;
+use operation::{Expr, ExprStep as Step, Key, MOST_KEYS};
 
 /// Where a search along an expression stands: at an element, with its node, if one was made, and its depth; or at a head.
 #[derive(Clone, Copy, Debug)]

@@ -3,16 +3,15 @@
 ghost use Rattle.std.specs.Prelude.{◌≡◌, ◌<◌, ◌≤◌, ℕ, None, Some, OnOk, IfOk, length, slice_get};
 ghost use Rattle.std.specs.Borrow.{sem};
 ghost use Rattle.semantics.specs.Paths.{Key as TheKey, FieldKey, ItemKey};
-ghost use Rattle.cursor.specs.Meanings.{hop_of};
+ghost use Rattle.operation.specs.cursor.Meanings.{hop_of};
 ghost use Rattle.tree.specs.Lending.{LendsNodeIn};
 ghost use Rattle.tree.specs.Nodes.{IsEmptyNode, IsOrphan, IsTree, Kept, child_number, child_room, links, order_room, presence_room};
 ghost use Rattle.tree.specs.Nodes.{register_room};
 
 use crate::node::{Node, NodeNumber};
-use cursor::Hop;
 use ids::OpId;
+use operation::{Hop, Key};
 use std::alloc::{AllocError, Global};
-use value::Key;
 
 /// The node with a number, in the vector that holds them all.
 fn node_in_vec(nodes: &mut Vec<Node>, at: NodeNumber) -> &mut Node

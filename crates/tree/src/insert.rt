@@ -3,8 +3,8 @@
 ghost use Rattle.std.specs.Prelude.{◌≡◌, ◌<◌, ℕ, List, Option, Some, None, IsTrue, IsFalse, IsSome, length, map, option_map, slice_get};
 ghost use Rattle.semantics.specs.Elements.{Element, Item, EmptyMap, is_under};
 ghost use Rattle.semantics.specs.Operations.{Insert, slot_of};
-ghost use Rattle.value.specs.Meanings.{scalar_of};
-ghost use Rattle.cursor.specs.Meanings.{hop_of, tag_of};
+ghost use Rattle.operation.specs.value.Meanings.{scalar_of};
+ghost use Rattle.operation.specs.cursor.Meanings.{hop_of, tag_of};
 ghost use Rattle.semantics.specs.Context.{has_item, has_position};
 ghost use Rattle.tree.specs.Nested.{IsNested};
 ghost use Rattle.tree.specs.Nodes.{AreBeside, IsTree, MoreRoom, SameLinks, context, node_at, number, order_of, order_room};
@@ -17,9 +17,8 @@ use crate::node::{Node, NodeNumber, node_at_mut};
 use crate::stamp::Stamp;
 use crate::walk::{item_of, walk};
 use crate::write::{settle, write_path};
-use cursor::{Hop, Place, Tag};
 use ids::OpId;
-use value::Scalar;
+use operation::{Hop, Place, Scalar, Tag};
 
 /// The path of a list, and the item that something is inserted after, `None` for the head.
 #[derive(Clone, Copy, Debug)]

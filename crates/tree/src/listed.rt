@@ -2,14 +2,14 @@
 
 ghost use Rattle.std.specs.Prelude.{◌≡◌, ◌<◌, map, length, IfSome, IsTrue};
 ghost use Rattle.semantics.specs.Context.{Context};
-ghost use Rattle.cursor.specs.Meanings.{hop_of};
+ghost use Rattle.operation.specs.cursor.Meanings.{hop_of};
 ghost use Rattle.tree.specs.Nodes.{IsTree, context, node_in, order_of};
 ghost use Rattle.tree.specs.Writes.{end_of};
 ghost use Rattle.tree.specs.Trees.{has_key, items_stand};
 
 use crate::node::{Node, NodeNumber, node_at};
 use crate::resolve::next_of;
-use cursor::Hop;
+use operation::Hop;
 
 /// Whether each item of the path was inserted into the list that it is entered from. A binary search for each hop, unless all are to
 /// fields.

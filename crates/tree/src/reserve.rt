@@ -3,8 +3,8 @@
 ghost use Rattle.std.specs.Prelude.{◌≡◌, ◌<◌, ℕ, List, Some, IfOk, OnOk, length, map, option_map};
 ghost use Rattle.semantics.specs.Elements.{Element, Item};
 ghost use Rattle.semantics.specs.Operations.{Insert, scalar_in};
-ghost use Rattle.value.specs.Meanings.{scalar_of, value_of};
-ghost use Rattle.cursor.specs.Meanings.{hop_of};
+ghost use Rattle.operation.specs.value.Meanings.{scalar_of, value_of};
+ghost use Rattle.operation.specs.cursor.Meanings.{hop_of};
 ghost use Rattle.operation.specs.Meanings.{mutation_of, stamped_of};
 ghost use Rattle.tree.specs.Nodes.{IsTree, Kept, node_at, number, order_room, presence_room, register_room};
 ghost use Rattle.tree.specs.Writes.{HasRoom, RoomTo, end_of};
@@ -13,11 +13,9 @@ ghost use Rattle.tree.specs.Trees.{IsReserved};
 use crate::grow::{reach, reserve_order, reserve_presence, reserve_register};
 use crate::insert::slot_of;
 use crate::node::{Node, NodeNumber};
-use cursor::Hop;
 use ids::OpId;
-use operation::{Mutation, Op};
+use operation::{Hop, Mutation, Op, Scalar, Val};
 use std::alloc::{AllocError, Global};
-use value::{Scalar, Val};
 
 /// Makes each node of a path, with room for one more id in each, and returns the number of the last.
 fn reserve_path(

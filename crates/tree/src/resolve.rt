@@ -6,8 +6,8 @@ ghost use Rattle.semantics.specs.Elements.{At, Doc};
 ghost use Rattle.semantics.specs.DocumentAnswer.{visible_items};
 ghost use Rattle.semantics.specs.Paths.{child};
 ghost use Rattle.semantics.specs.Questions.{resolve, step_from};
-ghost use Rattle.cursor.specs.Meanings.{hop_of, step_of};
-ghost use Rattle.cursor.specs.Places.{room_at};
+ghost use Rattle.operation.specs.cursor.Meanings.{hop_of, step_of};
+ghost use Rattle.operation.specs.cursor.Places.{room_at};
 ghost use Rattle.tree.specs.Nodes.{IsTree, context, next_number};
 ghost use Rattle.tree.specs.Shown.{AreShown};
 ghost use Rattle.tree.specs.Writes.{end_of};
@@ -16,8 +16,8 @@ ghost use Rattle.tree.specs.Walkers.{IsWalking, stand_of};
 use crate::answer::item_at;
 use crate::node::{Node, NodeNumber};
 use crate::walk::child_of;
-use cursor::{Expr, Hop, MOST_KEYS, Place, Step};
 use ids::{OpId, Refusal};
+use operation::{Expr, ExprStep as Step, Hop, MOST_KEYS, Place};
 use std::alloc::{AllocError, Global};
 
 /// The place that an expression leads to from the root. Copies its keys, and asks the order of a list for the item with an index, which

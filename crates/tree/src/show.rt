@@ -6,7 +6,7 @@ ghost use Rattle.semantics.specs.Ids.{OpId as TheId, is_same_id};
 ghost use Rattle.semantics.specs.Elements.{Element, Field, Item, EmptyMap, Name, is_same, is_under};
 ghost use Rattle.semantics.specs.Operations.{Insert, slot_of, target_in};
 ghost use Rattle.semantics.specs.Paths.{FieldKey, ItemKey, child};
-ghost use Rattle.cursor.specs.Meanings.{hop_of};
+ghost use Rattle.operation.specs.cursor.Meanings.{hop_of};
 ghost use Rattle.operation.specs.Meanings.{mutation_of};
 ghost use Rattle.tree.specs.Nodes.{IsTree, MoreRoom, child_number, links, number};
 ghost use Rattle.tree.specs.Shown.{AreEmpty, AreShown, SameButFlags, ShownBut};
@@ -16,10 +16,8 @@ use crate::answer::is_present;
 use crate::insert::{Slot, slot_of};
 use crate::node::{Node, NodeNumber, node_at, node_at_mut};
 use crate::walk::item_of;
-use cursor::{Hop, Place};
 use ids::OpId;
-use operation::{Mutation, Op};
-use value::Key;
+use operation::{Hop, Key, Mutation, Op, Place};
 
 /// How far a list is gone that has an item with this id: no further than to the item, if something stands there.
 pub fn gone_with(gone: u64, id: &OpId, stands: bool) -> u64

@@ -4,7 +4,7 @@ ghost use Rattle.std.specs.Prelude.{◌≡◌, Some, slice_get};
 ghost use Rattle.tree.specs.Writes.{IsStamp};
 
 use ids::{OpId, ReplicaTable};
-use version::VersionVector;
+use operation::VersionVector;
 
 /// The id of an operation, and the vector of what it depends on, indexed by the table.
 #[derive(Clone, Copy, Debug)]

@@ -7,7 +7,7 @@ mod reserving;
 mod rows;
 
 use super::*;
-use cursor::Tag;
+use operation::Tag;
 use playing::Turn::{Conflicts, Items, Keys, Play, Reserve, Values};
 use playing::{Turn, on_new};
 use rows::{Does, ROOT, Where};

@@ -22,12 +22,10 @@ use crate::node::Node;
 use crate::reserve::reserve_operation;
 use crate::resolve::resolve;
 use crate::stamp::Stamp;
-use cursor::{ElementPlace, Expr, Place, Tag};
 use ids::{OpId, Refusal, ReplicaTable};
-use operation::Op;
+use operation::{ElementPlace, Expr, Key, Op, Place, Scalar, Tag};
 use std::alloc::{AllocError, Global};
 use std::marker::Model;
-use value::{Key, Scalar};
 
 /// What stands at each element of a document. Contracts see the table and the nodes, and speak of the context that these stand for.
 #[derive(Debug, Drop)]

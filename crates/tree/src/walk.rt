@@ -5,14 +5,14 @@ ghost use Rattle.semantics.specs.Ids.{OpId as TheId};
 ghost use Rattle.semantics.specs.Elements.{Element, Field, Item, Name};
 ghost use Rattle.semantics.specs.DocumentAnswer.{is_any};
 ghost use Rattle.semantics.specs.Paths.{ItemKey};
-ghost use Rattle.cursor.specs.Meanings.{hop_of};
+ghost use Rattle.operation.specs.cursor.Meanings.{hop_of};
 ghost use Rattle.tree.specs.Nodes.{IsTree, child_number, context, is_flagged, links, number};
 ghost use Rattle.tree.specs.Shown.{AreEmpty};
 ghost use Rattle.tree.specs.Writes.{end_of};
 
 use crate::node::{Node, NodeNumber, node_at};
-use cursor::Hop;
 use ids::OpId;
+use operation::Hop;
 
 /// How many fields have a node beneath this one.
 pub fn count_fields(nodes: &[Node], at: NodeNumber) -> usize

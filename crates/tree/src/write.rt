@@ -2,8 +2,8 @@
 
 ghost use Rattle.std.specs.Prelude.{◌≡◌, ◌<◌, ◌≤◌, ℕ, List, Option, Some, IsSome, length, map, option_map, slice_get};
 ghost use Rattle.semantics.specs.Elements.{Element, Field, Item, Name, depth, is_under};
-ghost use Rattle.value.specs.Meanings.{scalar_of};
-ghost use Rattle.cursor.specs.Meanings.{hop_of, tag_of};
+ghost use Rattle.operation.specs.value.Meanings.{scalar_of};
+ghost use Rattle.operation.specs.cursor.Meanings.{hop_of, tag_of};
 ghost use Rattle.tree.specs.Nested.{IsNested};
 ghost use Rattle.tree.specs.Nodes.{AreBeside, IsTree, MoreRoom, RoomElse, SameLinks, child_number, context, node_at, number, presence_room};
 ghost use Rattle.tree.specs.Nodes.{register_room};
@@ -14,8 +14,7 @@ use crate::clear::clear_at;
 use crate::node::{Node, NodeNumber, node_at_mut};
 use crate::stamp::Stamp;
 use crate::walk::child_of;
-use cursor::{Hop, Tag};
-use value::Scalar;
+use operation::{Hop, Scalar, Tag};
 
 /// Puts the stamp's id into a node's presence.
 fn mark_node(nodes: &mut [Node], at: NodeNumber, stamp: &Stamp, tag: Tag)

@@ -9,7 +9,7 @@ use Rattle.semantics.specs.Vectors.{Vector}
 use Rattle.serde_json.specs.Data.{Data}
 use Rattle.serde_json.specs.View.{items_of}
 use Rattle.serde_json.specs.Written.{has_float, items_have_float}
-use Rattle.value.specs.Forms.{json_of, scalar_json}
+use Rattle.operation.specs.value.Forms.{json_of, scalar_json}
 use Rattle.wire.specs.Operations.{entered_json, key_json, last_from, last_json, mutation_json, operation_json, parts_from, parts_of}
 use Rattle.wire.specs.Operations.{root_json}
 use Rattle.wire.specs.Messages.{hello_json}

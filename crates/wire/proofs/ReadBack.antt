@@ -24,8 +24,8 @@ use Rattle.operation.proofs.AloneFaults.{all-by_table, members_all}
 use Rattle.operation.proofs.PlaceKeys.{items_of_members-keys}
 use Rattle.serde_json.specs.Data.{Data}
 use Rattle.serde_json.specs.View.{items_of}
-use Rattle.cursor.specs.Places.{LastKey, DocKey, FieldName, ItemId, HeadKey, depth_of}
-use Rattle.value.specs.Forms.{IsWithinLimits, json_of, value_form}
+use Rattle.operation.specs.cursor.Places.{LastKey, DocKey, FieldName, ItemId, HeadKey, depth_of}
+use Rattle.operation.specs.value.Forms.{IsWithinLimits, json_of, value_form}
 use Rattle.json_lines.specs.Forms.{and_then, phrase_form}
 use Rattle.wire.specs.Members.{member_form}
 use Rattle.wire.specs.Messages.{hello_json, hello_of}

@@ -11,7 +11,7 @@ use Rattle.semantics.specs.Stamped.{Stamped}
 use Rattle.semantics.specs.Vectors.{Vector}
 use Rattle.serde_json.specs.Data.{Data, depth}
 use Rattle.serde_json.specs.View.{items_of}
-use Rattle.value.specs.Forms.{IsWithinLimits, json_of}
+use Rattle.operation.specs.value.Forms.{IsWithinLimits, json_of}
 use Rattle.json_lines.specs.Forms.{and_then}
 use Rattle.wire.specs.Messages.{op_line}
 use Rattle.wire.specs.Operations.{entered_json, id_json, key_json, last_from, last_json, mutation_json, operation_json, parts_from}

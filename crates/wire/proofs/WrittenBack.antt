@@ -20,9 +20,9 @@ use Rattle.semantics.specs.Vectors.{Vector}
 use Rattle.serde_json.specs.Data.{Data, null, boolean, number, string, array, object, unsigned, negative, float, Items, no_items, item}
 use Rattle.serde_json.specs.Data.{no_members, member}
 use Rattle.serde_json.specs.View.{items_of}
-use Rattle.cursor.specs.Places.{LastKey, DocKey, FieldName, ItemId, HeadKey}
-use Rattle.cursor.proofs.RootPaths.{keys_from_root-down}
-use Rattle.value.specs.Forms.{json_of, value_form}
+use Rattle.operation.specs.cursor.Places.{LastKey, DocKey, FieldName, ItemId, HeadKey}
+use Rattle.operation.proofs.cursor.RootPaths.{keys_from_root-down}
+use Rattle.operation.specs.value.Forms.{json_of, value_form}
 use Rattle.json_lines.specs.Forms.{and_then, list_form, number_form, phrase_form, phrase_of, text_form, with_parts}
 use Rattle.wire.specs.Members.{counter_form, id_of, limited_form, member_form, member_of, replica_form}
 use Rattle.wire.specs.Messages.{hello_json, hello_of, only_vector}

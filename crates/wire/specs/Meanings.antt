@@ -1,9 +1,9 @@
 -- Keys, parts of a path and the fields of an operation, as the program keeps them, as those of the definitions.
 use Rattle.std.specs.Prelude.{ℕ, Option, Some, None}
 use Rattle.semantics.specs.Elements.{Tag}
-use Rattle.cursor.specs.Meanings.{tag_of}
-use Rattle.cursor.specs.Places.{LastKey, DocKey, FieldName, ItemId, HeadKey}
-use Rattle.cursor.specs.declared.tag.Tag.{Tag as TheTag}
+use Rattle.operation.specs.cursor.Meanings.{tag_of}
+use Rattle.operation.specs.cursor.Places.{LastKey, DocKey, FieldName, ItemId, HeadKey}
+use Rattle.operation.specs.cursor.declared.tag.Tag.{Tag as TheTag}
 use Rattle.serde_json.specs.View.{view}
 use Rattle.wire.specs.Places.{Entered}
 use Rattle.wire.specs.Reading.{Fields}

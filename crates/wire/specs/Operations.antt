@@ -7,7 +7,7 @@ use Rattle.semantics.specs.Paths.{Key, FieldKey, ItemKey, keys_from_root}
 use Rattle.semantics.specs.Stamped.{Stamped}
 use Rattle.serde_json.specs.Data.{Data, string, array, item}
 use Rattle.serde_json.specs.View.{items_of}
-use Rattle.value.specs.Forms.{json_of}
+use Rattle.operation.specs.value.Forms.{json_of}
 use Rattle.wire.specs.Vectors.{count, vector_json}
 
 -- a list of a word and other parts

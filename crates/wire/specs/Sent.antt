@@ -11,8 +11,8 @@ use Rattle.semantics.specs.Operations.{Mutation, Assign, Insert, Delete, element
 use Rattle.semantics.specs.Paths.{Key, FieldKey, ItemKey, keys_from_root}
 use Rattle.semantics.specs.Stamped.{Stamped}
 use Rattle.semantics.specs.Vectors.{Vector}
-use Rattle.cursor.specs.Places.{depth_of}
-use Rattle.value.specs.Forms.{IsWithinLimits}
+use Rattle.operation.specs.cursor.Places.{depth_of}
+use Rattle.operation.specs.value.Forms.{IsWithinLimits}
 use Rattle.wire.specs.Operations.{mutation_json}
 use Rattle.wire.specs.Reading.{mutation_form}
 

@@ -8,8 +8,8 @@ use Rattle.serde_json.specs.Data.{Data}
 use Rattle.serde_json.specs.View.{items_of}
 use Rattle.serde_json.specs.Written.{items_outline, outline}
 use Rattle.semantics.specs.Paths.{Key}
-use Rattle.cursor.specs.Meanings.{hop_of}
-use Rattle.cursor.specs.declared.hop.Hop.{Hop}
+use Rattle.operation.specs.cursor.Meanings.{hop_of}
+use Rattle.operation.specs.cursor.declared.hop.Hop.{Hop}
 use Rattle.wire.specs.Operations.{key_json, root_json}
 
 -- the tokens of JSON

@@ -14,13 +14,12 @@ ghost use Rattle.semantics.specs.Tables.{greatest_in};
 ghost use Rattle.operation.specs.Meanings.{stamped_of};
 ghost use Rattle.wire.specs.Reading.{op_form};
 ghost use Rattle.wire.specs.Sent.{CanBeSent, is_counter, key_counted};
-ghost use Rattle.cursor.specs.Meanings.{hop_of};
+ghost use Rattle.operation.specs.cursor.Meanings.{hop_of};
 
 use crate::scan::Scan;
 use crate::writing::with_line;
-use cursor::Hop;
 use ids::{MOST_COUNTER, ReplicaTable};
-use operation::{Op, names_members};
+use operation::{Hop, Op, names_members};
 use std::alloc::Global;
 
 /// How much more room the writer asks for than the line has bytes.

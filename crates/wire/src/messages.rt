@@ -19,10 +19,9 @@ use crate::vectors::{vector_in, vector_value};
 use crate::writing::with_line;
 use ids::{Refusal, ReplicaTable};
 use json_lines::{json_of, phrase_in};
-use operation::{Op, Shared};
+use operation::{Op, Shared, VersionVector};
 use serde_json::{Value, json};
 use std::alloc::{AllocError, Global};
-use version::VersionVector;
 
 /// Room for a line of usual length.
 const LINE_BYTES: usize = 128;

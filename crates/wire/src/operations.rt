@@ -2,7 +2,7 @@
 
 ghost use Rattle.std.specs.Prelude.{◌≡◌, map, IfOk, Ok};
 ghost use Rattle.serde_json.specs.View.{view};
-ghost use Rattle.cursor.specs.Meanings.{hop_of};
+ghost use Rattle.operation.specs.cursor.Meanings.{hop_of};
 ghost use Rattle.operation.specs.Meanings.{mutation_of, stamped_of};
 ghost use Rattle.wire.specs.Operations.{entered_json, head_json, id_json, key_json, last_from, last_json, mutation_json, operation_json};
 ghost use Rattle.wire.specs.Operations.{parts_from, path_json, root_json};
@@ -10,9 +10,8 @@ ghost use Rattle.wire.specs.Reading.{mutation_form};
 ghost use Rattle.wire.specs.Sent.{AreTypedKeys, IsTyped, IsTypedKey, IsTypedPlace};
 
 use crate::vectors::vector_value;
-use cursor::{Hop, MOST_KEYS, Place};
 use ids::{OpId, ReplicaTable};
-use operation::{Mutation, Op};
+use operation::{Hop, MOST_KEYS, Mutation, Op, Place};
 use serde_json::{Value, json};
 use std::alloc::{AllocError, Global};
 use std::mem;

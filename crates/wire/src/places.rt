@@ -6,19 +6,18 @@ ghost use Rattle.serde_json.specs.View.{view, items_view};
 ghost use Rattle.semantics.specs.Limits.{most_keys};
 ghost use Rattle.semantics.specs.Elements.{Doc};
 ghost use Rattle.semantics.specs.Paths.{down};
-ghost use Rattle.cursor.specs.Meanings.{hop_of, tag_of};
+ghost use Rattle.operation.specs.cursor.Meanings.{hop_of, tag_of};
 ghost use Rattle.json_lines.specs.Forms.{IsRead, IsOrNoMemory, and_then, phrase_form};
 ghost use Rattle.wire.specs.Meanings.{entered_as, key_meant, keys_ahead, part_meant};
 ghost use Rattle.wire.specs.Places.{element_at, entered_of, is_list_head, key_form, numbered_key, only_key, parts_of, path_form};
 ghost use Rattle.wire.specs.Places.{place_at_last, place_below, place_form, tag_form};
 
 use crate::members::{id_of, member_of};
-use cursor::{Hop, MOST_KEYS, Place, Tag};
 use ids::{OpId, Refusal, ReplicaTable};
 use json_lines::{list_in, number_in, phrase_in};
+use operation::{Hop, Key, MOST_KEYS, Place, Tag};
 use serde_json::Value;
 use std::alloc::Global;
-use value::Key;
 
 /// A key as it is written.
 #[derive(Debug, Drop)]

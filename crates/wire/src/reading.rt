@@ -5,7 +5,7 @@ ghost use Rattle.std.specs.Prelude.{◌≡◌, IfOk, MatchResult, Ok, Err, lengt
 ghost use Rattle.serde_json.specs.View.{view, items_view};
 ghost use Rattle.semantics.specs.Operations.{Delete};
 ghost use Rattle.semantics.specs.Tables.{by_table};
-ghost use Rattle.value.specs.Meanings.{value_of};
+ghost use Rattle.operation.specs.value.Meanings.{value_of};
 ghost use Rattle.operation.specs.Meanings.{mutation_of, stamped_of};
 ghost use Rattle.json_lines.specs.Forms.{IsRead, IsOrNoMemory};
 ghost use Rattle.wire.specs.Meanings.{fields_meant};
@@ -17,14 +17,11 @@ ghost use Rattle.wire.specs.Vectors.{vector_form};
 use crate::members::member_in;
 use crate::places::place_in;
 use crate::vectors::vector_in;
-use cursor::Place;
 use ids::{OpId, Refusal, ReplicaTable};
 use json_lines::phrase_in;
-use operation::{Mutation, Op};
+use operation::{Mutation, Op, Place, Val, VersionVector};
 use serde_json::Value;
 use std::alloc::Global;
-use value::Val;
-use version::VersionVector;
 
 /// The operation of a JSON value. The first fault from the left decides.
 pub(crate) fn operation_in(

@@ -6,13 +6,10 @@
 ghost use Rattle.std.specs.Prelude.{◌≡◌, ◌<◌, IfSome, length};
 
 use crate::escapes::{closed_at, unescaped};
-use cursor::{Hop, MOST_KEYS, Place};
 use ids::{OpId, ReplicaId, ReplicaTable};
 use memchr::memchr;
-use operation::{Mutation, Op};
+use operation::{Hop, Key, MOST_KEYS, Mutation, Op, Place, Scalar, Val, VersionVector};
 use std::alloc::Global;
-use value::{Key, Scalar, Val};
-use version::VersionVector;
 
 /// The most digits that a number of 64 bits has.
 const MOST_DIGITS: usize = 20;

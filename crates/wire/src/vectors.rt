@@ -11,9 +11,9 @@ ghost use Rattle.wire.specs.Vectors.{pair_form, pair_json, pairs_above, vector_f
 use crate::members::{counter_in, replica_in};
 use ids::{OpId, Refusal, ReplicaTable};
 use json_lines::list_in;
+use operation::VersionVector;
 use serde_json::{Value, json};
 use std::alloc::{AllocError, Global};
-use version::VersionVector;
 
 /// A vector whose replicas are members, and rise.
 ///

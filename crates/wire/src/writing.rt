@@ -4,9 +4,9 @@ ghost use Rattle.std.specs.Prelude.{◌≡◌, ◌++◌, ◌∷◌, [], List, ma
 ghost use Rattle.serde_json.specs.Data.{Data};
 ghost use Rattle.semantics.specs.Elements.{Plain};
 ghost use Rattle.semantics.specs.Tables.{by_table};
-ghost use Rattle.cursor.specs.Meanings.{hop_of};
-ghost use Rattle.value.specs.Forms.{IsWithinLimits, json_of, scalar_json};
-ghost use Rattle.value.specs.Meanings.{scalar_of, value_of};
+ghost use Rattle.operation.specs.cursor.Meanings.{hop_of};
+ghost use Rattle.operation.specs.value.Forms.{IsWithinLimits, json_of, scalar_json};
+ghost use Rattle.operation.specs.value.Meanings.{scalar_of, value_of};
 ghost use Rattle.operation.specs.Meanings.{mutation_of, stamped_of};
 ghost use Rattle.wire.specs.Messages.{op_line};
 ghost use Rattle.wire.specs.Operations.{entered_json, id_json, last_from, last_json, mutation_json, operation_json, parts_from};
@@ -16,13 +16,10 @@ ghost use Rattle.wire.specs.Sent.{AreReplicaNumbers, AreTypedKeys, CanBeSent, Is
 ghost use Rattle.wire.specs.Vectors.{pair_json, vector_json};
 ghost use Rattle.wire.specs.Writing.{IsWritten, key_before, key_of, tokens_of, tokens_of_all};
 
-use cursor::{Hop, MOST_KEYS, Place};
 use ids::{OpId, ReplicaTable};
 use json::Writer;
-use operation::{Mutation, Op};
+use operation::{Hop, MOST_KEY_BYTES, MOST_KEYS, Mutation, Op, Place, Scalar, Val, VersionVector};
 use std::alloc::AllocError;
-use value::{MOST_KEY_BYTES, Scalar, Val};
-use version::VersionVector;
 
 /// The text with the line of the operation after what it holds. Where the operation can be sent, its line is read as it. Memory is
 /// taken for the text alone.

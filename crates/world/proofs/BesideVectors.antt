@@ -12,7 +12,7 @@ use Rattle.semantics.specs.Vectors.{Vector}
 use Rattle.semantics.specs.Tables.{by_table, component}
 use Rattle.semantics.proofs.CanonicalVectors.{same_vectors}
 use Rattle.semantics.proofs.TableVectors.{at-by_table, canonical-by_table}
-use Rattle.operation.proofs.AloneFaults.{all-by_table, members_all}
+use Rattle.handling.proofs.operation.AloneFaults.{all-by_table, members_all}
 use Rattle.wire.proofs.ReadVectors.{by_table-more}
 
 -- the column ds is cs, with the counter of a raised

@@ -30,7 +30,7 @@ use Rattle.semantics.proofs.SoundGiving.{answer_given}
 use Rattle.semantics.proofs.SoundPublishing.{none_due, published}
 use Rattle.semantics.proofs.SoundSteps.{stepped, taken_for}
 use Rattle.semantics.proofs.SoundTaking.{floor_within, took}
-use Rattle.replica.proofs.Turns.{ended_by_count}
+use Rattle.handling.proofs.replica.Turns.{ended_by_count}
 use Rattle.world.specs.Parts.{IsQueued, IsBetween, IsHandledInPart, TakesInPart, PublishesInPart, StepsInPart, IsInPart}
 use Rattle.world.proofs.DrawnWaiting.{Draws, delivered_waits, draws_both, gives_draw, item_waits, rest_draws, step_waits, take_draws}
 use Rattle.world.proofs.DrawnWaiting.{takes_draw}

@@ -16,3 +16,5 @@ pub mod DrawnWaiting
 pub mod BetweenEngines
 pub mod StoppedWorlds
 pub mod StoppedReceipts
+-- Handed on from the crates below, for users of this one.
+pub use Rattle.wire.proofs as wire

@@ -8,9 +8,9 @@ use Rattle.semantics.specs.LegalAnswer.{Request, OfPeer}
 use Rattle.semantics.specs.Engine.{Engine, Client, Ticket, Denied}
 use Rattle.semantics.specs.WriteSteps.{next_item, with_cell, submit, push}
 use Rattle.semantics.specs.PeerSteps.{as_received, receive_lines, submit_all}
-use Rattle.operation.specs.declared.op.Op.{Op}
-use Rattle.operation.specs.Meanings.{stamped_of}
-use Rattle.items.specs.Meanings.{received_of, stranger}
+use Rattle.handling.specs.operation.declared.op.Op.{Op}
+use Rattle.handling.specs.operation.Meanings.{stamped_of}
+use Rattle.handling.specs.items.Meanings.{received_of, stranger}
 
 -- an operation whose vector has the table's width is received as it is
 pub received_wide : (table : List ℕ) (o : Op) → length o.deps ≡ length table → received_of table o ≡ stamped_of table o

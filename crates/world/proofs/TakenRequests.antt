@@ -9,8 +9,8 @@ use Rattle.semantics.specs.Stamped.{Stamped}
 use Rattle.semantics.specs.Engine.{Engine, Client, Outcome, Ticket, Denied}
 use Rattle.semantics.specs.PeerSteps.{as_received, receive_lines, submit_all}
 use Rattle.semantics.specs.WriteSteps.{next_item, with_cell, push}
-use Rattle.items.specs.declared.item.Request.{Request}
-use Rattle.items.specs.Meanings.{request_of, submitted_of}
+use Rattle.handling.specs.items.declared.item.Request.{Request}
+use Rattle.handling.specs.items.Meanings.{request_of, submitted_of}
 use Rattle.world.specs.declared.engine.Engine.TheInside.{Inside}
 use Rattle.world.specs.declared.client.Client.{Client as AnyClient}
 use Rattle.world.specs.Engines.{cell_of, client_of}

@@ -9,8 +9,8 @@ use Rattle.semantics.specs.Engine.{Engine}
 use Rattle.semantics.specs.World.{WorldStep}
 use Rattle.semantics.specs.WorldHistory.{IsEngineAfter}
 use Rattle.semantics.specs.Tables.{by_table}
-use Rattle.operation.specs.Meanings.{stamped_of}
-use Rattle.items.specs.Meanings.{reply_of, submitted_of}
+use Rattle.handling.specs.operation.Meanings.{stamped_of}
+use Rattle.handling.specs.items.Meanings.{reply_of, submitted_of}
 use Rattle.world.specs.declared.engine.Handled.{Handled}
 use Rattle.world.specs.declared.client.Given.{Given}
 use Rattle.world.specs.declared.client.Cell.{Cell}

@@ -5,9 +5,9 @@ use Rattle.semantics.specs.Tables.{by_table}
 use Rattle.semantics.specs.LegalAnswer.{Answered}
 use Rattle.semantics.specs.Engine as engine
 use Rattle.semantics.specs.World as world
-use Rattle.operation.specs.Meanings.{command_of}
-use Rattle.document.specs.Documents.{IsBeside, asked_of, said_by}
-use Rattle.items.specs.Meanings.{reply_of}
+use Rattle.handling.specs.operation.Meanings.{command_of}
+use Rattle.handling.specs.document.Documents.{IsBeside, asked_of, said_by}
+use Rattle.handling.specs.items.Meanings.{reply_of}
 use Rattle.wire.specs.Bundles.{readable}
 use Rattle.world.specs.declared.step.WorldStep.{WorldStep}
 use Rattle.world.specs.declared.step.WorldAct.{WorldAct}

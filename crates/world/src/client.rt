@@ -4,7 +4,7 @@ ghost use Rattle.std.specs.Prelude.{◌≡◌, ◌+◌, ◌<◌, ◌^◌, ℕ, L
 ghost use Rattle.semantics.specs.WriteSteps.{next_item, with_cell, with_answer};
 ghost use Rattle.semantics.specs.ReadSteps.{cell_at};
 
-use items::{Item, Reply, Request};
+use handling::{Item, Reply, Request};
 use std::alloc::AllocError;
 
 /// An answer that was set, with how many entries were published then.
@@ -29,7 +29,7 @@ pub struct Client {
 }
 
 impl Client {
-    ghost use Rattle.items.specs.Meanings.{request_of, submitted_of};
+    ghost use Rattle.handling.specs.items.Meanings.{request_of, submitted_of};
     ghost use Rattle.world.specs.Engines.{client_of, cell_of, given_of};
 
     /// The cell of a serial; none has the serial 0.

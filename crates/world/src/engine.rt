@@ -4,7 +4,7 @@ ghost use Rattle.std.specs.Prelude.{◌≡◌, OnOk, OnErr, IfOk, true, map, [],
 ghost use Rattle.ids.specs.Configurations.{is_within_limits};
 ghost use Rattle.semantics.specs.World.{engine_step, opened_engine, sent_by};
 ghost use Rattle.semantics.specs.Publication.{Holds};
-ghost use Rattle.replica.specs.Replicas.{replica_of};
+ghost use Rattle.handling.specs.replica.Replicas.{replica_of};
 ghost use Rattle.world.specs.Engines.{IsReachedEngine, client_of, message_of};
 ghost use Rattle.world.specs.Meanings.{AsksBeside, act_of, step_reply_of};
 ghost use Rattle.world.specs.Parts.{IsInPart};
@@ -18,11 +18,8 @@ use crate::client::Client;
 use crate::message::Message;
 use crate::publisher::Publisher;
 use crate::step::{WorldAct, WorldReply};
-use document::Document;
-use handling::Handler;
+use handling::{Document, Handler, Item, Replica, Reply};
 use ids::{Config, ReplicaTable};
-use items::{Item, Reply};
-use replica::Replica;
 use std::alloc::{AllocError, Global};
 use std::collections::VecDeque;
 use std::marker::Model;
@@ -57,8 +54,8 @@ impl Model for Engine {
     ghost use Rattle.semantics.specs.Codes.{coded_element};
     ghost use Rattle.semantics.specs.Engine.{Engine as TheEngine};
     ghost use Rattle.semantics.specs.Publication.{Holds};
-    ghost use Rattle.replica.specs.Replicas.{replica_of};
-    ghost use Rattle.items.specs.Meanings.{submitted_of};
+    ghost use Rattle.handling.specs.replica.Replicas.{replica_of};
+    ghost use Rattle.handling.specs.items.Meanings.{submitted_of};
     ghost use Rattle.world.specs.Engines.{client_of, handled_of};
 
     ghost Value = { TheEngine };

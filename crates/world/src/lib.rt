@@ -9,6 +9,12 @@ mod publisher;
 mod step;
 mod world;
 
-pub use items::Reply;
+pub use handling::Reply;
 pub use step::{WorldAct, WorldReply, WorldStep};
 pub use world::World;
+
+// Handed on from the crates below, for users of this one.
+pub use handling::{
+    Command, Expr, ExprStep, Key, Op, Question, Reading, Scalar, Shared, Tag, Val, VersionVector,
+};
+pub use wire::{id_value, operation_value, vector_in, vector_value};

@@ -7,13 +7,12 @@ ghost use Rattle.ids.specs.declared.refusal.Refusal.TheVariants.{NoMemory, Unkno
 ghost use Rattle.semantics.specs.Tables.{by_table};
 ghost use Rattle.semantics.specs.Faults.{is_of_members};
 ghost use Rattle.semantics.specs.PeerSteps.{before_stranger, stranger_fault};
-ghost use Rattle.operation.specs.Meanings.{stamped_of};
+ghost use Rattle.handling.specs.operation.Meanings.{stamped_of};
 
 use crate::message::NamedOps;
+use handling::{Op, Shared, VersionVector, names_members};
 use ids::{Refusal, ReplicaTable};
-use operation::{Op, Shared, names_members};
 use std::alloc::Global;
-use version::VersionVector;
 use wire::LinesRead;
 
 /// The vector, indexed by another table.

@@ -4,10 +4,8 @@ ghost use Rattle.std.specs.Prelude.{◌≡◌, [], drop, OnOk};
 ghost use Rattle.semantics.specs.WorldHistory.{BeginsWith};
 ghost use Rattle.world.specs.Publishers.{CanPublish, PublishesMore, appended_of};
 
-use document::Document;
+use handling::{Document, Entry, Publish};
 use ids::Refusal;
-use items::Publish;
-use operation::Entry;
 use std::alloc::{AllocError, Global};
 use std::collections::VecDeque;
 use std::marker::Model;

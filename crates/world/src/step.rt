@@ -1,10 +1,7 @@
 //! The steps of a world and what they reply.
 
-use document::{Question, Reading};
+use handling::{Command, Question, Reading, Reply, Shared, VersionVector};
 use ids::{Refusal, ReplicaTable};
-use items::Reply;
-use operation::{Command, Shared};
-use version::VersionVector;
 
 /// A step of a world: what the engine with this number does. Engines are numbered from 0.
 #[derive(Debug, Drop)]

@@ -14,17 +14,13 @@ use super::*;
 use crate::client::Client;
 use crate::closing::close;
 use crate::opening::{Parts, open, prepare};
-use command::Ticket;
-use cursor::{Expr, Step as Hop};
-use document::{Question, Reading};
+use command::{Seat, Ticket};
+use handling::{Command, Expr, ExprStep as Hop, Key, Question, Reading, Scalar, Val};
 use ids::{Config, ReplicaId};
-use operation::Command;
-use published::Seat;
 use schedules::{go_on, schedule};
 use std::marker::Brand;
 use std::process::Abort;
 use std::test::Fail;
-use value::{Key, Scalar, Val};
 
 /// An atomic step, and whose it is.
 #[derive(Clone, Copy)]

@@ -3,12 +3,11 @@
 use super::applying::play;
 use super::rows::{Does, Pair, Where, element_of, op, pair_of};
 use crate::tree::Tree;
-use cursor::{ElementPlace, Tag};
 use ids::{Refusal, ReplicaTable};
+use operation::{ElementPlace, Scalar, Tag};
 use std::alloc::Global;
 use std::process::Abort;
 use std::test::Fail;
-use value::Scalar;
 
 /// One turn: something that is done with a tree, or a question with its answer.
 #[derive(Clone, Copy)]

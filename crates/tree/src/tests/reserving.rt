@@ -3,10 +3,9 @@
 use super::playing::{assert_values, empty, take_turns};
 use super::*;
 use crate::tree::Tree;
-use cursor::{ElementPlace, Expr, Step};
+use operation::{ElementPlace, Expr, ExprStep as Step, Key};
 use std::alloc::Global;
 use std::process::Abort;
-use value::Key;
 
 const LIST: Where = Where::Field(&["list"]);
 

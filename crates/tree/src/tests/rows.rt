@@ -1,12 +1,9 @@
 //! Operations and places as they are written in a table of turns.
 
-use cursor::{ElementPlace, Place};
 use ids::{OpId, Refusal, ReplicaId};
-use operation::{Mutation, Op};
+use operation::{ElementPlace, Key, Mutation, Op, Place, Scalar, Text, Val, VersionVector};
 use std::alloc::Global;
 use std::test::Fail;
-use value::{Key, Scalar, Text, Val};
-use version::VersionVector;
 
 /// An id's counter and replica.
 pub type Pair = (u64, u32);

@@ -4,14 +4,14 @@ ghost use Rattle.std.specs.Prelude.{◌≡◌, OnErr, OnOk, IfOk, map, length, o
 ghost use Rattle.semantics.specs.Engine.{Engine as TheEngine, Read, published_entries};
 ghost use Rattle.semantics.specs.LegalAnswer.{reading_of};
 ghost use Rattle.semantics.specs.ReadSteps.{ask, cell_under, learn, poll, see, seen_by};
-ghost use Rattle.document.specs.Documents.{IsBeside, asked_of};
+ghost use Rattle.handling.specs.document.Documents.{IsBeside, asked_of};
 ghost use Rattle.world.specs.Engines.{client_of, given_of};
 ghost use Rattle.world.specs.Meanings.{step_reply_of};
 
 use crate::client::{Client, Given};
 use crate::engine::Engine;
 use crate::step::WorldReply;
-use document::{Document, Question};
+use handling::{Document, Question};
 use ids::Refusal;
 use std::alloc::{AllocError, Global};
 

@@ -4,17 +4,16 @@ ghost use Rattle.std.specs.Prelude.{◌≡◌, ◌++◌, ◌∷◌, [], ◌+◌,
 ghost use Rattle.semantics.specs.LegalAnswer.{OfCommand};
 ghost use Rattle.semantics.specs.Engine.{Client as TheClient};
 ghost use Rattle.semantics.specs.WriteSteps.{push, with_cell};
-ghost use Rattle.operation.specs.Meanings.{command_of};
-ghost use Rattle.items.specs.Meanings.{request_of, submitted_of};
+ghost use Rattle.handling.specs.operation.Meanings.{command_of};
+ghost use Rattle.handling.specs.items.Meanings.{request_of, submitted_of};
 ghost use Rattle.world.specs.Engines.{client_of, taken_or_denied};
 ghost use Rattle.world.specs.Meanings.{step_reply_of};
 
 use crate::client::Client;
 use crate::engine::Engine;
 use crate::step::WorldReply;
+use handling::{Command, Item, Request, Shared};
 use ids::Refusal;
-use items::{Item, Request};
-use operation::{Command, Shared};
 use std::alloc::AllocError;
 use std::collections::VecDeque;
 

@@ -3,8 +3,8 @@ use Rattle.semantics.specs.Tables.{by_table}
 use Rattle.semantics.specs.Vectors.{is_at_most}
 use Rattle.semantics.specs.Stamped.{Stamped}
 use Rattle.semantics.proofs.ColumnComparison.{at_most-by_table}
-use Rattle.operation.specs.declared.op.Op.{Op}
-use Rattle.operation.specs.Meanings.{stamped_of}
+use Rattle.oplog.specs.operation.declared.op.Op.{Op}
+use Rattle.oplog.specs.operation.Meanings.{stamped_of}
 use Rattle.document.specs.Checks.{entry_there, is_beyond, opens}
 use Rattle.document.proofs.check.opens.Goals as goal
 

@@ -2,9 +2,9 @@
 use Rattle.std.proofs.Common.{◌≡◌, ◌++◌, ℕ, List, Some, length, sym, ap, ◌∙◌, subst, arith, refl, rules}
 use Rattle.crossbeam_queue.specs.Passes.{view}
 use Rattle.semantics.specs.Entries.{Entry, Own, entry_at, IsEntryHistory}
-use Rattle.oplog.specs.Logs.{history}
+use Rattle.handling.specs.oplog.Logs.{history}
 use Rattle.semantics.specs.WorldHistory.{BeginsWith}
-use Rattle.items.specs.declared.item.Item.{Item}
+use Rattle.handling.specs.items.declared.item.Item.{Item}
 use Rattle.command.specs.InOrder.{of}
 use Rattle.engine.specs.Clients.{items_by, AreClients}
 use Rattle.engine.specs.Turns.{Writer}

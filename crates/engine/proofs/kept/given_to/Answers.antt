@@ -1,9 +1,9 @@
 use Rattle.std.proofs.Common.{rules, ◌≡◌, true, Some, None, refl, sym, ap, ◌∙◌}
 use Rattle.std.specs.Prelude.{MatchOption}
 use Rattle.semantics.specs.PeerAnswers.{IsAnswer}
-use Rattle.items.specs.declared.item.Item.{Item}
-use Rattle.items.specs.Meanings.{reply_of, submitted_of}
-use Rattle.items.specs.Same.{is_same_item}
+use Rattle.handling.specs.items.declared.item.Item.{Item}
+use Rattle.handling.specs.items.Meanings.{reply_of, submitted_of}
+use Rattle.handling.specs.items.Same.{is_same_item}
 use Rattle.engine.specs.Clients.{answer_in}
 use Rattle.engine.proofs.Asking.{answer_inside, legal_for}
 use Rattle.engine.proofs.kept.given_to.Goals as goal

@@ -3,7 +3,7 @@ use Rattle.semantics.specs.Entries.{Entry}
 use Rattle.semantics.specs.Engine.{Handled}
 use Rattle.semantics.specs.PeerAnswers.{IsAnswer}
 use Rattle.semantics.specs.Batches.{AreAnswers}
-use Rattle.items.specs.Meanings.{reply_of, submitted_of}
+use Rattle.handling.specs.items.Meanings.{reply_of, submitted_of}
 use Rattle.command.specs.Answers.{Answered}
 use Rattle.engine.proofs.Filling.{answers_pop, answers_reversed}
 use Rattle.engine.proofs.writer.give.Goals as goal

@@ -4,10 +4,10 @@ use Rattle.std.proofs.lemmas.List.{length-map}
 use Rattle.ids.specs.Members.{is_member}
 use Rattle.semantics.specs.Entries.{IsEntryHistory, Peer}
 use Rattle.semantics.specs.Publication.{with_entry}
-use Rattle.operation.specs.declared.op.Op.{Op}
-use Rattle.operation.specs.Alone.{alone_fault_of_op}
-use Rattle.operation.specs.Meanings.{stamped_of}
-use Rattle.operation.proofs.PassedAlone.{width_alone}
+use Rattle.replica.specs.operation.declared.op.Op.{Op}
+use Rattle.replica.specs.operation.Alone.{alone_fault_of_op}
+use Rattle.replica.specs.operation.Meanings.{stamped_of}
+use Rattle.replica.proofs.operation.PassedAlone.{width_alone}
 use Rattle.replica.specs.Replicas.{Running, IsNextReady, next_of, replica_of}
 use Rattle.handling.proofs.Received.{member_alone}
 use Rattle.handling.proofs.Draining.{dropping_on, may_follow, has_room, appending_on, renamed, whole_where_none, whole_by_count}

@@ -3,8 +3,8 @@ use Rattle.semantics.specs.Entries.{stamped_entries}
 use Rattle.semantics.specs.Faults.{fault_of}
 use Rattle.semantics.specs.Making.{is_full}
 use Rattle.semantics.specs.Stamped.{Stamped}
-use Rattle.operation.specs.declared.op.Op.{Op}
-use Rattle.operation.specs.Meanings.{stamped_of}
+use Rattle.inbox.specs.operation.declared.op.Op.{Op}
+use Rattle.inbox.specs.operation.Meanings.{stamped_of}
 use Rattle.replica.proofs.waiting.next_turn.Goals as goal
 
 -- where the history has room, the first ready one is next

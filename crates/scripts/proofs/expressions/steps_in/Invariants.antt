@@ -1,6 +1,6 @@
 -- What is left decides, after the steps so far.
 use Rattle.std.proofs.Common.{◌≡◌, ◌++◌, drop, map, Ok}
-use Rattle.cursor.specs.Meanings.{step_of}
+use Rattle.world.specs.cursor.Meanings.{step_of}
 use Rattle.serde_json.specs.View.{items_view}
 use Rattle.json_lines.specs.Forms.{and_then}
 use Rattle.scripts.specs.Expressions.{path_steps_of}

@@ -4,14 +4,14 @@ use Rattle.std.proofs.lemmas.List.{reverse-reverse}
 use Rattle.serde_json.specs.declared.value.Value.{Value}
 use Rattle.serde_json.specs.Data.{Data, array}
 use Rattle.serde_json.specs.View.{view, items_of}
-use Rattle.cursor.specs.Meanings.{tag_of}
-use Rattle.value.specs.Meanings.{scalar_of}
+use Rattle.world.specs.cursor.Meanings.{tag_of}
+use Rattle.world.specs.value.Meanings.{scalar_of}
 use Rattle.semantics.specs.Stamped.{Stamped}
-use Rattle.operation.specs.Meanings.{stamped_of}
-use Rattle.document.specs.Documents.{said_by}
-use Rattle.wire.specs.Operations.{operation_json, phrase}
+use Rattle.world.specs.operation.Meanings.{stamped_of}
+use Rattle.world.specs.document.Documents.{said_by}
+use Rattle.world.specs.wire.Operations.{operation_json, phrase}
 use Rattle.scripts.specs.Replies.{conflict_json, reading_json, row_json}
-use Rattle.wire.specs.Vectors.{count}
+use Rattle.world.specs.wire.Vectors.{count}
 use Rattle.scripts.proofs.readings.answer_value.Goals as goal
 
 mapped : {X Y Z : Type 0} (f : Y → Z) (g : X → Y) (xs : List X) → map (λ x. f (g x)) xs ≡ map f (map g xs)

@@ -1,6 +1,6 @@
 use Rattle.std.proofs.Common.{◌≡◌, map, take}
 use Rattle.serde_json.specs.View.{view}
-use Rattle.cursor.specs.Meanings.{tag_of}
+use Rattle.world.specs.cursor.Meanings.{tag_of}
 use Rattle.scripts.specs.Replies.{conflict_json}
 use Rattle.scripts.proofs.readings.conflicts_value.Given as goal
 

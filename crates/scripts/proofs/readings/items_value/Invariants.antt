@@ -1,6 +1,6 @@
 use Rattle.std.proofs.Common.{◌≡◌, map, take}
 use Rattle.serde_json.specs.View.{view}
-use Rattle.wire.specs.Operations.{id_json}
+use Rattle.world.specs.wire.Operations.{id_json}
 use Rattle.scripts.proofs.readings.items_value.Given as goal
 
 abbrev pub invariant-loop-id : goal.invariant-loop-id

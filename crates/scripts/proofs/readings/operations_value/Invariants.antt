@@ -1,7 +1,7 @@
 use Rattle.std.proofs.Common.{◌≡◌, map, take}
 use Rattle.serde_json.specs.View.{view}
-use Rattle.operation.specs.Meanings.{stamped_of}
-use Rattle.wire.specs.Operations.{operation_json}
+use Rattle.world.specs.operation.Meanings.{stamped_of}
+use Rattle.world.specs.wire.Operations.{operation_json}
 use Rattle.scripts.proofs.readings.operations_value.Given as goal
 
 abbrev pub invariant-loop-op : goal.invariant-loop-op

@@ -1,6 +1,6 @@
 use Rattle.std.proofs.Common.{◌≡◌, map, take}
 use Rattle.serde_json.specs.View.{view}
-use Rattle.value.specs.Meanings.{scalar_of}
+use Rattle.world.specs.value.Meanings.{scalar_of}
 use Rattle.scripts.specs.Replies.{row_json}
 use Rattle.scripts.proofs.readings.values_value.Given as goal
 

@@ -2,7 +2,7 @@ use Rattle.std.proofs.Common.{◌≡◌, ℕ, ◌∙◌, List, [], ◌∷◌, le
 use Rattle.std.specs.Prelude.{slice_get}
 use Rattle.semantics.specs.LegalAnswer.{Asked}
 use Rattle.semantics.specs.World.{Ask, step_by}
-use Rattle.document.specs.Documents.{IsBeside, asked_of}
+use Rattle.world.specs.document.Documents.{IsBeside, asked_of}
 use Rattle.world.specs.Worlds.{tables_of}
 use Rattle.serde_json.specs.declared.value.Value.{Value}
 use Rattle.serde_json.specs.View.{view, items_view}

@@ -1,6 +1,6 @@
 use Rattle.std.proofs.Common.{ap, sym, ◌∙◌, ◌++◌, ◌∷◌, []}
 use Rattle.semantics.specs.Ids.{OpId}
-use Rattle.cursor.specs.declared.tag.Tag.{Tag}
+use Rattle.operation.specs.cursor.declared.tag.Tag.{Tag}
 use Rattle.tree.proofs.Answering.{take_next}
 use Rattle.tree.proofs.answer.copy_tags.Goals as goal
 

@@ -1,6 +1,6 @@
 use Rattle.std.proofs.Common.{ap, sym, ◌∙◌, ◌++◌, ◌∷◌, [], Some}
 use Rattle.semantics.specs.Ids.{OpId}
-use Rattle.value.specs.declared.value.Scalar.{Scalar}
+use Rattle.operation.specs.value.declared.value.Scalar.{Scalar}
 use Rattle.tree.proofs.Answering.{take_next}
 use Rattle.tree.proofs.answer.copy_values.Goals as goal
 

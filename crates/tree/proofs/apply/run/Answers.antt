@@ -3,9 +3,9 @@ use Rattle.std.specs.Prelude.{option_map}
 use Rattle.semantics.specs.Elements.{Item, is_under}
 use Rattle.semantics.specs.LegalHistory.{IsFormed}
 use Rattle.semantics.specs.Operations.{element_of, slot_of, target_in}
-use Rattle.value.specs.Meanings.{scalar_of, value_of as meaning_of}
+use Rattle.operation.specs.value.Meanings.{scalar_of, value_of as meaning_of}
 use Rattle.operation.specs.Meanings.{mutation_of}
-use Rattle.cursor.specs.Meanings.{hop_of, tag_of}
+use Rattle.operation.specs.cursor.Meanings.{hop_of, tag_of}
 use Rattle.tree.specs.Nodes.{context, node_at, register_room}
 use Rattle.tree.specs.Shown.{ShownBut}
 use Rattle.tree.specs.Writes.{RoomTo, end_of}

@@ -1,6 +1,6 @@
 use Rattle.std.proofs.Common.{refl, sym, ap, ◌∙◌, arith}
-use Rattle.cursor.specs.Meanings.{tag_of}
-use Rattle.value.specs.Meanings.{scalar_of}
+use Rattle.operation.specs.cursor.Meanings.{tag_of}
+use Rattle.operation.specs.value.Meanings.{scalar_of}
 use Rattle.columns.proofs.Beside.{indices_within}
 use Rattle.tree.specs.declared.node.Node.{Node}
 use Rattle.tree.specs.Nodes.{tagged, valued}

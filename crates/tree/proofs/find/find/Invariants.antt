@@ -3,7 +3,7 @@ use Rattle.std.specs.Prelude.{IfSome}
 use Rattle.semantics.specs.Elements.{Place}
 use Rattle.semantics.specs.DocumentAnswer.{visible_items}
 use Rattle.semantics.specs.Questions.{resolve, walk_from}
-use Rattle.cursor.specs.Meanings.{step_of}
+use Rattle.operation.specs.cursor.Meanings.{step_of}
 use Rattle.tree.specs.Nodes.{context}
 use Rattle.tree.specs.Walkers.{IsSpot}
 use Rattle.tree.proofs.find.find.Given as goal

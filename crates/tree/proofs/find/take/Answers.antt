@@ -4,8 +4,8 @@ use Rattle.semantics.specs.Elements.{Place}
 use Rattle.semantics.specs.Paths.{FieldKey}
 use Rattle.semantics.specs.DocumentAnswer.{visible_items}
 use Rattle.semantics.specs.Questions.{step_from}
-use Rattle.cursor.specs.declared.expression.Step.{Step}
-use Rattle.cursor.specs.Meanings.{step_of}
+use Rattle.operation.specs.cursor.declared.expression.Step.{Step}
+use Rattle.operation.specs.cursor.Meanings.{step_of}
 use Rattle.tree.specs.Nodes.{context}
 use Rattle.tree.specs.Walkers.{IsSpot}
 use Rattle.tree.proofs.Finding.{at_child, child_inside}

@@ -1,7 +1,7 @@
 use Rattle.std.proofs.Common.{◌<◌, refl, sym, subst, OnOk, set}
 use Rattle.std.specs.Prelude.{slice_get}
 use Rattle.semantics.specs.Paths.{FieldKey, ItemKey}
-use Rattle.cursor.specs.Meanings.{hop_of}
+use Rattle.operation.specs.cursor.Meanings.{hop_of}
 use Rattle.tree.specs.declared.node.Node.{Node}
 use Rattle.tree.specs.Nodes.{child_room}
 use Rattle.tree.proofs.ListReads.{get_same}

@@ -5,8 +5,8 @@ use Rattle.std.proofs.lemmas.List.{length-map}
 use Rattle.semantics.specs.DocumentAnswer.{is_any}
 use Rattle.semantics.specs.Elements.{Element, Item, AsList, is_same}
 use Rattle.semantics.specs.Context.{Context, clear}
-use Rattle.value.specs.Meanings.{scalar_of}
-use Rattle.cursor.specs.Meanings.{hop_of, tag_of}
+use Rattle.operation.specs.value.Meanings.{scalar_of}
+use Rattle.operation.specs.cursor.Meanings.{hop_of, tag_of}
 use Rattle.tree.specs.Nested.{IsNested}
 use Rattle.tree.specs.Nodes.{context, number, node_in, presence_of, presence_room, register_room}
 use Rattle.tree.specs.Writes.{deps_of, end_of, entered, mark, registered}

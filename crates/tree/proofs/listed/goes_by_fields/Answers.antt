@@ -1,8 +1,8 @@
 use Rattle.std.proofs.Common.{map, take, sym, subst}
 use Rattle.std.specs.Prelude.{IsTrue}
 use Rattle.semantics.specs.Paths.{child}
-use Rattle.cursor.specs.declared.hop.Hop.{Hop}
-use Rattle.cursor.specs.Meanings.{hop_of}
+use Rattle.operation.specs.cursor.declared.hop.Hop.{Hop}
+use Rattle.operation.specs.cursor.Meanings.{hop_of}
 use Rattle.tree.specs.Trees.{items_stand}
 use Rattle.tree.specs.Writes.{end_of}
 use Rattle.tree.proofs.Hops.{end_more}

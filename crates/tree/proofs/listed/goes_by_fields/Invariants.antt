@@ -1,7 +1,7 @@
 use Rattle.std.proofs.Common.{map, take}
 use Rattle.std.specs.Prelude.{IsTrue}
 use Rattle.semantics.specs.Context.{Context}
-use Rattle.cursor.specs.Meanings.{hop_of}
+use Rattle.operation.specs.cursor.Meanings.{hop_of}
 use Rattle.tree.specs.Trees.{items_stand}
 use Rattle.tree.specs.Writes.{end_of}
 use Rattle.tree.proofs.listed.goes_by_fields.Given as goal

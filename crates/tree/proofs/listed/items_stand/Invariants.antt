@@ -1,5 +1,5 @@
 use Rattle.std.proofs.Common.{map, take}
-use Rattle.cursor.specs.Meanings.{hop_of}
+use Rattle.operation.specs.cursor.Meanings.{hop_of}
 use Rattle.tree.specs.Writes.{end_of}
 use Rattle.tree.proofs.StandingItems.{StandsSo}
 use Rattle.tree.proofs.listed.items_stand.Given as goal

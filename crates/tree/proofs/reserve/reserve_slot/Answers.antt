@@ -1,7 +1,7 @@
 use Rattle.std.proofs.Common.{◌≡◌, map, None, sym, ap, ◌∙◌}
 use Rattle.semantics.specs.Operations.{slot_of, value_of}
-use Rattle.value.specs.Meanings.{value_of as meaning_of}
-use Rattle.cursor.specs.Meanings.{hop_of}
+use Rattle.operation.specs.value.Meanings.{value_of as meaning_of}
+use Rattle.operation.specs.cursor.Meanings.{hop_of}
 use Rattle.operation.specs.Meanings.{mutation_of}
 use Rattle.tree.proofs.Slots.{slot_of_any}
 use Rattle.tree.proofs.Reserved.{if_ok_three, place_ready}

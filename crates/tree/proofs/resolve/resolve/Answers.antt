@@ -3,7 +3,7 @@ use Rattle.ids.specs.declared.refusal.Refusal.{Refusal}
 use Rattle.ids.specs.declared.refusal.Refusal.TheVariants.{NoMemory}
 use Rattle.semantics.specs.DocumentAnswer.{visible_items}
 use Rattle.semantics.specs.Questions.{resolve, step_from, walk_from}
-use Rattle.cursor.specs.Meanings.{step_of}
+use Rattle.operation.specs.cursor.Meanings.{step_of}
 use Rattle.tree.specs.Nodes.{context}
 use Rattle.tree.specs.Walkers.{stand_of}
 use Rattle.tree.proofs.Walking.{if_err, if_ok, placed, walked_next, walked_to_end}

@@ -1,7 +1,7 @@
 use Rattle.std.proofs.Common.{◌≡◌, map, drop, Ok}
 use Rattle.semantics.specs.DocumentAnswer.{visible_items}
 use Rattle.semantics.specs.Questions.{resolve, walk_from}
-use Rattle.cursor.specs.Meanings.{step_of}
+use Rattle.operation.specs.cursor.Meanings.{step_of}
 use Rattle.tree.specs.Nodes.{context}
 use Rattle.tree.specs.Walkers.{IsWalking, stand_of}
 use Rattle.tree.proofs.resolve.resolve.Given as goal

@@ -1,7 +1,7 @@
 use Rattle.std.proofs.Common.{◌≡◌, ◌||◌, Some, None, false, map, ap, sym, ◌∙◌}
 use Rattle.semantics.specs.Elements.{Element, Item, is_same}
 use Rattle.semantics.specs.Paths.{ItemKey}
-use Rattle.cursor.specs.Meanings.{hop_of}
+use Rattle.operation.specs.cursor.Meanings.{hop_of}
 use Rattle.tree.specs.Nodes.{next_number, number}
 use Rattle.tree.specs.Writes.{end_of}
 use Rattle.tree.proofs.Showing.{but_lost, but_none, flags_number, flags_trans, new_parts}

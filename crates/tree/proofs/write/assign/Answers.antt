@@ -1,7 +1,7 @@
 use Rattle.std.proofs.Common.{◌≡◌, ◌<◌, ◌||◌, false, map, sym, ap, ◌∙◌, arith, Some, subst}
 use Rattle.std.specs.Prelude.{option_map}
-use Rattle.value.specs.Meanings.{scalar_of}
-use Rattle.cursor.specs.Meanings.{hop_of, tag_of}
+use Rattle.operation.specs.value.Meanings.{scalar_of}
+use Rattle.operation.specs.cursor.Meanings.{hop_of, tag_of}
 use Rattle.semantics.specs.Elements.{Item, is_same}
 use Rattle.tree.specs.Nodes.{context, number, node_in, register_room}
 use Rattle.tree.specs.Writes.{end_of, registered, mark, entered}

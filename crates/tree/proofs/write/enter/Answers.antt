@@ -1,7 +1,7 @@
 use Rattle.std.proofs.Common.{◌≡◌, Some, sym, ap, ◌∙◌}
 use Rattle.semantics.specs.Elements.{Field, Name}
 use Rattle.semantics.specs.Paths.{FieldKey}
-use Rattle.cursor.specs.Meanings.{hop_of}
+use Rattle.operation.specs.cursor.Meanings.{hop_of}
 use Rattle.tree.specs.Nodes.{child_number, number, context}
 use Rattle.tree.specs.Writes.{entered_by, name_at}
 use Rattle.tree.proofs.Shape.{number_child, number_same}

@@ -4,7 +4,7 @@ use Rattle.std.specs.Prelude.{IsSome}
 use Rattle.std.proofs.lemmas.List.{take_all, length-map}
 use Rattle.semantics.specs.Elements.{depth}
 use Rattle.semantics.specs.Paths.{Key, child}
-use Rattle.cursor.specs.Meanings.{hop_of, tag_of}
+use Rattle.operation.specs.cursor.Meanings.{hop_of, tag_of}
 use Rattle.tree.specs.Nodes.{number, context, node_in, presence_room}
 use Rattle.tree.specs.Writes.{end_of, entered, entered_by, mark}
 use Rattle.tree.proofs.Shape.{number_child, number_same, tree_same, links_trans, number_inside}

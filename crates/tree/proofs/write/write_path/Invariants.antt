@@ -1,7 +1,7 @@
 use Rattle.std.proofs.Common.{◌≡◌, ◌<◌, ◌≤◌, ℕ, length, map, take, Some}
 use Rattle.std.specs.Prelude.{slice_get}
 use Rattle.semantics.specs.Elements.{Element, depth}
-use Rattle.cursor.specs.Meanings.{hop_of}
+use Rattle.operation.specs.cursor.Meanings.{hop_of}
 use Rattle.tree.specs.Nodes.{AreBeside, SameLinks, number, node_at, context, presence_room, register_room}
 use Rattle.tree.specs.Writes.{end_of, entered}
 use Rattle.tree.proofs.write.write_path.Given as goal

@@ -1,6 +1,6 @@
 -- The parts so far and those of the hops that are left are all; so is the last key.
 use Rattle.std.proofs.Common.{◌≡◌, ◌++◌, drop, map}
-use Rattle.cursor.specs.Meanings.{hop_of}
+use Rattle.operation.specs.cursor.Meanings.{hop_of}
 use Rattle.serde_json.specs.View.{view}
 use Rattle.wire.specs.Operations.{last_from, parts_from, root_json}
 use Rattle.wire.specs.Sent.{AreTypedKeys}

@@ -2,7 +2,7 @@ use Rattle.std.proofs.Common.{◌≡◌, Err, List, [], ◌∷◌, map, sym, ap,
 use Rattle.std.specs.Vec.Iter.{into_iter_items}
 use Rattle.semantics.specs.Elements.{Doc, Place}
 use Rattle.semantics.specs.Paths.{down}
-use Rattle.cursor.specs.Meanings.{hop_of}
+use Rattle.operation.specs.cursor.Meanings.{hop_of}
 use Rattle.json_lines.specs.Forms.{IsOrNoMemory}
 use Rattle.wire.specs.declared.places.Part.{Part}
 use Rattle.wire.specs.declared.places.WrittenKey.{WrittenKey}

@@ -10,7 +10,7 @@ use Rattle.semantics.specs.Vectors.{Vector}
 use Rattle.semantics.specs.Tables.{by_table, component}
 use Rattle.serde_json.specs.declared.value.Value.{Value}
 use Rattle.serde_json.specs.View.{view, items_view}
-use Rattle.version.proofs.TableColumns.{component-raised, component-zeros}
+use Rattle.operation.proofs.version.TableColumns.{component-raised, component-zeros}
 use Rattle.json_lines.specs.Forms.{and_then}
 use Rattle.wire.specs.Vectors.{next_of, pair_form, pairs_above}
 use Rattle.wire.proofs.ReadVectors.{by_table-more, by_table-zeros, none_above}

@@ -5,9 +5,9 @@ use Rattle.serde_json.specs.Data.{Data}
 use Rattle.semantics.specs.Elements.{Place, At, HeadOf}
 use Rattle.semantics.specs.Operations.{element_of}
 use Rattle.semantics.specs.Paths.{keys_from_root}
-use Rattle.cursor.specs.Meanings.{hop_of}
-use Rattle.cursor.specs.Places.{is_head}
-use Rattle.cursor.specs.declared.hop.Hop.{Hop}
+use Rattle.operation.specs.cursor.Meanings.{hop_of}
+use Rattle.operation.specs.cursor.Places.{is_head}
+use Rattle.operation.specs.cursor.declared.hop.Hop.{Hop}
 use Rattle.wire.specs.Operations.{last_from, last_json, parts_from, parts_of, root_json}
 use Rattle.wire.specs.Writing.{key_before, key_of, tokens_of, tokens_of_all}
 use Rattle.wire.proofs.writing.put_place.Goals as goal

@@ -7,8 +7,8 @@ use Rattle.std.proofs.lemmas.List.Elements.{All-push}
 use Rattle.semantics.specs.Stamped.{Stamped}
 use Rattle.semantics.specs.Faults.{is_of_members}
 use Rattle.semantics.specs.PeerSteps.{before_stranger, stranger_fault}
-use Rattle.operation.specs.declared.op.Op.{Op}
-use Rattle.operation.specs.Meanings.{stamped_of}
+use Rattle.handling.specs.operation.declared.op.Op.{Op}
+use Rattle.handling.specs.operation.Meanings.{stamped_of}
 use Rattle.world.proofs.BeforeStrangers.{before-member, before-none, fault-member, fault-stranger}
 use Rattle.world.proofs.naming.ops_beside.Goals as goal
 

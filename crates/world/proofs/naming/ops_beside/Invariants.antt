@@ -2,7 +2,7 @@
 use Rattle.std.proofs.Common.{◌≡◌, ◌++◌, drop, map, length}
 use Rattle.std.specs.List.{All}
 use Rattle.semantics.specs.PeerSteps.{before_stranger, stranger_fault}
-use Rattle.operation.specs.Meanings.{stamped_of}
+use Rattle.handling.specs.operation.Meanings.{stamped_of}
 use Rattle.world.proofs.naming.ops_beside.Given as goal
 
 abbrev pub invariant-loop-op : goal.invariant-loop-op

@@ -8,7 +8,7 @@ use Rattle.ids.specs.Members.{is_member}
 use Rattle.semantics.specs.Ids.{OpId, id_at}
 use Rattle.semantics.specs.Vectors.{Vector}
 use Rattle.semantics.specs.Tables.{by_table, component}
-use Rattle.version.proofs.TableColumns.{component-raised, component-zeros}
+use Rattle.handling.proofs.version.TableColumns.{component-raised, component-zeros}
 use Rattle.wire.proofs.ReadVectors.{by_table-zeros}
 use Rattle.wire.proofs.ListedVectors.{listed_some, listed_zero}
 use Rattle.world.proofs.BesideVectors.{IsNoneFrom, IsRaised, all_of-by_table, named_next, none_later, none_raised, not_all_of}

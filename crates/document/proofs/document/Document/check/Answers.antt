@@ -1,5 +1,5 @@
-use Rattle.operation.specs.Meanings.{stamped_of}
-use Rattle.operation.proofs.PassedAlone.{passed_alone}
+use Rattle.oplog.specs.operation.Meanings.{stamped_of}
+use Rattle.oplog.proofs.operation.PassedAlone.{passed_alone}
 use Rattle.document.proofs.ReceivedFaults.{lawful}
 use Rattle.document.proofs.document.Document.check.Goals as goal
 

@@ -4,12 +4,12 @@ use Rattle.semantics.specs.Context.{apply}
 use Rattle.semantics.specs.Entries.{stamped_in}
 use Rattle.semantics.specs.Tables.{component}
 use Rattle.semantics.specs.Stamped.{Stamped, loose_operation}
-use Rattle.operation.specs.declared.command.Entry.{Entry}
-use Rattle.operation.specs.declared.op.Op.{Op}
-use Rattle.operation.specs.Meanings.{entry_of, stamped_of}
+use Rattle.oplog.specs.operation.declared.command.Entry.{Entry}
+use Rattle.oplog.specs.operation.declared.op.Op.{Op}
+use Rattle.oplog.specs.operation.Meanings.{entry_of, stamped_of}
 use Rattle.tree.specs.Trees.{IsPlaced, document}
 use Rattle.document.specs.Documents.{Contents, MayFollowEntries}
-use Rattle.version.proofs.TableColumns.{component-raised}
+use Rattle.oplog.proofs.version.TableColumns.{component-raised}
 use Rattle.semantics.proofs.AbsentIds.{fresh}
 use Rattle.document.proofs.Consistent.{fits, kept_next}
 use Rattle.document.proofs.document.Document.commit.Goals as goal

@@ -1,8 +1,8 @@
 use Rattle.std.proofs.Common.{◌≡◌, ◌-◌, ◌<◌, Some, None, length, slice_get, sym, ap, ◌∙◌, refl, rules}
 use Rattle.std.specs.Option.{IfSome}
 use Rattle.semantics.specs.PeerAnswers.{IsAnswer}
-use Rattle.items.specs.declared.item.Item.{Item}
-use Rattle.items.specs.Meanings.{reply_of, submitted_of}
+use Rattle.handling.specs.items.declared.item.Item.{Item}
+use Rattle.handling.specs.items.Meanings.{reply_of, submitted_of}
 use Rattle.command.specs.Answers.{Given}
 use Rattle.engine.specs.Clients.{Client, items_by}
 use Rattle.engine.proofs.Asking.{kept_at, item_at}

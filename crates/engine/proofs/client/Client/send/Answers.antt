@@ -1,7 +1,7 @@
 use Rattle.std.proofs.Common.{◌≡◌, None, length, ap, ◌∙◌, rules}
 use Rattle.std.specs.Arc.{arc_value}
 use Rattle.crossbeam_queue.specs.Passes.{ruled_capacity}
-use Rattle.items.specs.declared.item.Item.{Item}
+use Rattle.handling.specs.items.declared.item.Item.{Item}
 use Rattle.engine.specs.Clients.{Client}
 use Rattle.engine.proofs.Sending.{next_item, as_next, keeps_next, sent_one}
 use Rattle.engine.proofs.client.Client.send.Goals as goal

@@ -1,8 +1,8 @@
 use Rattle.std.proofs.Common.{◌≡◌, Some, List, refl, sym, ap, ◌∙◌, subst}
 use Rattle.semantics.specs.Entries.{Entry}
 use Rattle.semantics.specs.PeerAnswers.{IsAnswer}
-use Rattle.items.specs.declared.item.Item.{Item}
-use Rattle.items.specs.Meanings.{reply_of, submitted_of}
+use Rattle.handling.specs.items.declared.item.Item.{Item}
+use Rattle.handling.specs.items.Meanings.{reply_of, submitted_of}
 use Rattle.engine.specs.Clients.{Keeps, answer_in}
 use Rattle.engine.proofs.Asking.{answer_found}
 use Rattle.engine.proofs.kept.Kept.look.Goals as goal

@@ -1,7 +1,7 @@
 use Rattle.std.proofs.Common.{◌≡◌, ◌∙◌, refl, ap, subst}
 use Rattle.semantics.specs.PeerAnswers.{IsAnswer}
-use Rattle.items.specs.declared.item.Item.{Item}
-use Rattle.items.specs.Meanings.{reply_of, submitted_of}
+use Rattle.handling.specs.items.declared.item.Item.{Item}
+use Rattle.handling.specs.items.Meanings.{reply_of, submitted_of}
 use Rattle.engine.specs.Clients.{Keeps}
 use Rattle.engine.proofs.kept.Kept.notice.Goals as goal
 

@@ -1,7 +1,7 @@
 use Rattle.std.proofs.Common.{◌≡◌, sym, ◌∙◌, Bor, Option, Some, None, option_copied}
 use Rattle.std.specs.Prelude.{IfNone}
 use Rattle.semantics.specs.LegalHistory.{IsAmong}
-use Rattle.operation.specs.declared.op.Op.{Op}
+use Rattle.document.specs.operation.declared.op.Op.{Op}
 use Rattle.inbox.proofs.KeyedOps.{found, not_found, some_of}
 use Rattle.inbox.proofs.inbox.Inbox.get.Goals as goal
 

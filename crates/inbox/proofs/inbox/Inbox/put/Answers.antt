@@ -3,7 +3,7 @@ use Rattle.std.specs.FinMap.{put}
 use Rattle.semantics.specs.Ids.{id_cmp}
 use Rattle.semantics.specs.LegalHistory.{IsAmong}
 use Rattle.semantics.specs.Delivery.{is_waiting}
-use Rattle.operation.specs.declared.op.Op.{Op}
+use Rattle.document.specs.operation.declared.op.Op.{Op}
 use Rattle.slab.specs.Slab.{Updates}
 use Rattle.inbox.specs.Awaiting.{IsEntered}
 use Rattle.inbox.specs.Inboxes.{waiting_in}

@@ -1,6 +1,6 @@
 use Rattle.std.proofs.Common.{◌≡◌, ◌∙◌, ap, sym, subst}
 use Rattle.semantics.specs.LegalHistory.{IsAmong}
-use Rattle.operation.specs.declared.op.Op.{Op}
+use Rattle.document.specs.operation.declared.op.Op.{Op}
 use Rattle.inbox.specs.Awaiting.{IsForgotten}
 use Rattle.inbox.proofs.KeptOps.{IsWithout, none_out, taken_out}
 use Rattle.inbox.proofs.KeyedOps.{IsFound, found, is_there, not_found}

@@ -2,7 +2,7 @@ use Rattle.std.proofs.Common.{◌≡◌, not, is_some, refl, sym, ap, ◌∙◌}
 use Rattle.std.specs.FinMap.{find}
 use Rattle.std.specs.FinMap.Entries.{where_key}
 use Rattle.semantics.specs.Ids.{id_cmp, is_same_id}
-use Rattle.operation.specs.declared.op.Op.{Op}
+use Rattle.document.specs.operation.declared.op.Op.{Op}
 use Rattle.inbox.proofs.KeptAwaits.{unblocked}
 use Rattle.inbox.proofs.waits.Waits.forget.Goals as goal
 

@@ -1,6 +1,6 @@
 use Rattle.std.proofs.Common.{◌≡◌, ◌≤◌, ap, subst, arith, length, List}
 use mathlib.Core.List.{IsPrefix}
-use Rattle.operation.specs.declared.command.Entry.{Entry}
+use Rattle.document.specs.operation.declared.command.Entry.{Entry}
 use Rattle.published.specs.Beginnings.{Beginning}
 use Rattle.published.proofs.Prefixes.{prefix_shorter}
 use Rattle.published.proofs.book.Point.compare.Goals as goal

@@ -1,8 +1,8 @@
 use Rattle.std.proofs.Common.{◌≡◌, List, ◌∷◌, ◌++◌, [], drop, MatchBool, IsFalse, ap, sym, ◌∙◌, subst}
 use Rattle.semantics.specs.Making.{is_full}
 use Rattle.semantics.specs.Entries.{Entry as TheEntry, IsEntryHistory}
-use Rattle.operation.specs.Meanings.{entry_of}
-use Rattle.oplog.specs.Logs.{history}
+use Rattle.document.specs.operation.Meanings.{entry_of}
+use Rattle.document.specs.oplog.Logs.{history}
 use Rattle.published.specs.Beginnings.{Beginning}
 use Rattle.published.specs.Copies.{Pending}
 use Rattle.semantics.specs.Publication.{Publication}

@@ -1,7 +1,7 @@
 use Rattle.std.proofs.Common.{IsTrue, subst, sym}
 use Rattle.ids.specs.Members.{is_member}
 use Rattle.semantics.specs.Entries.{IsAbove}
-use Rattle.operation.specs.Meanings.{command_of, stamped_of}
+use Rattle.inbox.specs.operation.Meanings.{command_of, stamped_of}
 use Rattle.replica.specs.Replicas.{Running, IsMade}
 use Rattle.replica.proofs.OwnEntries.{made_by, may_append, own_appended}
 use Rattle.replica.proofs.replica.Replica.commit_own.Goals as goal

@@ -2,9 +2,9 @@ use Rattle.std.proofs.Common.{◌≡◌, None, false, sym, ap, ◌∙◌, subst}
 use Rattle.semantics.specs.Entries.{applied}
 use Rattle.semantics.specs.LegalHistory.{has_id}
 use Rattle.semantics.specs.Delivery.{Kept as IsKept, answer_to_new, is_waiting}
-use Rattle.operation.specs.declared.op.Op.{Op}
-use Rattle.operation.specs.Alone.{alone_fault_of_op}
-use Rattle.operation.specs.Meanings.{stamped_of}
+use Rattle.inbox.specs.operation.declared.op.Op.{Op}
+use Rattle.inbox.specs.operation.Alone.{alone_fault_of_op}
+use Rattle.inbox.specs.operation.Meanings.{stamped_of}
 use Rattle.inbox.specs.Inboxes.{waiting_in}
 use Rattle.replica.specs.Replicas.{replica_with}
 use Rattle.replica.proofs.KeptOperations.{after_put}

@@ -3,7 +3,7 @@ use Rattle.std.proofs.lemmas.List.{length-map}
 use Rattle.semantics.specs.Replica.{Replica, IsRunning}
 use Rattle.semantics.specs.Drain.{counted, IsDrained, drain, drain_for}
 use Rattle.semantics.proofs.Drained.{drained}
-use Rattle.operation.specs.Meanings.{stamped_of}
+use Rattle.inbox.specs.operation.Meanings.{stamped_of}
 use Rattle.replica.specs.Replicas.{Running, IsReplica, next_of, replica_of}
 use Rattle.replica.proofs.Turns.{count_stays, counted_for, ended, ended_by_count}
 use Rattle.replica.proofs.replica.Replica.drain.Goals as goal

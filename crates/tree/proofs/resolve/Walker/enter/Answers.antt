@@ -1,11 +1,11 @@
 use Rattle.std.proofs.Common.{◌≡◌, ◌++◌, ◌∷◌, [], List, map, sym, ap, ◌∙◌, arith}
 use Rattle.semantics.specs.Elements.{At}
 use Rattle.semantics.specs.Paths.{child}
-use Rattle.cursor.specs.declared.hop.Hop.{Hop}
-use Rattle.cursor.specs.Meanings.{hop_of}
-use Rattle.cursor.specs.Places.{depth_of, place_at}
-use Rattle.cursor.proofs.Below.{depth_below}
-use Rattle.cursor.proofs.RootPaths.{depth-child}
+use Rattle.operation.specs.cursor.declared.hop.Hop.{Hop}
+use Rattle.operation.specs.cursor.Meanings.{hop_of}
+use Rattle.operation.specs.cursor.Places.{depth_of, place_at}
+use Rattle.operation.proofs.cursor.Below.{depth_below}
+use Rattle.operation.proofs.cursor.RootPaths.{depth-child}
 use Rattle.tree.specs.Nodes.{next_number, number}
 use Rattle.tree.specs.Writes.{end_of}
 use Rattle.tree.proofs.Shape.{number_extend}
@@ -37,7 +37,7 @@ returns-clause-walking c =
       short =
           let d = ap depth_of (stands c) in
           let h = depth_below (At e)
-          (ap (λ b. Rattle.cursor.specs.Places.room_at (place_at (map hop_of w.hops.items) b)) (sym (no_head w c.requires.room))
+          (ap (λ b. Rattle.operation.specs.cursor.Places.room_at (place_at (map hop_of w.hops.items) b)) (sym (no_head w c.requires.room))
           ∙ c.requires.room) in
           let k = depth-child e (hop_of c.args.hop) in
           omega arith;

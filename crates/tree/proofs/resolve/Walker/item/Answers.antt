@@ -1,5 +1,5 @@
 use Rattle.std.proofs.Common.{map, ◌∙◌}
-use Rattle.cursor.specs.Meanings.{hop_of}
+use Rattle.operation.specs.cursor.Meanings.{hop_of}
 use Rattle.tree.specs.Writes.{end_of}
 use Rattle.tree.proofs.Shape.{number_inside}
 use Rattle.tree.proofs.resolve.Walker.item.Goals as goal

@@ -1,7 +1,7 @@
 use Rattle.std.proofs.Common.{map, ap, ◌∙◌}
 use Rattle.semantics.specs.Operations.{element_of}
 use Rattle.semantics.proofs.ElementPaths.{down-keys_from_root}
-use Rattle.cursor.specs.Meanings.{hop_of}
+use Rattle.operation.specs.cursor.Meanings.{hop_of}
 use Rattle.tree.specs.Nodes.{context}
 use Rattle.tree.specs.Trees.{items_stand}
 use Rattle.tree.specs.Writes.{end_of}

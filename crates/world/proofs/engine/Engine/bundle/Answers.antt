@@ -5,7 +5,7 @@ use Rattle.semantics.specs.Tables.{by_table}
 use Rattle.semantics.specs.Engine.{Message as TheMessage, Bundle as TheBundle, Outcome, SentBundle}
 use Rattle.semantics.specs.Stamped.{Stamped}
 use Rattle.semantics.specs.PeerSteps.{lacked}
-use Rattle.operation.specs.Meanings.{stamped_of}
+use Rattle.handling.specs.operation.Meanings.{stamped_of}
 use Rattle.world.specs.Engines.{message_of}
 use Rattle.world.proofs.AnsweredHellos.{answered-none, answered-foreign, answered-given, names_stranger}
 use Rattle.world.proofs.engine.Engine.bundle.Goals as goal

@@ -4,7 +4,7 @@ use Rattle.ids.specs.declared.refusal.Refusal.TheVariants.{NoMemory}
 use Rattle.semantics.specs.Stamped.{Stamped}
 use Rattle.semantics.specs.Engine.{Engine as TheEngine, Bundle}
 use Rattle.semantics.specs.PeerSteps.{before_stranger, stranger_fault}
-use Rattle.operation.specs.Meanings.{stamped_of}
+use Rattle.handling.specs.operation.Meanings.{stamped_of}
 use Rattle.world.specs.Engines.{message_of}
 use Rattle.world.proofs.ReachedWorlds.{reached_sound}
 use Rattle.world.proofs.SingleSteps.{read_mapped}

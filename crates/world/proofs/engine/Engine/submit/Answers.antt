@@ -5,7 +5,7 @@ use Rattle.std.proofs.lemmas.Option.{same_Some}
 use Rattle.semantics.specs.LegalAnswer.{Request, Submitted}
 use Rattle.semantics.specs.Engine.{Engine as TheEngine, Client as TheClient, Outcome, Ticket}
 use Rattle.semantics.specs.WriteSteps.{next_item, with_cell}
-use Rattle.items.specs.Meanings.{request_of, submitted_of}
+use Rattle.handling.specs.items.Meanings.{request_of, submitted_of}
 use Rattle.world.specs.Engines.{client_of}
 use Rattle.world.specs.contracts.engine.Engine.{the_view}
 use Rattle.world.proofs.SingleSteps.{set_itself}

@@ -13,9 +13,9 @@ use Rattle.semantics.proofs.GrownEngines.{grown_refl, grown_trans}
 use Rattle.semantics.proofs.SoundEngines.{IsSound}
 use Rattle.semantics.proofs.SoundReceiving.{submitted_all}
 use Rattle.semantics.proofs.SoundSubmitting.{pushed}
-use Rattle.operation.specs.declared.op.Op.{Op}
-use Rattle.operation.specs.Meanings.{stamped_of}
-use Rattle.items.specs.Meanings.{received_of}
+use Rattle.handling.specs.operation.declared.op.Op.{Op}
+use Rattle.handling.specs.operation.Meanings.{stamped_of}
+use Rattle.handling.specs.items.Meanings.{received_of}
 use Rattle.world.specs.Engines.{taken_or_denied}
 use Rattle.world.specs.Parts.{IsBetween}
 use Rattle.world.proofs.DrawnWaiting.{submits_wait, waits_still}

@@ -9,7 +9,7 @@ use Rattle.semantics.specs.LegalAnswer.{Submitted}
 use Rattle.semantics.specs.Engine.{Engine as TheEngine}
 use Rattle.semantics.specs.Replica.{IsRunning}
 use Rattle.semantics.proofs.SoundEngines.{IsSound}
-use Rattle.items.specs.Meanings.{submitted_of}
+use Rattle.handling.specs.items.Meanings.{submitted_of}
 use Rattle.world.specs.Engines.{client_of, handled_of}
 use Rattle.world.specs.Parts.{TakesInPart}
 use Rattle.world.specs.contracts.engine.Engine.{the_view}

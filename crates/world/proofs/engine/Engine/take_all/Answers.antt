@@ -1,7 +1,7 @@
 use Rattle.std.proofs.Common.{◌≡◌, ◌+◌, ◌-◌, List, [], ◌∷◌, length, map, refl, sym, ap, ◌∙◌, subst, arith, eqb-true}
 use Rattle.semantics.specs.Engine.{Engine}
 use Rattle.semantics.specs.WriteSteps.{take_for, take_item}
-use Rattle.items.specs.Meanings.{submitted_of}
+use Rattle.handling.specs.items.Meanings.{submitted_of}
 use Rattle.world.specs.Engines.{IsReachedEngine}
 use Rattle.world.proofs.ReachedWorlds.{reached_take}
 use Rattle.world.specs.Parts.{TakesInPart}

@@ -2,7 +2,7 @@ use Rattle.std.proofs.Common.{inl, inr, ap}
 use Rattle.semantics.specs.LegalAnswer.{Reply, Submitted}
 use Rattle.semantics.specs.Handling.{Handler, Handles}
 use Rattle.semantics.proofs.HandledAnswers.{handled}
-use Rattle.items.specs.Meanings.{reply_of, submitted_of}
+use Rattle.handling.specs.items.Meanings.{reply_of, submitted_of}
 use Rattle.handling.specs.Meanings.{handler_of}
 use Rattle.world.specs.Parts.{IsHandledInPart}
 use Rattle.world.proofs.engine.writer.handle.Goals as goal
