@@ -1,7 +1,7 @@
 //! A replica's history and its document, kept together.
 
 ghost use Rattle.std.specs.Prelude.{◌≡◌, ◌≤◌, ◌⊎◌, ◌↔◌, ◌∷◌, [], Ok, None, Some, true, IsTrue, IsFalse, IsOk, MatchResult, length, map};
-ghost use Rattle.std.specs.Prelude.{reverse, option_map, IfOk, IfSome, OnOk, IfErr, Err};
+ghost use Rattle.std.specs.Prelude.{reverse, IfOk, OnOk, IfErr, Err};
 ghost use Rattle.std.specs.List.{All};
 ghost use Rattle.ids.specs.declared.refusal.Refusal.TheVariants.{NoMemory, BadConfig};
 ghost use Rattle.ids.specs.Members.{in_order, is_member};
@@ -12,7 +12,7 @@ ghost use Rattle.semantics.specs.LegalHistory.{greatest_of, has_id};
 ghost use Rattle.semantics.specs.Stamped.{MayFollow};
 ghost use Rattle.semantics.specs.Faults.{fault_of, is_ready};
 ghost use Rattle.semantics.specs.Context.{doc};
-ghost use Rattle.semantics.specs.Entries.{applied, entry_at, missing, stamped_in, stamped_entries};
+ghost use Rattle.semantics.specs.Entries.{applied, missing, stamped_in, stamped_entries};
 ghost use Rattle.semantics.specs.DocumentAnswer.{visible_items};
 ghost use Rattle.semantics.specs.Questions.{resolve, Question as TheQuestion, Refused};
 ghost use Rattle.semantics.specs.LegalAnswer.{reading_of, Answered, OfDocument};
@@ -87,14 +87,6 @@ impl Document {
         ensures { result ≡ length self.now.entries }
     {
         self.log.len()
-    }
-
-    /// The entry at this position, where the oldest is at 0, or `None` past the end.
-    pub fn entry(&self, position: usize) -> Option<&Entry>
-        ensures entry { option_map (λ e. entry_of self.now.table e.now) result ≡ entry_at position self.now.entries }
-        ensures width { IfSome result (λ e. length (op_in e.now).deps ≡ length self.now.table) }
-    {
-        self.log.get(position)
     }
 
     /// The vector of all that was applied: the greatest counter of each replica, indexed by the table.

@@ -1,8 +1,7 @@
 //! The names of engines, and notices of what was published.
 
-ghost use Rattle.std.specs.Prelude.{◌≡◌, ◌≤◌, length};
+ghost use Rattle.std.specs.Prelude.{◌≡◌, length};
 ghost use Rattle.semantics.specs.Entries.{IsEntryHistory};
-ghost use Rattle.semantics.specs.WorldHistory.{BeginsWith};
 ghost use Rattle.document.specs.oplog.Logs.{history};
 
 use crate::book::Point;
@@ -92,13 +91,5 @@ impl<N: EngineName> Notice<N> {
             point: self.point.again(),
             of: PhantomData,
         }
-    }
-
-    /// Does nothing: its contract says that the two are beginnings of one history, the shorter of the longer.
-    pub fn compare(&self, other: &Notice<N>)
-        ensures shorter { length self.now ≤ length other.now → BeginsWith other.now self.now }
-        ensures longer { length other.now ≤ length self.now → BeginsWith self.now other.now }
-    {
-        self.point.compare(&other.point);
     }
 }

@@ -120,33 +120,6 @@ impl VersionVector {
             &mut ids.mask,
         );
     }
-
-    /// Keeps, in order, the ids that the vector doesn't cover, and of a second list the values at the same positions. Takes no memory.
-    pub fn keep_uncovered_beside<T: Drop>(&self, ids: &mut IdColumns, beside: &mut Rings<T>)
-        requires within { All (λ id. id.1 < length self.now) ids.old.ids }
-        requires length { length beside.old.items ≡ length ids.old.ids }
-        ensures ids { ids.new.ids ≡ items_where_true (uncovered self.now ids.old.ids) ids.old.ids }
-        ensures beside { beside.new.items ≡ items_where_true (uncovered self.now ids.old.ids) beside.old.items }
-        ensures room { ids.old.room ≤ ids.new.room }
-        ensures room_beside { beside.old.room ≤ beside.new.room }
-    {
-        ids.counters.straighten();
-        ids.indices.straighten();
-        mark_uncovered(
-            self,
-            ids.counters.as_slice(),
-            ids.indices.as_slice(),
-            &mut ids.bounds,
-            &mut ids.mask,
-        );
-        keep_marked(beside, &ids.mask);
-        keep_ids(
-            &mut ids.counters,
-            &mut ids.indices,
-            &mut ids.bounds,
-            &mut ids.mask,
-        );
-    }
 }
 
 /// Sets the bit of each id that the vector doesn't cover, and clears the others. The ids are given as two columns; the bounds are

@@ -4,7 +4,6 @@ ghost use Rattle.std.specs.Prelude.{◌≡◌, ◌<◌, length, IfOk};
 ghost use Rattle.std.specs.List.{All};
 
 use fixtures::vector;
-use rings::Rings;
 use std::alloc::Global;
 use std::process::Abort;
 use std::test::Fail;
@@ -236,7 +235,7 @@ fn ids_go_where_they_are_put(rt: HostRuntime) -> Result<(), Fail> {
 }
 
 /// Asserts which of the given ids are kept where the vector has these counters.
-fn assert_kept_alone(
+fn assert_kept(
     rt: &impl Abort,
     alloc: Global,
     given: &[Id],
@@ -246,36 +245,6 @@ fn assert_kept_alone(
     let vector = vector(alloc, counters)?;
     let mut ids = columns(alloc, 2, given)?;
     vector.keep_uncovered(&mut ids);
-    assert_ids(rt, &ids, want);
-    Ok(())
-}
-
-/// These ids in rings, each put at the end.
-fn in_rings(alloc: Global, given: &[Id]) -> Result<Rings<Id>, Fail> {
-    let mut ids = Rings::new(alloc);
-    for id in given {
-        ids.reserve_one()?;
-        let end = ids.len();
-        ids.insert(end, *id);
-    }
-    Ok(ids)
-}
-
-/// Asserts that the values at their positions are kept too.
-fn assert_kept_beside(
-    rt: &impl Abort,
-    alloc: Global,
-    given: &[Id],
-    counters: &[u64; 2],
-    want: &[Id],
-) -> Result<(), Fail> {
-    let vector = vector(alloc, counters)?;
-    let mut ids = columns(alloc, 2, given)?;
-    let mut beside = in_rings(alloc, given)?;
-    assert_eq!(rt; ids.len(), beside.len());
-    vector.keep_uncovered_beside(&mut ids, &mut beside);
-    beside.straighten();
-    assert_eq!(rt; beside.as_slice(), want, "by {counters:?}");
     assert_ids(rt, &ids, want);
     Ok(())
 }
@@ -293,8 +262,7 @@ fn covered_ids_go(rt: HostRuntime) -> Result<(), Fail> {
         (&[(7, 1), (2, 0), (7, 0)], [6, 7], &[(7, 0)]),
     ];
     for (given, counters, want) in ROWS {
-        assert_kept_alone(&rt, rt.alloc(), given, counters, want)?;
-        assert_kept_beside(&rt, rt.alloc(), given, counters, want)?;
+        assert_kept(&rt, rt.alloc(), given, counters, want)?;
     }
     Ok(())
 }
