@@ -1,5 +1,6 @@
 -- The pairs of a column indexed by a table whose numbers rise, one index after the other.
-use Rattle.std.proofs.Common.{◌≡◌, ◌<◌, ◌≤◌, ℕ, zero, suc, Bool, true, false, nat_lt, cond, ◌==◌, max, min, List, [], ◌∷◌, length, get_or, drop, Some}
+use Rattle.std.proofs.Common.{◌≡◌, ◌<◌, ◌≤◌, ℕ, zero, suc, Bool, true, false, nat_lt, cond, ◌==◌, max, min, List, [], ◌∷◌, length, get_or}
+use Rattle.std.proofs.Common.{drop, Some}
 use Rattle.std.proofs.Common.{None, refl, ap, ◌∙◌, arith, slice_get}
 use Rattle.std.proofs.lemmas.Bool.{lt-ltb, ne_eqb}
 use Rattle.ids.specs.Tables.{AreRising, IsBelowAll}

@@ -55,7 +55,8 @@ counted (p ∷ ps) (c ∷ cs) h = at_test (c == 0) refl (counted ps cs (omega (a
 
 pub tested_sent : (table : List ℕ) (o : Op)
     → (is_member table o.id.replica && items_of_members table (element_of o.place)) ≡ true
-    → (is_counter o.id.counter && nat_le (greatest_in o.deps) most_counter && list_all key_counted (keys_from_root (element_of o.place))) ≡ true
+    → (is_counter o.id.counter && nat_le (greatest_in o.deps) most_counter && list_all key_counted (keys_from_root (element_of o.place)))
+    ≡ true
     → CanBeSent table (stamped_of table o)
 tested_sent table o names counts =
     let own = is_member table o.id.replica in

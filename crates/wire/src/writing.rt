@@ -12,7 +12,8 @@ ghost use Rattle.wire.specs.Messages.{op_line};
 ghost use Rattle.wire.specs.Operations.{entered_json, id_json, last_from, last_json, mutation_json, operation_json, parts_from};
 ghost use Rattle.wire.specs.Operations.{path_json, phrase, root_json};
 ghost use Rattle.wire.specs.Reading.{op_form};
-ghost use Rattle.wire.specs.Sent.{AreReplicaNumbers, AreTypedKeys, CanBeSent, IsReplicaNumber, IsSent, IsSentMutation, IsTypedKey, IsTypedPlace};
+ghost use Rattle.wire.specs.Sent.{AreReplicaNumbers, AreTypedKeys, CanBeSent, IsReplicaNumber, IsSent, IsSentMutation, IsTypedKey};
+ghost use Rattle.wire.specs.Sent.{IsTypedPlace};
 ghost use Rattle.wire.specs.Vectors.{pair_json, vector_json};
 ghost use Rattle.wire.specs.Writing.{IsWritten, key_before, key_of, tokens_of, tokens_of_all};
 

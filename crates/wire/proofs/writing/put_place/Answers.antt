@@ -48,7 +48,8 @@ returns-clause-json c =
     on_ok_weaker c.put_key.result (λ w. record {
       tokens =
           w.tokens
-          ∙ both old first parts closed begin_array end_array (tokens_of_all (parts_from root_json (map hop_of hops) ++ [])) (tokens_of here)
+          ∙ both old first parts closed begin_array end_array (tokens_of_all (parts_from root_json (map hop_of hops) ++ []))
+          (tokens_of here)
           opened written is
           ∙ (λ i. old ++ begin_array ∷ (tokens_of_all (all i) ++ tokens_of (own i)));
       before = w.before ∙ kept;
