@@ -1,53 +1,123 @@
 #!/usr/bin/env python3
-"""Tests that the names which documents cite are there: laws and contracts as `file::function` or `Type::method`, definitions as
-`Module.word`, and in docs/BEHAVIOURS.md and docs/RULES.md tests and wrong edits, each with its crate. Says how many are missing, and
-fails if any is.
+"""Tests that the names which pages cite are there: in README.md, docs/*.md and the READMEs of crates
+
+- laws and functions as `file::function` or `crate::function`, methods and fields as `Type::name`, definitions as `Module.word` or
+  `crate.Module.word`;
+- clauses as `function.clause`, and in the tables of docs/PROVED.md and docs/PROMISES.md those that stand behind their function;
+- every other name of one word, which must be a word of some source, script or edit, or one of `ELSEWHERE`;
+- in docs/BEHAVIOURS.md and docs/RULES.md tests and wrong edits, each with its crate.
+
+CHANGELOG.md isn't read: it names what was there once. Says how many names are missing, and fails if any is.
 """
-import glob
-import pathlib
+import functools
 import re
 import sys
+from pathlib import Path
 
-TOP = pathlib.Path(__file__).resolve().parent.parent
-CITING = ["README.md", *(f"docs/{name}.md" for name in ("EMBEDDING", "RULES", "PROVED", "PROMISES", "BEHAVIOURS", "GLOSSARY", "ARCHITECTURE"))]
-# What is no definition though it looks like one: files.
-FILE_ENDINGS = {"md", "antt", "rt"}
+TOP = Path(__file__).resolve().parent.parent
+PAGES = [TOP / "README.md", *sorted(TOP.glob("docs/*.md")), *sorted(TOP.glob("crates/*/README.md"))]
+CONTRACT_COLUMNS = {"Contract", "Clauses that carry it", "Where"}
+# What is no definition and no clause though it looks like one.
+FILE_ENDINGS = {"md", "antt", "rt", "py", "txt", "sh"}
+# Names that are no words of this repository, by page: those of the toolchain, of the system, and of what isn't there, or not any more.
+ELSEWHERE = {
+    "BEHAVIOURS": {"CRATE_tests", "of_CRATE"},
+    "DECISIONS": {"IsAllowed", "Vec::insert", "arrayvec::ArrayString", "dyn"},
+    "EMBEDDING": {"HANDLES", "a.parts", "engines.run_engine", "received.stopped", "sleep", "spawn", "std::thread::Parker"},
+    "NEXT": {"Closed", "flat_map", "set_as"},
+    "PERF": {"AreEntries", "Vec::insert", "is_near", "malloc_consolidate", "memmove", "nm", "show_below", "unlink_chunk"},
+    "PROVING": {
+        "Cmp.decided", "Cmp.on_equiv", "Crate.words", "FiltersInPlace", "Lts", "Vec::get", "Vec::insert", "Vec::retain", "as_chunks_mut",
+        "c.from_residual", "callgrind", "l.x", "memmove", "offers", "op.id", "reduce_max", "with_items",
+    },
+    "SPEED": {"Vec::insert"},
+}
 
 
-def text_of(pattern):
-    """The texts of all files of a pattern below the top, joined."""
-    return "\n".join(pathlib.Path(it).read_text(encoding="utf-8") for it in sorted(glob.glob(str(TOP / pattern), recursive=True)))
+@functools.cache
+def text_of(*patterns):
+    """The texts of all files of these patterns below the top, joined."""
+    files = sorted(it for pattern in patterns for it in TOP.glob(pattern) if it.is_file())
+    return "\n".join(it.read_text(encoding="utf-8") for it in files)
 
+
+@functools.cache
+def code_files():
+    """The text of each file of code."""
+    return [it.read_text(encoding="utf-8") for it in sorted(TOP.glob("crates/*/src/**/*.rt"))]
+
+
+@functools.cache
+def clauses():
+    """For each function's name the names of the clauses of all contracts under it."""
+    found = {}
+    for text in code_files():
+        for it in re.finditer(r"^( *)(?:pub(?:\(\w+\))? )?(?:const )?fn (\w+)(.*?)^\1(?:\{|\}|[^\n]*;$)", text, re.MULTILINE | re.DOTALL):
+            found.setdefault(it[2], set()).update(re.findall(r"\b(?:ensures|requires) (\w+) \{", it[3]))
+    return found
+
+
+@functools.cache
+def words():
+    """Each word of a source, script or edit, and the name of each."""
+    parts = [f"crates/*/{part}/**/*.*" for part in ("src", "specs", "proofs", "must-fail")]
+    patterns = [*parts, "tests/*", "tools/*", "bench/*", ".ci/*", "jdoc", "crates.txt"]
+    names = {it.stem for pattern in [*parts, "crates/*"] for it in TOP.glob(pattern)}
+    found = set(re.findall(r"[\w-]+", text_of(*patterns)))
+    return names.union(found, *(it.split("-") for it in found))
 
 
 def has_function(text, name):
     return re.search(rf"\bfn {name}\b", text) is not None
 
 
+@functools.cache
+def files_with(owner):
+    """The text of each file that has a type or trait of this name, or an impl of it."""
+    return [it for it in code_files() if re.search(rf"\b(impl|struct|enum|trait)\b[^\n]*\b{owner}\b", it)]
+
+
 def is_method(owner, name):
     """Whether some type or trait of this name has a function or a field of that name in the same file."""
-    for path in TOP.glob("crates/*/src/**/*.rt"):
-        text = path.read_text(encoding="utf-8")
-        if re.search(rf"\b(impl|struct|enum|trait)\b[^\n]*\b{owner}\b", text) and (
-            has_function(text, name) or re.search(rf"\b{name}:", text)
-        ):
-            return True
-    return False
+    return any(has_function(it, name) or re.search(rf"\b{name}:", it) for it in files_with(owner))
 
 
 def faults_of(name):
     """Yields why the name isn't there. A name of another form is none of ours."""
     if it := re.fullmatch(r"([a-z_]+)::([a-z_0-9]+)", name):
-        law = text_of(f"crates/semantics/src/{it[1]}.rt")
-        if not has_function(law, it[2]) and not has_function(text_of(f"crates/{it[1]}/src/**/*.rt"), it[2]):
+        if not has_function(text_of(f"crates/semantics/src/{it[1]}.rt", f"crates/{it[1]}/src/**/*.rt"), it[2]):
             yield "no such law or function"
     elif it := re.fullmatch(r"([A-Z]\w+)::([a-z_0-9]+)", name):
         if not is_method(it[1], it[2]):
             yield "no such method or field"
     elif (it := re.fullmatch(r"(?:([a-z_]+)\.)?([A-Z]\w+)\.([A-Za-z_-]+)", name)) and it[3] not in FILE_ENDINGS:
-        module = text_of(f"crates/{it[1] or 'semantics'}/specs/{it[2]}.antt")
+        crate = it[1] or "semantics"
+        module = text_of(f"crates/{crate}/specs/{it[2]}.antt", f"crates/{crate}/proofs/{it[2]}.antt")
         if not re.search(rf"(?<![\w-]){re.escape(it[3])}(?![\w-])", module):
             yield "no such definition"
+    elif (it := re.fullmatch(r"([a-z_0-9]+)\.([a-z_0-9]+)", name)) and it[2] not in FILE_ENDINGS and it[1] != "crates":
+        if it[2] not in clauses().get(it[1], ()):
+            yield "no such clause"
+    elif re.fullmatch(r"[A-Za-z_]\w*(::\w+)*", name) and not words().issuperset(name.split("::")):
+        yield "no such word"
+
+
+def missing_clauses(text):
+    """Yields what stands behind a function in a table's column of contracts, and is no clause of it. A part of a cell that names no
+    function speaks of that before it, and a cell that begins so of the first one of the row above."""
+    named = first = set()
+    for table in re.findall(r"(?:^\|.*\|\n)+", text, re.MULTILINE):
+        head, _, *rows = (it.rstrip(" |").split(" | ")[-1] for it in table.splitlines())
+        for parts in (it.split(";") for it in rows if head in CONTRACT_COLUMNS):
+            named = first
+            for part in parts:
+                names = {it.split("::")[-1] for it in re.findall(r"`((?:\w+::)?[a-z_0-9]+)`", part)}
+                functions = names & clauses().keys()
+                named = functions or named
+                first = first if part is not parts[0] else named
+                for name in names - functions:
+                    if not any(name in clauses()[it] for it in named) and not (TOP / "crates" / name).is_dir():
+                        yield name, f"no such clause of {', '.join(sorted(named))}"
 
 
 def files_of(crate):
@@ -69,20 +139,28 @@ def missing_tests(text):
                     yield f"{name} ({crate})", "no such test or edit"
 
 
+def faults_in(page, text, names):
+    """Yields each name of a page that isn't there, and why."""
+    for name in sorted(names - ELSEWHERE.get(page, set())):
+        yield from ((name, why) for why in faults_of(name))
+    if page in ("PROVED", "PROMISES"):
+        yield from missing_clauses(text)
+    if page == "BEHAVIOURS":
+        yield from missing_tests(text)
+    if page == "RULES":
+        yield from missing_tests("\n".join(re.findall(r" Tests: (.*)", text)))
+
+
 def main():
-    cited, faults = 0, []
-    for path in CITING:
-        text = (TOP / path).read_text(encoding="utf-8")
-        names = set(re.findall(r"`([^`\n]+)`", text))
+    cited, faults = 0, 0
+    for path in PAGES:
+        text = path.read_text(encoding="utf-8")
+        names = set(re.findall(r"`([^`\n]+)`", re.sub(r"^```.*?^```", "", text, flags=re.MULTILINE | re.DOTALL)))
         cited += len(names)
-        faults += [(path, name, why) for name in sorted(names) for why in faults_of(name)]
-    behaviours = (TOP / "docs/BEHAVIOURS.md").read_text(encoding="utf-8")
-    faults += [("docs/BEHAVIOURS.md", name, why) for name, why in missing_tests(behaviours)]
-    tests = "\n".join(re.findall(r" Tests: (.*)", (TOP / "docs/RULES.md").read_text(encoding="utf-8")))
-    faults += [("docs/RULES.md", name, why) for name, why in missing_tests(tests)]
-    for path, name, why in faults:
-        print(f"names: FAILED: {path}: {name}: {why}")
-    print(f"names: {cited} names in documents, {len(faults)} that aren't there")
+        for name, why in faults_in(path.stem, text, names):
+            faults += 1
+            print(f"names: FAILED: {path.relative_to(TOP)}: {name}: {why}")
+    print(f"names: {cited} names in pages, {faults} that aren't there")
     sys.exit(1 if faults else 0)
 
 

@@ -35,7 +35,7 @@ pub struct Received {
 /// The result's stop is a fault of the line itself: `BadLine`, also for bytes after the last line feed, `UnknownReplica`, `TooDeep`,
 /// `KeyTooLong`, `TextTooLong` or `NotWhole`; such a line is refused each time. Or it is a refusal of `Client::deliver`: `QueueFull` (give
 /// what is left once the writer has stepped) or `SerialEnd`; or `NoMemory` if allocation fails (give what is left again). Reads each line
-/// whole before it is judged: bound its length. What becomes of each operation is told by its reply alone.
+/// whole before it is judged: bound its length. The reply alone says what becomes of each operation.
 pub fn receive<N: EngineName>(
     rt: &impl Wait,
     alloc: Global,

@@ -131,8 +131,9 @@ impl<N: EngineName> Seat<N> {
     }
 
     /// Answers a question from the history that is published at the one step of this read, which the seat has then seen. Never waits.
-    /// Costs a walk along the expression, and a copy of what is answered; for items a look at each, tombstones included, of the blocks in which one is shown. The
-    /// answer is also that of the operations as a set (`view`). The vector of a question has a counter for each member.
+    /// Costs a walk along the expression, and a copy of what is answered; for items a look at each, tombstones included, of the blocks
+    /// in which one is shown. The answer is also that of the operations as a set (`view`). The vector of a question has a counter for
+    /// each member.
     ///
     /// # Errors
     /// `AtHead` for a step from a head, or where the expression ends at one; `PastEnd`; `TooDeep`: these are answers at that step too.

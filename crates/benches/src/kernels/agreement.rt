@@ -1,4 +1,4 @@
-//! Whether each kernel and its plain twin answer and write the same. It is proved that they do: a run tests what a compiler made of both.
+//! Whether each kernel and its plain loop answer and write the same. It is proved that they do: a run tests what a compiler made of both.
 
 ghost use Rattle.std.specs.Prelude.{◌≡◌, length, IfOk, IsTrue, IsNone};
 ghost use Rattle.std.specs.Int.{div_ceil};

@@ -1,4 +1,4 @@
-//! The kernels' plain twins, one counter at a time.
+//! The kernels as plain loops, one counter at a time.
 
 ghost use Rattle.std.specs.Prelude.{◌≡◌, ◌↔◌, ◌≤◌, IsTrue, length, max, nat_le};
 ghost use Rattle.std.specs.Int.{div_ceil};

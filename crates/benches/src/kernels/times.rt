@@ -1,4 +1,4 @@
-//! How long a call of each kernel takes, and how long its plain twin.
+//! How long a call of each kernel takes, and how long its plain loop.
 
 ghost use Rattle.std.specs.Prelude.{◌≡◌, ◌+◌, ◌^◌, ◌<◌, length};
 ghost use Rattle.std.specs.Int.{div_ceil};
