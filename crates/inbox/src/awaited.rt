@@ -1,6 +1,6 @@
 //! Waiting operations, and the counters that they wait for.
 
-ghost use Rattle.std.specs.Prelude.{◌≡◌, ◌≢◌, ◌<◌, ◌≤◌, ℕ, length, true, IsTrue, IsFalse, IfSome, IfNone, option_copied, slice_index};
+ghost use Rattle.std.specs.Prelude.{◌≡◌, ◌≢◌, ◌<◌, ◌≤◌, ℕ, length, true, false, IsTrue, IsFalse, IfSome, IfNone, option_copied, slice_index};
 ghost use Rattle.std.specs.BTreeSet.{contains};
 ghost use Rattle.slab.specs.Slab.{SameValues, get};
 ghost use Rattle.inbox.specs.Awaiting.{await_cmp, awaited_at, seen_at, AreSingle, IsAhead, IsAwaiting};
@@ -132,6 +132,13 @@ fn is_ahead(op: &Op, index: usize, applied: &VersionVector, seen: &Option<Versio
 {
     let counter = op.deps.get(index);
     counter > applied.get(index) && counter > seen_at(seen, index)
+}
+
+/// Whether no counter is awaited.
+pub fn awaits_nothing(awaits: &BTreeSet<Awaited>) -> bool
+    ensures { IsTrue result → (q : AnAwaited) → contains await_cmp awaits.now q ≡ false }
+{
+    awaits.is_empty()
 }
 
 /// The first that waits for a counter of the replica at this index which is applied, if there is one. One search.

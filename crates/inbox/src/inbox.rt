@@ -133,8 +133,8 @@ impl Inbox {
     }
 
     /// Moves on what waits for counters that were applied since the last call, so that `smallest_ready` needn't look at it. Changes no
-    /// answer. Costs a look at each counter of what is applied, a search for each that rose, and a few searches for each operation
-    /// that moves: over its life at most once for each replica that it names. Where allocation fails it ends early, and the next
+    /// answer. Where a counter is awaited it costs a look at each counter of what is applied, a search for each that rose, and a few
+    /// searches for each operation that moves: over its life at most once for each replica that it names. Where allocation fails it ends early, and the next
     /// call goes on.
     pub fn advance(&mut self, document: &Document)
         requires width { AreAsWide document.now.table self.old }
@@ -144,9 +144,9 @@ impl Inbox {
             .advance(&mut self.ops, document.table(), document.applied());
     }
 
-    /// The smallest operation that is causally ready, if there is one. Costs a look at each counter of what is applied, and a look at
-    /// those that may be ready, up to the first that is. Where counters were applied that `advance` hasn't seen yet, also a search
-    /// for each of these, and a look at each operation that waits for one.
+    /// The smallest operation that is causally ready, if there is one. Looks at those that may be ready, up to the first that is,
+    /// and, where a counter is awaited, at each counter of what is applied. Where some of these `advance` hasn't seen yet, also a search
+    /// for each of them, and a look at each operation that waits for one.
     pub fn smallest_ready(&self, document: &Document) -> Option<&Shared<Op>>
         requires width { AreAsWide document.now.table self.now }
         ensures some { IfSome result (λ o. IsLeastReady (applied document.now.entries) document.now.table self.now o.now) }

@@ -14,7 +14,7 @@ ghost use Rattle.document.specs.operation.Meanings.{stamped_of};
 ghost use Rattle.inbox.specs.Awaiting.{await_cmp, first_of, is_above, is_ready_at, AreAwaiting, AreThisWide, AreUnseen, IsMet, IsPassed, IsReadyAt};
 ghost use Rattle.inbox.specs.Awaiting.{IsSettled};
 
-use crate::awaited::{Awaited, Waiting, op_at, seen_at};
+use crate::awaited::{Awaited, Waiting, awaits_nothing, op_at, seen_at};
 use crate::waits::Waits;
 use document::{Document, Numbers, Op};
 use ids::OpId;
@@ -31,6 +31,9 @@ pub fn smallest(ops: &Slab<Waiting>, waits: &Waits, document: &Document) -> Opti
         → is_ready (applied document.now.entries) (stamped_of document.now.table o) ≡ true → IsMet result o.id }
 {
     let mut least = first_ready(ops, &waits.ready, document);
+    if awaits_nothing(&waits.awaits) {
+        return least;
+    }
     for index in 0..document.table().len() {
         least = smallest_at(ops, waits, document, index, least);
     }

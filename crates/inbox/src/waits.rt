@@ -9,7 +9,7 @@ ghost use Rattle.inbox.specs.Awaiting.{await_cmp, AreAwaiting, AreThisWide, AreU
 ghost use Rattle.inbox.specs.declared.awaited.Awaited.{Awaited as AnAwaited};
 
 use crate::awaited::{
-    Awaited, Waiting, awaited_index, first_met, forget, op_at, seen_at, set_index,
+    Awaited, Waiting, awaited_index, awaits_nothing, first_met, forget, op_at, seen_at, set_index,
 };
 use document::{Numbers, Op, VersionVector};
 use ids::ReplicaTable;
@@ -84,9 +84,9 @@ impl Waits {
     }
 
     /// Moves on each operation whose counter has come since the last call: under another counter of its vector that isn't applied, or
-    /// among those that may be ready. So over its life an operation moves at most once for each replica that it names. Costs a
-    /// look at each counter of what is applied, a search for each that rose, and a few searches for each operation that moves. Where
-    /// allocation fails it ends early, and the next call goes on.
+    /// among those that may be ready. So over its life an operation moves at most once for each replica that it names. Where
+    /// a counter is awaited it costs a look at each counter of what is applied, a search for each that rose, and a few searches for each
+    /// operation that moves. Where allocation fails it ends early, and the next call goes on.
     pub fn advance(
         &mut self,
         ops: &mut Slab<Waiting>,
@@ -99,6 +99,9 @@ impl Waits {
         ensures kept { (es : List (TheId × ℕ)) → AreAwaiting ops.old es self.old → AreAwaiting ops.new es self.new }
         ensures same { SameValues ops.old ops.new }
     {
+        if awaits_nothing(&self.awaits) {
+            return;
+        }
         self.widen(applied.width());
         for index in 0..applied.width() {
             if !self.advance_at(ops, table, applied, index) {
