@@ -25,7 +25,9 @@ module _ {K X Y : Type 0} (R : K → K → Ordering) (o : IsTotalOrder R) (ks : 
   -- the key of an entry
   pub key_of-zip : (i : ℕ) (k : K) (v : X) → slice_get (zip ks vs) i ≡ Some (k, v) → slice_get ks i ≡ Some k
   key_of-zip i k v at =
-      let inside : i < length ks = let lt = slice_get_within (zip ks vs) i (k, v) at in let l = zip-length ks vs long in omega (arith, lt, l) in
+      let lt = slice_get_within (zip ks vs) i (k, v) at in
+      let both = zip-length ks vs long in
+      let inside : i < length ks = omega (arith, lt, both) in
       slice_get-get_or ks i k inside
       ∙ ap (λ (e : K × X). Some e.0) (sym (zip-get_or ks vs i k v long) ∙ get_or_from_slice_get (zip ks vs) i (k, v) (k, v) at)
 

@@ -14,7 +14,8 @@ use Rattle.semantics.specs.Context.{Context}
 use Rattle.semantics.specs.DocumentAnswer.{is_any}
 use Rattle.semantics.proofs.Orders.{name_total, same_elements}
 use Rattle.tree.specs.declared.node.Node.{Node}
-use Rattle.tree.specs.Nodes.{IsTree, child_number, context, flags_of, gone_of, is_flagged, links, links_of, node_at, node_in, number, order_of}
+use Rattle.tree.specs.Nodes.{IsTree, child_number, context, flags_of, gone_of, is_flagged, links, links_of, node_at, node_in, number}
+use Rattle.tree.specs.Nodes.{order_of}
 use Rattle.tree.specs.Nodes.{presence_of, visible_of}
 use Rattle.tree.specs.Shown.{AreEmpty, SameButFlags, ShownBut}
 use Rattle.tree.proofs.Shape.{links_each, node_found, node_set, number_child}
@@ -39,7 +40,8 @@ module _ (ns : List Node) (t : IsTree ns) (i : ℕ) (n m : Node) (g : slice_get 
   new = set ns i m
 
   -- the flag that was set is what the write says, and the others are what they were
-  flag_read : (x : Element) (k : Name) → is_flagged (node_at new x) k ≡ cond (is_same (Field x k) (Field e name)) b (is_flagged (node_at ns x) k)
+  flag_read : (x : Element) (k : Name)
+      → is_flagged (node_at new x) k ≡ cond (is_same (Field x k) (Field e name)) b (is_flagged (node_at ns x) k)
   flag_read x k = ap (λ o. is_flagged o k) (node_set ns t e i n m at g same_links x) ∙ by (is_same x e) refl
     where
       by : (c : Bool) → is_same x e ≡ c
@@ -65,7 +67,8 @@ module _ (ns : List Node) (t : IsTree ns) (i : ℕ) (n m : Node) (g : slice_get 
     here x k false q was low = was refl low
 
     low_field : (x : Element) (k : Name)
-        → (is_same (Field x k) (Field e name) ≡ false → is_flagged (node_at ns x) k ≡ false → is_any ((context ns).presence (Field x k)) ≡ false)
+        → (is_same (Field x k) (Field e name) ≡ false → is_flagged (node_at ns x) k ≡ false
+        → is_any ((context ns).presence (Field x k)) ≡ false)
         → is_flagged (node_at new x) k ≡ false → is_any ((context new).presence (Field x k)) ≡ false
     low_field x k was low = ap (λ (C : Context). is_any (C.presence (Field x k))) (sym (flags_context ns new same))
         ∙ here x k (is_same (Field x k) (Field e name)) refl was (sym (flag_read x k) ∙ low)
@@ -83,10 +86,10 @@ module _ (ns : List Node) (t : IsTree ns) (i : ℕ) (n m : Node) (g : slice_get 
     pub field_shown : m.gone ≡ n.gone → (off : Element → Bool) → ShownBut ns (λ x. is_same x (Field e name) || off x) → ShownBut new off
     field_shown gone off s =
         let C = flags_context ns new same in
+        let visible = same_set visible_of ns i n m g (ap (λ o. o.visible) order) in
         record {
           flag = s.flag;
-          flagged = λ l. sym (visible_view ns new (links_each ns i n m g same_links) (same_set visible_of ns i n m g (ap (λ o. o.visible) order)) l)
-              ∙ s.flagged l ∙ ap (λ (D : Context). filter (s.flag l) (D.order l)) C;
+          flagged = λ l. sym (visible_view ns new (links_each ns i n m g same_links) visible l) ∙ s.flagged l ∙ ap (λ (D : Context). filter (s.flag l) (D.order l)) C;
           right = λ l a far. s.right l a far ∙ ap (λ (D : Context). is_any (D.presence (Item l a))) C;
           absent = λ l a none. s.absent l a (flags_number ns new same (Item l a) ∙ none);
           gone = λ l a far lt. ap (λ (D : Context). is_any (D.presence (Item l a))) (sym C)

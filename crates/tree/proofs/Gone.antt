@@ -1,5 +1,6 @@
 -- What a clear of a list goes past, and what stands once it has gone past it.
-use Rattle.std.proofs.Common.{◌≡◌, ℕ, zero, suc, ◌+◌, ◌-◌, ◌<◌, ◌≤◌, nat_le, true, false, true≢false, cond, List, [], ◌∷◌, length, get_or, drop, Bool}
+use Rattle.std.proofs.Common.{◌≡◌, ℕ, zero, suc, ◌+◌, ◌-◌, ◌<◌, ◌≤◌, nat_le, true, false, true≢false, cond, List, [], ◌∷◌, length, get_or}
+use Rattle.std.proofs.Common.{drop, Bool}
 use Rattle.std.proofs.Common.{Option, Some, None, is_some, refl, sym, ap, ◌∙◌, subst, arith, inl, inr}
 use Rattle.std.specs.Prelude.{slice_get}
 use Rattle.std.specs.FinMap.{find}

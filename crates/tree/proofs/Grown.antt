@@ -29,7 +29,15 @@ grows_trans p q = record {
 }
 
 pub kept_same : (ns : List Node) → IsTree ns → Kept ns ns
-kept_same ns t = record { tree = t; same = refl; visible = λ e. refl; gone = λ e. refl; flagged = λ e k. refl; grows = grows_same ns; beside = λ table b. b }
+kept_same ns t = record {
+  tree = t;
+  same = refl;
+  visible = λ e. refl;
+  gone = λ e. refl;
+  flagged = λ e k. refl;
+  grows = grows_same ns;
+  beside = λ table b. b;
+}
 
 pub kept_trans : {a b c : List Node} → Kept a b → Kept b c → Kept a c
 kept_trans p q = record {

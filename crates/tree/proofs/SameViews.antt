@@ -4,7 +4,8 @@ use Rattle.std.specs.Prelude.{slice_get, unwrap_or}
 use Rattle.std.specs.FinMap.{find}
 use Rattle.semantics.specs.Elements.{Element, Name, name_cmp}
 use Rattle.tree.specs.declared.node.Node.{Node}
-use Rattle.tree.specs.Nodes.{SameView, context, flags_of, gone_of, is_flagged, links_of, links, names_in, node_at, node_in, number, order_of, presence_of}
+use Rattle.tree.specs.Nodes.{SameView, context, flags_of, gone_of, is_flagged, links_of, links, names_in, node_at, node_in, number}
+use Rattle.tree.specs.Nodes.{order_of, presence_of}
 use Rattle.tree.specs.Nodes.{register_of, visible_of}
 use Rattle.tree.proofs.Shape.{number_links}
 use Rattle.tree.proofs.Contexts.{context_same, names_same}

@@ -11,7 +11,8 @@ use Rattle.semantics.specs.Paths.{Key, FieldKey, ItemKey, child, down}
 use Rattle.semantics.proofs.Orders.{element_itself, same_elements}
 use Rattle.semantics.proofs.ElementPaths.{down-append}
 use Rattle.tree.specs.declared.node.Node.{Node}
-use Rattle.tree.specs.Nodes.{links_of, links, linked_by, child_number, next_number, number, node_in, node_at, visible_of, gone_of, flags_of, IsTree}
+use Rattle.tree.specs.Nodes.{links_of, links, linked_by, child_number, next_number, number, node_in, node_at, visible_of, gone_of, flags_of}
+use Rattle.tree.specs.Nodes.{IsTree}
 use Rattle.tree.specs.Nodes.{MoreRoom, SameChildren, SameLinks}
 use Rattle.tree.specs.Writes.{end_of}
 use Rattle.tree.proofs.ListReads.{get_same, get_other, get_inside}
@@ -102,7 +103,8 @@ links_each ns i n m g l j = elim (cases_eq j i) [
 
 -- and its flags, those of its fields, and the items that are gone
 pub links_set : (ns : List Node) (i : ℕ) (n m : Node) → slice_get ns i ≡ Some n → links_of (Some m) ≡ links_of (Some n)
-    → visible_of (Some m) ≡ visible_of (Some n) → gone_of (Some m) ≡ gone_of (Some n) → flags_of (Some m) ≡ flags_of (Some n) → SameLinks ns (set ns i m)
+    → visible_of (Some m) ≡ visible_of (Some n) → gone_of (Some m) ≡ gone_of (Some n) → flags_of (Some m) ≡ flags_of (Some n)
+    → SameLinks ns (set ns i m)
 links_set ns i n m g l v d f = record {
   count = sym (length-set ns i m);
   same = links_each ns i n m g l;

@@ -13,7 +13,8 @@ use Rattle.semantics.specs.DocumentAnswer.{is_any}
 use Rattle.semantics.proofs.Orders.{element_itself, same_elements}
 use Rattle.columns.specs.Entries.{StandBeside}
 use Rattle.tree.specs.declared.node.Node.{Node}
-use Rattle.tree.specs.Nodes.{IsTree, SameChildren, SameLinks, child_number, context, flags_of, gone_of, is_flagged, is_written, links_of, node_at}
+use Rattle.tree.specs.Nodes.{IsTree, SameChildren, SameLinks, child_number, context, flags_of, gone_of, is_flagged, is_written, links_of}
+use Rattle.tree.specs.Nodes.{node_at}
 use Rattle.tree.specs.Nodes.{node_in, number, order_of, presence_of, register_of, tagged, valued, visible_of}
 use Rattle.tree.specs.Shown.{AreEmpty, AreShown, IsGoneBelow, SameButFlags, ShownBut}
 use Rattle.tree.specs.Writes.{end_of}
@@ -136,7 +137,8 @@ module _ (ns : List Node) (t : IsTree ns) (i : ℕ) (n m : Node) (g : slice_get 
   }
 
   -- where the flags of its fields stay, they stay everywhere
-  same_flagged : m.fields.flags ≡ n.fields.flags → (x : Element) (k : Name) → is_flagged (node_at ns x) k ≡ is_flagged (node_at (set ns i m) x) k
+  same_flagged : m.fields.flags ≡ n.fields.flags → (x : Element) (k : Name)
+      → is_flagged (node_at ns x) k ≡ is_flagged (node_at (set ns i m) x) k
   same_flagged q = flagged_view ns (set ns i m) (links_each ns i n m g same_links) (same_set flags_of ns i n m g q)
 
   -- what is gone of e is what the write says, and elsewhere what it was
@@ -186,8 +188,8 @@ module _ (ns : List Node) (t : IsTree ns) (i : ℕ) (n m : Node) (g : slice_get 
       }
 
   -- the flags stay
-  pub but_raised : m.order ≡ n.order → m.fields.flags ≡ n.fields.flags → SameButFlags ns (set ns i m) → (e : Element) → number ns e ≡ Some i → IsGoneBelow ns e m.gone
-      → (off : Element → Bool) → ShownBut ns off → ShownBut (set ns i m) off
+  pub but_raised : m.order ≡ n.order → m.fields.flags ≡ n.fields.flags → SameButFlags ns (set ns i m) → (e : Element) → number ns e ≡ Some i
+      → IsGoneBelow ns e m.gone → (off : Element → Bool) → ShownBut ns off → ShownBut (set ns i m) off
   but_raised order fields same e at below off s =
       let new = set ns i m in
       let C = flags_context ns new same in

@@ -240,7 +240,6 @@ fn is_field(nodes: &[Node], at: NodeNumber) -> bool
     requires { at < length nodes.now }
     ensures { result ≡ is_written (slice_get nodes.now at) && is_any (presence_of (slice_get nodes.now at)) }
 {
-    // Most that isn't there is empty, and seen to be so without a look at the node's other end.
     is_present(nodes, at) && node_at(nodes, at).is_written
 }
 

@@ -24,7 +24,7 @@ use crate::stamp::Stamp;
 use crate::write::assign;
 use operation::{Mutation, Op, Place, Scalar, Tag};
 
-/// Applies an operation, and then sets what the lists show, and what is gone of them.
+/// Applies an operation, and then sets what the lists show, what is gone of them, and the flags of fields.
 pub fn apply(nodes: &mut [Node], op: &Op, stamp: &Stamp, scalar: Option<Scalar>)
     requires stamp { IsStamp stamp.now }
     requires id { stamp.now.id ≡ op.now.id }
@@ -49,8 +49,8 @@ pub fn apply(nodes: &mut [Node], op: &Op, stamp: &Stamp, scalar: Option<Scalar>)
     show(nodes, op);
 }
 
-/// Clears and writes what an operation's mutation says. What lists show, and what is gone of them, may be wrong then on the way to its
-/// target, and nowhere else.
+/// Clears and writes what an operation's mutation says. What lists show, what is gone of them, and the flags of fields may be wrong then
+/// on the way to its target, and nowhere else.
 fn run(nodes: &mut [Node], op: &Op, stamp: &Stamp, scalar: Option<Scalar>)
     requires stamp { IsStamp stamp.now }
     requires id { stamp.now.id ≡ op.now.id }

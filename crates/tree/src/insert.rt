@@ -82,8 +82,8 @@ fn link_list(nodes: &mut [Node], slot: &Slot<'_>, id: &OpId) -> NodeNumber
     item
 }
 
-/// Inserts a new item into a list, and writes it. What lists show, and what is gone of them, may be wrong then on the way to it, and
-/// nowhere else.
+/// Inserts a new item into a list, and writes it. What lists show, what is gone of them, and the flags of fields may be wrong then on
+/// the way to it, and nowhere else.
 pub fn insert(nodes: &mut [Node], slot: &Slot<'_>, stamp: &Stamp, tag: Tag, scalar: Option<Scalar>)
     requires tree { IsTree nodes.old }
     requires stamp { IsStamp stamp.now }

@@ -66,7 +66,8 @@ pub fn flag_field(nodes: &mut [Node], at: NodeNumber, position: usize, field: No
     requires tree { IsTree nodes.old }
     requires inside { at < length nodes.old }
     requires within { position < length (links nodes.old at).0 }
-    requires field { (d : Name × ℕ) → child_number nodes.old at (FieldKey (slice_index_or (links nodes.old at).0 position d).0) ≡ Some field }
+    requires field { (d : Name × ℕ)
+        → child_number nodes.old at (FieldKey (slice_index_or (links nodes.old at).0 position d).0) ≡ Some field }
     ensures same { SameButFlags nodes.old nodes.new }
     ensures room { MoreRoom nodes.old nodes.new }
     ensures shown { (e : Element) (off : Element → Bool) (d : Name × ℕ) → number nodes.old e ≡ Some at
@@ -142,7 +143,7 @@ fn show_path(nodes: &mut [Node], path: &[Hop]) -> Option<NodeNumber>
     Some(at)
 }
 
-/// Sets what the lists show on the way down a path.
+/// Sets what the lists show, and the flags of fields, on the way down a path.
 fn show_at(nodes: &mut [Node], path: &[Hop])
     requires { IsTree nodes.old }
     ensures same { SameButFlags nodes.old nodes.new }
@@ -152,7 +153,7 @@ fn show_at(nodes: &mut [Node], path: &[Hop])
     let _end = show_path(nodes, path);
 }
 
-/// Sets what the lists show on the way to a new item of a list, and at it.
+/// Sets what the lists show, and the flags of fields, on the way to a new item of a list, and at it.
 fn show_new(nodes: &mut [Node], slot: &Slot<'_>, id: &OpId)
     requires { IsTree nodes.old }
     ensures same { SameButFlags nodes.old nodes.new }
@@ -177,8 +178,8 @@ fn show_insert(nodes: &mut [Node], place: &Place, id: &OpId)
     }
 }
 
-/// Sets what the lists show, and what is gone of them, on the way to an operation's target, after it was applied: beneath it both are
-/// right already.
+/// Sets what the lists show, what is gone of them, and the flags of fields, on the way to an operation's target, after it was applied:
+/// beneath it all are right already.
 pub fn show(nodes: &mut [Node], op: &Op)
     requires { IsTree nodes.old }
     ensures same { SameButFlags nodes.old nodes.new }

@@ -147,8 +147,8 @@ pub fn settle(nodes: &mut [Node], at: NodeNumber, stamp: &Stamp, tag: Tag, scala
     put_scalar(nodes, at, stamp, scalar);
 }
 
-/// Clears what stands at the end of a path, and writes there. What lists show, and what is gone of them, may be wrong then on the way
-/// there, and nowhere else.
+/// Clears what stands at the end of a path, and writes there. What lists show, what is gone of them, and the flags of fields may be wrong
+/// then on the way there, and nowhere else.
 pub fn assign(nodes: &mut [Node], path: &[Hop], stamp: &Stamp, tag: Tag, scalar: Option<Scalar>)
     requires tree { IsTree nodes.old }
     requires stamp { IsStamp stamp.now }

@@ -1,4 +1,5 @@
-use Rattle.std.proofs.Common.{◌+◌, ◌<◌, ◌++◌, ◌∷◌, [], ℕ, Bool, cond, filter, get_or, length, map, take, ap, sym, ◌∙◌, arith, append-nil, Vec}
+use Rattle.std.proofs.Common.{◌+◌, ◌<◌, ◌++◌, ◌∷◌, [], ℕ, Bool, cond, filter, get_or, length, map, take, ap, sym, ◌∙◌, arith, append-nil}
+use Rattle.std.proofs.Common.{Vec}
 use Rattle.std.proofs.Common.{Global}
 use Rattle.std.proofs.lemmas.Option.{get_or_from_slice_get}
 use Rattle.semantics.specs.Elements.{Field, Name}
@@ -29,9 +30,9 @@ loop-position-preserved c = λ e at.
     ∙ sym c.is_field.ensures in
     let next = wanted_next ns p fs k d within
     ∙ ap (λ b. filter p (map (λ x. x.0) (names_in ns (take k fs))) ++ cond b ((get_or fs k d).0 ∷ []) []) shows in
-    let skip = wanted_skip ns p fs d (k + 1) c.next_field-position-in-loop-position.result c.next_field-position-in-loop-position.ensures.from
-    c.next_field-position-in-loop-position.ensures.within
-    (λ i low high. c.next_field-position-in-loop-position.ensures.passed e i d at c.requires.empty low high) in
+    let later = c.next_field-position-in-loop-position in
+    let skip = wanted_skip ns p fs d (k + 1) later.result later.ensures.from later.ensures.within
+    (λ i low high. later.ensures.passed e i d at c.requires.empty low high) in
     elim c.if-is_field.branch [
       | then-is_field+in_ok-key+in_ok-push w ↦
           let here = ap (λ o. (get_or (links_of o).0 k d).0) w.node_at.ensures in

@@ -13,7 +13,8 @@ use Rattle.tree.specs.Nested.{IsNested}
 use Rattle.tree.specs.Nodes.{number, gone_of, links, context, Links, node_in, presence_of}
 use Rattle.tree.specs.Shown.{ShownBut}
 use Rattle.tree.specs.Writes.{clear_own, deps_of, fields_of, items_of}
-use Rattle.tree.proofs.Shape.{children_linked, children_number, children_same, children_trans, children_tree, number_child, room_same, room_trans}
+use Rattle.tree.proofs.Shape.{children_linked, children_number, children_same, children_trans, children_tree, number_child, room_same}
+use Rattle.tree.proofs.Shape.{room_trans}
 use Rattle.tree.proofs.Clears.{clear_each, turn_field, turn_item, clear_whole}
 use Rattle.tree.proofs.Gone.{left_none, none_any, none_before, none_left, past_fields, past_gone, stands_behind, stands_more, stood_before}
 use Rattle.tree.proofs.Nested.{clear_empty, nested_clear}

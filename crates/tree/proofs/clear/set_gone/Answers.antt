@@ -30,5 +30,5 @@ returns-clause-shown c = λ e off at below s.
     let n : Node = c.node_at_mut-node.result.now in
     let m : Node = record n { gone = c.args.gone } in
     let g = c.node_at_mut-node.ensures.node in
-    but_raised ns c.requires.tree c.args.at n m g refl refl refl refl (flag_same ns c.requires.tree c.args.at n m g refl refl refl refl refl)
-    e at below off s
+    but_raised ns c.requires.tree c.args.at n m g refl refl refl refl
+    (flag_same ns c.requires.tree c.args.at n m g refl refl refl refl refl) e at below off s

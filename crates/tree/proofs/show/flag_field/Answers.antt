@@ -30,7 +30,8 @@ returns-clause-same c =
 pub returns-clause-room : goal.returns-clause-room
 returns-clause-room c =
     let n : Node = c.node_at_mut-node.result.now in
-    room_set c.args.nodes.now c.args.at n (record n { fields = c.set_flag.new.self }) c.node_at_mut-node.ensures.node (omega arith) (omega arith)
+    let m : Node = record n { fields = c.set_flag.new.self } in
+    room_set c.args.nodes.now c.args.at n m c.node_at_mut-node.ensures.node (omega arith) (omega arith)
 
 pub returns-clause-shown : goal.returns-clause-shown
 returns-clause-shown c = λ e off d at s.

@@ -28,7 +28,8 @@ returns-in-Ok c =
     let value = value_at d.keys ns c.in-Ok.position c.number.result c.index.result.now c.self.invariant.0 c.number.ensures.number
     c.index.ensures in (
       ap (λ (m : Flagged Name). slice_get m.entries c.in-Ok.position) (sym c.self.view_is)
-          ∙ entry_at-zip name_cmp d.keys.keys (numbered 0 ns d.keys.numbers) long c.in-Ok.position c.args.key.now c.index.result.now at.0 value,
+          ∙ entry_at-zip name_cmp d.keys.keys (numbered 0 ns d.keys.numbers) long c.in-Ok.position c.args.key.now
+          c.index.result.now at.0 value,
       ap (λ (m : Flagged Name). find name_cmp c.args.key.now m.entries) (sym c.self.view_is)
           ∙ find_there-zip name_cmp d.keys.keys (numbered 0 ns d.keys.numbers) long name_total c.args.key.now c.in-Ok.position
           c.index.result.now at.0 at.1
