@@ -8,7 +8,7 @@ from pathlib import Path
 
 TOP = Path(__file__).resolve().parent.parent
 WIDTH = 140
-CHANGING = {it: "being changed" for it in ("rings", "columns", "tree", "inbox")}
+CHANGING = {it: "lines of its proofs, to be broken when they are proved next" for it in ("rings", "columns", "tree")}
 RAW = re.compile(r'\bb?r(#*)"')
 
 

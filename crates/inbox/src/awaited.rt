@@ -1,6 +1,7 @@
 //! Waiting operations, and the counters that they wait for.
 
-ghost use Rattle.std.specs.Prelude.{◌≡◌, ◌≢◌, ◌<◌, ◌≤◌, ℕ, length, true, false, IsTrue, IsFalse, IfSome, IfNone, option_copied, slice_index};
+ghost use Rattle.std.specs.Prelude.{◌≡◌, ◌≢◌, ◌<◌, ◌≤◌, ℕ, length, true, false, IsTrue, IsFalse, IfSome, IfNone, option_copied};
+ghost use Rattle.std.specs.Prelude.{slice_index};
 ghost use Rattle.std.specs.BTreeSet.{contains};
 ghost use Rattle.slab.specs.Slab.{SameValues, get};
 ghost use Rattle.inbox.specs.Awaiting.{await_cmp, awaited_at, seen_at, AreSingle, IsAhead, IsAwaiting};

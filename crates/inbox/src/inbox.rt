@@ -134,8 +134,8 @@ impl Inbox {
 
     /// Moves on what waits for counters that were applied since the last call, so that `smallest_ready` needn't look at it. Changes no
     /// answer. Where a counter is awaited it costs a look at each counter of what is applied, a search for each that rose, and a few
-    /// searches for each operation that moves: over its life at most once for each replica that it names. Where allocation fails it ends early, and the next
-    /// call goes on.
+    /// searches for each operation that moves: over its life at most once for each replica that it names. Where allocation fails it
+    /// ends early, and the next call goes on.
     pub fn advance(&mut self, document: &Document)
         requires width { AreAsWide document.now.table self.old }
         ensures same { self.new ≡ self.old }

@@ -11,8 +11,8 @@ ghost use Rattle.document.specs.operation.declared.op.Op.{Op as AnOp};
 ghost use Rattle.slab.specs.Slab.{get};
 ghost use Rattle.semantics.specs.Faults.{is_ready};
 ghost use Rattle.document.specs.operation.Meanings.{stamped_of};
-ghost use Rattle.inbox.specs.Awaiting.{await_cmp, first_of, is_above, is_ready_at, AreAwaiting, AreThisWide, AreUnseen, IsMet, IsPassed, IsReadyAt};
-ghost use Rattle.inbox.specs.Awaiting.{IsSettled};
+ghost use Rattle.inbox.specs.Awaiting.{await_cmp, first_of, is_above, is_ready_at, AreAwaiting, AreThisWide, AreUnseen, IsMet, IsPassed};
+ghost use Rattle.inbox.specs.Awaiting.{IsReadyAt, IsSettled};
 
 use crate::awaited::{Awaited, Waiting, awaits_nothing, op_at, seen_at};
 use crate::waits::Waits;

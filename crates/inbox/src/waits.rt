@@ -72,8 +72,8 @@ impl Waits {
         }
     }
 
-    /// Removes what an operation waits for, which stands at this key of the slab. A search among those that may be ready, and `forget` where
-    /// it isn't one of them.
+    /// Removes what an operation waits for, which stands at this key of the slab. A search among those that may be ready, and where it
+    /// isn't one of them that of `forget`.
     pub fn forget(&mut self, waiting: &Waiting, key: usize)
         requires there { (s : TheSlab AnOp) × (es : List (TheId × ℕ)) × (get s key ≡ Some waiting.now) × AreAwaiting s es self.old }
         ensures { IsForgotten self.old self.new waiting.now.id key }

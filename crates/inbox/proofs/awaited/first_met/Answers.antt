@@ -3,7 +3,8 @@ use Rattle.semantics.specs.LegalHistory.{IsAmong}
 use Rattle.inbox.specs.declared.awaited.Awaited.{Awaited}
 use Rattle.inbox.proofs.AwaitOrder.{all_from, counter_rises, first_left, in_order, left_above, none_before, rises}
 use Rattle.inbox.proofs.awaited.first_met.Goals as goal
-use Rattle.inbox.proofs.awaited.first_met.Goals.{else-awaited-index-via-then-awaited-index+else-awaited-get, else-awaited-index-via-else-awaited-index}
+use Rattle.inbox.proofs.awaited.first_met.Goals.{else-awaited-index-via-then-awaited-index+else-awaited-get}
+use Rattle.inbox.proofs.awaited.first_met.Goals.{else-awaited-index-via-else-awaited-index}
 
 pub returns-in_err-awaited-clause-none : goal.returns-in_err-awaited-clause-none
 returns-in_err-awaited-clause-none c = rw c.from_residual.ensures

@@ -42,6 +42,7 @@ returns-clause-met c k o stands ready =
     elim (c.requires.there.1.each k o stands) [
       | inl awaiting ↦ c.loop-index.invariant.passed (awaited_at o.deps awaiting.index k) awaiting.held
           (omega
-          (arith, awaiting.within, c.requires.wide k o stands, c.len-index-end.ensures.length, ap length c.table.ensures)) o stands awaiting.within refl ready
+          (arith, awaiting.within, c.requires.wide k o stands, c.len-index-end.ensures.length, ap length c.table.ensures))
+          o stands awaiting.within refl ready
       | inr may ↦ c.loop-index.invariant.may k o stands may ready
     ]
