@@ -1,6 +1,6 @@
 #!/usr/bin/env python3
-"""Tests that no line of code, of a definition or of a proof has more than 140 columns, outside raw strings. A crate that `CHANGING` names
-may have some, for the reason beside it. Prints a line for each that is too long, and fails if there is any.
+"""Tests that no line of code, of a definition or of a proof has more than 140 columns, outside raw strings.
+Prints a line for each that is too long, and fails if there is any.
 """
 import re
 import sys
@@ -8,7 +8,6 @@ from pathlib import Path
 
 TOP = Path(__file__).resolve().parent.parent
 WIDTH = 140
-CHANGING = {it: "lines of its proofs, to be broken when they are proved next" for it in ("rings", "columns", "tree")}
 RAW = re.compile(r'\bb?r(#*)"')
 
 
@@ -31,21 +30,14 @@ def lines_outside_raw_strings(text):
 
 
 def main():
-    seen, faults, left = 0, 0, set()
+    seen, faults = 0, 0
     for path in sorted(it for part in ("src", "specs", "proofs") for it in TOP.glob(f"crates/*/{part}/**/*.*")):
-        crate = path.relative_to(TOP / "crates").parts[0]
         seen += 1
         for number, line in lines_outside_raw_strings(path.read_text(encoding="utf-8")):
             if len(line) <= WIDTH:
                 continue
-            if crate in CHANGING:
-                left.add(crate)
-                continue
             faults += 1
             print(f"lines: FAILED: {path.relative_to(TOP)}:{number}: {len(line)} columns")
-    for crate in sorted(set(CHANGING) - left):
-        faults += 1
-        print(f"lines: FAILED: {crate} has no long line, and needs no exception")
     print(f"lines: {seen} files, {faults} faults")
     sys.exit(1 if faults else 0)
 

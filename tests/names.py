@@ -25,7 +25,7 @@ ELSEWHERE = {
     "DECISIONS": {"IsAllowed", "Vec::insert", "arrayvec::ArrayString", "dyn"},
     "EMBEDDING": {"HANDLES", "a.parts", "engines.run_engine", "received.stopped", "sleep", "spawn", "std::thread::Parker"},
     "NEXT": {"Closed", "flat_map", "set_as"},
-    "PERF": {"AreEntries", "Vec::insert", "is_near", "malloc_consolidate", "memmove", "nm", "show_below", "unlink_chunk"},
+    "PERF": {"AreEntries", "Vec::insert", "is_on_the_way", "malloc_consolidate", "memmove", "nm", "show_below", "unlink_chunk"},
     "PROVING": {
         "Cmp.decided", "Cmp.on_equiv", "Crate.words", "FiltersInPlace", "Lts", "Vec::get", "Vec::insert", "Vec::retain", "as_chunks_mut",
         "c.from_residual", "callgrind", "l.x", "memmove", "offers", "op.id", "reduce_max", "with_items",
@@ -62,7 +62,7 @@ def words():
     """Each word of a source, script or edit, and the name of each."""
     parts = [f"crates/*/{part}/**/*.*" for part in ("src", "specs", "proofs", "must-fail")]
     patterns = [*parts, "tests/*", "tools/*", "bench/*", ".ci/*", "jdoc", "crates.txt"]
-    names = {it.stem for pattern in [*parts, "crates/*"] for it in TOP.glob(pattern)}
+    names = {it.stem for pattern in [*parts, "crates/*", "tests/scripts/*"] for it in TOP.glob(pattern)}
     found = set(re.findall(r"[\w-]+", text_of(*patterns)))
     return names.union(found, *(it.split("-") for it in found))
 
@@ -121,10 +121,12 @@ def missing_clauses(text):
 
 
 def files_of(crate):
-    """The files of a crate and of its tests, where these are a crate of their own or stand in `parts_tests`."""
-    parts = f"parts_tests/src/tests/of_{crate}"
+    """The files of a crate and of its tests, where these are a crate of their own or stand in another crate of tests; and the sessions, for
+    `scripts`, which plays them."""
+    parts = f"*_tests/src/tests/of_{crate}"
     patterns = [f"{crate}/src/**/*.rt", f"{crate}_tests/src/**/*.rt", f"{parts}.rt", f"{parts}/**/*.rt"]
-    return [it for pattern in patterns for it in sorted((TOP / "crates").glob(pattern))]
+    sessions = sorted(TOP.glob("tests/scripts/*.session")) if crate == "scripts" else []
+    return [it for pattern in patterns for it in sorted((TOP / "crates").glob(pattern))] + sessions
 
 
 def missing_tests(text):

@@ -1,13 +1,12 @@
 #!/usr/bin/env python3
-"""Tests that no page and no comment has a phrase of tests/words.txt. A crate that `CHANGING` names may have some, for the reason beside
-it. Prints a line for each place, with what to say instead, and fails if there is any.
+"""Tests that no page and no comment has a phrase of tests/words.txt. Prints a line for each place, with what to say
+instead, and fails if there is any.
 """
 import re
 import sys
 from pathlib import Path
 
 TOP = Path(__file__).resolve().parent.parent
-CHANGING = {it: "being changed" for it in ("rings", "columns")}
 COMMENTS = {".rt": "//", ".antt": "-- "}
 
 
@@ -32,20 +31,14 @@ def texts():
 
 
 def main():
-    banned, seen, faults, left = list(phrases()), 0, 0, set()
+    banned, seen, faults = list(phrases()), 0, 0
     for path, number, text in texts():
         seen += 1
         for phrase, instead in banned:
             if not (it := phrase.search(text)):
                 continue
-            if path.parts[0] == "crates" and path.parts[1] in CHANGING:
-                left.add(path.parts[1])
-                continue
             faults += 1
             print(f"words: FAILED: {path}:{number}: '{it[0]}'; say: {instead}")
-    for crate in sorted(set(CHANGING) - left):
-        faults += 1
-        print(f"words: FAILED: {crate} has none of these phrases, and needs no exception")
     print(f"words: {len(banned)} phrases, {seen} lines, {faults} faults")
     sys.exit(1 if faults else 0)
 

@@ -6,7 +6,8 @@ use Rattle.std.proofs.lemmas.List.{append-nil, length-append}
 use Rattle.semantics.specs.LegalAnswer.{Submitted}
 use Rattle.semantics.specs.Replica.{Replica}
 use Rattle.semantics.specs.Engine.{Engine, Handled, Published}
-use Rattle.semantics.specs.WriteSteps.{reply_to, take_item, take_for, publish, give, give_oldest, give_for, answered_or_idle, handle_all}
+use Rattle.semantics.specs.WriteSteps.{reply_to, take_submission, take_for, publish, give, give_oldest, give_for, answered_or_idle}
+use Rattle.semantics.specs.WriteSteps.{handle_all}
 use Rattle.semantics.specs.Batches.{items_of}
 use Rattle.semantics.specs.Handling.{Handler, IsWhole, Runs}
 use Rattle.agreement.specs.GrantedTurns.{AreGranted, Awaits, StepsAlike}
@@ -27,7 +28,7 @@ as_rules w h = record { submitted = h.submitted; reply = reply_to w.replica h.su
 -- one take, where a batch has room
 one_take : (E : Engine) (h : Handled) (queue : List Submitted) (w u : Handler) (done : List Handled) → length done < E.batch
     → IsWhole w h.submitted h.reply u
-    → (take_item (taking E (h.submitted ∷ queue) w.replica done)).engine ≡ taking E queue u.replica (done ++ h ∷ [])
+    → (take_submission (taking E (h.submitted ∷ queue) w.replica done)).engine ≡ taking E queue u.replica (done ++ h ∷ [])
 one_take E h queue w u done l whole =
     rw (lt-leb E.batch (length done) l)
     (ap (λ r. taking E queue r (done ++ as_rules w h ∷ [])) (sym whole.replica)
@@ -44,22 +45,22 @@ take_run E (h ∷ hs) rest w v done l g =
     ∙ take_run E hs rest g.0 v (done ++ h ∷ []) (omega (arith, l, length-append done (h ∷ []))) g.2
     ∙ ap (taking E rest v.replica) (append_assoc done (h ∷ []) hs)
 
-take_for-idle : (n : ℕ) (e : Engine) → (take_item e).engine ≡ e → take_for n e ≡ e
+take_for-idle : (n : ℕ) (e : Engine) → (take_submission e).engine ≡ e → take_for n e ≡ e
 take_for-idle zero e idle = refl
 take_for-idle (suc n) e idle = ap (take_for n) idle ∙ take_for-idle n e idle
 
 take_for-sum : (a b : ℕ) (e : Engine) → take_for (a + b) e ≡ take_for b (take_for a e)
 take_for-sum zero b e = let none : 0 + b ≡ b = omega arith in ap (λ n. take_for n e) none
 take_for-sum (suc a) b e =
-    let one : suc a + b ≡ suc (a + b) = omega arith in ap (λ n. take_for n e) one ∙ take_for-sum a b (take_item e).engine
+    let one : suc a + b ≡ suc (a + b) = omega arith in ap (λ n. take_for n e) one ∙ take_for-sum a b (take_submission e).engine
 
 -- nothing is taken where nothing is left, or a batch is full
 no_take : (E : Engine) (rest : List Submitted) (r : Replica) (hs : List Handled) → (length hs < E.batch → rest ≡ [])
-    → (take_item (taking E rest r hs)).engine ≡ taking E rest r hs
+    → (take_submission (taking E rest r hs)).engine ≡ taking E rest r hs
 no_take E [] r hs all = refl
 no_take E (x ∷ rest) r hs all = by_room (nat_le E.batch (length hs)) refl
   where
-    by_room : (b : Bool) → nat_le E.batch (length hs) ≡ b → (take_item (taking E (x ∷ rest) r hs)).engine ≡ taking E (x ∷ rest) r hs
+    by_room : (b : Bool) → nat_le E.batch (length hs) ≡ b → (take_submission (taking E (x ∷ rest) r hs)).engine ≡ taking E (x ∷ rest) r hs
     by_room true e = rw e refl
     by_room false e = let none : x ∷ rest ≡ [] = all (leb-false E.batch (length hs) e) in absurd (cc)
 

@@ -9,11 +9,11 @@ use Rattle.std.proofs.lemmas.Bool.Decides.{Decides-and, Decides-by_and}
 use Rattle.std.proofs.lemmas.Slice.Eq.{slice_eq-Decides}
 use Rattle.semantics.specs.Ids.{OpId}
 use Rattle.semantics.specs.Elements.{Scalar}
-use Rattle.peer_sync.specs.value.Equality.{is_same_scalar, scalar_decides}
+use Rattle.peer_sync.specs.value.SameValues.{is_same_scalar, scalar_decides}
 use Rattle.std.proofs.lemmas.List.Folds.{list_all-map}
 use Rattle.std.specs.Cmp.Derive.Mapped.{pointwise-map}
 use Rattle.peer_sync.specs.value.declared.value.Scalar.{Scalar as Given}
-use Rattle.peer_sync.specs.value.Meanings.{scalar_of}
+use Rattle.peer_sync.specs.value.Values.{scalar_of}
 use Rattle.bench.specs.declared.showing.Shown.{Shown}
 use Rattle.bench.specs.Showing.{ShowAlike, View, is_same_view, is_same_written, view_of}
 

@@ -4,8 +4,8 @@ use Rattle.std.specs.List.{All}
 use Rattle.std.specs.Cmp.Lexicographic.{pointwise}
 use Rattle.semantics.specs.Ids.{OpId}
 use Rattle.semantics.specs.Elements.{Scalar}
-use Rattle.peer_sync.specs.value.Equality.{is_same_scalar}
-use Rattle.peer_sync.specs.value.Meanings.{scalar_of}
+use Rattle.peer_sync.specs.value.SameValues.{is_same_scalar}
+use Rattle.peer_sync.specs.value.Values.{scalar_of}
 use Rattle.bench.specs.declared.showing.Shown.{Shown}
 
 -- how many operations a history has, the keys of its document, and at each of them the values with the ids of what wrote them

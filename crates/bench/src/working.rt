@@ -4,8 +4,8 @@ ghost use Rattle.std.specs.Prelude.{◌≡◌, ◌<◌, ◌≤◌, ◌-◌, ◌+
 ghost use Rattle.semantics.specs.Ids.{OpId as AnId};
 ghost use Rattle.semantics.specs.Elements.{Scalar as TheScalar, Whole};
 ghost use Rattle.semantics.specs.LegalAnswer.{OfCommand};
-ghost use Rattle.peer_sync.specs.operation.Meanings.{command_of};
-ghost use Rattle.peer_sync.specs.value.Meanings.{scalar_of};
+ghost use Rattle.peer_sync.specs.operation.Ops.{command_of};
+ghost use Rattle.peer_sync.specs.value.Values.{scalar_of};
 ghost use Rattle.bench.specs.Workers.{Shows, assignment, assignments, requests_by};
 
 use crate::gate::{Gate, at, values_at};

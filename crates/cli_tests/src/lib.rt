@@ -1,4 +1,5 @@
-//! The tests of `cli`, through its public functions. They are a crate of their own, so that their proof doesn't repeat the crate's.
+//! The tests of `cli`, and in `of_bench` those of `bench`, through their public functions. They are a crate of their own, so that their
+//! proof doesn't repeat the crates'.
 #![tactic(auto)]
 
 #[cfg(test)]

@@ -76,7 +76,7 @@ leads runs indices are home k at =
 pub indexed_same : (runs : List ListBlock) (indices : List ℕ) (k : ℕ) (r q : ListBlock) → slice_get runs k ≡ Some r → q.number ≡ r.number
     → AreIndexed runs indices → AreIndexed (set runs k q) indices
 indexed_same runs indices k r q is number are = record {
-  beside = are.beside ∙ sym (length-set runs k q);
+  paired = are.paired ∙ sym (length-set runs k q);
   within = subst (λ n. All (λ j. j < n) indices) (sym (length-set runs k q)) are.within;
   indexed = λ j s at. elim (set_cases runs k j r q s is at) [
     | inl same ↦ ap (slice_get indices) (ap (λ (o : ListBlock). o.number) same.1 ∙ number) ∙ are.indexed k r is ∙ ap Some (sym same.0)
@@ -189,9 +189,9 @@ pub indexed_more : (runs : List ListBlock) (old new : List ℕ) (i : ℕ) (b : L
     → i ≤ length runs
     → IsMadeAt old i new → AreIndexed (insert runs i b) new
 indexed_more runs old new i b are number inside made = record {
-  beside =
-      let long = made_long old i new made in let beside = are.beside in let more = length-insert runs i b inside in
-      omega (arith, long, beside, more);
+  paired =
+      let long = made_long old i new made in let paired = are.paired in let more = length-insert runs i b inside in
+      omega (arith, long, paired, more);
   within = λ n d below. by_within n d below (cases_lt n (length old));
   indexed = λ j s at. by_indexed j s at (cases_lt j i);
 }
@@ -249,4 +249,4 @@ indexed_more runs old new i b are number inside made = record {
         by_side (inr here) =
             let same : i ≡ j = omega (arith, here, past) in
             let is_b : s ≡ b = sym read ∙ ap (λ k. get_or (insert runs i b) k s) (sym same) ∙ get_or-insert_at runs i b s inside in
-            ap (slice_get new) (ap (λ (o : ListBlock). o.number) is_b ∙ number ∙ sym are.beside) ∙ made_last old i new made ∙ ap Some same
+            ap (slice_get new) (ap (λ (o : ListBlock). o.number) is_b ∙ number ∙ sym are.paired) ∙ made_last old i new made ∙ ap Some same

@@ -4,12 +4,12 @@ pub mod Puts
 pub mod Zipped
 pub mod Halves
 pub mod Sought
-pub mod Near
+pub mod HintedKeys
 pub mod Prefixes
 pub mod Placed
 pub mod Columns
 pub mod Above
-pub mod Beside
+pub mod IndexedEntries
 pub mod Removals
 pub mod Same
 pub mod Flags

@@ -8,7 +8,7 @@ use Rattle.std.proofs.lemmas.Option.{slice_get-get_or, slice_get_within, get_or_
 use Rattle.std.proofs.lemmas.Slice.Zip.{firsts-zip}
 use Rattle.std.specs.declared.cmp.Ordering.{Ordering}
 use Rattle.std.specs.Cmp.{IsTotalOrder}
-use Rattle.version.proofs.Beside.{zip-get_or, zip-length}
+use Rattle.version.proofs.PairedColumns.{zip-get_or, zip-length}
 use Rattle.columns.specs.Rank.{StandsAt, as_set, keys_of}
 use Rattle.columns.proofs.Puts.{put_there}
 use Rattle.columns.proofs.Ranks.{stands_here}
@@ -36,15 +36,15 @@ module _ {K X Y : Type 0} (R : K → K → Ordering) (o : IsTotalOrder R) (ks : 
       (ap (R k) (get_or_from_slice_get ks i k k at) ∙ tied_itself o k)
 
   -- what stands beside it in another column
-  pub find_beside : (i : ℕ) (k : K) (v : X) (w : Y) → slice_get (zip ks vs) i ≡ Some (k, v) → slice_get ws i ≡ Some w
+  pub find_paired : (i : ℕ) (k : K) (v : X) (w : Y) → slice_get (zip ks vs) i ≡ Some (k, v) → slice_get ws i ≡ Some w
       → find R k (zip ks ws) ≡ Some w
-  find_beside i k v w at beside =
+  find_paired i k v w at paired =
       let key = key_of-zip i k v at in
-      find_there-zip R ks ws wide o k i w key (stands i k key).ranked ∙ ap Some (get_or_from_slice_get ws i w w beside)
+      find_there-zip R ks ws wide o k i w key (stands i k key).ranked ∙ ap Some (get_or_from_slice_get ws i w w paired)
 
   -- a write there
-  pub put_beside : (i : ℕ) (k : K) (v : X) (w : Y) → slice_get (zip ks vs) i ≡ Some (k, v) → zip ks (set ws i w) ≡ put R k w (zip ks ws)
-  put_beside i k v w at =
+  pub put_paired : (i : ℕ) (k : K) (v : X) (w : Y) → slice_get (zip ks vs) i ≡ Some (k, v) → zip ks (set ws i w) ≡ put R k w (zip ks ws)
+  put_paired i k v w at =
       let there : StandsAt R k (keys_of (zip ks ws)) i = subst (λ xs. StandsAt R k xs i) (sym (firsts-zip ks ws wide))
       (stands i k (key_of-zip i k v at)) in
       zip-set ks ws i w k

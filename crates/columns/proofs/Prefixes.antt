@@ -106,15 +106,15 @@ pub prefix_at : (names : List Name) (prefixes : List ℕ) (position p : ℕ) →
     → slice_get prefixes position ≡ Some p → p ≡ first_bytes 8 (get_or names position [])
 prefix_at names prefixes position p are within at =
     sym (get_or_from_slice_get prefixes position p 0 at)
-    ∙ ap (λ ps. get_or ps position 0) are.beside
+    ∙ ap (λ ps. get_or ps position 0) are.paired
     ∙ get_or-map (first_bytes 8) names position [] 0 within
 
 -- one more name, and its prefix beside it
 pub prefixes_more : (names : List Name) (prefixes : List ℕ) (name : Name) (position : ℕ) → AreBytes name → ArePrefixes names prefixes
     → ArePrefixes (insert names position name) (insert prefixes position (first_bytes 8 name))
 prefixes_more names prefixes name position bytes are = record {
-  beside =
-      ap (λ xs. insert xs position (first_bytes 8 name)) are.beside
+  paired =
+      ap (λ xs. insert xs position (first_bytes 8 name)) are.paired
       ∙ (λ i. take-map (first_bytes 8) position names i ++ first_bytes 8 name ∷ drop-map (first_bytes 8) position names i)
       ∙ sym (map-append (first_bytes 8) (take position names) (name ∷ drop position names));
   bytes =

@@ -1,5 +1,6 @@
 -- What is shown, sixteen flags at a time.
-use Rattle.std.proofs.Common.{◌≡◌, ap, sym, ◌∙◌, ℕ, ◌+◌, ◌-◌, ◌<◌, ◌≤◌, Bool, List, ◌++◌, length, take, drop, slice_get, min, arith, length-take}
+use Rattle.std.proofs.Common.{◌≡◌, ap, sym, ◌∙◌, ℕ, ◌+◌, ◌-◌, ◌<◌, ◌≤◌, Bool, List, ◌++◌, length, take, drop, slice_get, min, arith}
+use Rattle.std.proofs.Common.{length-take}
 use Rattle.std.proofs.Common.{append_assoc}
 use Rattle.std.specs.List.{items_where_true}
 use Rattle.std.proofs.lemmas.List.{drop-drop, length-drop, take-append-drop}
@@ -41,6 +42,7 @@ module _ {X : Type 0} (bs : List Bool) (xs : List X) (i n : ℕ) (long : length 
       → old ++ items_where_true (drop i bs) (drop i xs) ≡ all
       → now ++ items_where_true (drop j bs) (drop j xs) ≡ all
   pushed_run j is old now all pushed before =
-      (λ t. pushed t ++ items_where_true ((ap (λ k. drop k bs) is ∙ sym (drop-drop n i bs)) t) ((ap (λ k. drop k xs) is ∙ sym (drop-drop n i xs)) t))
+      (λ t. pushed t
+      ++ items_where_true ((ap (λ k. drop k bs) is ∙ sym (drop-drop n i bs)) t) ((ap (λ k. drop k xs) is ∙ sym (drop-drop n i xs)) t))
       ∙ append_assoc old (items_where_true (take n (drop i bs)) (take n (drop i xs))) _
       ∙ ap (λ zs. old ++ zs) (sym split) ∙ before

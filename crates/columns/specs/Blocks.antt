@@ -114,7 +114,7 @@ pub record Indices : Type 0 where
 
 -- each block's index stands at its number, and there is no other number
 pub record AreIndexed (runs : List ListBlock) (indices : List ℕ) : Type 0 where
-  pub beside : length indices ≡ length runs
+  pub paired : length indices ≡ length runs
   pub within : All (λ k. k < length runs) indices
   pub indexed : (block : ℕ) (r : ListBlock) → slice_get runs block ≡ Some r → slice_get indices r.number ≡ Some block
 

@@ -14,5 +14,5 @@ AreBytes name = All (λ b. b < 256) name
 
 -- the prefix of each name
 pub record ArePrefixes (names : List Name) (prefixes : List ℕ) : Type 0 where
-  pub beside : prefixes ≡ map (first_bytes 8) names
+  pub paired : prefixes ≡ map (first_bytes 8) names
   pub bytes : All AreBytes names

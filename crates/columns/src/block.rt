@@ -45,7 +45,7 @@ impl Model for Block {
 }
 
 impl Block {
-    /// Returns an empty block with this number. Takes no memory.
+    /// Returns an empty block with this number. Allocates nothing.
     pub fn new(number: usize, alloc: Global) -> Block
         ensures number { result.number ≡ number }
         ensures items { result.items ≡ [] }
@@ -90,18 +90,18 @@ impl Block {
         self.ids[index]
     }
 
-    /// The index of an item. Looks at the one at `near`, and then at each one before it.
-    pub fn position(&self, id: &OpId, near: usize) -> Option<usize>
+    /// The index of an item. Looks at the one at `hint`, and then at each one before it.
+    pub fn position(&self, id: &OpId, hint: usize) -> Option<usize>
         requires { AreApart self.now.items }
         ensures { IsPositionOf id.now self.now.items result }
     {
-        match self.ids.get(near) {
-            Some(other) if other == id => Some(near),
+        match self.ids.get(hint) {
+            Some(other) if other == id => Some(hint),
             _ => position_in(&self.ids, id),
         }
     }
 
-    /// The item at which so many shown ones stand before. Looks at each flag up to there, unless all are shown.
+    /// The shown item with this index, counted from 0. Looks at each flag up to there, unless all are shown.
     pub fn nth_shown(&self, index: usize) -> Option<OpId>
         ensures { result ≡ slice_get (items_where_true self.now.flags self.now.items) index }
     {
@@ -151,7 +151,7 @@ impl Block {
         self.flags.reserve(1)
     }
 
-    /// Puts an item at an index, not shown. Takes no memory, and moves each item behind it.
+    /// Puts an item at an index, not shown. Allocates nothing, and moves each item behind it.
     pub fn put(&mut self, index: usize, id: OpId)
         requires within { index ≤ length self.old.items }
         requires room { 0 < self.old.room }
@@ -314,7 +314,7 @@ fn first_smaller_in(ids: &[OpId], from: usize, id: &OpId) -> Option<usize>
 /// How many flags are counted at once as an item is sought by its index.
 const RUN: usize = 16;
 
-/// The id at which so many shown ones stand before. Counts sixteen flags at a time, which is done at once.
+/// The shown id with this index, counted from 0. Counts flags in runs of 16.
 fn nth_shown_in(ids: &[OpId], flags: &[bool], index: usize) -> Option<OpId>
     requires { length flags.now ≡ length ids.now }
     ensures { result ≡ slice_get (items_where_true flags.now ids.now) index }

@@ -24,7 +24,7 @@ impl Model for BlockIndices {
 }
 
 impl BlockIndices {
-    /// Returns the indices of no blocks. Takes no memory.
+    /// Returns the indices of no blocks. Allocates nothing.
     pub fn new(alloc: Global) -> BlockIndices
         ensures { result.by_number ≡ [] }
     {
@@ -51,7 +51,7 @@ impl BlockIndices {
         self.by_number.reserve_exact(1)
     }
 
-    /// Gives the next number to a block that comes in at an index; those from there on come one later. Takes no memory. Looks at each
+    /// Gives the next number to a block that comes in at an index; those from there on come one later. Allocates nothing. Looks at each
     /// block.
     pub fn make(&mut self, index: usize)
         requires room { 0 < self.old.room }

@@ -10,7 +10,7 @@ ghost use Rattle.semantics.specs.Tables.{by_table};
 ghost use Rattle.semantics.specs.Context.{without};
 ghost use Rattle.version.specs.Columns.{is_uncovered};
 ghost use Rattle.columns.specs.Rank.{keys_of};
-ghost use Rattle.columns.specs.Entries.{StandBeside, put_index};
+ghost use Rattle.columns.specs.Entries.{AreIndicesIn, put_index};
 
 use crate::entry::Entry;
 use crate::held::Held;
@@ -22,7 +22,7 @@ use version::VersionVector;
 
 /// A finite map by id.
 ///
-/// Most maps hold one entry, so a single one is inline: the map is 32 bytes with a tag, 48 with a scalar, and takes no memory. From the
+/// Most maps hold one entry, so a single one is inline: the map is 32 bytes with a tag, 48 with a scalar, and allocates nothing. From the
 /// second on all stand one after the other in a vector, which takes a box too and stays when entries go.
 ///
 /// Contracts see the entries, rising by id, the index of each entry's replica in the table, and for how many more entries there is room.
@@ -48,7 +48,7 @@ impl<T> Model for ById<T> {
 }
 
 impl<T> ById<T> {
-    /// Returns an empty map, which has room for one entry. Takes no memory.
+    /// Returns an empty map, which has room for one entry. Allocates nothing.
     pub fn new(alloc: Global) -> ById<T>
         ensures entries { result.entries ≡ [] }
         ensures indices { result.indices ≡ [] }
@@ -63,12 +63,12 @@ impl<T> ById<T> {
     pub fn len(&self) -> usize
         ensures length { result ≡ length self.now.entries }
         ensures rising { IsTrue (is_sorted id_cmp self.now.entries) }
-        ensures beside { length self.now.indices ≡ length self.now.entries }
+        ensures indexed { length self.now.indices ≡ length self.now.entries }
     {
         match &self.held {
             Held::Empty => 0,
             Held::Single(_) => 1,
-            Held::Columns(columns) => columns.len(),
+            Held::Many(list) => list.len(),
         }
     }
 
@@ -80,13 +80,13 @@ impl<T> ById<T> {
         match &self.held {
             Held::Empty => unreachable!(),
             Held::Single(entry) => (entry.id(), &entry.value),
-            Held::Columns(columns) => columns.at(position),
+            Held::Many(list) => list.at(position),
         }
     }
 }
 
 impl<T: Drop> ById<T> {
-    /// Makes room for one more entry. Takes no memory before the second entry, and none where there is room.
+    /// Makes room for one more entry. Allocates nothing before the second entry, nor where there is room.
     ///
     /// # Errors
     /// `AllocError` if allocation fails.
@@ -99,40 +99,40 @@ impl<T: Drop> ById<T> {
         match &mut self.held {
             Held::Empty => Ok(()),
             Held::Single(_) => self.held.spread(self.alloc),
-            Held::Columns(columns) => columns.reserve_one(),
+            Held::Many(list) => list.reserve_one(),
         }
     }
 
     /// Puts an entry where its id belongs; `index` is the index of the id's replica in the table. Replaces the id's value, if it has one.
     ///
-    /// Takes no memory. The first entry is one write; in columns a binary search and one insert into `Rings`, and for the greatest id
+    /// Allocates nothing. The first entry is one write; then a binary search and one insert into `Rings`, and for the greatest id
     /// one comparison and one push.
     pub fn put(&mut self, id: OpId, index: usize, value: T)
         requires { 0 < self.old.room }
         ensures entries { self.new.entries ≡ put id_cmp id value self.old.entries }
         ensures indices { self.new.indices ≡ put_index id index (keys_of self.old.entries) self.old.indices }
-        ensures beside { (table : List ℕ) → slice_get table index ≡ Some id.replica → StandBeside table self.old.entries self.old.indices
-            → StandBeside table self.new.entries self.new.indices }
+        ensures indexed { (table : List ℕ) → slice_get table index ≡ Some id.replica → AreIndicesIn table self.old.entries self.old.indices
+            → AreIndicesIn table self.new.entries self.new.indices }
         ensures room { self.old.room ≤ self.new.room + 1 }
     {
         match &mut self.held {
             Held::Empty => self.held = Held::Single(Entry::new(id, index, value)),
             Held::Single(_) => unreachable!(),
-            Held::Columns(columns) => columns.put(id, index, value),
+            Held::Many(list) => list.put(id, index, value),
         }
     }
 
-    /// Removes the entries whose ids the vector covers. Takes no memory. In columns it straightens the rings, looks at each entry once,
-    /// and moves the entries that stay to the front.
+    /// Removes the entries whose ids the vector covers. Allocates nothing. Of several entries it makes the rings contiguous, looks at each
+    /// once, and moves the entries that stay to the front.
     pub fn clear(&mut self, vector: &VersionVector)
         requires { All (λ index. index < length vector.now) self.old.indices }
         ensures kept { zip self.new.entries self.new.indices
             ≡ filter (λ e. is_uncovered vector.now (e.0.0.counter, e.1)) (zip self.old.entries self.old.indices) }
         ensures without { (table : List ℕ) → AreDistinct table → length table ≡ length vector.now
-            → StandBeside table self.old.entries self.old.indices
+            → AreIndicesIn table self.old.entries self.old.indices
             → self.new.entries ≡ without (covers (by_table table vector.now)) self.old.entries }
-        ensures beside { (table : List ℕ) → StandBeside table self.old.entries self.old.indices
-            → StandBeside table self.new.entries self.new.indices }
+        ensures indexed { (table : List ℕ) → AreIndicesIn table self.old.entries self.old.indices
+            → AreIndicesIn table self.new.entries self.new.indices }
         ensures room { self.old.room ≤ self.new.room }
     {
         match &mut self.held {
@@ -142,7 +142,7 @@ impl<T: Drop> ById<T> {
                     let _ = self.held.take_single();
                 }
             }
-            Held::Columns(columns) => columns.clear(vector),
+            Held::Many(list) => list.clear(vector),
         }
     }
 }

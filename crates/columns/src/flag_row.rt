@@ -33,7 +33,7 @@ impl Model for FlagRow {
 }
 
 impl FlagRow {
-    /// Returns an empty row. Takes no memory.
+    /// Returns an empty row. Allocates nothing.
     pub fn new(alloc: Global) -> FlagRow
         ensures { result.flags ≡ [] }
     {
@@ -54,7 +54,7 @@ impl FlagRow {
         self.bytes.reserve_one()
     }
 
-    /// Puts a lowered flag at this position; those from there on come one later. Takes no memory. One insert into `Rings`.
+    /// Puts a lowered flag at this position; those from there on come one later. Allocates nothing. One insert into `Rings`.
     pub fn insert_lowered(&mut self, position: usize)
         requires within { position ≤ length self.old.flags }
         requires room { 0 < self.old.room }

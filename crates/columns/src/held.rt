@@ -3,7 +3,7 @@
 ghost use Rattle.std.specs.Prelude.{◌≡◌, ◌<◌, [], IfOk, OnOk};
 
 use crate::entry::Entry;
-use crate::entry_columns::EntryColumns;
+use crate::entry_list::EntryList;
 use std::alloc::{AllocError, Global};
 use std::mem::replace;
 
@@ -12,7 +12,7 @@ use std::mem::replace;
 pub enum Held<T> {
     Empty,
     Single(Entry<T>),
-    Columns(Box<EntryColumns<T>>),
+    Many(Box<EntryList<T>>),
 }
 
 impl<T: Drop> Held<T> {
@@ -31,35 +31,35 @@ impl<T: Drop> Held<T> {
         entry
     }
 
-    /// Moves the single entry into columns that have room for one more.
+    /// Moves the single entry into a list that has room for one more.
     ///
     /// # Errors
-    /// `AllocError` if allocation fails. The entry stays, there or in the columns.
+    /// `AllocError` if allocation fails. The entry stays, there or in the list.
     pub fn spread(&mut self, alloc: Global) -> Result<(), AllocError>
         requires { IsSingle self.old }
         ensures entries { (held_entries self.new).entries ≡ (held_entries self.old).entries }
         ensures indices { (held_entries self.new).indices ≡ (held_entries self.old).indices }
         ensures room { OnOk result (0 < (held_entries self.new).room) }
     {
-        let mut columns = first_columns(alloc)?;
+        let mut list = first_list(alloc)?;
         let entry = self.take_single();
-        columns.put(entry.id(), entry.index, entry.value);
-        let reserved = columns.reserve_one();
-        *self = Held::Columns(columns);
+        list.put(entry.id(), entry.index, entry.value);
+        let reserved = list.reserve_one();
+        *self = Held::Many(list);
         reserved
     }
 }
 
-/// Empty columns with room for an entry.
+/// An empty list with room for an entry.
 ///
 /// # Errors
 /// `AllocError` if allocation fails.
-fn first_columns<T: Drop>(alloc: Global) -> Result<Box<EntryColumns<T>>, AllocError>
-    ensures entries { IfOk result (λ columns. columns.value.entries ≡ []) }
-    ensures indices { IfOk result (λ columns. columns.value.indices ≡ []) }
-    ensures room { IfOk result (λ columns. 0 < columns.value.room) }
+fn first_list<T: Drop>(alloc: Global) -> Result<Box<EntryList<T>>, AllocError>
+    ensures entries { IfOk result (λ list. list.value.entries ≡ []) }
+    ensures indices { IfOk result (λ list. list.value.indices ≡ []) }
+    ensures room { IfOk result (λ list. 0 < list.value.room) }
 {
-    let mut columns = Box::new(alloc, EntryColumns::new(alloc))?;
-    columns.reserve_one()?;
-    Ok(columns)
+    let mut list = Box::new(alloc, EntryList::new(alloc))?;
+    list.reserve_one()?;
+    Ok(list)
 }

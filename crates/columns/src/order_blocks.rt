@@ -52,7 +52,7 @@ impl Model for OrderBlocks {
 }
 
 impl OrderBlocks {
-    /// Returns the order of an empty list. Takes no memory.
+    /// Returns the order of an empty list. Allocates nothing.
     pub fn new(alloc: Global) -> OrderBlocks
         ensures items { result.items ≡ [] }
         ensures visible { result.visible ≡ [] }
@@ -88,7 +88,7 @@ impl OrderBlocks {
     /// Puts a new item after `prev`, or after the head, past each next item with a greater id: the skipping rule of RGA. It isn't
     /// shown yet.
     ///
-    /// Takes no memory. Finds `prev` by a binary search and a walk in one block, unless it was inserted last, and goes past a block
+    /// Allocates nothing. Finds `prev` by a binary search and a walk in one block, unless it was inserted last, and goes past a block
     /// of greater items by a look at one id. Moves the items behind the new one in its block.
     pub fn insert_after(&mut self, prev: Option<OpId>, id: OpId)
         requires prev { IsTrue (has_position prev self.old.items) }

@@ -112,32 +112,32 @@ impl SortedKeys {
         self.search(key, prefix, probes)
     }
 
-    /// What `find` answers. Looks first at the key at `near` and at the next one, which decide where the key is that one, or goes in
+    /// What `find` answers. Looks first at the key at `hint` and at the next one, which decide where the key is that one, or goes in
     /// behind it: two comparisons then, and else two more than `find` needs.
-    pub fn find_near(&self, key: &Key, near: usize) -> Result<usize, usize>
+    pub fn find_with_hint(&self, key: &Key, hint: usize) -> Result<usize, usize>
         ensures { Finds self.now.keys key.now result }
     {
         let prefix = prefix_of(key.as_str().as_bytes());
-        if let Some(found) = self.look_near(key, prefix, near) {
+        if let Some(found) = self.look_at_hint(key, prefix, hint) {
             return found;
         }
         let mut probes = 0;
         self.search(key, prefix, &mut probes)
     }
 
-    /// What the keys at `near` and behind it say of where the key is, of which this is the prefix.
-    fn look_near(&self, key: &Key, prefix: u64, near: usize) -> Option<Result<usize, usize>>
+    /// What the keys at `hint` and behind it say of where the key is, of which this is the prefix.
+    fn look_at_hint(&self, key: &Key, prefix: u64, hint: usize) -> Option<Result<usize, usize>>
         requires prefix { prefix ≡ first_bytes 8 key.now }
         requires bytes { AreBytes key.now }
         ensures { IfSome result (Finds self.now.keys key.now) }
     {
-        if near >= self.len() {
+        if hint >= self.len() {
             return None;
         }
-        match self.compare(key, prefix, near) {
+        match self.compare(key, prefix, hint) {
             Ordering::Less => None,
-            Ordering::Equal => Some(Ok(near)),
-            Ordering::Greater => self.look_behind(key, prefix, near + 1),
+            Ordering::Equal => Some(Ok(hint)),
+            Ordering::Greater => self.look_behind(key, prefix, hint + 1),
         }
     }
 
@@ -183,7 +183,7 @@ impl SortedKeys {
         Err(low)
     }
 
-    /// Puts a key that isn't there yet at the position that `find` gives for it. Takes no memory. Two inserts into `Rings`.
+    /// Puts a key that isn't there yet at the position that `find` gives for it. Allocates nothing. Two inserts into `Rings`.
     pub fn put(&mut self, position: usize, key: Key)
         requires position { GoesTo name_cmp key self.old.keys position }
         requires room { 0 < self.old.room }
@@ -199,6 +199,8 @@ impl SortedKeys {
     }
 
     /// Compares a key, of which this is the prefix, with the one at a position.
+    // Inlined, since a search is little else; the prefixes decide most comparisons.
+    #[inline(always)]
     fn compare(&self, key: &Key, prefix: u64, position: usize) -> Ordering
         requires prefix { prefix ≡ first_bytes 8 key.now }
         requires bytes { AreBytes key.now }

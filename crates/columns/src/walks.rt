@@ -18,13 +18,13 @@ pub(crate) struct Position {
     pub index: usize,
 }
 
-/// The position of an item whose home is this block's number. Looks at the item of that block at `near`, and then at the others.
+/// The position of an item whose home is this block's number. Looks at the item of that block at `hint`, and then at the others.
 pub(crate) fn find(
     blocks: &[Block],
     indices: &BlockIndices,
     home: usize,
     id: &OpId,
-    near: usize,
+    hint: usize,
 ) -> Option<Position>
     requires apart { AreApart (joined blocks.now) }
     requires indexed { AreIndexed blocks.now indices.now.by_number }
@@ -32,7 +32,7 @@ pub(crate) fn find(
     ensures { IsFound blocks.now id.now result }
 {
     let block = indices.of(home)?;
-    let index = blocks[block].position(id, near)?;
+    let index = blocks[block].position(id, hint)?;
     Some(Position { block, index })
 }
 
@@ -42,7 +42,7 @@ pub(crate) fn behind(
     indices: &BlockIndices,
     homes: &Numbers,
     item: Option<OpId>,
-    near: usize,
+    hint: usize,
 ) -> Option<Position>
     requires apart { AreApart (joined blocks.now) }
     requires homes { AreHomes blocks.now homes.now.entries }
@@ -53,7 +53,7 @@ pub(crate) fn behind(
         return Some(Position { block: 0, index: 0 });
     };
     let home = homes.get(&id)?;
-    let at = find(blocks, indices, home, &id, near)?;
+    let at = find(blocks, indices, home, &id, hint)?;
     prove!(at.index < blocks[at.block].len());
     Some(Position {
         block: at.block,
@@ -82,7 +82,7 @@ pub(crate) fn goes_to(blocks: &[Block], from: Position, id: &OpId) -> Position
     }
 }
 
-/// The item at which so many shown ones stand before. Looks at how many are shown in each block up to there, and at the flags of one.
+/// The shown item with this index, counted from 0. Looks at how many are shown in each block up to there, and at the flags of one.
 pub(crate) fn nth_shown(blocks: &[Block], index: usize) -> Option<OpId>
     ensures { result ≡ slice_get (joined_shown blocks.now) index }
 {

@@ -1,10 +1,10 @@
-//! Answers: by its type each is legal for the item that it names, in the history of its notice.
+//! Answers: by its type each is legal for the submission that it names, in the history of its notice.
 
 ghost use Rattle.std.specs.Prelude.{◌≡◌, Some, None, MatchOption};
 ghost use Rattle.semantics.specs.PeerAnswers.{IsAnswer};
-ghost use Rattle.published.specs.items.Meanings.{reply_of, submitted_of};
+ghost use Rattle.published.specs.operation.Submissions.{reply_of, submitted_of};
 
-use published::{EngineName, Item, Notice, Reply, Shared};
+use published::{EngineName, Notice, Reply, Shared, Submission};
 use std::marker::Model;
 
 /// A reply, with a notice of the history in which it is legal.
@@ -14,11 +14,11 @@ pub struct Given<N: EngineName> {
     pub notice: Notice<N>,
 }
 
-/// What a client submitted and, once it is filled in, what it is answered. Contracts see the item, the reply and the
-/// history; an answer that isn't legal for its item can't be made. The item is shared with the client that waits for the answer.
+/// What a client submitted and, once it is filled in, what it is answered. Contracts see the submission, the reply and the history; an
+/// answer that isn't legal for its submission can't be made. The submission is shared with the client that waits for the answer.
 #[derive(Drop)]
 pub struct Answer<N: EngineName> {
-    item: Shared<Item>,
+    submission: Shared<Submission>,
     given: Option<Given<N>>,
 }
 
@@ -27,42 +27,45 @@ impl<N: EngineName> Model for Answer<N> {
     ghost use Rattle.std.specs.Coded.{codes};
     ghost use Rattle.semantics.specs.Codes.{coded_element};
     ghost use Rattle.semantics.specs.PeerAnswers.{IsAnswer};
-    ghost use Rattle.published.specs.items.Meanings.{reply_of, submitted_of};
-    ghost use Rattle.command.specs.Answers.{Answered};
+    ghost use Rattle.published.specs.operation.Submissions.{reply_of, submitted_of};
+    ghost use Rattle.command.specs.Answers.{AnswerCell};
 
-    ghost Value = { Answered };
+    ghost Value = { AnswerCell };
 
     ghost coded = { Prim.hlevel (codes, coded_element) };
 
     ghost view = { λ a. record {
-      item = a.item;
+      submission = a.submission;
       given = option_map
           (λ g. record { reply = g.reply; history = g.notice }) a.given;
     } };
 
     ghost invariant = { λ a. IfSome a.given
-        (λ g. IsAnswer N.own N.table g.notice (submitted_of N.table a.item) (reply_of g.reply)) };
+        (λ g. IsAnswer N.own N.table g.notice (submitted_of N.table a.submission) (reply_of g.reply)) };
 }
 
 impl<N: EngineName> Answer<N> {
-    /// The answer to an item, not filled in yet.
-    pub fn blank(item: Shared<Item>) -> Answer<N>
-        ensures { (result.item ≡ item) × (result.given ≡ None) }
+    /// The answer to a submission, not filled in yet.
+    pub fn blank(submission: Shared<Submission>) -> Answer<N>
+        ensures { (result.submission ≡ submission) × (result.given ≡ None) }
     {
-        Answer { item, given: None }
+        Answer {
+            submission,
+            given: None,
+        }
     }
 
-    /// The item that is answered.
-    pub fn item(&self) -> &Item
-        ensures { result.now ≡ self.now.item }
+    /// The submission that is answered.
+    pub fn submission(&self) -> &Submission
+        ensures { result.now ≡ self.now.submission }
     {
-        &self.item
+        &self.submission
     }
 
     /// Fills in a reply that is legal in the notice's history.
     pub fn fill(&mut self, reply: Reply, notice: Notice<N>)
-        requires { IsAnswer N.own N.table notice (submitted_of N.table self.old.item) (reply_of reply) }
-        ensures { (self.new.item ≡ self.old.item) × (self.new.given ≡ Some (record { reply = reply; history = notice })) }
+        requires { IsAnswer N.own N.table notice (submitted_of N.table self.old.submission) (reply_of reply) }
+        ensures { (self.new.submission ≡ self.old.submission) × (self.new.given ≡ Some (record { reply = reply; history = notice })) }
     {
         self.given = Some(Given { reply, notice });
     }
@@ -71,7 +74,7 @@ impl<N: EngineName> Answer<N> {
     pub fn given(&self) -> Option<&Given<N>>
         ensures { MatchOption result (self.now.given ≡ None)
             (λ g. (self.now.given ≡ Some (record { reply = g.now.reply; history = g.now.notice }))
-            × IsAnswer N.own N.table g.now.notice (submitted_of N.table self.now.item) (reply_of g.now.reply)) }
+            × IsAnswer N.own N.table g.now.notice (submitted_of N.table self.now.submission) (reply_of g.now.reply)) }
     {
         self.given.as_ref()
     }

@@ -7,7 +7,7 @@ use Rattle.semantics.specs.Limits.{most_keys}
 use Rattle.semantics.specs.Ids.{OpId}
 use Rattle.semantics.specs.Elements.{Element, Doc, Field, Item, Place, At, HeadOf, Name, depth}
 use Rattle.semantics.specs.Operations.{element_of}
-use Rattle.semantics.specs.Paths.{Key, down}
+use Rattle.semantics.specs.Paths.{Hop, down}
 
 -- the place is the head of a list
 abbrev pub is_head : Place → Bool
@@ -34,12 +34,12 @@ last_of (At (Item e a)) = ItemId a
 last_of (HeadOf l) = HeadKey
 
 -- the element that a path leads to from the root, or the head of the list there
-abbrev pub place_at : List Key → Bool → Place
+abbrev pub place_at : List Hop → Bool → Place
 place_at path false = At (down Doc path)
 place_at path true = HeadOf (down Doc path)
 
 -- the same place, unless its path has more than 32 keys
-abbrev pub place_from : List Key → Bool → Result Place Refusal
+abbrev pub place_from : List Hop → Bool → Result Place Refusal
 place_from path head = if nat_lt most_keys (depth_of (place_at path head)) then Err TooDeep else Ok (place_at path head)
 
 -- whether one more key may follow: none after a head, nor after 32 keys

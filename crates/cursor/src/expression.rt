@@ -6,8 +6,8 @@ ghost use Rattle.std.specs.Cmp.Lexicographic.{pointwise};
 ghost use Rattle.ids.specs.declared.refusal.Refusal.TheVariants.{NoMemory, KeyTooLong};
 ghost use Rattle.semantics.specs.Limits.{most_key_bytes};
 ghost use Rattle.semantics.specs.Questions.{Get as GetOf, Idx as IdxOf};
-ghost use Rattle.cursor.specs.Equality.{is_same_step, same_expression_equiv, same_step_equiv};
-ghost use Rattle.cursor.specs.Meanings.{step_of};
+ghost use Rattle.cursor.specs.SamePlaces.{is_same_step, same_expression_equiv, same_step_equiv};
+ghost use Rattle.cursor.specs.Steps.{step_of};
 
 use ids::Refusal;
 use std::alloc::{AllocError, Global};
@@ -63,7 +63,7 @@ impl Model for Expr {
     ghost use Rattle.std.specs.Prelude.{List, map};
     ghost use Rattle.std.specs.Coded.{codes};
     ghost use Rattle.semantics.specs.Questions.{Step as TheStep};
-    ghost use Rattle.cursor.specs.Meanings.{step_of};
+    ghost use Rattle.cursor.specs.Steps.{step_of};
 
     ghost Value = { List TheStep };
 
@@ -73,7 +73,7 @@ impl Model for Expr {
 }
 
 impl Expr {
-    /// The expression of the root, without steps. Takes no memory.
+    /// The expression of the root, without steps. Allocates nothing.
     pub fn root(alloc: Global) -> Expr
         ensures { result ≡ [] }
     {
@@ -107,7 +107,7 @@ impl Expr {
         Ok(self)
     }
 
-    /// The expression of these steps, taken from the root on. Takes no memory.
+    /// The expression of these steps, taken from the root on. Allocates nothing.
     pub fn new(steps: Vec<Step>) -> Expr
         ensures { result ≡ map step_of steps.items }
     {

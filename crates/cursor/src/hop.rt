@@ -2,9 +2,9 @@
 
 ghost use Rattle.std.specs.Prelude.{◌≡◌};
 ghost use Rattle.std.specs.Cmp;
-ghost use Rattle.semantics.specs.Paths.{is_same_key};
-ghost use Rattle.cursor.specs.Equality.{same_key_equiv};
-ghost use Rattle.cursor.specs.Meanings.{hop_of};
+ghost use Rattle.semantics.specs.Paths.{is_same_hop};
+ghost use Rattle.cursor.specs.SamePlaces.{same_hop_equiv};
+ghost use Rattle.cursor.specs.Steps.{hop_of};
 
 use ids::OpId;
 use std::alloc::AllocError;
@@ -31,9 +31,9 @@ impl Clone for Hop {
 }
 
 impl PartialEq for Hop {
-    ghost eq = { λ h k. is_same_key (hop_of h) (hop_of k) };
+    ghost eq = { λ h k. is_same_hop (hop_of h) (hop_of k) };
 
-    ghost laws = { Cmp.partial_equiv_from_equiv (Cmp.on_equiv hop_of same_key_equiv) };
+    ghost laws = { Cmp.partial_equiv_from_equiv (Cmp.on_equiv hop_of same_hop_equiv) };
 
     fn eq(&self, other: &Hop) -> bool {
         match (self, other) {
@@ -45,7 +45,7 @@ impl PartialEq for Hop {
 }
 
 impl Eq for Hop {
-    ghost laws = { Cmp.on_equiv hop_of same_key_equiv };
+    ghost laws = { Cmp.on_equiv hop_of same_hop_equiv };
 }
 
 /// The last key of a place.

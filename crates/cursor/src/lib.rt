@@ -8,7 +8,7 @@ mod tag;
 
 pub use expression::{Expr, Step};
 pub use hop::{Hop, Last};
-pub use place::{ElementPlace, MOST_KEYS, Place};
+pub use place::{MOST_KEYS, Place};
 pub use tag::Tag;
 
 // Handed on from the crates below, for users of this one.

@@ -1,15 +1,15 @@
 //! Places: what an operation's cursor names.
 
-ghost use Rattle.std.specs.Prelude.{◌≡◌, ◌≤◌, ℕ, suc, true, List, [], ◌∷◌, ◌++◌, map, Some, slice_get, IfOk, MatchOption};
+ghost use Rattle.std.specs.Prelude.{◌≡◌, ◌≤◌, ℕ, suc, List, [], ◌∷◌, ◌++◌, map, Some, slice_get, IfOk};
 ghost use Rattle.semantics.specs.Limits.{most_keys};
 ghost use Rattle.semantics.specs.Elements.{Element, Doc, At};
 ghost use Rattle.semantics.specs.Operations.{element_of};
-ghost use Rattle.semantics.specs.Paths.{child, keys_from_root};
+ghost use Rattle.semantics.specs.Paths.{child, hops_from_root};
 ghost use Rattle.semantics.specs.Questions.{Get, Idx, step_from};
 ghost use Rattle.semantics.specs.Ids.{OpId as TheId};
-ghost use Rattle.cursor.specs.Meanings.{hop_of, last_key};
+ghost use Rattle.cursor.specs.Steps.{hop_of, last_key};
 ghost use Rattle.cursor.specs.Places.{IsUnlessMemory, depth_of, is_head, last_of, one_down, place_at, place_from, room_at};
-ghost use Rattle.cursor.specs.Equality.{is_same_place, same_place_equiv};
+ghost use Rattle.cursor.specs.SamePlaces.{is_same_place, same_place_equiv};
 ghost use Rattle.std.specs.Cmp;
 
 use crate::hop::{Hop, Last};
@@ -35,7 +35,7 @@ impl Model for Place {
     ghost use Rattle.semantics.specs.Codes.{coded_element};
     ghost use Rattle.semantics.specs.Elements.{Place as ThePlace};
     ghost use Rattle.semantics.specs.Limits.{most_keys};
-    ghost use Rattle.cursor.specs.Meanings.{hop_of};
+    ghost use Rattle.cursor.specs.Steps.{hop_of};
     ghost use Rattle.cursor.specs.Places.{depth_of, place_at};
 
     ghost Value = { ThePlace };
@@ -45,28 +45,6 @@ impl Model for Place {
     ghost view = { λ p. place_at (map hop_of p.hops.items) p.is_head };
 
     ghost invariant = { λ p. depth_of (place_at (map hop_of p.hops.items) p.is_head) ≤ most_keys };
-}
-
-/// A place that is no head. Contracts see its element.
-#[derive(Debug, Drop)]
-pub struct ElementPlace {
-    /// From the root down.
-    hops: Vec<Hop>,
-}
-
-impl Model for ElementPlace {
-    ghost use Rattle.std.specs.Prelude.{map};
-    ghost use Rattle.std.specs.Coded.{codes};
-    ghost use Rattle.semantics.specs.Codes.{coded_element};
-    ghost use Rattle.semantics.specs.Elements.{Doc, Element};
-    ghost use Rattle.semantics.specs.Paths.{down};
-    ghost use Rattle.cursor.specs.Meanings.{hop_of};
-
-    ghost Value = { Element };
-
-    ghost coded = { coded_element };
-
-    ghost view = { λ p. down Doc (map hop_of p.hops.items) };
 }
 
 impl Place {
@@ -135,16 +113,6 @@ impl Place {
         self.is_head
     }
 
-    /// The place as that of an element, or `None` for a head. Takes no memory.
-    pub fn into_element(self) -> Option<ElementPlace>
-        ensures { MatchOption result (is_head self ≡ true) (λ e. self ≡ At e) }
-    {
-        if self.is_head {
-            return None;
-        }
-        Some(ElementPlace { hops: self.hops })
-    }
-
     /// How many keys the path has.
     pub fn depth(&self) -> usize
         ensures keys { result ≡ depth_of self.now }
@@ -155,7 +123,7 @@ impl Place {
 
     /// The hops from the root to the element, or to the one whose list has the head.
     pub fn hops(&self) -> &[Hop]
-        ensures { map hop_of result.now ≡ keys_from_root (element_of self.now) }
+        ensures { map hop_of result.now ≡ hops_from_root (element_of self.now) }
     {
         &self.hops
     }
@@ -196,15 +164,6 @@ impl Place {
             hops: longer(alloc, self.hops(), hop)?,
             is_head: false,
         })
-    }
-}
-
-impl ElementPlace {
-    /// The hops from the root to the element.
-    pub fn hops(&self) -> &[Hop]
-        ensures { map hop_of result.now ≡ keys_from_root self.now }
-    {
-        self.hops.as_slice()
     }
 }
 

@@ -2,7 +2,7 @@
 
 ghost use Rattle.std.specs.Prelude.{◌≡◌};
 ghost use Rattle.semantics.specs.Elements.{tag_of as tag_of_value};
-ghost use Rattle.value.specs.Meanings.{value_of};
+ghost use Rattle.value.specs.Values.{value_of};
 
 use value::Val;
 
@@ -16,7 +16,7 @@ pub enum Tag {
 }
 
 impl Tag {
-    ghost use Rattle.cursor.specs.Meanings.{tag_of};
+    ghost use Rattle.cursor.specs.Steps.{tag_of};
 
     /// The tag of a value.
     pub fn of(value: &Val) -> Tag

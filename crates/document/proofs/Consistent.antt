@@ -33,12 +33,12 @@ use Rattle.oplog.proofs.version.TableColumns.{component-zeros}
 
 pub kept_first : (table : List ℕ) (n : ℕ) (t : Planted) → AreDistinct table → n ≡ length table → t.table ≡ table → document t ≡ empty
     → IsConsistent table (replicate n 0) [] t
-kept_first table n t distinct width beside content = record {
+kept_first table n t distinct width fits content = record {
   distinct = distinct;
   width = length-replicate n 0 ∙ width;
   greatest = λ p. component-zeros table n p;
   legal = tt;
-  beside = beside;
+  fits = fits;
   content = content;
 }
 
@@ -62,7 +62,7 @@ kept_next table column next G e a t u same h may kept applied_to width raised = 
       (greatest_of (λ c. c.replica == p) (applied G)))
       (sym same);
   legal = (h.legal, may);
-  beside = kept ∙ h.beside;
+  fits = kept ∙ h.fits;
   content = applied_to ∙ ap (λ C. apply C (loose_operation (stamped_in e))) h.content ∙ sym (apply_loose (applied G) (stamped_in e));
 }
 

@@ -17,7 +17,7 @@ use Rattle.semantics.proofs.LawfulAlone.{no_fault_alone}
 use Rattle.oplog.specs.operation.declared.command.Entry.{Entry}
 use Rattle.oplog.specs.operation.declared.op.Op.{Op}
 use Rattle.oplog.specs.operation.Alone.{alone_fault_of_op}
-use Rattle.oplog.specs.operation.Meanings.{entry_of, op_in, stamped_of}
+use Rattle.oplog.specs.operation.Ops.{entry_of, op_in, stamped_of}
 use Rattle.oplog.proofs.operation.StandingAlone.{stamped_same}
 use Rattle.oplog.specs.Logs.{AreOfMembers}
 use Rattle.oplog.proofs.KnownMembers.{known_members}

@@ -122,9 +122,9 @@ module _ (ps cs : List ℕ) (distinct : AreDistinct ps) (width : length cs ≡ l
 pub chain_there : (H : List Operation) (ps cs ds : List ℕ) → AreDistinct ps → length cs ≡ length ps → length ds ≡ length ps
     → ((p : ℕ) → component ps ds p ≡ greatest_counter H p)
     → (i p : ℕ) → slice_get ps i ≡ Some p → (get_or cs i 0 == get_or ds i 0) ≡ (at (by_table ps cs) p == greatest_counter H p)
-chain_there H ps cs ds distinct width beside all i p is = λ t.
+chain_there H ps cs ds distinct width fits all i p is = λ t.
     (sym (at-by_table ps cs distinct p ∙ component_there ps cs i p distinct width is) t)
-    == (sym (sym (all p) ∙ component_there ps ds i p distinct beside is) t)
+    == (sym (sym (all p) ∙ component_there ps ds i p distinct fits is) t)
 
 -- of a replica that isn't in the table nothing is named, and nothing was applied
 pub chain_absent : (H : List Operation) (ps cs ds : List ℕ) → AreDistinct ps → ((p : ℕ) → component ps ds p ≡ greatest_counter H p)

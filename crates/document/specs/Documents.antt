@@ -9,9 +9,9 @@ use Rattle.semantics.specs.Entries.{Entry as TheEntry, applied, stamped_in, stam
 use Rattle.semantics.specs.Questions.{Values as AskValues, Keys as AskKeys, Items as AskItems, Conflicts as AskConflicts, AppliedVector}
 use Rattle.semantics.specs.Questions.{ValuesAre, KeysAre, ItemsAre, ConflictsAre, VectorIs}
 use Rattle.semantics.specs.LegalAnswer.{Asked, OfDocument, Missing as AskMissing, Reading as TheReading, Answered, MissingAre}
-use Rattle.oplog.specs.value.Meanings.{scalar_of}
-use Rattle.oplog.specs.cursor.Meanings.{tag_of}
-use Rattle.oplog.specs.operation.Meanings.{stamped_of}
+use Rattle.oplog.specs.value.Values.{scalar_of}
+use Rattle.oplog.specs.cursor.Steps.{tag_of}
+use Rattle.oplog.specs.operation.Ops.{stamped_of}
 use Rattle.tree.specs.Trees.{Planted, IsReserved, document}
 use Rattle.document.specs.declared.question.Question.{Question}
 use Rattle.document.specs.declared.question.Question.TheVariants.{Values, Keys, Items, Conflicts, Missing, Vector}
@@ -44,13 +44,13 @@ asked_of table (Missing v) = AskMissing (by_table table v)
 asked_of table Vector = OfDocument AppliedVector
 
 -- a vector that is asked about has a counter for each replica of the table
-abbrev pub IsBeside : List ℕ → Question → Type 0
-IsBeside table (Values e) = ⊤
-IsBeside table (Keys e) = ⊤
-IsBeside table (Items e) = ⊤
-IsBeside table (Conflicts e) = ⊤
-IsBeside table (Missing v) = length v ≡ length table
-IsBeside table Vector = ⊤
+abbrev pub HasWidthOf : List ℕ → Question → Type 0
+HasWidthOf table (Values e) = ⊤
+HasWidthOf table (Keys e) = ⊤
+HasWidthOf table (Items e) = ⊤
+HasWidthOf table (Conflicts e) = ⊤
+HasWidthOf table (Missing v) = length v ≡ length table
+HasWidthOf table Vector = ⊤
 
 -- what a reading says; it has missing operations with the oldest first
 abbrev pub said_by : List ℕ → Reading → TheReading
@@ -67,5 +67,5 @@ pub record IsConsistent (table column : List ℕ) (G : List TheEntry) (t : Plant
   pub width : length column ≡ length table
   pub greatest : (p : ℕ) → component table column p ≡ greatest_counter (applied G) p
   pub legal : IsLegalStamped (stamped_entries G)
-  pub beside : t.table ≡ table
+  pub fits : t.table ≡ table
   pub content : document t ≡ doc (applied G)

@@ -4,7 +4,7 @@ use Rattle.semantics.specs.Faults.{fault_of, is_ready}
 use Rattle.semantics.specs.Entries.{Entry as TheEntry, applied, stamped_entries}
 use Rattle.oplog.specs.operation.declared.op.Op.{Op}
 use Rattle.oplog.specs.operation.Alone.{alone_fault_of_op}
-use Rattle.oplog.specs.operation.Meanings.{stamped_of}
+use Rattle.oplog.specs.operation.Ops.{stamped_of}
 
 -- no test of a received operation finds a fault of it after these entries
 abbrev pub is_lawful : List ℕ → List TheEntry → Op → Bool

@@ -9,9 +9,9 @@ ghost use Rattle.semantics.specs.Entries.{entry_at, missing, stamped_in, stamped
 ghost use Rattle.semantics.specs.DocumentAnswer.{visible_items};
 ghost use Rattle.semantics.specs.Questions.{answer_at, resolve, Answer, Refused};
 ghost use Rattle.semantics.specs.LegalAnswer.{reading_of, Answered};
-ghost use Rattle.oplog.specs.operation.Meanings.{stamped_of};
+ghost use Rattle.oplog.specs.operation.Ops.{stamped_of};
 ghost use Rattle.tree.specs.Trees.{document};
-ghost use Rattle.document.specs.Documents.{IsBeside, IsConsistent, asked_of, said_by};
+ghost use Rattle.document.specs.Documents.{HasWidthOf, IsConsistent, asked_of, said_by};
 
 use crate::question::{Question, Reading};
 use ids::Refusal;
@@ -28,16 +28,16 @@ pub fn answer(
     question: &Question,
 ) -> Result<Reading, Refusal>
     requires kept { IsConsistent log.now.table applied.now log.now.entries tree.now }
-    requires beside { IsBeside log.now.table question.now }
+    requires fits { HasWidthOf log.now.table question.now }
     ensures answer { IfOk result (λ r. said_by log.now.table r ≡ reading_of log.now.entries (asked_of log.now.table question.now)) }
     ensures err { IfErr result
         (λ why. (why ≡ NoMemory) ⊎ (reading_of log.now.entries (asked_of log.now.table question.now) ≡ Answered (Refused why))) }
 {
     match question {
-        Question::Values(expression) => Ok(Reading::Values(tree.values_at(alloc, expression)?)),
-        Question::Keys(expression) => Ok(Reading::Keys(tree.keys_at(alloc, expression)?)),
-        Question::Items(expression) => Ok(Reading::Items(tree.items_at(alloc, expression)?)),
-        Question::Conflicts(expression) => Ok(Reading::Conflicts(tree.conflicts_at(
+        Question::Values(expression) => Ok(Reading::Values(tree.values(alloc, expression)?)),
+        Question::Keys(expression) => Ok(Reading::Keys(tree.keys(alloc, expression)?)),
+        Question::Items(expression) => Ok(Reading::Items(tree.items(alloc, expression)?)),
+        Question::Conflicts(expression) => Ok(Reading::Conflicts(tree.conflicts(
             alloc, expression,
         )?)),
         Question::Missing(vector) => Ok(Reading::Missing(missing(alloc, log, vector)?)),

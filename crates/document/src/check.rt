@@ -8,7 +8,7 @@ ghost use Rattle.semantics.specs.Tables.{by_table, component};
 ghost use Rattle.semantics.specs.Stamped.{Stamped, IsLegalStamped};
 ghost use Rattle.semantics.specs.Entries.{applied as operations_in, stamped_entries};
 ghost use Rattle.semantics.specs.Faults.{breaks_chain, fault_of, is_open, names_nothing};
-ghost use Rattle.oplog.specs.operation.Meanings.{stamped_of};
+ghost use Rattle.oplog.specs.operation.Ops.{stamped_of};
 ghost use Rattle.document.specs.Documents.{IsConsistent};
 ghost use Rattle.document.specs.Checks.{is_unknown, named_at, opens};
 
@@ -42,7 +42,7 @@ pub fn check(log: &Log, applied: &VersionVector, tree: &Tree, op: &Op) -> Result
 fn breaks_chain(log: &Log, applied: &VersionVector, op: &Op) -> bool
     requires distinct { AreDistinct log.now.table }
     requires applied { (p : ℕ) → component log.now.table applied.now p ≡ greatest_counter (operations_in log.now.entries) p }
-    requires beside { length applied.now ≡ length log.now.table }
+    requires fits { length applied.now ≡ length log.now.table }
     requires width { length op.now.deps ≡ length log.now.table }
     ensures { result ≡ breaks_chain (operations_in log.now.entries) (stamped_of log.now.table op.now) }
 {
@@ -65,7 +65,7 @@ fn names_all(vector: &VersionVector, applied: &VersionVector) -> bool
 fn names_nothing(log: &Log, applied: &VersionVector, vector: &VersionVector) -> bool
     requires distinct { AreDistinct log.now.table }
     requires applied { (p : ℕ) → component log.now.table applied.now p ≡ greatest_counter (operations_in log.now.entries) p }
-    requires beside { length applied.now ≡ length log.now.table }
+    requires fits { length applied.now ≡ length log.now.table }
     requires width { length vector.now ≡ length log.now.table }
     ensures { (s : Stamped) → s.vector ≡ by_table log.now.table vector.now → result ≡ names_nothing (operations_in log.now.entries) s }
 {
@@ -98,7 +98,7 @@ fn is_open(log: &Log, applied: &VersionVector, vector: &VersionVector) -> bool
     requires distinct { AreDistinct log.now.table }
     requires applied { (p : ℕ) → component log.now.table applied.now p ≡ greatest_counter (operations_in log.now.entries) p }
     requires legal { IsLegalStamped (stamped_entries log.now.entries) }
-    requires beside { length applied.now ≡ length log.now.table }
+    requires fits { length applied.now ≡ length log.now.table }
     requires width { length vector.now ≡ length log.now.table }
     ensures { result ≡ is_open (stamped_entries log.now.entries) (by_table log.now.table vector.now) }
 {

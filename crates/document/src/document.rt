@@ -18,7 +18,7 @@ ghost use Rattle.semantics.specs.Questions.{resolve, Question as TheQuestion, Re
 ghost use Rattle.semantics.specs.LegalAnswer.{reading_of, Answered, OfDocument};
 ghost use Rattle.semantics.specs.View.{view};
 ghost use Rattle.oplog.specs.operation.Alone.{alone_fault_of_op};
-ghost use Rattle.oplog.specs.operation.Meanings.{entry_of, op_in, stamped_of};
+ghost use Rattle.oplog.specs.operation.Ops.{entry_of, op_in, stamped_of};
 ghost use Rattle.oplog.specs.Logs.{history};
 
 use crate::answer::{answer, missing};
@@ -53,7 +53,7 @@ impl Model for Document {
 }
 
 impl Document {
-    ghost use Rattle.document.specs.Documents.{HasRoomFor, IsBeside, MayFollowEntries, asked_of, said_by};
+    ghost use Rattle.document.specs.Documents.{HasRoomFor, HasWidthOf, MayFollowEntries, asked_of, said_by};
 
     /// A document with an empty history, of a replica with these members.
     ///
@@ -115,7 +115,7 @@ impl Document {
     }
 
     /// Tests a causally ready operation against the history. One that passed `check_alone` for this table may follow the
-    /// history exactly where this answers `Ok`. Takes no memory. Costs a binary search for each counter of its vector,
+    /// history exactly where this answers `Ok`. Allocates nothing. Costs a binary search for each counter of its vector,
     /// or one comparison where that is all that was applied, and a walk down its place.
     ///
     /// # Errors
@@ -158,7 +158,7 @@ impl Document {
         self.tree.reserve(alloc, op)
     }
 
-    /// Appends an entry for which there is room, and whose vector is indexed by the table. Takes no memory.
+    /// Appends an entry for which there is room, and whose vector is indexed by the table. Allocates nothing.
     pub fn commit(&mut self, entry: Entry)
         requires room { HasRoomFor self.old (stamped_in (entry_of self.old.table entry)) }
         requires lawful { MayFollowEntries self.old.entries (entry_of self.old.table entry) }
@@ -185,7 +185,7 @@ impl Document {
     /// The refusal of the expression: those of `resolve`, and `AtHead` where it leads to a head. The history and the view of its
     /// operations refuse alike. Or `NoMemory` if allocation fails.
     pub fn ask(&self, alloc: Global, question: &Question) -> Result<Reading, Refusal>
-        requires { IsBeside self.now.table question.now }
+        requires { HasWidthOf self.now.table question.now }
         ensures answer { IfOk result (λ r. said_by self.now.table r ≡ reading_of self.now.entries (asked_of self.now.table question.now)) }
         ensures view { IfOk result
             (λ r. (q : TheQuestion) → asked_of self.now.table question.now ≡ OfDocument q
@@ -218,7 +218,7 @@ impl Document {
         missing(alloc, &self.log, vector)
     }
 
-    /// The entries, the oldest first. Takes no memory.
+    /// The entries, the oldest first. Allocates nothing.
     pub fn into_entries(self) -> Vec<Entry>
         ensures { history self.table result.items ≡ self.entries }
     {

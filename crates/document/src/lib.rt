@@ -11,6 +11,6 @@ pub use question::{Question, Reading};
 
 // Handed on from the crates below, for users of this one.
 pub use oplog::{
-    Command, Delivered, Entry, Expr, ExprStep, Key, Misplaced, Numbers, Op, Place, Scalar, Shared,
-    Tag, Text, Val, VersionVector, check_alone, names_members,
+    Command, Delivered, Entry, Expr, ExprStep, Key, Misplaced, Numbers, Op, Place, Publish, Reply,
+    Request, Scalar, Shared, Submission, Tag, Text, Val, VersionVector, check_alone, names_members,
 };

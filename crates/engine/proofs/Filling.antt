@@ -11,19 +11,20 @@ use Rattle.semantics.specs.Handling.{Handler, Handles}
 use Rattle.semantics.specs.Batches.{ComeFrom, AreAnswers, IsBatch, items_of}
 use Rattle.semantics.specs.WorldHistory.{of_client}
 use Rattle.semantics.proofs.HandledBatches.{next_above, no_batch, one_more}
-use Rattle.handling.specs.items.declared.item.Item.{Item}
-use Rattle.handling.specs.items.Meanings.{submitted_of}
+use Rattle.replica.specs.operation.declared.submission.Submission.{Submission}
+use Rattle.replica.specs.operation.Submissions.{submitted_of}
 use Rattle.command.specs.InOrder.{of}
-use Rattle.engine.specs.Turns.{submitted_in}
+use Rattle.engine.specs.WriterSteps.{submitted_in}
 
--- from w on, when `before` was taken, these items were handled; now `got` was taken
-pub record IsFilling (table : List ℕ) (w : Handler) (before : List Item) (hs : List Handled) (v : Handler) (got : List Item) : Type 0 where
+-- from w on, when `before` was taken, these submissions were handled; now `got` was taken
+pub record IsFilling (table : List ℕ) (w : Handler) (before : List Submission) (hs : List Handled) (v : Handler)
+    (got : List Submission) : Type 0 where
   pub batch : IsBatch w (submitted_in table before) hs v
-  pub items : List Item
+  pub items : List Submission
   pub took : got ≡ before ++ items
   pub same : items_of hs ≡ submitted_in table items
 
-pub filling_none : (table : List ℕ) (w : Handler) (before : List Item) (hs : List Handled) → length hs ≡ 0 → IsRunning w.replica
+pub filling_none : (table : List ℕ) (w : Handler) (before : List Submission) (hs : List Handled) → length hs ≡ 0 → IsRunning w.replica
     → ComeFrom (submitted_in table before) w.replica.entries → IsFilling table w before hs w before
 filling_none table w before [] e run st = record {
   batch = no_batch w (submitted_in table before) run st;
@@ -33,7 +34,7 @@ filling_none table w before [] e run st = record {
 }
 filling_none table w before (h ∷ hs) e run st = absurd (omega (arith, e))
 
-of_length : (table : List ℕ) (c : ℕ) (xs : List Item) → length (of_client c (submitted_in table xs)) ≡ length (of c xs)
+of_length : (table : List ℕ) (c : ℕ) (xs : List Submission) → length (of_client c (submitted_in table xs)) ≡ length (of c xs)
 of_length table c [] = refl
 of_length table c (x ∷ xs) = by (x.client == c) (of_length table c xs)
   where
@@ -43,8 +44,8 @@ of_length table c (x ∷ xs) = by (x.client == c) (of_length table c xs)
     by true e = omega (arith, e)
     by false e = e
 
-module _ (table : List ℕ) (w : Handler) (before : List Item) (hs : List Handled) (v : Handler) (got : List Item)
-    (f : IsFilling table w before hs v got) (x : Item) (number : x.serial ≡ length (of x.client got) + 1) where
+module _ (table : List ℕ) (w : Handler) (before : List Submission) (hs : List Handled) (v : Handler) (got : List Submission)
+    (f : IsFilling table w before hs v got) (x : Submission) (number : x.serial ≡ length (of x.client got) + 1) where
   all : submitted_in table got ≡ submitted_in table before ++ items_of hs
   all = ap (submitted_in table) f.took ∙ map-append (submitted_of table) before f.items
       ∙ ap (λ (l : List Submitted). submitted_in table before ++ l) (sym f.same)
@@ -58,7 +59,7 @@ module _ (table : List ℕ) (w : Handler) (before : List Item) (hs : List Handle
       (subst (λ (l : List Submitted). ComeFrom l v.replica.entries) (sym all) f.batch.come_from) numbered
 
   -- it is handled next
-  pub filling_next : (h : Handled) (u : Handler) (next : List Item) (more : List Handled) → next ≡ got ++ x ∷ [] → more ≡ hs ++ h ∷ []
+  pub filling_next : (h : Handled) (u : Handler) (next : List Submission) (more : List Handled) → next ≡ got ++ x ∷ [] → more ≡ hs ++ h ∷ []
       → h.submitted ≡ submitted_of table x → Handles v (submitted_of table x) h.reply u
       → IsFilling table w before more u next
   filling_next h u next more taken grown is k =
@@ -68,7 +69,7 @@ module _ (table : List ℕ) (w : Handler) (before : List Item) (hs : List Handle
       (subst (λ (s : Submitted). Handles v s h.reply u) (sym is) k) in record {
         batch = subst (λ (l : List Handled). IsBatch w (submitted_in table before) l u) (sym grown) whole;
         items = f.items ++ x ∷ [];
-        took = taken ∙ ap (λ (l : List Item). l ++ x ∷ []) f.took ∙ append_assoc before f.items (x ∷ []);
+        took = taken ∙ ap (λ (l : List Submission). l ++ x ∷ []) f.took ∙ append_assoc before f.items (x ∷ []);
         same = ap items_of grown ∙ items-snoc hs h ∙ ap (λ (l : List Submitted). l ++ h.submitted ∷ []) f.same
             ∙ ap (λ (s : Submitted). submitted_in table f.items ++ s ∷ []) is ∙ sym (map-append (submitted_of table) f.items (x ∷ []));
       }

@@ -10,13 +10,13 @@ use Rattle.semantics.specs.WorldHistory.{BeginsWith, of_client}
 use Rattle.semantics.specs.Batches.{AsksFor, ComeFrom}
 use Rattle.semantics.proofs.Beginnings.{entry_in_longer}
 use Rattle.semantics.proofs.HandledBatches.{of-append}
-use Rattle.handling.specs.items.declared.item.Item.{Item}
-use Rattle.handling.specs.items.Meanings.{submitted_of}
+use Rattle.replica.specs.operation.declared.submission.Submission.{Submission}
+use Rattle.replica.specs.operation.Submissions.{submitted_of}
 use Rattle.command.specs.InOrder.{of}
-use Rattle.engine.specs.Turns.{submitted_in}
+use Rattle.engine.specs.WriterSteps.{submitted_in}
 
--- the submissions of one client are those of its items
-submitted_of_client : (table : List ℕ) (c : ℕ) (xs : List Item) → of_client c (submitted_in table xs) ≡ submitted_in table (of c xs)
+-- what one client submitted, in its order
+submitted_of_client : (table : List ℕ) (c : ℕ) (xs : List Submission) → of_client c (submitted_in table xs) ≡ submitted_in table (of c xs)
 submitted_of_client table c [] = refl
 submitted_of_client table c (x ∷ xs) = by (x.client == c) (submitted_of_client table c xs)
   where
@@ -50,7 +50,7 @@ asked_at took (e ∷ G) n k serial c s h at = by (length G == n) (λ is. asked_a
     by false rest is = rest is
 
 -- what was taken of the client, and what is still queued, is all that it submitted
-pub own_submitted : (table : List ℕ) (took queued mine : List Item) (P A : List Entry) (n k serial : ℕ) (c : Command) (s : Stamped)
+pub own_submitted : (table : List ℕ) (took queued mine : List Submission) (P A : List Entry) (n k serial : ℕ) (c : Command) (s : Stamped)
     → ComeFrom (submitted_in table took) A → BeginsWith A P → of k (took ++ queued) ≡ mine
     → entry_at n P ≡ Some (Own k serial c s) → AsksFor (submitted_in table mine) serial c
 own_submitted table took queued mine P A n k serial c s from begins all at =

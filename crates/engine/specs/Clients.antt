@@ -4,17 +4,17 @@ use Rattle.std.specs.Prelude.{slice_get, slice_set}
 use Rattle.atomic_table.specs.Seated.{TableId}
 use Rattle.ids.specs.Configurations.{Configuration}
 use Rattle.semantics.specs.Entries.{Entry}
-use Rattle.handling.specs.items.declared.item.Item.{Item}
-use Rattle.handling.specs.items.declared.item.Reply.{Reply}
-use Rattle.handling.specs.items.declared.item.Request.{Request}
-use Rattle.handling.specs.items.Same.{is_same_item}
-use Rattle.command.specs.Answers.{Answered, Given}
+use Rattle.replica.specs.operation.declared.submission.Submission.{Submission}
+use Rattle.replica.specs.operation.declared.submission.Reply.{Reply}
+use Rattle.replica.specs.operation.declared.submission.Request.{Request}
+use Rattle.replica.specs.operation.SameSubmissions.{is_same_submission}
+use Rattle.command.specs.Answers.{AnswerCell, Given}
 use Rattle.command.specs.declared.ticket.Ticket.{Ticket}
 
 -- what was submitted under a serial, and what its cell is known to hold
-pub record Keeps : Type 0 where
-  pub item : Item
-  pub known : Option Answered
+pub record AwaitedAnswer : Type 0 where
+  pub submission : Submission
+  pub known : Option AnswerCell
 
 -- a client: the engine's replica number and its own, how many serials it has, its queue with its capacity, what its token has
 -- seen and what it read last, and what it keeps of each serial
@@ -26,30 +26,30 @@ pub record Client : Type 0 where
   pub capacity : ℕ
   pub seen : List Entry
   pub read : List Entry
-  pub kept : List Keeps
+  pub kept : List AwaitedAnswer
 
 -- the client after it submitted a request, under its next serial and the floor of what it has seen
 abbrev pub with_request : Client → Request → Client
 with_request c request = record c {
   kept = c.kept
       ++ (record {
-        item = record { client = c.number; serial = length c.kept + 1; floor = length c.seen; request = request };
+        submission = record { client = c.number; serial = length c.kept + 1; floor = length c.seen; request = request };
         known = None;
       }) ∷ [];
 }
 
 -- what a client submitted, in order
-abbrev pub items_by : Client → List Item
-items_by c = map (λ k. k.item) c.kept
+abbrev pub submissions_by : Client → List Submission
+submissions_by c = map (λ k. k.submission) c.kept
 
--- what a cell gives to the item that is waited for: the answer to another item is none
-abbrev pub answer_in : Item → Option Answered → Option Given
+-- what a cell gives to the submission that is waited for: the answer to another submission is none
+abbrev pub answer_in : Submission → Option AnswerCell → Option Given
 answer_in x None = None
-answer_in x (Some a) = cond (is_same_item a.item x) a.given None
+answer_in x (Some a) = cond (is_same_submission a.submission x) a.given None
 
--- what the cell of a serial is known to give to its own item
-abbrev pub answer_of : Keeps → Option Given
-answer_of k = answer_in k.item k.known
+-- what the cell of a serial is known to give to its own submission
+abbrev pub answer_of : AwaitedAnswer → Option Given
+answer_of k = answer_in k.submission k.known
 
 -- the ticket is one that this client was given
 abbrev pub IsMine : Client → Ticket → Type 0
@@ -57,11 +57,11 @@ IsMine c t = (t.replica ≡ c.replica) × (t.client ≡ c.number) × (0 < t.seri
 
 -- what a poll of index i leaves: what was known of the cell stays known, and the reply is that of the cell
 pub record Polls (c d : Client) (i : ℕ) (o : Option Reply) : Type 0 where
-  pub before : Keeps
-  pub after : Keeps
+  pub before : AwaitedAnswer
+  pub after : AwaitedAnswer
   pub at : slice_get c.kept i ≡ Some before
   pub kept : d.kept ≡ slice_set c.kept i after
-  pub item : after.item ≡ before.item
+  pub submission : after.submission ≡ before.submission
   pub known : IfSome before.known (λ a. after.known ≡ Some a)
   pub reply : o ≡ option_map (λ g. g.reply) (answer_of after)
 

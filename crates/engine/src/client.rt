@@ -11,34 +11,34 @@ ghost use Rattle.semantics.specs.Questions.{Question as TheQuestion, Refused};
 ghost use Rattle.semantics.specs.LegalAnswer.{Answered, OfDocument, reading_of};
 ghost use Rattle.semantics.specs.PeerAnswers.{IsAnswer};
 ghost use Rattle.semantics.specs.View.{view};
-ghost use Rattle.handling.specs.document.Documents.{IsBeside, asked_of, said_by};
-ghost use Rattle.handling.specs.items.declared.item.Item.{Item as AnItem};
-ghost use Rattle.handling.specs.items.declared.item.Request.{Request as ARequest};
-ghost use Rattle.handling.specs.items.declared.item.Request.TheVariants.{Command as OfCommand, Peer as OfPeer};
-ghost use Rattle.handling.specs.items.Meanings.{reply_of, submitted_of};
+ghost use Rattle.replica.specs.document.Documents.{HasWidthOf, asked_of, said_by};
+ghost use Rattle.replica.specs.operation.declared.submission.Submission.{Submission as ASubmission};
+ghost use Rattle.replica.specs.operation.declared.submission.Request.{Request as ARequest};
+ghost use Rattle.replica.specs.operation.declared.submission.Request.TheVariants.{Command as OfCommand, Peer as OfPeer};
+ghost use Rattle.replica.specs.operation.Submissions.{reply_of, submitted_of};
 ghost use Rattle.command.specs.InOrder.{sender_hand};
 ghost use Rattle.command.specs.Answers.{Given};
-ghost use Rattle.engine.specs.Clients.{IsMine, Polls, items_by, with_request};
+ghost use Rattle.engine.specs.Clients.{IsMine, Polls, submissions_by, with_request};
 
-use crate::kept::Kept;
-use command::{Answer, EngineName, Envelope, Notice, Seat, Sender, Taker, Ticket};
-use handling::{Command, Item, Op, Question, Reading, Reply, Request, Shared};
+use crate::pending::Pending;
+use command::{Answer, EngineName, Envelope, Notice, ReaderToken, Sender, Taker, Ticket};
 use ids::{Refusal, ReplicaId, ReplicaTable};
 use once_cell::race::OnceBox;
-use std::alloc::Global;
+use replica::{Command, Op, Question, Reading, Reply, Request, Shared, Submission};
+use std::alloc::{AllocError, Global};
 use std::marker::Model;
 use std::sync::{Arc, Wait};
 
-/// A client of an engine, for one thread at a time. It numbers what it submits from 1 on, and keeps each serial's item and the
+/// A client of an engine, for one thread at a time. It numbers what it submits from 1 on, and keeps each serial's submission and the
 /// cell of its answer for its whole life. Its token reads as a `ReaderToken` does.
 #[derive(Drop)]
 pub struct Client<N: EngineName> {
     replica: ReplicaId,
     number: usize,
     serials: u64,
-    seat: Seat<N>,
+    token: ReaderToken<N>,
     sender: Sender<N>,
-    kept: Vec<Kept<N>>,
+    kept: Vec<Pending<N>>,
 }
 
 impl<N: EngineName> Model for Client<N> {
@@ -59,13 +59,13 @@ impl<N: EngineName> Model for Client<N> {
       serials = c.serials;
       queue = c.sender.pass.table_id;
       capacity = ruled_capacity (arc_value c.sender.queue);
-      seen = c.seat.seen;
-      read = c.seat.read;
+      seen = c.token.seen;
+      read = c.token.read;
       kept = c.kept.items;
     } };
 
     ghost invariant = { λ c. ((pass_view c.sender.pass).from ≡ c.number)
-        × ((pass_view c.sender.pass).put ≡ map (λ k. k.item) c.kept.items) };
+        × ((pass_view c.sender.pass).put ≡ map (λ k. k.submission) c.kept.items) };
 }
 
 impl<N: EngineName> Client<N> {
@@ -74,18 +74,18 @@ impl<N: EngineName> Client<N> {
         replica: ReplicaId,
         number: usize,
         serials: u64,
-        seat: Seat<N>,
+        token: ReaderToken<N>,
         sender: Sender<N>,
     ) -> Client<N>
         requires { ((pass_view sender.pass).from ≡ number) × ((pass_view sender.pass).put ≡ []) }
         ensures { (result.replica ≡ replica) × (result.number ≡ number) × (result.serials ≡ serials) × (result.queue ≡ sender.pass.table_id)
-            × (result.capacity ≡ ruled_capacity (arc_value sender.queue)) × (result.kept ≡ []) × (result.seen ≡ seat.seen) }
+            × (result.capacity ≡ ruled_capacity (arc_value sender.queue)) × (result.kept ≡ []) × (result.seen ≡ token.seen) }
     {
         Client {
             replica,
             number,
             serials,
-            seat,
+            token,
             sender,
             kept: Vec::new(alloc),
         }
@@ -166,13 +166,13 @@ impl<N: EngineName> Client<N> {
         ensures kept { MatchResult result (λ _. self.new ≡ with_request self.old request) (λ _. self.new ≡ self.old) }
         ensures err { IfErr result (λ why. (why ≡ NoMemory) ⊎ (why ≡ QueueFull)) }
     {
-        let item = Item {
+        let submission = Submission {
             client: self.number,
             serial,
-            floor: self.seat.seen_len(),
+            floor: self.token.seen_len(),
             request,
         };
-        let Ok((envelope, kept)) = envelope_for::<N>(alloc, item) else {
+        let Ok((envelope, kept)) = envelope_for::<N>(alloc, submission) else {
             return Err(Refusal::NoMemory);
         };
         if self.kept.reserve(1).is_err() {
@@ -197,13 +197,13 @@ impl<N: EngineName> Client<N> {
         requires number { self.number ≡ length (pass_view taker.old.pass).known }
         ensures taker { (taker.new.pass.table_id ≡ taker.old.pass.table_id)
             × ((pass_view taker.new.pass).got ≡ (pass_view taker.old.pass).got)
-            × ((pass_view taker.new.pass).known ≡ (pass_view taker.old.pass).known ++ items_by self ∷ []) }
+            × ((pass_view taker.new.pass).known ≡ (pass_view taker.old.pass).known ++ submissions_by self ∷ []) }
         ensures seen { BeginsWith notice.now self.seen }
     {
-        let Client { seat, sender, .. } = self;
+        let Client { token, sender, .. } = self;
         taker.end(sender);
-        if !seat.begins(notice) {
-            // Never: what a seat has seen was published before, and the notice is of all that was. No contract says so.
+        if !token.begins(notice) {
+            // Never: what a token has seen was published before, and the notice is of all that was. No contract says so.
             for _ in rt.forever() {}
             unreachable!()
         }
@@ -211,7 +211,7 @@ impl<N: EngineName> Client<N> {
 
     /// The reply to the ticket's submission once the writer has answered it, else `None`. From then on the client has seen all that was
     /// published with the answer, and the reply stays the same. A ticket that wasn't answered before `close` stays `None`. Never waits;
-    /// takes no memory. Linear in the size of what was submitted.
+    /// allocates nothing. Linear in the size of what was submitted.
     ///
     /// # Errors
     /// `Foreign` if the ticket is of another replica number or another client, or of a serial that wasn't taken.
@@ -220,11 +220,11 @@ impl<N: EngineName> Client<N> {
             (λ e. (e ≡ Foreign) × (IsMine self.old ticket.now → ⊥) × (self.new ≡ self.old)) }
         ensures grows { BeginsWith self.new.seen self.old.seen }
         ensures same { self.new ≡ record self.old { seen = self.new.seen; kept = self.new.kept } }
-        ensures items { items_by self.new ≡ items_by self.old }
+        ensures items { submissions_by self.new ≡ submissions_by self.old }
         ensures polls { IfOk result (λ o. Polls self.old self.new (ticket.now.serial - 1) o) }
         ensures legal { IfOk result
             (λ o. IfSome o
-            (λ r. (x : AnItem) × (slice_get (items_by self.old) (ticket.now.serial - 1) ≡ Some x)
+            (λ r. (x : ASubmission) × (slice_get (submissions_by self.old) (ticket.now.serial - 1) ≡ Some x)
             × IsAnswer N.own N.table self.new.seen (submitted_of N.table x) (reply_of r))) }
     {
         if !self.is_mine(ticket) {
@@ -234,11 +234,11 @@ impl<N: EngineName> Client<N> {
         let Some((reply, notice)) = kept.look() else {
             return Ok(None);
         };
-        self.seat.learn(&notice);
+        self.token.learn(&notice);
         Ok(Some(reply))
     }
 
-    /// The notice of the ticket's answer once the writer has answered it, else `None`. Never waits; takes no memory. Linear in the
+    /// The notice of the ticket's answer once the writer has answered it, else `None`. Never waits; allocates nothing. Linear in the
     /// size of what was submitted.
     ///
     /// # Errors
@@ -247,7 +247,8 @@ impl<N: EngineName> Client<N> {
         ensures mine { MatchResult result (λ _. IsMine self.now ticket.now) (λ e. (e ≡ Foreign) × (IsMine self.now ticket.now → ⊥)) }
         ensures legal { IfOk result
             (λ o. IfSome o
-            (λ n. (x : AnItem) × (g : Given) × (slice_get (items_by self.now) (ticket.now.serial - 1) ≡ Some x) × (n.now ≡ g.history)
+            (λ n. (x : ASubmission) × (g : Given) × (slice_get (submissions_by self.now) (ticket.now.serial - 1) ≡ Some x)
+            × (n.now ≡ g.history)
             × IsAnswer N.own N.table g.history (submitted_of N.table x) (reply_of g.reply))) }
     {
         if !self.is_mine(ticket) {
@@ -290,14 +291,14 @@ impl<N: EngineName> Client<N> {
         ensures length { result ≡ length self.now.seen }
         ensures legal { IsEntryHistory N.own self.now.seen }
     {
-        self.seat.seen_len()
+        self.token.seen_len()
     }
 
     /// The table of the engine's members, which indexes the vectors of its questions and readings.
     pub fn table(&self) -> &ReplicaTable
         ensures { result.now ≡ N.table }
     {
-        self.seat.table()
+        self.token.table()
     }
 
     /// Learns of a notice of the same engine: has seen the longer of the two histories from then on. Never waits.
@@ -307,7 +308,7 @@ impl<N: EngineName> Client<N> {
         ensures one { (self.new.seen ≡ self.old.seen) ⊎ (self.new.seen ≡ notice.now) }
         ensures same { self.new ≡ record self.old { seen = self.new.seen } }
     {
-        self.seat.learn(notice);
+        self.token.learn(notice);
     }
 
     /// Answers a question from what is published at the one step of this read, which the client has then seen. Never waits.
@@ -315,7 +316,7 @@ impl<N: EngineName> Client<N> {
     /// # Errors
     /// As a `ReaderToken`'s.
     pub fn ask(&mut self, alloc: Global, question: &Question) -> Result<Reading, Refusal>
-        requires { IsBeside N.table question.now }
+        requires { HasWidthOf N.table question.now }
         ensures grows { BeginsWith self.new.seen self.old.seen }
         ensures legal { IsEntryHistory N.own self.new.seen }
         ensures answer { IfOk result (λ r. said_by N.table r ≡ reading_of self.new.seen (asked_of N.table question.now)) }
@@ -332,25 +333,28 @@ impl<N: EngineName> Client<N> {
             (λ why. (why ≡ NoMemory) ⊎ (why ≡ NoReading) ⊎ (self.new.read ≡ self.new.seen)) }
         ensures same { self.new ≡ record self.old { seen = self.new.seen; read = self.new.read } }
     {
-        self.seat.ask(alloc, question)
+        self.token.ask(alloc, question)
     }
 }
 
-/// The envelope of an item, with a blank answer and an empty cell, and what the client keeps of it. Both share the item.
+/// The envelope of a submission, with a blank answer and an empty cell, and what the client keeps of it. Both share the submission.
 ///
 /// # Errors
-/// `NoMemory` if allocation fails.
-fn envelope_for<N: EngineName>(alloc: Global, item: Item) -> Result<(Envelope<N>, Kept<N>), Refusal>
-    ensures item { IfOk result (λ r. (r.0.answer.value.item ≡ item) × (r.1.item ≡ item) × (r.1.known ≡ None)) }
-    ensures err { IfErr result (λ why. why ≡ NoMemory) }
+/// `AllocError` if allocation fails.
+fn envelope_for<N: EngineName>(
+    alloc: Global,
+    submission: Submission,
+) -> Result<(Envelope<N>, Pending<N>), AllocError>
+    ensures submission { IfOk result
+        (λ r. (r.0.answer.value.submission ≡ submission) × (r.1.submission ≡ submission) × (r.1.known ≡ None)) }
 {
-    let item = Shared::new(alloc, item)?;
-    let answer = Box::new(alloc, Answer::blank(item.clone()?))?;
+    let submission = Shared::new(alloc, submission)?;
+    let answer = Box::new(alloc, Answer::blank(submission.clone()?))?;
     let cell = Arc::new(alloc, OnceBox::new(alloc))?;
     let again = Arc::try_clone(&cell)?;
     let envelope = Envelope {
         answer,
         cell: again,
     };
-    Ok((envelope, Kept::new(item, cell)))
+    Ok((envelope, Pending::new(submission, cell)))
 }

@@ -6,16 +6,16 @@ ghost use Rattle.semantics.specs.Entries.{IsEntryHistory, Own, entry_at};
 ghost use Rattle.semantics.specs.Making.{Command};
 ghost use Rattle.semantics.specs.Stamped.{Stamped};
 ghost use Rattle.semantics.specs.WorldHistory.{BeginsWith};
-ghost use Rattle.handling.specs.oplog.Logs.{history};
-ghost use Rattle.handling.specs.items.declared.item.Item.{Item as AnItem};
+ghost use Rattle.replica.specs.oplog.Logs.{history};
+ghost use Rattle.replica.specs.operation.declared.submission.Submission.{Submission as ASubmission};
 ghost use Rattle.command.specs.InOrder.{of};
-ghost use Rattle.engine.specs.Clients.{Client as TheClient, AreClients, items_by};
-ghost use Rattle.engine.specs.Turns.{submitted_in};
+ghost use Rattle.engine.specs.Clients.{Client as TheClient, AreClients, submissions_by};
+ghost use Rattle.engine.specs.WriterSteps.{submitted_in};
 
 use crate::client::Client;
 use crate::writer::Writer;
 use command::EngineName;
-use handling::Entry;
+use replica::Entry;
 use std::sync::Wait;
 
 /// What is left of an engine: the published history, the oldest entry first, and how many submissions weren't answered.
@@ -33,7 +33,7 @@ pub struct Final {
 /// it for good. So let the threads of clients and readers end before.
 ///
 /// `clients` are the engine's clients 0, 1, 2 and so on, as far as they are still at hand; there may be none. The contract says what
-/// became of all that these submitted, and nothing of the others. Waits for readers that still read. Takes no memory, copies nothing,
+/// became of all that these submitted, and nothing of the others. Waits for readers that still read. Allocates nothing, copies nothing,
 /// and is linear in what the clients keep. If a client had seen more than is published, this would wait for good. Nothing lets that
 /// happen: each notice is of what was published. But no contract says so yet.
 pub fn close<N: EngineName>(rt: &impl Wait, writer: Writer<N>, clients: Vec<Client<N>>) -> Final
@@ -41,9 +41,9 @@ pub fn close<N: EngineName>(rt: &impl Wait, writer: Writer<N>, clients: Vec<Clie
     ensures history { (history N.table result.history.items ≡ writer.published) × IsEntryHistory N.own writer.published }
     ensures seen { (k : ℕ) (c : TheClient) → slice_get clients.items k ≡ Some c → BeginsWith writer.published c.seen }
     ensures own { (k : ℕ) (c : TheClient) → slice_get clients.items k ≡ Some c → (n serial : ℕ) (command : Command) (s : Stamped) →
-        entry_at n writer.published ≡ Some (Own k serial command s) → AsksFor (submitted_in N.table (items_by c)) serial command }
-    ensures taken { (queued : List AnItem) × (result.left ≡ length writer.held + length queued)
-        × ((k : ℕ) (c : TheClient) → slice_get clients.items k ≡ Some c → of k (writer.took ++ queued) ≡ items_by c) }
+        entry_at n writer.published ≡ Some (Own k serial command s) → AsksFor (submitted_in N.table (submissions_by c)) serial command }
+    ensures taken { (queued : List ASubmission) × (result.left ≡ length writer.held + length queued)
+        × ((k : ℕ) (c : TheClient) → slice_get clients.items k ≡ Some c → of k (writer.took ++ queued) ≡ submissions_by c) }
 {
     let Writer {
         publisher,

@@ -9,21 +9,21 @@
 
 mod client;
 mod closing;
-mod kept;
 mod opening;
+mod pending;
 mod writer;
 
 pub use client::Client;
 pub use closing::{Final, close};
-pub use command::{EngineName, Notice, Seat as ReaderToken, Ticket};
+pub use command::{EngineName, Notice, ReaderToken, Ticket};
 pub use opening::{Parts, open, prepare};
 pub use writer::{Step, Writer};
 
 // What else an application names: commands and questions, and what they are answered.
-pub use handling::{
+pub use ids::{Config, OpId, Refusal};
+pub use replica::{
     Command, Entry, Expr, ExprStep, Key, Question, Reading, Reply, Scalar, Tag, Text, Val,
 };
-pub use ids::{Config, OpId, Refusal};
 
 // Handed on from the crates below, for users of this one.
-pub use handling::{Op, Shared, VersionVector};
+pub use replica::{Op, Shared, VersionVector};

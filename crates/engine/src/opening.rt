@@ -14,10 +14,10 @@ ghost use Rattle.engine.specs.Clients.{AreClients, IsNewClient};
 
 use crate::client::Client;
 use crate::writer::{Handled, Writer};
-use command::{EngineName, Opened, Queue, Seat, Taker};
-use handling::{Document, Replica};
+use command::{EngineName, Opened, Queue, ReaderToken, Taker};
 use ids::{Config, Refusal, ReplicaId};
-use std::alloc::Global;
+use replica::{Document, Replica};
+use std::alloc::{AllocError, Global};
 use std::sync::Wait;
 
 /// The parts of a new engine, which has no name yet: `open` is called with a type that names it.
@@ -92,13 +92,13 @@ fn two_documents(alloc: Global, members: &[u32]) -> Result<(Document, Document),
 /// are ended again, which needs the permission to wait, although no reader is there yet to wait for.
 ///
 /// # Errors
-/// `NoReaderPlace` if the copies have no seat for a reader: no contract says when that is, and tests never met it. `NoMemory` if allocation
-/// fails. The parts are gone then: `prepare` others.
+/// `NoReaderPlace` if the copies have no token for a reader: no contract says when that is, and tests never met it. `NoMemory` if
+/// allocation fails. The parts are gone then: `prepare` others.
 pub fn open<N: EngineName>(
     rt: &impl Wait,
     alloc: Global,
     parts: Parts,
-) -> Result<(Writer<N>, Vec<Client<N>>, Vec<Seat<N>>), Refusal>
+) -> Result<(Writer<N>, Vec<Client<N>>, Vec<ReaderToken<N>>), Refusal>
     requires book { parts.opened.seen.book ≡ N.book }
     requires own { parts.config.own ≡ N.own }
     requires table { in_order parts.config.members ≡ N.table }
@@ -118,40 +118,39 @@ pub fn open<N: EngineName>(
         first,
         second,
     } = parts;
-    let tokens = config.clients as usize + config.readers as usize;
-    let (publisher, mut seats) = command::open_published::<N>(
-        rt, alloc, opened, first, second, tokens,
+    let count = config.clients as usize + config.readers as usize;
+    let (publisher, mut tokens) = command::open_published::<N>(
+        rt, alloc, opened, first, second, count,
     )?;
-    match new_ends::<N>(alloc, &config, own, &mut seats) {
+    match new_ends::<N>(alloc, &config, own, &mut tokens) {
         Ok((taker, held, clients)) => {
             let batch = config.batch as usize;
             let writer = Writer::new(publisher, replica, taker, held, batch);
-            Ok((writer, clients, seats))
+            Ok((writer, clients, tokens))
         }
-        Err(refusal) => {
+        Err(AllocError) => {
             let _ended = publisher.end(rt);
-            Err(refusal)
+            Err(Refusal::NoMemory)
         }
     }
 }
 
-/// The writer's end of a new queue, an empty batch with its room, and a client for each of the last seats.
+/// The writer's end of a new queue, an empty batch with its room, and a client for each of the last tokens.
 fn new_ends<N: EngineName>(
     alloc: Global,
     config: &Config,
     own: ReplicaId,
-    seats: &mut Vec<Seat<N>>,
-) -> Result<(Taker<N>, Vec<Handled<N>>, Vec<Client<N>>), Refusal>
+    tokens: &mut Vec<ReaderToken<N>>,
+) -> Result<(Taker<N>, Vec<Handled<N>>, Vec<Client<N>>), AllocError>
     requires good { is_within_limits config.now ≡ true }
     requires own { own ≡ config.now.own }
-    requires seats { length seats.old.items ≡ config.now.clients + config.now.readers }
-    requires unseen { All (λ s. s.seen ≡ []) seats.old.items }
+    requires tokens { length tokens.old.items ≡ config.now.clients + config.now.readers }
+    requires unseen { All (λ s. s.seen ≡ []) tokens.old.items }
     ensures taker { IfOk result (λ r. ((view r.0.pass).got ≡ []) × ((view r.0.pass).known ≡ [])) }
     ensures held { IfOk result (λ r. (r.1.items ≡ []) × (config.now.batch ≤ vec_capacity r.1)) }
     ensures clients { IfOk result
         (λ r. AreClients r.0.pass.table_id 0 r.2.items × (length r.2.items ≡ config.now.clients) × All (IsNewClient config.now) r.2.items) }
-    ensures readers { IfOk result (λ r. (length seats.new.items ≡ config.now.readers) × All (λ s. s.seen ≡ []) seats.new.items) }
-    ensures err { IfErr result (λ why. why ≡ NoMemory) }
+    ensures readers { IfOk result (λ r. (length tokens.new.items ≡ config.now.readers) × All (λ s. s.seen ≡ []) tokens.new.items) }
 {
     let mut held = Vec::new(alloc);
     held.reserve(config.batch as usize)?;
@@ -159,21 +158,26 @@ fn new_ends<N: EngineName>(
     let mut clients = Vec::new(alloc);
     clients.reserve(config.clients as usize)?;
     for number in 0..config.clients as usize {
-        let Some(seat) = seats.pop() else {
+        let Some(token) = tokens.pop() else {
             unreachable!()
         };
         let sender = taker.sender()?;
         let serials = u64::from(config.serials);
-        clients.push_reserved(Client::new(alloc, own, number, serials, seat, sender));
+        clients.push_reserved(Client::new(alloc, own, number, serials, token, sender));
     }
     Ok((taker, held, clients))
 }
 
-/// The writer's end of an empty queue.
-fn new_queue<N: EngineName>(alloc: Global, config: &Config) -> Result<Taker<N>, Refusal>
+/// The writer's end of an empty queue, whose capacity is within its limits.
+fn new_queue<N: EngineName>(alloc: Global, config: &Config) -> Result<Taker<N>, AllocError>
     requires { is_within_limits config.now ≡ true }
     ensures empty { IfOk result (λ t. (view t.pass ≡ taker_hand [] 0 []) × (ruled_capacity (arc_value t.queue) ≡ config.now.queue)) }
-    ensures err { IfErr result (λ why. why ≡ NoMemory) }
 {
-    Queue::new(alloc, config.queue as usize)
+    match Queue::new(alloc, config.queue as usize) {
+        Ok(taker) => Ok(taker),
+        Err(why) => {
+            prove_eq!(why, Refusal::NoMemory);
+            Err(AllocError)
+        }
+    }
 }

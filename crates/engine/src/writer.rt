@@ -8,16 +8,15 @@ ghost use Rattle.semantics.specs.Replica.{IsRunning};
 ghost use Rattle.semantics.specs.Handling.{Handles};
 ghost use Rattle.semantics.specs.Batches.{AreAnswers, IsBatch, ComeFrom, items_of};
 ghost use Rattle.semantics.specs.Publication.{Holds};
-ghost use Rattle.handling.specs.items.declared.item.Item.{Item as AnItem};
-ghost use Rattle.handling.specs.items.Meanings.{submitted_of};
-ghost use Rattle.handling.specs.replica.Replicas.{replica_of};
-ghost use Rattle.handling.specs.Meanings.{handler_of};
-ghost use Rattle.engine.specs.Turns.{Ends, IsTurn, Shows, publication_of, submitted_in};
+ghost use Rattle.replica.specs.operation.declared.submission.Submission.{Submission as ASubmission};
+ghost use Rattle.replica.specs.operation.Submissions.{submitted_of};
+ghost use Rattle.replica.specs.Replicas.{replica_of};
+ghost use Rattle.replica.specs.Handlers.{handler_of};
+ghost use Rattle.engine.specs.WriterSteps.{Ends, IsWriterStep, Shows, publication_of, submitted_in};
 
 use command::{EngineName, Envelope, Notice, Publisher, Taker};
-use handling::{Handler, Replica, Reply};
-use ids::Refusal;
-use std::alloc::Global;
+use replica::{Handler, Replica, Reply};
+use std::alloc::{AllocError, Global};
 use std::marker::Model;
 use std::sync::Wait;
 
@@ -48,13 +47,13 @@ impl<N: EngineName> Model for Handled<N> {
     ghost use Rattle.std.specs.Coded.{codes};
     ghost use Rattle.semantics.specs.Codes.{coded_element};
     ghost use Rattle.semantics.specs.Engine.{Handled};
-    ghost use Rattle.handling.specs.items.Meanings.{reply_of, submitted_of};
+    ghost use Rattle.replica.specs.operation.Submissions.{reply_of, submitted_of};
 
     ghost Value = { Handled };
 
     ghost coded = { Prim.hlevel (codes, coded_element) };
 
-    ghost view = { λ h. record { submitted = submitted_of N.table h.envelope.answer.value.item; reply = reply_of h.reply } };
+    ghost view = { λ h. record { submitted = submitted_of N.table h.envelope.answer.value.submission; reply = reply_of h.reply } };
 }
 
 /// The one writer of an engine, which owns the replica. It isn't `Drop`: call `close`.
@@ -72,8 +71,8 @@ impl<N: EngineName> Model for Writer<N> {
     ghost use Rattle.std.specs.Coded.{codes};
     ghost use Rattle.semantics.specs.Codes.{coded_element};
     ghost use Rattle.crossbeam_queue.specs.Passes.{view as view_of};
-    ghost use Rattle.handling.specs.Meanings.{handler_of};
-    ghost use Rattle.engine.specs.Turns.{Writer, IsWriter};
+    ghost use Rattle.replica.specs.Handlers.{handler_of};
+    ghost use Rattle.engine.specs.WriterSteps.{Writer, IsWriter};
 
     ghost Value = { Writer };
 
@@ -132,14 +131,15 @@ impl<N: EngineName> Writer<N> {
         self.handler.replica.dropped()
     }
 
-    /// Goes on with the drain of peers' operations that a failed allocation ended early; takes up to a batch of items and handles them
-    /// one after another; publishes all entries at once; and then answers the items, the oldest first. If a batch is held, publishes and
-    /// answers that, and does nothing else. Returns at once where nothing waits. May spin behind a thread that is in the queue, and waits
-    /// for readers of the copy that is brought up to date. Applies each new entry three times: to the replica and to both copies.
+    /// Goes on with the drain of peers' operations that a failed allocation ended early; takes up to a batch of submissions and handles
+    /// them one after another; publishes all entries at once; and then answers the submissions, the oldest first. If a batch is held,
+    /// publishes and answers that, and does nothing else. Returns at once where nothing waits. May spin behind a thread that is in the
+    /// queue, and waits for readers of the copy that is brought up to date. Applies each new entry three times: to the replica and to both
+    /// copies.
     pub fn step(&mut self, rt: &impl Wait, alloc: Global) -> Step
         ensures same { (self.new.queue ≡ self.old.queue) × (self.new.batch ≡ self.old.batch) × (0 < self.new.batch) }
         ensures fresh { length self.old.held ≡ 0
-            → (hs : List TheHandled) × IsTurn N.table self.old hs self.new × Ends self.old hs result self.new }
+            → (hs : List TheHandled) × IsWriterStep N.table self.old hs self.new × Ends self.old hs result self.new }
         ensures again { 0 < length self.old.held → Shows self.old result self.new }
     {
         if self.held.is_empty() {
@@ -153,7 +153,7 @@ impl<N: EngineName> Writer<N> {
     fn turn(&mut self, rt: &impl Wait, alloc: Global) -> Step
         requires { length self.old.held ≡ 0 }
         ensures same { (self.new.queue ≡ self.old.queue) × (self.new.batch ≡ self.old.batch) × (0 < self.new.batch) }
-        ensures turn { (hs : List TheHandled) × IsTurn N.table self.old hs self.new × Ends self.old hs result self.new }
+        ensures turn { (hs : List TheHandled) × IsWriterStep N.table self.old hs self.new × Ends self.old hs result self.new }
     {
         self.take_all(rt, alloc);
         if self.is_done() {
@@ -162,12 +162,12 @@ impl<N: EngineName> Writer<N> {
         self.show(rt)
     }
 
-    /// Goes on with a drain that ended early, and then handles up to a batch of items.
+    /// Goes on with a drain that ended early, and then handles up to a batch of submissions.
     fn take_all(&mut self, rt: &impl Wait, alloc: Global)
         requires { length self.old.held ≡ 0 }
         ensures same { (self.new.queue ≡ self.old.queue) × (self.new.batch ≡ self.old.batch) × (self.new.published ≡ self.old.published)
             × (0 < self.new.batch) }
-        ensures turn { IsTurn N.table self.old self.new.held self.new }
+        ensures turn { IsWriterStep N.table self.old self.new.held self.new }
     {
         self.handler.resume(alloc, &mut self.publisher);
         fill(
@@ -206,8 +206,8 @@ impl<N: EngineName> Writer<N> {
         Step::Published(count)
     }
 
-    /// Publishes all entries. `NoMemory` if allocation fails, and then nothing changes.
-    fn publish_all(&mut self, rt: &impl Wait) -> Result<(), Refusal>
+    /// Publishes all entries. `AllocError` if allocation fails, and then nothing changes.
+    fn publish_all(&mut self, rt: &impl Wait) -> Result<(), AllocError>
         ensures publishes { MatchResult result (λ _. self.new ≡ record self.old { published = self.old.handler.replica.entries })
             (λ _. self.new ≡ self.old) }
         ensures positive { 0 < self.new.batch }
@@ -252,7 +252,7 @@ fn fill<N: EngineName>(
     requires come_from { ComeFrom (submitted_in N.table (view taker.old.pass).got) handler.old.replica.document.entries }
     ensures batch { IsBatch (handler_of handler.old) (submitted_in N.table (view taker.old.pass).got) held.new.items
         (handler_of handler.new) }
-    ensures took { (items : List AnItem) × ((view taker.new.pass).got ≡ (view taker.old.pass).got ++ items)
+    ensures took { (items : List ASubmission) × ((view taker.new.pass).got ≡ (view taker.old.pass).got ++ items)
         × (items_of held.new.items ≡ submitted_in N.table items) }
     ensures taker { (taker.new.pass.table_id ≡ taker.old.pass.table_id) × ((view taker.new.pass).known ≡ (view taker.old.pass).known) }
     ensures holds { Holds (publication_of N.own N.table publisher.new) (replica_of handler.new.replica) }
@@ -269,7 +269,7 @@ fn fill<N: EngineName>(
     }
 }
 
-/// Handles one item.
+/// Handles one submission.
 fn handle_one<N: EngineName>(
     alloc: Global,
     publisher: &mut Publisher<N>,
@@ -278,19 +278,20 @@ fn handle_one<N: EngineName>(
 ) -> Handled<N>
     requires holds { Holds (publication_of N.own N.table publisher.old) (replica_of handler.old.replica) }
     requires running { IsRunning (replica_of handler.old.replica) }
-    requires above { IsAbove envelope.answer.value.item.client envelope.answer.value.item.serial handler.old.replica.document.entries }
-    ensures item { result.submitted ≡ submitted_of N.table envelope.answer.value.item }
-    ensures handled { Handles (handler_of handler.old) (submitted_of N.table envelope.answer.value.item) result.reply
+    requires above { IsAbove envelope.answer.value.submission.client envelope.answer.value.submission.serial
+        handler.old.replica.document.entries }
+    ensures submission { result.submitted ≡ submitted_of N.table envelope.answer.value.submission }
+    ensures handled { Handles (handler_of handler.old) (submitted_of N.table envelope.answer.value.submission) result.reply
         (handler_of handler.new) }
     ensures holds { Holds (publication_of N.own N.table publisher.new) (replica_of handler.new.replica) }
     ensures published { publisher.new.published ≡ publisher.old.published }
 {
-    let reply = handler.handle(alloc, publisher, envelope.answer.item());
+    let reply = handler.handle(alloc, publisher, envelope.answer.submission());
     Handled { envelope, reply }
 }
 
-/// Answers the batch, the oldest item first, with a notice of the published history. The contract says that an answer may be set; that it
-/// stands in its cell is tested.
+/// Answers the batch, the oldest submission first, with a notice of the published history. The contract says that an answer may be set;
+/// that it stands in its cell is tested.
 fn give<N: EngineName>(held: &mut Vec<Handled<N>>, notice: &Notice<N>)
     requires { AreAnswers N.own N.table notice.now held.old.items }
     ensures held { held.new.items ≡ [] }

@@ -45,7 +45,7 @@ impl Model for Config {
 }
 
 impl Config {
-    /// Tests whether an engine may be opened with this configuration. Compares at most 2,080 pairs of numbers, and takes no memory.
+    /// Tests whether an engine may be opened with this configuration. Compares at most 2,080 pairs of numbers, and allocates nothing.
     ///
     /// # Errors
     /// `BadConfig` if a number is outside its limits, a member stands twice, or the own number isn't a member.

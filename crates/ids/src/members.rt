@@ -5,7 +5,7 @@ ghost use Rattle.std.specs.List.{list_all};
 ghost use Rattle.ids.specs.Members.{are_distinct};
 ghost use Rattle.ids.specs.Configurations.{are_members, is_from_one_to};
 
-/// Whether these are 1 to 64 distinct numbers above 0. Compares at most 2,016 pairs, and takes no memory.
+/// Whether these are 1 to 64 distinct numbers above 0. Compares at most 2,016 pairs, and allocates nothing.
 pub(crate) fn are_members(numbers: &[u32]) -> bool
     ensures { result ≡ are_members numbers.now }
 {

@@ -54,7 +54,7 @@ pub enum Refusal {
     NotWhole = 21,
     /// A line or a value that isn't of its format.
     BadLine = 22,
-    /// The published copies gave no seat for a reader.
+    /// The published copies gave no place to a reader.
     NoReaderPlace = 23,
     /// A configuration outside the limits.
     BadConfig = 24,

@@ -15,7 +15,7 @@ use std::marker::Model;
 use std::sync::Arc;
 
 /// The replicas of an engine: 1 to 64 distinct numbers, rising. Contracts see the list of the numbers. A clone shares them, and
-/// takes no memory.
+/// allocates nothing.
 #[derive(Debug, Drop)]
 pub struct ReplicaTable {
     numbers: Arc<Vec<u32>>,

@@ -12,7 +12,7 @@ use Rattle.semantics.proofs.ColumnComparison.{ready-by_table}
 use Rattle.semantics.proofs.TableVectors.{at-by_table}
 use Rattle.ids.specs.Members.{AreDistinct}
 use Rattle.document.specs.operation.declared.op.Op.{Op}
-use Rattle.document.specs.operation.Meanings.{stamped_of}
+use Rattle.document.specs.operation.Ops.{stamped_of}
 
 each_at_most : (cs ds : List ℕ) → all_at_most cs ds ≡ true → (i : ℕ) → i < length cs → slice_index cs i ≤ slice_index ds i
 each_at_most [] ds h i lt = absurd (omega arith)

@@ -11,7 +11,7 @@ use Rattle.semantics.specs.Faults.{is_ready}
 use Rattle.semantics.proofs.Orders.{id_itself, ids_from_test}
 use Rattle.semantics.proofs.SkipOrder.{not_back, not_itself}
 use Rattle.document.specs.operation.declared.op.Op.{Op}
-use Rattle.document.specs.operation.Meanings.{stamped_of}
+use Rattle.document.specs.operation.Ops.{stamped_of}
 use Rattle.slab.specs.Slab.{Slab, get}
 use Rattle.inbox.specs.Awaiting.{first_of, is_ready_at, is_ready_if, IsMet, IsReadyAt}
 

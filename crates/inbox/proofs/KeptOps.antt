@@ -8,7 +8,7 @@ use Rattle.semantics.specs.Delivery.{is_waiting, put_waiting}
 use Rattle.semantics.specs.Drain.{without_waiting}
 use Rattle.semantics.proofs.Waiting.{rising_put, rising_without}
 use Rattle.document.specs.operation.declared.op.Op.{Op}
-use Rattle.document.specs.operation.Meanings.{stamped_of}
+use Rattle.document.specs.operation.Ops.{stamped_of}
 use Rattle.slab.specs.Slab.{Slab, get, Updates}
 use Rattle.inbox.specs.declared.waits.Waits.{Waits}
 use Rattle.inbox.specs.Awaiting.{AreAwaiting, IsEntered, IsForgotten, SameWaits}

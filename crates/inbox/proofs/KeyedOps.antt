@@ -14,7 +14,7 @@ use Rattle.semantics.specs.Delivery.{is_waiting, put_waiting}
 use Rattle.semantics.specs.Drain.{without_waiting}
 use Rattle.semantics.proofs.Orders.{id_total, ids_from_test, id_tested}
 use Rattle.document.specs.operation.declared.op.Op.{Op}
-use Rattle.document.specs.operation.Meanings.{stamped_of}
+use Rattle.document.specs.operation.Ops.{stamped_of}
 use Rattle.slab.specs.Slab.{Slab, get, Updates}
 use Rattle.inbox.specs.Inboxes.{AreAtKeys, ops_at, waiting_in}
 

@@ -10,7 +10,7 @@ use Rattle.semantics.specs.Faults.{is_ready}
 use Rattle.semantics.specs.Drain.{first_ready}
 use Rattle.semantics.proofs.Waiting.{none_ready as none_waits, ready_first}
 use Rattle.document.specs.operation.declared.op.Op.{Op}
-use Rattle.document.specs.operation.Meanings.{stamped_of}
+use Rattle.document.specs.operation.Ops.{stamped_of}
 use Rattle.slab.specs.Slab.{Slab, get}
 use Rattle.inbox.specs.declared.waits.Waits.{Waits}
 use Rattle.inbox.specs.Awaiting.{AreThisWide}

@@ -13,7 +13,7 @@ use Rattle.document.specs.operation.declared.op.Op.{Op}
 use Rattle.document.specs.operation.declared.command.Delivered.{Delivered}
 use Rattle.document.specs.operation.declared.command.Delivered.TheVariants.{Known, Kept}
 use Rattle.document.specs.operation.Alone.{alone_fault_of_op}
-use Rattle.document.specs.operation.Meanings.{stamped_of}
+use Rattle.document.specs.operation.Ops.{stamped_of}
 use Rattle.slab.specs.Slab.{Slab, get}
 use Rattle.inbox.specs.declared.waits.Waits.{Waits}
 use Rattle.inbox.specs.Awaiting.{AreAwaiting}

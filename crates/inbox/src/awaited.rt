@@ -193,8 +193,8 @@ pub fn forget(awaits: &mut BTreeSet<Awaited>, waiting: &Waiting, key: usize)
     ensures gone { (q : AnAwaited) → contains await_cmp awaits.new q ≡ true → q.key ≢ key }
 {
     let op = &waiting.op;
-    let near = waiting.index;
-    if near < op.deps.width() && forget_at(awaits, op, near, key) {
+    let hint = waiting.index;
+    if hint < op.deps.width() && forget_at(awaits, op, hint, key) {
         return;
     }
     for index in 0..op.deps.width() {

@@ -9,7 +9,7 @@ ghost use Rattle.semantics.specs.Delivery.{Kept as ToBeKept, NotKept, is_crowded
 ghost use Rattle.semantics.specs.Drain.{first_ready, without_waiting};
 ghost use Rattle.document.specs.operation.declared.op.Op.{Op as AnOp};
 ghost use Rattle.document.specs.operation.declared.command.Delivered.TheVariants.{Kept};
-ghost use Rattle.document.specs.operation.Meanings.{stamped_of};
+ghost use Rattle.document.specs.operation.Ops.{stamped_of};
 ghost use Rattle.inbox.specs.Inboxes.{answer_to_put, delivered_of, waiting_in, AreAsWide, AreNotReady, AreRising, IsLeastReady};
 
 use crate::awaited::{Waiting, op_at};

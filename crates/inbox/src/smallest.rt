@@ -10,7 +10,7 @@ ghost use Rattle.inbox.specs.declared.awaited.Awaited.{Awaited as AnAwaited};
 ghost use Rattle.document.specs.operation.declared.op.Op.{Op as AnOp};
 ghost use Rattle.slab.specs.Slab.{get};
 ghost use Rattle.semantics.specs.Faults.{is_ready};
-ghost use Rattle.document.specs.operation.Meanings.{stamped_of};
+ghost use Rattle.document.specs.operation.Ops.{stamped_of};
 ghost use Rattle.inbox.specs.Awaiting.{await_cmp, first_of, is_above, is_ready_at, AreAwaiting, AreThisWide, AreUnseen, IsMet, IsPassed};
 ghost use Rattle.inbox.specs.Awaiting.{IsReadyAt, IsSettled};
 

@@ -14,7 +14,7 @@ use Rattle.semantics.specs.Faults.{first_failed, alone_fault, is_of_members, has
 use Rattle.semantics.proofs.TableVectors.{greatest-by_table}
 use Rattle.operation.specs.declared.op.Op.{Op}
 use Rattle.operation.specs.Alone.{alone_fault_of_op}
-use Rattle.operation.specs.Meanings.{mutation_of, stamped_of}
+use Rattle.operation.specs.Ops.{mutation_of, stamped_of}
 
 module _ (f : ℕ → Bool) where
   abbrev all_of : Vector → Bool

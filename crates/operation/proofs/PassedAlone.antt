@@ -6,7 +6,7 @@ use Rattle.semantics.specs.Faults.{StandsAlone, alone_fault}
 use Rattle.semantics.proofs.AloneTests.{stands_alone}
 use Rattle.operation.specs.declared.op.Op.{Op}
 use Rattle.operation.specs.Alone.{alone_fault_of_op}
-use Rattle.operation.specs.Meanings.{stamped_of}
+use Rattle.operation.specs.Ops.{stamped_of}
 
 pub width_alone : (table : List ℕ) (o : Op) → alone_fault_of_op table o ≡ None → length o.deps ≡ length table
 width_alone table o h = at_test (nat_eq (length o.deps) (length table)) refl h

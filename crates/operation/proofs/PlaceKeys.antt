@@ -4,12 +4,12 @@ use Rattle.std.specs.List.{list_all}
 use Rattle.std.proofs.lemmas.List.Folds.{list_all-append}
 use Rattle.ids.specs.Members.{is_member}
 use Rattle.semantics.specs.Elements.{Element, Doc, Field, Item}
-use Rattle.semantics.specs.Paths.{Key, FieldKey, ItemKey, keys_from_root}
+use Rattle.semantics.specs.Paths.{Hop, FieldHop, ItemHop, hops_from_root}
 use Rattle.semantics.specs.Vectors.{Vector, covers}
 use Rattle.semantics.specs.Faults.{items_covered, items_of_members}
 use Rattle.operation.specs.Alone.{key_covered, key_of_member}
 
-last_first : (p : Key → Bool) (ks : List Key) (k : Key) → list_all p (ks ++ k ∷ []) ≡ (p k && list_all p ks)
+last_first : (p : Hop → Bool) (ks : List Hop) (k : Hop) → list_all p (ks ++ k ∷ []) ≡ (p k && list_all p ks)
 last_first p ks k = list_all-append p ks (k ∷ []) ∙ turned (list_all p ks) (p k)
   where
     turned : (a b : Bool) → (a && (b && true)) ≡ (b && a)
@@ -18,14 +18,14 @@ last_first p ks k = list_all-append p ks (k ∷ []) ∙ turned (list_all p ks) (
     turned false true = refl
     turned false false = refl
 
-pub items_of_members-keys : (ps : List ℕ) (e : Element) → items_of_members ps e ≡ list_all (key_of_member ps) (keys_from_root e)
+pub items_of_members-keys : (ps : List ℕ) (e : Element) → items_of_members ps e ≡ list_all (key_of_member ps) (hops_from_root e)
 items_of_members-keys ps Doc = refl
-items_of_members-keys ps (Field e n) = items_of_members-keys ps e ∙ sym (last_first (key_of_member ps) (keys_from_root e) (FieldKey n))
+items_of_members-keys ps (Field e n) = items_of_members-keys ps e ∙ sym (last_first (key_of_member ps) (hops_from_root e) (FieldHop n))
 items_of_members-keys ps (Item e a) = ap (λ b. is_member ps a.replica && b) (items_of_members-keys ps e)
-    ∙ sym (last_first (key_of_member ps) (keys_from_root e) (ItemKey a))
+    ∙ sym (last_first (key_of_member ps) (hops_from_root e) (ItemHop a))
 
-pub items_covered-keys : (v : Vector) (e : Element) → items_covered v e ≡ list_all (key_covered v) (keys_from_root e)
+pub items_covered-keys : (v : Vector) (e : Element) → items_covered v e ≡ list_all (key_covered v) (hops_from_root e)
 items_covered-keys v Doc = refl
-items_covered-keys v (Field e n) = items_covered-keys v e ∙ sym (last_first (key_covered v) (keys_from_root e) (FieldKey n))
+items_covered-keys v (Field e n) = items_covered-keys v e ∙ sym (last_first (key_covered v) (hops_from_root e) (FieldHop n))
 items_covered-keys v (Item e a) = ap (λ b. covers v a && b) (items_covered-keys v e)
-    ∙ sym (last_first (key_covered v) (keys_from_root e) (ItemKey a))
+    ∙ sym (last_first (key_covered v) (hops_from_root e) (ItemHop a))

@@ -12,7 +12,7 @@ use Rattle.operation.specs.declared.command.Entry.TheVariants.{Own, Peer}
 use Rattle.operation.specs.declared.op.Op.{Op}
 use Rattle.operation.specs.Alone.{alone_fault_of_op}
 use Rattle.operation.proofs.PassedAlone.{alone}
-use Rattle.operation.specs.Meanings.{entry_of, op_in, stamped_of}
+use Rattle.operation.specs.Ops.{entry_of, op_in, stamped_of}
 
 -- the operation of an entry, indexed by a table
 pub stamped_same : (table : List ℕ) (e : Entry) → stamped_in (entry_of table e) ≡ stamped_of table (op_in e)

@@ -4,21 +4,21 @@ use Rattle.ids.specs.Members.{is_member}
 use Rattle.ids.specs.declared.refusal.Refusal.{Refusal}
 use Rattle.ids.specs.declared.refusal.Refusal.TheVariants.{UnknownReplica}
 use Rattle.semantics.specs.Vectors.{Vector, covers}
-use Rattle.semantics.specs.Paths.{Key, FieldKey, ItemKey}
+use Rattle.semantics.specs.Paths.{Hop, FieldHop, ItemHop}
 use Rattle.semantics.specs.Faults.{alone_fault}
 use Rattle.operation.specs.declared.op.Op.{Op}
-use Rattle.operation.specs.Meanings.{stamped_of}
+use Rattle.operation.specs.Ops.{stamped_of}
 
 -- the first fault of an operation alone; one whose vector has another width than the table names unknown replicas
 abbrev pub alone_fault_of_op : List ℕ → Op → Option Refusal
 alone_fault_of_op table o = if nat_eq (length o.deps) (length table) then alone_fault table (stamped_of table o) else Some UnknownReplica
 
 -- the key is a field's, or that of a member's item
-abbrev pub key_of_member : List ℕ → Key → Bool
-key_of_member table (FieldKey n) = true
-key_of_member table (ItemKey a) = is_member table a.replica
+abbrev pub key_of_member : List ℕ → Hop → Bool
+key_of_member table (FieldHop n) = true
+key_of_member table (ItemHop a) = is_member table a.replica
 
 -- the key is a field's, or that of an item that the vector covers
-abbrev pub key_covered : Vector → Key → Bool
-key_covered v (FieldKey n) = true
-key_covered v (ItemKey a) = covers v a
+abbrev pub key_covered : Vector → Hop → Bool
+key_covered v (FieldHop n) = true
+key_covered v (ItemHop a) = covers v a

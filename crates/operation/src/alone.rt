@@ -6,7 +6,7 @@ ghost use Rattle.semantics.specs.Operations.{element_of};
 ghost use Rattle.semantics.specs.Faults.{is_next_counter, items_covered, items_of_members};
 ghost use Rattle.semantics.specs.Tables.{by_table, greatest_in};
 ghost use Rattle.semantics.specs.Vectors.{at};
-ghost use Rattle.cursor.specs.Meanings.{hop_of};
+ghost use Rattle.cursor.specs.Steps.{hop_of};
 ghost use Rattle.operation.specs.Alone.{alone_fault_of_op, key_covered, key_of_member};
 
 use crate::misplaced::Misplaced;

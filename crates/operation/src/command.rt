@@ -2,8 +2,8 @@
 
 ghost use Rattle.std.specs.Prelude.{◌≡◌, IfOk};
 ghost use Rattle.std.specs.Cmp;
-ghost use Rattle.operation.specs.Equality.{is_same_command, same_command_equiv};
-ghost use Rattle.operation.specs.Meanings.{command_of};
+ghost use Rattle.operation.specs.SameOps.{is_same_command, same_command_equiv};
+ghost use Rattle.operation.specs.Ops.{command_of};
 
 use crate::op::{Mutation, Op};
 use crate::shared::Shared;
@@ -26,7 +26,7 @@ pub enum Command {
 }
 
 impl Command {
-    ghost use Rattle.operation.specs.Meanings.{command_of, mutation_of};
+    ghost use Rattle.operation.specs.Ops.{command_of, mutation_of};
 
     /// The expression of the element, item or head that the command is about.
     pub fn expression(&self) -> &Expr
@@ -106,7 +106,7 @@ pub enum Entry {
 }
 
 impl Entry {
-    ghost use Rattle.operation.specs.Meanings.{entry_of, op_in, stamped_of};
+    ghost use Rattle.operation.specs.Ops.{entry_of, op_in, stamped_of};
     ghost use Rattle.semantics.specs.Entries.{stamped_in};
     ghost use Rattle.std.specs.Prelude.{ℕ, List};
 

@@ -6,16 +6,17 @@ mod command;
 mod misplaced;
 mod op;
 mod shared;
+mod submission;
 
 pub use alone::{check_alone, names_members};
 pub use command::{Command, Delivered, Entry};
 pub use misplaced::Misplaced;
 pub use op::{Mutation, Op};
 pub use shared::Shared;
+pub use submission::{Reply, Request, Submission};
 
 // Handed on from the crates below, for users of this one.
 pub use cursor::{
-    ElementPlace, Expr, Hop, Key, MOST_KEY_BYTES, MOST_KEYS, Place, Scalar, Step as ExprStep, Tag,
-    Text, Val,
+    Expr, Hop, Key, MOST_KEY_BYTES, MOST_KEYS, Place, Scalar, Step as ExprStep, Tag, Text, Val,
 };
 pub use version::VersionVector;

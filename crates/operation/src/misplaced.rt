@@ -3,7 +3,7 @@
 ghost use Rattle.std.specs.Prelude.{◌≡◌, option_map};
 ghost use Rattle.semantics.specs.Elements.{Value};
 ghost use Rattle.semantics.specs.Operations.{Assign, Delete, Insert, misplaced};
-ghost use Rattle.operation.specs.Meanings.{command_of, misplaced_of, mutation_of};
+ghost use Rattle.operation.specs.Ops.{command_of, misplaced_of, mutation_of};
 
 use crate::command::Command;
 use crate::op::Mutation;

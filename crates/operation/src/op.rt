@@ -2,8 +2,8 @@
 
 ghost use Rattle.std.specs.Prelude.{◌≡◌};
 ghost use Rattle.std.specs.Cmp;
-ghost use Rattle.operation.specs.Equality.{counted_of, is_same_mutation, is_same_operation, same_mutation_equiv, same_operation_equiv};
-ghost use Rattle.operation.specs.Meanings.{mutation_of};
+ghost use Rattle.operation.specs.SameOps.{counted_of, is_same_mutation, is_same_operation, same_mutation_equiv, same_operation_equiv};
+ghost use Rattle.operation.specs.Ops.{mutation_of};
 
 use cursor::{Place, Val};
 use ids::OpId;
@@ -19,18 +19,6 @@ pub enum Mutation {
     Insert(Val),
     /// Clears the element.
     Delete,
-}
-
-impl Mutation {
-    ghost use Rattle.semantics.specs.Operations.{is_insert};
-    ghost use Rattle.operation.specs.Meanings.{mutation_of};
-
-    /// Whether it is an insert.
-    pub fn is_insert(&self) -> bool
-        ensures { result ≡ is_insert (mutation_of self.now) }
-    {
-        matches!(self, Mutation::Insert(_))
-    }
 }
 
 impl Clone for Mutation {

@@ -7,7 +7,7 @@ use std::marker::Model;
 use std::ops::Deref;
 use std::sync::Arc;
 
-/// A value that never changes, and that all its clones share. A clone takes no memory: its `AllocError` says that the count of
+/// A value that never changes, and that all its clones share. A clone allocates nothing: its `AllocError` says that the count of
 /// those that share is full. Contracts see the value.
 #[derive(Debug, Drop)]
 pub struct Shared<T> {

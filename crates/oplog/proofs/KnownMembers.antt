@@ -12,7 +12,7 @@ use Rattle.semantics.specs.Faults.{is_of_members, items_of_members}
 use Rattle.semantics.specs.Entries.{Entry, applied}
 use Rattle.semantics.proofs.KnownItems.{items_known}
 use Rattle.operation.specs.declared.op.Op.{Op}
-use Rattle.operation.specs.Meanings.{stamped_of}
+use Rattle.operation.specs.Ops.{stamped_of}
 use Rattle.operation.proofs.AloneFaults.{all-by_table, members_all}
 use Rattle.oplog.specs.Logs.{AreOfMembers}
 

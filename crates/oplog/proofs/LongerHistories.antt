@@ -4,7 +4,7 @@ use Rattle.std.proofs.lemmas.List.{map-append, reverse-append}
 use mathlib.Core.List.{IsPrefix}
 use Rattle.semantics.specs.WorldHistory.{BeginsWith}
 use Rattle.operation.specs.declared.command.Entry.{Entry}
-use Rattle.operation.specs.Meanings.{entry_of}
+use Rattle.operation.specs.Ops.{entry_of}
 use Rattle.oplog.specs.Logs.{history}
 
 pub begins_of : (table : List ℕ) (xs ys : List Entry) → IsPrefix xs ys → BeginsWith (history table ys) (history table xs)

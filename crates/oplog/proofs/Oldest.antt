@@ -9,7 +9,7 @@ use Rattle.ids.specs.declared.id.OpId.{OpId}
 use Rattle.semantics.specs.Entries.{Entry as TheEntry, entry_at, stamped_in}
 use Rattle.operation.specs.declared.command.Entry.{Entry}
 use Rattle.operation.specs.declared.command.Entry.TheVariants.{Own, Peer}
-use Rattle.operation.specs.Meanings.{entry_of}
+use Rattle.operation.specs.Ops.{entry_of}
 use Rattle.oplog.specs.Logs.{history}
 
 pub reverse-twice : {X : Type 0} (xs : List X) → reverse (reverse xs) ≡ xs

@@ -88,7 +88,7 @@ pub positions_inside : (G : List TheEntry) (ps : List ℕ) (ns : List (Numbered 
     → numbers_of ns ≡ map (λ q. positions_by q G) ps → i < length ns
 positions_inside G ps ns i p at are =
     let here = slice_get_within ps i p at in
-    let beside = ap length are in
+    let width = ap length are in
     let same = length-map ns (λ (n : Numbered OpId). n.entries) in
     let long = length-map ps (λ q. positions_by q G) in
     omega arith

@@ -6,9 +6,9 @@ use Rattle.columns.specs.Numbered.{Numbered}
 use Rattle.oplog.specs.Logs.{least_room, numbers_of}
 
 -- at most those beside the columns
-pub least_room-beside : (n : ℕ) (ns : List (Numbered OpId)) → least_room n ns ≤ n
-least_room-beside n [] = omega arith
-least_room-beside n (x ∷ ns) = let h = least_room-beside n ns in omega arith
+pub least_room-width : (n : ℕ) (ns : List (Numbered OpId)) → least_room n ns ≤ n
+least_room-width n [] = omega arith
+least_room-width n (x ∷ ns) = let h = least_room-width n ns in omega arith
 
 -- at most those of each column
 pub least_room-at : (n : ℕ) (ns : List (Numbered OpId)) (i : ℕ) (d : Numbered OpId) → i < length ns → least_room n ns ≤ (get_or ns i d).room

@@ -10,7 +10,7 @@ use Rattle.semantics.specs.Vectors.{Vector, covers}
 use Rattle.semantics.specs.Entries.{Entry as TheEntry, stamped_in}
 use Rattle.operation.specs.declared.command.Entry.{Entry}
 use Rattle.columns.specs.Numbered.{Numbered}
-use Rattle.operation.specs.Meanings.{entry_of, op_in}
+use Rattle.operation.specs.Ops.{entry_of, op_in}
 
 -- a log: the table, the entries with the newest first, and for how many more there is room
 pub record Logged : Type 0 where

@@ -2,12 +2,14 @@
 #![tactic(auto)]
 
 mod log;
+mod publish;
 
 pub use log::{Log, positions_name_what_is_missing, what_may_follow_is_new};
+pub use publish::Publish;
 
 // Handed on from the crates below, for users of this one.
 pub use columns::Numbers;
 pub use operation::{
-    Command, Delivered, Entry, Expr, ExprStep, Key, Misplaced, Mutation, Op, Place, Scalar, Shared,
-    Tag, Text, Val, VersionVector, check_alone, names_members,
+    Command, Delivered, Entry, Expr, ExprStep, Key, Misplaced, Mutation, Op, Place, Reply, Request,
+    Scalar, Shared, Submission, Tag, Text, Val, VersionVector, check_alone, names_members,
 };

@@ -11,7 +11,7 @@ ghost use Rattle.semantics.specs.Vectors.{Vector};
 ghost use Rattle.semantics.specs.LegalHistory.{has_id};
 ghost use Rattle.semantics.specs.Stamped.{MayFollow, Stamped};
 ghost use Rattle.semantics.specs.Entries.{Entry as TheEntry, applied, entry_at, missing, stamped_in, stamped_entries};
-ghost use Rattle.operation.specs.Meanings.{entry_of, op_in};
+ghost use Rattle.operation.specs.Ops.{entry_of, op_in};
 ghost use Rattle.oplog.specs.Logs.{history, least_room, missing_positions, numbers_above, numbers_of, position_of};
 
 use columns::Numbers;
@@ -125,7 +125,7 @@ impl Log {
         reserve_positions(&mut self.positions)
     }
 
-    /// Appends an entry, for which there is room. Takes no memory. Moves the positions of its replica's greater ids, of which a
+    /// Appends an entry, for which there is room. Allocates nothing. Moves the positions of its replica's greater ids, of which a
     /// legal history has none.
     ///
     /// Its id must be new, as that of an operation that may follow is (`what_may_follow_is_new`). That its replica is a member and
@@ -149,7 +149,7 @@ impl Log {
         self.entries.push_reserved(entry);
     }
 
-    /// The entries, the oldest first. Takes no memory.
+    /// The entries, the oldest first. Allocates nothing.
     pub fn into_entries(self) -> Vec<Entry>
         ensures { history self.table result.items ≡ self.entries }
     {

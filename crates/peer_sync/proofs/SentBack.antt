@@ -7,7 +7,7 @@ use Rattle.semantics.specs.Stamped.{Stamped}
 use Rattle.semantics.specs.Tables.{by_table}
 use Rattle.semantics.specs.Vectors.{Vector}
 use Rattle.engine.specs.operation.declared.op.Op.{Op}
-use Rattle.engine.specs.operation.Meanings.{stamped_of}
+use Rattle.engine.specs.operation.Ops.{stamped_of}
 use Rattle.wire.specs.Bundles.{bundle_form}
 use Rattle.wire.specs.Messages.{hello_form}
 use Rattle.wire.specs.Sent.{CanBeSent, are_counters}

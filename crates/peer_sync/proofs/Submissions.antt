@@ -8,11 +8,11 @@ use Rattle.ids.specs.declared.refusal.Refusal.{Refusal}
 use Rattle.ids.specs.declared.refusal.Refusal.TheVariants.{BadLine, NoMemory}
 use Rattle.semantics.specs.Stamped.{Stamped}
 use Rattle.engine.specs.operation.declared.op.Op.{Op}
-use Rattle.engine.specs.operation.Meanings.{stamped_of}
-use Rattle.engine.specs.items.declared.item.Request.TheVariants.{Peer}
+use Rattle.engine.specs.operation.Ops.{stamped_of}
+use Rattle.engine.specs.operation.declared.submission.Request.TheVariants.{Peer}
 use Rattle.engine.specs.Clients.{Client}
 use Rattle.wire.specs.Bundles.{Readable, readable}
-use Rattle.json_lines.specs.Lines.{HasNoEnd, IsFirstLine}
+use Rattle.wire.specs.Lines.{HasNoEnd, IsFirstLine}
 use Rattle.wire.specs.Reading.{op_form}
 use Rattle.wire.proofs.BundleLines.{after, after-bad, after-cut, after-none, after-op}
 use Rattle.peer_sync.specs.Receiving.{EndsAfter, IsDenied, StopsAfter, all_submitted, submitted}
@@ -28,7 +28,7 @@ kept_count c (o ∷ ops) =
     let more = kept_count (submitted c o) ops in
     let one = length-append c.kept
     (record {
-      item = record { client = c.number; serial = length c.kept + 1; floor = length c.seen; request = Peer o };
+      submission = record { client = c.number; serial = length c.kept + 1; floor = length c.seen; request = Peer o };
       known = None;
     } ∷ []) in
     omega (arith, more, one)

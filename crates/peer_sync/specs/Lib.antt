@@ -5,5 +5,4 @@ pub mod Receiving
 pub use Rattle.engine.specs.value
 pub use Rattle.engine.specs.operation
 pub use Rattle.engine.specs.document
-pub use Rattle.engine.specs.items
 pub use Rattle.engine.specs as engine

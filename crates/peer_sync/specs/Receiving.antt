@@ -3,9 +3,9 @@ use Rattle.std.specs.Prelude.{ℕ, ◌≡◌, ◌+◌, ◌<◌, ◌≤◌, ◌�
 use Rattle.ids.specs.declared.refusal.Refusal.{Refusal}
 use Rattle.ids.specs.declared.refusal.Refusal.TheVariants.{NoMemory, QueueFull, SerialEnd}
 use Rattle.engine.specs.operation.declared.op.Op.{Op}
-use Rattle.engine.specs.items.declared.item.Item.{Item}
-use Rattle.engine.specs.items.declared.item.Request.TheVariants.{Peer}
-use Rattle.engine.specs.Clients.{Client, items_by, with_request}
+use Rattle.engine.specs.operation.declared.submission.Submission.{Submission}
+use Rattle.engine.specs.operation.declared.submission.Request.TheVariants.{Peer}
+use Rattle.engine.specs.Clients.{Client, submissions_by, with_request}
 use Rattle.wire.specs.Bundles.{Readable}
 
 -- the client after it submitted a peer's operation: under its next serial, with what it has seen as the floor

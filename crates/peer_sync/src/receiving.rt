@@ -5,17 +5,16 @@ ghost use Rattle.std.specs.Prelude.{map, take};
 ghost use Rattle.std.specs.List.{All};
 ghost use Rattle.ids.specs.declared.refusal.Refusal.TheVariants.{BadLine, NoMemory};
 ghost use Rattle.engine.specs.operation.declared.op.Op.{Op};
-ghost use Rattle.engine.specs.operation.Meanings.{stamped_of};
+ghost use Rattle.engine.specs.operation.Ops.{stamped_of};
 ghost use Rattle.wire.specs.Bundles.{readable};
 ghost use Rattle.wire.specs.Reading.{op_form};
 ghost use Rattle.peer_sync.specs.Receiving.{EndsAfter, IsDenied, StopsAfter, all_submitted, submitted};
 
 use engine::{Client, EngineName, Ticket};
 use ids::Refusal;
-use json_lines::Lines;
 use std::alloc::Global;
 use std::sync::Wait;
-use wire::read_op;
+use wire::{Lines, read_op};
 
 /// The result of a receipt.
 #[derive(Clone, Copy, Debug, PartialEq, Eq)]

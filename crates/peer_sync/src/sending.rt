@@ -1,20 +1,18 @@
 //! What an engine sends to a peer: its hello, and answers to the hellos of others.
 
-ghost use Rattle.std.specs.Prelude.{◌≡◌, ◌⊎◌, IfOk, IfErr, IsTrue, Ok, Err, length, map};
+ghost use Rattle.std.specs.Prelude.{◌≡◌, ◌⊎◌, IfOk, IfErr, IsTrue, Ok, Err};
 ghost use Rattle.std.specs.List.{All};
 ghost use Rattle.ids.specs.declared.refusal.Refusal.TheVariants.{NoMemory, NoReading};
 ghost use Rattle.semantics.specs.Entries.{IsEntryHistory, applied, lacked_of};
 ghost use Rattle.semantics.specs.NamedIds.{vector_of};
-ghost use Rattle.semantics.specs.Tables.{by_table};
 ghost use Rattle.semantics.specs.Vectors.{Vector};
 ghost use Rattle.semantics.specs.WorldHistory.{BeginsWith};
-ghost use Rattle.engine.specs.operation.Meanings.{stamped_of};
 ghost use Rattle.wire.specs.Bundles.{bundle_form, bundle_text};
 ghost use Rattle.wire.specs.Messages.{hello_form};
 ghost use Rattle.wire.specs.Sent.{CanBeSent, are_counters};
 ghost use Rattle.peer_sync.specs.Sending.{hello_text, without_end};
 
-use engine::{EngineName, Op, Question, ReaderToken, Reading, Shared, VersionVector};
+use engine::{EngineName, ReaderToken};
 use ids::Refusal;
 use std::alloc::Global;
 use wire::{read_vector, write_bundle, write_vector};
@@ -35,30 +33,10 @@ pub fn hello<N: EngineName>(alloc: Global, token: &mut ReaderToken<N>) -> Result
     ensures published { IfOk result (λ _. token.new.read ≡ token.new.seen) }
     ensures err { IfErr result (λ why. (why ≡ NoMemory) ⊎ (why ≡ NoReading)) }
 {
-    let vector = applied(alloc, token)?;
+    let vector = token.vector()?;
     let mut line = write_vector(alloc, &vector, token.table())?;
     line.push(b'\n')?;
     Ok(line)
-}
-
-/// The vector of all that the token sees in this read.
-///
-/// # Errors
-/// As `hello`.
-fn applied<N: EngineName>(
-    alloc: Global,
-    token: &mut ReaderToken<N>,
-) -> Result<VersionVector, Refusal>
-    ensures grows { BeginsWith token.new.seen token.old.seen }
-    ensures legal { IsEntryHistory N.own token.new.seen }
-    ensures vector { IfOk result (λ v. by_table N.table v ≡ vector_of (applied token.new.seen)) }
-    ensures published { IfOk result (λ _. token.new.read ≡ token.new.seen) }
-    ensures err { IfErr result (λ why. (why ≡ NoMemory) ⊎ (why ≡ NoReading)) }
-{
-    match token.ask(alloc, &Question::Vector)? {
-        Reading::Vector(vector) => Ok(vector),
-        _ => unreachable!(),
-    }
 }
 
 /// The answer to a hello, which is given with its line feed or without it: the lines, each with its line feed, of the operations that
@@ -91,31 +69,9 @@ pub fn answer<N: EngineName>(
     // What a token has seen is an entry history, also where the hello is refused.
     prove!(token.seen_len() <= usize::MAX);
     let vector = read_vector(alloc, without_end(hello), token.table())?;
-    let ops = missing(alloc, token, vector)?;
+    let ops = token.missing(alloc, &vector)?;
     let lines = write_bundle(alloc, ops.as_slice(), token.table())?;
     Ok(lines)
-}
-
-/// The operations that the vector doesn't cover, of all that the token sees in this read, the oldest first.
-///
-/// # Errors
-/// `NoReading` if the copies gave no reading, `NoMemory` if allocation fails.
-fn missing<N: EngineName>(
-    alloc: Global,
-    token: &mut ReaderToken<N>,
-    vector: VersionVector,
-) -> Result<Vec<Shared<Op>>, Refusal>
-    requires { length vector ≡ length N.table }
-    ensures grows { BeginsWith token.new.seen token.old.seen }
-    ensures legal { IsEntryHistory N.own token.new.seen }
-    ensures ops { IfOk result (λ ops. map (stamped_of N.table) ops.items ≡ lacked_of token.new.seen (by_table N.table vector)) }
-    ensures published { IfOk result (λ _. token.new.read ≡ token.new.seen) }
-    ensures err { IfErr result (λ why. (why ≡ NoMemory) ⊎ (why ≡ NoReading)) }
-{
-    match token.ask(alloc, &Question::Missing(vector))? {
-        Reading::Missing(ops) => Ok(ops),
-        _ => unreachable!(),
-    }
 }
 
 /// A line without the line feed that may end it.

@@ -14,7 +14,7 @@ use Rattle.semantics.specs.Entries.{Entry as TheEntry, IsEntryHistory, stamped_i
 use Rattle.semantics.specs.WorldHistory.{BeginsWith}
 use Rattle.semantics.proofs.GrownEngines.{begins_trans}
 use Rattle.document.specs.operation.declared.command.Entry.{Entry}
-use Rattle.document.specs.operation.Meanings.{entry_of, op_in}
+use Rattle.document.specs.operation.Ops.{entry_of, op_in}
 use Rattle.document.specs.oplog.Logs.{AreOfMembers, history}
 use Rattle.document.proofs.oplog.Oldest.{history-more}
 use Rattle.published.specs.declared.seen.View.{View}
@@ -31,13 +31,13 @@ module _ (book : Book) (own : ℕ) (table : List ℕ) where
   from_none : (G : List TheEntry) → BeginsWith G []
   from_none G = (G, sym (append-nil G))
 
-  -- a new seat, which has read nothing
+  -- a new token, which has read nothing
   pub admits : Admits (HoldsOfCopies book own table) (reader_of [])
   admits x views h = (
     h.0,
-    λ seat v at. ⊎_elim (h.1 seat v)
+    λ token v at. ⊎_elim (h.1 token v)
         (λ (e : reader_of [] ≡ v). subst (λ (z : View). BeginsWith x.entries (history table z.read)) e (from_none x.entries))
-        (at_snoc views (reader_of []) v seat at),
+        (at_snoc views (reader_of []) v token at),
   )
 
   -- new copies
@@ -48,37 +48,37 @@ module _ (book : Book) (own : ℕ) (table : List ℕ) where
       subst (λ (s : Snapshot). IsEntryHistory own (history table s.log))
           (sym is) tt,
     ),
-    λ seat v at. ⊎_elim (λ (e : get_elem? {A = View} [] seat ≡ some v). absurd (nothing seat v e))
+    λ token v at. ⊎_elim (λ (e : get_elem? {A = View} [] token ≡ some v). absurd (nothing token v e))
         (λ (e : reader_of [] ≡ v). subst (λ (z : View). BeginsWith x.entries (history table z.read)) e (from_none x.entries))
-        (at_snoc [] (reader_of []) v seat at),
+        (at_snoc [] (reader_of []) v token at),
   )
     where
-      nothing : (seat : ℕ) (v : View) → get_elem? {A = View} [] seat ≡ some v → ⊥
-      nothing seat v e = cc
+      nothing : (token : ℕ) (v : View) → get_elem? {A = View} [] token ≡ some v → ⊥
+      nothing token v e = cc
 
-  pub rises : (seat : ℕ) (v : View) (x y : Snapshot) → BeginsWith y.entries x.entries → IsSnapshot book own table y
-      → TurnsAt (HoldsOfCopies book own table) seat v x y (Sees book own table)
-  rises seat v x y up is views h at =
+  pub rises : (token : ℕ) (v : View) (x y : Snapshot) → BeginsWith y.entries x.entries → IsSnapshot book own table y
+      → TurnsAt (HoldsOfCopies book own table) token v x y (Sees book own table)
+  rises token v x y up is views h at =
       let whole : y.entries ≡ history table y.log = ap (λ (s : Snapshot). s.entries) is.0 in (
         reader_of y.log,
         (
           is,
           λ j u e. ⊎_elim
-              (λ (t : (j ≡ seat) × (reader_of y.log ≡ u)). subst (λ (z : View). BeginsWith y.entries (history table z.read)) t.1
+              (λ (t : (j ≡ token) × (reader_of y.log ≡ u)). subst (λ (z : View). BeginsWith y.entries (history table z.read)) t.1
               (subst (λ (G : List TheEntry). BeginsWith y.entries G) whole (begins_self y.entries)))
-              (λ (t : (j ≢ seat) × (get_elem? views j ≡ some u)). begins_trans y.entries x.entries (history table u.read) up (h.1 j u t.1))
-              (at_set views seat j (reader_of y.log) u e),
+              (λ (t : (j ≢ token) × (get_elem? views j ≡ some u)). begins_trans y.entries x.entries (history table u.read) up (h.1 j u t.1))
+              (at_set views token j (reader_of y.log) u e),
         ),
         (
           is.0,
           is.1,
           subst (λ (G : List TheEntry). BeginsWith G (history table v.read)) whole
-              (begins_trans y.entries x.entries (history table v.read) up (h.1 seat v at)),
+              (begins_trans y.entries x.entries (history table v.read) up (h.1 token v at)),
         ),
       )
 
-  pub reads : (seat : ℕ) (v : View) → Turns (HoldsOfCopies book own table) seat v (λ x. x) (Sees book own table)
-  reads seat v x views h at = rises seat v x x (begins_self x.entries) h.0 views h at
+  pub reads : (token : ℕ) (v : View) → Turns (HoldsOfCopies book own table) token v (λ x. x) (Sees book own table)
+  reads token v x views h at = rises token v x x (begins_self x.entries) h.0 views h at
 
 -- an entry that is taken in, or left out, leaves what was there
 taken_begins : (s : Snapshot) (w : Pending) → BeginsWith (applied_to s w).entries s.entries
@@ -98,12 +98,12 @@ fold_sheet : (book : Book) (table : List ℕ) (s : Snapshot) (ws : List Pending)
 fold_sheet book table s ws log all = subst (λ (z : Snapshot). BeginsWith z.entries s.entries) all (fold_begins s ws)
 
 -- what a publish shows keeps the rule
-pub shows : (book : Book) (own : ℕ) (table : List ℕ) (seat : ℕ) (v : View) (x y : Snapshot) (ws : List Pending) (log : List Entry)
+pub shows : (book : Book) (own : ℕ) (table : List ℕ) (token : ℕ) (v : View) (x y : Snapshot) (ws : List Pending) (log : List Entry)
     → fold applied_to x ws ≡ snapshot book table log → IsEntryHistory own (history table log) → y ≡ fold applied_to x ws
-    → TurnsAt (HoldsOfCopies book own table) seat v x y (Sees book own table)
-shows book own table seat v x y ws log all legal is =
+    → TurnsAt (HoldsOfCopies book own table) token v x y (Sees book own table)
+shows book own table token v x y ws log all legal is =
     let e : y ≡ snapshot book table log = is ∙ all in
-    rises book own table seat v x y (subst (λ (z : Snapshot). BeginsWith z.entries x.entries) (sym is) (fold_begins x ws)) (
+    rises book own table token v x y (subst (λ (z : Snapshot). BeginsWith z.entries x.entries) (sym is) (fold_begins x ws)) (
       e ∙ ap (λ (s : Snapshot). snapshot book table s.log) (sym e),
       subst (λ (s : Snapshot). IsEntryHistory own (history table s.log))
           (sym e) legal,

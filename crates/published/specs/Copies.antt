@@ -1,5 +1,5 @@
 -- The two copies of the document, and their rule: readers are shown a snapshot of the engine's history, which begins with all
--- that each seat has read.
+-- that each token has read.
 use Rattle.std.specs.Prelude.{ℕ, ◌≡◌, cond, List, ◌∷◌}
 use mathlib.Core.Option.{some}
 use lib.ListN.{get_elem?}
@@ -7,7 +7,7 @@ use Rattle.logbook.specs.Pages.{Book}
 use Rattle.semantics.specs.Entries.{Entry as TheEntry, IsEntryHistory}
 use Rattle.semantics.specs.WorldHistory.{BeginsWith}
 use Rattle.document.specs.operation.declared.command.Entry.{Entry}
-use Rattle.document.specs.operation.Meanings.{entry_of, op_in}
+use Rattle.document.specs.operation.Ops.{entry_of, op_in}
 use Rattle.document.specs.oplog.Logs.{history}
 use Rattle.document.specs.Lawful.{is_lawful}
 use Rattle.published.specs.declared.seen.View.{View}
@@ -46,10 +46,10 @@ module _ (book : Book) (own : ℕ) (table : List ℕ) where
   abbrev pub IsSnapshot : Snapshot → Type 0
   IsSnapshot s = (s ≡ snapshot book table s.log) × IsEntryHistory own (history table s.log)
 
-  -- the rule: what is shown is a snapshot, and begins with all that each seat has read
+  -- the rule: what is shown is a snapshot, and begins with all that each token has read
   abbrev pub HoldsOfCopies : Snapshot → List View → Type 0
   HoldsOfCopies shown views = IsSnapshot shown
-      × ((seat : ℕ) (v : View) → get_elem? views seat ≡ some v → BeginsWith shown.entries (history table v.read))
+      × ((token : ℕ) (v : View) → get_elem? views token ≡ some v → BeginsWith shown.entries (history table v.read))
 
   -- what one step reads: what is shown after it, which begins with what was read before
   abbrev pub Sees : View → Snapshot → Snapshot → View → Type 0

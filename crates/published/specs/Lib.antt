@@ -3,6 +3,6 @@ pub mod Beginnings
 pub mod Rules
 pub mod Copies
 pub mod Publishers
-pub mod Seats
+pub mod Tokens
 -- Handed on from the crates below, for users of this one.
-pub use Rattle.items.specs as items
+pub use Rattle.document.specs.operation

@@ -55,7 +55,7 @@ impl Plain<Entry, Entry, u64> for Add {
     ghost state = { λ entry. None };
 }
 
-/// A new, empty history. It takes no memory beyond its fields; whoever opens an engine names it.
+/// A new, empty history. It allocates nothing beyond its fields; whoever opens an engine names it.
 #[derive(Drop)]
 pub struct Opened {
     head: Word<Entry, u64, Law>,

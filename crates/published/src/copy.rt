@@ -6,7 +6,7 @@ ghost use Rattle.semantics.specs.Faults.{StandsAlone};
 ghost use Rattle.semantics.specs.Stamped.{MayFollow};
 ghost use Rattle.semantics.specs.Entries.{applied};
 ghost use Rattle.document.specs.operation.Alone.{alone_fault_of_op};
-ghost use Rattle.document.specs.operation.Meanings.{entry_of, op_in, stamped_of};
+ghost use Rattle.document.specs.operation.Ops.{entry_of, op_in, stamped_of};
 ghost use Rattle.document.specs.Lawful.{is_lawful};
 
 use crate::book::Point;

@@ -1,10 +1,10 @@
 //! A history that one writer publishes and many readers query without locks, in two copies of a document (left-right).
 //!
-//! The writer appends entries and publishes them. A seat is a reader: what it asks is answered from a snapshot, the history as it
-//! was published at one atomic step, which begins with all that the seat had seen. Atomic steps, and what each ensures:
+//! The writer appends entries and publishes them. A token is a reader: what it asks is answered from a snapshot, the history as it
+//! was published at one atomic step, which begins with all that the token had seen. Atomic steps, and what each ensures:
 //!
 //! - *publish* (the writer, in `Publisher::publish`): what is shown afterwards is the snapshot of all that was appended;
-//! - *enter* (a reader, in `Seat::ask`): what is read is what is shown at that step.
+//! - *enter* (a reader, in `ReaderToken::ask`): what is read is what is shown at that step.
 //!
 //! An entry is cloned once on its way to the two copies; a read clones its answer and nothing of the history.
 #![tactic(auto)]
@@ -14,14 +14,15 @@ mod copy;
 mod notice;
 mod publisher;
 mod publishes;
-mod seat;
 mod seen;
+mod token;
 
 pub use book::Opened;
 pub use notice::{EngineName, Notice};
 pub use publisher::{Publisher, open};
-pub use seat::Seat;
+pub use token::ReaderToken;
+// The name in which whoever uses the copies without an engine knows it.
+pub use token::ReaderToken as Seat;
 
 // Handed on from the crates below, for users of this one.
-pub use document::Shared;
-pub use items::{Item, Reply};
+pub use document::{Reply, Shared, Submission};

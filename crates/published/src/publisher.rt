@@ -9,21 +9,21 @@ ghost use Rattle.semantics.specs.Making.{is_full};
 ghost use Rattle.semantics.specs.Entries.{IsEntryHistory, stamped_in};
 ghost use Rattle.semantics.specs.WorldHistory.{BeginsWith};
 ghost use Rattle.document.specs.operation.declared.command.Entry.{Entry as AnEntry};
-ghost use Rattle.document.specs.operation.Meanings.{entry_of, op_in};
+ghost use Rattle.document.specs.operation.Ops.{entry_of, op_in};
 ghost use Rattle.document.specs.oplog.Logs.{history};
 ghost use Rattle.published.specs.Copies.{applied_to, snapshot};
 
 use crate::book::{Law, Opened, Point};
 use crate::copy::{Copy, Pending};
 use crate::notice::{EngineName, Notice};
-use crate::seat::{Seat, Sees, Shown};
 use crate::seen::View;
+use crate::token::{ReaderToken, Sees, Shown};
 use core::mem::replace_with;
 use document::{Document, Entry};
 use ids::{Refusal, ReplicaTable};
 use left_right::writer::Writer;
 use logbook::Word;
-use std::alloc::Global;
+use std::alloc::{AllocError, Global};
 use std::marker::Model;
 use std::sync::Wait;
 
@@ -59,10 +59,10 @@ impl<N: EngineName> Model for Publisher<N> {
         ++ option_to_list p.next) p.head p.all };
 }
 
-/// Opens the two copies over two new documents of one table, with a seat for each reader.
+/// Opens the two copies over two new documents of one table, with a token for each reader.
 ///
 /// # Errors
-/// `NoReaderPlace` if the copies have no seat for one of the readers, `NoMemory` if allocation fails. Nothing is opened then.
+/// `NoReaderPlace` if the copies have no token for one of the readers, `NoMemory` if allocation fails. Nothing is opened then.
 pub fn open<N: EngineName>(
     rt: &impl Wait,
     alloc: Global,
@@ -70,13 +70,13 @@ pub fn open<N: EngineName>(
     first: Document,
     second: Document,
     readers: usize,
-) -> Result<(Publisher<N>, Vec<Seat<N>>), Refusal>
+) -> Result<(Publisher<N>, Vec<ReaderToken<N>>), Refusal>
     requires name { opened.seen.book ≡ N.book }
     requires tables { (first.table ≡ N.table) × (second.table ≡ N.table) }
     requires new { (first.entries ≡ []) × (second.entries ≡ []) }
     requires readers { (0 < readers) × (readers < 2 ^ 32) }
     ensures publisher { IfOk result (λ r. (r.0.published ≡ []) × (r.0.appended ≡ [])) }
-    ensures seats { IfOk result (λ r. (length r.1.items ≡ readers) × All (λ s. s.seen ≡ []) r.1.items) }
+    ensures tokens { IfOk result (λ r. (length r.1.items ≡ readers) × All (λ s. s.seen ≡ []) r.1.items) }
     ensures err { IfErr result (λ why. (why ≡ NoMemory) ⊎ (why ≡ NoReaderPlace)) }
 {
     let Ok(table) = first.table().clone() else {
@@ -96,15 +96,15 @@ pub fn open<N: EngineName>(
     let Ok(writer) = Writer::new(alloc, first, second, readers) else {
         return Err(Refusal::NoMemory);
     };
-    match seats::<N>(alloc, &writer, &all, &table, readers) {
-        Ok(seats) => Ok((
+    match tokens::<N>(alloc, &writer, &all, &table, readers) {
+        Ok(tokens) => Ok((
             Publisher {
                 writer,
                 next: None,
                 head,
                 all,
             },
-            seats,
+            tokens,
         )),
         Err(refusal) => {
             drop(writer.take(rt));
@@ -113,27 +113,27 @@ pub fn open<N: EngineName>(
     }
 }
 
-/// A new seat for each reader.
-fn seats<N: EngineName>(
+/// A new token for each reader.
+fn tokens<N: EngineName>(
     alloc: Global,
     writer: &Writer<Copy, Pending, View, Shown<N>>,
     all: &Point,
     table: &ReplicaTable,
     readers: usize,
-) -> Result<Vec<Seat<N>>, Refusal>
+) -> Result<Vec<ReaderToken<N>>, Refusal>
     requires { (all.now.log ≡ []) × (all.now.book ≡ N.book) × (table.now ≡ N.table) }
-    ensures seats { IfOk result (λ v. (length v.items ≡ readers) × All (λ s. s.seen ≡ []) v.items) }
+    ensures tokens { IfOk result (λ v. (length v.items ≡ readers) × All (λ s. s.seen ≡ []) v.items) }
     ensures err { IfErr result (λ why. (why ≡ NoMemory) ⊎ (why ≡ NoReaderPlace)) }
 {
-    let mut seats = Vec::new(alloc);
+    let mut tokens = Vec::new(alloc);
     for _ in 0..readers {
         let Ok(reader) = writer.factory().reader() else {
             return Err(Refusal::NoReaderPlace);
         };
-        let seat = Seat::new(reader, all.again(), table.clone()?);
-        seats.push(seat)?;
+        let token = ReaderToken::new(reader, all.again(), table.clone()?);
+        tokens.push(token)?;
     }
-    Ok(seats)
+    Ok(tokens)
 }
 
 /// Moves the entry that is kept aside to the log of the copies, and says whether none is kept now.
@@ -169,14 +169,14 @@ fn put(next: &mut Option<Pending>, pending: Pending)
 fn show_all<N: EngineName>(
     rt: &impl Wait,
     writer: &mut Writer<Copy, Pending, View, Shown<N>>,
-) -> Result<(), Refusal>
+) -> Result<(), AllocError>
     requires { (log : List AnEntry)
         × (fold applied_to writer.old.desk.shown.value (drop writer.old.behind writer.old.log.items) ≡ snapshot N.book N.table log)
         × IsEntryHistory N.own (history N.table log) }
     ensures { MatchResult result
         (λ _. (writer.new.desk.shown.value ≡ fold applied_to writer.old.desk.shown.value (drop writer.old.behind writer.old.log.items))
         × (drop writer.new.behind writer.new.log.items ≡ []))
-        (λ why. (why ≡ NoMemory) × (writer.new.desk.shown.value ≡ writer.old.desk.shown.value)
+        (λ _. (writer.new.desk.shown.value ≡ writer.old.desk.shown.value)
         × (drop writer.new.behind writer.new.log.items ≡ drop writer.old.behind writer.old.log.items)) }
 {
     replace_with(writer, rt, |writer, rt| show::<N, _>(rt, writer))
@@ -186,25 +186,28 @@ fn show_all<N: EngineName>(
 fn show<N: EngineName, R: Wait>(
     rt: &R,
     writer: Writer<Copy, Pending, View, Shown<N>>,
-) -> (Writer<Copy, Pending, View, Shown<N>>, Result<(), Refusal>)
+) -> (
+    Writer<Copy, Pending, View, Shown<N>>,
+    Result<(), AllocError>,
+)
     requires { (log : List AnEntry)
         × (fold applied_to writer.desk.shown.value (drop writer.behind writer.log.items) ≡ snapshot N.book N.table log)
         × IsEntryHistory N.own (history N.table log) }
     ensures { MatchResult result.1
         (λ _. (result.0.desk.shown.value ≡ fold applied_to writer.desk.shown.value (drop writer.behind writer.log.items))
         × (drop result.0.behind result.0.log.items ≡ []))
-        (λ why. (why ≡ NoMemory) × (result.0.desk.shown.value ≡ writer.desk.shown.value)
+        (λ _. (result.0.desk.shown.value ≡ writer.desk.shown.value)
         × (drop result.0.behind result.0.log.items ≡ drop writer.behind writer.log.items)) }
 {
     let (writer, shown) = writer.publish_as::<Sees<N>, R>(rt);
     match shown {
         Ok(()) => (writer, Ok(())),
-        Err(_) => (writer, Err(Refusal::NoMemory)),
+        Err(_) => (writer, Err(AllocError)),
     }
 }
 
 impl<N: EngineName> Publisher<N> {
-    /// A notice of what is published. Takes no memory and doesn't wait.
+    /// A notice of what is published. Allocates nothing and doesn't wait.
     pub fn notice(&self) -> Notice<N>
         ensures published { result ≡ self.now.published }
         ensures appended { BeginsWith self.now.appended self.now.published }
@@ -216,24 +219,24 @@ impl<N: EngineName> Publisher<N> {
     /// Appends the entry, which readers see from the next `publish` on. Amortized O(1); what was appended is never lost.
     ///
     /// # Errors
-    /// `NoMemory` if allocation fails, or if the history were longer than the publisher knows, which only its own appends make it.
+    /// `AllocError` if allocation fails, or if the history were longer than the publisher knows, which only its own appends make it.
     /// Nothing was appended then, and the entry is dropped.
-    pub fn append(&mut self, entry: Entry) -> Result<(), Refusal>
+    pub fn append(&mut self, entry: Entry) -> Result<(), AllocError>
         requires follows { IsEntryHistory N.own (entry_of N.table entry ∷ self.old.appended) }
         requires room { IsFalse (is_full self.old.appended) }
         requires member { IsTrue (is_member N.table (stamped_in (entry_of N.table entry)).id.replica) }
         requires width { length (op_in entry).deps ≡ length N.table }
         ensures published { self.new.published ≡ self.old.published }
         ensures appended { MatchResult result (λ _. self.new.appended ≡ entry_of N.table entry ∷ self.old.appended)
-            (λ why. (why ≡ NoMemory) × (self.new.appended ≡ self.old.appended)) }
+            (λ _. self.new.appended ≡ self.old.appended) }
     {
         if !flush::<N>(&mut self.writer, &mut self.next) {
-            return Err(Refusal::NoMemory);
+            return Err(AllocError);
         }
         let mut after = self.all.again();
         // Never: only this publisher extends the history. No contract of the logbook says so.
         if !after.extend(&self.head, &entry) {
-            return Err(Refusal::NoMemory);
+            return Err(AllocError);
         }
         let pending = Pending {
             entry,
@@ -248,13 +251,13 @@ impl<N: EngineName> Publisher<N> {
     /// Clones each pending entry once.
     ///
     /// # Errors
-    /// `NoMemory` if allocation fails. All that is pending stays then, and another `publish` goes on with it.
-    pub fn publish(&mut self, rt: &impl Wait) -> Result<(), Refusal>
+    /// `AllocError` if allocation fails. All that is pending stays then, and another `publish` goes on with it.
+    pub fn publish(&mut self, rt: &impl Wait) -> Result<(), AllocError>
         ensures { MatchResult result (λ _. (self.new.published ≡ self.old.appended) × (self.new.appended ≡ self.old.appended))
-            (λ why. (why ≡ NoMemory) × (self.new ≡ self.old)) }
+            (λ _. self.new ≡ self.old) }
     {
         if !flush::<N>(&mut self.writer, &mut self.next) {
-            return Err(Refusal::NoMemory);
+            return Err(AllocError);
         }
         show_all::<N>(rt, &mut self.writer)
     }

@@ -3,7 +3,7 @@
 use document::Entry;
 use std::collections::LinkedList;
 
-/// The history that a seat read last, the oldest entry first. It exists in proofs alone: no value of it is made.
+/// The history that a token read last, the oldest entry first. It exists in proofs alone: no value of it is made.
 pub struct View {
     pub read: LinkedList<Entry>,
 }

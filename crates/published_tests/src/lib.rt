@@ -1,4 +1,5 @@
-//! The tests of `published`, through its public functions. They are a crate of their own, so that their proof doesn't repeat the crate's.
+//! The tests of `published`, and in `of_command` those of `command`, through their public functions. They are a crate of their own, so
+//! that their proof doesn't repeat the crates'.
 #![tactic(auto)]
 
 #[cfg(test)]

@@ -1,12 +1,14 @@
-//! A publisher and its seats: what is asked before and after a publish, and what is learnt.
+//! A publisher and its tokens: what is asked before and after a publish, and what is learnt.
 
 ghost use Rattle.std.specs.Prelude.{◌≡◌, ◌≢◌, ◌∷◌, ℕ, List, [], None, IsTrue, IfOk, OnOk, length};
-ghost use Rattle.document.specs.Documents.{IsBeside};
+ghost use Rattle.document.specs.Documents.{HasWidthOf};
 ghost use Rattle.ids.specs.Members.{in_order, is_member};
 ghost use Rattle.semantics.specs.Entries.{IsEntryHistory, applied};
 ghost use Rattle.semantics.specs.Stamped.{MayFollow};
 ghost use Rattle.operation.specs.Alone.{alone_fault_of_op};
-ghost use Rattle.operation.specs.Meanings.{stamped_of};
+ghost use Rattle.operation.specs.Ops.{stamped_of};
+
+mod of_command;
 
 use cursor::{Expr, Step};
 use document::{Document, Question, Reading};
@@ -39,18 +41,18 @@ fn alone<N: EngineName, R: Wait + Abort>(
     requires own { N.own ≡ 9 }
     requires table { N.table ≡ in_order (1 ∷ 2 ∷ 9 ∷ []) }
 {
-    let (mut publisher, mut seats) = new_publisher::<N, R>(rt, alloc, opened)?;
-    let result = mirrored(rt, alloc, &mut publisher, &mut seats);
+    let (mut publisher, mut tokens) = new_publisher::<N, R>(rt, alloc, opened)?;
+    let result = mirrored(rt, alloc, &mut publisher, &mut tokens);
     let (_document, _notice) = publisher.end(rt);
     result
 }
 
-/// A publisher of new documents, with two seats.
+/// A publisher of new documents, with two tokens.
 fn new_publisher<N: EngineName, R: Wait>(
     rt: &R,
     alloc: Global,
     opened: Opened,
-) -> Result<(Publisher<N>, Vec<Seat<N>>), Refusal>
+) -> Result<(Publisher<N>, Vec<ReaderToken<N>>), Refusal>
     requires book { opened.seen.book ≡ N.book }
     requires table { N.table ≡ in_order (1 ∷ 2 ∷ 9 ∷ []) }
     ensures { IfOk result (λ r. r.0.appended ≡ []) }
@@ -65,14 +67,14 @@ fn mirrored<N: EngineName, R: Wait + Abort>(
     rt: &R,
     alloc: Global,
     publisher: &mut Publisher<N>,
-    seats: &mut Vec<Seat<N>>,
+    tokens: &mut Vec<ReaderToken<N>>,
 ) -> Result<(), Refusal>
     requires own { N.own ≡ 9 }
     requires table { N.table ≡ in_order (1 ∷ 2 ∷ 9 ∷ []) }
     requires new { publisher.old.appended ≡ [] }
 {
     let mut mirror = Document::new(alloc, &MEMBERS)?;
-    seated(rt, alloc, &mut mirror, publisher, seats)
+    token_state(rt, alloc, &mut mirror, publisher, tokens)
 }
 
 #[test]
@@ -89,8 +91,8 @@ fn shared<N: EngineName + Send + Sync, R: Threads + Wait + Abort + Sync>(
     requires own { N.own ≡ 9 }
     requires table { N.table ≡ in_order (1 ∷ 2 ∷ 9 ∷ []) }
 {
-    let (mut publisher, mut seats) = new_publisher::<N, R>(rt, alloc, opened)?;
-    let result = meanwhile(rt, alloc, &mut publisher, &mut seats);
+    let (mut publisher, mut tokens) = new_publisher::<N, R>(rt, alloc, opened)?;
+    let result = meanwhile(rt, alloc, &mut publisher, &mut tokens);
     let (_document, _notice) = publisher.end(rt);
     result
 }
@@ -100,17 +102,17 @@ fn meanwhile<N: EngineName + Send + Sync, R: Threads + Wait + Abort + Sync>(
     rt: &R,
     alloc: Global,
     publisher: &mut Publisher<N>,
-    seats: &mut Vec<Seat<N>>,
+    tokens: &mut Vec<ReaderToken<N>>,
 ) -> Result<(), Refusal>
     requires own { N.own ≡ 9 }
     requires table { N.table ≡ in_order (1 ∷ 2 ∷ 9 ∷ []) }
     requires new { publisher.old.appended ≡ [] }
 {
     fill(rt, alloc, publisher)?;
-    let mut seat = seats.pop().ok_or(Refusal::NoReading)?;
-    let read = both(rt, alloc, publisher, &mut seat);
+    let mut token = tokens.pop().ok_or(Refusal::NoReading)?;
+    let read = both(rt, alloc, publisher, &mut token);
     assert!(rt; read);
-    assert!(rt; seat.seen_len() == 2);
+    assert!(rt; token.seen_len() == 2);
     Ok(())
 }
 
@@ -133,12 +135,12 @@ fn both<N: EngineName + Send + Sync, R: Threads + Wait + Sync>(
     rt: &R,
     alloc: Global,
     publisher: &mut Publisher<N>,
-    seat: &mut Seat<N>,
+    token: &mut ReaderToken<N>,
 ) -> bool {
     let (published, read) = join(
         rt,
         move || publisher.publish(rt),
-        move || wait_for(rt, alloc, seat, 8),
+        move || wait_for(rt, alloc, token, 8),
     );
     published.is_ok() && read
 }
@@ -147,11 +149,11 @@ fn both<N: EngineName + Send + Sync, R: Threads + Wait + Sync>(
 fn wait_for<N: EngineName, R: Wait>(
     rt: &R,
     alloc: Global,
-    seat: &mut Seat<N>,
+    token: &mut ReaderToken<N>,
     number: i64,
 ) -> bool {
     for _ in rt.forever() {
-        match value(alloc, seat) {
+        match value(alloc, token) {
             Ok(Some(found)) if found == number => return true,
             Ok(_) => yield_now(),
             Err(_) => return false,
@@ -160,22 +162,22 @@ fn wait_for<N: EngineName, R: Wait>(
     unreachable!()
 }
 
-/// Takes two seats for a session.
-fn seated<N: EngineName, R: Wait + Abort>(
+/// Takes two tokens for a session.
+fn token_state<N: EngineName, R: Wait + Abort>(
     rt: &R,
     alloc: Global,
     mirror: &mut Document,
     publisher: &mut Publisher<N>,
-    seats: &mut Vec<Seat<N>>,
+    tokens: &mut Vec<ReaderToken<N>>,
 ) -> Result<(), Refusal>
     requires own { N.own ≡ 9 }
     requires table { N.table ≡ mirror.old.table }
     requires mirror { publisher.old.appended ≡ mirror.old.entries }
     requires legal { IsEntryHistory N.own mirror.old.entries }
 {
-    let mut late = seats.pop().ok_or(Refusal::NoReading)?;
-    let mut seat = seats.pop().ok_or(Refusal::NoReading)?;
-    session(rt, alloc, mirror, publisher, &mut seat, &mut late)
+    let mut late = tokens.pop().ok_or(Refusal::NoReading)?;
+    let mut token = tokens.pop().ok_or(Refusal::NoReading)?;
+    session(rt, alloc, mirror, publisher, &mut token, &mut late)
 }
 
 fn session<N: EngineName, R: Wait + Abort>(
@@ -183,8 +185,8 @@ fn session<N: EngineName, R: Wait + Abort>(
     alloc: Global,
     mirror: &mut Document,
     publisher: &mut Publisher<N>,
-    seat: &mut Seat<N>,
-    late: &mut Seat<N>,
+    token: &mut ReaderToken<N>,
+    late: &mut ReaderToken<N>,
 ) -> Result<(), Refusal>
     requires own { N.own ≡ 9 }
     requires table { N.table ≡ mirror.old.table }
@@ -194,15 +196,15 @@ fn session<N: EngineName, R: Wait + Abort>(
     let opening = publisher.notice();
     write_two(rt, alloc, mirror, publisher)?;
     // Nothing is published yet.
-    check_value(rt, alloc, seat, None, 0)?;
+    check_value(rt, alloc, token, None, 0)?;
     publish(rt, publisher, 2)?;
-    check_value(rt, alloc, seat, Some(8), 2)?;
-    // A seat that has read nothing learns what it is told.
+    check_value(rt, alloc, token, Some(8), 2)?;
+    // A token that has read nothing learns what it is told.
     check_lessons(rt, late, &opening, &publisher.notice());
     write(rt, alloc, mirror, publisher, 3, 9)?;
     publish(rt, publisher, 3)?;
     check_value(rt, alloc, late, Some(9), 3)?;
-    assert!(rt; seat.seen_len() == 2);
+    assert!(rt; token.seen_len() == 2);
     Ok(())
 }
 
@@ -223,32 +225,32 @@ fn publish<N: EngineName, R: Wait + Abort>(
 fn check_value<N: EngineName, R: Abort>(
     rt: &R,
     alloc: Global,
-    seat: &mut Seat<N>,
+    token: &mut ReaderToken<N>,
     wanted: Option<i64>,
     length: usize,
 ) -> Result<(), Refusal> {
-    let found = value(alloc, seat)?;
+    let found = value(alloc, token)?;
     assert!(rt; found == wanted);
-    assert!(rt; seat.seen_len() == length);
+    assert!(rt; token.seen_len() == length);
     Ok(())
 }
 
-/// Asserts that a seat that has seen nothing learns the longer of two notices, the opening and that of two entries.
+/// Asserts that a token that has seen nothing learns the longer of two notices, the opening and that of two entries.
 fn check_lessons<N: EngineName, R: Abort>(
     rt: &R,
-    seat: &mut Seat<N>,
+    token: &mut ReaderToken<N>,
     opening: &Notice<N>,
     two: &Notice<N>,
 ) {
-    assert!(rt; seat.seen_len() == 0);
-    seat.learn(opening);
-    assert!(rt; seat.seen_len() == 0);
-    assert!(rt; seat.begins(two));
-    seat.learn(two);
-    assert!(rt; seat.seen_len() == 2);
-    assert!(rt; !seat.begins(opening));
-    seat.learn(opening);
-    assert!(rt; seat.seen_len() == 2);
+    assert!(rt; token.seen_len() == 0);
+    token.learn(opening);
+    assert!(rt; token.seen_len() == 0);
+    assert!(rt; token.begins(two));
+    token.learn(two);
+    assert!(rt; token.seen_len() == 2);
+    assert!(rt; !token.begins(opening));
+    token.learn(opening);
+    assert!(rt; token.seen_len() == 2);
 }
 
 fn write_two<N: EngineName, R: Abort>(
@@ -272,7 +274,7 @@ fn write_two<N: EngineName, R: Abort>(
 
 /// Asks for the values at the key `a`.
 fn question(alloc: Global) -> Result<Question, Refusal>
-    ensures { IfOk result (λ q. (table : List ℕ) → IsBeside table q) }
+    ensures { IfOk result (λ q. (table : List ℕ) → HasWidthOf table q) }
 {
     let key = Key::new(alloc, "a")?;
     let mut steps = Vec::new(alloc);
@@ -293,9 +295,9 @@ fn first_number(reading: &Reading) -> Result<Option<i64>, Refusal> {
 }
 
 /// The whole number at the key `a`, if there is one.
-fn value<N: EngineName>(alloc: Global, seat: &mut Seat<N>) -> Result<Option<i64>, Refusal> {
+fn value<N: EngineName>(alloc: Global, token: &mut ReaderToken<N>) -> Result<Option<i64>, Refusal> {
     let question = question(alloc)?;
-    let reading = seat.ask(alloc, &question)?;
+    let reading = token.ask(alloc, &question)?;
     first_number(&reading)
 }
 

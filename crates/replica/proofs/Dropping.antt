@@ -10,7 +10,7 @@ use Rattle.semantics.specs.Drain.{counted, drain_for, without_waiting}
 use Rattle.semantics.proofs.Taken.{taken_running}
 use Rattle.semantics.proofs.Waiting.{without_one}
 use Rattle.inbox.specs.operation.declared.op.Op.{Op}
-use Rattle.inbox.specs.operation.Meanings.{stamped_of}
+use Rattle.inbox.specs.operation.Ops.{stamped_of}
 use Rattle.inbox.specs.document.Documents.{Contents}
 use Rattle.inbox.specs.Inboxes.{StandAlone, waiting_in}
 use Rattle.replica.specs.Replicas.{Running, IsReplica, replica_of}

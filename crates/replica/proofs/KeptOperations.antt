@@ -11,7 +11,7 @@ use Rattle.inbox.specs.operation.declared.op.Op.{Op}
 use Rattle.inbox.specs.operation.declared.command.Delivered.{Delivered}
 use Rattle.inbox.specs.operation.declared.command.Delivered.TheVariants as answer
 use Rattle.inbox.specs.operation.Alone.{alone_fault_of_op}
-use Rattle.inbox.specs.operation.Meanings.{stamped_of}
+use Rattle.inbox.specs.operation.Ops.{stamped_of}
 use Rattle.inbox.proofs.operation.PassedAlone.{alone}
 use Rattle.inbox.specs.Inboxes.{waiting_in}
 use Rattle.replica.specs.Replicas.{Running, IsReplica, replica_of}

@@ -16,7 +16,7 @@ use Rattle.semantics.proofs.SkipOrder.{not_itself}
 use Rattle.semantics.proofs.Taken.{taken_running}
 use Rattle.semantics.proofs.Waiting.{ready_first}
 use Rattle.inbox.specs.operation.declared.op.Op.{Op}
-use Rattle.inbox.specs.operation.Meanings.{stamped_of}
+use Rattle.inbox.specs.operation.Ops.{stamped_of}
 use Rattle.inbox.specs.document.Documents.{Contents, HasRoomFor}
 use Rattle.inbox.specs.Inboxes.{StandAlone, waiting_in}
 use Rattle.inbox.proofs.Ready.{among_stamped}

@@ -6,6 +6,11 @@ pub mod KeptOperations
 pub mod Turns
 pub mod Leaving
 pub mod Dropping
+-- What a handler appends, receives and drains.
+pub mod Received
+pub mod Own
+pub mod Draining
+pub mod Peers
 -- Handed on from the crates below, for users of this one.
 pub use Rattle.inbox.proofs.version
 pub use Rattle.inbox.proofs.operation

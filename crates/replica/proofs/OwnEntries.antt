@@ -1,10 +1,11 @@
 -- What a replica appends of its own.
-use Rattle.std.proofs.Common.{◌≡◌, ℕ, [], ◌∷◌, List, Ok, sym, ap, ◌∙◌, subst}
+use Rattle.std.proofs.Common.{◌≡◌, ℕ, [], ◌∷◌, length, List, Ok, sym, ap, ◌∙◌, subst}
+use Rattle.std.specs.Prelude.{IsTrue}
 use Rattle.ids.specs.Members.{is_member}
 use Rattle.semantics.specs.NamedIds.{NamesAll}
 use Rattle.semantics.specs.Stamped.{Stamped, operation_after, MayFollow}
 use Rattle.semantics.specs.Making.{Command, make}
-use Rattle.semantics.specs.Entries.{Entry, Own, applied, stamped_entries, IsAbove, IsEntryHistory}
+use Rattle.semantics.specs.Entries.{Entry, Own, applied, stamped_entries, stamped_in, IsAbove, IsEntryHistory}
 use Rattle.semantics.specs.Replica.{Replica, IsRunning, commit_own}
 use Rattle.semantics.proofs.AppliedVectors.{at-vector_of}
 use Rattle.semantics.proofs.Delivered.{own_committed}
@@ -12,8 +13,11 @@ use Rattle.semantics.proofs.EntryHistories.{entries_legal}
 use Rattle.semantics.proofs.NamedOperations.{legal}
 use Rattle.semantics.proofs.MadeLawful.{made_lawful}
 use Rattle.semantics.proofs.HandledItems.{as_stamped}
-use Rattle.inbox.specs.document.Documents.{Contents}
-use Rattle.replica.specs.Replicas.{Running, IsMade, IsReplica, replica_of}
+use Rattle.inbox.specs.operation.declared.command.Entry.{Entry as AnEntry}
+use Rattle.inbox.specs.operation.declared.command.Entry.TheVariants as entry
+use Rattle.inbox.specs.operation.Ops.{command_of, entry_of, op_in, stamped_of}
+use Rattle.inbox.specs.document.Documents.{Contents, HasRoomFor}
+use Rattle.replica.specs.Replicas.{Running, IsMade, IsNextOwn, IsReplica, replica_of}
 use Rattle.inbox.specs.Inboxes.{waiting_in}
 
 module _ (p client serial : ℕ) (c : Command) (G : List Entry) (s : Stamped) (h : IsEntryHistory p G) (above : IsAbove client serial G)
@@ -55,3 +59,32 @@ own_appended r d client serial c s h made above table entries =
       alone = rw table h.alone;
       count = h.count;
     }
+
+-- the next own entry of a replica
+module _ (r : Running) where
+  pub own_room : (e : AnEntry) → IsNextOwn r e → HasRoomFor r.document (stamped_in (entry_of r.document.table e))
+  own_room (entry.Own client serial c o) n = n.room
+  own_room (entry.Peer o) n = absurd n
+
+  pub own_width : (e : AnEntry) → IsNextOwn r e → length (op_in e).deps ≡ length r.document.table
+  own_width (entry.Own client serial c o) n = n.width
+  own_width (entry.Peer o) n = absurd n
+
+  pub own_follows : IsReplica r → (e : AnEntry) → IsNextOwn r e
+      → MayFollow (applied r.document.entries) (stamped_in (entry_of r.document.table e))
+  own_follows h (entry.Own client serial c o) n =
+      may_append r.own client serial (command_of c) r.document.entries (stamped_of r.document.table o) h.running.history n.above n.made
+  own_follows h (entry.Peer o) n = absurd n
+
+  pub own_member : IsReplica r → (e : AnEntry) → IsNextOwn r e
+      → IsTrue (is_member r.document.table (stamped_in (entry_of r.document.table e)).id.replica)
+  own_member h (entry.Own client serial c o) n = subst (λ q. IsTrue (is_member r.document.table q))
+      (sym (made_by r.own client serial (command_of c) r.document.entries (stamped_of r.document.table o) h.running.history n.above n.made))
+      h.member
+  own_member h (entry.Peer o) n = absurd n
+
+  pub own_next : IsReplica r → (e : AnEntry) → IsNextOwn r e → (d : Contents) → d.table ≡ r.document.table
+      → d.entries ≡ entry_of r.document.table e ∷ r.document.entries → IsReplica (record r { document = d })
+  own_next h (entry.Own client serial c o) n d table entries =
+      own_appended r d client serial (command_of c) (stamped_of r.document.table o) h n.made n.above table entries
+  own_next h (entry.Peer o) n d table entries = absurd n

@@ -85,6 +85,7 @@ suc_alike m x y e = omega (arith, e)
 abbrev pub with_dropped : Replica → ℕ → Replica
 with_dropped r n = record r { dropped = n }
 
+-- drains that began with counts which saturate alike end with counts that do
 alike_for : (n : ℕ) (r : Replica) (x y : ℕ) → min x 18446744073709551615 ≡ min y 18446744073709551615
     → counted (drain_for n (with_dropped r x)) ≡ counted (drain_for n (with_dropped r y))
 alike_for zero r x y e = ap (with_dropped r) e

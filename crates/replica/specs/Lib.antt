@@ -1,6 +1,7 @@
--- What contracts see of a replica.
+-- What contracts see of a replica, and of a handler.
 pub mod Replicas
 pub mod Turns
+pub mod Handlers
 -- Handed on from the crates below, for users of this one.
 pub use Rattle.inbox.specs.value
 pub use Rattle.inbox.specs.cursor

@@ -1,19 +1,22 @@
 -- A replica as contracts see it, and when it can append.
-use Rattle.std.specs.Prelude.{◌≡◌, ◌≤◌, ℕ, cond, IsTrue, List, Ok, Option, Some, None}
+use Rattle.std.specs.Prelude.{◌≡◌, ◌≤◌, ℕ, cond, length, IsTrue, List, Ok, Option, Some, None}
 use Rattle.ids.specs.Members.{is_member}
 use Rattle.semantics.specs.Operations.{Operation}
 use Rattle.semantics.specs.Stamped.{Stamped}
 use Rattle.semantics.specs.Faults.{fault_of}
 use Rattle.semantics.specs.Making.{Command as TheCommand, is_full, make}
-use Rattle.semantics.specs.Entries.{Entry as TheEntry, applied, stamped_entries}
+use Rattle.semantics.specs.Entries.{Entry as TheEntry, IsAbove, applied, stamped_entries}
 use Rattle.semantics.specs.Replica.{Replica as TheReplica, IsRunning, operations}
 use Rattle.semantics.specs.Delivery.{Delivered, answer_after}
 use Rattle.semantics.specs.Drain.{first_ready}
 use Rattle.semantics.specs.WriteSteps.{stamp}
 use Rattle.inbox.specs.operation.declared.op.Op.{Op}
+use Rattle.inbox.specs.operation.declared.command.Command.{Command}
+use Rattle.inbox.specs.operation.declared.command.Entry.{Entry}
+use Rattle.inbox.specs.operation.declared.command.Entry.TheVariants.{Own, Peer}
 use Rattle.inbox.specs.operation.Alone.{alone_fault_of_op}
 use Rattle.inbox.specs.document.Documents.{HasRoomFor, Contents}
-use Rattle.inbox.specs.operation.Meanings.{stamped_of}
+use Rattle.inbox.specs.operation.Ops.{command_of, stamped_of}
 use Rattle.inbox.specs.Inboxes.{StandAlone, waiting_in}
 
 -- a replica: its own number, its document, what waits by rising id, and how many operations were dropped
@@ -44,6 +47,18 @@ pub record IsReplica (r : Running) : Type 0 where
 -- s is what replica p makes of the command after G, with the vector of all that was applied
 abbrev pub IsMade : List TheEntry → ℕ → TheCommand → Stamped → Type 0
 IsMade G p command s = (o : Operation) × (make (applied G) p command ≡ Ok o) × (s ≡ stamp (applied G) o)
+
+-- this command of an own client and its operation can be appended next, with no memory taken
+pub record IsNextMade (r : Running) (client serial : ℕ) (c : Command) (o : Op) : Type 0 where
+  pub made : IsMade r.document.entries r.own (command_of c) (stamped_of r.document.table o)
+  pub width : length o.deps ≡ length r.document.table
+  pub room : HasRoomFor r.document (stamped_of r.document.table o)
+  pub above : IsAbove client serial r.document.entries
+
+-- the entry is such a one
+abbrev pub IsNextOwn : Running → Entry → Type 0
+IsNextOwn r (Own client serial c o) = IsNextMade r client serial c o
+IsNextOwn r (Peer o) = ⊥
 
 -- the smallest ready one of what waits, unless the history is full
 abbrev pub next_of : TheReplica → Option Stamped

@@ -5,7 +5,7 @@ ghost use Rattle.ids.specs.declared.refusal.Refusal.TheVariants.{NoMemory};
 ghost use Rattle.semantics.specs.Operations.{misplaced};
 ghost use Rattle.semantics.specs.Entries.{applied};
 ghost use Rattle.semantics.specs.Making.{is_full, make, place_unless};
-ghost use Rattle.inbox.specs.operation.Meanings.{command_of, stamped_of};
+ghost use Rattle.inbox.specs.operation.Ops.{command_of, stamped_of};
 ghost use Rattle.replica.specs.Replicas.{IsMade};
 
 use ids::{OpId, Refusal, ReplicaId};

@@ -1,6 +1,6 @@
 //! A replica: its own operations, those of peers, and what can be asked of it.
 
-ghost use Rattle.std.specs.Prelude.{◌≡◌, ◌⊎◌, ◌↔◌, ◌&&◌, ℕ, [], true, false, Ok, Err, Some, None, IsTrue, IsFalse, length, option_map};
+ghost use Rattle.std.specs.Prelude.{◌≡◌, ◌⊎◌, ◌↔◌, ◌&&◌, ◌∷◌, ℕ, [], true, false, Ok, Err, Some, None, IsTrue, IsFalse, length, option_map};
 ghost use Rattle.std.specs.Prelude.{IfOk, IfErr, IfSome, MatchResult, OnErr, OnOk};
 ghost use Rattle.ids.specs.declared.refusal.Refusal.TheVariants.{NoMemory, BadConfig};
 ghost use Rattle.ids.specs.Members.{in_order, is_member};
@@ -12,8 +12,9 @@ ghost use Rattle.semantics.specs.Making.{make};
 ghost use Rattle.semantics.specs.Replica.{IsRunning, commit_own};
 ghost use Rattle.semantics.specs.Delivery.{Kept as ToBeKept, NotKept, deliver};
 ghost use Rattle.semantics.specs.Drain.{counted, IsDrained, drain, drain_for};
+ghost use Rattle.semantics.specs.Publication.{Holds};
 ghost use Rattle.inbox.specs.operation.Alone.{alone_fault_of_op};
-ghost use Rattle.inbox.specs.operation.Meanings.{command_of, stamped_of};
+ghost use Rattle.inbox.specs.operation.Ops.{command_of, entry_of, stamped_of};
 ghost use Rattle.inbox.specs.oplog.Logs.{history};
 ghost use Rattle.inbox.specs.document.Documents.{HasRoomFor};
 ghost use Rattle.inbox.specs.Inboxes.{delivered_of};
@@ -21,7 +22,7 @@ ghost use Rattle.inbox.specs.Inboxes.{delivered_of};
 use crate::make::make;
 use crate::waiting::{Turn, check_wanted, next_turn};
 use ids::{OpId, Refusal, ReplicaId};
-use inbox::{Command, Delivered, Document, Entry, Inbox, Op, Shared, check_alone};
+use inbox::{Command, Delivered, Document, Entry, Inbox, Op, Publish, Shared, check_alone};
 use std::alloc::{AllocError, Global};
 use std::marker::Model;
 
@@ -50,7 +51,7 @@ impl Model for Replica {
 }
 
 impl Replica {
-    ghost use Rattle.replica.specs.Replicas.{IsMade, IsNextReady, answer_to_op, next_of, replica_of};
+    ghost use Rattle.replica.specs.Replicas.{IsMade, IsNextOwn, IsNextReady, answer_to_op, next_of, replica_of};
 
     /// A replica with this number among these members, and with an empty history.
     ///
@@ -88,14 +89,6 @@ impl Replica {
         self.document.len()
     }
 
-    /// How many operations of peers wait.
-    pub fn waiting_len(&self) -> usize
-        ensures length { result ≡ length self.now.waiting }
-        ensures counted { counted (replica_of self.now) ≡ replica_of self.now }
-    {
-        self.inbox.len()
-    }
-
     /// How many operations of peers were dropped because they turned out to be unlawful. Stays at 18446744073709551615.
     pub fn dropped(&self) -> u64
         ensures { result ≡ self.now.dropped }
@@ -124,7 +117,7 @@ impl Replica {
         Ok(op)
     }
 
-    /// Appends what the last `make` returned, under a serial above each that the client had. Takes no memory.
+    /// Appends what the last `make` returned, under a serial above each that the client had. Allocates nothing.
     pub fn commit_own(
         &mut self,
         client: usize,
@@ -139,12 +132,21 @@ impl Replica {
         ensures { replica_of self.new
             ≡ commit_own (replica_of self.old) client serial (command_of command) (stamped_of self.old.document.table op) }
     {
-        self.document.commit(Entry::Own {
+        self.commit_made(Entry::Own {
             client,
             serial,
             command,
             op,
         });
+    }
+
+    /// As `commit_own`, for an entry that stands ready. Allocates nothing.
+    pub(crate) fn commit_made(&mut self, entry: Entry)
+        requires { IsNextOwn self.old entry }
+        ensures { replica_of self.new
+            ≡ record (replica_of self.old) { entries = entry_of self.old.document.table entry ∷ self.old.document.entries } }
+    {
+        self.document.commit(entry);
     }
 
     /// Keeps an operation of a peer in the inbox until it is causally ready. Nothing is applied here: that is for `next_ready` and
@@ -195,7 +197,7 @@ impl Replica {
         Ok(Some(op.clone()?))
     }
 
-    /// Appends what the last `next_ready` returned, which has this id. Takes it out of the inbox, as `Inbox::take`. Takes no memory.
+    /// Appends what the last `next_ready` returned, which has this id. Takes it out of the inbox, as `Inbox::take`. Allocates nothing.
     pub fn commit_peer(&mut self, id: OpId)
         requires { (s : Stamped) × (s.id ≡ id) × IsNextReady self.old s }
         ensures { replica_of self.new ≡ drain_for 1 (replica_of self.old) }
@@ -207,20 +209,25 @@ impl Replica {
     }
 
     /// Appends or drops all that is ready, and all that becomes ready by that, the smallest id first, until the history is full.
-    /// A search of the inbox for each of them.
+    /// Each that is appended goes to the publisher first, and both share it. A search of the inbox for each of them.
     ///
     /// # Errors
-    /// `AllocError` if allocation fails. The drain has ended early then, and another goes on.
-    pub fn drain(&mut self, alloc: Global) -> Result<(), AllocError>
+    /// `AllocError` if allocation fails. The drain has ended early then, and another goes on with it.
+    pub fn drain<P: Publish>(&mut self, alloc: Global, publisher: &mut P) -> Result<(), AllocError>
+        requires holds { Holds (P.publication publisher.old) (replica_of self.old) }
         ensures drained { OnOk result (replica_of self.new ≡ counted (drain (replica_of self.old))) }
         ensures settled { OnOk result (IsDrained (replica_of self.new)) }
         ensures partly { (n : ℕ) × (replica_of self.new ≡ counted (drain_for n (replica_of self.old))) }
+        ensures holds { Holds (P.publication publisher.new) (replica_of self.new) }
+        ensures published { (P.publication publisher.new).published ≡ (P.publication publisher.old).published }
     {
         for _ in 0..self.inbox.len() {
-            let Some(id) = self.prepare(alloc)? else {
+            let Some(op) = self.next_ready(alloc)? else {
                 return Ok(());
             };
-            self.commit_peer(id);
+            let next = op.id;
+            publisher.add(Entry::Peer(op))?;
+            self.commit_peer(next);
         }
         Ok(())
     }
@@ -253,7 +260,7 @@ impl Replica {
         self.inbox.advance(&self.document);
     }
 
-    /// The entries of the history, the oldest first. Takes no memory. What waits is dropped.
+    /// The entries of the history, the oldest first. Allocates nothing. What waits is dropped.
     pub fn into_entries(self) -> Vec<Entry>
         ensures { history self.document.table result.items ≡ self.document.entries }
     {

@@ -4,7 +4,7 @@ ghost use Rattle.std.specs.Prelude.{◌≡◌, Some, None, length, IfOk, MatchRe
 ghost use Rattle.semantics.specs.Entries.{stamped_entries};
 ghost use Rattle.semantics.specs.Faults.{fault_of};
 ghost use Rattle.semantics.specs.Delivery.{Kept as IsKept, NotKept, answer_to_new};
-ghost use Rattle.inbox.specs.operation.Meanings.{stamped_of};
+ghost use Rattle.inbox.specs.operation.Ops.{stamped_of};
 ghost use Rattle.inbox.specs.Inboxes.{StandAlone};
 ghost use Rattle.replica.specs.Replicas.{replica_with};
 ghost use Rattle.replica.specs.Turns.{IsNextTurn};

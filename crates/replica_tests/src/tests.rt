@@ -4,6 +4,7 @@
 mod deliveries;
 mod leaving;
 mod playing;
+mod recorder;
 mod refused_memory;
 
 use fixtures::Pair;

@@ -5,8 +5,8 @@ use Rattle.rings.specs.declared.starts.Starts.{Starts}
 
 -- the starts, of which there are none before there was room for one
 abbrev pub starts_of : Starts → List ℕ
-starts_of s = unwrap_or (option_map (λ b. b.value.items) s.begun) []
+starts_of s = unwrap_or (option_map (λ b. b.value.items) s.starts) []
 
 -- how many starts fit without memory
 abbrev pub capacity_of : Starts → ℕ
-capacity_of s = unwrap_or (option_map (λ b. vec_capacity b.value) s.begun) 0
+capacity_of s = unwrap_or (option_map (λ b. vec_capacity b.value) s.starts) 0

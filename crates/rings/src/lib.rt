@@ -1,8 +1,8 @@
 //! A list that is read at any position in constant time, and that takes an item at any position at little cost, also among a million.
 #![tactic(auto)]
 
+mod contiguous;
 mod rings;
 mod starts;
-mod straightened;
 
 pub use rings::{Rings, insert_reserved};

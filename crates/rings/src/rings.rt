@@ -8,8 +8,8 @@ ghost use Rattle.std.specs.List.Retain.{IsFiltered};
 ghost use Rattle.rings.specs.Rings.{AreRings, IsClosed, IsSlot, are_zero, straight, turned};
 ghost use Rattle.rings.specs.Starts.{capacity_of, starts_of};
 
+use crate::contiguous::{make_all_contiguous, remove_in, retain_in, truncate_in};
 use crate::starts::Starts;
-use crate::straightened::{remove_in, retain_in, straighten_all, truncate_in};
 use std::alloc::{AllocError, Global};
 use std::marker::Model;
 use std::mem::{replace, swap};
@@ -46,7 +46,7 @@ impl<T> Model for Rings<T> {
 }
 
 impl<T> Rings<T> {
-    /// Returns an empty list. Takes no memory.
+    /// Returns an empty list. Allocates nothing.
     pub fn new(alloc: Global) -> Rings<T>
         ensures { result.items ≡ [] }
     {
@@ -120,17 +120,17 @@ impl<T> Rings<T> {
         swap_in(&mut self.slots, self.starts.as_slice(), a, b);
     }
 
-    /// Moves the items so that `as_slice` can return them as one slice. Takes no memory. Costs one move of each ring that doesn't
+    /// Moves the items so that `as_slice` can return them as one slice. Allocates nothing. Costs one move of each ring that doesn't
     /// begin at its first slot.
-    pub fn straighten(&mut self)
+    pub fn make_contiguous(&mut self)
         ensures items { self.new.items ≡ self.old.items }
         ensures room { self.new.room ≡ self.old.room }
         ensures straight { IsTrue self.new.is_straight }
     {
-        straighten_all(&mut self.slots, &mut self.starts);
+        make_all_contiguous(&mut self.slots, &mut self.starts);
     }
 
-    /// Returns all items as one slice, once they are straightened.
+    /// Returns all items as one slice, once they are contiguous.
     pub fn as_slice(&self) -> &[T]
         requires { IsTrue self.now.is_straight }
         ensures { result.now ≡ self.now.items }
@@ -138,41 +138,41 @@ impl<T> Rings<T> {
         &self.slots
     }
 
-    /// Removes the item at this position and returns it; those behind it come one earlier. Takes no memory. All rings are
-    /// straightened first, and each item behind it moves, by one move of memory.
+    /// Removes the item at this position and returns it; those behind it come one earlier. Allocates nothing. All rings are
+    /// contiguous first, and each item behind it moves, with a single memmove.
     pub fn remove(&mut self, position: usize) -> T
         requires { position < length self.old.items }
         ensures items { self.new.items ≡ remove self.old.items position }
         ensures value { slice_get self.old.items position ≡ Some result }
         ensures room { self.old.room ≤ self.new.room }
     {
-        straighten_all(&mut self.slots, &mut self.starts);
+        make_all_contiguous(&mut self.slots, &mut self.starts);
         remove_in(&mut self.slots, &mut self.starts, position)
     }
 }
 
 impl<T: Drop> Rings<T> {
-    /// Keeps this many items and drops those behind them. Takes no memory; all rings are straightened first.
+    /// Keeps this many items and drops those behind them. Allocates nothing; all rings are contiguous first.
     pub fn truncate(&mut self, count: usize)
         ensures items { self.new.items ≡ take count self.old.items }
         ensures room { self.old.room ≤ self.new.room }
     {
-        straighten_all(&mut self.slots, &mut self.starts);
+        make_all_contiguous(&mut self.slots, &mut self.starts);
         truncate_in(&mut self.slots, &mut self.starts, count);
     }
 
-    /// Keeps the items for which `keep` returns true, in their order, and drops the others. Takes no memory; all rings are
-    /// straightened first. Calls `keep` once for each item, and moves those that stay behind one that goes.
+    /// Keeps the items for which `keep` returns true, in their order, and drops the others. Allocates nothing; all rings are
+    /// contiguous first. Calls `keep` once for each item, and shifts those kept left past the removed ones, as `Vec::retain`.
     pub fn retain<F: FnMut(&T) -> bool>(&mut self, keep: F)
         requires { F.IsAlwaysCallable keep }
         ensures kept { IsFiltered (CalledAt F.FnMut) keep self.old.items self.new.items }
         ensures room { self.old.room ≤ self.new.room }
     {
-        straighten_all(&mut self.slots, &mut self.starts);
+        make_all_contiguous(&mut self.slots, &mut self.starts);
         retain_in(&mut self.slots, &mut self.starts, keep);
     }
 
-    /// Puts an item at this position; those from there on come one later. Takes no memory. In its ring it moves those before it at
+    /// Puts an item at this position; those from there on come one later. Allocates nothing. In its ring it moves those before it at
     /// once, or those from there on, whichever are fewer, so at most half of the ring. It moves one item of each later ring, and
     /// those behind the rings at once.
     pub fn insert(&mut self, position: usize, value: T)
@@ -268,7 +268,7 @@ fn turn<T>(slots: &mut [T], starts: &mut [usize], ring: usize, value: T) -> T
     replace(&mut slots[ring * RING + before], value)
 }
 
-/// Moves each item one slot on and puts the value into the first, by one move of memory. Returns the item that falls out at the
+/// Moves each item one slot on and puts the value into the first, with a single memmove. Returns the item that falls out at the
 /// end: the value, where there are no slots.
 fn push_front<T>(items: &mut [T], value: T) -> T
     ensures { items.new ++ result ∷ [] ≡ value ∷ items.old }
@@ -280,7 +280,7 @@ fn push_front<T>(items: &mut [T], value: T) -> T
     replace(&mut items[0], value)
 }
 
-/// Puts an item at a position of a ring, by one move of memory, or two where those behind it go round. Returns the ring's last
+/// Puts an item at a position of a ring, with a single memmove, or two where those behind it go round. Returns the ring's last
 /// item, which falls out.
 fn push_into<T>(ring: &mut [T], start: usize, position: usize, value: T) -> T
     requires start { start ≤ length ring.old }
@@ -297,7 +297,7 @@ fn push_into<T>(ring: &mut [T], start: usize, position: usize, value: T) -> T
     push_front(&mut back[position - count..], value)
 }
 
-/// Lets a ring's first item sink to a position, so that those on its way come one earlier, by one move of memory, or two where
+/// Lets a ring's first item sink to a position, so that those on its way come one earlier, with a single memmove, or two where
 /// they go round.
 fn sink<T>(ring: &mut [T], start: usize, position: usize)
     requires start { start < length ring.old }
@@ -373,8 +373,8 @@ fn make_way<T>(slots: &mut [T], starts: &mut Starts, position: usize, value: T) 
     ensures capacity { capacity_of starts.new ≡ capacity_of starts.old }
     ensures slots { length slots.new ≡ length slots.old }
 {
-    match &mut starts.begun {
-        Some(begun) => make_way_in(slots, begun, position, value),
+    match &mut starts.starts {
+        Some(starts) => make_way_in(slots, starts, position, value),
         None => (position, value),
     }
 }
@@ -414,7 +414,7 @@ fn close_ring(starts: &mut Starts, count: usize)
     }
 }
 
-/// Puts an item at a position. Takes no memory.
+/// Puts an item at a position. Allocates nothing.
 fn insert_in<T: Drop>(slots: &mut Vec<T>, starts: &mut Starts, position: usize, value: T)
     requires rings { AreRings 2048 (starts_of starts.old) (length slots.old.items) }
     requires within { position ≤ length slots.old.items }
@@ -432,8 +432,8 @@ fn insert_in<T: Drop>(slots: &mut Vec<T>, starts: &mut Starts, position: usize, 
     close_ring(starts, slots.len());
 }
 
-/// Inserts an item into a vector that has room for it, by one move of memory. `Vec::insert` moves sixteen bytes at a time, which shows
-/// from some hundred items on. Takes no memory.
+/// Inserts an item into a vector that has room for it, with a single memmove. `Vec::insert` moves sixteen bytes at a time, which shows
+/// from some hundred items on. Allocates nothing.
 pub fn insert_reserved<T: Drop>(items: &mut Vec<T>, at: usize, item: T)
     requires within { at ≤ length items.old.items }
     requires room { vec_len items.old < vec_capacity items.old }

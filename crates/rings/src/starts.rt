@@ -7,28 +7,28 @@ use std::alloc::{AllocError, Global};
 
 /// Of each ring, the slot in which it begins.
 ///
-/// Without rings it takes no memory, and is smaller than an empty vector, so that many small lists cost little.
+/// Without rings it allocates nothing, and is smaller than an empty vector, so that many small lists cost little.
 #[derive(Debug, Drop)]
 pub struct Starts {
     /// `None` as long as room for a first start wasn't asked for.
-    pub begun: Option<Box<Vec<usize>>>,
+    pub starts: Option<Box<Vec<usize>>>,
 }
 
 impl Starts {
-    /// Returns those of no ring. Takes no memory.
+    /// Returns those of no ring. Allocates nothing.
     pub fn new() -> Starts
         ensures starts { starts_of result ≡ [] }
         ensures capacity { capacity_of result ≡ 0 }
     {
-        Starts { begun: None }
+        Starts { starts: None }
     }
 
     /// Returns the starts, that of the first ring first.
     pub fn as_slice(&self) -> &[usize]
         ensures { result.now ≡ starts_of self.now }
     {
-        match &self.begun {
-            Some(begun) => begun,
+        match &self.starts {
+            Some(starts) => starts,
             None => &[],
         }
     }
@@ -42,24 +42,24 @@ impl Starts {
         ensures room { OnOk result (length (starts_of self.new) < capacity_of self.new) }
         ensures kept { capacity_of self.old ≤ capacity_of self.new }
     {
-        match &mut self.begun {
-            Some(begun) => begun.reserve(1),
+        match &mut self.starts {
+            Some(starts) => starts.reserve(1),
             None => {
-                let begun = Vec::with_capacity(alloc, 1)?;
-                self.begun = Some(Box::new(alloc, begun)?);
+                let starts = Vec::with_capacity(alloc, 1)?;
+                self.starts = Some(Box::new(alloc, starts)?);
                 Ok(())
             }
         }
     }
 
-    /// Appends the start of one more ring. Takes no memory.
+    /// Appends the start of one more ring. Allocates nothing.
     pub fn push_reserved(&mut self, start: usize)
         requires { length (starts_of self.old) < capacity_of self.old }
         ensures starts { starts_of self.new ≡ starts_of self.old ++ start ∷ [] }
         ensures capacity { capacity_of self.new ≡ capacity_of self.old }
     {
-        if let Some(begun) = &mut self.begun {
-            begun.push_reserved(start);
+        if let Some(starts) = &mut self.starts {
+            starts.push_reserved(start);
         }
     }
 
@@ -68,8 +68,8 @@ impl Starts {
         ensures starts { starts_of self.new ≡ take count (starts_of self.old) }
         ensures capacity { capacity_of self.new ≡ capacity_of self.old }
     {
-        if let Some(begun) = &mut self.begun {
-            begun.truncate(count);
+        if let Some(starts) = &mut self.starts {
+            starts.truncate(count);
         }
     }
 }

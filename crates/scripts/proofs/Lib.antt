@@ -1,5 +1,5 @@
 pub mod StepsLeft
-pub mod NoFloats
+pub mod Tokens
 pub mod WrongLengths
 pub mod AskedTables
 pub mod WrittenBack

@@ -4,7 +4,7 @@ use Rattle.ids.specs.Configurations.{Configuration}
 use Rattle.ids.specs.declared.refusal.Refusal.{Refusal}
 use Rattle.ids.specs.declared.refusal.Refusal.TheVariants.{BadLine}
 use Rattle.semantics.specs.World.{WorldStep}
-use Rattle.json_lines.specs.Lines.{Bad, HasNoEnd, IsFirstLine, unless_bad}
+use Rattle.world.specs.wire.Lines.{Bad, HasNoEnd, IsFirstLine, unless_bad}
 use Rattle.scripts.specs.Steps.{step_line}
 use Rattle.scripts.specs.Engines.{engines_line}
 use Rattle.scripts.specs.Scripts.{script_form, steps_left}

@@ -11,13 +11,14 @@ use Rattle.semantics.specs.Making.{Command}
 use Rattle.semantics.specs.Questions.{Step, Get, Idx, Question, Values, Keys, Items as ItemsAt, Conflicts, AppliedVector}
 use Rattle.semantics.specs.Vectors.{Vector}
 use Rattle.semantics.specs.LegalAnswer.{Asked, OfDocument, Missing}
-use Rattle.semantics.specs.World.{WorldAct, WorldStep, step_by, Push, Take, Publish, Give, Whole, Poll, Ask, Learn, SayHello, AnswerHello}
+use Rattle.semantics.specs.World.{WorldAct, WorldStep, step_by, Push, Take, Publish, Give, WholeStep, Poll, Ask, Learn, SayHello}
+use Rattle.semantics.specs.World.{AnswerHello}
 use Rattle.semantics.specs.World.{Deliver, CountDropped}
 use Rattle.serde_json.specs.Data.{Data, null, boolean, number, string, array, object, Items, no_items, item}
 use Rattle.serde_json.specs.View.{items_of}
 use Rattle.world.specs.value.Forms.{json_of, value_form}
 use Rattle.world.specs.wire.Bundles.{readable}
-use Rattle.json_lines.specs.Forms.{and_then, json_form, list_form, number_form, phrase_form, text_form}
+use Rattle.world.specs.wire.Forms.{and_then, json_form, list_form, number_form, phrase_form, text_form}
 use Rattle.world.specs.wire.Vectors.{vector_form, vector_json}
 use Rattle.world.proofs.wire.NormalNumbers.{AreNormal, IsNormal}
 use Rattle.world.proofs.wire.WrittenBack.{made_of, list_in, number_in, phrase_in, same_ok, value_in, vector_in, word_is}
@@ -237,7 +238,7 @@ engine_step_in d p s =
     one_word d (bytes_eq p.0 (codes "take")) _ _ s (other_in d (λ e. step_by e Take) (one_number p.1) s (λ e. tt))
     (one_word d (bytes_eq p.0 (codes "publish")) _ _ s (other_in d (λ e. step_by e Publish) (one_number p.1) s (λ e. tt))
     (one_word d (bytes_eq p.0 (codes "give")) _ _ s (other_in d (λ e. step_by e Give) (one_number p.1) s (λ e. tt))
-    (one_word d (bytes_eq p.0 (codes "step")) _ _ s (other_in d (λ e. step_by e Whole) (one_number p.1) s (λ e. tt))
+    (one_word d (bytes_eq p.0 (codes "step")) _ _ s (other_in d (λ e. step_by e WholeStep) (one_number p.1) s (λ e. tt))
     (one_word d (bytes_eq p.0 (codes "dropped")) _ _ s (other_in d (λ e. step_by e CountDropped) (one_number p.1) s (λ e. tt))
     (λ h. absurd (cc))))))
 

@@ -6,7 +6,7 @@ use Rattle.ids.specs.Configurations.{Configuration, is_from_one_to, is_within_li
 use Rattle.ids.specs.declared.refusal.Refusal.{Refusal}
 use Rattle.ids.specs.declared.refusal.Refusal.TheVariants.{BadLine, BadConfig}
 use Rattle.serde_json.specs.Data.{Data, Items, no_items, item}
-use Rattle.json_lines.specs.Forms.{and_then, json_form, number_form, list_form, phrase_form}
+use Rattle.world.specs.wire.Forms.{and_then, json_form, number_form, list_form, phrase_form}
 
 -- each part as a number
 abbrev pub numbers_of : Items → Result (List ℕ) Refusal

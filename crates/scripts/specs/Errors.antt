@@ -5,7 +5,7 @@ use Rattle.ids.specs.declared.refusal.Refusal.TheVariants.{NoMemory}
 use Rattle.ids.specs.Refusals.{number_of}
 use Rattle.scripts.specs.declared.error.ScriptError.{ScriptError}
 use Rattle.scripts.specs.declared.error.ScriptError.TheVariants as error
-use Rattle.json_lines.specs.Lines.{Bad}
+use Rattle.world.specs.wire.Lines.{Bad}
 
 -- a failed allocation is no line's fault
 abbrev pub error_of : ℕ → Refusal → ScriptError

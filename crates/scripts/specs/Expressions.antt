@@ -7,7 +7,7 @@ use Rattle.semantics.specs.Limits.{most_key_bytes}
 use Rattle.semantics.specs.Questions.{Step, Get, Idx}
 use Rattle.serde_json.specs.Data.{Data, Items, no_items, item}
 use Rattle.serde_json.specs.Find.{as_str}
-use Rattle.json_lines.specs.Forms.{and_then, number_form, list_form}
+use Rattle.world.specs.wire.Forms.{and_then, number_form, list_form}
 
 -- a step to the field with this key
 abbrev pub get_form : List ℕ → Result Step Refusal

@@ -3,7 +3,7 @@ pub mod Errors
 pub mod Expressions
 pub mod NumberedSteps
 pub mod Numbers
-pub mod Presence
+pub mod Exists
 pub mod Replies
 pub mod Requests
 pub mod Runs

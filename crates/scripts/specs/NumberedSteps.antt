@@ -3,9 +3,10 @@ use Rattle.std.specs.Prelude.{ℕ, List, codes, Result, Ok, Err, if◌then◌els
 use Rattle.std.specs.Str.{bytes_eq}
 use Rattle.ids.specs.declared.refusal.Refusal.{Refusal}
 use Rattle.ids.specs.declared.refusal.Refusal.TheVariants.{BadLine}
-use Rattle.semantics.specs.World.{WorldStep, Take, Publish, Give, Whole, Poll, Learn, SayHello, AnswerHello, Deliver, CountDropped, step_by}
+use Rattle.semantics.specs.World.{WorldStep, Take, Publish, Give, WholeStep, Poll, Learn, SayHello, AnswerHello, Deliver, CountDropped}
+use Rattle.semantics.specs.World.{step_by}
 use Rattle.serde_json.specs.Data.{Items}
-use Rattle.json_lines.specs.Forms.{and_then}
+use Rattle.world.specs.wire.Forms.{and_then}
 use Rattle.scripts.specs.Numbers.{one_number, two_numbers, three_numbers, four_numbers}
 
 -- a step that has an engine alone
@@ -13,7 +14,7 @@ abbrev pub engine_step_of : List ℕ × Items → Result WorldStep Refusal
 engine_step_of p = if bytes_eq p.0 (codes "take") then and_then (λ e. Ok (step_by e Take)) (one_number p.1)
     else (if bytes_eq p.0 (codes "publish") then and_then (λ e. Ok (step_by e Publish)) (one_number p.1)
     else (if bytes_eq p.0 (codes "give") then and_then (λ e. Ok (step_by e Give)) (one_number p.1)
-    else (if bytes_eq p.0 (codes "step") then and_then (λ e. Ok (step_by e Whole)) (one_number p.1)
+    else (if bytes_eq p.0 (codes "step") then and_then (λ e. Ok (step_by e WholeStep)) (one_number p.1)
     else (if bytes_eq p.0 (codes "dropped") then and_then (λ e. Ok (step_by e CountDropped)) (one_number p.1) else Err BadLine))))
 
 -- a step with a message: a token that says hello, a token and the message that it answers, a client and the message that it receives

@@ -3,7 +3,7 @@ use Rattle.std.specs.Prelude.{ℕ, Result, Ok, Err}
 use Rattle.ids.specs.declared.refusal.Refusal.{Refusal}
 use Rattle.ids.specs.declared.refusal.Refusal.TheVariants.{BadLine}
 use Rattle.serde_json.specs.Data.{Items, no_items, item}
-use Rattle.json_lines.specs.Forms.{and_then, number_form}
+use Rattle.world.specs.wire.Forms.{and_then, number_form}
 
 -- one part, a number
 abbrev pub one_number : Items → Result ℕ Refusal

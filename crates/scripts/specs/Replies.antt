@@ -5,7 +5,7 @@ use Rattle.ids.specs.declared.id.OpId.{OpId}
 use Rattle.ids.specs.declared.refusal.Refusal.{Refusal}
 use Rattle.semantics.specs.Elements.{Scalar, Tag, AsRegister, AsMap, AsList}
 use Rattle.semantics.specs.Questions.{Answer, ValuesAre, KeysAre, ItemsAre, ConflictsAre, VectorIs, Refused}
-use Rattle.semantics.specs.LegalAnswer.{Reply, Made, NotMade, KeptAt, KnownAt, Reading, Answered, MissingAre}
+use Rattle.semantics.specs.LegalAnswer.{Reply, Made, RefusedAt, KeptAt, KnownAt, Reading, Answered, MissingAre}
 use Rattle.semantics.specs.Engine.{StepReply, Ticket, Denied, Took, Published, Gave, Idle, Unanswered, Replied, Read, Seen, SentHello}
 use Rattle.semantics.specs.Engine.{SentBundle, NoMessage, Received, Dropped}
 use Rattle.serde_json.specs.Data.{Data, string, array}
@@ -54,7 +54,7 @@ reading_json seen (MissingAre ss) = phrase (codes "reading") (count seen ∷ arr
 -- the answer to what was submitted
 abbrev pub reply_json : Reply → Data
 reply_json (Made id position) = phrase (codes "made") (id_json id ∷ count position ∷ [])
-reply_json (NotMade why length) = phrase (codes "refused") (string (refusal_name why) ∷ count length ∷ [])
+reply_json (RefusedAt why length) = phrase (codes "refused") (string (refusal_name why) ∷ count length ∷ [])
 reply_json (KeptAt length) = phrase (codes "kept") (count length ∷ [])
 reply_json (KnownAt length) = phrase (codes "known") (count length ∷ [])
 

@@ -11,7 +11,7 @@ use Rattle.semantics.specs.Vectors.{Vector}
 use Rattle.semantics.specs.LegalAnswer.{Asked, OfDocument, Missing}
 use Rattle.serde_json.specs.Data.{Data, Items, no_items, item}
 use Rattle.world.specs.value.Forms.{value_form}
-use Rattle.json_lines.specs.Forms.{and_then, phrase_form}
+use Rattle.world.specs.wire.Forms.{and_then, phrase_form}
 use Rattle.scripts.specs.Expressions.{expression_form}
 use Rattle.world.specs.wire.Vectors.{vector_form}
 

@@ -3,7 +3,7 @@ use Rattle.std.specs.Prelude.{ℕ, ◌+◌, List, [], ◌∷◌, Result, Ok, Err
 use Rattle.ids.specs.Configurations.{Configuration}
 use Rattle.ids.specs.declared.refusal.Refusal.TheVariants.{BadLine}
 use Rattle.semantics.specs.World.{WorldStep}
-use Rattle.json_lines.specs.Lines.{Bad, cut, on_line, unless_bad}
+use Rattle.world.specs.wire.Lines.{Bad, cut, on_line, unless_bad}
 use Rattle.scripts.specs.Engines.{engines_line}
 use Rattle.scripts.specs.Steps.{step_line}
 

@@ -8,10 +8,10 @@ use Rattle.ids.specs.declared.refusal.Refusal.TheVariants.{BadLine}
 use Rattle.semantics.specs.World.{WorldStep, Push, Ask, Lines, step_by}
 use Rattle.serde_json.specs.Data.{Data, Items, no_items, item}
 use Rattle.world.specs.wire.Bundles.{Readable, readable}
-use Rattle.json_lines.specs.Forms.{and_then, json_form, number_form, phrase_form, text_form}
+use Rattle.world.specs.wire.Forms.{and_then, json_form, number_form, phrase_form, text_form}
 use Rattle.world.specs.Worlds.{table_at}
 use Rattle.scripts.specs.NumberedSteps.{numbered_step_of}
-use Rattle.scripts.specs.Presence.{if_there}
+use Rattle.scripts.specs.Exists.{if_there}
 use Rattle.scripts.specs.Requests.{command_form, question_form}
 
 -- an engine, a client and a command

@@ -5,18 +5,18 @@ ghost use Rattle.std.specs.Prelude.{◌≡◌, ◌⊎◌, Ok, Err, IfOk, IfErr, 
 ghost use Rattle.std.specs.List.{list_all};
 ghost use Rattle.ids.specs.declared.refusal.Refusal.TheVariants.{NoMemory, BadConfig};
 ghost use Rattle.serde_json.specs.View.{view, items_view};
-ghost use Rattle.json_lines.specs.Forms.{IsRead, IsOrNoMemory};
+ghost use Rattle.world.specs.wire.Forms.{IsRead, IsOrNoMemory};
 ghost use Rattle.scripts.specs.Engines.{all_fit, engine_form, engines_of, fits, numbers_of, only_engines, said_engines, world_form};
 
 use ids::{Config, Refusal};
-use json_lines::{json_of, list_in, number_in, phrase_in};
 use serde_json::Value;
 use std::alloc::Global;
 use std::marker::Model;
+use world::{json_of, list_in, number_in, phrase_in};
 
 /// An engine as a script has it, with numbers of any size. Contracts see the configuration.
 #[derive(Debug, Drop)]
-struct Engine {
+struct WrittenConfig {
     own: u64,
     members: Vec<u64>,
     clients: u64,
@@ -26,7 +26,7 @@ struct Engine {
     serials: u64,
 }
 
-impl Model for Engine {
+impl Model for WrittenConfig {
     ghost use Rattle.ids.specs.Configurations.{Configuration};
 
     ghost Value = { Configuration };
@@ -51,7 +51,7 @@ pub fn read_engines(alloc: Global, text: &[u8]) -> Result<Vec<Config>, Refusal>
     configurations_of(alloc, engines.as_slice())
 }
 
-fn world_in(alloc: Global, value: &Value) -> Result<Vec<Engine>, Refusal>
+fn world_in(alloc: Global, value: &Value) -> Result<Vec<WrittenConfig>, Refusal>
     ensures { IsRead (λ v. v.items) result (world_form (view value.now)) }
 {
     let (word, parts) = phrase_in(value)?;
@@ -61,7 +61,7 @@ fn world_in(alloc: Global, value: &Value) -> Result<Vec<Engine>, Refusal>
     }
 }
 
-fn only_engines_in(alloc: Global, parts: &[Value]) -> Result<Vec<Engine>, Refusal>
+fn only_engines_in(alloc: Global, parts: &[Value]) -> Result<Vec<WrittenConfig>, Refusal>
     ensures { IsRead (λ v. v.items) result (only_engines (items_view parts.now)) }
 {
     let [engines] = parts else {
@@ -75,7 +75,7 @@ fn only_engines_in(alloc: Global, parts: &[Value]) -> Result<Vec<Engine>, Refusa
 }
 
 /// The engines, from the left.
-fn engines_in(alloc: Global, parts: &[Value]) -> Result<Vec<Engine>, Refusal>
+fn engines_in(alloc: Global, parts: &[Value]) -> Result<Vec<WrittenConfig>, Refusal>
     ensures { IsRead (λ v. v.items) result (engines_of (items_view parts.now)) }
 {
     let mut engines = Vec::new(alloc);
@@ -85,13 +85,13 @@ fn engines_in(alloc: Global, parts: &[Value]) -> Result<Vec<Engine>, Refusal>
     Ok(engines)
 }
 
-fn engine_in(alloc: Global, value: &Value) -> Result<Engine, Refusal>
+fn engine_in(alloc: Global, value: &Value) -> Result<WrittenConfig, Refusal>
     ensures { IsRead (λ g. g) result (engine_form (view value.now)) }
 {
     let [own, members, clients, readers, queue, batch, serials] = list_in(value)? else {
         return Err(Refusal::BadLine);
     };
-    Ok(Engine {
+    Ok(WrittenConfig {
         own: number_in(own)?,
         members: numbers_in(alloc, list_in(members)?)?,
         clients: number_in(clients)?,
@@ -114,7 +114,7 @@ fn numbers_in(alloc: Global, parts: &[Value]) -> Result<Vec<u64>, Refusal>
 }
 
 /// The configurations of the engines. A number that is too large for its type is `BadConfig`.
-fn configurations_of(alloc: Global, engines: &[Engine]) -> Result<Vec<Config>, Refusal>
+fn configurations_of(alloc: Global, engines: &[WrittenConfig]) -> Result<Vec<Config>, Refusal>
     ensures ok { IfOk result (λ v. (v.items ≡ engines.now) × (list_all all_fit engines.now ≡ true)) }
     ensures err { IfErr result (λ why. (why ≡ NoMemory) ⊎ ((why ≡ BadConfig) × (list_all all_fit engines.now ≡ false))) }
 {
@@ -125,7 +125,7 @@ fn configurations_of(alloc: Global, engines: &[Engine]) -> Result<Vec<Config>, R
     Ok(all)
 }
 
-impl Engine {
+impl WrittenConfig {
     /// The configuration of this engine. A number that is too large for its type is `BadConfig`.
     fn fitted(&self, alloc: Global) -> Result<Config, Refusal>
         ensures ok { IfOk result (λ g. (g ≡ self.now) × (all_fit self.now ≡ true)) }

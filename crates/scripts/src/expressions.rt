@@ -1,16 +1,15 @@
 //! Expressions in a script.
 
 ghost use Rattle.std.specs.Prelude.{map};
-ghost use Rattle.world.specs.cursor.Meanings.{step_of};
+ghost use Rattle.world.specs.cursor.Steps.{step_of};
 ghost use Rattle.serde_json.specs.View.{view, items_view};
 ghost use Rattle.scripts.specs.Expressions.{expression_form, path_step_form, path_steps_of};
-ghost use Rattle.json_lines.specs.Forms.{IsRead, IsOrNoMemory};
+ghost use Rattle.world.specs.wire.Forms.{IsRead, IsOrNoMemory};
 
 use ids::Refusal;
-use json_lines::{list_in, number_in};
 use serde_json::Value;
 use std::alloc::Global;
-use world::{Expr, ExprStep as Step, Key};
+use world::{Expr, ExprStep as Step, Key, list_in, number_in};
 
 /// An expression: a list of keys and of indices in lists.
 pub fn expression_in(alloc: Global, value: &Value) -> Result<Expr, Refusal>

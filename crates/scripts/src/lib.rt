@@ -3,10 +3,10 @@
 
 mod configuration;
 mod error;
+mod exists;
 mod expressions;
 mod numbered_steps;
 mod numbers;
-mod presence;
 mod readings;
 mod replies;
 mod requests;

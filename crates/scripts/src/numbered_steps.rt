@@ -2,8 +2,8 @@
 
 ghost use Rattle.std.specs.Prelude.{List, ℕ, IfOk};
 ghost use Rattle.serde_json.specs.View.{items_view};
-ghost use Rattle.world.specs.Worlds.{IsAskedBeside, step_in as step_meant};
-ghost use Rattle.json_lines.specs.Forms.{IsRead};
+ghost use Rattle.world.specs.Worlds.{StepHasWidthIn, step_in as step_meant};
+ghost use Rattle.world.specs.wire.Forms.{IsRead};
 ghost use Rattle.scripts.specs.NumberedSteps.{engine_step_of, message_step_of, numbered_step_of};
 
 use crate::numbers::{four_in, one_in, three_in, two_in};
@@ -14,7 +14,7 @@ use world::{WorldAct, WorldStep};
 /// The step of this word with these parts.
 pub fn numbered_step_in(word: &str, parts: &[Value]) -> Result<WorldStep, Refusal>
     ensures read { (tables : List (List ℕ)) → IsRead (step_meant tables) result (numbered_step_of (word.now, items_view parts.now)) }
-    ensures beside { (tables : List (List ℕ)) → IfOk result (IsAskedBeside tables) }
+    ensures width { (tables : List (List ℕ)) → IfOk result (StepHasWidthIn tables) }
 {
     match word {
         "poll" => {
@@ -42,14 +42,14 @@ pub fn numbered_step_in(word: &str, parts: &[Value]) -> Result<WorldStep, Refusa
 /// A step that names a message.
 fn message_step_in(word: &str, parts: &[Value]) -> Result<WorldStep, Refusal>
     ensures read { (tables : List (List ℕ)) → IsRead (step_meant tables) result (message_step_of (word.now, items_view parts.now)) }
-    ensures beside { (tables : List (List ℕ)) → IfOk result (IsAskedBeside tables) }
+    ensures width { (tables : List (List ℕ)) → IfOk result (StepHasWidthIn tables) }
 {
     match word {
         "hello" => {
             let (engine, token) = two_in(parts)?;
             Ok(WorldStep {
                 engine,
-                act: WorldAct::Hello { token },
+                act: WorldAct::SayHello { token },
             })
         }
         "bundle" => {
@@ -57,7 +57,7 @@ fn message_step_in(word: &str, parts: &[Value]) -> Result<WorldStep, Refusal>
             let message = message as usize;
             Ok(WorldStep {
                 engine,
-                act: WorldAct::Bundle { token, message },
+                act: WorldAct::AnswerHello { token, message },
             })
         }
         "deliver" => {
@@ -75,7 +75,7 @@ fn message_step_in(word: &str, parts: &[Value]) -> Result<WorldStep, Refusal>
 /// A step that names an engine alone.
 fn engine_step_in(word: &str, parts: &[Value]) -> Result<WorldStep, Refusal>
     ensures read { (tables : List (List ℕ)) → IsRead (step_meant tables) result (engine_step_of (word.now, items_view parts.now)) }
-    ensures beside { (tables : List (List ℕ)) → IfOk result (IsAskedBeside tables) }
+    ensures width { (tables : List (List ℕ)) → IfOk result (StepHasWidthIn tables) }
 {
     match word {
         "take" => Ok(WorldStep {
@@ -92,7 +92,7 @@ fn engine_step_in(word: &str, parts: &[Value]) -> Result<WorldStep, Refusal>
         }),
         "step" => Ok(WorldStep {
             engine: one_in(parts)?,
-            act: WorldAct::Step,
+            act: WorldAct::WholeStep,
         }),
         "dropped" => Ok(WorldStep {
             engine: one_in(parts)?,

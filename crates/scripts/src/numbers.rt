@@ -3,12 +3,12 @@
 
 ghost use Rattle.std.specs.Prelude.{◌≡◌};
 ghost use Rattle.serde_json.specs.View.{view, items_view};
-ghost use Rattle.json_lines.specs.Forms.{number_form};
+ghost use Rattle.world.specs.wire.Forms.{number_form};
 ghost use Rattle.scripts.specs.Numbers.{one_number, two_numbers, three_numbers, four_numbers};
 
 use ids::Refusal;
-use json_lines::number_in;
 use serde_json::Value;
+use world::number_in;
 
 /// The number of an engine, a client or a token.
 pub fn index_in(value: &Value) -> Result<usize, Refusal>

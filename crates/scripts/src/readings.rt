@@ -1,103 +1,114 @@
-//! The answers to questions, as JSON.
+//! The answers to questions, written as JSON.
 
-ghost use Rattle.std.specs.Prelude.{◌≡◌, ◌∷◌, ℕ, [], map, codes, IfOk};
-ghost use Rattle.serde_json.specs.Data.{array, string};
-ghost use Rattle.serde_json.specs.View.{view, items_of};
-ghost use Rattle.world.specs.cursor.Meanings.{tag_of};
-ghost use Rattle.world.specs.value.Meanings.{scalar_of};
-ghost use Rattle.world.specs.operation.Meanings.{stamped_of};
+ghost use Rattle.std.specs.Prelude.{◌≡◌, ◌∷◌, ℕ, [], map, codes, OnOk};
+ghost use Rattle.serde_json.specs.Data.{Data, array, string};
+ghost use Rattle.serde_json.specs.View.{items_of};
+ghost use Rattle.world.specs.cursor.Steps.{tag_of};
+ghost use Rattle.world.specs.value.Values.{scalar_of};
+ghost use Rattle.world.specs.operation.Ops.{stamped_of};
 ghost use Rattle.world.specs.document.Documents.{said_by};
 ghost use Rattle.world.specs.wire.Operations.{id_json, operation_json, phrase};
-ghost use Rattle.scripts.specs.Replies.{conflict_json, reading_json, row_json, tag_name};
 ghost use Rattle.world.specs.wire.Vectors.{count};
+ghost use Rattle.world.specs.wire.Writing.{IsWritten, tokens_of};
+ghost use Rattle.scripts.specs.Replies.{conflict_json, reading_json, row_json, tag_name};
 
 use ids::{OpId, ReplicaTable};
-use serde_json::{Value, json};
-use std::alloc::{AllocError, Global};
-use world::{Key, Op, Reading, Scalar, Shared, Tag, id_value, operation_value, vector_value};
+use json::Writer;
+use std::alloc::AllocError;
+use world::{Key, Op, Reading, Scalar, Shared, Tag, put_id, put_op, put_scalar, put_vector};
 
-/// The reply to a question of a token that has seen this many entries.
-pub fn reading_value(
-    alloc: Global,
+/// Writes the reply to a question of a token that has seen this many entries.
+pub fn put_reading(
+    out: &mut Writer,
     seen: u64,
     table: &ReplicaTable,
     reading: &Reading,
-) -> Result<Value, AllocError>
-    ensures { IfOk result (λ v. view v ≡ reading_json seen (said_by table.now reading.now)) }
+) -> Result<(), AllocError>
+    ensures { OnOk result (IsWritten (tokens_of (reading_json seen (said_by table.now reading.now))) out.old out.new) }
 {
-    let answer = answer_value(alloc, table, reading)?;
-    json!(in alloc; ["reading", seen, answer])
+    out.begin_array()?;
+    out.string("reading")?;
+    out.u64(seen)?;
+    put_answer(out, table, reading)?;
+    out.end_array()
 }
 
-fn answer_value(alloc: Global, table: &ReplicaTable, reading: &Reading) -> Result<Value, AllocError>
-    ensures { IfOk result
-        (λ v. (seen : ℕ) → reading_json seen (said_by table.now reading.now) ≡ phrase (codes "reading") (count seen ∷ view v ∷ [])) }
+/// Writes what stands in the reply behind the number of entries.
+fn put_answer(out: &mut Writer, table: &ReplicaTable, reading: &Reading) -> Result<(), AllocError>
+    ensures { OnOk result ((answer : Data)
+        × ((seen : ℕ) → reading_json seen (said_by table.now reading.now) ≡ phrase (codes "reading") (count seen ∷ answer ∷ []))
+        × IsWritten (tokens_of answer) out.old out.new) }
 {
     match reading {
-        Reading::Values(values) => values_value(alloc, values),
-        Reading::Keys(keys) => keys_value(alloc, keys),
-        Reading::Items(items) => items_value(alloc, items),
-        Reading::Conflicts(pairs) => conflicts_value(alloc, pairs),
-        Reading::Missing(ops) => operations_value(alloc, table, ops),
-        Reading::Vector(vector) => vector_value(alloc, table, vector),
+        Reading::Values(values) => put_values(out, values),
+        Reading::Keys(keys) => put_keys(out, keys),
+        Reading::Items(items) => put_items(out, items),
+        Reading::Conflicts(pairs) => put_conflicts(out, pairs),
+        Reading::Missing(ops) => put_ops(out, table, ops),
+        Reading::Vector(vector) => put_vector(out, table, vector),
     }
 }
 
-fn values_value(alloc: Global, values: &[(OpId, Scalar)]) -> Result<Value, AllocError>
-    ensures { IfOk result (λ v. view v ≡ array (items_of (map (λ p. row_json (p.0, scalar_of p.1)) values.now))) }
+fn put_values(out: &mut Writer, values: &[(OpId, Scalar)]) -> Result<(), AllocError>
+    ensures { OnOk result
+        (IsWritten (tokens_of (array (items_of (map (λ p. row_json (p.0, scalar_of p.1)) values.now)))) out.old out.new) }
 {
-    let mut list = Vec::new(alloc);
+    out.begin_array()?;
     for (id, scalar) in values {
-        list.push(row_value(alloc, *id, scalar)?)?;
+        put_row(out, *id, scalar)?;
     }
-    Ok(Value::Array(list))
+    out.end_array()
 }
 
-/// The id of a value, and the value.
-fn row_value(alloc: Global, id: OpId, scalar: &Scalar) -> Result<Value, AllocError>
-    ensures { IfOk result (λ v. view v ≡ row_json (id, scalar_of scalar.now)) }
+/// Writes the id of a value, and the value.
+fn put_row(out: &mut Writer, id: OpId, scalar: &Scalar) -> Result<(), AllocError>
+    ensures { OnOk result (IsWritten (tokens_of (row_json (id, scalar_of scalar.now))) out.old out.new) }
 {
-    let id = id_value(alloc, id)?;
-    let scalar = scalar.to_json(alloc)?;
-    json!(in alloc; [id, scalar])
+    out.begin_array()?;
+    put_id(out, id)?;
+    put_scalar(out, scalar)?;
+    out.end_array()
 }
 
-fn keys_value(alloc: Global, keys: &[Key]) -> Result<Value, AllocError>
-    ensures { IfOk result (λ v. view v ≡ array (items_of (map string keys.now))) }
+fn put_keys(out: &mut Writer, keys: &[Key]) -> Result<(), AllocError>
+    ensures { OnOk result (IsWritten (tokens_of (array (items_of (map string keys.now)))) out.old out.new) }
 {
-    let mut list = Vec::new(alloc);
+    out.begin_array()?;
     for key in keys {
-        list.push(Value::String(String::from_str(alloc, key.as_str())?))?;
+        out.string(key.as_str())?;
     }
-    Ok(Value::Array(list))
+    out.end_array()
 }
 
-fn items_value(alloc: Global, items: &[OpId]) -> Result<Value, AllocError>
-    ensures { IfOk result (λ v. view v ≡ array (items_of (map id_json items.now))) }
+fn put_items(out: &mut Writer, items: &[OpId]) -> Result<(), AllocError>
+    ensures { OnOk result (IsWritten (tokens_of (array (items_of (map id_json items.now)))) out.old out.new) }
 {
-    let mut list = Vec::new(alloc);
+    out.begin_array()?;
     for id in items {
-        list.push(id_value(alloc, *id)?)?;
+        put_id(out, *id)?;
     }
-    Ok(Value::Array(list))
+    out.end_array()
 }
 
-fn conflicts_value(alloc: Global, pairs: &[(OpId, Tag)]) -> Result<Value, AllocError>
-    ensures { IfOk result (λ v. view v ≡ array (items_of (map (λ p. conflict_json (p.0, tag_of p.1)) pairs.now))) }
+fn put_conflicts(out: &mut Writer, pairs: &[(OpId, Tag)]) -> Result<(), AllocError>
+    ensures { OnOk result
+        (IsWritten (tokens_of (array (items_of (map (λ p. conflict_json (p.0, tag_of p.1)) pairs.now)))) out.old out.new) }
 {
-    let mut list = Vec::new(alloc);
+    out.begin_array()?;
     for (id, tag) in pairs {
-        list.push(conflict_value(alloc, *id, *tag)?)?;
+        put_conflict(out, *id, *tag)?;
     }
-    Ok(Value::Array(list))
+    out.end_array()
 }
 
-/// The id of a conflict, and its tag.
-fn conflict_value(alloc: Global, id: OpId, tag: Tag) -> Result<Value, AllocError>
-    ensures { IfOk result (λ v. view v ≡ conflict_json (id, tag_of tag)) }
+/// Writes the id of a conflict, and its tag.
+fn put_conflict(out: &mut Writer, id: OpId, tag: Tag) -> Result<(), AllocError>
+    ensures { OnOk result (IsWritten (tokens_of (conflict_json (id, tag_of tag))) out.old out.new) }
 {
-    let id = id_value(alloc, id)?;
-    json!(in alloc; [id, name_of(tag)])
+    out.begin_array()?;
+    put_id(out, id)?;
+    out.string(name_of(tag))?;
+    out.end_array()
 }
 
 fn name_of(tag: Tag) -> &'static str
@@ -110,17 +121,14 @@ fn name_of(tag: Tag) -> &'static str
     }
 }
 
-/// The operations in their order.
-fn operations_value(
-    alloc: Global,
-    table: &ReplicaTable,
-    ops: &[Shared<Op>],
-) -> Result<Value, AllocError>
-    ensures { IfOk result (λ v. view v ≡ array (items_of (map (λ o. operation_json (stamped_of table.now o)) ops.now))) }
+/// Writes the operations in their order.
+fn put_ops(out: &mut Writer, table: &ReplicaTable, ops: &[Shared<Op>]) -> Result<(), AllocError>
+    ensures { OnOk result
+        (IsWritten (tokens_of (array (items_of (map (λ o. operation_json (stamped_of table.now o)) ops.now)))) out.old out.new) }
 {
-    let mut list = Vec::new(alloc);
+    out.begin_array()?;
     for op in ops {
-        list.push(operation_value(alloc, table, op)?)?;
+        put_op(out, op, table)?;
     }
-    Ok(Value::Array(list))
+    out.end_array()
 }

@@ -1,183 +1,219 @@
 //! The replies to steps, as lines of JSON.
 
-ghost use Rattle.std.specs.Prelude.{◌≡◌, ◌∷◌, [], Some, map, IfOk, codes, string_bytes};
+ghost use Rattle.std.specs.Prelude.{◌≡◌, ◌∷◌, ◌++◌, [], Some, map, IfOk, OnOk, IsUtf8, codes, string_bytes};
 ghost use Rattle.semantics.specs.Engine.{SentHello, Denied};
-ghost use Rattle.semantics.specs.LegalAnswer.{Made, NotMade};
+ghost use Rattle.semantics.specs.LegalAnswer.{Made, RefusedAt};
 ghost use Rattle.semantics.specs.Tables.{by_table};
+ghost use Rattle.serde_json.specs.Data.{string};
 ghost use Rattle.serde_json.specs.Written.{compact_text};
-ghost use Rattle.serde_json.specs.View.{view};
-ghost use Rattle.world.specs.items.Meanings.{reply_of};
-ghost use Rattle.world.specs.Meanings.{step_reply_of};
+ghost use Rattle.world.specs.operation.Submissions.{reply_of};
+ghost use Rattle.world.specs.Acts.{step_reply_of};
 ghost use Rattle.world.specs.wire.Operations.{phrase};
 ghost use Rattle.world.specs.wire.Vectors.{count};
+ghost use Rattle.world.specs.wire.Writing.{IsWritten, tokens_of};
 ghost use Rattle.scripts.specs.Replies.{received_json, refusal_name, reply_json, reply_text, step_reply_json};
 
-use crate::readings::reading_value;
+use crate::readings::put_reading;
 use ids::{OpId, Refusal, ReplicaTable};
-use serde_json::{Value, json};
+use json::Writer;
 use std::alloc::{AllocError, Global};
-use world::{Reply, VersionVector, WorldReply, id_value, vector_value};
+use world::{LINE_END, Reply, VersionVector, WorldReply, put_id, put_vector};
 
 /// The replies, one a line.
 pub fn reply_lines(alloc: Global, replies: &[WorldReply]) -> Result<String, AllocError>
     ensures { IfOk result (λ s. string_bytes s ≡ reply_text (map step_reply_of replies.now)) }
 {
-    let mut lines = String::new(alloc);
+    let mut lines = Vec::new(alloc);
     for reply in replies {
-        let line = reply_line(alloc, reply)?;
-        lines.push_str(line.as_str())?;
-        lines.push('\n')?;
+        lines = with_reply(alloc, lines, reply)?;
+        lines.push(LINE_END)?;
     }
+    let Ok(lines) = String::from_utf8(lines) else {
+        unreachable!()
+    };
     Ok(lines)
 }
 
-fn reply_line(alloc: Global, reply: &WorldReply) -> Result<String, AllocError>
-    ensures { IfOk result (λ s. string_bytes s ≡ compact_text (step_reply_json (step_reply_of reply.now))) }
+/// The text with the reply after what it holds.
+fn with_reply(alloc: Global, text: Vec<u8>, reply: &WorldReply) -> Result<Vec<u8>, AllocError>
+    ensures line { IfOk result (λ t. t.items ≡ text.items ++ compact_text (step_reply_json (step_reply_of reply.now))) }
+    ensures utf8 { OnOk result (IsUtf8 (compact_text (step_reply_json (step_reply_of reply.now)))) }
 {
-    world_reply(alloc, reply)?.to_string(alloc)
+    let mut out = Writer::new(text);
+    put_reply(alloc, &mut out, reply)?;
+    Ok(out.into_inner())
 }
 
-fn world_reply(alloc: Global, reply: &WorldReply) -> Result<Value, AllocError>
-    ensures { IfOk result (λ v. view v ≡ step_reply_json (step_reply_of reply.now)) }
+fn put_reply(alloc: Global, out: &mut Writer, reply: &WorldReply) -> Result<(), AllocError>
+    ensures { OnOk result (IsWritten (tokens_of (step_reply_json (step_reply_of reply.now))) out.old out.new) }
 {
     match reply {
-        WorldReply::Ticket(serial) => one(alloc, "ticket", *serial),
-        WorldReply::Denied(why) => denied(alloc, *why),
-        WorldReply::Took => word(alloc, "took"),
-        WorldReply::Published(count) => one(alloc, "published", *count),
-        WorldReply::Gave { client, serial } => two(alloc, "gave", *client as u64, *serial),
-        WorldReply::Idle => word(alloc, "idle"),
-        WorldReply::Unanswered => word(alloc, "none"),
-        WorldReply::Replied(reply) => request_reply(alloc, *reply),
+        WorldReply::Ticket(serial) => put_one(out, "ticket", *serial),
+        WorldReply::Denied(why) => put_denied(alloc, out, *why),
+        WorldReply::Took => put_word(out, "took"),
+        WorldReply::Published(count) => put_one(out, "published", *count),
+        WorldReply::Gave { client, serial } => put_two(out, "gave", *client as u64, *serial),
+        WorldReply::Idle => put_word(out, "idle"),
+        WorldReply::Unanswered => put_word(out, "none"),
+        WorldReply::Replied(reply) => put_request_reply(alloc, out, *reply),
         WorldReply::Read {
             seen,
             table,
             reading,
-        } => reading_value(alloc, *seen, table, reading),
-        WorldReply::NotRead { seen, why } => refused(alloc, *why, *seen),
-        WorldReply::Seen(entries) => one(alloc, "seen", *entries),
+        } => put_reading(out, *seen, table, reading),
+        WorldReply::NotRead { seen, why } => put_refused(alloc, out, *why, *seen),
+        WorldReply::Seen(entries) => put_one(out, "seen", *entries),
         WorldReply::Hello {
             message,
             table,
             vector,
-        } => hello(alloc, *message, table, vector),
+        } => put_hello(out, *message, table, vector),
         WorldReply::Bundle {
             message,
             operations,
-        } => two(alloc, "message", *message, *operations),
-        WorldReply::NoMessage => word(alloc, "none"),
+        } => put_two(out, "message", *message, *operations),
+        WorldReply::NoMessage => put_word(out, "none"),
         WorldReply::Received {
             first,
             submitted,
             stopped,
-        } => received(alloc, *first, *submitted, *stopped),
-        WorldReply::Dropped(operations) => one(alloc, "dropped", *operations),
+        } => put_received(alloc, out, *first, *submitted, *stopped),
+        WorldReply::Dropped(operations) => put_one(out, "dropped", *operations),
     }
 }
 
-/// The answer to a submission.
-fn request_reply(alloc: Global, reply: Reply) -> Result<Value, AllocError>
-    ensures { IfOk result (λ v. view v ≡ reply_json (reply_of reply)) }
+/// Writes the answer to a submission.
+fn put_request_reply(alloc: Global, out: &mut Writer, reply: Reply) -> Result<(), AllocError>
+    ensures { OnOk result (IsWritten (tokens_of (reply_json (reply_of reply))) out.old out.new) }
 {
     match reply {
-        Reply::Made(id, position) => made(alloc, id, position),
-        Reply::Kept(length) => one(alloc, "kept", length),
-        Reply::Known(length) => one(alloc, "known", length),
-        Reply::Refused(why, length) => refused(alloc, why, length),
+        Reply::Made(id, position) => put_made(out, id, position),
+        Reply::Kept(length) => put_one(out, "kept", length),
+        Reply::Known(length) => put_one(out, "known", length),
+        Reply::Refused(why, length) => put_refused(alloc, out, why, length),
     }
 }
 
-/// A reply that is a word alone.
-fn word(alloc: Global, word: &str) -> Result<Value, AllocError>
-    ensures { IfOk result (λ v. view v ≡ phrase word.now []) }
+/// Writes a reply that is a word alone.
+fn put_word(out: &mut Writer, word: &str) -> Result<(), AllocError>
+    ensures { OnOk result (IsWritten (tokens_of (phrase word.now [])) out.old out.new) }
 {
-    json!(in alloc; [word])
+    out.begin_array()?;
+    out.string(word)?;
+    out.end_array()
 }
 
-/// A word and a number.
-fn one(alloc: Global, word: &str, number: u64) -> Result<Value, AllocError>
-    ensures { IfOk result (λ v. view v ≡ phrase word.now (count number ∷ [])) }
+/// Writes a word and a number.
+fn put_one(out: &mut Writer, word: &str, number: u64) -> Result<(), AllocError>
+    ensures { OnOk result (IsWritten (tokens_of (phrase word.now (count number ∷ []))) out.old out.new) }
 {
-    json!(in alloc; [word, number])
+    out.begin_array()?;
+    out.string(word)?;
+    out.u64(number)?;
+    out.end_array()
 }
 
-/// A word and two numbers.
-fn two(alloc: Global, word: &str, first: u64, second: u64) -> Result<Value, AllocError>
-    ensures { IfOk result (λ v. view v ≡ phrase word.now (count first ∷ count second ∷ [])) }
+/// Writes a word and two numbers.
+fn put_two(out: &mut Writer, word: &str, first: u64, second: u64) -> Result<(), AllocError>
+    ensures { OnOk result (IsWritten (tokens_of (phrase word.now (count first ∷ count second ∷ []))) out.old out.new) }
 {
-    json!(in alloc; [word, first, second])
+    out.begin_array()?;
+    out.string(word)?;
+    out.u64(first)?;
+    out.u64(second)?;
+    out.end_array()
 }
 
-/// An operation's id and its position in the history.
-fn made(alloc: Global, id: OpId, position: u64) -> Result<Value, AllocError>
-    ensures { IfOk result (λ v. view v ≡ reply_json (Made id position)) }
+/// Writes an operation's id and its position in the history.
+fn put_made(out: &mut Writer, id: OpId, position: u64) -> Result<(), AllocError>
+    ensures { OnOk result (IsWritten (tokens_of (reply_json (Made id position))) out.old out.new) }
 {
-    let id = id_value(alloc, id)?;
-    json!(in alloc; ["made", id, position])
+    out.begin_array()?;
+    out.string("made")?;
+    put_id(out, id)?;
+    out.u64(position)?;
+    out.end_array()
 }
 
-/// Why nothing was submitted.
-fn denied(alloc: Global, why: Refusal) -> Result<Value, AllocError>
-    ensures { IfOk result (λ v. view v ≡ step_reply_json (Denied why)) }
+/// Writes why nothing was submitted.
+fn put_denied(alloc: Global, out: &mut Writer, why: Refusal) -> Result<(), AllocError>
+    ensures { OnOk result (IsWritten (tokens_of (step_reply_json (Denied why))) out.old out.new) }
 {
-    let name = refusal(alloc, why)?;
-    json!(in alloc; ["refused", name])
+    out.begin_array()?;
+    out.string("refused")?;
+    put_refusal(alloc, out, why)?;
+    out.end_array()
 }
 
-/// Why nothing was made or read, and the length of the history that refused it.
-fn refused(alloc: Global, why: Refusal, length: u64) -> Result<Value, AllocError>
-    ensures { IfOk result (λ v. view v ≡ reply_json (NotMade why length)) }
+/// Writes why nothing was made or read, and the length of the history that refused it.
+fn put_refused(alloc: Global, out: &mut Writer, why: Refusal, length: u64) -> Result<(), AllocError>
+    ensures { OnOk result (IsWritten (tokens_of (reply_json (RefusedAt why length))) out.old out.new) }
 {
-    let name = refusal(alloc, why)?;
-    json!(in alloc; ["refused", name, length])
+    out.begin_array()?;
+    out.string("refused")?;
+    put_refusal(alloc, out, why)?;
+    out.u64(length)?;
+    out.end_array()
 }
 
-/// The number of a message that a vector is sent by.
-fn hello(
-    alloc: Global,
+/// Writes the number of a message that a vector is sent by, and the vector.
+fn put_hello(
+    out: &mut Writer,
     message: u64,
     table: &ReplicaTable,
     vector: &VersionVector,
-) -> Result<Value, AllocError>
-    ensures { IfOk result (λ v. view v ≡ step_reply_json (SentHello message (by_table table.now vector.now))) }
+) -> Result<(), AllocError>
+    ensures { OnOk result
+        (IsWritten (tokens_of (step_reply_json (SentHello message (by_table table.now vector.now)))) out.old out.new) }
 {
-    let vector = vector_value(alloc, table, vector)?;
-    json!(in alloc; ["message", message, vector])
+    out.begin_array()?;
+    out.string("message")?;
+    out.u64(message)?;
+    put_vector(out, table, vector)?;
+    out.end_array()
 }
 
-/// The first serial and how many operations were submitted.
-fn received(
+/// Writes the first serial and how many operations were submitted.
+fn put_received(
     alloc: Global,
+    out: &mut Writer,
     first: u64,
     submitted: u64,
     stopped: Option<(u64, Refusal)>,
-) -> Result<Value, AllocError>
-    ensures { IfOk result (λ v. view v ≡ received_json first submitted stopped) }
+) -> Result<(), AllocError>
+    ensures { OnOk result (IsWritten (tokens_of (received_json first submitted stopped)) out.old out.new) }
 {
     match stopped {
-        Some((line, why)) => received_until(alloc, first, submitted, line, why),
-        None => two(alloc, "received", first, submitted),
+        Some((line, why)) => put_received_until(alloc, out, first, submitted, line, why),
+        None => put_two(out, "received", first, submitted),
     }
 }
 
-/// The first serial and how many operations were submitted, and the line where that stopped, and why.
-fn received_until(
+/// Writes the first serial and how many operations were submitted, and the line where that stopped, and why.
+fn put_received_until(
     alloc: Global,
+    out: &mut Writer,
     first: u64,
     submitted: u64,
     line: u64,
     why: Refusal,
-) -> Result<Value, AllocError>
-    ensures { IfOk result (λ v. view v ≡ received_json first submitted (Some (line, why))) }
+) -> Result<(), AllocError>
+    ensures { OnOk result (IsWritten (tokens_of (received_json first submitted (Some (line, why)))) out.old out.new) }
 {
-    let name = refusal(alloc, why)?;
-    json!(in alloc; ["received", first, submitted, line, name])
+    out.begin_array()?;
+    out.string("received")?;
+    out.u64(first)?;
+    out.u64(submitted)?;
+    out.u64(line)?;
+    put_refusal(alloc, out, why)?;
+    out.end_array()
 }
 
-/// A refusal as it is printed, as `E22`.
-fn refusal(alloc: Global, why: Refusal) -> Result<String, AllocError>
-    ensures { IfOk result (λ s. string_bytes s ≡ refusal_name why) }
+/// Writes a refusal, as `E22`.
+fn put_refusal(alloc: Global, out: &mut Writer, why: Refusal) -> Result<(), AllocError>
+    ensures { OnOk result (IsWritten (tokens_of (string (refusal_name why))) out.old out.new) }
 {
     let number = why.number();
-    format!(in alloc; "E{number}")
+    let name = format!(in alloc; "E{number}")?;
+    out.string(name.as_str())
 }

@@ -10,10 +10,10 @@ ghost use Rattle.semantics.specs.LegalAnswer.{Asked, OfDocument};
 ghost use Rattle.semantics.specs.Making.{Command as TheCommand};
 ghost use Rattle.semantics.specs.World.{Push, Ask, step_by};
 ghost use Rattle.semantics.specs.Tables.{by_table};
-ghost use Rattle.world.specs.value.Meanings.{value_of};
-ghost use Rattle.world.specs.operation.Meanings.{command_of};
-ghost use Rattle.world.specs.document.Documents.{IsBeside, asked_of};
-ghost use Rattle.json_lines.specs.Forms.{IsRead, and_then, json_form};
+ghost use Rattle.world.specs.value.Values.{value_of};
+ghost use Rattle.world.specs.operation.Ops.{command_of};
+ghost use Rattle.world.specs.document.Documents.{HasWidthOf, asked_of};
+ghost use Rattle.world.specs.wire.Forms.{IsRead, and_then, json_form};
 ghost use Rattle.scripts.specs.Requests.{applied_of, asking_of, command_form, delete_of, missing_of, question_form, script_vector};
 ghost use Rattle.scripts.specs.Requests.{table_in, writing_of};
 ghost use Rattle.scripts.specs.Steps.{step_form};
@@ -21,10 +21,9 @@ ghost use Rattle.scripts.specs.Written.{ask_json, command_json, push_json, quest
 
 use crate::expressions::expression_in;
 use ids::{Refusal, ReplicaTable};
-use json_lines::phrase_in;
 use serde_json::Value;
 use std::alloc::Global;
-use world::{Command, Expr, Question, Val, VersionVector, vector_in};
+use world::{Command, Expr, Question, Val, VersionVector, phrase_in, vector_in};
 
 pub fn command_in(alloc: Global, value: &Value) -> Result<Command, Refusal>
     ensures { IsRead command_of result (command_form (view value.now)) }
@@ -73,7 +72,7 @@ pub fn question_in(
 ) -> Result<Question, Refusal>
     ensures read { IsRead (asked_of (table_in (option_map (λ t. t.now) table.entry))) result (question_form (option_map
         (λ t. t.now) table.entry) (view value.now)) }
-    ensures beside { IfOk result (IsBeside (table_in (option_map (λ t. t.now) table.entry))) }
+    ensures width { IfOk result (HasWidthOf (table_in (option_map (λ t. t.now) table.entry))) }
 {
     let (word, parts) = phrase_in(value)?;
     match word {
@@ -107,7 +106,7 @@ fn missing_in(
 ) -> Result<Question, Refusal>
     ensures read { IsRead (asked_of (table_in (option_map (λ t. t.now) table.entry))) result (missing_of (option_map
         (λ t. t.now) table.entry) (items_view parts.now)) }
-    ensures beside { IfOk result (IsBeside (table_in (option_map (λ t. t.now) table.entry))) }
+    ensures width { IfOk result (HasWidthOf (table_in (option_map (λ t. t.now) table.entry))) }
 {
     let Some(table) = table else {
         return Err(Refusal::BadLine);

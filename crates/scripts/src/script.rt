@@ -4,20 +4,19 @@ ghost use Rattle.std.specs.Prelude.{◌≡◌, List, map, Ok, IfErr, IfOk, Match
 ghost use Rattle.std.specs.List.{All, list_all};
 ghost use Rattle.ids.specs.Configurations.{Configuration, is_within_limits};
 ghost use Rattle.semantics.specs.World.{opened};
-ghost use Rattle.world.specs.Worlds.{IsAskedBeside, step_in, tables_of, world_of};
+ghost use Rattle.world.specs.Worlds.{StepHasWidthIn, step_in, tables_of, world_of};
 ghost use Rattle.scripts.specs.Engines.{if_within_limits};
 ghost use Rattle.scripts.specs.Errors.{IsErrorOf};
 ghost use Rattle.scripts.specs.Steps.{tables_for};
-ghost use Rattle.json_lines.specs.Lines.{on_line, unless_bad};
+ghost use Rattle.world.specs.wire.Lines.{on_line, unless_bad};
 ghost use Rattle.scripts.specs.Scripts.{script_form, steps_left};
 
 use crate::configuration::read_engines;
 use crate::error::ScriptError;
 use crate::steps::read_step;
 use ids::{Config, Refusal};
-use json_lines::Lines;
 use std::alloc::Global;
-use world::{World, WorldStep};
+use world::{Lines, World, WorldStep};
 
 /// A script that was read.
 #[derive(Debug, Drop)]
@@ -36,7 +35,7 @@ pub fn read_script(alloc: Global, bytes: &[u8]) -> Result<Script, ScriptError>
     ensures ok { IfOk result
         (λ s. (gs : List Configuration) × (script_form bytes.now ≡ Ok (gs, map (step_in (tables_of s.world.engines)) s.steps.items))
         × (world_of s.world ≡ opened gs)) }
-    ensures beside { IfOk result (λ s. All (IsAskedBeside (tables_of s.world.engines)) s.steps.items) }
+    ensures width { IfOk result (λ s. All (StepHasWidthIn (tables_of s.world.engines)) s.steps.items) }
     ensures err { IfErr result (IsErrorOf (script_form bytes.now)) }
 {
     let mut lines = Lines::new(bytes);
@@ -55,7 +54,7 @@ fn open(alloc: Global, engines: &[Config], lines: &mut Lines<'_>) -> Result<Scri
     ensures world { IfOk result (λ s. world_of s.world ≡ opened engines.now) }
     ensures steps { IfOk result
         (λ s. steps_left engines.now lines.old.taken lines.old.rest.now ≡ Ok (map (step_in (tables_of s.world.engines)) s.steps.items)) }
-    ensures beside { IfOk result (λ s. All (IsAskedBeside (tables_of s.world.engines)) s.steps.items) }
+    ensures width { IfOk result (λ s. All (StepHasWidthIn (tables_of s.world.engines)) s.steps.items) }
     ensures err { IfErr result (IsErrorOf (unless_bad
         (λ gs. steps_left gs lines.old.taken lines.old.rest.now) (on_line 1 (if_within_limits engines.now)))) }
 {
@@ -77,7 +76,7 @@ fn with_steps(
         (λ s. steps_left engines.now lines.old.taken lines.old.rest.now
         ≡ Ok (map (step_in (tables_of world.engines)) s.steps.items))
         (IsErrorOf (steps_left engines.now lines.old.taken lines.old.rest.now)) }
-    ensures beside { IfOk result (λ s. All (IsAskedBeside (tables_of world.engines)) s.steps.items) }
+    ensures width { IfOk result (λ s. All (StepHasWidthIn (tables_of world.engines)) s.steps.items) }
 {
     let steps = read_steps(alloc, lines, engines, &world)?;
     Ok(Script { world, steps })
@@ -95,7 +94,7 @@ fn read_steps(
         (λ v. steps_left engines.now lines.old.taken lines.old.rest.now
         ≡ Ok (map (step_in (tables_of world.now.engines)) v.items))
         (IsErrorOf (steps_left engines.now lines.old.taken lines.old.rest.now)) }
-    ensures beside { IfOk result (λ v. All (IsAskedBeside (tables_of world.now.engines)) v.items) }
+    ensures width { IfOk result (λ v. All (StepHasWidthIn (tables_of world.now.engines)) v.items) }
 {
     let mut steps = Vec::new(alloc);
     while let Some(line) = lines.take_line() {

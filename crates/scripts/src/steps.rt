@@ -3,19 +3,18 @@
 
 ghost use Rattle.std.specs.Prelude.{◌≡◌, ℕ, List, IfOk};
 ghost use Rattle.serde_json.specs.View.{view, items_view};
-ghost use Rattle.world.specs.Worlds.{IsAskedBeside, step_in as step_meant, tables_of};
-ghost use Rattle.json_lines.specs.Forms.{IsRead};
+ghost use Rattle.world.specs.Worlds.{StepHasWidthIn, step_in as step_meant, tables_of};
+ghost use Rattle.world.specs.wire.Forms.{IsRead};
 ghost use Rattle.scripts.specs.Steps.{ask_of, line_of, push_of, step_form, step_line, tables_for};
 
+use crate::exists::is_there;
 use crate::numbered_steps::numbered_step_in;
 use crate::numbers::index_in;
-use crate::presence::is_there;
 use crate::requests::{command_in, question_in};
 use ids::{Config, Refusal};
-use json_lines::{json_of, phrase_in, text_in};
 use serde_json::Value;
 use std::alloc::Global;
-use world::{Shared, World, WorldAct, WorldStep};
+use world::{Shared, World, WorldAct, WorldStep, json_of, phrase_in, text_in};
 
 /// The step on a line, whose engine, client and token exist. The world is that of the engines.
 pub fn read_step(
@@ -26,7 +25,7 @@ pub fn read_step(
 ) -> Result<WorldStep, Refusal>
     requires { tables_of world.now.engines ≡ tables_for engines.now }
     ensures read { IsRead (step_meant (tables_of world.now.engines)) result (step_line engines.now text.now) }
-    ensures beside { IfOk result (IsAskedBeside (tables_of world.now.engines)) }
+    ensures width { IfOk result (StepHasWidthIn (tables_of world.now.engines)) }
 {
     let value = json_of(alloc, text)?;
     let step = step_in(alloc, &value, world)?;
@@ -38,7 +37,7 @@ pub fn read_step(
 
 fn step_in(alloc: Global, value: &Value, world: &World) -> Result<WorldStep, Refusal>
     ensures read { IsRead (step_meant (tables_of world.now.engines)) result (step_form (tables_of world.now.engines) (view value.now)) }
-    ensures beside { IfOk result (IsAskedBeside (tables_of world.now.engines)) }
+    ensures width { IfOk result (StepHasWidthIn (tables_of world.now.engines)) }
 {
     let (word, parts) = phrase_in(value)?;
     match word {
@@ -52,7 +51,7 @@ fn step_in(alloc: Global, value: &Value, world: &World) -> Result<WorldStep, Ref
 /// An engine, a client of it, and a command.
 fn push_in(alloc: Global, parts: &[Value]) -> Result<WorldStep, Refusal>
     ensures read { (tables : List (List ℕ)) → IsRead (step_meant tables) result (push_of (items_view parts.now)) }
-    ensures beside { (tables : List (List ℕ)) → IfOk result (IsAskedBeside tables) }
+    ensures width { (tables : List (List ℕ)) → IfOk result (StepHasWidthIn tables) }
 {
     let [engine, client, command] = parts else {
         return Err(Refusal::BadLine);
@@ -69,7 +68,7 @@ fn push_in(alloc: Global, parts: &[Value]) -> Result<WorldStep, Refusal>
 /// An engine, a token of it, and a question.
 fn ask_in(alloc: Global, parts: &[Value], world: &World) -> Result<WorldStep, Refusal>
     ensures read { IsRead (step_meant (tables_of world.now.engines)) result (ask_of (tables_of world.now.engines) (items_view parts.now)) }
-    ensures beside { IfOk result (IsAskedBeside (tables_of world.now.engines)) }
+    ensures width { IfOk result (StepHasWidthIn (tables_of world.now.engines)) }
 {
     let [engine, token, question] = parts else {
         return Err(Refusal::BadLine);
@@ -86,7 +85,7 @@ fn ask_in(alloc: Global, parts: &[Value], world: &World) -> Result<WorldStep, Re
 /// An engine, a client of it, and a text of lines.
 fn line_in(alloc: Global, parts: &[Value]) -> Result<WorldStep, Refusal>
     ensures read { (tables : List (List ℕ)) → IsRead (step_meant tables) result (line_of tables (items_view parts.now)) }
-    ensures beside { (tables : List (List ℕ)) → IfOk result (IsAskedBeside tables) }
+    ensures width { (tables : List (List ℕ)) → IfOk result (StepHasWidthIn tables) }
 {
     let [engine, client, text] = parts else {
         return Err(Refusal::BadLine);

@@ -7,11 +7,11 @@ use Rattle.ids.specs.declared.refusal.Refusal.{Refusal}
 use Rattle.semantics.specs.Stamped.{Stamped}
 use Rattle.semantics.specs.LegalAnswer.{OfCommand, OfPeer}
 use Rattle.semantics.specs.Engine.{Engine, Client, Cell, Given, Message, Hello, Bundle}
-use Rattle.semantics.specs.WriteSteps.{push, take_item, give, take_for, give_for, handle_all, whole_step}
+use Rattle.semantics.specs.WriteSteps.{push, take_submission, give, take_for, give_for, handle_all, whole_step}
 use Rattle.semantics.specs.ReadSteps.{cell_at, cell_under, poll_cell, poll, see, learn}
-use Rattle.semantics.specs.PeerSteps.{names_members, answer_hello, refusal_in, unless_refused, submit_all, receive_lines, before_stranger}
-use Rattle.semantics.specs.PeerSteps.{stranger_fault, receive_message}
-use Rattle.semantics.specs.World.{WorldAct, opened_engine, World, opened, WorldStep, Push, Take, Publish, Give, Whole, Poll, Ask, Learn}
+use Rattle.semantics.specs.PeerSteps.{names_members, answer_hello, refusal_in, unless_refused, submit_all, receive_lines, before_nonmember}
+use Rattle.semantics.specs.PeerSteps.{nonmember_fault, receive_message}
+use Rattle.semantics.specs.World.{WorldAct, opened_engine, World, opened, WorldStep, Push, Take, Publish, Give, WholeStep, Poll, Ask, Learn}
 use Rattle.semantics.specs.World.{SayHello, AnswerHello, Deliver, Lines, CountDropped, engine_step, world_step, world_after}
 use Rattle.semantics.specs.WorldHistory.{IsEngineAfter, cells_of, HasAllSubmitted}
 use Rattle.semantics.proofs.SetElements.{get-set_same, get-set_other, get-set_cases}
@@ -83,7 +83,7 @@ complete_answered E t k (Some (Hello v)) h = at_test (names_members E v) refl
 
 complete_takes : (n : ℕ) (E : Engine) → IsComplete E → IsComplete (take_for n E)
 complete_takes zero E h = h
-complete_takes (suc n) E h = complete_takes n (take_item E).engine (complete_taken E h)
+complete_takes (suc n) E h = complete_takes n (take_submission E).engine (complete_taken E h)
 
 complete_gives : (n : ℕ) (E : Engine) → IsComplete E → IsComplete (give_for n E)
 complete_gives zero E h = h
@@ -117,7 +117,7 @@ complete_message : (E : Engine) (c : ℕ) (m : Option Message) → IsComplete E 
 complete_message E c None h = h
 complete_message E c (Some (Hello v)) h = h
 complete_message E c (Some (Bundle ss)) h =
-    complete_lines E c (before_stranger E.replica.members ss) (stranger_fault E.replica.members ss) h
+    complete_lines E c (before_nonmember E.replica.members ss) (nonmember_fault E.replica.members ss) h
 
 -- ---- each step
 
@@ -126,7 +126,7 @@ complete_step ms (Push c command) E h = complete_pushed E c (OfCommand command) 
 complete_step ms Take E h = complete_taken E h
 complete_step ms Publish E h = complete_published E h
 complete_step ms Give E h = complete_given E h
-complete_step ms Whole E h = complete_whole E h
+complete_step ms WholeStep E h = complete_whole E h
 complete_step ms (Poll c serial) E h = complete_polled E c serial h
 complete_step ms (Ask t q) E h = complete_seen E t E.published h
 complete_step ms (Learn t c serial) E h = complete_learnt E t c serial h

@@ -15,7 +15,7 @@ use Rattle.semantics.specs.Replica.{Replica, operations, IsRunning}
 use Rattle.semantics.specs.Drain.{counted, receive}
 use Rattle.semantics.specs.OneWorld.{AreWithin}
 use Rattle.semantics.specs.Exchange.{IsSettled}
-use Rattle.semantics.specs.WriteSteps.{after_made, after_request, after_item}
+use Rattle.semantics.specs.WriteSteps.{after_made, after_request, after_submission}
 use Rattle.semantics.specs.WorldHistory.{BeginsWith}
 use Rattle.semantics.proofs.AbsentIds.{has_id-among}
 use Rattle.semantics.proofs.LegalFacts.{among_from}
@@ -29,7 +29,7 @@ use Rattle.semantics.proofs.ComingHistory.{HasThose}
 pub ids_stay : (G F : List Entry) → BeginsWith G F → (i : OpId) → has_id (applied F) i ≡ true → has_id (applied G) i ≡ true
 ids_stay G F b i t = (let x = among_from (applied F) i t in has_id-among (applied G) x.0 i (applied_begins G F b x.0 x.1) x.2)
 
-pub members_stay : (r : Replica) (x : Submitted) → IsRunning r → (after_item r x).members ≡ r.members
+pub members_stay : (r : Replica) (x : Submitted) → IsRunning r → (after_submission r x).members ≡ r.members
 members_stay r x h = (let other = at_request x.request in
     elim (nat_lt (length r.entries) x.floor) as
     (λ b. (cond b r (after_request r x x.request)).members ≡ r.members) [ true ↦ refl | false ↦ other ])
@@ -54,8 +54,9 @@ pub item_arrived : (K : List Operation) → IsLegal K → (p : ℕ) (r : Replica
     → IsSettled K p r → x.floor ≤ length r.entries → x.request ≡ OfPeer s
     → IsLegalStamped (s ∷ F) → AreWithin (operations_of (s ∷ F)) K → is_of_members r.members s ≡ true → HasThose r F
     → is_full r.entries ≡ false
-    → HasCome (after_item r x) s
+    → HasCome (after_submission r x) s
 item_arrived K lk p r x s F h floor is l w known there few =
     let test : nat_lt (length r.entries) x.floor ≡ false = le-ltb (length r.entries) x.floor floor in
-    let same : after_item r x ≡ counted (receive r s) = ap (λ b. cond b r (after_request r x x.request)) test ∙ ap (after_request r x) is in
+    let same : after_submission r x ≡ counted (receive r s) = ap (λ b. cond b r (after_request r x x.request)) test
+    ∙ ap (after_request r x) is in
     subst (λ (t : Replica). HasCome t s) (sym same) (arrived K lk p r s F h l w known there few)

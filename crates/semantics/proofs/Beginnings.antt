@@ -5,7 +5,7 @@ use Rattle.std.proofs.lemmas.Bool.{ltb-true, ltb-false}
 use Rattle.std.proofs.lemmas.List.{length-append}
 use Rattle.semantics.specs.Making.{Command}
 use Rattle.semantics.specs.Entries.{Entry, Own, Peer, entry_at, first_entries, IsAbove, IsEntryHistory}
-use Rattle.semantics.specs.LegalAnswer.{Request, OfCommand, OfPeer, Submitted, Reply, Made, NotMade, KeptAt, KnownAt, IsLegalAnswer}
+use Rattle.semantics.specs.LegalAnswer.{Request, OfCommand, OfPeer, Submitted, Reply, Made, RefusedAt, KeptAt, KnownAt, IsLegalAnswer}
 use Rattle.semantics.specs.LegalAnswer.{IsLegalPeerAnswer, IsLegalReply}
 use Rattle.semantics.specs.WorldHistory.{BeginsWith, IsNotBelow}
 use Rattle.semantics.proofs.Replies.{first_stay, entry_stays, before, made_stays, refused_stays}
@@ -72,13 +72,13 @@ IsGoodReply p G x r = IsLegalReply p G x r × IsNotBelow x.floor r
 answer_stays : (p : ℕ) (G : List Entry) (e : Entry) (x : Submitted) (c : Command) (r : Reply) → IsLegalAnswer p G x c r
     → IsLegalAnswer p (e ∷ G) x c r
 answer_stays p G e x c (Made a n) h = made_stays p G e x c a n h
-answer_stays p G e x c (NotMade why m) h = refused_stays p G e x c why m h
+answer_stays p G e x c (RefusedAt why m) h = refused_stays p G e x c why m h
 answer_stays p G e x c (KeptAt m) h = h
 answer_stays p G e x c (KnownAt m) h = h
 
 receipt_stays : (G : List Entry) (e : Entry) (r : Reply) → IsLegalPeerAnswer G r → IsLegalPeerAnswer (e ∷ G) r
 receipt_stays G e (Made a n) h = h
-receipt_stays G e (NotMade why m) h = (let l : m ≤ length G = h in omega arith)
+receipt_stays G e (RefusedAt why m) h = (let l : m ≤ length G = h in omega arith)
 receipt_stays G e (KeptAt m) h = (let l : m ≤ length G = h in omega arith)
 receipt_stays G e (KnownAt m) h = (let l : m ≤ length G = h in omega arith)
 

@@ -11,7 +11,7 @@ use Rattle.semantics.specs.LegalHistory.{IsLegal, IsAmong, has_id}
 use Rattle.semantics.specs.Stamped.{Stamped, operations_of, IsLegalStamped}
 use Rattle.semantics.specs.Faults.{is_of_members}
 use Rattle.semantics.specs.Making.{is_full}
-use Rattle.semantics.specs.LegalAnswer.{Request, Submitted, NotMade}
+use Rattle.semantics.specs.LegalAnswer.{Request, Submitted, RefusedAt}
 use Rattle.semantics.specs.Replica.{Replica, operations}
 use Rattle.semantics.specs.Delivery.{is_waiting}
 use Rattle.semantics.specs.OneWorld.{AreWithin}
@@ -60,7 +60,7 @@ refused_still c start end E G g s x = record {
   submitted = g.submitted c x.serial x.item x.submitted;
   delivered = x.delivered;
   length = x.length;
-  reply = g.replied c x.serial (NotMade HistoryFull x.length) x.reply;
+  reply = g.replied c x.serial (RefusedAt HistoryFull x.length) x.reply;
 }
 
 -- what came stays as it is where a full history keeps what waits
@@ -221,7 +221,7 @@ module _ (c start end : ℕ) (ms : List ℕ) (base : List Operation) (F : List S
           let there = sound.unanswered x (queued_waits E.due E.handled E.queue x (subst (IsAmong x) (sym l.oldest) (inl refl))) in
           subst (λ n. WasSubmitted G n x.serial x) client (l.later.grown.submitted x.client x.serial x (open_cell x, there, refl))
 
-      refused : (n : ℕ) → reply_to E.replica x ≡ NotMade HistoryFull n → WasRefusedFull G c start end s
+      refused : (n : ℕ) → reply_to E.replica x ≡ RefusedAt HistoryFull n → WasRefusedFull G c start end s
       refused n reply = record {
         serial = x.serial;
         from = serials.0;

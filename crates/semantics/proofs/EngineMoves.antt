@@ -5,7 +5,8 @@ use Rattle.semantics.specs.LegalHistory.{IsAmong}
 use Rattle.semantics.specs.DocumentAnswer.{is_any}
 use Rattle.semantics.specs.LegalAnswer.{Request, Submitted}
 use Rattle.semantics.specs.Engine.{Engine, Client, Cell, Given, Handled}
-use Rattle.semantics.specs.WriteSteps.{next_item, submit, push, after_item, reply_to, take_oldest, take_item, publish, give_oldest, give}
+use Rattle.semantics.specs.WriteSteps.{next_submission, submit, push, after_submission, reply_to, take_oldest, take_submission, publish}
+use Rattle.semantics.specs.WriteSteps.{give_oldest, give}
 use Rattle.semantics.specs.ReadSteps.{cell_at, cell_under, poll_cell, poll, see, learn}
 use Rattle.semantics.proofs.SoundEngines.{IsSound, IsLater}
 use Rattle.semantics.proofs.ItemsInTurn.{among_right}
@@ -27,7 +28,7 @@ pub record HasSubmitted (E F : Engine) (x : Submitted) : Type 0 where
 pub record HasTaken (E F : Engine) (x : Submitted) : Type 0 where
   pub later : IsLater E F
   pub oldest : E.queue ≡ x ∷ F.queue
-  pub replica : F.replica ≡ after_item E.replica x
+  pub replica : F.replica ≡ after_submission E.replica x
   pub replied : IsAmong (record { submitted = x; reply = reply_to E.replica x }) F.handled
 
 -- A claim on an engine that is kept as it goes on, where what is submitted is as P says.
@@ -92,22 +93,23 @@ module _ (P : Request → Type 0) (Claim : Engine → Type 0) (kept : IsKeptOn P
   pub kept_by_push : (E : Engine) (c : ℕ) (request : Request) → IsSound E → P request → Claim E → Claim (push E c request).engine
   kept_by_push E c request s p h = at_client (slice_get E.clients c) refl
     where
-      at_room : (k : Client) → slice_get E.clients c ≡ Some k → IsLater E (submit E c k (next_item c k request)).engine → (a b : Bool)
+      at_room : (k : Client) → slice_get E.clients c ≡ Some k → IsLater E (submit E c k (next_submission c k request)).engine → (a b : Bool)
           → nat_le E.serials (length k.cells) ≡ a → nat_le E.capacity (length E.queue) ≡ b
-          → Claim (submit E c k (next_item c k request)).engine
+          → Claim (submit E c k (next_submission c k request)).engine
       at_room k is l true b e f = rw e h
       at_room k is l false true e f = rw (e, f) h
       at_room k is l false false e f =
           let after = rw (e, f) at l in
           rw (e, f)
-          (kept.submitted E _ (next_item c k request) s (record { later = after; replica = refl; queue = refl; next = λ j q. cc }) p h)
+          (kept.submitted E _ (next_submission c k request) s
+          (record { later = after; replica = refl; queue = refl; next = λ j q. cc }) p h)
 
       at_client : (o : Option Client) → slice_get E.clients c ≡ o → Claim (push E c request).engine
       at_client None e = rw e h
       at_client (Some k) e = rw e
           (at_room k e (rw e at (pushed E c request s)) (nat_le E.serials (length k.cells)) (nat_le E.capacity (length E.queue)) refl refl)
 
-  pub kept_by_take : (E : Engine) → IsSound E → Claim E → Claim (take_item E).engine
+  pub kept_by_take : (E : Engine) → IsSound E → Claim E → Claim (take_submission E).engine
   kept_by_take E s h = at_queue E.queue refl
     where
       at_test : (x : Submitted) (queue : List Submitted) → E.queue ≡ x ∷ queue → (b : Bool)

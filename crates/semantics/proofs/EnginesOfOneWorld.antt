@@ -17,7 +17,7 @@ use Rattle.semantics.proofs.EntryHistories.{entries_legal}
 use Rattle.semantics.proofs.SoundWorlds.{IsSoundWorld, sound_opened, sound_step}
 use Rattle.semantics.proofs.GrownWorlds.{of_grown}
 use Rattle.semantics.proofs.KeptSteps.{kept_by_step}
-use Rattle.semantics.proofs.TrackedEngines.{IsEngineOf, IsTracked, IsRequestOf, HasGoneOn, engine_beside, kept_going, starts}
+use Rattle.semantics.proofs.TrackedEngines.{IsEngineOf, IsTracked, IsRequestOf, HasGoneOn, engine_elsewhere, kept_going, starts}
 use Rattle.semantics.proofs.SentOperations.{sent_there, get-append_either}
 use Rattle.semantics.proofs.OpenedWorlds.{IsWorldOf, opened_world}
 
@@ -81,7 +81,7 @@ module _ (Claim : List Operation → Engine → Type 0) (kept : IsTracked Claim)
     engine_there : (d : ℕ) (D : Engine) → slice_get engines d ≡ Some D → IsEngineOf gone_on.world D
     engine_there d D e = elim (placed d D e) [
       | inl i ↦ subst (IsEngineOf gone_on.world) i.1 gone_on.engine
-      | inr n ↦ engine_beside E.replica.own K gone_on.world D (λ same. n.0 (sym (h.numbers w.engine d E D there n.1 same))) gone_on.grown
+      | inr n ↦ engine_elsewhere E.replica.own K gone_on.world D (λ same. n.0 (sym (h.numbers w.engine d E D there n.1 same))) gone_on.grown
           (h.engines d D n.1)
     ]
 

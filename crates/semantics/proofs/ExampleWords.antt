@@ -15,7 +15,7 @@ use Rattle.semantics.specs.Entries.{stamped_in, stamped_entries, missing}
 use Rattle.semantics.specs.LegalAnswer.{OfCommand, Submitted}
 use Rattle.semantics.specs.Replica.{Replica, operations}
 use Rattle.semantics.specs.Drain.{receive_all}
-use Rattle.semantics.specs.WriteSteps.{after_item}
+use Rattle.semantics.specs.WriteSteps.{after_submission}
 use Rattle.semantics.specs.Ids.{id_at}
 
 -- the value that is a text, and that is a whole number
@@ -54,7 +54,7 @@ item r c = record { client = 0; serial = suc (length r.entries); request = OfCom
 -- the replica after these commands, the first of the list first
 abbrev pub after_commands : Replica → List Command → Replica
 after_commands r [] = r
-after_commands r (c ∷ cs) = after_commands (after_item r (item r c)) cs
+after_commands r (c ∷ cs) = after_commands (after_submission r (item r c)) cs
 
 -- r after it received all that it lacks of what the other has
 abbrev pub after_bundle : Replica → Replica → Replica

@@ -10,13 +10,13 @@ use Rattle.semantics.specs.Stamped.{Stamped, operations_of, operation_after, IsL
 use Rattle.semantics.specs.Faults.{is_of_members, alone_fault, fault_of}
 use Rattle.semantics.specs.Making.{Command, make, is_full}
 use Rattle.semantics.specs.Entries.{stamped_entries}
-use Rattle.semantics.specs.LegalAnswer.{Request, OfCommand, OfPeer, Submitted, NotMade}
+use Rattle.semantics.specs.LegalAnswer.{Request, OfCommand, OfPeer, Submitted, RefusedAt}
 use Rattle.semantics.specs.Replica.{Replica, operations}
 use Rattle.semantics.specs.Delivery.{Delivered, Known, NotKept, is_waiting, room_answer, answer_after, answer_to, kept_by, deliver}
 use Rattle.semantics.specs.Drain.{first_ready, taken_with, taken, at_ready, drain_for, drain, receive}
 use Rattle.semantics.specs.OneWorld.{AreWithin}
 use Rattle.semantics.specs.Exchange.{IsSettled}
-use Rattle.semantics.specs.WriteSteps.{after_made, after_request, reply_requested, reply_delivered, after_item, reply_to}
+use Rattle.semantics.specs.WriteSteps.{after_made, after_request, reply_requested, reply_delivered, after_submission, reply_to}
 use Rattle.semantics.proofs.NamedOperations.{legal, means_first}
 use Rattle.semantics.proofs.LawfulAlone.{no_fault_alone, length_operations, length_stamped}
 use Rattle.semantics.proofs.ReceivedItems.{same_entries}
@@ -66,7 +66,7 @@ made_short r x c h (Ok o) e = at_full (is_full (operations r)) refl
         let room : length (operations r) ≤ 1048575 = ltb-false 1048575 (length (operations r)) f in
         omega (arith, room, length_applied r)
 
-pub item_short : (r : Replica) (x : Submitted) → IsShort r → IsShort (after_item r x)
+pub item_short : (r : Replica) (x : Submitted) → IsShort r → IsShort (after_submission r x)
 item_short r x h =
     let other = at_request x.request in
     elim (nat_lt (length r.entries) x.floor) as (λ b. IsShort (cond b r (after_request r x x.request))) [ true ↦ h | false ↦ other ]
@@ -100,7 +100,7 @@ received_full : (r : Replica) (s : Stamped) → is_full r.entries ≡ true → r
 received_full r s e = ap drain (delivered_full r s e) ∙ drained_full (length r.waiting) r e
 
 -- what waits stays
-pub waits_full : (r : Replica) (x : Submitted) → is_full r.entries ≡ true → (after_item r x).waiting ≡ r.waiting
+pub waits_full : (r : Replica) (x : Submitted) → is_full r.entries ≡ true → (after_submission r x).waiting ≡ r.waiting
 waits_full r x e =
     let other = at_request x.request in
     elim (nat_lt (length r.entries) x.floor) as (λ b. (cond b r (after_request r x x.request)).waiting ≡ r.waiting) [
@@ -128,7 +128,7 @@ refused_by_tests false false false w a b e = absurd (true≢false (sym e))
 abbrev IsMetFull : Replica → Submitted → Stamped → Type 0
 IsMetFull r x s =
     (has_id (operations r) s.id ≡ true) ⊎ (is_waiting r.waiting s.id ≡ true)
-    ⊎ (reply_to r x ≡ NotMade HistoryFull (length (receive r s).entries))
+    ⊎ (reply_to r x ≡ RefusedAt HistoryFull (length (receive r s).entries))
 
 -- An operation of the world that comes to a full history is applied, or waits, or is refused for that.
 pub item_full : (K : List Operation) → IsLegal K → (p : ℕ) (r : Replica) (x : Submitted) (s : Stamped) (F : List Stamped)
@@ -148,7 +148,7 @@ item_full K lk p r x s F h floor is l few w known full = at_applied (has_id (ope
         true≢false (sym (h.world.made o (w o (means_first F s l).among) (eqb-true s.id.replica r.own t ∙ h.world.own)) ∙ new))
 
     reply : has_id (operations r) s.id ≡ false → is_waiting r.waiting s.id ≡ false
-        → reply_to r x ≡ NotMade HistoryFull (length (receive r s).entries)
+        → reply_to r x ≡ RefusedAt HistoryFull (length (receive r s).entries)
     reply new absent =
         let test : nat_lt (length r.entries) x.floor ≡ false = le-ltb (length r.entries) x.floor floor in
         let answer : answer_to r s ≡ NotKept HistoryFull =

@@ -32,8 +32,8 @@ pub of_grown : (K L : List Operation) (s : Stamped) → AreWithin K L → IsOfWo
 of_grown K L s w h = record { history = h.history; legal = h.legal; within = λ x m. w x (h.within x m); there = h.there }
 
 -- a settled replica stays settled as another one makes something
-pub settled_beside : (p q : ℕ) (K L : List Operation) (r : Replica) → (p ≡ q → ⊥) → IsGrownBy p K L → IsSettled K q r → IsSettled L q r
-settled_beside p q K L r other g h = record {
+pub settled_elsewhere : (p q : ℕ) (K L : List Operation) (r : Replica) → (p ≡ q → ⊥) → IsGrownBy p K L → IsSettled K q r → IsSettled L q r
+settled_elsewhere p q K L r other g h = record {
   world = record {
     own = h.world.own;
     running = h.world.running;

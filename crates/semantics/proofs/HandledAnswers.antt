@@ -8,12 +8,13 @@ use Rattle.semantics.specs.Operations.{Operation}
 use Rattle.semantics.specs.Stamped.{Stamped}
 use Rattle.semantics.specs.Making.{Command, make}
 use Rattle.semantics.specs.Entries.{Entry, Own, Peer, first_entries, IsAbove}
-use Rattle.semantics.specs.LegalAnswer.{Request, OfCommand, OfPeer, Submitted, Reply, Made, NotMade, KeptAt, KnownAt, LacksSerial}
+use Rattle.semantics.specs.LegalAnswer.{Request, OfCommand, OfPeer, Submitted, Reply, Made, RefusedAt, KeptAt, KnownAt, LacksSerial}
 use Rattle.semantics.specs.LegalAnswer.{IsLegalAnswer}
 use Rattle.semantics.specs.Replica.{Replica, operations, IsRunning}
 use Rattle.semantics.specs.Delivery.{Delivered, Kept, Known, NotKept, answer_after, answer_to, deliver}
 use Rattle.semantics.specs.Drain.{counted, drain_for, receive, with_peers}
-use Rattle.semantics.specs.WriteSteps.{stamp, after_made, reply_made, after_request, reply_requested, after_item, reply_to, reply_delivered}
+use Rattle.semantics.specs.WriteSteps.{stamp, after_made, reply_made, after_request, reply_requested, after_submission, reply_to}
+use Rattle.semantics.specs.WriteSteps.{reply_delivered}
 use Rattle.semantics.specs.WorldHistory.{BeginsWith}
 use Rattle.semantics.proofs.AppliedVectors.{at-vector_of}
 use Rattle.semantics.proofs.Beginnings.{first_of_longer, no_shorter}
@@ -114,18 +115,18 @@ refused_lacking r x c above = subst (LacksSerial x.client x.serial) (sym (all_fi
     (above_lacks x.client x.serial r.entries above)
 
 no_memory : (r : Replica) (x : Submitted) → IsAbove x.client x.serial r.entries → x.floor ≤ length r.entries
-    → IsAnswer r.own r.members r.entries x (NotMade NoMemory (length r.entries))
+    → IsAnswer r.own r.members r.entries x (RefusedAt NoMemory (length r.entries))
 no_memory r x above floor = of_request x.request refl
   where
-    of_request : (q : Request) → x.request ≡ q → IsAnswer r.own r.members r.entries x (NotMade NoMemory (length r.entries))
+    of_request : (q : Request) → x.request ≡ q → IsAnswer r.own r.members r.entries x (RefusedAt NoMemory (length r.entries))
     of_request (OfCommand c) is = rw is ((omega arith, inr (inl refl), refused_lacking r x c above), inl floor)
     of_request (OfPeer s) is = rw is (inr (inl (refl, floor, omega arith)))
 
 bad_floor : (r : Replica) (x : Submitted) → IsAbove x.client x.serial r.entries → length r.entries < x.floor
-    → IsAnswer r.own r.members r.entries x (NotMade BadFloor (length r.entries))
+    → IsAnswer r.own r.members r.entries x (RefusedAt BadFloor (length r.entries))
 bad_floor r x above below = of_request x.request refl
   where
-    of_request : (q : Request) → x.request ≡ q → IsAnswer r.own r.members r.entries x (NotMade BadFloor (length r.entries))
+    of_request : (q : Request) → x.request ≡ q → IsAnswer r.own r.members r.entries x (RefusedAt BadFloor (length r.entries))
     of_request (OfCommand c) is = rw is ((omega arith, inr (inr (refl, below)), refused_lacking r x c above), inr refl)
     of_request (OfPeer s) is = rw is (inr (inr (refl, below, omega arith)))
 
@@ -154,7 +155,7 @@ peer_part n r q x s h floor is e =
 made : (r : Replica) (x : Submitted) (c : Command) → x.request ≡ OfCommand c → IsRunning r → IsAbove x.client x.serial r.entries
     → x.floor ≤ length r.entries
     → (m : Result Operation Refusal) → make (operations r) r.own c ≡ m → IsAfter r x (reply_made r m) (after_made r x c m)
-made r x c is h above floor (Err why) e = unchanged r x (NotMade why (length r.entries)) h
+made r x c is h above floor (Err why) e = unchanged r x (RefusedAt why (length r.entries)) h
     (rw is (own_refused r.own r.entries x c why above e, inl floor))
 made r x c is h above floor (Ok o) e = record {
   own = refl;
@@ -173,12 +174,13 @@ requested r x h above floor (OfCommand c) is = made r x c is h above floor (make
 requested r x h above floor (OfPeer s) is = peer_part (length (deliver r s).waiting) r (counted (receive r s)) x s h floor is refl
 
 -- as the rules have it
-whole : (r : Replica) (x : Submitted) → IsRunning r → IsAbove x.client x.serial r.entries → IsAfter r x (reply_to r x) (after_item r x)
+whole : (r : Replica) (x : Submitted) → IsRunning r → IsAbove x.client x.serial r.entries
+    → IsAfter r x (reply_to r x) (after_submission r x)
 whole r x h above = by_test (nat_lt (length r.entries) x.floor) refl
   where
-    by_test : (b : Bool) → nat_lt (length r.entries) x.floor ≡ b → IsAfter r x (reply_to r x) (after_item r x)
+    by_test : (b : Bool) → nat_lt (length r.entries) x.floor ≡ b → IsAfter r x (reply_to r x) (after_submission r x)
     by_test true t = rw t
-        (unchanged r x (NotMade BadFloor (length r.entries)) h (bad_floor r x above (ltb-true (length r.entries) x.floor t)))
+        (unchanged r x (RefusedAt BadFloor (length r.entries)) h (bad_floor r x above (ltb-true (length r.entries) x.floor t)))
     by_test false t = rw t (requested r x h above (ltb-false (length r.entries) x.floor t) x.request refl)
 
 -- the same where the reply and the replica have other names
@@ -188,11 +190,11 @@ named r t u x y z reply replica a = subst (λ (q : Replica). IsAfter r x y q) (s
 
 pub handled : (w v : Handler) (x : Submitted) (y : Reply) → IsRunning w.replica → IsAbove x.client x.serial w.replica.entries
     → Handles w x y v → IsAfter w.replica x y v.replica
-handled w v x y h above (inl k) = named w.replica v.replica (after_item w.replica x) x y (reply_to w.replica x) k.reply k.replica
+handled w v x y h above (inl k) = named w.replica v.replica (after_submission w.replica x) x y (reply_to w.replica x) k.reply k.replica
     (whole w.replica x h above)
 handled w v x y h above (inr (inl k)) =
-    named w.replica v.replica w.replica x y (NotMade NoMemory (length w.replica.entries)) k.reply (ap (λ (u : Handler). u.replica) k.same)
-    (unchanged w.replica x (NotMade NoMemory (length w.replica.entries)) h (no_memory w.replica x above k.floor))
+    named w.replica v.replica w.replica x y (RefusedAt NoMemory (length w.replica.entries)) k.reply (ap (λ (u : Handler). u.replica) k.same)
+    (unchanged w.replica x (RefusedAt NoMemory (length w.replica.entries)) h (no_memory w.replica x above k.floor))
 handled w v x y h above (inr (inr k)) =
     named w.replica v.replica v.replica x y (reply_delivered (length v.replica.entries) (answer_to w.replica k.stamped)) k.reply refl
     (peer_part k.replica.0 w.replica v.replica x k.stamped h k.floor k.request k.replica.1)
@@ -206,7 +208,7 @@ command_stays p (e ∷ more) F x c y a = one y (command_stays p more F x c y a)
   where
     one : (z : Reply) → IsLegalAnswer p (more ++ F) x c z → IsLegalAnswer p (e ∷ more ++ F) x c z
     one (Made a n) h = made_stays p (more ++ F) e x c a n h
-    one (NotMade why m) h = refused_stays p (more ++ F) e x c why m h
+    one (RefusedAt why m) h = refused_stays p (more ++ F) e x c why m h
     one (KeptAt m) h = h
     one (KnownAt m) h = h
 
@@ -226,10 +228,10 @@ receipt_stays : (p : ℕ) (ps : List ℕ) (more F : List Entry) (x : Submitted) 
 receipt_stays p ps more F x s (Made a n) h = h
 receipt_stays p ps more F x s (KeptAt m) h = was_longer p ps more F s x.floor m Kept h
 receipt_stays p ps more F x s (KnownAt m) h = was_longer p ps more F s x.floor m Known h
-receipt_stays p ps more F x s (NotMade why m) (inl h) = inl (was_longer p ps more F s x.floor m (NotKept why) h)
-receipt_stays p ps more F x s (NotMade why m) (inr (inl h)) = inr
+receipt_stays p ps more F x s (RefusedAt why m) (inl h) = inl (was_longer p ps more F s x.floor m (NotKept why) h)
+receipt_stays p ps more F x s (RefusedAt why m) (inr (inl h)) = inr
     (inl (h.0, h.1, (let l : length F ≤ length (more ++ F) = no_shorter (more ++ F) F (more, refl) in omega (arith, h.2))))
-receipt_stays p ps more F x s (NotMade why m) (inr (inr h)) = inr
+receipt_stays p ps more F x s (RefusedAt why m) (inr (inr h)) = inr
     (inr (h.0, h.1, (let l : length F ≤ length (more ++ F) = no_shorter (more ++ F) F (more, refl) in omega (arith, h.2))))
 
 pub answer_stays : (p : ℕ) (ps : List ℕ) (G F : List Entry) (x : Submitted) (y : Reply) → BeginsWith G F → IsAnswer p ps F x y

@@ -10,7 +10,7 @@ use Rattle.semantics.specs.Making.{Command, make}
 use Rattle.semantics.specs.Entries.{Own, stamped_entries, IsAbove, IsEntryHistory}
 use Rattle.semantics.specs.LegalAnswer.{Request, OfCommand, OfPeer, Submitted, Reply}
 use Rattle.semantics.specs.Replica.{Replica, operations, IsRunning}
-use Rattle.semantics.specs.WriteSteps.{stamp, after_made, reply_made, after_request, reply_requested, after_item, reply_to}
+use Rattle.semantics.specs.WriteSteps.{stamp, after_made, reply_made, after_request, reply_requested, after_submission, reply_to}
 use Rattle.semantics.specs.WorldHistory.{BeginsWith}
 use Rattle.semantics.proofs.NamedOperations.{legal}
 use Rattle.semantics.proofs.AppliedVectors.{at-vector_of}
@@ -73,7 +73,7 @@ requested r x h above floor (OfPeer s) is =
 
 -- An item whose floor isn't above the history is handled, and never refused for its floor.
 pub handled : (r : Replica) (x : Submitted) → IsRunning r → IsAbove x.client x.serial r.entries → x.floor ≤ length r.entries
-    → IsHandled r x (after_item r x) (reply_to r x)
+    → IsHandled r x (after_submission r x) (reply_to r x)
 handled r x h above floor =
     let test : nat_lt (length r.entries) x.floor ≡ false = le-ltb (length r.entries) x.floor floor in
     rw test (requested r x h above floor x.request refl)

@@ -8,10 +8,10 @@ use Rattle.semantics.specs.Faults.{is_of_members}
 use Rattle.semantics.specs.Making.{Command}
 use Rattle.semantics.specs.LegalAnswer.{Request, OfCommand, OfPeer}
 use Rattle.semantics.specs.Engine.{Engine, Client, Message, Hello, Bundle}
-use Rattle.semantics.specs.WriteSteps.{push, take_item, publish, give, take_for, give_for, handle_all, whole_step}
-use Rattle.semantics.specs.PeerSteps.{names_members, answer_hello, refusal_in, unless_refused, submit_all, receive_lines, before_stranger}
-use Rattle.semantics.specs.PeerSteps.{stranger_fault, receive_message}
-use Rattle.semantics.specs.World.{WorldAct, Push, Take, Publish, Give, Whole, Poll, Ask, Learn, SayHello, AnswerHello, Deliver, Lines}
+use Rattle.semantics.specs.WriteSteps.{push, take_submission, publish, give, take_for, give_for, handle_all, whole_step}
+use Rattle.semantics.specs.PeerSteps.{names_members, answer_hello, refusal_in, unless_refused, submit_all, receive_lines, before_nonmember}
+use Rattle.semantics.specs.PeerSteps.{nonmember_fault, receive_message}
+use Rattle.semantics.specs.World.{WorldAct, Push, Take, Publish, Give, WholeStep, Poll, Ask, Learn, SayHello, AnswerHello, Deliver, Lines}
 use Rattle.semantics.specs.World.{CountDropped, engine_step}
 use Rattle.semantics.specs.WorldExchange.{is_of_lines}
 use Rattle.semantics.proofs.SoundEngines.{IsSound}
@@ -32,11 +32,11 @@ still_answered E t k (Some (Hello v)) = at_test (names_members E v) refl
     at_test true e = rw e (still_seen E t E.published)
     at_test false e = rw e (refl, refl)
 
-pub in_before : (ms : List ℕ) (ss : List Stamped) (s : Stamped) → IsAmong s (before_stranger ms ss) → IsAmong s ss
+pub in_before : (ms : List ℕ) (ss : List Stamped) (s : Stamped) → IsAmong s (before_nonmember ms ss) → IsAmong s ss
 in_before ms [] s m = m
 in_before ms (x ∷ ss) s m = at_test (in_before ms ss s) (is_of_members ms x) m
   where
-    at_test : (IsAmong s (before_stranger ms ss) → IsAmong s ss) → (b : Bool) → IsAmong s (cond b (x ∷ before_stranger ms ss) [])
+    at_test : (IsAmong s (before_nonmember ms ss) → IsAmong s ss) → (b : Bool) → IsAmong s (cond b (x ∷ before_nonmember ms ss) [])
         → IsAmong s (x ∷ ss)
     at_test rest true (inl e) = inl e
     at_test rest true (inr n) = inr (rest n)
@@ -47,7 +47,7 @@ module _ (P : Request → Type 0) (Claim : Engine → Type 0) (kept : IsKeptOn P
 
   kept_by_takes : (n : ℕ) (E : Engine) → IsSound E → Claim E → Claim (take_for n E)
   kept_by_takes zero E s h = h
-  kept_by_takes (suc n) E s h = kept_by_takes n (take_item E).engine (took E s).sound (kept_by_take P Claim kept E s h)
+  kept_by_takes (suc n) E s h = kept_by_takes n (take_submission E).engine (took E s).sound (kept_by_take P Claim kept E s h)
 
   kept_by_gives : (n : ℕ) (E : Engine) → IsSound E → Claim E → Claim (give_for n E)
   kept_by_gives zero E s h = h
@@ -89,7 +89,7 @@ module _ (P : Request → Type 0) (Claim : Engine → Type 0) (kept : IsKeptOn P
   kept_by_message E c None s p h = h
   kept_by_message E c (Some (Hello v)) s p h = h
   kept_by_message E c (Some (Bundle ss)) s p h =
-      kept_by_lines E c (before_stranger E.replica.members ss) (stranger_fault E.replica.members ss) s
+      kept_by_lines E c (before_nonmember E.replica.members ss) (nonmember_fault E.replica.members ss) s
       (λ x m. p ss x refl (in_before E.replica.members ss x m)) h
 
   -- ---- each step
@@ -104,7 +104,7 @@ module _ (P : Request → Type 0) (Claim : Engine → Type 0) (kept : IsKeptOn P
   kept_by_act ms Take E s p q o h = kept_by_take P Claim kept E s h
   kept_by_act ms Publish E s p q o h = kept.still E (publish E).engine (published E s) (still_published E) h
   kept_by_act ms Give E s p q o h = kept.still E (give E).engine (answer_given E s) (still_given E) h
-  kept_by_act ms Whole E s p q o h = kept_by_whole E s h
+  kept_by_act ms WholeStep E s p q o h = kept_by_whole E s h
   kept_by_act ms (Poll c serial) E s p q o h = kept.still E (engine_step ms (Poll c serial) E).engine (stepped ms (Poll c serial) E s)
       (still_polled E c serial) h
   kept_by_act ms (Ask t x) E s p q o h = kept.still E (engine_step ms (Ask t x) E).engine (stepped ms (Ask t x) E s)

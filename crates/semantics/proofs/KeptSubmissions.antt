@@ -5,7 +5,7 @@ use Rattle.std.proofs.lemmas.Bool.{eq-eqb, ne_eqb, or_parts}
 use Rattle.semantics.specs.DocumentAnswer.{is_any}
 use Rattle.semantics.specs.LegalAnswer.{Submitted}
 use Rattle.semantics.specs.Engine.{Engine, Client, Cell, Handled}
-use Rattle.semantics.specs.WriteSteps.{take_oldest, take_item, publish}
+use Rattle.semantics.specs.WriteSteps.{take_oldest, take_submission, publish}
 use Rattle.semantics.specs.WorldHistory.{of_client, unanswered, cells_of, HasAllSubmitted}
 use Rattle.semantics.proofs.SoundEngines.{waiting_items, open_cell}
 use Rattle.semantics.proofs.ItemsInTurn.{waiting-taken}
@@ -49,7 +49,7 @@ complete_still E F same items h c = record {
 }
 
 -- The writer takes an item: it was in the queue, and is handled.
-pub complete_taken : (E : Engine) → IsComplete E → IsComplete (take_item E).engine
+pub complete_taken : (E : Engine) → IsComplete E → IsComplete (take_submission E).engine
 complete_taken E h = at_queue E.queue refl
   where
     at_test : (x : Submitted) (queue : List Submitted) → E.queue ≡ x ∷ queue → (b : Bool)

@@ -5,7 +5,7 @@ use Rattle.std.proofs.lemmas.Bool.{cases_eq}
 use Rattle.std.proofs.lemmas.List.{append-nil, map-append}
 use Rattle.semantics.specs.LegalAnswer.{Request, Submitted}
 use Rattle.semantics.specs.Engine.{Engine, Client, Cell}
-use Rattle.semantics.specs.WriteSteps.{next_item, with_cell, submit, push}
+use Rattle.semantics.specs.WriteSteps.{next_submission, with_cell, submit, push}
 use Rattle.semantics.specs.WorldHistory.{of_client, unanswered, cells_of, HasAllSubmitted}
 use Rattle.semantics.proofs.SetElements.{get-set_same, get-set_other, get-append_cases}
 use Rattle.semantics.proofs.SoundEngines.{open_cell}
@@ -14,7 +14,7 @@ use Rattle.semantics.proofs.KeptSubmissions.{IsComplete, of_client-append, of_cl
 
 module _ (E : Engine) (h : IsComplete E) (c : ℕ) (k : Client) (request : Request) (there : slice_get E.clients c ≡ Some k) where
   abbrev item : Submitted
-  item = next_item c k request
+  item = next_submission c k request
 
   abbrev after : Engine
   after = record E { queue = E.queue ++ item ∷ []; clients = slice_set E.clients c (with_cell k item) }
@@ -72,7 +72,7 @@ pub complete_pushed : (E : Engine) (c : ℕ) (request : Request) → IsComplete 
 complete_pushed E c request h = at_client (slice_get E.clients c) refl
   where
     at_room : (k : Client) → slice_get E.clients c ≡ Some k → (a b : Bool) → nat_le E.serials (length k.cells) ≡ a
-        → nat_le E.capacity (length E.queue) ≡ b → IsComplete (submit E c k (next_item c k request)).engine
+        → nat_le E.capacity (length E.queue) ≡ b → IsComplete (submit E c k (next_submission c k request)).engine
     at_room k there true b e f = rw e h
     at_room k there false true e f = rw (e, f) h
     at_room k there false false e f = rw (e, f) (submitted E h c k request there)

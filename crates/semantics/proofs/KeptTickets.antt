@@ -9,7 +9,7 @@ use Rattle.semantics.specs.Stamped.{Stamped}
 use Rattle.semantics.specs.Making.{Command}
 use Rattle.semantics.specs.LegalAnswer.{Request, OfCommand, OfPeer, Submitted}
 use Rattle.semantics.specs.Engine.{Engine, Client, Ticket, Received}
-use Rattle.semantics.specs.WriteSteps.{next_item, with_cell, submit, push}
+use Rattle.semantics.specs.WriteSteps.{next_submission, with_cell, submit, push}
 use Rattle.semantics.specs.PeerSteps.{Receipt, unless_refused, submit_all, receive_lines}
 use Rattle.semantics.specs.World.{World, WorldStep, Push, opened, world_step, world_after, step_by}
 use Rattle.semantics.specs.WorldHistory.{IsEngineAfter, WasSubmitted}
@@ -24,14 +24,14 @@ use Rattle.semantics.proofs.WholeSubmissions.{IsPushed, pushed_cases}
 
 -- the engine after the client submitted a request
 abbrev with_request : Engine → ℕ → Client → Request → Engine
-with_request E c k request = with_client E (E.queue ++ next_item c k request ∷ []) E.due c (with_cell k (next_item c k request))
+with_request E c k request = with_client E (E.queue ++ next_submission c k request ∷ []) E.due c (with_cell k (next_submission c k request))
 
 now_submitted : (E : Engine) (c : ℕ) (k : Client) (request : Request) → slice_get E.clients c ≡ Some k
-    → WasSubmitted (with_request E c k request) c (suc (length k.cells)) (next_item c k request)
+    → WasSubmitted (with_request E c k request) c (suc (length k.cells)) (next_submission c k request)
 now_submitted E c k request there = (
-  open_cell (next_item c k request),
-  ap (cell_of (suc (length k.cells))) (get-set_same E.clients c k (with_cell k (next_item c k request)) there)
-      ∙ newest_cell k.cells (open_cell (next_item c k request)),
+  open_cell (next_submission c k request),
+  ap (cell_of (suc (length k.cells))) (get-set_same E.clients c k (with_cell k (next_submission c k request)) there)
+      ∙ newest_cell k.cells (open_cell (next_submission c k request)),
   refl,
 )
 
@@ -39,23 +39,23 @@ now_submitted E c k request there = (
 
 -- what a ticket is for
 abbrev IsTicketed : Client → ℕ → Request → ℕ → Engine → Type 0
-IsTicketed k c request serial F = (serial ≡ suc (length k.cells)) × WasSubmitted F c serial (next_item c k request)
+IsTicketed k c request serial F = (serial ≡ suc (length k.cells)) × WasSubmitted F c serial (next_submission c k request)
 
 pub ticketed : (E : Engine) (c : ℕ) (request : Request) (serial : ℕ) → (push E c request).reply ≡ Ticket serial
     → (k : Client) × (slice_get E.clients c ≡ Some k) × (serial ≡ suc (length k.cells))
-    × WasSubmitted (push E c request).engine c serial (next_item c k request)
+    × WasSubmitted (push E c request).engine c serial (next_submission c k request)
 ticketed E c request serial h = at_client (slice_get E.clients c) refl
   where
     at_room : (k : Client) → slice_get E.clients c ≡ Some k → (a b : Bool) → nat_le E.serials (length k.cells) ≡ a
         → nat_le E.capacity (length E.queue) ≡ b
-        → (submit E c k (next_item c k request)).reply ≡ Ticket serial
-        → IsTicketed k c request serial (submit E c k (next_item c k request)).engine
+        → (submit E c k (next_submission c k request)).reply ≡ Ticket serial
+        → IsTicketed k c request serial (submit E c k (next_submission c k request)).engine
     at_room k there true b e f r = (let z = rw e at r in cc)
     at_room k there false true e f r = (let z = rw (e, f) at r in cc)
     at_room k there false false e f r =
         let given : Ticket (suc (length k.cells)) ≡ Ticket serial = rw (e, f) at r in
         let is : suc (length k.cells) ≡ serial = cc in
-        let now = subst (λ n. WasSubmitted (with_request E c k request) c n (next_item c k request)) is
+        let now = subst (λ n. WasSubmitted (with_request E c k request) c n (next_submission c k request)) is
         (now_submitted E c k request there) in
         rw (e, f) (sym is, now)
 
@@ -64,7 +64,7 @@ ticketed E c request serial h = at_client (slice_get E.clients c) refl
 
     at_client : (o : Option Client) → slice_get E.clients c ≡ o
         → (k : Client) × (slice_get E.clients c ≡ Some k) × (serial ≡ suc (length k.cells))
-        × WasSubmitted (push E c request).engine c serial (next_item c k request)
+        × WasSubmitted (push E c request).engine c serial (next_submission c k request)
     at_client None e = (let z = rw e at h in cc)
     at_client (Some k) e = (let t = at_found k e in (k, e, t.0, t.1))
 
@@ -72,7 +72,7 @@ ticketed E c request serial h = at_client (slice_get E.clients c) refl
 pub ticket_kept : (cs : List Configuration) (steps more : List WorldStep) (e c : ℕ) (command : Command) (serial : ℕ) (E F : Engine)
     → IsEngineAfter cs steps e E → (push E c (OfCommand command)).reply ≡ Ticket serial
     → IsEngineAfter cs (steps ++ step_by e (Push c command) ∷ more) e F
-    → (k : Client) × (slice_get E.clients c ≡ Some k) × WasSubmitted F c serial (next_item c k (OfCommand command))
+    → (k : Client) × (slice_get E.clients c ≡ Some k) × WasSubmitted F c serial (next_submission c k (OfCommand command))
 ticket_kept cs steps more e c command serial E F there ticket later =
     let W : World = world_after (opened cs) steps in
     let t = ticketed E c (OfCommand command) serial ticket in
@@ -82,7 +82,7 @@ ticket_kept cs steps more e c command serial E F there ticket later =
     let sound = sound_step W (step_by e (Push c command)) (sound_after (opened cs) steps (sound_opened cs)) in
     let grown = grown_after (world_step W (step_by e (Push c command))).world more sound e G F after
     (subst (λ (X : World). slice_get X.engines e ≡ Some F) (after_more (opened cs) steps (step_by e (Push c command) ∷ more)) later) in
-    (t.0, t.1, grown.submitted c serial (next_item c t.0 (OfCommand command)) t.3)
+    (t.0, t.1, grown.submitted c serial (next_submission c t.0 (OfCommand command)) t.3)
 
 -- ---- a receipt
 
@@ -100,7 +100,7 @@ under_serial F c m n seen s e w = subst (λ i. WasSubmitted F c i (record { clie
 module _ (E : Engine) (c : ℕ) (k : Client) (bad : Option Refusal) (n : ℕ) (s : Stamped) (ss : List Stamped)
     (sound : IsSound E) (there : slice_get E.clients c ≡ Some k) where
   abbrev item : Submitted
-  item = next_item c k (OfPeer s)
+  item = next_submission c k (OfPeer s)
 
   abbrev after : Engine
   after = with_request E c k (OfPeer s)
@@ -149,7 +149,8 @@ submitted_at : (c : ℕ) (bad : Option Refusal) (n : ℕ) (E : Engine) (k : Clie
 submitted_at c bad n E k [] sound there = λ i l. absurd (omega (arith, l))
 submitted_at c bad n E k (s ∷ ss) sound there =
     at_push E c k bad n s ss sound there
-    (λ i after is l. submitted_at c bad (suc n) (with_request E c k (OfPeer s)) (with_cell k (next_item c k (OfPeer s))) ss after is i l)
+    (λ i after is l. submitted_at c bad (suc n) (with_request E c k (OfPeer s))
+    (with_cell k (next_submission c k (OfPeer s))) ss after is i l)
     (pushed_cases E c k s there)
 
 -- it was, where the client had the token

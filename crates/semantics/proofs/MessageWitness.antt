@@ -8,10 +8,10 @@ use Rattle.semantics.specs.Stamped.{Stamped}
 use Rattle.semantics.specs.Entries.{stamped_entries}
 use Rattle.semantics.specs.LegalAnswer.{OfCommand}
 use Rattle.semantics.specs.Engine.{Engine, Bundle, published_entries}
-use Rattle.semantics.specs.WriteSteps.{push, take_item, whole_step}
+use Rattle.semantics.specs.WriteSteps.{push, take_submission, whole_step}
 use Rattle.semantics.specs.ReadSteps.{see_published}
 use Rattle.semantics.specs.PeerSteps.{lacked, receive_message}
-use Rattle.semantics.specs.World.{opened_engine, WorldStep, Push, Take, Whole, SayHello, AnswerHello, Deliver, step_by}
+use Rattle.semantics.specs.World.{opened_engine, WorldStep, Push, Take, WholeStep, SayHello, AnswerHello, Deliver, step_by}
 use Rattle.semantics.specs.WorldExchange.{HaveOwnNumbers, is_of_lines, AreWithoutLines, IsExchange, IsHandledBelow, IsAppliedUnlessFull}
 use Rattle.semantics.proofs.AmongLists.{all_pass}
 use Rattle.semantics.proofs.WholeExchanges.{messages_complete}
@@ -28,14 +28,14 @@ abbrev writes : WorldStep
 writes = step_by 0 (Push 0 (assign (Get (codes "a") ∷ []) (whole 1)))
 
 abbrev steps : List WorldStep
-steps = writes ∷ step_by 0 Whole ∷ step_by 1 (SayHello 0) ∷ step_by 0 (AnswerHello 0 0) ∷ step_by 1 (Deliver 0 1) ∷ step_by 1 Take ∷ []
+steps = writes ∷ step_by 0 WholeStep ∷ step_by 1 (SayHello 0) ∷ step_by 0 (AnswerHello 0 0) ∷ step_by 1 (Deliver 0 1) ∷ step_by 1 Take ∷ []
 
 -- the engine that wrote, and the other one in the end
 abbrev writer : Engine
 writer = (whole_step (push (opened_engine (configuration 1)) 0 (OfCommand (assign (Get (codes "a") ∷ []) (whole 1)))).engine).engine
 
 abbrev reader : Engine
-reader = (take_item (receive_message (see_published (opened_engine (configuration 2)) 0) 0
+reader = (take_submission (receive_message (see_published (opened_engine (configuration 2)) 0) 0
     (Some (Bundle (lacked writer [])))).engine).engine
 
 not_both : (b c : Configuration) → configuration 1 ≡ b → configuration 2 ≡ c → b.own ≡ c.own → ⊥
@@ -61,7 +61,7 @@ without_lines s m = false_from_not (is_of_lines s.act) (all_pass (λ x. not (is_
 
 exchange : IsExchange both steps 1 0 0 1 2 (published_entries writer)
 exchange = record {
-  before = writes ∷ step_by 0 Whole ∷ [];
+  before = writes ∷ step_by 0 WholeStep ∷ [];
   between = [];
   later = [];
   after = step_by 1 Take ∷ [];

@@ -8,7 +8,7 @@ use Rattle.semantics.specs.Questions.{Step, Get, Keys, Values, KeysAre, ValuesAr
 use Rattle.semantics.specs.Making.{Command}
 use Rattle.semantics.specs.LegalAnswer.{Made, OfDocument, Reading, Answered}
 use Rattle.semantics.specs.Engine.{Ticket, Denied, Published, Unanswered, Replied, Read, Idle}
-use Rattle.semantics.specs.World.{WorldStep, Push, Whole, Poll, Ask, opened, replies_of, step_by}
+use Rattle.semantics.specs.World.{WorldStep, Push, WholeStep, Poll, Ask, opened, replies_of, step_by}
 use Rattle.semantics.proofs.ExampleWords.{whole, assign, engine}
 
 abbrev a : List Step
@@ -32,21 +32,21 @@ new_engine = refl
 abbrev alone : Configuration
 alone = record { own = 1; members = 1 ∷ []; clients = 1; readers = 1; queue = 4; batch = 4; serials = 10 }
 
-one_write : replies_of (opened (alone ∷ [])) (step_by 0 (Push 0 (assign_a 1)) ∷ step_by 0 Whole ∷ step_by 0 (Poll 0 1) ∷ reads_a 1 ∷ [])
+one_write : replies_of (opened (alone ∷ [])) (step_by 0 (Push 0 (assign_a 1)) ∷ step_by 0 WholeStep ∷ step_by 0 (Poll 0 1) ∷ reads_a 1 ∷ [])
     ≡ Ticket 1 ∷ Published 1 ∷ Replied (Made (id_at 1 1) 0) ∷ Read 1 one_at_a ∷ []
 one_write = refl
 
 -- the client reads what it wrote, and a reader too; until the writer's step nothing is answered and nothing is seen
 own_write : replies_of (opened (engine 1 ∷ []))
-    (step_by 0 (Push 0 (assign_a 1)) ∷ step_by 0 (Poll 0 1) ∷ reads_a 1 ∷ step_by 0 Whole ∷ step_by 0
-    (Poll 0 1) ∷ reads_a 0 ∷ reads_a 1 ∷ step_by 0 (Poll 0 1) ∷ step_by 0 Whole ∷ [])
+    (step_by 0 (Push 0 (assign_a 1)) ∷ step_by 0 (Poll 0 1) ∷ reads_a 1 ∷ step_by 0 WholeStep ∷ step_by 0
+    (Poll 0 1) ∷ reads_a 0 ∷ reads_a 1 ∷ step_by 0 (Poll 0 1) ∷ step_by 0 WholeStep ∷ [])
     ≡ Ticket 1 ∷ Unanswered ∷ Read 0 (Answered (ValuesAre [])) ∷ Published 1 ∷ Replied
     (Made (id_at 1 1) 0) ∷ Read 1 one_at_a ∷ Read 1 one_at_a ∷ Replied (Made (id_at 1 1) 0) ∷ Idle ∷ []
 own_write = refl
 
 -- a full queue takes no command, and no serial is used up
 full_queue : replies_of (opened (record alone { queue = 1 } ∷ []))
-    (step_by 0 (Push 0 (assign_a 1)) ∷ step_by 0 (Push 0 (assign_a 2)) ∷ step_by 0 Whole ∷ step_by 0 (Push 0 (assign_a 2)) ∷ [])
+    (step_by 0 (Push 0 (assign_a 1)) ∷ step_by 0 (Push 0 (assign_a 2)) ∷ step_by 0 WholeStep ∷ step_by 0 (Push 0 (assign_a 2)) ∷ [])
     ≡ Ticket 1 ∷ Denied QueueFull ∷ Published 1 ∷ Ticket 2 ∷ []
 full_queue = refl
 
@@ -58,13 +58,13 @@ foreign_serials = refl
 
 -- one serial alone
 last_serial : replies_of (opened (record alone { serials = 1 } ∷ []))
-    (step_by 0 (Push 0 (assign_a 1)) ∷ step_by 0 (Push 0 (assign_a 2)) ∷ step_by 0 Whole ∷ step_by 0 (Push 0 (assign_a 2)) ∷ [])
+    (step_by 0 (Push 0 (assign_a 1)) ∷ step_by 0 (Push 0 (assign_a 2)) ∷ step_by 0 WholeStep ∷ step_by 0 (Push 0 (assign_a 2)) ∷ [])
     ≡ Ticket 1 ∷ Denied SerialEnd ∷ Published 1 ∷ Denied SerialEnd ∷ []
 last_serial = refl
 
 -- a step answers a batch at most
 batches : replies_of (opened (record alone { batch = 2 } ∷ []))
     (step_by 0 (Push 0 (assign_a 1)) ∷ step_by 0 (Push 0 (assign_a 2)) ∷ step_by 0
-    (Push 0 (assign_a 3)) ∷ step_by 0 Whole ∷ step_by 0 Whole ∷ step_by 0 Whole ∷ [])
+    (Push 0 (assign_a 3)) ∷ step_by 0 WholeStep ∷ step_by 0 WholeStep ∷ step_by 0 WholeStep ∷ [])
     ≡ Ticket 1 ∷ Ticket 2 ∷ Ticket 3 ∷ Published 2 ∷ Published 1 ∷ Idle ∷ []
 batches = refl

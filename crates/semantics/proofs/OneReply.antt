@@ -7,7 +7,7 @@ use Rattle.semantics.specs.LegalHistory.{IsAmong}
 use Rattle.semantics.specs.Stamped.{Stamped}
 use Rattle.semantics.specs.Making.{Command}
 use Rattle.semantics.specs.Entries.{Entry, Own, Peer, entry_at}
-use Rattle.semantics.specs.LegalAnswer.{OfCommand, Submitted, Reply, Made, NotMade, LacksSerial, IsLegalReply}
+use Rattle.semantics.specs.LegalAnswer.{OfCommand, Submitted, Reply, Made, RefusedAt, LacksSerial, IsLegalReply}
 use Rattle.semantics.specs.Engine.{Engine, Client, Cell, Given, Handled, published_entries}
 use Rattle.semantics.specs.ReadSteps.{cell_under}
 use Rattle.semantics.specs.Batches.{items_of}
@@ -142,9 +142,9 @@ module _ (E : Engine) (sound : IsSound E) (c serial : ℕ) where
         (x.0, x.1, own.2 ∙ ap OfCommand same, reply)
 
     -- What was refused stands nowhere in the history.
-    pub refused_nowhere : (why : Refusal) (n : ℕ) → WasReplied E c serial (NotMade why n) → LacksSerial c serial E.replica.entries
+    pub refused_nowhere : (why : Refusal) (n : ℕ) → WasReplied E c serial (RefusedAt why n) → LacksSerial c serial E.replica.entries
     refused_nowhere why n w = lacks c serial E.replica.entries
-        (λ m d s e. no m s (one_reply (NotMade why n) (Made s.id m) w (replied m c serial d s e)))
+        (λ m d s e. no m s (one_reply (RefusedAt why n) (Made s.id m) w (replied m c serial d s e)))
       where
-        no : (m : ℕ) (s : Stamped) → NotMade why n ≡ Made s.id m → ⊥
+        no : (m : ℕ) (s : Stamped) → RefusedAt why n ≡ Made s.id m → ⊥
         no m s q = cc

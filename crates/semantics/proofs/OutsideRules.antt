@@ -16,11 +16,11 @@ use Rattle.semantics.specs.Stamped.{Stamped}
 use Rattle.semantics.specs.Faults.{first_failed, first_fault, alone_fault, fault_of, is_ready}
 use Rattle.semantics.specs.Making.{Command, is_full, place_unless, then_place, operation_at, make}
 use Rattle.semantics.specs.Entries.{stamped_entries}
-use Rattle.semantics.specs.LegalAnswer.{Request, OfCommand, OfPeer, Submitted, Reply, Made, NotMade, KeptAt, KnownAt}
+use Rattle.semantics.specs.LegalAnswer.{Request, OfCommand, OfPeer, Submitted, Reply, Made, RefusedAt, KeptAt, KnownAt}
 use Rattle.semantics.specs.Replica.{Replica, operations}
 use Rattle.semantics.specs.Delivery.{Delivered, Kept, Known, NotKept, is_waiting, kept_unless, room_answer, answer_after, answer_to}
 use Rattle.semantics.specs.Drain.{receive}
-use Rattle.semantics.specs.WriteSteps.{reply_made, reply_delivered, reply_requested, reply_to, after_request, after_item}
+use Rattle.semantics.specs.WriteSteps.{reply_made, reply_delivered, reply_requested, reply_to, after_request, after_submission}
 use Rattle.semantics.specs.Handling.{Handler, still_behind, is_outside_rules, Handles}
 
 abbrev FineFault : Option Refusal → Type 0
@@ -131,7 +131,7 @@ make_fine H p c =
 
 abbrev FineReply : Reply → Type 0
 FineReply (Made a n) = ⊤
-FineReply (NotMade e m) = is_outside_rules e ≡ false
+FineReply (RefusedAt e m) = is_outside_rules e ≡ false
 FineReply (KeptAt m) = ⊤
 FineReply (KnownAt m) = ⊤
 
@@ -151,28 +151,28 @@ requested_fine r (OfPeer s) = delivered_fine (length (receive r s).entries) (ans
 -- ---- items
 
 -- a reply that names a failed allocation or the floor, and no other cause
-no_rule : (y : Reply) (e : Refusal) (m : ℕ) → y ≡ NotMade e m → is_outside_rules e ≡ true → FineReply y → ⊥
+no_rule : (y : Reply) (e : Refusal) (m : ℕ) → y ≡ RefusedAt e m → is_outside_rules e ≡ true → FineReply y → ⊥
 no_rule y e m is t f = true≢false (sym t ∙ subst FineReply is f)
 
-same_refusal : (e f : Refusal) (m n : ℕ) → NotMade e m ≡ NotMade f n → e ≡ f
+same_refusal : (e f : Refusal) (m n : ℕ) → RefusedAt e m ≡ RefusedAt f n → e ≡ f
 same_refusal e f m n is = cc
 
 floor_only : BadFloor ≡ NoMemory → ⊥
 floor_only e = cc
 
 tested_reply : (w : Handler) (x : Submitted) (b : Bool) → nat_lt (length w.replica.entries) x.floor ≡ b
-    → reply_to w.replica x ≡ cond b (NotMade BadFloor (length w.replica.entries)) (reply_requested w.replica x.request)
-tested_reply w x b is = ap (λ c. cond c (NotMade BadFloor (length w.replica.entries)) (reply_requested w.replica x.request)) is
+    → reply_to w.replica x ≡ cond b (RefusedAt BadFloor (length w.replica.entries)) (reply_requested w.replica x.request)
+tested_reply w x b is = ap (λ c. cond c (RefusedAt BadFloor (length w.replica.entries)) (reply_requested w.replica x.request)) is
 
 tested_replica : (w : Handler) (x : Submitted) (b : Bool) → nat_lt (length w.replica.entries) x.floor ≡ b
-    → after_item w.replica x ≡ cond b w.replica (after_request w.replica x x.request)
+    → after_submission w.replica x ≡ cond b w.replica (after_request w.replica x x.request)
 tested_replica w x b is = ap (λ c. cond c w.replica (after_request w.replica x x.request)) is
 
 tested_behind : (w : Handler) (x : Submitted) → nat_lt (length w.replica.entries) x.floor ≡ true → still_behind w x ≡ w.behind
 tested_behind w x is = rw is refl
 
 -- an item that is refused because an allocation failed or for its floor changes nothing
-pub nothing_changes : (w v : Handler) (x : Submitted) (e : Refusal) (m : ℕ) → is_outside_rules e ≡ true → Handles w x (NotMade e m) v
+pub nothing_changes : (w v : Handler) (x : Submitted) (e : Refusal) (m : ℕ) → is_outside_rules e ≡ true → Handles w x (RefusedAt e m) v
     → v ≡ w
 nothing_changes w v x e m t (inl k) = by (nat_lt (length w.replica.entries) x.floor) refl
   where
@@ -188,13 +188,13 @@ nothing_changes w v x e m t (inr (inr k)) = absurd
 
 -- an item is refused for its floor exactly where that is above the history
 pub floors_exactly : (w v : Handler) (x : Submitted) (y : Reply) → Handles w x y v
-    → (length w.replica.entries < x.floor → y ≡ NotMade BadFloor (length w.replica.entries))
-    × ((m : ℕ) → y ≡ NotMade BadFloor m → length w.replica.entries < x.floor)
+    → (length w.replica.entries < x.floor → y ≡ RefusedAt BadFloor (length w.replica.entries))
+    × ((m : ℕ) → y ≡ RefusedAt BadFloor m → length w.replica.entries < x.floor)
 floors_exactly w v x y (inl k) = by (nat_lt (length w.replica.entries) x.floor) refl
   where
     by : (b : Bool) → nat_lt (length w.replica.entries) x.floor ≡ b
-        → (length w.replica.entries < x.floor → y ≡ NotMade BadFloor (length w.replica.entries))
-        × ((m : ℕ) → y ≡ NotMade BadFloor m → length w.replica.entries < x.floor)
+        → (length w.replica.entries < x.floor → y ≡ RefusedAt BadFloor (length w.replica.entries))
+        × ((m : ℕ) → y ≡ RefusedAt BadFloor m → length w.replica.entries < x.floor)
     by true is = (λ l. k.reply ∙ tested_reply w x true is, λ m e. ltb-true (length w.replica.entries) x.floor is)
     by false is = (
       λ l. absurd (let g = ltb-false (length w.replica.entries) x.floor is in omega (arith, l, g)),

@@ -5,7 +5,7 @@ use Rattle.ids.specs.declared.refusal.Refusal.{Refusal}
 use Rattle.semantics.specs.Stamped.{Stamped}
 use Rattle.semantics.specs.Making.{Command, make}
 use Rattle.semantics.specs.Entries.{Entry, Own, Peer, applied, entry_at, first_entries, IsAbove}
-use Rattle.semantics.specs.LegalAnswer.{Submitted, Made, NotMade, LacksSerial, IsLegalAnswer}
+use Rattle.semantics.specs.LegalAnswer.{Submitted, Made, RefusedAt, LacksSerial, IsLegalAnswer}
 
 pub newest_at : (e : Entry) (G : List Entry) → entry_at (length G) (e ∷ G) ≡ Some e
 newest_at e G = ap (λ b. cond b (Some e) (entry_at (length G) G)) (eq-eqb (length G) (length G) refl)
@@ -24,7 +24,7 @@ above_lacks client serial (Own k n c s ∷ G) h = (λ e f. (let l : n < serial =
 above_lacks client serial (Peer s ∷ G) h = above_lacks client serial G h
 
 pub own_refused : (p : ℕ) (G : List Entry) (x : Submitted) (c : Command) (why : Refusal) → IsAbove x.client x.serial G
-    → make (applied G) p c ≡ Err why → IsLegalAnswer p G x c (NotMade why (length G))
+    → make (applied G) p c ≡ Err why → IsLegalAnswer p G x c (RefusedAt why (length G))
 own_refused p G x c why above e = (
   omega arith,
   inl (subst (λ F. make (applied F) p c ≡ Err why) (sym (all_first G)) e),

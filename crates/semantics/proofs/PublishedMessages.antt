@@ -7,7 +7,7 @@ use Rattle.semantics.specs.Stamped.{Stamped}
 use Rattle.semantics.specs.Entries.{applied, stamped_entries, missing}
 use Rattle.semantics.specs.Engine.{Engine, Message, Hello, Bundle, published_entries}
 use Rattle.semantics.specs.PeerSteps.{answer_sent, lacked, names_members}
-use Rattle.semantics.specs.World.{WorldAct, Push, Take, Publish, Give, Whole, Poll, Ask, Learn, SayHello, AnswerHello, Deliver, Lines}
+use Rattle.semantics.specs.World.{WorldAct, Push, Take, Publish, Give, WholeStep, Poll, Ask, Learn, SayHello, AnswerHello, Deliver, Lines}
 use Rattle.semantics.specs.World.{CountDropped, sent_by}
 use Rattle.semantics.proofs.AmongLists.{in_reverse, in_filter}
 
@@ -38,7 +38,7 @@ sent_published ms (Push c command) E m h = absurd h
 sent_published ms Take E m h = absurd h
 sent_published ms Publish E m h = absurd h
 sent_published ms Give E m h = absurd h
-sent_published ms Whole E m h = absurd h
+sent_published ms WholeStep E m h = absurd h
 sent_published ms (Poll c serial) E m h = absurd h
 sent_published ms (Ask t q) E m h = absurd h
 sent_published ms (Learn t c serial) E m h = absurd h

@@ -7,17 +7,17 @@ use Rattle.ids.specs.declared.refusal.Refusal.{Refusal}
 use Rattle.semantics.specs.Stamped.{Stamped}
 use Rattle.semantics.specs.Faults.{is_of_members}
 use Rattle.semantics.specs.Engine.{Engine, Client, Bundle, Received}
-use Rattle.semantics.specs.PeerSteps.{Receipt, submit_all, before_stranger, stranger_fault, receive_message}
+use Rattle.semantics.specs.PeerSteps.{Receipt, submit_all, before_nonmember, nonmember_fault, receive_message}
 use Rattle.semantics.proofs.WholeSubmissions.{IsWhole, submitted_whole}
 
-before_none : (ms : List ℕ) (ss : List Stamped) → list_all (is_of_members ms) ss ≡ true → before_stranger ms ss ≡ ss
+before_none : (ms : List ℕ) (ss : List Stamped) → list_all (is_of_members ms) ss ≡ true → before_nonmember ms ss ≡ ss
 before_none ms [] e = refl
 before_none ms (s ∷ ss) e =
     let both = and_parts (is_of_members ms s) (list_all (is_of_members ms) ss) e in
-    ap (λ b. cond b (s ∷ before_stranger ms ss) []) both.0 ∙ ap (λ (xs : List Stamped). s ∷ xs) (before_none ms ss both.1)
+    ap (λ b. cond b (s ∷ before_nonmember ms ss) []) both.0 ∙ ap (λ (xs : List Stamped). s ∷ xs) (before_none ms ss both.1)
 
-no_stranger : (ms : List ℕ) (ss : List Stamped) → stranger_fault ms ss ≡ None → list_all (is_of_members ms) ss ≡ true
-no_stranger ms ss e = at_test (list_all (is_of_members ms) ss) refl
+no_nonmember : (ms : List ℕ) (ss : List Stamped) → nonmember_fault ms ss ≡ None → list_all (is_of_members ms) ss ≡ true
+no_nonmember ms ss e = at_test (list_all (is_of_members ms) ss) refl
   where
     at_test : (b : Bool) → list_all (is_of_members ms) ss ≡ b → b ≡ true
     at_test true f = refl
@@ -44,8 +44,8 @@ bundle_received E c ss serial count h = at_client (slice_get E.clients c) refl
         → HasReceivedAll E c ss serial count (receive_message E c (Some (Bundle ss))).engine
     at_client None e = (let z = rw e at h in cc)
     at_client (Some k) e =
-        let ts : List Stamped = before_stranger E.replica.members ss in
-        let bad : Option Refusal = stranger_fault E.replica.members ss in
+        let ts : List Stamped = before_nonmember E.replica.members ss in
+        let bad : Option Refusal = nonmember_fault E.replica.members ss in
         let r : Receipt = submit_all c bad 0 E ts in
         let reply : Received (cond (r.submitted == 0) 0 (suc (length k.cells))) r.submitted r.stopped
         ≡ Received serial count None = rw e at h in
@@ -53,7 +53,7 @@ bundle_received E c ss serial count h = at_client (slice_get E.clients c) refl
         let submitted : r.submitted ≡ count = cc in
         let start : cond (r.submitted == 0) 0 (suc (length k.cells)) ≡ serial = cc in
         let whole : IsWhole E c k bad 0 ts r = submitted_whole c bad 0 E k ts e stopped in
-        let known : list_all (is_of_members E.replica.members) ss ≡ true = no_stranger E.replica.members ss whole.all_good in
+        let known : list_all (is_of_members E.replica.members) ss ≡ true = no_nonmember E.replica.members ss whole.all_good in
         let all : ts ≡ ss = before_none E.replica.members ss known in
         rw e (record {
           client = k;

@@ -8,12 +8,12 @@ use Rattle.semantics.specs.Operations.{Operation}
 use Rattle.semantics.specs.Stamped.{Stamped}
 use Rattle.semantics.specs.Making.{Command, make}
 use Rattle.semantics.specs.Entries.{Entry, Own, Peer, entry_at}
-use Rattle.semantics.specs.LegalAnswer.{Request, OfCommand, OfPeer, Submitted, Reply, Made, NotMade}
+use Rattle.semantics.specs.LegalAnswer.{Request, OfCommand, OfPeer, Submitted, Reply, Made, RefusedAt}
 use Rattle.semantics.specs.Replica.{Replica, operations, IsRunning}
 use Rattle.semantics.specs.Delivery.{answer_to, deliver}
 use Rattle.semantics.specs.Drain.{receive, with_peers}
 use Rattle.semantics.specs.Engine.{Engine}
-use Rattle.semantics.specs.WriteSteps.{stamp, after_made, reply_made, after_request, reply_requested, after_item, reply_to}
+use Rattle.semantics.specs.WriteSteps.{stamp, after_made, reply_made, after_request, reply_requested, after_submission, reply_to}
 use Rattle.semantics.specs.World.{opened_engine, World, opened, WorldStep, engine_step, world_step, world_after}
 use Rattle.semantics.specs.WorldHistory.{IsEngineAfter, WasReplied, HasGrown}
 use Rattle.semantics.proofs.SetElements.{get-set_cases}
@@ -80,11 +80,11 @@ module _ (m c serial : ℕ) (d : Command) (s : Stamped) where
       inl (before_peers p.0 r.entries (subst Stands p.1 e))
 
   -- An own entry after an item was handled is an old one, or the item's.
-  old_or_made : (r : Replica) (x : Submitted) → IsRunning r → Stands (after_item r x).entries → IsOldOrMade r x (reply_to r x)
+  old_or_made : (r : Replica) (x : Submitted) → IsRunning r → Stands (after_submission r x).entries → IsOldOrMade r x (reply_to r x)
   old_or_made r x h = at_floor (nat_lt (length r.entries) x.floor)
     where
       at_floor : (b : Bool) → Stands (cond b r (after_request r x x.request)).entries
-          → IsOldOrMade r x (cond b (NotMade BadFloor (length r.entries)) (reply_requested r x.request))
+          → IsOldOrMade r x (cond b (RefusedAt BadFloor (length r.entries)) (reply_requested r x.request))
       at_floor true e = inl e
       at_floor false e = after_its_request r x h x.request e
 

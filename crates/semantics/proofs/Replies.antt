@@ -8,7 +8,7 @@ use Rattle.semantics.specs.Ids.{OpId}
 use Rattle.semantics.specs.Stamped.{Stamped}
 use Rattle.semantics.specs.Making.{Command, make}
 use Rattle.semantics.specs.Entries.{Entry, Own, Peer, applied, entry_at, first_entries, IsAbove, IsEntryHistory}
-use Rattle.semantics.specs.LegalAnswer.{Submitted, Made, NotMade, IsCause, LacksSerial, IsLegalAnswer, IsLegalReading, Asked, Reading}
+use Rattle.semantics.specs.LegalAnswer.{Submitted, Made, RefusedAt, IsCause, LacksSerial, IsLegalAnswer, IsLegalReading, Asked, Reading}
 use Rattle.semantics.specs.LegalAnswer.{reading_of}
 
 entry_below : (n : ℕ) (G : List Entry) (e : Entry) → entry_at n G ≡ Some e → n < length G
@@ -37,7 +37,7 @@ pub made_stays : (p : ℕ) (G : List Entry) (e : Entry) (x : Submitted) (c : Com
 made_stays p G e x c a n h = (h.0, entry_stays n G e (Own x.client x.serial c h.0) h.1, h.2)
 
 pub refused_stays : (p : ℕ) (G : List Entry) (e : Entry) (x : Submitted) (c : Command) (why : Refusal) (m : ℕ)
-    → IsLegalAnswer p G x c (NotMade why m) → IsLegalAnswer p (e ∷ G) x c (NotMade why m)
+    → IsLegalAnswer p G x c (RefusedAt why m) → IsLegalAnswer p (e ∷ G) x c (RefusedAt why m)
 refused_stays p G e x c why m h = (let l : m ≤ length G = h.0 in omega arith, stays.0, stays.1)
   where
     stays : (IsCause p (e ∷ G) x c m why) × LacksSerial x.client x.serial (first_entries m (e ∷ G))

@@ -8,7 +8,7 @@ use Rattle.semantics.specs.Entries.{Entry, stamped_entries, applied, missing}
 use Rattle.semantics.specs.OneWorld.{AreWithin}
 use Rattle.semantics.specs.Engine.{Engine, Message, Hello, Bundle, published_entries}
 use Rattle.semantics.specs.PeerSteps.{names_members, lacked, answer_sent}
-use Rattle.semantics.specs.World.{WorldAct, Push, Take, Publish, Give, Whole, Poll, Ask, Learn, SayHello, AnswerHello, Deliver, Lines}
+use Rattle.semantics.specs.World.{WorldAct, Push, Take, Publish, Give, WholeStep, Poll, Ask, Learn, SayHello, AnswerHello, Deliver, Lines}
 use Rattle.semantics.specs.World.{CountDropped, sent_by}
 use Rattle.semantics.specs.WorldHistory.{BeginsWith}
 use Rattle.semantics.proofs.Beginnings.{begins_first}
@@ -65,7 +65,7 @@ sent_there ms (Push c command) E ss n s m = absurd n
 sent_there ms Take E ss n s m = absurd n
 sent_there ms Publish E ss n s m = absurd n
 sent_there ms Give E ss n s m = absurd n
-sent_there ms Whole E ss n s m = absurd n
+sent_there ms WholeStep E ss n s m = absurd n
 sent_there ms (Poll c serial) E ss n s m = absurd n
 sent_there ms (Ask t q) E ss n s m = absurd n
 sent_there ms (Learn t c serial) E ss n s m = absurd n

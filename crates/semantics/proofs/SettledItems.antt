@@ -16,7 +16,7 @@ use Rattle.semantics.specs.Replica.{Replica, operations, commit_own}
 use Rattle.semantics.specs.Drain.{counted, receive}
 use Rattle.semantics.specs.OneWorld.{AreWithin, IsOfWorld}
 use Rattle.semantics.specs.Exchange.{IsSettled}
-use Rattle.semantics.specs.WriteSteps.{stamp, after_made, after_request, after_item}
+use Rattle.semantics.specs.WriteSteps.{stamp, after_made, after_request, after_submission}
 use Rattle.semantics.proofs.Orders.{ids_from_test}
 use Rattle.semantics.proofs.AbsentIds.{fresh}
 use Rattle.semantics.proofs.LegalFacts.{deps_there}
@@ -130,7 +130,7 @@ module _ (K : List Operation) (lk : IsLegal K) (p : ℕ) (r : Replica) (h : IsSe
   requested x above (OfPeer s) of = received s (of s refl)
 
   pub item_handled : (x : Submitted) → IsAbove x.client x.serial r.entries → ((s : Stamped) → x.request ≡ OfPeer s → IsOfWorld K s)
-      → GoesOn K p (after_item r x)
+      → GoesOn K p (after_submission r x)
   item_handled x above of =
       let other = requested x above x.request of in
       elim (nat_lt (length r.entries) x.floor) as

@@ -9,7 +9,7 @@ use Rattle.semantics.specs.Entries.{stamped_entries}
 use Rattle.semantics.specs.LegalAnswer.{Made, OfDocument, Answered}
 use Rattle.semantics.specs.Replica.{Replica}
 use Rattle.semantics.specs.Engine.{StepReply, Ticket, Published, Unanswered, Replied, Read}
-use Rattle.semantics.specs.World.{WorldStep, Push, Whole, Poll, Ask, opened, replies_of, step_by}
+use Rattle.semantics.specs.World.{WorldStep, Push, WholeStep, Poll, Ask, opened, replies_of, step_by}
 use Rattle.semantics.proofs.ExampleWords.{text, assign, insert, field, sent, new, after_commands, shown, engine}
 
 abbrev pub shopping : List Step
@@ -62,7 +62,7 @@ steps =
     ∷ step_by 0 (Push 0 (insert (nth 0) (text (codes "cheese"))))
     ∷ step_by 0 (Push 0 (insert (nth 2) (text (codes "milk"))))
     ∷ step_by 0 (Poll 0 5)
-    ∷ step_by 0 Whole
+    ∷ step_by 0 WholeStep
     ∷ step_by 0 (Poll 0 1)
     ∷ step_by 0 (Poll 0 2)
     ∷ step_by 0 (Poll 0 3)

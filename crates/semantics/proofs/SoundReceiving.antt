@@ -5,8 +5,8 @@ use Rattle.semantics.specs.Stamped.{Stamped}
 use Rattle.semantics.specs.LegalAnswer.{OfPeer}
 use Rattle.semantics.specs.Engine.{Engine, Client, Message, Hello, Bundle}
 use Rattle.semantics.specs.WriteSteps.{push}
-use Rattle.semantics.specs.PeerSteps.{names_members, answer_hello, refusal_in, unless_refused, submit_all, receive_lines, before_stranger}
-use Rattle.semantics.specs.PeerSteps.{stranger_fault, receive_message}
+use Rattle.semantics.specs.PeerSteps.{names_members, answer_hello, refusal_in, unless_refused, submit_all, receive_lines, before_nonmember}
+use Rattle.semantics.specs.PeerSteps.{nonmember_fault, receive_message}
 use Rattle.semantics.proofs.SoundEngines.{IsSound, IsLater}
 use Rattle.semantics.proofs.SoundSeeing.{later_refl, later_trans, seen_all}
 use Rattle.semantics.proofs.SoundSubmitting.{pushed}
@@ -48,5 +48,5 @@ lines_received E c ss bad s = at_client (slice_get E.clients c) refl
 pub message_received : (E : Engine) (c : ℕ) (m : Option Message) → IsSound E → IsLater E (receive_message E c m).engine
 message_received E c None s = later_refl E s
 message_received E c (Some (Hello v)) s = later_refl E s
-message_received E c (Some (Bundle ss)) s = lines_received E c (before_stranger E.replica.members ss)
-    (stranger_fault E.replica.members ss) s
+message_received E c (Some (Bundle ss)) s = lines_received E c (before_nonmember E.replica.members ss)
+    (nonmember_fault E.replica.members ss) s

@@ -2,8 +2,8 @@
 use Rattle.std.proofs.Common.{ℕ, zero, suc, List, length, slice_get}
 use Rattle.semantics.specs.LegalAnswer.{OfCommand}
 use Rattle.semantics.specs.Engine.{Engine, Message}
-use Rattle.semantics.specs.WriteSteps.{take_item, give, take_for, give_for, handle_all, whole_step}
-use Rattle.semantics.specs.World.{WorldAct, Push, Take, Publish, Give, Whole, Poll, Ask, Learn, SayHello, AnswerHello, Deliver, Lines}
+use Rattle.semantics.specs.WriteSteps.{take_submission, give, take_for, give_for, handle_all, whole_step}
+use Rattle.semantics.specs.World.{WorldAct, Push, Take, Publish, Give, WholeStep, Poll, Ask, Learn, SayHello, AnswerHello, Deliver, Lines}
 use Rattle.semantics.specs.World.{CountDropped, engine_step}
 use Rattle.semantics.proofs.SoundEngines.{IsSound, IsLater}
 use Rattle.semantics.proofs.SoundSeeing.{later_refl, later_trans, polled, asked, seen_all, learned}
@@ -17,7 +17,7 @@ pub taken_for : (n : ℕ) (E : Engine) → IsSound E → IsLater E (take_for n E
 taken_for zero E s = later_refl E s
 taken_for (suc n) E s =
     let one = took E s in
-    later_trans E (take_item E).engine (take_for n (take_item E).engine) one (taken_for n (take_item E).engine one.sound)
+    later_trans E (take_submission E).engine (take_for n (take_submission E).engine) one (taken_for n (take_submission E).engine one.sound)
 
 given_for : (n : ℕ) (E : Engine) → IsSound E → IsLater E (give_for n E)
 given_for zero E s = later_refl E s
@@ -40,7 +40,7 @@ stepped ms (Push c command) E s = pushed E c (OfCommand command) s
 stepped ms Take E s = took E s
 stepped ms Publish E s = published E s
 stepped ms Give E s = answer_given E s
-stepped ms Whole E s = whole E s
+stepped ms WholeStep E s = whole E s
 stepped ms (Poll c serial) E s = polled E c serial s
 stepped ms (Ask t q) E s = asked E t q s
 stepped ms (Learn t c serial) E s = learned E t c serial s

@@ -7,7 +7,7 @@ use Rattle.semantics.specs.LegalHistory.{IsAmong}
 use Rattle.semantics.specs.Entries.{IsAbove}
 use Rattle.semantics.specs.LegalAnswer.{Request, Submitted}
 use Rattle.semantics.specs.Engine.{Engine, Client, Cell}
-use Rattle.semantics.specs.WriteSteps.{next_item, with_cell, submit, push}
+use Rattle.semantics.specs.WriteSteps.{next_submission, with_cell, submit, push}
 use Rattle.semantics.specs.ReadSteps.{cell_under}
 use Rattle.semantics.proofs.SetElements.{get-set_same}
 use Rattle.semantics.proofs.ClientCells.{cell_within, cell_kept, newest_cell, newest_cases}
@@ -21,7 +21,7 @@ use Rattle.semantics.proofs.SoundSeeing.{later_refl}
 module _ (E : Engine) (c : ℕ) (k : Client) (request : Request) (s : IsSound E) (h : slice_get E.clients c ≡ Some k) where
   -- what is submitted, and the client and the engine then
   abbrev item : Submitted
-  item = next_item c k request
+  item = next_submission c k request
 
   abbrev submitter : Client
   submitter = with_cell k item
@@ -91,7 +91,7 @@ pub pushed : (E : Engine) (c : ℕ) (request : Request) → IsSound E → IsLate
 pushed E c request s = at_client (slice_get E.clients c) refl
   where
     at_room : (k : Client) → slice_get E.clients c ≡ Some k → (a b : Bool) → nat_le E.serials (length k.cells) ≡ a
-        → nat_le E.capacity (length E.queue) ≡ b → IsLater E (submit E c k (next_item c k request)).engine
+        → nat_le E.capacity (length E.queue) ≡ b → IsLater E (submit E c k (next_submission c k request)).engine
     at_room k h true b e f = rw e (later_refl E s)
     at_room k h false true e f = rw (e, f) (later_refl E s)
     at_room k h false false e f = rw (e, f) (submitted E c k request s h)

@@ -8,7 +8,7 @@ use Rattle.semantics.specs.Entries.{IsAbove}
 use Rattle.semantics.specs.LegalAnswer.{Submitted, Reply}
 use Rattle.semantics.specs.Replica.{Replica}
 use Rattle.semantics.specs.Engine.{Engine, Client, Handled, published_entries}
-use Rattle.semantics.specs.WriteSteps.{after_item, reply_to, take_oldest, take_item}
+use Rattle.semantics.specs.WriteSteps.{after_submission, reply_to, take_oldest, take_submission}
 use Rattle.semantics.specs.ReadSteps.{cell_at, cell_under}
 use Rattle.semantics.proofs.ClientCells.{cell_within}
 use Rattle.semantics.proofs.Beginnings.{no_shorter, IsGoodReply, good_in_longer}
@@ -38,7 +38,7 @@ module _ (E : Engine) (x : Submitted) (queue : List Submitted) (s : IsSound E) (
           let l : x.floor ≤ E.published = ((s.clients x.client k e).cells x.serial (open_cell x) (client_cell k e)).floor in
           omega (arith, l, s.published)
 
-  result : IsHandled E.replica x (after_item E.replica x) (reply_to E.replica x)
+  result : IsHandled E.replica x (after_submission E.replica x) (reply_to E.replica x)
   result = handled E.replica x s.running (s.queued x (subst (IsAmong x) (sym oldest) (inl refl))) floor_within
 
   -- the items of the queue, with the oldest one
@@ -104,13 +104,13 @@ module _ (E : Engine) (x : Submitted) (queue : List Submitted) (s : IsSound E) (
     }
 
 -- The writer's take keeps an engine sound.
-pub took : (E : Engine) → IsSound E → IsLater E (take_item E).engine
+pub took : (E : Engine) → IsSound E → IsLater E (take_submission E).engine
 took E s = at_queue E.queue refl
   where
     at_test : (x : Submitted) (queue : List Submitted) → E.queue ≡ x ∷ queue → (b : Bool)
         → (is_any E.due || nat_le E.batch (length E.handled)) ≡ b → IsLater E (take_oldest E (x ∷ queue)).engine
     at_test x queue e true f = rw f (later_refl E s)
-    at_test x queue e false f = rw f (taken E x queue s e (after_item E.replica x) (reply_to E.replica x) (result E x queue s e))
+    at_test x queue e false f = rw f (taken E x queue s e (after_submission E.replica x) (reply_to E.replica x) (result E x queue s e))
 
     at_queue : (q : List Submitted) → E.queue ≡ q → IsLater E (take_oldest E q).engine
     at_queue [] e = later_refl E s

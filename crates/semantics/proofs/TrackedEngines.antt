@@ -8,10 +8,10 @@ use Rattle.semantics.specs.Replica.{Replica}
 use Rattle.semantics.specs.OneWorld.{AreWithin, IsOfWorld}
 use Rattle.semantics.specs.Exchange.{IsSettled}
 use Rattle.semantics.specs.Engine.{Engine}
-use Rattle.semantics.specs.WriteSteps.{after_item}
+use Rattle.semantics.specs.WriteSteps.{after_submission}
 use Rattle.semantics.proofs.ItemsInTurn.{among_last}
 use Rattle.semantics.proofs.SoundEngines.{IsSound, IsLater}
-use Rattle.semantics.proofs.GrownWorlds.{IsGrownBy, grown_not, grown_further, of_grown, settled_beside}
+use Rattle.semantics.proofs.GrownWorlds.{IsGrownBy, grown_not, grown_further, of_grown, settled_elsewhere}
 use Rattle.semantics.proofs.SettledItems.{GoesOn, item_handled}
 use Rattle.semantics.proofs.FullHistories.{IsShort, item_short}
 use Rattle.semantics.proofs.EngineMoves.{IsStill, HasSubmitted, HasTaken, IsKeptOn}
@@ -43,10 +43,10 @@ pub record HasGoneOn (Claim : List Operation → Engine → Type 0) (K : List Op
   pub claim : Claim world E
 
 -- an engine stays one of its world as another one makes something
-pub engine_beside : (p : ℕ) (K L : List Operation) (E : Engine) → (p ≡ E.replica.own → ⊥) → IsGrownBy p K L → IsEngineOf K E
+pub engine_elsewhere : (p : ℕ) (K L : List Operation) (E : Engine) → (p ≡ E.replica.own → ⊥) → IsGrownBy p K L → IsEngineOf K E
     → IsEngineOf L E
-engine_beside p K L E other g h = record {
-  settled = settled_beside p E.replica.own K L E.replica other g h.settled;
+engine_elsewhere p K L E other g h = record {
+  settled = settled_elsewhere p E.replica.own K L E.replica other g h.settled;
   short = h.short;
   queued = λ x m s is. of_grown K L s g.within (h.queued x m s is);
 }
@@ -91,7 +91,7 @@ module _ (Claim : List Operation → Engine → Type 0) (kept : IsTracked Claim)
     grown = grown_further p K h.world next.world h.grown grown;
     own = l.later.grown.own ∙ h.own;
     engine = record {
-      settled = settled_as next.world E.replica.own F.replica (after_item E.replica x) l.replica next.settled;
+      settled = settled_as next.world E.replica.own F.replica (after_submission E.replica x) l.replica next.settled;
       short = subst IsShort (sym l.replica) (item_short E.replica x h.engine.short);
       queued = λ y m s is. of_grown h.world next.world s grown.within (h.engine.queued y (subst (IsAmong y) (sym l.oldest) (inr m)) s is);
     };
@@ -101,7 +101,7 @@ module _ (Claim : List Operation → Engine → Type 0) (kept : IsTracked Claim)
       here : IsAmong x E.queue
       here = subst (IsAmong x) (sym l.oldest) (inl refl)
 
-      next : GoesOn h.world E.replica.own (after_item E.replica x)
+      next : GoesOn h.world E.replica.own (after_submission E.replica x)
       next = item_handled h.world h.grown.legal E.replica.own E.replica h.engine.settled x (sound.queued x here) (h.engine.queued x here)
 
       grown : IsGrownBy p h.world next.world

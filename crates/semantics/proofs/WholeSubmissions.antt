@@ -7,7 +7,7 @@ use Rattle.ids.specs.declared.refusal.Refusal.{Refusal}
 use Rattle.semantics.specs.Stamped.{Stamped}
 use Rattle.semantics.specs.LegalAnswer.{Request, OfPeer, Submitted}
 use Rattle.semantics.specs.Engine.{Engine, Client, Outcome}
-use Rattle.semantics.specs.WriteSteps.{next_item, with_cell, submit, push}
+use Rattle.semantics.specs.WriteSteps.{next_submission, with_cell, submit, push}
 use Rattle.semantics.specs.PeerSteps.{Receipt, refusal_in, unless_refused, submit_all}
 use Rattle.semantics.proofs.SetElements.{get-set_same}
 use Rattle.semantics.proofs.MovedTokens.{with_client}
@@ -15,7 +15,7 @@ use Rattle.semantics.proofs.ComingItems.{is_of_receipt, awaited}
 
 -- the engine after the client submitted a peer's operation
 abbrev pub with_item : Engine → ℕ → Client → Stamped → Engine
-with_item E c k s = with_client E (E.queue ++ next_item c k (OfPeer s) ∷ []) E.due c (with_cell k (next_item c k (OfPeer s)))
+with_item E c k s = with_client E (E.queue ++ next_submission c k (OfPeer s) ∷ []) E.due c (with_cell k (next_submission c k (OfPeer s)))
 
 abbrev pub IsPushed : Engine → ℕ → Client → Stamped → Outcome → Type 0
 IsPushed E c k s t = ((why : Refusal) × (refusal_in t.reply ≡ Some why)) ⊎ ((t.engine ≡ with_item E c k s) × (refusal_in t.reply ≡ None))
@@ -25,7 +25,7 @@ pub pushed_cases : (E : Engine) (c : ℕ) (k : Client) (s : Stamped) → slice_g
 pushed_cases E c k s h = rw h (at_room (nat_le E.serials (length k.cells)) (nat_le E.capacity (length E.queue)) refl refl)
   where
     at_room : (a b : Bool) → nat_le E.serials (length k.cells) ≡ a → nat_le E.capacity (length E.queue) ≡ b
-        → IsPushed E c k s (submit E c k (next_item c k (OfPeer s)))
+        → IsPushed E c k s (submit E c k (next_submission c k (OfPeer s)))
     at_room true b e f = rw e (inl (_, refl))
     at_room false true e f = rw (e, f) (inl (_, refl))
     at_room false false e f = rw (e, f) (inr (refl, refl))
@@ -46,7 +46,7 @@ pub record IsWhole (E : Engine) (c : ℕ) (k : Client) (bad : Option Refusal) (n
 module _ (E : Engine) (c : ℕ) (k : Client) (bad : Option Refusal) (n : ℕ) (s : Stamped) (ss : List Stamped)
     (h : slice_get E.clients c ≡ Some k) where
   abbrev item : Submitted
-  item = next_item c k (OfPeer s)
+  item = next_submission c k (OfPeer s)
 
   abbrev rest : Engine → Receipt
   rest F = submit_all c bad (suc n) F ss
@@ -115,5 +115,6 @@ submitted_whole c bad n E k [] h e = record {
     none (Some why) e = cc
 submitted_whole c bad n E k (s ∷ ss) h e =
     unless_stopped E c k bad n s ss h
-    (λ f. submitted_whole c bad (suc n) (with_item E c k s) (with_cell k (next_item c k (OfPeer s))) ss (client_there E c k bad n s ss h) f)
+    (λ f. submitted_whole c bad (suc n) (with_item E c k s) (with_cell k (next_submission c k (OfPeer s))) ss
+    (client_there E c k bad n s ss h) f)
     (push E c (OfPeer s)) (pushed_cases E c k s h) e

@@ -3,12 +3,12 @@ use Rattle.std.specs.Prelude.{◌≡◌, ◌⊎◌, ℕ, ◌≤◌, Bool, true, 
 use Rattle.ids.specs.declared.refusal.Refusal.{Refusal}
 use Rattle.ids.specs.declared.refusal.Refusal.TheVariants.{NoMemory, BadFloor}
 use Rattle.semantics.specs.Stamped.{Stamped}
-use Rattle.semantics.specs.LegalAnswer.{Request, OfCommand, OfPeer, Submitted, Reply, NotMade}
+use Rattle.semantics.specs.LegalAnswer.{Request, OfCommand, OfPeer, Submitted, Reply, RefusedAt}
 use Rattle.semantics.specs.Entries.{Entry, Own, Peer}
 use Rattle.semantics.specs.Replica.{Replica, IsRunning}
 use Rattle.semantics.specs.Delivery.{answer_to, deliver}
 use Rattle.semantics.specs.Drain.{counted, drain, drain_for}
-use Rattle.semantics.specs.WriteSteps.{after_item, reply_to, reply_delivered}
+use Rattle.semantics.specs.WriteSteps.{after_submission, reply_to, reply_delivered}
 use Rattle.semantics.specs.Engine.{Handled}
 use Rattle.semantics.specs.PeerAnswers.{IsAnswer}
 
@@ -42,13 +42,13 @@ still_behind w x = cond (nat_lt (length w.replica.entries) x.floor) w.behind (af
 -- the submission is handled by the rules, and every allocation succeeded
 pub record IsWhole (w : Handler) (x : Submitted) (y : Reply) (v : Handler) : Type 0 where
   pub reply : y ≡ reply_to w.replica x
-  pub replica : v.replica ≡ after_item w.replica x
+  pub replica : v.replica ≡ after_submission w.replica x
   pub behind : v.behind ≡ still_behind w x
 
 -- the submission is refused with NoMemory, and nothing has changed; that an allocation failed isn't said
 pub record IsTurnedAway (w : Handler) (x : Submitted) (y : Reply) (v : Handler) : Type 0 where
   pub floor : x.floor ≤ length w.replica.entries
-  pub reply : y ≡ NotMade NoMemory (length w.replica.entries)
+  pub reply : y ≡ RefusedAt NoMemory (length w.replica.entries)
   pub same : v ≡ w
 
 -- a peer's operation is delivered, and the drain after it ends early, as after a failed allocation

@@ -26,7 +26,7 @@ pub record Submitted : Type 0 where
 -- already, and the history has length m then
 pub data Reply : Type 0 where
   Made : OpId → ℕ → Reply
-  NotMade : (why : Refusal) (length : ℕ) → Reply
+  RefusedAt : (why : Refusal) (length : ℕ) → Reply
   KeptAt : (length : ℕ) → Reply
   KnownAt : (length : ℕ) → Reply
 
@@ -44,14 +44,14 @@ IsCause p G x c m e = (make (applied (first_entries m G)) p c ≡ Err e) ⊎ (e 
 -- at length m, where it is refused
 abbrev pub IsLegalAnswer : ℕ → List Entry → Submitted → Command → Reply → Type 0
 IsLegalAnswer p G x c (Made a n) = (s : Stamped) × (entry_at n G ≡ Some (Own x.client x.serial c s)) × (s.id ≡ a)
-IsLegalAnswer p G x c (NotMade e m) = (m ≤ length G) × IsCause p G x c m e × LacksSerial x.client x.serial (first_entries m G)
+IsLegalAnswer p G x c (RefusedAt e m) = (m ≤ length G) × IsCause p G x c m e × LacksSerial x.client x.serial (first_entries m G)
 IsLegalAnswer p G x c (KeptAt m) = ⊥
 IsLegalAnswer p G x c (KnownAt m) = ⊥
 
 -- the reply to an operation that a peer sent: nothing was made, and the history had the length that is named
 abbrev pub IsLegalPeerAnswer : List Entry → Reply → Type 0
 IsLegalPeerAnswer G (Made a n) = ⊥
-IsLegalPeerAnswer G (NotMade e m) = m ≤ length G
+IsLegalPeerAnswer G (RefusedAt e m) = m ≤ length G
 IsLegalPeerAnswer G (KeptAt m) = m ≤ length G
 IsLegalPeerAnswer G (KnownAt m) = m ≤ length G
 

@@ -7,7 +7,7 @@ use Rattle.semantics.specs.LegalHistory.{has_id}
 use Rattle.semantics.specs.Faults.{alone_fault, fault_of}
 use Rattle.semantics.specs.Making.{is_full}
 use Rattle.semantics.specs.Entries.{Entry, applied, first_entries, stamped_entries}
-use Rattle.semantics.specs.LegalAnswer.{Request, OfCommand, OfPeer, Submitted, Reply, Made, NotMade, KeptAt, KnownAt, IsLegalAnswer}
+use Rattle.semantics.specs.LegalAnswer.{Request, OfCommand, OfPeer, Submitted, Reply, Made, RefusedAt, KeptAt, KnownAt, IsLegalAnswer}
 use Rattle.semantics.specs.Delivery.{Delivered, Kept, Known, NotKept, answer_to}
 use Rattle.semantics.specs.WorldHistory.{IsNotBelow}
 
@@ -29,14 +29,14 @@ abbrev pub IsPeerAnswer : (own : ℕ) (members : List ℕ) → List Entry → Su
 IsPeerAnswer p ps G x s (Made a n) = ⊥
 IsPeerAnswer p ps G x s (KeptAt m) = WasAnswered p ps G s x.floor m Kept
 IsPeerAnswer p ps G x s (KnownAt m) = WasAnswered p ps G s x.floor m Known
-IsPeerAnswer p ps G x s (NotMade e m) =
+IsPeerAnswer p ps G x s (RefusedAt e m) =
     WasAnswered p ps G s x.floor m (NotKept e)
     ⊎ ((e ≡ NoMemory) × (x.floor ≤ m) × (m ≤ length G))
     ⊎ ((e ≡ BadFloor) × (m < x.floor) × (m ≤ length G))
 
 -- the position or the length that a reply to a command names isn't below the floor, unless it is refused for that
 abbrev pub IsFromFloor : (floor : ℕ) → Reply → Type 0
-IsFromFloor floor (NotMade e m) = IsNotBelow floor (NotMade e m) ⊎ (e ≡ BadFloor)
+IsFromFloor floor (RefusedAt e m) = IsNotBelow floor (RefusedAt e m) ⊎ (e ≡ BadFloor)
 IsFromFloor floor y = IsNotBelow floor y
 
 -- y is a reply to what was submitted that the history G of replica p, with these members, allows

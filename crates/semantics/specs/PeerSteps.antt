@@ -85,16 +85,16 @@ receive_lines e c ss bad = at_client (slice_get e.clients c)
     at_client (Some k) = as_received (suc (length k.cells)) (submit_all c bad 0 e ss)
 
 -- the operations before the first that names a replica that isn't a member
-abbrev pub before_stranger : List ℕ → List Stamped → List Stamped
-before_stranger ms [] = []
-before_stranger ms (s ∷ ss) = cond (is_of_members ms s) (s ∷ before_stranger ms ss) []
+abbrev pub before_nonmember : List ℕ → List Stamped → List Stamped
+before_nonmember ms [] = []
+before_nonmember ms (s ∷ ss) = cond (is_of_members ms s) (s ∷ before_nonmember ms ss) []
 
 -- the refusal of that one, if there is one
-abbrev pub stranger_fault : List ℕ → List Stamped → Option Refusal
-stranger_fault ms ss = cond (list_all (is_of_members ms) ss) None (Some UnknownReplica)
+abbrev pub nonmember_fault : List ℕ → List Stamped → Option Refusal
+nonmember_fault ms ss = cond (list_all (is_of_members ms) ss) None (Some UnknownReplica)
 
 -- a client receives a message, each operation as a line
 abbrev pub receive_message : Engine → ℕ → Option Message → Outcome
-receive_message e c (Some (Bundle ss)) = receive_lines e c (before_stranger e.replica.members ss) (stranger_fault e.replica.members ss)
+receive_message e c (Some (Bundle ss)) = receive_lines e c (before_nonmember e.replica.members ss) (nonmember_fault e.replica.members ss)
 receive_message e c (Some (Hello v)) = record { engine = e; reply = NoMessage }
 receive_message e c None = record { engine = e; reply = NoMessage }

@@ -61,20 +61,21 @@ preorder Bare = []
 preorder (Tree a beneath next) = a ∷ (preorder beneath ++ preorder next)
 
 -- a stands among the roots, which fall
-abbrev pub beside : OpId → Forest → Forest
-beside a Bare = Tree a Bare Bare
-beside a (Tree b beneath next) = cond (is_smaller_id b a) (Tree a Bare (Tree b beneath next)) (Tree b beneath (beside a next))
+abbrev pub among_siblings : OpId → Forest → Forest
+among_siblings a Bare = Tree a Bare Bare
+among_siblings a (Tree b beneath next) = cond (is_smaller_id b a) (Tree a Bare (Tree b beneath next))
+    (Tree b beneath (among_siblings a next))
 
 -- a stands right beneath p; where p isn't there nothing changes
 abbrev pub beneath_node : OpId → OpId → Forest → Forest
 beneath_node p a Bare = Bare
 beneath_node p a (Tree b beneath next) =
-    cond (is_same_id p b) (Tree b (beside a beneath) next)
+    cond (is_same_id p b) (Tree b (among_siblings a beneath) next)
     (cond (list_any (is_same_id p) (preorder beneath)) (Tree b (beneath_node p a beneath) next) (Tree b beneath (beneath_node p a next)))
 
 -- a stands among the roots, or right beneath p
 abbrev pub graft : Option OpId → OpId → Forest → Forest
-graft None a F = beside a F
+graft None a F = among_siblings a F
 graft (Some p) a F = beneath_node p a F
 
 -- each beneath what it was inserted after; an item's id is greater than that one's, so the smallest come first

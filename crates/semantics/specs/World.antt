@@ -7,7 +7,7 @@ use Rattle.semantics.specs.Stamped.{Stamped}
 use Rattle.semantics.specs.Making.{Command}
 use Rattle.semantics.specs.LegalAnswer.{OfCommand, Asked}
 use Rattle.semantics.specs.Engine.{Engine, Message, Hello, StepReply, Idle, Dropped, Outcome}
-use Rattle.semantics.specs.WriteSteps.{push, take_item, publish, give, whole_step}
+use Rattle.semantics.specs.WriteSteps.{push, take_submission, publish, give, whole_step}
 use Rattle.semantics.specs.ReadSteps.{poll, ask, learn}
 use Rattle.semantics.specs.PeerSteps.{published_vector, say_hello, answer_hello, answer_sent, receive_lines, receive_message}
 
@@ -46,7 +46,7 @@ pub data WorldAct : Type 0 where
   -- the writer sets one answer
   Give : WorldAct
   -- the writer does all of that, for a batch
-  Whole : WorldAct
+  WholeStep : WorldAct
   -- the client polls a serial
   Poll : (client serial : ℕ) → WorldAct
   -- the token asks
@@ -76,10 +76,10 @@ step_by e act = record { engine = e; act = act }
 -- what an act does to its engine, after these messages
 abbrev pub engine_step : List Message → WorldAct → Engine → Outcome
 engine_step ms (Push c command) E = push E c (OfCommand command)
-engine_step ms Take E = take_item E
+engine_step ms Take E = take_submission E
 engine_step ms Publish E = publish E
 engine_step ms Give E = give E
-engine_step ms Whole E = whole_step E
+engine_step ms WholeStep E = whole_step E
 engine_step ms (Poll c serial) E = poll E c serial
 engine_step ms (Ask t q) E = ask E t q
 engine_step ms (Learn t c serial) E = learn E t c serial

@@ -7,7 +7,7 @@ use Rattle.semantics.specs.Vectors.{Vector}
 use Rattle.semantics.specs.Stamped.{Stamped}
 use Rattle.semantics.specs.Making.{is_full}
 use Rattle.semantics.specs.Entries.{Entry}
-use Rattle.semantics.specs.LegalAnswer.{OfPeer, Submitted, NotMade}
+use Rattle.semantics.specs.LegalAnswer.{OfPeer, Submitted, RefusedAt}
 use Rattle.semantics.specs.Replica.{Replica, operations}
 use Rattle.semantics.specs.Delivery.{is_waiting}
 use Rattle.semantics.specs.Engine.{Engine, published_entries, StepReply, SentHello, SentBundle, Received}
@@ -75,7 +75,7 @@ pub record WasRefusedFull (E : Engine) (c first end : ℕ) (s : Stamped) : Type 
   pub submitted : WasSubmitted E c serial item
   pub delivered : item.request ≡ OfPeer s
   pub length : ℕ
-  pub reply : WasReplied E c serial (NotMade HistoryFull length)
+  pub reply : WasReplied E c serial (RefusedAt HistoryFull length)
 
 -- the operation is applied; or the history is full, and the operation waits, or was refused for that
 abbrev pub IsAppliedUnlessFull : Engine → (client first end : ℕ) → Stamped → Type 0

@@ -3,7 +3,7 @@ use Rattle.std.specs.Prelude.{◌≡◌, ◌⊎◌, ℕ, suc, ◌≤◌, ◌==�
 use Rattle.ids.specs.Configurations.{Configuration}
 use Rattle.semantics.specs.LegalHistory.{IsAmong}
 use Rattle.semantics.specs.Entries.{Entry}
-use Rattle.semantics.specs.LegalAnswer.{Submitted, Reply, Made, NotMade, KeptAt, KnownAt}
+use Rattle.semantics.specs.LegalAnswer.{Submitted, Reply, Made, RefusedAt, KeptAt, KnownAt}
 use Rattle.semantics.specs.Engine.{Engine, Client, Cell, Given, Handled}
 use Rattle.semantics.specs.ReadSteps.{cell_under, seen_by}
 use Rattle.semantics.specs.World.{WorldStep, opened, world_after}
@@ -33,7 +33,7 @@ WasReplied E c serial r =
 -- the position or the length that a reply names isn't below the floor
 abbrev pub IsNotBelow : (floor : ℕ) → Reply → Type 0
 IsNotBelow floor (Made a n) = floor ≤ n
-IsNotBelow floor (NotMade why m) = floor ≤ m
+IsNotBelow floor (RefusedAt why m) = floor ≤ m
 IsNotBelow floor (KeptAt m) = floor ≤ m
 IsNotBelow floor (KnownAt m) = floor ≤ m
 

@@ -9,7 +9,7 @@ use Rattle.semantics.specs.NamedIds.{vector_of}
 use Rattle.semantics.specs.DocumentAnswer.{is_any}
 use Rattle.semantics.specs.Stamped.{Stamped}
 use Rattle.semantics.specs.Making.{Command, make}
-use Rattle.semantics.specs.LegalAnswer.{Request, OfCommand, OfPeer, Submitted, Reply, Made, NotMade, KeptAt, KnownAt}
+use Rattle.semantics.specs.LegalAnswer.{Request, OfCommand, OfPeer, Submitted, Reply, Made, RefusedAt, KeptAt, KnownAt}
 use Rattle.semantics.specs.Replica.{Replica, operations, commit_own}
 use Rattle.semantics.specs.Delivery.{Delivered, Kept, Known, NotKept, answer_to}
 use Rattle.semantics.specs.Drain.{counted, receive}
@@ -18,8 +18,8 @@ use Rattle.semantics.specs.Engine.{Given, Cell, Client, Handled, Engine, StepRep
 -- ---- submitting
 
 -- what is submitted next
-abbrev pub next_item : (client : ℕ) → Client → Request → Submitted
-next_item c k request = record { client = c; serial = suc (length k.cells); request = request; floor = k.seen }
+abbrev pub next_submission : (client : ℕ) → Client → Request → Submitted
+next_submission c k request = record { client = c; serial = suc (length k.cells); request = request; floor = k.seen }
 
 -- the client with one more cell
 abbrev pub with_cell : Client → Submitted → Client
@@ -38,7 +38,7 @@ push e c request = at_client (slice_get e.clients c)
   where
     at_client : Option Client → Outcome
     at_client None = record { engine = e; reply = Idle }
-    at_client (Some k) = submit e c k (next_item c k request)
+    at_client (Some k) = submit e c k (next_submission c k request)
 
 -- ---- handling
 
@@ -53,14 +53,14 @@ after_made r x c (Ok o) = commit_own r x.client x.serial c (stamp (operations r)
 
 -- the reply to what its rules make of a command
 abbrev pub reply_made : Replica → Result Operation Refusal → Reply
-reply_made r (Err why) = NotMade why (length r.entries)
+reply_made r (Err why) = RefusedAt why (length r.entries)
 reply_made r (Ok o) = Made o.id (length r.entries)
 
 -- the reply to a delivery, after which the history has length m
 abbrev pub reply_delivered : (length : ℕ) → Delivered → Reply
 reply_delivered m Kept = KeptAt m
 reply_delivered m Known = KnownAt m
-reply_delivered m (NotKept why) = NotMade why m
+reply_delivered m (NotKept why) = RefusedAt why m
 
 -- the replica after a request: it makes of a command what its rules make, and a delivery is followed by a drain
 abbrev pub after_request : Replica → Submitted → Request → Replica
@@ -73,12 +73,12 @@ reply_requested r (OfCommand c) = reply_made r (make (operations r) r.own c)
 reply_requested r (OfPeer s) = reply_delivered (length (receive r s).entries) (answer_to r s)
 
 -- the replica after a submission: one whose floor is above the history changes nothing
-abbrev pub after_item : Replica → Submitted → Replica
-after_item r x = cond (nat_lt (length r.entries) x.floor) r (after_request r x x.request)
+abbrev pub after_submission : Replica → Submitted → Replica
+after_submission r x = cond (nat_lt (length r.entries) x.floor) r (after_request r x x.request)
 
 -- the reply to a submission
 abbrev pub reply_to : Replica → Submitted → Reply
-reply_to r x = cond (nat_lt (length r.entries) x.floor) (NotMade BadFloor (length r.entries)) (reply_requested r x.request)
+reply_to r x = cond (nat_lt (length r.entries) x.floor) (RefusedAt BadFloor (length r.entries)) (reply_requested r x.request)
 
 -- the writer takes the oldest submission and handles it, while fewer than a batch are handled and none is due
 abbrev pub take_oldest : Engine → List Submitted → Outcome
@@ -88,15 +88,15 @@ take_oldest e (x ∷ queue) =
     (record {
       engine = record e {
         queue = queue;
-        replica = after_item e.replica x;
+        replica = after_submission e.replica x;
         handled = e.handled ++ (record { submitted = x; reply = reply_to e.replica x }) ∷ [];
       };
       reply = Took;
     })
 
 -- the writer takes and handles the next submission, if it may
-abbrev pub take_item : Engine → Outcome
-take_item e = take_oldest e e.queue
+abbrev pub take_submission : Engine → Outcome
+take_submission e = take_oldest e e.queue
 
 -- the writer publishes all that it handled
 abbrev pub publish : Engine → Outcome
@@ -147,7 +147,7 @@ give e = give_oldest e e.due
 -- n takes
 abbrev pub take_for : ℕ → Engine → Engine
 take_for zero e = e
-take_for (suc n) e = take_for n (take_item e).engine
+take_for (suc n) e = take_for n (take_submission e).engine
 
 -- n gives
 abbrev pub give_for : ℕ → Engine → Engine

@@ -5,7 +5,7 @@ ghost use Rattle.semantics.specs.Stamped.{Stamped};
 ghost use Rattle.ids.specs.declared.refusal.Refusal.{Refusal};
 ghost use Rattle.semantics.specs.Making.{Command, make};
 ghost use Rattle.semantics.specs.Entries.{Entry, Own, IsEntryHistory, IsAbove, applied, entry_at};
-ghost use Rattle.semantics.specs.LegalAnswer.{Submitted, Reply, Made, NotMade, IsLegalAnswer, IsLegalReading, Asked, Reading};
+ghost use Rattle.semantics.specs.LegalAnswer.{Submitted, Reply, Made, RefusedAt, IsLegalAnswer, IsLegalReading, Asked, Reading};
 ghost use Rattle.semantics.specs.Ids.{OpId};
 
 /// What a replica itself replies is legal: the id of what it appended, or the refusal of its rules.
@@ -13,7 +13,7 @@ pub fn own_replies_are_legal()
     ensures made { (p : ℕ) (G : List Entry) (x : Submitted) (c : Command) (s : Stamped) →
         IsLegalAnswer p (Own x.client x.serial c s ∷ G) x c (Made s.id (length G)) }
     ensures refused { (p : ℕ) (G : List Entry) (x : Submitted) (c : Command) (why : Refusal) → IsAbove x.client x.serial G →
-        make (applied G) p c ≡ Err why → IsLegalAnswer p G x c (NotMade why (length G)) }
+        make (applied G) p c ≡ Err why → IsLegalAnswer p G x c (RefusedAt why (length G)) }
 {}
 
 /// A legal reply stays legal as the history grows.
@@ -21,7 +21,7 @@ pub fn replies_stay_legal()
     ensures made { (p : ℕ) (G : List Entry) (e : Entry) (x : Submitted) (c : Command) (a : OpId) (n : ℕ) →
         IsLegalAnswer p G x c (Made a n) → IsLegalAnswer p (e ∷ G) x c (Made a n) }
     ensures refused { (p : ℕ) (G : List Entry) (e : Entry) (x : Submitted) (c : Command) (why : Refusal) (m : ℕ) →
-        IsLegalAnswer p G x c (NotMade why m) → IsLegalAnswer p (e ∷ G) x c (NotMade why m) }
+        IsLegalAnswer p G x c (RefusedAt why m) → IsLegalAnswer p (e ∷ G) x c (RefusedAt why m) }
 {}
 
 /// A legal reading stays legal as the history grows.

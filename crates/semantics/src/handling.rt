@@ -4,7 +4,7 @@ ghost use Rattle.std.specs.Prelude.{◌≡◌, ◌+◌, ◌<◌, ℕ, true, List
 ghost use Rattle.ids.specs.declared.refusal.Refusal.{Refusal};
 ghost use Rattle.ids.specs.declared.refusal.Refusal.TheVariants.{BadFloor};
 ghost use Rattle.semantics.specs.Entries.{IsAbove, Entry};
-ghost use Rattle.semantics.specs.LegalAnswer.{Submitted, Reply, NotMade};
+ghost use Rattle.semantics.specs.LegalAnswer.{Submitted, Reply, RefusedAt};
 ghost use Rattle.semantics.specs.Replica.{IsRunning};
 ghost use Rattle.semantics.specs.Engine.{Handled};
 ghost use Rattle.semantics.specs.WorldHistory.{BeginsWith, of_client};
@@ -41,8 +41,9 @@ pub fn batches_grow()
 /// A submission that is refused because an allocation failed, or for its floor, changes nothing. It is refused for its floor
 /// exactly where that is above the history.
 pub fn refused_items_change_nothing()
-    ensures same { (w v : Handler) (x : Submitted) (e : Refusal) (m : ℕ) → is_outside_rules e ≡ true → Handles w x (NotMade e m) v → v ≡ w }
+    ensures same { (w v : Handler) (x : Submitted) (e : Refusal) (m : ℕ) → is_outside_rules e ≡ true → Handles w x (RefusedAt e m) v
+        → v ≡ w }
     ensures floor { (w v : Handler) (x : Submitted) (y : Reply) → Handles w x y v →
-        (length w.replica.entries < x.floor → y ≡ NotMade BadFloor (length w.replica.entries))
-        × ((m : ℕ) → y ≡ NotMade BadFloor m → length w.replica.entries < x.floor) }
+        (length w.replica.entries < x.floor → y ≡ RefusedAt BadFloor (length w.replica.entries))
+        × ((m : ℕ) → y ≡ RefusedAt BadFloor m → length w.replica.entries < x.floor) }
 {}

@@ -12,11 +12,11 @@ ghost use Rattle.semantics.specs.View.{view};
 ghost use Rattle.semantics.specs.Stamped.{Stamped};
 ghost use Rattle.semantics.specs.Making.{Command};
 ghost use Rattle.semantics.specs.Entries.{IsEntryHistory, Own, applied, entry_at, first_entries, stamped_entries};
-ghost use Rattle.semantics.specs.LegalAnswer.{Request, OfCommand, OfPeer, Submitted, Reply, Made, NotMade, Asked, OfDocument, Reading};
+ghost use Rattle.semantics.specs.LegalAnswer.{Request, OfCommand, OfPeer, Submitted, Reply, Made, RefusedAt, Asked, OfDocument, Reading};
 ghost use Rattle.semantics.specs.LegalAnswer.{Answered, LacksSerial, IsLegalReply, reading_of};
 ghost use Rattle.semantics.specs.Engine.{Engine, Client, Given, Message, Hello, Bundle, Ticket, Replied, Read, SentBundle, Received};
 ghost use Rattle.semantics.specs.Engine.{published_entries};
-ghost use Rattle.semantics.specs.WriteSteps.{next_item, push};
+ghost use Rattle.semantics.specs.WriteSteps.{next_submission, push};
 ghost use Rattle.semantics.specs.ReadSteps.{poll, ask, learn, seen_by};
 ghost use Rattle.semantics.specs.PeerSteps.{say_hello, answer_hello, receive_lines};
 ghost use Rattle.semantics.specs.World.{WorldAct, WorldStep, Push, step_by, sent_by};
@@ -38,11 +38,11 @@ pub fn histories_are_entry_histories()
 pub fn tickets_are_for_what_was_submitted()
     ensures ticket { (E : Engine) (c : ℕ) (request : Request) (serial : ℕ) → (push E c request).reply ≡ Ticket serial →
         (k : Client) × (slice_get E.clients c ≡ Some k) × (serial ≡ suc (length k.cells))
-        × WasSubmitted (push E c request).engine c serial (next_item c k request) }
+        × WasSubmitted (push E c request).engine c serial (next_submission c k request) }
     ensures kept { (cs : List Configuration) (steps more : List WorldStep) (e c : ℕ) (command : Command) (serial : ℕ) (E F : Engine) →
         IsEngineAfter cs steps e E → (push E c (OfCommand command)).reply ≡ Ticket serial →
         IsEngineAfter cs (steps ++ step_by e (Push c command) ∷ more) e F →
-        (k : Client) × (slice_get E.clients c ≡ Some k) × WasSubmitted F c serial (next_item c k (OfCommand command)) }
+        (k : Client) × (slice_get E.clients c ≡ Some k) × WasSubmitted F c serial (next_submission c k (OfCommand command)) }
     ensures received { (cs : List Configuration) (steps : List WorldStep) (e : ℕ) (E : Engine) → IsEngineAfter cs steps e E →
         (c first n : ℕ) (ss : List Stamped) (bad : Option Refusal) (stop : Option (ℕ × Refusal)) →
         (receive_lines E c ss bad).reply ≡ Received first n stop → (i : ℕ) → i < n →
@@ -85,7 +85,7 @@ pub fn refused_commands_stand_nowhere()
     ensures once { (cs : List Configuration) (steps : List WorldStep) (e : ℕ) (E : Engine) → IsEngineAfter cs steps e E →
         (c serial : ℕ) (q r : Reply) → WasReplied E c serial q → WasReplied E c serial r → q ≡ r }
     ensures refused { (cs : List Configuration) (steps : List WorldStep) (e : ℕ) (E : Engine) → IsEngineAfter cs steps e E →
-        (c serial : ℕ) (why : Refusal) (n : ℕ) → WasReplied E c serial (NotMade why n) → LacksSerial c serial E.replica.entries }
+        (c serial : ℕ) (why : Refusal) (n : ℕ) → WasReplied E c serial (RefusedAt why n) → LacksSerial c serial E.replica.entries }
 {}
 
 /// Each reading is what a published history answers that begins with what its token had seen: the document's answer, and the view

@@ -7,7 +7,7 @@ use Rattle.std.specs.List.{filter}
 use Rattle.std.proofs.lemmas.List.{map-append, take_more}
 use Rattle.std.proofs.lemmas.List.Elements.{filter-append}
 use Rattle.semantics.specs.Elements.{Element, Field, Name}
-use Rattle.semantics.specs.Paths.{FieldKey}
+use Rattle.semantics.specs.Paths.{FieldHop}
 use Rattle.semantics.specs.DocumentAnswer.{is_any}
 use Rattle.columns.proofs.Same.{some_is}
 use Rattle.tree.specs.declared.node.Node.{Node}
@@ -90,6 +90,6 @@ pub field_shows : (ns : List Node) → IsTree ns → (e : Element) (i k j : ℕ)
     ≡ (is_written (slice_get ns (get_or (links ns i).0 k d).1) && is_any ((context ns).presence (Field e (get_or (links ns i).0 k d).0)))
 field_shows ns t e i k j d at h n =
     let f = get_or (links ns i).0 k d in
-    let same : j ≡ f.1 = some_is j f.1 (sym n ∙ ap (λ o. next_number ns o (FieldKey f.0)) at ∙ field_there ns t i k d h) in
+    let same : j ≡ f.1 = some_is j f.1 (sym n ∙ ap (λ o. next_number ns o (FieldHop f.0)) at ∙ field_there ns t i k d h) in
     ap (λ m. is_written (slice_get ns m) && is_any (presence_of (slice_get ns j))) same
     ∙ ap (λ o. is_written (slice_get ns f.1) && is_any (presence_of (node_in ns o))) (sym n)

@@ -4,18 +4,18 @@ use Rattle.std.specs.Prelude.{IsSome, option_map}
 use Rattle.semantics.specs.Ids.{OpId}
 use Rattle.semantics.specs.Elements.{Element, Item, Place, At, HeadOf, Tag, tag_of, Scalar as TheScalar, Value, EmptyMap}
 use Rattle.semantics.specs.Operations.{Assign, Insert, Delete, element_of, scalar_in, slot_of, target_in, value_of}
-use Rattle.semantics.specs.Paths.{Key, keys_from_root}
+use Rattle.semantics.specs.Paths.{Hop, hops_from_root}
 use Rattle.semantics.specs.LegalHistory.{IsFormed}
 use Rattle.semantics.specs.Vectors.{covers}
 use Rattle.semantics.specs.Tables.{by_table}
 use Rattle.semantics.specs.Context.{Context, clear, apply}
 use Rattle.semantics.specs.Stamped.{loose_operation}
-use Rattle.semantics.proofs.ElementPaths.{down-keys_from_root}
+use Rattle.semantics.proofs.ElementPaths.{down-hops_from_root}
 use Rattle.operation.specs.value.declared.value.Val.{Val}
-use Rattle.operation.specs.value.Meanings.{scalar_of, value_of as meaning_of}
+use Rattle.operation.specs.value.Values.{scalar_of, value_of as meaning_of}
 use Rattle.operation.specs.declared.op.Mutation.TheVariants as mutation
 use Rattle.operation.specs.declared.op.Op.{Op}
-use Rattle.operation.specs.Meanings.{mutation_of, stamped_of}
+use Rattle.operation.specs.Ops.{mutation_of, stamped_of}
 use Rattle.tree.specs.declared.stamp.Stamp.{Stamp}
 use Rattle.tree.specs.Nodes.{context, node_at, register_room}
 use Rattle.tree.specs.Writes.{assigned, deps_of, end_of, linked}
@@ -23,8 +23,8 @@ use Rattle.tree.specs.Trees.{CanInsert, FitsIn, IsPlaced, IsReserved, Planted, R
 use Rattle.tree.proofs.Writes.{assign_is, delete_is, insert_is}
 use Rattle.tree.proofs.Slots.{formed_slot, slot_of_any}
 
-pub end_is : (p : Place) (path : List Key) → path ≡ keys_from_root (element_of p) → end_of path ≡ element_of p
-end_is p path q = ap end_of q ∙ down-keys_from_root (element_of p)
+pub end_is : (p : Place) (path : List Hop) → path ≡ hops_from_root (element_of p) → end_of path ≡ element_of p
+end_is p path q = ap end_of q ∙ down-hops_from_root (element_of p)
 
 -- an assign and a delete stand at an element
 at_element : (v : Value) (p : Place) → IsFormed (Assign v) p → At (element_of p) ≡ p
@@ -38,7 +38,7 @@ delete_at_element (HeadOf l) f = cc
 -- an operation, and a stamp that is made of it
 module _ (o : Op) (s : Stamp) (same_id : s.id ≡ o.id) (same_vector : s.vector.now ≡ o.deps)
     (formed : IsFormed (mutation_of o.mutation) o.place) (C D : Context) where
-  pub delete_applied : o.mutation ≡ mutation.Delete → (path : List Key) → path ≡ keys_from_root (element_of o.place)
+  pub delete_applied : o.mutation ≡ mutation.Delete → (path : List Hop) → path ≡ hops_from_root (element_of o.place)
       → D ≡ clear C (end_of path) (deps_of s) → D ≡ apply C (loose_operation (stamped_of s.table.now o))
   delete_applied m path q done =
       let place : At (element_of o.place) ≡ o.place = delete_at_element o.place (subst (λ c. IsFormed (mutation_of c) o.place) m formed) in
@@ -47,7 +47,7 @@ module _ (o : Op) (s : Stamp) (same_id : s.id ≡ o.id) (same_vector : s.vector.
       ∙ (λ i. apply C
       (record { id = o.id; deps = covers (by_table s.table.now o.deps); place = place i; mutation = mutation_of (sym m i) }))
 
-  pub assign_applied : (v : Val) → o.mutation ≡ mutation.Assign v → (path : List Key) → path ≡ keys_from_root (element_of o.place)
+  pub assign_applied : (v : Val) → o.mutation ≡ mutation.Assign v → (path : List Hop) → path ≡ hops_from_root (element_of o.place)
       → (k : Tag) → k ≡ tag_of (meaning_of v) → (r : Option TheScalar) → r ≡ scalar_in (Some (meaning_of v))
       → D ≡ assigned C s.id (deps_of s) (end_of path) k r → D ≡ apply C (loose_operation (stamped_of s.table.now o))
   assign_applied v m path q k tag r scalar done =

@@ -4,7 +4,7 @@ use Rattle.std.specs.List.{list_any}
 use Rattle.std.proofs.lemmas.Bool.{or_cases}
 use Rattle.std.proofs.lemmas.List.{take-append-drop}
 use Rattle.semantics.specs.Elements.{Element, Doc, is_same, is_under}
-use Rattle.semantics.specs.Paths.{Key, child, down}
+use Rattle.semantics.specs.Paths.{Hop, child, down}
 use Rattle.semantics.proofs.Orders.{same_elements}
 use Rattle.semantics.proofs.ElementPaths.{down-append}
 use Rattle.tree.specs.declared.node.Node.{Node}
@@ -14,13 +14,13 @@ use Rattle.tree.proofs.Shape.{next_some, number_extend, under_none}
 use Rattle.tree.proofs.Clears.{beneath, deeper, under_child, under_itself, under_parent, under_step}
 
 -- an item with a node, of a list at e or under it, stands under one of e's children
-pub beneath_child : (ns : List Node) (e : Element) (i : ℕ) → number ns e ≡ Some i → (y : Element) (k : Key) (j : ℕ)
+pub beneath_child : (ns : List Node) (e : Element) (i : ℕ) → number ns e ≡ Some i → (y : Element) (k : Hop) (j : ℕ)
     → number ns (child y k) ≡ Some j → is_under y e ≡ true → list_any (is_under (child y k)) (beneath e (links ns i)) ≡ true
 beneath_child ns e i at y k j p u =
     deeper ns e i at y k j (next_some ns (number ns y) k j (sym (number_extend ns y k) ∙ p)) (λ h hp. under_child ns e i at y h hp u)
 
 -- what is on the way down to a place below z is on the way to z, or below it
-way_parts : (z x : Element) (ks : List Key) → is_under (down z ks) x ≡ true → (is_under z x ≡ true) ⊎ (is_under x z ≡ true)
+way_parts : (z x : Element) (ks : List Hop) → is_under (down z ks) x ≡ true → (is_under z x ≡ true) ⊎ (is_under x z ≡ true)
 way_parts z x [] u = inl u
 way_parts z x (k ∷ ks) u = elim (way_parts (child z k) x ks u) [
   | inl v ↦ elim (or_cases (is_same (child z k) x) (is_under z x) (sym (under_step z x k) ∙ v)) [
@@ -31,7 +31,7 @@ way_parts z x (k ∷ ks) u = elim (way_parts (child z k) x ks u) [
 ]
 
 -- where a hop leads to no node, what has a node on the way down to the path's end is on the way to the hop's start
-pub way_lost : (ns : List Node) (path : List Key) (m : ℕ) (z : Element) (h : Key) → end_of (take m path) ≡ child z h
+pub way_lost : (ns : List Node) (path : List Hop) (m : ℕ) (z : Element) (h : Hop) → end_of (take m path) ≡ child z h
     → number ns (child z h) ≡ None
     → (x : Element) (j : ℕ) → number ns x ≡ Some j → is_under (end_of path) x ≡ true → is_under z x ≡ true
 way_lost ns path m z h is none x j p u =

@@ -10,7 +10,7 @@ use Rattle.std.proofs.lemmas.List.{drop_more}
 use Rattle.std.proofs.lemmas.List.Folds.{list_any-append}
 use Rattle.semantics.specs.Ids.{OpId, IdSet, id_cmp}
 use Rattle.semantics.specs.Elements.{Element, Doc, Field, Item, Name, name_cmp, is_same, is_under}
-use Rattle.semantics.specs.Paths.{Key, FieldKey, ItemKey, child}
+use Rattle.semantics.specs.Paths.{Hop, FieldHop, ItemHop, child}
 use Rattle.semantics.specs.Context.{Context, without, clear}
 use Rattle.semantics.proofs.Orders.{element_itself, same_elements}
 use Rattle.columns.proofs.Same.{some_is}
@@ -103,23 +103,23 @@ any_linked R g tied a j (l ∷ ls) p =
       | false ↦ λ q r. or_right (is_under (g a) (g l.0)) _ (any_linked R g tied a j ls r)
     ] refl p
 
-pub linked_there : (e : Element) (l : Links) (k : Key) (j : ℕ) → linked_by l k ≡ Some j
+pub linked_there : (e : Element) (l : Links) (k : Hop) (j : ℕ) → linked_by l k ≡ Some j
     → list_any (is_under (child e k)) (beneath e l) ≡ true
-linked_there e l (FieldKey n) j p =
+linked_there e l (FieldHop n) j p =
     list_any-append (is_under (Field e n)) (fields_of e l.0) (items_of e l.1)
     ∙ or_left _ _ (any_linked name_cmp (Field e) (λ a b q. or_left _ _ (and_from _ _ q (element_itself e))) n j l.0 p)
-linked_there e l (ItemKey a) j p =
+linked_there e l (ItemHop a) j p =
     list_any-append (is_under (Item e a)) (fields_of e l.0) (items_of e l.1)
     ∙ or_right (list_any (is_under (Item e a)) (fields_of e l.0)) _
     (any_linked id_cmp (Item e) (λ a b q. or_left _ _ (and_from _ _ q (element_itself e))) a j l.1 p)
 
-pub under_step : (y e : Element) (k : Key) → is_under (child y k) e ≡ (is_same (child y k) e || is_under y e)
-under_step y e (FieldKey n) = refl
-under_step y e (ItemKey a) = refl
+pub under_step : (y e : Element) (k : Hop) → is_under (child y k) e ≡ (is_same (child y k) e || is_under y e)
+under_step y e (FieldHop n) = refl
+under_step y e (ItemHop a) = refl
 
 module _ (ns : List Node) (e : Element) (i : ℕ) (at : number ns e ≡ Some i) where
   -- a child of what is e, or stands under one of its children, stands under one of them
-  pub deeper : (y : Element) (k : Key) (j : ℕ) → (h : ℕ) × (number ns y ≡ Some h) × (child_number ns h k ≡ Some j)
+  pub deeper : (y : Element) (k : Hop) (j : ℕ) → (h : ℕ) × (number ns y ≡ Some h) × (child_number ns h k ≡ Some j)
       → ((h : ℕ) → number ns y ≡ Some h → (is_same y e || list_any (is_under y) (beneath e (links ns i))) ≡ true)
       → list_any (is_under (child y k)) (beneath e (links ns i)) ≡ true
   deeper y k j (h, hp, hc) at_or_under = elim (or_cases (is_same y e) (list_any (is_under y) (beneath e (links ns i))) (at_or_under h hp)) [
@@ -132,7 +132,7 @@ module _ (ns : List Node) (e : Element) (i : ℕ) (at : number ns e ≡ Some i) 
         (beneath e (links ns i)) w
   ]
 
-  step : (y : Element) (k : Key) (j : ℕ) → next_number ns (number ns y) k ≡ Some j
+  step : (y : Element) (k : Hop) (j : ℕ) → next_number ns (number ns y) k ≡ Some j
       → ((h : ℕ) → number ns y ≡ Some h → is_under y e ≡ true → (is_same y e || list_any (is_under y) (beneath e (links ns i))) ≡ true)
       → (is_same (child y k) e || is_under y e) ≡ true
       → (is_same (child y k) e || list_any (is_under (child y k)) (beneath e (links ns i))) ≡ true
@@ -145,30 +145,30 @@ module _ (ns : List Node) (e : Element) (i : ℕ) (at : number ns e ≡ Some i) 
   pub under_child : (x : Element) (j : ℕ) → number ns x ≡ Some j → is_under x e ≡ true
       → (is_same x e || list_any (is_under x) (beneath e (links ns i))) ≡ true
   under_child Doc j p u = or_left _ _ u
-  under_child (Field y n) j p u = step y (FieldKey n) j p (under_child y) u
-  under_child (Item y a) j p u = step y (ItemKey a) j p (under_child y) u
+  under_child (Field y n) j p u = step y (FieldHop n) j p (under_child y) u
+  under_child (Item y a) j p u = step y (ItemHop a) j p (under_child y) u
 
-parent_same : (y e : Element) (k l : Key) → child y k ≡ child e l → y ≡ e
-parent_same y e (FieldKey n) (FieldKey m) p = cc
-parent_same y e (FieldKey n) (ItemKey b) p = cc
-parent_same y e (ItemKey a) (FieldKey m) p = cc
-parent_same y e (ItemKey a) (ItemKey b) p = cc
+parent_same : (y e : Element) (k l : Hop) → child y k ≡ child e l → y ≡ e
+parent_same y e (FieldHop n) (FieldHop m) p = cc
+parent_same y e (FieldHop n) (ItemHop b) p = cc
+parent_same y e (ItemHop a) (FieldHop m) p = cc
+parent_same y e (ItemHop a) (ItemHop b) p = cc
 
-no_child : (e : Element) (l : Key) → is_same Doc (child e l) ≡ false
-no_child e (FieldKey n) = refl
-no_child e (ItemKey a) = refl
+no_child : (e : Element) (l : Hop) → is_same Doc (child e l) ≡ false
+no_child e (FieldHop n) = refl
+no_child e (ItemHop a) = refl
 
 -- what stands under a child stands under its parent
-pub under_parent : (x e : Element) (l : Key) → is_under x (child e l) ≡ true → is_under x e ≡ true
+pub under_parent : (x e : Element) (l : Hop) → is_under x (child e l) ≡ true → is_under x e ≡ true
 under_parent Doc e l u = absurd (true≢false (sym u ∙ no_child e l))
 under_parent (Field y n) e l u = elim (or_cases (is_same (Field y n) (child e l)) (is_under y (child e l)) u) [
   | inl s ↦ or_right (is_same (Field y n) e) _
-      (ap (λ z. is_under z e) (parent_same y e (FieldKey n) l (same_elements (Field y n) (child e l) s)) ∙ under_itself e)
+      (ap (λ z. is_under z e) (parent_same y e (FieldHop n) l (same_elements (Field y n) (child e l) s)) ∙ under_itself e)
   | inr v ↦ or_right (is_same (Field y n) e) _ (under_parent y e l v)
 ]
 under_parent (Item y a) e l u = elim (or_cases (is_same (Item y a) (child e l)) (is_under y (child e l)) u) [
   | inl s ↦ or_right (is_same (Item y a) e) _
-      (ap (λ z. is_under z e) (parent_same y e (ItemKey a) l (same_elements (Item y a) (child e l) s)) ∙ under_itself e)
+      (ap (λ z. is_under z e) (parent_same y e (ItemHop a) l (same_elements (Item y a) (child e l) s)) ∙ under_itself e)
   | inr v ↦ or_right (is_same (Item y a) e) _ (under_parent y e l v)
 ]
 
@@ -183,9 +183,9 @@ within_under e l x w = elim (or_cases (is_same x e) (list_any (is_under x) (bene
   | inr v ↦ elim
       (or_cases (list_any (is_under x) (fields_of e l.0)) (list_any (is_under x) (items_of e l.1))
       (sym (list_any-append (is_under x) (fields_of e l.0) (items_of e l.1)) ∙ v)) [
-        | inl f ↦ any_gives (is_under x) (λ (f : Name × ℕ). Field e f.0) (is_under x e ≡ true) (λ f u. under_parent x e (FieldKey f.0) u)
+        | inl f ↦ any_gives (is_under x) (λ (f : Name × ℕ). Field e f.0) (is_under x e ≡ true) (λ f u. under_parent x e (FieldHop f.0) u)
             l.0 f
-        | inr a ↦ any_gives (is_under x) (λ (a : OpId × ℕ). Item e a.0) (is_under x e ≡ true) (λ a u. under_parent x e (ItemKey a.0) u)
+        | inr a ↦ any_gives (is_under x) (λ (a : OpId × ℕ). Item e a.0) (is_under x e ≡ true) (λ a u. under_parent x e (ItemHop a.0) u)
             l.1 a
       ]
 ]

@@ -9,17 +9,17 @@ use Rattle.std.specs.FinMap.Entries.{find-put}
 use Rattle.std.proofs.lemmas.Bool.{and_parts}
 use Rattle.std.proofs.lemmas.Option.{slice_get-get_or}
 use Rattle.semantics.specs.Elements.{Element, Field, Item, Name, name_cmp, is_same}
-use Rattle.semantics.specs.Paths.{FieldKey}
+use Rattle.semantics.specs.Paths.{FieldHop}
 use Rattle.semantics.specs.Context.{Context}
 use Rattle.semantics.specs.DocumentAnswer.{is_any}
 use Rattle.semantics.proofs.Orders.{name_total, same_elements}
 use Rattle.tree.specs.declared.node.Node.{Node}
-use Rattle.tree.specs.Nodes.{IsTree, child_number, context, flags_of, gone_of, is_flagged, links, links_of, node_at, node_in, number}
+use Rattle.tree.specs.Nodes.{IsTree, child_number, context, flags_of, empty_below_of, is_flagged, links, links_of, node_at, node_in, number}
 use Rattle.tree.specs.Nodes.{order_of}
 use Rattle.tree.specs.Nodes.{presence_of, visible_of}
 use Rattle.tree.specs.Shown.{AreEmpty, SameButFlags, ShownBut}
 use Rattle.tree.proofs.Shape.{links_each, node_found, node_set, number_child}
-use Rattle.tree.proofs.SameViews.{gone_view, visible_view}
+use Rattle.tree.proofs.SameViews.{empty_below_view, visible_view}
 use Rattle.tree.proofs.Showing.{flag_same, flags_context, flags_number, or_parts}
 use Rattle.tree.proofs.Widened.{same_set}
 
@@ -55,14 +55,14 @@ module _ (ns : List Node) (t : IsTree ns) (i : ℕ) (n m : Node) (g : slice_get 
       by false q = elim (eq_by_cmp name_cmp k name) as
           (λ c. is_flagged (node_at ns x) k ≡ cond (c && false) b (is_flagged (node_at ns x) k)) [ true ↦ refl | false ↦ refl ]
 
-  module _ (j : ℕ) (child : child_number ns i (FieldKey name) ≡ Some j) (is : b ≡ is_any (presence_of (slice_get ns j))) where
+  module _ (j : ℕ) (child : child_number ns i (FieldHop name) ≡ Some j) (is : b ≡ is_any (presence_of (slice_get ns j))) where
     -- where the flag is set to whether something stands there, nothing stands at the field unless it is raised
     here : (x : Element) (k : Name) (c : Bool) → is_same (Field x k) (Field e name) ≡ c
         → (c ≡ false → is_flagged (node_at ns x) k ≡ false → is_any ((context ns).presence (Field x k)) ≡ false)
         → cond c b (is_flagged (node_at ns x) k) ≡ false → is_any ((context ns).presence (Field x k)) ≡ false
     here x k true q was low =
         ap (λ y. is_any ((context ns).presence y)) (same_elements (Field x k) (Field e name) q)
-        ∙ ap (λ o. is_any (presence_of (node_in ns o))) (number_child ns e i (FieldKey name) at ∙ child)
+        ∙ ap (λ o. is_any (presence_of (node_in ns o))) (number_child ns e i (FieldHop name) at ∙ child)
         ∙ sym is ∙ low
     here x k false q was low = was refl low
 
@@ -73,27 +73,29 @@ module _ (ns : List Node) (t : IsTree ns) (i : ℕ) (n m : Node) (g : slice_get 
     low_field x k was low = ap (λ (C : Context). is_any (C.presence (Field x k))) (sym (flags_context ns new same))
         ∙ here x k (is_same (Field x k) (Field e name)) refl was (sym (flag_read x k) ∙ low)
 
-    gone_same : m.gone ≡ n.gone → (l : Element) → gone_of (node_at new l) ≡ gone_of (node_at ns l)
-    gone_same q l = sym (gone_view ns new (links_each ns i n m g same_links) (same_set gone_of ns i n m g q) l)
+    empty_below_same : m.empty_below ≡ n.empty_below → (l : Element) → empty_below_of (node_at new l) ≡ empty_below_of (node_at ns l)
+    empty_below_same q l = sym (empty_below_view ns new (links_each ns i n m g same_links) (same_set empty_below_of ns i n m g q) l)
 
-    pub field_empty : m.gone ≡ n.gone → AreEmpty ns → AreEmpty new
-    field_empty gone empty = record {
+    pub field_empty : m.empty_below ≡ n.empty_below → AreEmpty ns → AreEmpty new
+    field_empty empty_below empty = record {
       items = λ l a lt. ap (λ (C : Context). is_any (C.presence (Item l a))) (sym (flags_context ns new same))
-          ∙ empty.items l a (subst (λ k. a.counter < k) (gone_same gone l) lt);
+          ∙ empty.items l a (subst (λ k. a.counter < k) (empty_below_same empty_below l) lt);
       fields = λ x k low. low_field x k (λ far. empty.fields x k) low;
     }
 
-    pub field_shown : m.gone ≡ n.gone → (off : Element → Bool) → ShownBut ns (λ x. is_same x (Field e name) || off x) → ShownBut new off
-    field_shown gone off s =
+    pub field_shown : m.empty_below ≡ n.empty_below → (off : Element → Bool) → ShownBut ns (λ x. is_same x (Field e name) || off x)
+        → ShownBut new off
+    field_shown empty_below off s =
         let C = flags_context ns new same in
         let visible = same_set visible_of ns i n m g (ap (λ o. o.visible) order) in
         record {
           flag = s.flag;
-          flagged = λ l. sym (visible_view ns new (links_each ns i n m g same_links) visible l) ∙ s.flagged l ∙ ap (λ (D : Context). filter (s.flag l) (D.order l)) C;
+          flagged = λ l. sym (visible_view ns new (links_each ns i n m g same_links) visible l) ∙ s.flagged l
+              ∙ ap (λ (D : Context). filter (s.flag l) (D.order l)) C;
           right = λ l a far. s.right l a far ∙ ap (λ (D : Context). is_any (D.presence (Item l a))) C;
           absent = λ l a none. s.absent l a (flags_number ns new same (Item l a) ∙ none);
-          gone = λ l a far lt. ap (λ (D : Context). is_any (D.presence (Item l a))) (sym C)
-              ∙ s.gone l a far (subst (λ k. a.counter < k) (gone_same gone l) lt);
+          empty_below = λ l a far lt. ap (λ (D : Context). is_any (D.presence (Item l a))) (sym C)
+              ∙ s.empty_below l a far (subst (λ k. a.counter < k) (empty_below_same empty_below l) lt);
           fields = λ x k far low. low_field x k (λ apart. s.fields x k (ap (λ c. c || off (Field x k)) apart ∙ far)) low;
         }
 

@@ -3,7 +3,7 @@ use Rattle.std.proofs.Common.{◌≡◌, ℕ, ◌<◌, List, Option, Some, None,
 use Rattle.std.specs.Prelude.{slice_get}
 use Rattle.semantics.specs.Elements.{Element, Doc, Field, Item}
 use Rattle.semantics.specs.DocumentAnswer.{is_any, visible_items}
-use Rattle.semantics.specs.Paths.{FieldKey, ItemKey}
+use Rattle.semantics.specs.Paths.{FieldHop, ItemHop}
 use Rattle.tree.specs.declared.node.Node.{Node}
 use Rattle.tree.specs.Nodes.{Grows, IsTree, Kept, next_number, node_at, node_in, number, order_room, presence_room, register_room}
 use Rattle.tree.specs.Shown.{AreEmpty, AreShown}
@@ -33,10 +33,10 @@ kept_same ns t = record {
   tree = t;
   same = refl;
   visible = λ e. refl;
-  gone = λ e. refl;
+  empty_below = λ e. refl;
   flagged = λ e k. refl;
   grows = grows_same ns;
-  beside = λ table b. b;
+  indexed = λ table b. b;
 }
 
 pub kept_trans : {a b c : List Node} → Kept a b → Kept b c → Kept a c
@@ -44,10 +44,10 @@ kept_trans p q = record {
   tree = q.tree;
   same = q.same ∙ p.same;
   visible = λ e. q.visible e ∙ p.visible e;
-  gone = λ e. q.gone e ∙ p.gone e;
+  empty_below = λ e. q.empty_below e ∙ p.empty_below e;
   flagged = λ e k. q.flagged e k ∙ p.flagged e k;
   grows = grows_trans p.grows q.grows;
-  beside = λ table b. q.beside table (p.beside table b);
+  indexed = λ table b. q.indexed table (p.indexed table b);
 }
 
 -- the lists show what they showed
@@ -57,7 +57,7 @@ kept_shown ns ms k s e = k.visible e ∙ s e ∙ ap (λ C. visible_items C e) (s
 -- and nothing stands where nothing did
 pub kept_empty : (ns ms : List Node) → Kept ns ms → AreEmpty ns → AreEmpty ms
 kept_empty ns ms k d = record {
-  items = λ l a lt. ap (λ C. is_any (C.presence (Item l a))) k.same ∙ d.items l a (subst (λ g. a.counter < g) (k.gone l) lt);
+  items = λ l a lt. ap (λ C. is_any (C.presence (Item l a))) k.same ∙ d.items l a (subst (λ g. a.counter < g) (k.empty_below l) lt);
   fields = λ e n low. ap (λ C. is_any (C.presence (Field e n))) k.same ∙ d.fields e n (sym (k.flagged e n) ∙ low);
 }
 
@@ -65,11 +65,11 @@ kept_empty ns ms k d = record {
 pub number_grows : (ns ms : List Node) → Grows ns ms → (e : Element) (i : ℕ) → number ns e ≡ Some i → number ms e ≡ Some i
 number_grows ns ms g Doc i p = p
 number_grows ns ms g (Field e n) i p =
-    let (k, q, c) = next_some ns (number ns e) (FieldKey n) i p in
-    ap (λ o. next_number ms o (FieldKey n)) (number_grows ns ms g e k q) ∙ g.children k (FieldKey n) i c
+    let (k, q, c) = next_some ns (number ns e) (FieldHop n) i p in
+    ap (λ o. next_number ms o (FieldHop n)) (number_grows ns ms g e k q) ∙ g.children k (FieldHop n) i c
 number_grows ns ms g (Item e a) i p =
-    let (k, q, c) = next_some ns (number ns e) (ItemKey a) i p in
-    ap (λ o. next_number ms o (ItemKey a)) (number_grows ns ms g e k q) ∙ g.children k (ItemKey a) i c
+    let (k, q, c) = next_some ns (number ns e) (ItemHop a) i p in
+    ap (λ o. next_number ms o (ItemHop a)) (number_grows ns ms g e k q) ∙ g.children k (ItemHop a) i c
 
 -- a node that has room is there
 numbered : (room : Option Node → ℕ) → room None ≡ 0 → (ns : List Node) (o : Option ℕ) → 0 < room (node_in ns o) → (i : ℕ) × (o ≡ Some i)

@@ -2,10 +2,10 @@
 use Rattle.std.proofs.Common.{◌≡◌, ℕ, ◌+◌, ◌<◌, List, [], ◌∷◌, length, map, get_or, take, Some, sym, ap, ◌∙◌, arith}
 use Rattle.std.proofs.lemmas.List.{take_more, length-map, get_or-map}
 use Rattle.semantics.specs.Elements.{Doc}
-use Rattle.semantics.specs.Paths.{Key, child}
+use Rattle.semantics.specs.Paths.{Hop as TheHop, child}
 use Rattle.semantics.proofs.ElementPaths.{down-append}
 use Rattle.operation.specs.cursor.declared.hop.Hop.{Hop}
-use Rattle.operation.specs.cursor.Meanings.{hop_of}
+use Rattle.operation.specs.cursor.Steps.{hop_of}
 use Rattle.tree.specs.declared.node.Node.{Node}
 use Rattle.tree.specs.Nodes.{number, child_number}
 use Rattle.tree.specs.Writes.{end_of}
@@ -15,7 +15,7 @@ module _ (path : List Hop) (k : ℕ) (x : Hop) (inside : k < length path) (is : 
   -- one hop further
   pub end_more : end_of (take (k + 1) (map hop_of path)) ≡ child (end_of (take k (map hop_of path))) (hop_of x)
   end_more =
-      let keys : List Key = map hop_of path in
+      let keys : List TheHop = map hop_of path in
       let within : k < length keys = let n = length-map path hop_of in omega arith in
       ap end_of (take_more keys k (hop_of x) within) ∙ down-append Doc (take k keys) (get_or keys k (hop_of x) ∷ [])
       ∙ ap (child (end_of (take k keys))) (get_or-map hop_of path k x (hop_of x) inside ∙ ap hop_of (sym is))

@@ -8,7 +8,6 @@ pub mod Hops
 pub mod Contexts
 pub mod Answering
 pub mod Walking
-pub mod Finding
 pub mod Clears
 pub mod Writes
 pub mod Rooms
@@ -26,7 +25,7 @@ pub mod Reserved
 pub mod Roots
 pub mod Nested
 pub mod Beneath
-pub mod Gone
+pub mod EmptyBelow
 pub mod Showing
-pub mod NearTarget
+pub mod OnTheWay
 pub mod Flagging

@@ -12,12 +12,12 @@ use Rattle.std.proofs.lemmas.Bool.{cases_eq}
 use Rattle.std.proofs.lemmas.Cmp.{tied_itself}
 use Rattle.semantics.specs.Ids.{OpId, id_cmp}
 use Rattle.semantics.specs.Elements.{Name, name_cmp}
-use Rattle.semantics.specs.Paths.{Key, FieldKey, ItemKey}
+use Rattle.semantics.specs.Paths.{Hop, FieldHop, ItemHop}
 use Rattle.semantics.proofs.Orders.{Equal_from_test, id_total, name_total, same_ids, same_names}
 use Rattle.columns.proofs.Puts.{rising_put}
 use Rattle.tree.specs.declared.node.Node.{Node}
 use Rattle.tree.specs.Nodes.{IsOrphan, IsTree, child_number, is_written, links, links_of, names_in, order_of, presence_of, register_of}
-use Rattle.tree.specs.Nodes.{gone_of, is_flagged, tagged, valued, visible_of}
+use Rattle.tree.specs.Nodes.{empty_below_of, is_flagged, tagged, valued, visible_of}
 use Rattle.tree.proofs.ListReads.{get_inside, get_other, get_same}
 use Rattle.tree.proofs.NodeWrites.{set_each}
 use Rattle.tree.proofs.Contexts.{names_same}
@@ -64,7 +64,7 @@ module _ (ns : List Node) (at : ℕ) (n m : Node) (j : ℕ) (g : slice_get ns at
   flags s = same_set is_written ns at n m g s.written
 
   -- a put among the links of one kind changes what is linked by its key alone
-  put_links : {K : Type 0} (R : K → K → Ordering) → IsTotalOrder R → ((a b : K) → R a b ≡ Equal → a ≡ b) → (name : K → Key)
+  put_links : {K : Type 0} (R : K → K → Ordering) → IsTotalOrder R → ((a b : K) → R a b ≡ Equal → a ≡ b) → (name : K → Hop)
       (part : Option Node → List (K × ℕ)) (a : K) → part (Some m) ≡ put R a j (part (Some n)) → (i : ℕ) (k : K)
       → (find R k (part (slice_get (set ns at m) i)) ≡ find R k (part (slice_get ns i)))
       ⊎ ((i ≡ at) × (name k ≡ name a) × (find R k (part (slice_get (set ns at m) i)) ≡ Some j))
@@ -83,11 +83,11 @@ module _ (ns : List Node) (at : ℕ) (n m : Node) (j : ℕ) (g : slice_get ns at
   ]
 
   module _ (key : Name) (put_field : m.fields.entries ≡ put name_cmp key j n.fields.entries) where
-    pub field_linked : child_number (set ns at m) at (FieldKey key) ≡ Some j
+    pub field_linked : child_number (set ns at m) at (FieldHop key) ≡ Some j
     field_linked = ap (λ o. find name_cmp key (links_of o).0) there ∙ ap (find name_cmp key) put_field
         ∙ put_there name_cmp name_total key j n.fields.entries
 
-    module _ (s : OnlyLinks n m) (t : IsTree ns) (o : IsOrphan ns j) (none : child_number ns at (FieldKey key) ≡ None)
+    module _ (s : OnlyLinks n m) (t : IsTree ns) (o : IsOrphan ns j) (none : child_number ns at (FieldHop key) ≡ None)
         (same_items : m.items ≡ n.items) (put_flag : m.fields.flags ≡ put name_cmp key false n.fields.flags)
         (unflagged : find name_cmp key n.fields.flags ≡ None) where
       -- the new field's flag isn't raised, as it wasn't when there was none
@@ -106,11 +106,11 @@ module _ (ns : List Node) (at : ℕ) (n m : Node) (j : ℕ) (g : slice_get ns at
       items : (i : ℕ) → (links ns i).1 ≡ (links (set ns at m) i).1
       items = same_set (λ o. (links_of o).1) ns at n m g (ap (λ c. c.entries) same_items)
 
-      children : (i : ℕ) (k : Key)
+      children : (i : ℕ) (k : Hop)
           → (child_number (set ns at m) i k ≡ child_number ns i k)
-          ⊎ ((i ≡ at) × (k ≡ FieldKey key) × (child_number (set ns at m) i k ≡ Some j))
-      children i (ItemKey a) = inl (sym (ap (find id_cmp a) (items i)))
-      children i (FieldKey k) = put_links name_cmp name_total same_names FieldKey (λ o. (links_of o).0) key put_field i k
+          ⊎ ((i ≡ at) × (k ≡ FieldHop key) × (child_number (set ns at m) i k ≡ Some j))
+      children i (ItemHop a) = inl (sym (ap (find id_cmp a) (items i)))
+      children i (FieldHop k) = put_links name_cmp name_total same_names FieldHop (λ o. (links_of o).0) key put_field i k
 
       -- the new field was never written, so no name is told that wasn't
       names : (i : ℕ) → names_in ns (links ns i).0 ≡ names_in (set ns at m) (links (set ns at m) i).0
@@ -124,7 +124,7 @@ module _ (ns : List Node) (at : ℕ) (n m : Node) (j : ℕ) (g : slice_get ns at
           (λ h. refl) i
           ∙ names_same ns (set ns at m) (flags s) (links (set ns at m) i).0
 
-      pub linked_field : Linked at (FieldKey key) j ns (set ns at m)
+      pub linked_field : Linked at (FieldHop key) j ns (set ns at m)
       linked_field = record {
         count = sym (length-set ns at m);
         absent = none;
@@ -133,7 +133,7 @@ module _ (ns : List Node) (at : ℕ) (n m : Node) (j : ℕ) (g : slice_get ns at
         register = same_set register_of ns at n m g (ap (λ c. valued c.entries) s.register);
         order = same_set order_of ns at n m g (ap (λ c. c.items) s.order);
         visible = same_set visible_of ns at n m g (ap (λ c. c.visible) s.order);
-        gone = same_set gone_of ns at n m g s.gone;
+        empty_below = same_set empty_below_of ns at n m g s.empty_below;
         flagged = λ i k. same_set (λ x. is_flagged x k) ns at n m g (lowered k) i;
         names = names;
         sorted_names = set_each (λ x i. IsTrue (is_sorted name_cmp (links_of x).0)) ns at n m g
@@ -144,20 +144,20 @@ module _ (ns : List Node) (at : ℕ) (n m : Node) (j : ℕ) (g : slice_get ns at
       }
 
   module _ (a : OpId) (put_item : m.items.entries ≡ put id_cmp a j n.items.entries) where
-    pub item_linked : child_number (set ns at m) at (ItemKey a) ≡ Some j
+    pub item_linked : child_number (set ns at m) at (ItemHop a) ≡ Some j
     item_linked = ap (λ o. find id_cmp a (links_of o).1) there ∙ ap (find id_cmp a) put_item ∙ put_there id_cmp id_total a j n.items.entries
 
-    module _ (s : OnlyLinks n m) (t : IsTree ns) (none : child_number ns at (ItemKey a) ≡ None) (same_fields : m.fields ≡ n.fields) where
+    module _ (s : OnlyLinks n m) (t : IsTree ns) (none : child_number ns at (ItemHop a) ≡ None) (same_fields : m.fields ≡ n.fields) where
       fields : (i : ℕ) → (links ns i).0 ≡ (links (set ns at m) i).0
       fields = same_set (λ o. (links_of o).0) ns at n m g (ap (λ c. c.entries) same_fields)
 
-      item_children : (i : ℕ) (k : Key)
+      item_children : (i : ℕ) (k : Hop)
           → (child_number (set ns at m) i k ≡ child_number ns i k)
-          ⊎ ((i ≡ at) × (k ≡ ItemKey a) × (child_number (set ns at m) i k ≡ Some j))
-      item_children i (FieldKey k) = inl (sym (ap (find name_cmp k) (fields i)))
-      item_children i (ItemKey b) = put_links id_cmp id_total same_ids ItemKey (λ o. (links_of o).1) a put_item i b
+          ⊎ ((i ≡ at) × (k ≡ ItemHop a) × (child_number (set ns at m) i k ≡ Some j))
+      item_children i (FieldHop k) = inl (sym (ap (find name_cmp k) (fields i)))
+      item_children i (ItemHop b) = put_links id_cmp id_total same_ids ItemHop (λ o. (links_of o).1) a put_item i b
 
-      pub linked_item : Linked at (ItemKey a) j ns (set ns at m)
+      pub linked_item : Linked at (ItemHop a) j ns (set ns at m)
       linked_item = record {
         count = sym (length-set ns at m);
         absent = none;
@@ -166,7 +166,7 @@ module _ (ns : List Node) (at : ℕ) (n m : Node) (j : ℕ) (g : slice_get ns at
         register = same_set register_of ns at n m g (ap (λ c. valued c.entries) s.register);
         order = same_set order_of ns at n m g (ap (λ c. c.items) s.order);
         visible = same_set visible_of ns at n m g (ap (λ c. c.visible) s.order);
-        gone = same_set gone_of ns at n m g s.gone;
+        empty_below = same_set empty_below_of ns at n m g s.empty_below;
         flagged = λ i k. same_set (λ x. is_flagged x k) ns at n m g
             (ap (λ c. unwrap_or (find name_cmp k c.flags) false) same_fields) i;
         names = λ i. names_same ns (set ns at m) (flags s) (links ns i).0 ∙ ap (names_in (set ns at m)) (fields i);

@@ -9,7 +9,7 @@ use Rattle.std.proofs.lemmas.List.{length-map, get_or-map}
 use Rattle.std.proofs.lemmas.Option.{get_or_from_slice_get}
 use Rattle.semantics.specs.Ids.{OpId, id_cmp}
 use Rattle.semantics.specs.Elements.{Name, name_cmp}
-use Rattle.semantics.specs.Paths.{FieldKey, ItemKey}
+use Rattle.semantics.specs.Paths.{FieldHop, ItemHop}
 use Rattle.semantics.proofs.Orders.{id_total, name_total}
 use Rattle.columns.specs.Rank.{keys_of}
 use Rattle.columns.proofs.Ranks.{rising_keys, stands_here}
@@ -27,11 +27,11 @@ find_at {K} {X} R o es i d s h =
     (stands_here R o key (keys_of es) i key (rising_keys R es ∙ s) (omega arith) (ap (R key) here ∙ tied_itself o key))
 
 pub field_there : (ns : List Node) → IsTree ns → (i position : ℕ) (d : Name × ℕ) → position < length (links ns i).0
-    → child_number ns i (FieldKey (get_or (links ns i).0 position d).0) ≡ Some (get_or (links ns i).0 position d).1
+    → child_number ns i (FieldHop (get_or (links ns i).0 position d).0) ≡ Some (get_or (links ns i).0 position d).1
 field_there ns t i position d h = find_at name_cmp name_total (links ns i).0 position d (t.sorted_names i) h
 
 pub item_there : (ns : List Node) → IsTree ns → (i position : ℕ) (d : OpId × ℕ) → position < length (links ns i).1
-    → child_number ns i (ItemKey (get_or (links ns i).1 position d).0) ≡ Some (get_or (links ns i).1 position d).1
+    → child_number ns i (ItemHop (get_or (links ns i).1 position d).0) ≡ Some (get_or (links ns i).1 position d).1
 item_there ns t i position d h = find_at id_cmp id_total (links ns i).1 position d (t.sorted_ids i) h
 
 -- what stands at a position among a node's items
@@ -40,7 +40,7 @@ pub item_entry : (ns : List Node) (i position : ℕ) (n : Node) (x : OpId × ℕ
 item_entry ns i position n x g h d = ap (λ o. get_or (links_of o).1 position d) g ∙ get_or_from_slice_get n.items.entries position x d h
 
 pub item_number : (ns : List Node) → IsTree ns → (i position : ℕ) (n : Node) (x : OpId × ℕ) → slice_get ns i ≡ Some n
-    → slice_get n.items.entries position ≡ Some x → position < length (links ns i).1 → child_number ns i (ItemKey x.0) ≡ Some x.1
+    → slice_get n.items.entries position ≡ Some x → position < length (links ns i).1 → child_number ns i (ItemHop x.0) ≡ Some x.1
 item_number ns t i position n x g h lt =
     let e = item_entry ns i position n x g h x in
-    ap (λ (y : OpId × ℕ). child_number ns i (ItemKey y.0)) (sym e) ∙ item_there ns t i position x lt ∙ ap (λ (y : OpId × ℕ). Some y.1) e
+    ap (λ (y : OpId × ℕ). child_number ns i (ItemHop y.0)) (sym e) ∙ item_there ns t i position x lt ∙ ap (λ (y : OpId × ℕ). Some y.1) e

@@ -12,7 +12,7 @@ use Rattle.std.proofs.lemmas.List.Elements.{All-nil, All-cons, All-head, All-tai
 use Rattle.std.specs.FinMap.{find, put, is_sorted}
 use Rattle.std.specs.FinMap.Entries.{by_order, below_all}
 use Rattle.semantics.specs.Elements.{Element, Field, Name, name_cmp, is_same}
-use Rattle.semantics.specs.Paths.{FieldKey}
+use Rattle.semantics.specs.Paths.{FieldHop}
 use Rattle.semantics.proofs.Orders.{element_itself, same_elements, same_names, name_total}
 use Rattle.columns.proofs.Same.{some_is}
 use Rattle.tree.specs.declared.node.Node.{Node}
@@ -110,7 +110,7 @@ module _ (ns : List Node) (j : ℕ) (m : Node) (inside : j < length ns) (written
         | Greater ↦ λ o q. later f fs (λ e. let t : Greater ≡ Equal = sym o ∙ mine e in cc) o (names_put fs rising.1 q others)
       ] refl p
 
-key_name : (n m : Name) → FieldKey n ≡ FieldKey m → n ≡ m
+key_name : (n m : Name) → FieldHop n ≡ FieldHop m → n ≡ m
 key_name n m e = cc
 
 -- a write that marks the node of a field, and changes nothing else there
@@ -125,31 +125,31 @@ module _ (ns : List Node) (t : IsTree ns) (e : Element) (n : Name) (j : ℕ) (ol
         by (Some k) = sym (links_each ns j old m got linked k)
 
   -- the names at the element itself
-  own_names : (written : m.is_written ≡ true) (i : ℕ) → child_number ns i (FieldKey n) ≡ Some j
+  own_names : (written : m.is_written ≡ true) (i : ℕ) → child_number ns i (FieldHop n) ≡ Some j
       → names_in (set ns j m) (links ns i).0 ≡ put name_cmp n tt (names_in ns (links ns i).0)
   own_names written i child =
       names_put ns j m (get_inside ns j old got) written n (links ns i).0 (t.sorted_names i) child
       (λ k d h same.
-      let there : child_number ns i (FieldKey (get_or (links ns i).0 k d).0) ≡ Some j = field_there ns t i k d h ∙ ap Some same in
+      let there : child_number ns i (FieldHop (get_or (links ns i).0 k d).0) ≡ Some j = field_there ns t i k d h ∙ ap Some same in
       ap (name_cmp n)
       (sym (key_name n (get_or (links ns i).0 k d).0
-      (t.one_parent i (FieldKey n) i (FieldKey (get_or (links ns i).0 k d).0) j child there).1))
+      (t.one_parent i (FieldHop n) i (FieldHop (get_or (links ns i).0 k d).0) j child there).1))
       ∙ tied_itself name_total n)
 
   -- the names at another element
-  other_names : (x : Element) (k i : ℕ) → number ns x ≡ Some k → number ns e ≡ Some i → child_number ns i (FieldKey n) ≡ Some j
+  other_names : (x : Element) (k i : ℕ) → number ns x ≡ Some k → number ns e ≡ Some i → child_number ns i (FieldHop n) ≡ Some j
       → is_same x e ≡ false → names_in (set ns j m) (links ns k).0 ≡ names_in ns (links ns k).0
   other_names x k i p q child far = names_other ns j m (links ns k).0 (λ h d lt same.
-      let there : child_number ns k (FieldKey (get_or (links ns k).0 h d).0) ≡ Some j = field_there ns t k h d lt ∙ ap Some same in
-      let one : k ≡ i = (t.one_parent k (FieldKey (get_or (links ns k).0 h d).0) i (FieldKey n) j there child).0 in
+      let there : child_number ns k (FieldHop (get_or (links ns k).0 h d).0) ≡ Some j = field_there ns t k h d lt ∙ ap Some same in
+      let one : k ≡ i = (t.one_parent k (FieldHop (get_or (links ns k).0 h d).0) i (FieldHop n) j there child).0 in
       let xe : x ≡ e = one_element ns t x e i (p ∙ ap Some one) q in
       true≢false (sym (ap (λ y. is_same y e) xe ∙ element_itself e) ∙ far))
 
   names_at : m.is_written ≡ true → (x : Element) → (context (set ns j m)).fields x ≡ (name_at (context ns) e n).fields x
   names_at written x =
-      let (i, ei, child) = next_some ns (number ns e) (FieldKey n) j at in
+      let (i, ei, child) = next_some ns (number ns e) (FieldHop n) j at in
       by (number ns x) refl i ei child where
-        by : (o : Option ℕ) → number ns x ≡ o → (i : ℕ) → number ns e ≡ Some i → child_number ns i (FieldKey n) ≡ Some j
+        by : (o : Option ℕ) → number ns x ≡ o → (i : ℕ) → number ns e ≡ Some i → child_number ns i (FieldHop n) ≡ Some j
             → (context (set ns j m)).fields x ≡ (name_at (context ns) e n).fields x
         by o p i ei child =
             ap (λ l. names_in (set ns j m) l.0) (same_links x o p)

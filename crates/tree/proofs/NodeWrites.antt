@@ -3,7 +3,7 @@ use Rattle.std.proofs.Common.{◌≡◌, ℕ, ◌≤◌, List, set, Option, Some
 use Rattle.std.specs.Prelude.{slice_get}
 use Rattle.std.proofs.lemmas.Bool.{cases_eq}
 use Rattle.tree.specs.declared.node.Node.{Node}
-use Rattle.tree.specs.Nodes.{AreBeside, NodeBeside, MoreRoom, presence_room, register_room}
+use Rattle.tree.specs.Nodes.{AreIndexedNodes, IsIndexedNode, MoreRoom, presence_room, register_room}
 use Rattle.tree.proofs.ListReads.{get_same, get_other, get_inside}
 
 -- what holds of the new node, and of each other one as before
@@ -14,13 +14,13 @@ set_each P ns i n m g here each j = elim (cases_eq j i) [
   | inr e ↦ subst (λ o. P o j) (sym (get_other ns i m j e)) (each j)
 ]
 
-pub beside_at : (table : List ℕ) (ns : List Node) (i : ℕ) (n : Node) → slice_get ns i ≡ Some n → AreBeside table ns
-    → NodeBeside table (Some n)
-beside_at table ns i n g b = subst (NodeBeside table) g (b i)
+pub indexed_at : (table : List ℕ) (ns : List Node) (i : ℕ) (n : Node) → slice_get ns i ≡ Some n → AreIndexedNodes table ns
+    → IsIndexedNode table (Some n)
+indexed_at table ns i n g b = subst (IsIndexedNode table) g (b i)
 
-pub beside_set : (table : List ℕ) (ns : List Node) (i : ℕ) (n m : Node) → slice_get ns i ≡ Some n → AreBeside table ns
-    → NodeBeside table (Some m) → AreBeside table (set ns i m)
-beside_set table ns i n m g b h = set_each (λ o j. NodeBeside table o) ns i n m g h b
+pub indexed_set : (table : List ℕ) (ns : List Node) (i : ℕ) (n m : Node) → slice_get ns i ≡ Some n → AreIndexedNodes table ns
+    → IsIndexedNode table (Some m) → AreIndexedNodes table (set ns i m)
+indexed_set table ns i n m g b h = set_each (λ o j. IsIndexedNode table o) ns i n m g h b
 
 pub room_set : (ns : List Node) (i : ℕ) (n m : Node) → slice_get ns i ≡ Some n → n.presence.room ≤ m.presence.room
     → n.register.room ≤ m.register.room → MoreRoom ns (set ns i m)

@@ -5,15 +5,15 @@ use Rattle.std.specs.Prelude.{slice_get}
 use Rattle.std.specs.FinMap.{is_sorted}
 use Rattle.semantics.specs.Ids.{id_cmp}
 use Rattle.semantics.specs.Elements.{Element, Name, name_cmp}
-use Rattle.semantics.specs.Paths.{Key}
+use Rattle.semantics.specs.Paths.{Hop}
 use Rattle.operation.specs.cursor.declared.tag.Tag.{Tag}
 use Rattle.operation.specs.value.declared.value.Scalar.{Scalar}
-use Rattle.columns.specs.Entries.{StandBeside}
+use Rattle.columns.specs.Entries.{AreIndicesIn}
 use Rattle.tree.specs.declared.node.Node.{Node}
-use Rattle.tree.specs.Nodes.{Grows, IsEmptyNode, IsOrphan, IsTree, Kept, Links, NodeBeside, SameView, child_room, is_written, linked_by}
+use Rattle.tree.specs.Nodes.{Grows, IsEmptyNode, IsOrphan, IsTree, Kept, Links, IsIndexedNode, SameView, child_room, is_written, linked_by}
 use Rattle.tree.specs.Nodes.{links_of, order_of, order_room, presence_of, presence_room, register_of, register_room, tagged, valued}
-use Rattle.tree.specs.Nodes.{flags_of, gone_of, is_flagged, visible_of, node_at}
-use Rattle.tree.proofs.SameViews.{context_view, flagged_view, gone_view, visible_view}
+use Rattle.tree.specs.Nodes.{flags_of, empty_below_of, is_flagged, visible_of, node_at}
+use Rattle.tree.proofs.SameViews.{context_view, flagged_view, empty_below_view, visible_view}
 use Rattle.tree.proofs.Widened.{links_pair}
 
 -- what holds of each node, and of an empty one where it holds of none
@@ -45,14 +45,15 @@ get_last : (ns : List Node) (n : Node) → slice_get (ns ++ n ∷ []) (length ns
 get_last [] n = refl
 get_last (m ∷ ns) n = get_last ns n
 
-pub push_rooms : (ns : List Node) (n : Node) (i : ℕ) (k : Key) → child_room (slice_get ns i) k ≤ child_room (slice_get (ns ++ n ∷ []) i) k
+pub push_rooms : (ns : List Node) (n : Node) (i : ℕ) (k : Hop) → child_room (slice_get ns i) k ≤ child_room (slice_get (ns ++ n ∷ []) i) k
 push_rooms ns n i k = room_push (λ o. child_room o k) refl n ns i
 
-pub empty_beside : (table : List ℕ) (n : Node) → IsEmptyNode n → NodeBeside table (Some n)
-empty_beside table n e = (
-  subst (λ es. StandBeside table es n.presence.indices) (sym e.presence) (subst (StandBeside {X = Tag} table []) (sym e.no_presence) refl),
-  subst (λ es. StandBeside table es n.register.indices) (sym e.register)
-      (subst (StandBeside {X = Scalar} table []) (sym e.no_register) refl),
+pub empty_indexed : (table : List ℕ) (n : Node) → IsEmptyNode n → IsIndexedNode table (Some n)
+empty_indexed table n e = (
+  subst (λ es. AreIndicesIn table es n.presence.indices) (sym e.presence)
+      (subst (AreIndicesIn {X = Tag} table []) (sym e.no_presence) refl),
+  subst (λ es. AreIndicesIn table es n.register.indices) (sym e.register)
+      (subst (AreIndicesIn {X = Scalar} table []) (sym e.no_register) refl),
 )
 
 module _ (ns : List Node) (n : Node) (e : IsEmptyNode n) where
@@ -87,8 +88,8 @@ module _ (ns : List Node) (n : Node) (e : IsEmptyNode n) where
   pub push_visible : (x : Element) → visible_of (node_at ns x) ≡ visible_of (node_at (ns ++ n ∷ []) x)
   push_visible = visible_view ns (ns ++ n ∷ []) (push_view ns n e).links (pushed visible_of n (sym e.visible) ns)
 
-  pub push_gone : (x : Element) → gone_of (node_at ns x) ≡ gone_of (node_at (ns ++ n ∷ []) x)
-  push_gone = gone_view ns (ns ++ n ∷ []) (push_view ns n e).links (pushed gone_of n (sym e.gone) ns)
+  pub push_empty_below : (x : Element) → empty_below_of (node_at ns x) ≡ empty_below_of (node_at (ns ++ n ∷ []) x)
+  push_empty_below = empty_below_view ns (ns ++ n ∷ []) (push_view ns n e).links (pushed empty_below_of n (sym e.empty_below) ns)
 
   pub push_flagged : (x : Element) (k : Name) → is_flagged (node_at ns x) k ≡ is_flagged (node_at (ns ++ n ∷ []) x) k
   push_flagged = flagged_view ns (ns ++ n ∷ []) (push_view ns n e).links (pushed flags_of n (sym e.flags) ns)
@@ -98,10 +99,10 @@ module _ (ns : List Node) (n : Node) (e : IsEmptyNode n) where
     tree = push_tree t;
     same = sym (context_view ns (ns ++ n ∷ []) (push_view ns n e));
     visible = λ x. sym (push_visible x);
-    gone = λ x. sym (push_gone x);
+    empty_below = λ x. sym (push_empty_below x);
     flagged = λ x k. sym (push_flagged x k);
     grows = push_grows;
-    beside = λ table b. push_each (λ o i. NodeBeside table o) n (λ i h. empty_beside table n e) ns b;
+    indexed = λ table b. push_each (λ o i. IsIndexedNode table o) n (λ i h. empty_indexed table n e) ns b;
   }
 
   pub push_orphan : IsTree ns → IsOrphan (ns ++ n ∷ []) (length ns)

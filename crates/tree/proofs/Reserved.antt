@@ -4,11 +4,11 @@ use Rattle.std.specs.Prelude.{IfOk, option_map}
 use Rattle.semantics.specs.Ids.{OpId}
 use Rattle.semantics.specs.Elements.{Element, Value}
 use Rattle.semantics.specs.Operations.{element_of, scalar_in, slot_of, target_in, value_of}
-use Rattle.semantics.specs.Paths.{Key, keys_from_root}
+use Rattle.semantics.specs.Paths.{Hop, hops_from_root}
 use Rattle.operation.specs.value.declared.value.Scalar.{Scalar}
-use Rattle.operation.specs.value.Meanings.{scalar_of}
+use Rattle.operation.specs.value.Values.{scalar_of}
 use Rattle.operation.specs.declared.op.Op.{Op}
-use Rattle.operation.specs.Meanings.{mutation_of, stamped_of}
+use Rattle.operation.specs.Ops.{mutation_of, stamped_of}
 use Rattle.tree.specs.declared.node.Node.{Node}
 use Rattle.tree.specs.Nodes.{node_at, register_room}
 use Rattle.tree.specs.Writes.{RoomTo, end_of}
@@ -30,9 +30,9 @@ write_ready o table ns s v slot value there room register scalar link =
     }
 
 -- an operation that writes v at the end of its place's path
-pub place_ready : (o : Op) (table : List ℕ) (ns : List Node) (s : Option Scalar) (v : Value) (path : List Key)
+pub place_ready : (o : Op) (table : List ℕ) (ns : List Node) (s : Option Scalar) (v : Value) (path : List Hop)
     → value_of (mutation_of o.mutation) ≡ Some v → slot_of (mutation_of o.mutation) o.place ≡ None
-    → path ≡ keys_from_root (element_of o.place)
+    → path ≡ hops_from_root (element_of o.place)
     → RoomTo ns (end_of path) → 0 < register_room (node_at ns (end_of path)) → option_map scalar_of s ≡ scalar_in (Some v)
     → IsReserved (record { table = table; nodes = ns; scalar = s }) (stamped_of table o)
 place_ready o table ns s v path value there way room register scalar =

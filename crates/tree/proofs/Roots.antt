@@ -5,19 +5,19 @@ use Rattle.std.specs.FinMap.{is_sorted}
 use Rattle.ids.specs.Members.{AreDistinct}
 use Rattle.semantics.specs.Ids.{id_cmp}
 use Rattle.semantics.specs.Elements.{Field, Item, name_cmp}
-use Rattle.semantics.specs.Paths.{Key, FieldKey, ItemKey}
+use Rattle.semantics.specs.Paths.{Hop, FieldHop, ItemHop}
 use Rattle.semantics.specs.Context.{empty}
 use Rattle.semantics.specs.DocumentAnswer.{is_any, visible_items}
 use Rattle.operation.specs.value.declared.value.Scalar.{Scalar}
 use Rattle.tree.specs.declared.node.Node.{Node}
-use Rattle.tree.specs.Nodes.{IsEmptyNode, IsTree, Links, NodeBeside, child_number, context, linked_by, links, links_of, names_in}
+use Rattle.tree.specs.Nodes.{IsEmptyNode, IsTree, Links, IsIndexedNode, child_number, context, linked_by, links, links_of, names_in}
 use Rattle.tree.specs.Nodes.{node_in, number, order_of, presence_of, register_of, visible_of}
 use Rattle.tree.specs.Nested.{IsNested}
 use Rattle.tree.specs.Trees.{IsPlanted}
 use Rattle.tree.proofs.Contexts.{context_same}
 use Rattle.tree.proofs.Nested.{nested_empty}
 use Rattle.tree.proofs.SameViews.{context_view}
-use Rattle.tree.proofs.Pushed.{empty_beside, push_each, push_view, push_visible}
+use Rattle.tree.proofs.Pushed.{empty_indexed, push_each, push_view, push_visible}
 
 nothing_there : (o : Option ℕ) → node_in [] o ≡ None
 nothing_there None = refl
@@ -40,9 +40,9 @@ module _ (n : Node) (e : IsEmptyNode n) where
   no_links : (i : ℕ) → ◌≡◌ {A = Links} ([], []) (links (n ∷ []) i)
   no_links i = (push_view [] n e).links i
 
-  no_child : (i : ℕ) (k : Key) (j : ℕ) → child_number (n ∷ []) i k ≡ Some j → ⊥
-  no_child i (FieldKey m) j c = none_some j (ap (λ l. linked_by l (FieldKey m)) (no_links i) ∙ c)
-  no_child i (ItemKey a) j c = none_some j (ap (λ l. linked_by l (ItemKey a)) (no_links i) ∙ c)
+  no_child : (i : ℕ) (k : Hop) (j : ℕ) → child_number (n ∷ []) i k ≡ Some j → ⊥
+  no_child i (FieldHop m) j c = none_some j (ap (λ l. linked_by l (FieldHop m)) (no_links i) ∙ c)
+  no_child i (ItemHop a) j c = none_some j (ap (λ l. linked_by l (ItemHop a)) (no_links i) ∙ c)
 
   root_tree : IsTree (n ∷ [])
   root_tree = record {
@@ -64,5 +64,5 @@ module _ (n : Node) (e : IsEmptyNode n) where
       items = λ l a lt. ap (λ C. is_any (C.presence (Item l a))) root_empty;
       fields = λ x k low. ap (λ C. is_any (C.presence (Field x k))) root_empty;
     };
-    beside = push_each (λ o i. NodeBeside table o) n (λ i h. empty_beside table n e) [] (λ i. tt);
+    indexed = push_each (λ o i. IsIndexedNode table o) n (λ i h. empty_indexed table n e) [] (λ i. tt);
   }

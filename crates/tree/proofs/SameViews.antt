@@ -4,7 +4,7 @@ use Rattle.std.specs.Prelude.{slice_get, unwrap_or}
 use Rattle.std.specs.FinMap.{find}
 use Rattle.semantics.specs.Elements.{Element, Name, name_cmp}
 use Rattle.tree.specs.declared.node.Node.{Node}
-use Rattle.tree.specs.Nodes.{SameView, context, flags_of, gone_of, is_flagged, links_of, links, names_in, node_at, node_in, number}
+use Rattle.tree.specs.Nodes.{SameView, context, flags_of, empty_below_of, is_flagged, links_of, links, names_in, node_at, node_in, number}
 use Rattle.tree.specs.Nodes.{order_of, presence_of}
 use Rattle.tree.specs.Nodes.{register_of, visible_of}
 use Rattle.tree.proofs.Shape.{number_links}
@@ -31,9 +31,11 @@ pub visible_view : (ns ms : List Node) → ((i : ℕ) → links ns i ≡ links m
     → visible_of (node_at ns e) ≡ visible_of (node_at ms e)
 visible_view ns ms links h e = at_view ns ms visible_of h (number ns e) ∙ ap (λ o. visible_of (node_in ms o)) (number_links ns ms links e)
 
-pub gone_view : (ns ms : List Node) → ((i : ℕ) → links ns i ≡ links ms i)
-    → ((i : ℕ) → gone_of (slice_get ns i) ≡ gone_of (slice_get ms i)) → (e : Element) → gone_of (node_at ns e) ≡ gone_of (node_at ms e)
-gone_view ns ms links h e = at_view ns ms gone_of h (number ns e) ∙ ap (λ o. gone_of (node_in ms o)) (number_links ns ms links e)
+pub empty_below_view : (ns ms : List Node) → ((i : ℕ) → links ns i ≡ links ms i)
+    → ((i : ℕ) → empty_below_of (slice_get ns i) ≡ empty_below_of (slice_get ms i)) → (e : Element)
+    → empty_below_of (node_at ns e) ≡ empty_below_of (node_at ms e)
+empty_below_view ns ms links h e = at_view ns ms empty_below_of h (number ns e)
+    ∙ ap (λ o. empty_below_of (node_in ms o)) (number_links ns ms links e)
 
 pub flagged_view : (ns ms : List Node) → ((i : ℕ) → links ns i ≡ links ms i)
     → ((i : ℕ) → flags_of (slice_get ns i) ≡ flags_of (slice_get ms i)) → (e : Element) (n : Name)

@@ -7,33 +7,34 @@ use Rattle.std.proofs.lemmas.List.{take-append-drop}
 use Rattle.std.specs.FinMap.{is_sorted}
 use Rattle.semantics.specs.Ids.{OpId, id_cmp}
 use Rattle.semantics.specs.Elements.{Element, Doc, Field, Item, Name, name_cmp, is_same, is_under}
-use Rattle.semantics.specs.Paths.{Key, FieldKey, ItemKey, child, down}
+use Rattle.semantics.specs.Paths.{Hop, FieldHop, ItemHop, child, down}
 use Rattle.semantics.proofs.Orders.{element_itself, same_elements}
 use Rattle.semantics.proofs.ElementPaths.{down-append}
 use Rattle.tree.specs.declared.node.Node.{Node}
-use Rattle.tree.specs.Nodes.{links_of, links, linked_by, child_number, next_number, number, node_in, node_at, visible_of, gone_of, flags_of}
+use Rattle.tree.specs.Nodes.{links_of, links, linked_by, child_number, next_number, number, node_in, node_at, visible_of, empty_below_of}
+use Rattle.tree.specs.Nodes.{flags_of}
 use Rattle.tree.specs.Nodes.{IsTree}
 use Rattle.tree.specs.Nodes.{MoreRoom, SameChildren, SameLinks}
 use Rattle.tree.specs.Writes.{end_of}
 use Rattle.tree.proofs.ListReads.{get_same, get_other, get_inside}
 
 -- where a step leads somewhere, it starts somewhere
-pub next_some : (ns : List Node) (o : Option ℕ) (s : Key) (j : ℕ) → next_number ns o s ≡ Some j
+pub next_some : (ns : List Node) (o : Option ℕ) (s : Hop) (j : ℕ) → next_number ns o s ≡ Some j
     → (i : ℕ) × (o ≡ Some i) × (child_number ns i s ≡ Some j)
 next_some ns None s j e = cc
 next_some ns (Some i) s j e = (i, refl, e)
 
-next_same : (ns ms : List Node) → ((i : ℕ) → links ns i ≡ links ms i) → (o : Option ℕ) (s : Key) → next_number ns o s ≡ next_number ms o s
+next_same : (ns ms : List Node) → ((i : ℕ) → links ns i ≡ links ms i) → (o : Option ℕ) (s : Hop) → next_number ns o s ≡ next_number ms o s
 next_same ns ms h None s = refl
 next_same ns ms h (Some i) s = ap (λ l. linked_by l s) (h i)
 
 -- where each number has the same children, each element has the same number
 pub number_links : (ns ms : List Node) → ((i : ℕ) → links ns i ≡ links ms i) → (e : Element) → number ns e ≡ number ms e
 number_links ns ms h Doc = refl
-number_links ns ms h (Field e n) = ap (λ o. next_number ns o (FieldKey n)) (number_links ns ms h e)
-    ∙ next_same ns ms h (number ms e) (FieldKey n)
-number_links ns ms h (Item e a) = ap (λ o. next_number ns o (ItemKey a)) (number_links ns ms h e)
-    ∙ next_same ns ms h (number ms e) (ItemKey a)
+number_links ns ms h (Field e n) = ap (λ o. next_number ns o (FieldHop n)) (number_links ns ms h e)
+    ∙ next_same ns ms h (number ms e) (FieldHop n)
+number_links ns ms h (Item e a) = ap (λ o. next_number ns o (ItemHop a)) (number_links ns ms h e)
+    ∙ next_same ns ms h (number ms e) (ItemHop a)
 
 pub number_same : (ns ms : List Node) → SameLinks ns ms → (e : Element) → number ns e ≡ number ms e
 number_same ns ms h e = number_links ns ms h.same e
@@ -52,22 +53,22 @@ pub tree_same : (ns ms : List Node) → SameLinks ns ms → IsTree ns → IsTree
 tree_same ns ms h t = tree_links ns ms h.count h.same t
 
 -- the root is nobody's child_number
-no_root : (ns : List Node) → IsTree ns → (o : Option ℕ) (s : Key) → next_number ns o s ≡ Some 0 → ⊥
+no_root : (ns : List Node) → IsTree ns → (o : Option ℕ) (s : Hop) → next_number ns o s ≡ Some 0 → ⊥
 no_root ns t o s e =
     let (i, p, q) = next_some ns o s 0 e in
     let r = t.rising i s 0 q in omega arith
 
-name_is : (n m : Name) → FieldKey n ≡ FieldKey m → n ≡ m
+name_is : (n m : Name) → FieldHop n ≡ FieldHop m → n ≡ m
 name_is n m e = cc
 
-id_is : (a b : OpId) → ItemKey a ≡ ItemKey b → a ≡ b
+id_is : (a b : OpId) → ItemHop a ≡ ItemHop b → a ≡ b
 id_is a b e = cc
 
-apart : (n : Name) (a : OpId) → FieldKey n ≡ ItemKey a → ⊥
+apart : (n : Name) (a : OpId) → FieldHop n ≡ ItemHop a → ⊥
 apart n a e = cc
 
 -- two steps lead to one node only where they are one step from one element
-one_step : (ns : List Node) → IsTree ns → (e f : Element) (s u : Key) (i : ℕ) → next_number ns (number ns e) s ≡ Some i
+one_step : (ns : List Node) → IsTree ns → (e f : Element) (s u : Hop) (i : ℕ) → next_number ns (number ns e) s ≡ Some i
     → next_number ns (number ns f) u ≡ Some i → ((j : ℕ) → number ns e ≡ Some j → number ns f ≡ Some j → e ≡ f) → (e ≡ f) × (s ≡ u)
 one_step ns t e f s u i p q above =
     let (k, ke, kc) = next_some ns (number ns e) s i p in
@@ -77,20 +78,20 @@ one_step ns t e f s u i p q above =
 -- two elements have one node only where they are one element
 pub one_element : (ns : List Node) → IsTree ns → (e f : Element) (i : ℕ) → number ns e ≡ Some i → number ns f ≡ Some i → e ≡ f
 one_element ns t Doc Doc i p q = refl
-one_element ns t Doc (Field f m) i p q = absurd (no_root ns t (number ns f) (FieldKey m) (q ∙ sym p))
-one_element ns t Doc (Item f b) i p q = absurd (no_root ns t (number ns f) (ItemKey b) (q ∙ sym p))
-one_element ns t (Field e n) Doc i p q = absurd (no_root ns t (number ns e) (FieldKey n) (p ∙ sym q))
-one_element ns t (Item e a) Doc i p q = absurd (no_root ns t (number ns e) (ItemKey a) (p ∙ sym q))
+one_element ns t Doc (Field f m) i p q = absurd (no_root ns t (number ns f) (FieldHop m) (q ∙ sym p))
+one_element ns t Doc (Item f b) i p q = absurd (no_root ns t (number ns f) (ItemHop b) (q ∙ sym p))
+one_element ns t (Field e n) Doc i p q = absurd (no_root ns t (number ns e) (FieldHop n) (p ∙ sym q))
+one_element ns t (Item e a) Doc i p q = absurd (no_root ns t (number ns e) (ItemHop a) (p ∙ sym q))
 one_element ns t (Field e n) (Field f m) i p q =
-    let (r, s) = one_step ns t e f (FieldKey n) (FieldKey m) i p q (one_element ns t e f) in
+    let (r, s) = one_step ns t e f (FieldHop n) (FieldHop m) i p q (one_element ns t e f) in
     λ j. Field (r j) (name_is n m s j)
 one_element ns t (Item e a) (Item f b) i p q =
-    let (r, s) = one_step ns t e f (ItemKey a) (ItemKey b) i p q (one_element ns t e f) in
+    let (r, s) = one_step ns t e f (ItemHop a) (ItemHop b) i p q (one_element ns t e f) in
     λ j. Item (r j) (id_is a b s j)
 one_element ns t (Field e n) (Item f b) i p q = absurd
-    (apart n b (one_step ns t e f (FieldKey n) (ItemKey b) i p q (one_element ns t e f)).1)
+    (apart n b (one_step ns t e f (FieldHop n) (ItemHop b) i p q (one_element ns t e f)).1)
 one_element ns t (Item e a) (Field f m) i p q = absurd
-    (apart m a (sym (one_step ns t e f (ItemKey a) (FieldKey m) i p q (one_element ns t e f)).1))
+    (apart m a (sym (one_step ns t e f (ItemHop a) (FieldHop m) i p q (one_element ns t e f)).1))
 
 -- a write to a node that leaves its children alone
 pub links_each : (ns : List Node) (i : ℕ) (n m : Node) → slice_get ns i ≡ Some n → links_of (Some m) ≡ links_of (Some n) → (j : ℕ)
@@ -101,15 +102,15 @@ links_each ns i n m g l j = elim (cases_eq j i) [
   | inr n ↦ sym (ap links_of (get_other ns i m j n))
 ]
 
--- and its flags, those of its fields, and the items that are gone
+-- and its flags, those of its fields, and its bound of empty items
 pub links_set : (ns : List Node) (i : ℕ) (n m : Node) → slice_get ns i ≡ Some n → links_of (Some m) ≡ links_of (Some n)
-    → visible_of (Some m) ≡ visible_of (Some n) → gone_of (Some m) ≡ gone_of (Some n) → flags_of (Some m) ≡ flags_of (Some n)
+    → visible_of (Some m) ≡ visible_of (Some n) → empty_below_of (Some m) ≡ empty_below_of (Some n) → flags_of (Some m) ≡ flags_of (Some n)
     → SameLinks ns (set ns i m)
 links_set ns i n m g l v d f = record {
   count = sym (length-set ns i m);
   same = links_each ns i n m g l;
   visible = each visible_of v;
-  gone = each gone_of d;
+  empty_below = each empty_below_of d;
   flags = each flags_of f;
 }
   where
@@ -121,7 +122,7 @@ links_set ns i n m g l v d f = record {
     ]
 
 pub links_same : (ns : List Node) → SameLinks ns ns
-links_same ns = record { count = refl; same = λ i. refl; visible = λ i. refl; gone = λ i. refl; flags = λ i. refl }
+links_same ns = record { count = refl; same = λ i. refl; visible = λ i. refl; empty_below = λ i. refl; flags = λ i. refl }
 
 pub node_set : (ns : List Node) → IsTree ns → (e : Element) (i : ℕ) (n m : Node) → number ns e ≡ Some i → slice_get ns i ≡ Some n
     → links_of (Some m) ≡ links_of (Some n) → (x : Element) → node_at (set ns i m) x ≡ cond (is_same x e) (Some m) (node_at ns x)
@@ -145,7 +146,7 @@ links_trans a b c p q = record {
   count = p.count ∙ q.count;
   same = λ i. p.same i ∙ q.same i;
   visible = λ i. p.visible i ∙ q.visible i;
-  gone = λ i. p.gone i ∙ q.gone i;
+  empty_below = λ i. p.empty_below i ∙ q.empty_below i;
   flags = λ i. p.flags i ∙ q.flags i;
 }
 
@@ -177,22 +178,22 @@ pub number_inside : (ns : List Node) → IsTree ns → (e : Element) (i : ℕ) �
 number_inside ns t Doc i p = let q : 0 ≡ i = some_zero i p in let r = t.rooted in omega arith where
   some_zero : (i : ℕ) → Some 0 ≡ Some i → 0 ≡ i
   some_zero i e = cc
-number_inside ns t (Field e n) i p = let (k, q, c) = next_some ns (number ns e) (FieldKey n) i p in (t.rising k (FieldKey n) i c).1
-number_inside ns t (Item e a) i p = let (k, q, c) = next_some ns (number ns e) (ItemKey a) i p in (t.rising k (ItemKey a) i c).1
+number_inside ns t (Field e n) i p = let (k, q, c) = next_some ns (number ns e) (FieldHop n) i p in (t.rising k (FieldHop n) i c).1
+number_inside ns t (Item e a) i p = let (k, q, c) = next_some ns (number ns e) (ItemHop a) i p in (t.rising k (ItemHop a) i c).1
 
-pub number_extend : (ns : List Node) (e : Element) (s : Key) → number ns (child e s) ≡ next_number ns (number ns e) s
-number_extend ns e (FieldKey n) = refl
-number_extend ns e (ItemKey a) = refl
+pub number_extend : (ns : List Node) (e : Element) (s : Hop) → number ns (child e s) ≡ next_number ns (number ns e) s
+number_extend ns e (FieldHop n) = refl
+number_extend ns e (ItemHop a) = refl
 
-pub number_child : (ns : List Node) (e : Element) (i : ℕ) (s : Key) → number ns e ≡ Some i → number ns (child e s) ≡ child_number ns i s
+pub number_child : (ns : List Node) (e : Element) (i : ℕ) (s : Hop) → number ns e ≡ Some i → number ns (child e s) ≡ child_number ns i s
 number_child ns e i s p = number_extend ns e s ∙ ap (λ o. next_number ns o s) p
 
 -- where a step leads nowhere, no longer path leads anywhere
-lost : (ns : List Node) (e : Element) (steps : List Key) → number ns e ≡ None → number ns (down e steps) ≡ None
+lost : (ns : List Node) (e : Element) (steps : List Hop) → number ns e ≡ None → number ns (down e steps) ≡ None
 lost ns e [] p = p
 lost ns e (s ∷ ss) p = lost ns (child e s) ss (number_extend ns e s ∙ ap (λ o. next_number ns o s) p)
 
-pub lost_at : (ns : List Node) (path : List Key) (k : ℕ) → number ns (end_of (take k path)) ≡ None → number ns (end_of path) ≡ None
+pub lost_at : (ns : List Node) (path : List Hop) (k : ℕ) → number ns (end_of (take k path)) ≡ None → number ns (end_of path) ≡ None
 lost_at ns path k p =
     ap (λ xs. number ns (end_of xs)) (sym (take-append-drop k path))
     ∙ ap (number ns) (down-append Doc (take k path) (drop k path))
@@ -204,10 +205,10 @@ under_none ns e p Doc u = ap (number ns) (same_elements Doc e u) ∙ p
 under_none ns e p (Field y n) u =
     elim (is_same (Field y n) e) as (λ b. is_same (Field y n) e ≡ b → (b || is_under y e) ≡ true → number ns (Field y n) ≡ None) [
       | true ↦ λ s v. ap (number ns) (same_elements (Field y n) e s) ∙ p
-      | false ↦ λ s v. ap (λ o. next_number ns o (FieldKey n)) (under_none ns e p y v)
+      | false ↦ λ s v. ap (λ o. next_number ns o (FieldHop n)) (under_none ns e p y v)
     ] refl u
 under_none ns e p (Item y a) u =
     elim (is_same (Item y a) e) as (λ b. is_same (Item y a) e ≡ b → (b || is_under y e) ≡ true → number ns (Item y a) ≡ None) [
       | true ↦ λ s v. ap (number ns) (same_elements (Item y a) e s) ∙ p
-      | false ↦ λ s v. ap (λ o. next_number ns o (ItemKey a)) (under_none ns e p y v)
+      | false ↦ λ s v. ap (λ o. next_number ns o (ItemHop a)) (under_none ns e p y v)
     ] refl u

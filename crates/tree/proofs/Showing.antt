@@ -8,29 +8,30 @@ use Rattle.std.proofs.lemmas.Bool.{false_from_ne_true, or_cases, or_left, or_rig
 use Rattle.semantics.specs.Ids.{OpId, is_same_id}
 use Rattle.semantics.specs.Elements.{Element, Field, Item, Name, is_same, is_under}
 use Rattle.semantics.specs.Context.{Context}
-use Rattle.semantics.specs.Paths.{Key, ItemKey, child}
+use Rattle.semantics.specs.Paths.{Hop, ItemHop, child}
 use Rattle.semantics.specs.DocumentAnswer.{is_any}
 use Rattle.semantics.proofs.Orders.{element_itself, same_elements}
-use Rattle.columns.specs.Entries.{StandBeside}
+use Rattle.columns.specs.Entries.{AreIndicesIn}
 use Rattle.tree.specs.declared.node.Node.{Node}
-use Rattle.tree.specs.Nodes.{IsTree, SameChildren, SameLinks, child_number, context, flags_of, gone_of, is_flagged, is_written, links_of}
+use Rattle.tree.specs.Nodes.{IsTree, SameChildren, SameLinks, child_number, context, flags_of, empty_below_of, is_flagged, is_written}
+use Rattle.tree.specs.Nodes.{links_of}
 use Rattle.tree.specs.Nodes.{node_at}
 use Rattle.tree.specs.Nodes.{node_in, number, order_of, presence_of, register_of, tagged, valued, visible_of}
-use Rattle.tree.specs.Shown.{AreEmpty, AreShown, IsGoneBelow, SameButFlags, ShownBut}
+use Rattle.tree.specs.Shown.{AreEmpty, AreShown, IsEmptyBelow, SameButFlags, ShownBut}
 use Rattle.tree.specs.Writes.{end_of}
 use Rattle.tree.proofs.Beneath.{way_lost}
 use Rattle.tree.proofs.Clears.{under_step}
 use Rattle.tree.proofs.Writes.{same_sym}
 use Rattle.tree.proofs.Shape.{links_each, node_found, node_set, number_child, number_links, number_same, tree_links}
-use Rattle.tree.proofs.NodeWrites.{beside_at, beside_set}
-use Rattle.tree.proofs.SameViews.{context_view, flagged_view, gone_view, visible_view}
+use Rattle.tree.proofs.NodeWrites.{indexed_at, indexed_set}
+use Rattle.tree.proofs.SameViews.{context_view, flagged_view, empty_below_view, visible_view}
 use Rattle.tree.proofs.Widened.{same_set}
 
 pub flags_same : (ns : List Node) → SameButFlags ns ns
 flags_same ns = record {
   count = refl;
   view = record { links = λ i. refl; presence = λ i. refl; register = λ i. refl; order = λ i. refl; written = λ i. refl };
-  beside = λ table b. b;
+  indexed = λ table b. b;
 }
 
 pub flags_trans : (a b c : List Node) → SameButFlags a b → SameButFlags b c → SameButFlags a c
@@ -46,7 +47,7 @@ flags_trans a b c p q =
         order = λ i. v.order i ∙ w.order i;
         written = λ i. v.written i ∙ w.written i;
       };
-      beside = λ table h. q.beside table (p.beside table h);
+      indexed = λ table h. q.indexed table (p.indexed table h);
     }
 
 pub flags_number : (ns ms : List Node) → SameButFlags ns ms → (e : Element) → number ns e ≡ number ms e
@@ -66,7 +67,7 @@ but_more ns off new h s = record {
   flagged = s.flagged;
   right = λ l a n. by l a n (number ns (Item l a)) refl (off (Item l a)) refl;
   absent = s.absent;
-  gone = λ l a n lt. nothing (Item l a) n (λ q. s.gone l a q lt) (number ns (Item l a)) refl (off (Item l a)) refl;
+  empty_below = λ l a n lt. nothing (Item l a) n (λ q. s.empty_below l a q lt) (number ns (Item l a)) refl (off (Item l a)) refl;
   fields = λ e k n low. nothing (Field e k) n (λ q. s.fields e k q low) (number ns (Field e k)) refl (off (Field e k)) refl;
 }
   where
@@ -86,7 +87,7 @@ but_more ns off new h s = record {
 pub but_none : (ns : List Node) → ShownBut ns (λ x. false) → AreShown ns × AreEmpty ns
 but_none ns s = (
   λ e. s.flagged e ∙ (λ i. filter (λ a. s.right e a refl i) (order_of (node_at ns e))),
-  record { items = λ l a lt. s.gone l a refl lt; fields = λ e n low. s.fields e n refl low },
+  record { items = λ l a lt. s.empty_below l a refl lt; fields = λ e n low. s.fields e n refl low },
 )
 
 none_some : (j : ℕ) → ◌≡◌ {A = Option ℕ} None (Some j) → ⊥
@@ -108,7 +109,7 @@ here f e l id b d a =
     elim (is_same_id a id) as (λ c. cond c b (f l a) ≡ cond (c && true) b (f l a)) [ true ↦ refl | false ↦ refl ]
     ∙ sym (ap (λ c. cond (is_same_id a id && c) b (f l a)) d)
 
--- beside an item, no more is gone than was, and no further than to the item, if it stands
+-- but for one item the bound is at most what it was, and at most the item's counter, if it stands
 pub lower : (b : Bool) (g k r : ℕ) → r ≡ cond b (min g k) g → (r ≤ g) × (b ≡ true → r ≤ k)
 lower true g k r is = let x = min-le_left g k in let y = min-le_right g k in (omega arith, λ yes. omega arith)
 lower false g k r is = (omega arith, λ no. absurd (true≢false (sym no)))
@@ -119,7 +120,7 @@ list_is l e a b p = cc
 id_is : (l e : Element) (a b : OpId) → Item l a ≡ Item e b → a ≡ b
 id_is l e a b p = cc
 
--- a write to a node's flags, and to what is gone of its list
+-- a write to a node's flags, and to its list's bound of empty items
 module _ (ns : List Node) (t : IsTree ns) (i : ℕ) (n m : Node) (g : slice_get ns i ≡ Some n)
     (same_links : links_of (Some m) ≡ links_of (Some n)) (same_order : m.order.items ≡ n.order.items) where
   pub flag_same : m.presence ≡ n.presence → m.register ≡ n.register → m.is_written ≡ n.is_written → SameButFlags ns (set ns i m)
@@ -132,8 +133,8 @@ module _ (ns : List Node) (t : IsTree ns) (i : ℕ) (n m : Node) (g : slice_get 
       order = same_set order_of ns i n m g same_order;
       written = same_set is_written ns i n m g w;
     };
-    beside = λ table b. beside_set table ns i n m g b (let h = beside_at table ns i n g b in
-        (subst (λ c. StandBeside table c.entries c.indices) (sym p) h.0, subst (λ c. StandBeside table c.entries c.indices) (sym r) h.1));
+    indexed = λ table b. indexed_set table ns i n m g b (let h = indexed_at table ns i n g b in
+        (subst (λ c. AreIndicesIn table c.entries c.indices) (sym p) h.0, subst (λ c. AreIndicesIn table c.entries c.indices) (sym r) h.1));
   }
 
   -- where the flags of its fields stay, they stay everywhere
@@ -141,55 +142,55 @@ module _ (ns : List Node) (t : IsTree ns) (i : ℕ) (n m : Node) (g : slice_get 
       → is_flagged (node_at ns x) k ≡ is_flagged (node_at (set ns i m) x) k
   same_flagged q = flagged_view ns (set ns i m) (links_each ns i n m g same_links) (same_set flags_of ns i n m g q)
 
-  -- what is gone of e is what the write says, and elsewhere what it was
-  gone_set : (e : Element) → number ns e ≡ Some i → (l : Element) (b : Bool) → is_same l e ≡ b
-      → gone_of (node_at (set ns i m) l) ≡ cond b m.gone (gone_of (node_at ns l))
-  gone_set e at l true q = ap gone_of (node_set ns t e i n m at g same_links l ∙ ap (λ b. cond b (Some m) (node_at ns l)) q)
-  gone_set e at l false q = ap gone_of (node_set ns t e i n m at g same_links l ∙ ap (λ b. cond b (Some m) (node_at ns l)) q)
+  -- the bound of e is what the write says, and elsewhere what it was
+  empty_below_set : (e : Element) → number ns e ≡ Some i → (l : Element) (b : Bool) → is_same l e ≡ b
+      → empty_below_of (node_at (set ns i m) l) ≡ cond b m.empty_below (empty_below_of (node_at ns l))
+  empty_below_set e at l true q = ap empty_below_of (node_set ns t e i n m at g same_links l ∙ ap (λ b. cond b (Some m) (node_at ns l)) q)
+  empty_below_set e at l false q = ap empty_below_of (node_set ns t e i n m at g same_links l ∙ ap (λ b. cond b (Some m) (node_at ns l)) q)
 
-  gone_no_more : (e : Element) → number ns e ≡ Some i → m.gone ≤ n.gone → (l : Element) (b : Bool) → is_same l e ≡ b
-      → gone_of (node_at (set ns i m) l) ≤ gone_of (node_at ns l)
-  gone_no_more e at less l true q =
-      let new = gone_set e at l true q in
-      let old : gone_of (node_at ns l) ≡ n.gone = ap (λ x. gone_of (node_at ns x)) (same_elements l e q)
-      ∙ ap gone_of (node_found ns e i n at g) in
+  empty_no_more : (e : Element) → number ns e ≡ Some i → m.empty_below ≤ n.empty_below → (l : Element) (b : Bool) → is_same l e ≡ b
+      → empty_below_of (node_at (set ns i m) l) ≤ empty_below_of (node_at ns l)
+  empty_no_more e at less l true q =
+      let new = empty_below_set e at l true q in
+      let old : empty_below_of (node_at ns l) ≡ n.empty_below = ap (λ x. empty_below_of (node_at ns x)) (same_elements l e q)
+      ∙ ap empty_below_of (node_found ns e i n at g) in
       omega arith
-  gone_no_more e at less l false q = let new = gone_set e at l false q in omega arith
+  empty_no_more e at less l false q = let new = empty_below_set e at l false q in omega arith
 
-  -- where no more is gone than was, nothing stands there still
-  pub gone_lower : m.fields.flags ≡ n.fields.flags → SameButFlags ns (set ns i m) → (e : Element) → number ns e ≡ Some i
-      → m.gone ≤ n.gone → AreEmpty ns → AreEmpty (set ns i m)
-  gone_lower fields same e at less empty =
+  -- where the bound is no greater than it was, nothing stands below it still
+  pub empty_below_lower : m.fields.flags ≡ n.fields.flags → SameButFlags ns (set ns i m) → (e : Element) → number ns e ≡ Some i
+      → m.empty_below ≤ n.empty_below → AreEmpty ns → AreEmpty (set ns i m)
+  empty_below_lower fields same e at less empty =
       let C = flags_context ns (set ns i m) same in
       record {
-        items = λ l a lt. let le = gone_no_more e at less l (is_same l e) refl in
+        items = λ l a lt. let le = empty_no_more e at less l (is_same l e) refl in
             ap (λ D. is_any (D.presence (Item l a))) (sym C) ∙ empty.items l a (omega arith);
         fields = λ x k low. ap (λ D. is_any (D.presence (Field x k))) (sym C) ∙ empty.fields x k (same_flagged fields x k ∙ low);
       }
 
-  -- what is gone now was gone, or is gone by the write
-  gone_or_set : (e : Element) → number ns e ≡ Some i → IsGoneBelow ns e m.gone → (l : Element) (a : OpId)
-      → (a.counter < gone_of (node_at ns l) → is_any ((context ns).presence (Item l a)) ≡ false)
-      → a.counter < gone_of (node_at (set ns i m) l) → is_any ((context ns).presence (Item l a)) ≡ false
-  gone_or_set e at below l a was lt = by (is_same l e) refl
+  -- what lies below the bound now lay below it, or does by the write
+  empty_below_or_set : (e : Element) → number ns e ≡ Some i → IsEmptyBelow ns e m.empty_below → (l : Element) (a : OpId)
+      → (a.counter < empty_below_of (node_at ns l) → is_any ((context ns).presence (Item l a)) ≡ false)
+      → a.counter < empty_below_of (node_at (set ns i m) l) → is_any ((context ns).presence (Item l a)) ≡ false
+  empty_below_or_set e at below l a was lt = by (is_same l e) refl
     where
       by : (b : Bool) → is_same l e ≡ b → is_any ((context ns).presence (Item l a)) ≡ false
       by true q = ap (λ y. is_any ((context ns).presence (Item y a))) (same_elements l e q)
-          ∙ below a (subst (λ k. a.counter < k) (gone_set e at l true q) lt)
-      by false q = was (subst (λ k. a.counter < k) (gone_set e at l false q) lt)
+          ∙ below a (subst (λ k. a.counter < k) (empty_below_set e at l true q) lt)
+      by false q = was (subst (λ k. a.counter < k) (empty_below_set e at l false q) lt)
 
-  pub gone_raised : m.fields.flags ≡ n.fields.flags → SameButFlags ns (set ns i m) → (e : Element) → number ns e ≡ Some i
-      → IsGoneBelow ns e m.gone → AreEmpty ns → AreEmpty (set ns i m)
-  gone_raised fields same e at below empty =
+  pub empty_below_raised : m.fields.flags ≡ n.fields.flags → SameButFlags ns (set ns i m) → (e : Element) → number ns e ≡ Some i
+      → IsEmptyBelow ns e m.empty_below → AreEmpty ns → AreEmpty (set ns i m)
+  empty_below_raised fields same e at below empty =
       let C = flags_context ns (set ns i m) same in
       record {
-        items = λ l a lt. ap (λ D. is_any (D.presence (Item l a))) (sym C) ∙ gone_or_set e at below l a (empty.items l a) lt;
+        items = λ l a lt. ap (λ D. is_any (D.presence (Item l a))) (sym C) ∙ empty_below_or_set e at below l a (empty.items l a) lt;
         fields = λ x k low. ap (λ D. is_any (D.presence (Field x k))) (sym C) ∙ empty.fields x k (same_flagged fields x k ∙ low);
       }
 
   -- the flags stay
   pub but_raised : m.order ≡ n.order → m.fields.flags ≡ n.fields.flags → SameButFlags ns (set ns i m) → (e : Element) → number ns e ≡ Some i
-      → IsGoneBelow ns e m.gone → (off : Element → Bool) → ShownBut ns off → ShownBut (set ns i m) off
+      → IsEmptyBelow ns e m.empty_below → (off : Element → Bool) → ShownBut ns off → ShownBut (set ns i m) off
   but_raised order fields same e at below off s =
       let new = set ns i m in
       let C = flags_context ns new same in
@@ -200,13 +201,13 @@ module _ (ns : List Node) (t : IsTree ns) (i : ℕ) (n m : Node) (g : slice_get 
             ∙ ap (λ (D : Context). filter (s.flag l) (D.order l)) C;
         right = λ l a far. s.right l a far ∙ ap (λ (D : Context). is_any (D.presence (Item l a))) C;
         absent = λ l a none. s.absent l a (flags_number ns new same (Item l a) ∙ none);
-        gone = λ l a far lt. ap (λ (D : Context). is_any (D.presence (Item l a))) (sym C)
-            ∙ gone_or_set e at below l a (s.gone l a far) lt;
+        empty_below = λ l a far lt. ap (λ (D : Context). is_any (D.presence (Item l a))) (sym C)
+            ∙ empty_below_or_set e at below l a (s.empty_below l a far) lt;
         fields = λ x k far low. ap (λ (D : Context). is_any (D.presence (Field x k))) (sym C)
             ∙ s.fields x k far (same_flagged fields x k ∙ low);
       }
 
-  module _ (e : Element) (at : number ns e ≡ Some i) (id : OpId) (j : ℕ) (child : child_number ns i (ItemKey id) ≡ Some j) (shown : Bool)
+  module _ (e : Element) (at : number ns e ≡ Some i) (id : OpId) (j : ℕ) (child : child_number ns i (ItemHop id) ≡ Some j) (shown : Bool)
       (is : shown ≡ is_any (presence_of (slice_get ns j))) where
     flagged_set : (f : Element → OpId → Bool) → ((l : Element) → visible_of (node_at ns l) ≡ filter (f l) (order_of (node_at ns l)))
         → ((f : OpId → Bool) → n.order.visible ≡ filter f n.order.items
@@ -220,7 +221,7 @@ module _ (ns : List Node) (t : IsTree ns) (i : ℕ) (n m : Node) (g : slice_get 
     flagged_set f was sets l false q = was l ∙ (λ k. filter (λ a. elsewhere f e l id shown q a k) (order_of (node_at ns l)))
 
     there : number ns (Item e id) ≡ Some j
-    there = number_child ns e i (ItemKey id) at ∙ child
+    there = number_child ns e i (ItemHop id) at ∙ child
 
     right_set : (s : Bool) (l : Element) (a : OpId) (b : Bool) → is_same (Item l a) (Item e id) ≡ b
         → (b ≡ false → s ≡ is_any ((context ns).presence (Item l a))) → cond b shown s ≡ is_any ((context ns).presence (Item l a))
@@ -233,24 +234,25 @@ module _ (ns : List Node) (t : IsTree ns) (i : ℕ) (n m : Node) (g : slice_get 
     absent_set s l a true q p h = absurd (none_some j (sym p ∙ ap (number ns) (same_elements (Item l a) (Item e id) q) ∙ there))
     absent_set s l a false q p h = h
 
-    -- the item whose flag is set is gone no longer, if it is shown
-    gone_here : m.gone ≤ n.gone → (shown ≡ true → m.gone ≤ id.counter) → (l : Element) (a : OpId) (b : Bool)
+    -- the item whose flag is set lies below the bound no longer, if it is shown
+    empty_below_here : m.empty_below ≤ n.empty_below → (shown ≡ true → m.empty_below ≤ id.counter) → (l : Element) (a : OpId) (b : Bool)
         → is_same (Item l a) (Item e id) ≡ b
-        → (b ≡ false → a.counter < gone_of (node_at ns l) → is_any ((context ns).presence (Item l a)) ≡ false)
-        → a.counter < gone_of (node_at (set ns i m) l) → is_any ((context ns).presence (Item l a)) ≡ false
-    gone_here less reached l a false q was lt =
-        let le = gone_no_more e at less l (is_same l e) refl in
+        → (b ≡ false → a.counter < empty_below_of (node_at ns l) → is_any ((context ns).presence (Item l a)) ≡ false)
+        → a.counter < empty_below_of (node_at (set ns i m) l) → is_any ((context ns).presence (Item l a)) ≡ false
+    empty_below_here less reached l a false q was lt =
+        let le = empty_no_more e at less l (is_same l e) refl in
         was refl (omega arith)
-    gone_here less reached l a true q was lt =
+    empty_below_here less reached l a true q was lt =
         let same = same_elements (Item l a) (Item e id) q in
         let here : shown ≡ is_any ((context ns).presence (Item l a)) = is ∙ ap (λ o. is_any (presence_of (node_in ns o))) (sym there)
         ∙ ap (λ x. is_any ((context ns).presence x)) (sym same) in
-        let new = gone_set e at l true (ap (λ x. is_same x e) (list_is l e a id same) ∙ element_itself e) in
+        let new = empty_below_set e at l true (ap (λ x. is_same x e) (list_is l e a id same) ∙ element_itself e) in
         let counter = ap (λ (b : OpId). b.counter) (id_is l e a id same) in
         sym here ∙ false_from_ne_true shown (λ yes. let le = reached yes in omega arith)
 
     -- sets the flag right
-    pub flag_set : m.fields.flags ≡ n.fields.flags → SameButFlags ns (set ns i m) → m.gone ≤ n.gone → (shown ≡ true → m.gone ≤ id.counter)
+    pub flag_set : m.fields.flags ≡ n.fields.flags → SameButFlags ns (set ns i m) → m.empty_below ≤ n.empty_below
+        → (shown ≡ true → m.empty_below ≤ id.counter)
         → ((f : OpId → Bool) → n.order.visible ≡ filter f n.order.items
         → m.order.visible ≡ filter (λ a. cond (is_same_id a id) shown (f a)) n.order.items)
         → (off : Element → Bool) → ShownBut ns (λ x. is_same x (Item e id) || off x) → ShownBut (set ns i m) off
@@ -264,9 +266,10 @@ module _ (ns : List Node) (t : IsTree ns) (i : ℕ) (n m : Node) (g : slice_get 
           ∙ ap (λ C. is_any (C.presence (Item l a))) (flags_context ns (set ns i m) same);
       absent = λ l a p. let none = flags_number ns (set ns i m) same (Item l a) ∙ p in
           absent_set (s.flag l a) l a (is_same (Item l a) (Item e id)) refl none (s.absent l a none);
-      gone = λ l a o lt.
+      empty_below = λ l a o lt.
           ap (λ C. is_any (C.presence (Item l a))) (sym (flags_context ns (set ns i m) same))
-          ∙ gone_here less reached l a (is_same (Item l a) (Item e id)) refl (λ q. s.gone l a (ap (λ b. b || off (Item l a)) q ∙ o)) lt;
+          ∙ empty_below_here less reached l a (is_same (Item l a) (Item e id)) refl
+          (λ q. s.empty_below l a (ap (λ b. b || off (Item l a)) q ∙ o)) lt;
       fields = λ x k far low. ap (λ C. is_any (C.presence (Field x k))) (sym (flags_context ns (set ns i m) same))
           ∙ s.fields x k far (same_flagged fields x k ∙ low);
     }
@@ -284,7 +287,7 @@ but_lost ns x off none = but_more ns _ off (λ y j p u. elim (or_cases (is_same 
 ])
 
 -- one hop of the walk down a path
-pub but_hop : (ns : List Node) (path : List Key) (k : ℕ) (e : Element) (h : Key) (off : Element → Bool)
+pub but_hop : (ns : List Node) (path : List Hop) (k : ℕ) (e : Element) (h : Hop) (off : Element → Bool)
     → end_of (take (k + 1) path) ≡ child e h
     → ShownBut ns (λ x. is_under (end_of (take (k + 1) path)) x || off x)
     → ShownBut ns (λ x. is_under e x || (is_same x (child e h) || off x))
@@ -298,7 +301,7 @@ but_hop ns path k e h off is = subst (ShownBut ns)
     or_swap false b c = refl
 
 -- where a hop leads to no node, the way ends
-pub but_way : (ns : List Node) (path : List Key) (k : ℕ) (e : Element) (h : Key) (off : Element → Bool)
+pub but_way : (ns : List Node) (path : List Hop) (k : ℕ) (e : Element) (h : Hop) (off : Element → Bool)
     → end_of (take (k + 1) path) ≡ child e h → number ns (child e h) ≡ None
     → ShownBut ns (λ x. is_under (end_of path) x || off x)
     → ShownBut ns (λ x. is_under e x || (is_same x (child e h) || off x))
@@ -333,7 +336,7 @@ shown_but ns shown empty = record {
   flagged = shown;
   right = λ l a far. refl;
   absent = λ l a none. ap (λ o. is_any (presence_of (node_in ns o))) none;
-  gone = λ l a far lt. empty.items l a lt;
+  empty_below = λ l a far lt. empty.items l a lt;
   fields = λ e n far low. empty.fields e n low;
 }
 
@@ -347,19 +350,20 @@ but_kept ns ms links order off new same s = record {
   flagged = λ l. sym (visible_view ns ms links.same links.visible l) ∙ s.flagged l ∙ ap (filter (s.flag l)) (sym (order l));
   right = λ l a far. let h = same (Item l a) far in s.right l a h.0 ∙ ap is_any (sym h.1);
   absent = λ l a none. s.absent l a (number_same ns ms links (Item l a) ∙ none);
-  gone = λ l a far lt.
+  empty_below = λ l a far lt.
       let h = same (Item l a) far in
-      ap is_any h.1 ∙ s.gone l a h.0 (subst (λ g. a.counter < g) (sym (gone_view ns ms links.same links.gone l)) lt);
+      ap is_any h.1 ∙ s.empty_below l a h.0 (subst (λ g. a.counter < g) (sym (empty_below_view ns ms links.same links.empty_below l)) lt);
   fields = λ e n far low.
       let h = same (Field e n) far in
       ap is_any h.1 ∙ s.fields e n h.0 (flagged_view ns ms links.same links.flags e n ∙ low);
 }
 
--- where flags and what is gone stay, nothing stands there if nothing new stands anywhere
+-- where flags and bounds stay, nothing stands there if nothing new stands anywhere
 pub empty_kept : (ns ms : List Node) → SameLinks ns ms
     → ((x : Element) → is_any ((context ns).presence x) ≡ false → is_any ((context ms).presence x) ≡ false) → AreEmpty ns → AreEmpty ms
 empty_kept ns ms links fewer empty = record {
-  items = λ l a lt. fewer (Item l a) (empty.items l a (subst (λ g. a.counter < g) (sym (gone_view ns ms links.same links.gone l)) lt));
+  items = λ l a lt. fewer (Item l a)
+      (empty.items l a (subst (λ g. a.counter < g) (sym (empty_below_view ns ms links.same links.empty_below l)) lt));
   fields = λ e n low. fewer (Field e n) (empty.fields e n (flagged_view ns ms links.same links.flags e n ∙ low));
 }
 

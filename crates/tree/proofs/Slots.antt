@@ -5,22 +5,22 @@ use Rattle.semantics.specs.Ids.{OpId}
 use Rattle.semantics.specs.Elements.{Element, Doc, Field, Item, Place, At, HeadOf, Value, EmptyMap}
 use Rattle.semantics.specs.LegalHistory.{IsFormed}
 use Rattle.semantics.specs.Operations.{Insert, element_of, slot_of}
-use Rattle.semantics.specs.Paths.{Key, ItemKey, keys_from_root}
-use Rattle.semantics.proofs.ElementPaths.{down-append, down-keys_from_root}
+use Rattle.semantics.specs.Paths.{Hop, ItemHop, hops_from_root}
+use Rattle.semantics.proofs.ElementPaths.{down-append, down-hops_from_root}
 use Rattle.operation.specs.cursor.Places.{is_head}
 use Rattle.tree.specs.Writes.{end_of}
 use Rattle.tree.proofs.Writes.{after_place}
 
-pub head_slot : (p : Place) (path : List Key) → is_head p ≡ true → path ≡ keys_from_root (element_of p)
+pub head_slot : (p : Place) (path : List Hop) → is_head p ≡ true → path ≡ hops_from_root (element_of p)
     → slot_of (Insert EmptyMap) p ≡ Some (end_of path, None)
 head_slot (At e) path h q = absurd (true≢false (sym h))
-head_slot (HeadOf l) path h q = ap (λ x. Some (x, None)) (sym (ap end_of q ∙ down-keys_from_root l))
+head_slot (HeadOf l) path h q = ap (λ x. Some (x, None)) (sym (ap end_of q ∙ down-hops_from_root l))
 
-pub item_slot : (p : Place) (list : List Key) (a : OpId) → is_head p ≡ false → list ++ ItemKey a ∷ [] ≡ keys_from_root (element_of p)
+pub item_slot : (p : Place) (list : List Hop) (a : OpId) → is_head p ≡ false → list ++ ItemHop a ∷ [] ≡ hops_from_root (element_of p)
     → slot_of (Insert EmptyMap) p ≡ Some (end_of list, Some a)
 item_slot (HeadOf l) list a h q = absurd (true≢false h)
 item_slot (At e) list a h q =
-    let item : e ≡ Item (end_of list) a = sym (sym (down-append Doc list (ItemKey a ∷ [])) ∙ ap end_of q ∙ down-keys_from_root e) in
+    let item : e ≡ Item (end_of list) a = sym (sym (down-append Doc list (ItemHop a ∷ [])) ∙ ap end_of q ∙ down-hops_from_root e) in
     ap (λ x. slot_of (Insert EmptyMap) (At x)) item
 
 pub one_slot : (o : Option (Element × Option OpId)) (a b : Element × Option OpId) → o ≡ Some a → o ≡ Some b → a ≡ b

@@ -5,11 +5,11 @@ use Rattle.std.specs.Prelude.{IfSome}
 use Rattle.std.proofs.lemmas.Bool.{and_right}
 use Rattle.std.proofs.lemmas.List.{take-append-drop}
 use Rattle.semantics.specs.Elements.{Element, Doc}
-use Rattle.semantics.specs.Paths.{Key, FieldKey, ItemKey, child, down}
+use Rattle.semantics.specs.Paths.{Hop as TheHop, FieldHop, ItemHop, child, down}
 use Rattle.semantics.specs.Context.{Context}
 use Rattle.semantics.proofs.ElementPaths.{down-append}
 use Rattle.operation.specs.cursor.declared.hop.Hop.{Hop}
-use Rattle.operation.specs.cursor.Meanings.{hop_of}
+use Rattle.operation.specs.cursor.Steps.{hop_of}
 use Rattle.tree.specs.declared.node.Node.{Node}
 use Rattle.tree.specs.Nodes.{IsTree, context, next_number, node_in, number, order_of}
 use Rattle.tree.specs.Trees.{has_key, items_stand}
@@ -23,12 +23,12 @@ node_inside ns t e None is = tt
 node_inside ns t e (Some i) is = number_inside ns t e i is
 
 -- one key further
-pub items_child : (C : Context) (e : Element) (k : Key) → items_stand C (child e k) ≡ (has_key (C.order e) k && items_stand C e)
-items_child C e (FieldKey n) = refl
-items_child C e (ItemKey a) = refl
+pub items_child : (C : Context) (e : Element) (k : TheHop) → items_stand C (child e k) ≡ (has_key (C.order e) k && items_stand C e)
+items_child C e (FieldHop n) = refl
+items_child C e (ItemHop a) = refl
 
 -- where an item is missing, no longer path stands
-pub items_fallen : (C : Context) (e : Element) (keys : List Key) → items_stand C e ≡ false → items_stand C (down e keys) ≡ false
+pub items_fallen : (C : Context) (e : Element) (keys : List TheHop) → items_stand C e ≡ false → items_stand C (down e keys) ≡ false
 items_fallen C e [] h = h
 items_fallen C e (k ∷ ks) h = items_fallen C (child e k) ks (items_child C e k ∙ and_right (has_key (C.order e) k) (items_stand C e) h)
 

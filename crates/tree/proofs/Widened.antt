@@ -3,15 +3,16 @@ use Rattle.std.proofs.Common.{◌≡◌, ℕ, ◌≤◌, List, length, set, Opti
 use Rattle.std.specs.Prelude.{slice_get}
 use Rattle.semantics.specs.Ids.{OpId}
 use Rattle.semantics.specs.Elements.{Name}
-use Rattle.columns.specs.Entries.{StandBeside}
+use Rattle.columns.specs.Entries.{AreIndicesIn}
 use Rattle.columns.specs.Flagged.{Flagged}
 use Rattle.columns.specs.Numbered.{Numbered}
 use Rattle.tree.specs.declared.node.Node.{Node}
-use Rattle.tree.specs.Nodes.{IsTree, Kept, Links, NodeBeside, SameView, flags_of, gone_of, is_written, linked_by, links, links_of, order_of}
+use Rattle.tree.specs.Nodes.{IsTree, Kept, Links, IsIndexedNode, SameView, flags_of, empty_below_of, is_written, linked_by, links, links_of}
+use Rattle.tree.specs.Nodes.{order_of}
 use Rattle.tree.specs.Nodes.{order_room, presence_of, presence_room, register_of, register_room, tagged, valued, visible_of}
 use Rattle.tree.proofs.Shape.{tree_links}
-use Rattle.tree.proofs.NodeWrites.{beside_at, beside_set, set_each}
-use Rattle.tree.proofs.SameViews.{context_view, flagged_view, gone_view, visible_view}
+use Rattle.tree.proofs.NodeWrites.{indexed_at, indexed_set, set_each}
+use Rattle.tree.proofs.SameViews.{context_view, flagged_view, empty_below_view, visible_view}
 
 -- m is n with no less room
 pub record Wider (n m : Node) : Type 0 where
@@ -21,7 +22,7 @@ pub record Wider (n m : Node) : Type 0 where
   pub register : (m.register.entries ≡ n.register.entries) × (m.register.indices ≡ n.register.indices)
       × (n.register.room ≤ m.register.room)
   pub order : (m.order.items ≡ n.order.items) × (m.order.visible ≡ n.order.visible) × (n.order.room ≤ m.order.room)
-  pub gone : m.gone ≡ n.gone
+  pub empty_below : m.empty_below ≡ n.empty_below
   pub flags : m.fields.flags ≡ n.fields.flags
   pub written : m.is_written ≡ n.is_written
 
@@ -34,7 +35,7 @@ wider_children n f i e s d = record {
   presence = (refl, refl, omega arith);
   register = (refl, refl, omega arith);
   order = (refl, refl, omega arith);
-  gone = refl;
+  empty_below = refl;
   flags = s;
   written = refl;
 }
@@ -52,12 +53,12 @@ room_set : (f : Option Node → ℕ) (ns : List Node) (at : ℕ) (n m : Node) �
 room_set f ns at n m g h = set_each (λ o i. f (slice_get ns i) ≤ f o) ns at n m g (subst (λ o. f o ≤ f (Some m)) (sym g) h)
     (λ i. omega arith)
 
-wider_beside : (table : List ℕ) (n m : Node) → Wider n m → NodeBeside table (Some n) → NodeBeside table (Some m)
-wider_beside table n m w b = (
-  subst (λ es. StandBeside table es m.presence.indices) (sym w.presence.0)
-      (subst (StandBeside table n.presence.entries) (sym w.presence.1) b.0),
-  subst (λ es. StandBeside table es m.register.indices) (sym w.register.0)
-      (subst (StandBeside table n.register.entries) (sym w.register.1) b.1),
+wider_indexed : (table : List ℕ) (n m : Node) → Wider n m → IsIndexedNode table (Some n) → IsIndexedNode table (Some m)
+wider_indexed table n m w b = (
+  subst (λ es. AreIndicesIn table es m.presence.indices) (sym w.presence.0)
+      (subst (AreIndicesIn table n.presence.entries) (sym w.presence.1) b.0),
+  subst (λ es. AreIndicesIn table es m.register.indices) (sym w.register.0)
+      (subst (AreIndicesIn table n.register.entries) (sym w.register.1) b.1),
 )
 
 pub wider_links : (ns : List Node) (at : ℕ) (n m : Node) → slice_get ns at ≡ Some n → Wider n m → (i : ℕ)
@@ -79,7 +80,7 @@ kept_set ns at n m g t w =
       tree = tree_links ns (set ns at m) long v.links t;
       same = sym (context_view ns (set ns at m) v);
       visible = λ e. sym (visible_view ns (set ns at m) v.links (same_set visible_of ns at n m g w.order.1) e);
-      gone = λ e. sym (gone_view ns (set ns at m) v.links (same_set gone_of ns at n m g w.gone) e);
+      empty_below = λ e. sym (empty_below_view ns (set ns at m) v.links (same_set empty_below_of ns at n m g w.empty_below) e);
       flagged = λ e k. sym (flagged_view ns (set ns at m) v.links (same_set flags_of ns at n m g w.flags) e k);
       grows = record {
         count = omega arith;
@@ -88,5 +89,5 @@ kept_set ns at n m g t w =
         register = room_set register_room ns at n m g w.register.2;
         order = room_set order_room ns at n m g w.order.2;
       };
-      beside = λ table b. beside_set table ns at n m g b (wider_beside table n m w (beside_at table ns at n g b));
+      indexed = λ table b. indexed_set table ns at n m g b (wider_indexed table n m w (indexed_at table ns at n g b));
     }

@@ -6,15 +6,15 @@ use Rattle.semantics.specs.Ids.{OpId, IdSet, id_cmp}
 use Rattle.semantics.specs.Elements.{Element, Doc, Field, Item, name_cmp, is_same, depth, Scalar, Value, Plain, EmptyMap, EmptyList, Tag}
 use Rattle.semantics.specs.Elements.{AsRegister, AsMap, AsList, tag_of, Place, At, HeadOf}
 use Rattle.semantics.specs.Operations.{tag_at, name_toward, scalar_in, Assign, Insert, Delete}
-use Rattle.semantics.specs.Paths.{Key, FieldKey, ItemKey, child}
+use Rattle.semantics.specs.Paths.{Hop, FieldHop, ItemHop, child}
 use Rattle.semantics.specs.Context.{Context, put_some, put_name, clear, apply, insert_some, insert_after}
 use Rattle.semantics.proofs.Orders.{element_itself, same_elements}
 use Rattle.tree.specs.Writes.{mark, entered, entered_by, registered, assigned, linked}
 use Rattle.tree.proofs.Contexts.{context_same}
 
-pub entered_more : (C : Context) (e : Element) (k : Key) (a : OpId) → entered C (child e k) a ≡ entered_by (entered C e a) e k a
-entered_more C e (FieldKey n) a = refl
-entered_more C e (ItemKey b) a = refl
+pub entered_more : (C : Context) (e : Element) (k : Hop) (a : OpId) → entered C (child e k) a ≡ entered_by (entered C e a) e k a
+entered_more C e (FieldHop n) a = refl
+entered_more C e (ItemHop b) a = refl
 
 pub same_sym : (x t : Element) → is_same x t ≡ is_same t x
 same_sym x t = elim (is_same x t) as (λ b. is_same x t ≡ b → b ≡ is_same t x) [

@@ -5,5 +5,5 @@ pub mod Shown
 pub mod Writes
 pub mod Answers
 pub mod Trees
-pub mod Walkers
+pub mod Spots
 pub mod Lending

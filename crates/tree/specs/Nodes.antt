@@ -4,13 +4,13 @@ use Rattle.std.specs.Prelude.{unwrap_or}
 use Rattle.std.specs.FinMap.{find, is_sorted}
 use Rattle.semantics.specs.Ids.{OpId, id_cmp}
 use Rattle.semantics.specs.Elements.{Element, Doc, Field, Item, Name, Scalar, Tag, name_cmp}
-use Rattle.semantics.specs.Paths.{Key, FieldKey, ItemKey}
+use Rattle.semantics.specs.Paths.{Hop, FieldHop, ItemHop}
 use Rattle.semantics.specs.Context.{Context}
 use Rattle.operation.specs.cursor.declared.tag.Tag.{Tag as ATag}
-use Rattle.operation.specs.cursor.Meanings.{tag_of}
+use Rattle.operation.specs.cursor.Steps.{tag_of}
 use Rattle.operation.specs.value.declared.value.Scalar.{Scalar as AScalar}
-use Rattle.operation.specs.value.Meanings.{scalar_of}
-use Rattle.columns.specs.Entries.{StandBeside}
+use Rattle.operation.specs.value.Values.{scalar_of}
+use Rattle.columns.specs.Entries.{AreIndicesIn}
 use Rattle.tree.specs.declared.node.Node.{Node}
 
 -- the children of a node, by name and by id
@@ -27,24 +27,24 @@ abbrev pub links : List Node → ℕ → Links
 links ns i = links_of (slice_get ns i)
 
 -- the number of the child at a key, where there is one
-abbrev pub linked_by : Links → Key → Option ℕ
-linked_by l (FieldKey n) = find name_cmp n l.0
-linked_by l (ItemKey a) = find id_cmp a l.1
+abbrev pub linked_by : Links → Hop → Option ℕ
+linked_by l (FieldHop n) = find name_cmp n l.0
+linked_by l (ItemHop a) = find id_cmp a l.1
 
 -- the number of a child, where there is one
-abbrev pub child_number : List Node → ℕ → Key → Option ℕ
+abbrev pub child_number : List Node → ℕ → Hop → Option ℕ
 child_number ns i k = linked_by (links ns i) k
 
 -- the same, where the parent may be missing too
-abbrev pub next_number : List Node → Option ℕ → Key → Option ℕ
+abbrev pub next_number : List Node → Option ℕ → Hop → Option ℕ
 next_number ns None k = None
 next_number ns (Some i) k = child_number ns i k
 
 -- the number of the node of an element, where it has one; the root's is 0
 abbrev pub number : List Node → Element → Option ℕ
 number ns Doc = Some 0
-number ns (Field e n) = next_number ns (number ns e) (FieldKey n)
-number ns (Item e a) = next_number ns (number ns e) (ItemKey a)
+number ns (Field e n) = next_number ns (number ns e) (FieldHop n)
+number ns (Item e a) = next_number ns (number ns e) (ItemHop a)
 
 -- the node with this number, where there is one
 abbrev pub node_in : List Node → Option ℕ → Option Node
@@ -84,9 +84,9 @@ visible_of None = []
 visible_of (Some n) = n.order.visible
 
 -- nothing stands at an item of its list whose id has a smaller counter; 0, where there is no node
-abbrev pub gone_of : Option Node → ℕ
-gone_of None = 0
-gone_of (Some n) = n.gone
+abbrev pub empty_below_of : Option Node → ℕ
+empty_below_of None = 0
+empty_below_of (Some n) = n.empty_below
 
 -- the flags of its fields
 abbrev pub flags_of : Option Node → List (Name × Bool)
@@ -119,33 +119,33 @@ context ns = record {
 -- a child's number is greater than its parent's, and no node has two parents
 pub record IsTree (ns : List Node) : Type 0 where
   pub rooted : 0 < length ns
-  pub rising : (i : ℕ) (k : Key) (j : ℕ) → child_number ns i k ≡ Some j → (i < j) × (j < length ns)
-  pub one_parent : (i : ℕ) (k : Key) (h : ℕ) (l : Key) (j : ℕ) → child_number ns i k ≡ Some j → child_number ns h l ≡ Some j
+  pub rising : (i : ℕ) (k : Hop) (j : ℕ) → child_number ns i k ≡ Some j → (i < j) × (j < length ns)
+  pub one_parent : (i : ℕ) (k : Hop) (h : ℕ) (l : Hop) (j : ℕ) → child_number ns i k ≡ Some j → child_number ns h l ≡ Some j
       → (i ≡ h) × (k ≡ l)
   pub sorted_names : (i : ℕ) → IsTrue (is_sorted name_cmp (links ns i).0)
   pub sorted_ids : (i : ℕ) → IsTrue (is_sorted id_cmp (links ns i).1)
 
 -- the index beside each id of a node is the index of its replica in the table
-abbrev pub NodeBeside : List ℕ → Option Node → Type 0
-NodeBeside table None = Unit {0}
-NodeBeside table (Some n) = StandBeside table n.presence.entries n.presence.indices
-    × StandBeside table n.register.entries n.register.indices
+abbrev pub IsIndexedNode : List ℕ → Option Node → Type 0
+IsIndexedNode table None = Unit {0}
+IsIndexedNode table (Some n) = AreIndicesIn table n.presence.entries n.presence.indices
+    × AreIndicesIn table n.register.entries n.register.indices
 
 -- the same of each node
-abbrev pub AreBeside : List ℕ → List Node → Type 0
-AreBeside table ns = (i : ℕ) → NodeBeside table (slice_get ns i)
+abbrev pub AreIndexedNodes : List ℕ → List Node → Type 0
+AreIndexedNodes table ns = (i : ℕ) → IsIndexedNode table (slice_get ns i)
 
 -- the same children
 pub record SameChildren (ns ms : List Node) : Type 0 where
   pub count : length ns ≡ length ms
   pub same : (i : ℕ) → links ns i ≡ links ms i
 
--- the same children, the same flags of items and fields, and the same items gone
+-- the same children, the same flags of items and fields, and the same bounds of empty items
 pub record SameLinks (ns ms : List Node) : Type 0 where
   pub count : length ns ≡ length ms
   pub same : (i : ℕ) → links ns i ≡ links ms i
   pub visible : (i : ℕ) → visible_of (slice_get ns i) ≡ visible_of (slice_get ms i)
-  pub gone : (i : ℕ) → gone_of (slice_get ns i) ≡ gone_of (slice_get ms i)
+  pub empty_below : (i : ℕ) → empty_below_of (slice_get ns i) ≡ empty_below_of (slice_get ms i)
   pub flags : (i : ℕ) → flags_of (slice_get ns i) ≡ flags_of (slice_get ms i)
 
 -- for how many more ids the presence of a node has room
@@ -164,10 +164,10 @@ order_room None = 0
 order_room (Some n) = n.order.room
 
 -- for how many more children of this key's kind a node has room
-abbrev pub child_room : Option Node → Key → ℕ
+abbrev pub child_room : Option Node → Hop → ℕ
 child_room None k = 0
-child_room (Some n) (FieldKey m) = n.fields.room
-child_room (Some n) (ItemKey a) = n.items.room
+child_room (Some n) (FieldHop m) = n.fields.room
+child_room (Some n) (ItemHop a) = n.items.room
 
 -- no node has less room for ids
 pub record MoreRoom (ns ms : List Node) : Type 0 where
@@ -190,33 +190,33 @@ pub record IsEmptyNode (n : Node) : Type 0 where
   pub items : n.items.entries ≡ []
   pub order : n.order.items ≡ []
   pub visible : n.order.visible ≡ []
-  pub gone : n.gone ≡ 0
+  pub empty_below : n.empty_below ≡ 0
   pub unwritten : n.is_written ≡ false
 
 -- each child and all room stays
 pub record Grows (ns ms : List Node) : Type 0 where
   pub count : length ns ≤ length ms
-  pub children : (i : ℕ) (k : Key) (j : ℕ) → child_number ns i k ≡ Some j → child_number ms i k ≡ Some j
+  pub children : (i : ℕ) (k : Hop) (j : ℕ) → child_number ns i k ≡ Some j → child_number ms i k ≡ Some j
   pub presence : (i : ℕ) → presence_room (slice_get ns i) ≤ presence_room (slice_get ms i)
   pub register : (i : ℕ) → register_room (slice_get ns i) ≤ register_room (slice_get ms i)
   pub order : (i : ℕ) → order_room (slice_get ns i) ≤ order_room (slice_get ms i)
 
--- a tree of the same context and flags, with the same items gone, and all that was there
+-- a tree of the same context, flags and bounds of empty items, with all that was there
 pub record Kept (ns ms : List Node) : Type 0 where
   pub tree : IsTree ms
   pub same : context ms ≡ context ns
   pub visible : (e : Element) → visible_of (node_at ms e) ≡ visible_of (node_at ns e)
-  pub gone : (e : Element) → gone_of (node_at ms e) ≡ gone_of (node_at ns e)
+  pub empty_below : (e : Element) → empty_below_of (node_at ms e) ≡ empty_below_of (node_at ns e)
   pub flagged : (e : Element) (n : Name) → is_flagged (node_at ms e) n ≡ is_flagged (node_at ns e) n
   pub grows : Grows ns ms
-  pub beside : (table : List ℕ) → AreBeside table ns → AreBeside table ms
+  pub indexed : (table : List ℕ) → AreIndexedNodes table ns → AreIndexedNodes table ms
 
 -- the node at j is empty, and the child of none
 pub record IsOrphan (ns : List Node) (j : ℕ) : Type 0 where
   pub node : Node
   pub there : slice_get ns j ≡ Some node
   pub empty : IsEmptyNode node
-  pub alone : (i : ℕ) (k : Key) → child_number ns i k ≡ Some j → ⊥
+  pub alone : (i : ℕ) (k : Hop) → child_number ns i k ≡ Some j → ⊥
 
 -- each number has the same children, ids and mark
 pub record SameView (ns ms : List Node) : Type 0 where

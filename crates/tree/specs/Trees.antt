@@ -4,16 +4,16 @@ use Rattle.ids.specs.Members.{AreDistinct}
 use Rattle.semantics.specs.Ids.{OpId}
 use Rattle.semantics.specs.Elements.{Element, Doc, Field, Item, Value}
 use Rattle.semantics.specs.Operations.{scalar_in, slot_of, target_in, value_of}
-use Rattle.semantics.specs.Paths.{Key, FieldKey, ItemKey}
+use Rattle.semantics.specs.Paths.{Hop, FieldHop, ItemHop}
 use Rattle.semantics.specs.Context.{Context, has_item, has_position}
 use Rattle.semantics.specs.Stamped.{Stamped}
 use Rattle.operation.specs.value.declared.value.Scalar.{Scalar}
-use Rattle.operation.specs.value.Meanings.{scalar_of}
+use Rattle.operation.specs.value.Values.{scalar_of}
 use Rattle.tree.specs.declared.node.Node.{Node}
-use Rattle.tree.specs.Nodes.{AreBeside, IsTree, context, node_at, order_room, register_room}
+use Rattle.tree.specs.Nodes.{AreIndexedNodes, IsTree, context, node_at, order_room, register_room}
 use Rattle.tree.specs.Nested.{IsNested}
 use Rattle.tree.specs.Shown.{AreEmpty, AreShown}
-use Rattle.operation.specs.cursor.Meanings.{hop_of}
+use Rattle.operation.specs.cursor.Steps.{hop_of}
 use Rattle.tree.specs.declared.insert.Slot.{Slot}
 use Rattle.tree.specs.Writes.{RoomTo, end_of}
 
@@ -28,14 +28,15 @@ abbrev pub document : Planted → Context
 document t = context t.nodes
 
 -- the numbers of the table differ, the nodes are a tree, what stands beneath an element stands at it too, lists show their visible
--- items, nothing stands at items that are gone nor at fields whose flag is lowered, and each id's index is its replica's in the table
+-- items, nothing stands at items below their list's bound nor at fields whose flag is lowered, and each id's index is its
+-- replica's in the table
 pub record IsPlanted (t : Planted) : Type 0 where
   pub distinct : AreDistinct t.table
   pub tree : IsTree t.nodes
   pub nested : IsNested (context t.nodes)
   pub shown : AreShown t.nodes
   pub empty : AreEmpty t.nodes
-  pub beside : AreBeside t.table t.nodes
+  pub indexed : AreIndexedNodes t.table t.nodes
 
 -- the element that s writes at
 abbrev pub target_of : Stamped → Element
@@ -79,9 +80,9 @@ abbrev pub SlotIs : Option Slot → Option (Element × Option OpId) → Type 0
 SlotIs o slot = option_map (λ s. (end_of (map hop_of s.list.now), s.prev)) o ≡ slot
 
 -- the key is a field's, or that of one of these items
-abbrev pub has_key : List OpId → Key → Bool
-has_key items (FieldKey n) = true
-has_key items (ItemKey a) = has_item a items
+abbrev pub has_key : List OpId → Hop → Bool
+has_key items (FieldHop n) = true
+has_key items (ItemHop a) = has_item a items
 
 -- each item on the way down to e stands in the list that it is entered from
 abbrev pub items_stand : Context → Element → Bool

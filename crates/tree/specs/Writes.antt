@@ -4,7 +4,7 @@ use Rattle.std.specs.FinMap.{put}
 use Rattle.ids.specs.Members.{AreDistinct, is_member}
 use Rattle.semantics.specs.Ids.{OpId, IdSet, id_cmp}
 use Rattle.semantics.specs.Elements.{Element, Doc, Field, Item, Name, Scalar, Tag, AsMap, AsList, name_cmp, is_same}
-use Rattle.semantics.specs.Paths.{Key, FieldKey, ItemKey, down}
+use Rattle.semantics.specs.Paths.{Hop, FieldHop, ItemHop, down}
 use Rattle.semantics.specs.Context.{Context, without, clear, insert_after}
 use Rattle.semantics.specs.Vectors.{covers}
 use Rattle.semantics.specs.Tables.{by_table}
@@ -23,7 +23,7 @@ abbrev pub deps_of : Stamp → IdSet
 deps_of s = covers (by_table s.table.now s.vector.now)
 
 -- the element at the end of a path
-abbrev pub end_of : List Key → Element
+abbrev pub end_of : List Hop → Element
 end_of path = down Doc path
 
 -- e alone is cleared
@@ -56,12 +56,12 @@ entered C (Field e n) a = name_at (mark (entered C e a) e a AsMap) e n
 entered C (Item e b) a = mark (entered C e a) e a AsList
 
 -- a goes to the presence of e, on the way to a child
-abbrev pub entered_by : Context → Element → Key → OpId → Context
-entered_by C e (FieldKey n) a = name_at (mark C e a AsMap) e n
-entered_by C e (ItemKey b) a = mark C e a AsList
+abbrev pub entered_by : Context → Element → Hop → OpId → Context
+entered_by C e (FieldHop n) a = name_at (mark C e a AsMap) e n
+entered_by C e (ItemHop b) a = mark C e a AsList
 
 -- each node of the path is there, with room for an id
-abbrev pub HasRoom : List Node → List Key → Type 0
+abbrev pub HasRoom : List Node → List Hop → Type 0
 HasRoom ns path = (k : ℕ) → k ≤ length path → 0 < presence_room (node_at ns (end_of (take k path)))
 
 -- each element on the way down to e, and e itself, is there with room for an id

@@ -11,26 +11,14 @@ ghost use Rattle.tree.specs.Shown.{AreEmpty, AreShown};
 
 use crate::find::find;
 use crate::node::{Node, NodeNumber, node_at};
-use crate::walk::{count_fields, field_at, next_field, walk};
+use crate::walk::{count_fields, field_at, next_field};
 use columns::{Presence, Register};
 use ids::{OpId, Refusal};
-use operation::{ElementPlace, Expr, Key, Scalar, Tag};
+use operation::{Expr, Key, Scalar, Tag};
 use std::alloc::{AllocError, Global};
 
-/// The register's values at an element, rising by id. Copies each.
+/// The register's values at the element that an expression leads to, rising by id. Copies each.
 pub fn values(
-    nodes: &[Node],
-    element: &ElementPlace,
-    alloc: Global,
-) -> Result<Vec<(OpId, Scalar)>, AllocError>
-    requires { IsTree nodes.now }
-    ensures { IfOk result (λ v. valued v.items ≡ (context nodes.now).register element.now) }
-{
-    values_of(nodes, node_of(nodes, element), alloc)
-}
-
-/// The same at the element that an expression leads to.
-pub fn values_at(
     nodes: &[Node],
     expression: &Expr,
     alloc: Global,
@@ -47,7 +35,7 @@ pub fn values_at(
 }
 
 /// The values at a node, none where there is no node.
-fn values_of(
+pub fn values_of(
     nodes: &[Node],
     node: Option<NodeNumber>,
     alloc: Global,
@@ -61,20 +49,8 @@ fn values_of(
     }
 }
 
-/// The presence at an element, rising by id.
+/// The presence at the element that an expression leads to, rising by id.
 pub fn conflicts(
-    nodes: &[Node],
-    element: &ElementPlace,
-    alloc: Global,
-) -> Result<Vec<(OpId, Tag)>, AllocError>
-    requires { IsTree nodes.now }
-    ensures { IfOk result (λ v. tagged v.items ≡ (context nodes.now).presence element.now) }
-{
-    conflicts_of(nodes, node_of(nodes, element), alloc)
-}
-
-/// The same at the element that an expression leads to.
-pub fn conflicts_at(
     nodes: &[Node],
     expression: &Expr,
     alloc: Global,
@@ -82,7 +58,8 @@ pub fn conflicts_at(
     requires tree { IsTree nodes.now }
     requires shown { AreShown nodes.now }
     ensures answer { IfOk result
-        (λ v. IsAnswer (context nodes.now) (λ e. ConflictsAre ((context nodes.now).presence e)) expression.now (ConflictsAre (tagged v.items))) }
+        (λ v. IsAnswer (context nodes.now) (λ e. ConflictsAre ((context nodes.now).presence e)) expression.now
+        (ConflictsAre (tagged v.items))) }
     ensures err { IfErr result
         (λ why. (why ≡ NoMemory) ⊎ ((f : Element → Answer) → IsAnswer (context nodes.now) f expression.now (Refused why))) }
 {
@@ -91,7 +68,7 @@ pub fn conflicts_at(
 }
 
 /// The presence of a node, empty where there is no node.
-fn conflicts_of(
+pub fn conflicts_of(
     nodes: &[Node],
     node: Option<NodeNumber>,
     alloc: Global,
@@ -105,17 +82,8 @@ fn conflicts_of(
     }
 }
 
-/// The keys of an element's fields at which something stands, in byte order.
-pub fn keys(nodes: &[Node], element: &ElementPlace, alloc: Global) -> Result<Vec<Key>, AllocError>
-    requires tree { IsTree nodes.now }
-    requires empty { AreEmpty nodes.now }
-    ensures { IfOk result (λ v. v.items ≡ visible_names (context nodes.now) element.now) }
-{
-    keys_of(nodes, node_of(nodes, element), alloc)
-}
-
-/// The same at the element that an expression leads to.
-pub fn keys_at(nodes: &[Node], expression: &Expr, alloc: Global) -> Result<Vec<Key>, Refusal>
+/// The keys of the fields at which something stands, of the element that an expression leads to, in byte order.
+pub fn keys(nodes: &[Node], expression: &Expr, alloc: Global) -> Result<Vec<Key>, Refusal>
     requires tree { IsTree nodes.now }
     requires empty { AreEmpty nodes.now }
     requires shown { AreShown nodes.now }
@@ -129,7 +97,11 @@ pub fn keys_at(nodes: &[Node], expression: &Expr, alloc: Global) -> Result<Vec<K
 }
 
 /// The keys at a node, none where there is no node.
-fn keys_of(nodes: &[Node], node: Option<NodeNumber>, alloc: Global) -> Result<Vec<Key>, AllocError>
+pub fn keys_of(
+    nodes: &[Node],
+    node: Option<NodeNumber>,
+    alloc: Global,
+) -> Result<Vec<Key>, AllocError>
     requires tree { IsTree nodes.now }
     requires empty { AreEmpty nodes.now }
     requires inside { IfSome node (λ at. at < length nodes.now) }
@@ -141,17 +113,8 @@ fn keys_of(nodes: &[Node], node: Option<NodeNumber>, alloc: Global) -> Result<Ve
     }
 }
 
-/// The items of an element's list at which something stands, in list order.
-pub fn items(nodes: &[Node], element: &ElementPlace, alloc: Global) -> Result<Vec<OpId>, AllocError>
-    requires tree { IsTree nodes.now }
-    requires shown { AreShown nodes.now }
-    ensures { IfOk result (λ v. v.items ≡ visible_items (context nodes.now) element.now) }
-{
-    items_of(nodes, node_of(nodes, element), alloc)
-}
-
-/// The same at the element that an expression leads to.
-pub fn items_at(nodes: &[Node], expression: &Expr, alloc: Global) -> Result<Vec<OpId>, Refusal>
+/// The items at which something stands, of the list at the element that an expression leads to, in list order.
+pub fn items(nodes: &[Node], expression: &Expr, alloc: Global) -> Result<Vec<OpId>, Refusal>
     requires tree { IsTree nodes.now }
     requires shown { AreShown nodes.now }
     ensures answer { IfOk result
@@ -164,7 +127,7 @@ pub fn items_at(nodes: &[Node], expression: &Expr, alloc: Global) -> Result<Vec<
 }
 
 /// The items at a node, none where there is no node.
-fn items_of(
+pub fn items_of(
     nodes: &[Node],
     node: Option<NodeNumber>,
     alloc: Global,
@@ -178,15 +141,6 @@ fn items_of(
         Some(at) => present_items(nodes, at, alloc),
         None => Ok(Vec::new(alloc)),
     }
-}
-
-/// The number of an element's node, if one was made.
-fn node_of(nodes: &[Node], element: &ElementPlace) -> Option<NodeNumber>
-    requires { IsTree nodes.now }
-    ensures number { result ≡ number nodes.now element.now }
-    ensures inside { IfSome result (λ at. at < length nodes.now) }
-{
-    walk(nodes, element.hops())
 }
 
 /// A copy of a register's entries.
@@ -264,7 +218,7 @@ fn present_items(nodes: &[Node], at: NodeNumber, alloc: Global) -> Result<Vec<Op
 
 /// The item of the list at which something stands, by its index among these. Asks the list's order, which looks at how many
 /// items each of its blocks shows, and at no node.
-pub fn item_at(nodes: &[Node], at: NodeNumber, index: u64) -> Option<OpId>
+pub fn visible_item(nodes: &[Node], at: NodeNumber, index: u64) -> Option<OpId>
     requires tree { IsTree nodes.now }
     requires inside { at < length nodes.now }
     requires shown { AreShown nodes.now }

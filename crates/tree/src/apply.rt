@@ -7,11 +7,11 @@ ghost use Rattle.semantics.specs.LegalHistory.{IsFormed};
 ghost use Rattle.semantics.specs.Operations.{Insert, slot_of, target_in};
 ghost use Rattle.semantics.specs.Context.{apply};
 ghost use Rattle.semantics.specs.Stamped.{loose_operation};
-ghost use Rattle.operation.specs.value.Meanings.{scalar_of};
-ghost use Rattle.operation.specs.cursor.Meanings.{tag_of};
-ghost use Rattle.operation.specs.Meanings.{mutation_of, stamped_of};
+ghost use Rattle.operation.specs.value.Values.{scalar_of};
+ghost use Rattle.operation.specs.cursor.Steps.{tag_of};
+ghost use Rattle.operation.specs.Ops.{mutation_of, stamped_of};
 ghost use Rattle.tree.specs.Nested.{IsNested};
-ghost use Rattle.tree.specs.Nodes.{AreBeside, IsTree, context};
+ghost use Rattle.tree.specs.Nodes.{AreIndexedNodes, IsTree, context};
 ghost use Rattle.tree.specs.Shown.{AreEmpty, AreShown, ShownBut};
 ghost use Rattle.tree.specs.Writes.{IsStamp, assigned, deps_of, linked};
 ghost use Rattle.tree.specs.Trees.{CanInsert, IsPlaced, IsReserved};
@@ -24,13 +24,13 @@ use crate::stamp::Stamp;
 use crate::write::assign;
 use operation::{Mutation, Op, Place, Scalar, Tag};
 
-/// Applies an operation, and then sets what the lists show, what is gone of them, and the flags of fields.
+/// Applies an operation, and then sets what the lists show, their bounds of empty items, and the flags of fields.
 pub fn apply(nodes: &mut [Node], op: &Op, stamp: &Stamp, scalar: Option<Scalar>)
     requires stamp { IsStamp stamp.now }
     requires id { stamp.now.id ≡ op.now.id }
     requires vector { stamp.now.vector.now ≡ op.now.deps }
     requires tree { IsTree nodes.old }
-    requires beside { AreBeside stamp.now.table.now nodes.old }
+    requires indexed { AreIndexedNodes stamp.now.table.now nodes.old }
     requires nested { IsNested (context nodes.old) }
     requires shown { AreShown nodes.old }
     requires empty { AreEmpty nodes.old }
@@ -40,7 +40,7 @@ pub fn apply(nodes: &mut [Node], op: &Op, stamp: &Stamp, scalar: Option<Scalar>)
     requires formed { IsFormed (mutation_of op.now.mutation) op.now.place }
     ensures tree { IsTree nodes.new }
     ensures nested { IsNested (context nodes.new) }
-    ensures beside { AreBeside stamp.now.table.now nodes.new }
+    ensures indexed { AreIndexedNodes stamp.now.table.now nodes.new }
     ensures shown { AreShown nodes.new }
     ensures empty { AreEmpty nodes.new }
     ensures applied { context nodes.new ≡ apply (context nodes.old) (loose_operation (stamped_of stamp.now.table.now op.now)) }
@@ -49,14 +49,14 @@ pub fn apply(nodes: &mut [Node], op: &Op, stamp: &Stamp, scalar: Option<Scalar>)
     show(nodes, op);
 }
 
-/// Clears and writes what an operation's mutation says. What lists show, what is gone of them, and the flags of fields may be wrong then
-/// on the way to its target, and nowhere else.
+/// Clears and writes what an operation's mutation says. What lists show, their bounds of empty items, and the flags of fields may be wrong
+/// then on the way to its target, and nowhere else.
 fn run(nodes: &mut [Node], op: &Op, stamp: &Stamp, scalar: Option<Scalar>)
     requires stamp { IsStamp stamp.now }
     requires id { stamp.now.id ≡ op.now.id }
     requires vector { stamp.now.vector.now ≡ op.now.deps }
     requires tree { IsTree nodes.old }
-    requires beside { AreBeside stamp.now.table.now nodes.old }
+    requires indexed { AreIndexedNodes stamp.now.table.now nodes.old }
     requires nested { IsNested (context nodes.old) }
     requires empty { AreEmpty nodes.old }
     requires reserved { IsReserved (record { table = stamp.now.table.now; nodes = nodes.old; scalar = scalar })
@@ -64,7 +64,7 @@ fn run(nodes: &mut [Node], op: &Op, stamp: &Stamp, scalar: Option<Scalar>)
     requires placed { IsPlaced (context nodes.old) (stamped_of stamp.now.table.now op.now) }
     requires formed { IsFormed (mutation_of op.now.mutation) op.now.place }
     ensures tree { IsTree nodes.new }
-    ensures beside { AreBeside stamp.now.table.now nodes.new }
+    ensures indexed { AreIndexedNodes stamp.now.table.now nodes.new }
     ensures shown { AreShown nodes.old
         → ShownBut nodes.new
         (is_under (target_in (slot_of (mutation_of op.now.mutation) op.now.place) op.now.id op.now.place)) }
@@ -81,14 +81,14 @@ fn run(nodes: &mut [Node], op: &Op, stamp: &Stamp, scalar: Option<Scalar>)
 fn insert_at(nodes: &mut [Node], place: &Place, stamp: &Stamp, tag: Tag, scalar: Option<Scalar>)
     requires stamp { IsStamp stamp.now }
     requires tree { IsTree nodes.old }
-    requires beside { AreBeside stamp.now.table.now nodes.old }
+    requires indexed { AreIndexedNodes stamp.now.table.now nodes.old }
     requires nested { IsNested (context nodes.old) }
     requires empty { AreEmpty nodes.old }
     requires slot { IsSome (slot_of (Insert EmptyMap) place.now) }
     requires fits { (l : Element) (p : Option TheId) → slot_of (Insert EmptyMap) place.now ≡ Some (l, p)
         → CanInsert nodes.old l p stamp.now.id scalar }
     ensures tree { IsTree nodes.new }
-    ensures beside { AreBeside stamp.now.table.now nodes.new }
+    ensures indexed { AreIndexedNodes stamp.now.table.now nodes.new }
     ensures shown { (l : Element) (p : Option TheId) → slot_of (Insert EmptyMap) place.now ≡ Some (l, p) → AreShown nodes.old
         → ShownBut nodes.new (is_under (Item l stamp.now.id)) }
     ensures inserted { (l : Element) (p : Option TheId) → slot_of (Insert EmptyMap) place.now ≡ Some (l, p)

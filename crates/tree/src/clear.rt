@@ -7,15 +7,16 @@ ghost use Rattle.semantics.specs.Ids.{OpId as TheId};
 ghost use Rattle.semantics.specs.Elements.{Element, Item, is_same};
 ghost use Rattle.semantics.specs.Context.{clear};
 ghost use Rattle.semantics.specs.DocumentAnswer.{is_any};
-ghost use Rattle.operation.specs.cursor.Meanings.{hop_of};
+ghost use Rattle.operation.specs.cursor.Steps.{hop_of};
 ghost use Rattle.tree.specs.Nested.{IsNested};
-ghost use Rattle.tree.specs.Nodes.{AreBeside, IsTree, MoreRoom, SameChildren, SameLinks, context, gone_of, links, number, presence_of};
-ghost use Rattle.tree.specs.Shown.{AreEmpty, IsGoneBelow, SameButFlags, ShownBut};
+ghost use Rattle.tree.specs.Nodes.{AreIndexedNodes, IsTree, MoreRoom, SameChildren, SameLinks, context, empty_below_of, links, number};
+ghost use Rattle.tree.specs.Nodes.{presence_of};
+ghost use Rattle.tree.specs.Shown.{AreEmpty, IsEmptyBelow, SameButFlags, ShownBut};
 ghost use Rattle.tree.specs.Writes.{IsStamp, clear_own, deps_of, end_of};
 
 use crate::answer::is_present;
 use crate::node::{Node, NodeNumber, node_at, node_at_mut};
-use crate::show::{flag_field, gone_with, show_child};
+use crate::show::{empty_below_with, flag_field, show_child};
 use crate::stamp::Stamp;
 use crate::walk::{count_fields, count_items, field_at, item_at, next_field, walk};
 use operation::Hop;
@@ -24,11 +25,11 @@ use operation::Hop;
 fn clear_node(nodes: &mut [Node], at: NodeNumber, stamp: &Stamp)
     requires tree { IsTree nodes.old }
     requires stamp { IsStamp stamp.now }
-    requires beside { AreBeside stamp.now.table.now nodes.old }
+    requires indexed { AreIndexedNodes stamp.now.table.now nodes.old }
     requires inside { at < length nodes.old }
     ensures links { SameLinks nodes.old nodes.new }
     ensures room { MoreRoom nodes.old nodes.new }
-    ensures beside { AreBeside stamp.now.table.now nodes.new }
+    ensures indexed { AreIndexedNodes stamp.now.table.now nodes.new }
     ensures cleared { (e : Element) → number nodes.old e ≡ Some at
         → context nodes.new ≡ clear_own (context nodes.old) e (deps_of stamp.now) }
 {
@@ -59,42 +60,49 @@ fn show_cleared(nodes: &mut [Node], at: NodeNumber, position: usize, was_present
 fn first_item(nodes: &[Node], at: NodeNumber) -> usize
     requires { at < length nodes.now }
     ensures from { drop result (links nodes.now at).1
-        ≡ filter (λ x. nat_le (gone_of (slice_get nodes.now at)) x.0.counter) (links nodes.now at).1 }
+        ≡ filter (λ x. nat_le (empty_below_of (slice_get nodes.now at)) x.0.counter) (links nodes.now at).1 }
     ensures within { result ≤ length (links nodes.now at).1 }
 {
     let node = node_at(nodes, at);
-    if node.gone == 0 {
+    if node.empty_below == 0 {
         return 0;
     }
-    node.items.first_above(node.gone - 1)
+    node.items.first_above(node.empty_below - 1)
 }
 
-/// How far a list is gone once the item with this index, whose node is `child`, was cleared too: no further than to the item, if
-/// something still stands there.
-fn gone_after(nodes: &[Node], at: NodeNumber, position: usize, child: NodeNumber, gone: u64) -> u64
+/// The bound below which all items of a list are empty, once the item with this index, whose node is `child`, was cleared too:
+/// lowered to the item's counter if something still stands there.
+fn empty_below_after(
+    nodes: &[Node],
+    at: NodeNumber,
+    position: usize,
+    child: NodeNumber,
+    empty_below: u64,
+) -> u64
     requires inside { at < length nodes.now }
     requires within { position < length (links nodes.now at).1 }
     requires child { child < length nodes.now }
     ensures { (d : TheId × ℕ) → result ≡ cond (is_any (presence_of (slice_get nodes.now child)))
-        (min gone (slice_index_or (links nodes.now at).1 position d).0.counter) gone }
+        (min empty_below (slice_index_or (links nodes.now at).1 position d).0.counter) empty_below }
 {
     let (id, _) = node_at(nodes, at).items.at(position);
     let stands = is_present(nodes, child);
-    gone_with(gone, &id, stands)
+    empty_below_with(empty_below, &id, stands)
 }
 
 /// Notes that nothing stands at an item of a node's list whose id has a smaller counter.
-fn set_gone(nodes: &mut [Node], at: NodeNumber, gone: u64)
+fn set_empty_below(nodes: &mut [Node], at: NodeNumber, empty_below: u64)
     requires tree { IsTree nodes.old }
     requires inside { at < length nodes.old }
     ensures same { SameButFlags nodes.old nodes.new }
     ensures room { MoreRoom nodes.old nodes.new }
-    ensures empty { (e : Element) → number nodes.old e ≡ Some at → IsGoneBelow nodes.old e gone → AreEmpty nodes.old → AreEmpty nodes.new }
-    ensures shown { (e : Element) (off : Element → Bool) → number nodes.old e ≡ Some at → IsGoneBelow nodes.old e gone
+    ensures empty { (e : Element) → number nodes.old e ≡ Some at → IsEmptyBelow nodes.old e empty_below → AreEmpty nodes.old
+        → AreEmpty nodes.new }
+    ensures shown { (e : Element) (off : Element → Bool) → number nodes.old e ≡ Some at → IsEmptyBelow nodes.old e empty_below
         → ShownBut nodes.old off → ShownBut nodes.new off }
 {
     let node = node_at_mut(nodes, at);
-    node.gone = gone;
+    node.empty_below = empty_below;
 }
 
 /// Clears a node and all nodes beneath it, and sets what the lists beneath it show. Goes past what is empty with one look: nothing
@@ -104,14 +112,14 @@ fn set_gone(nodes: &mut [Node], at: NodeNumber, gone: u64)
 pub fn clear_below(nodes: &mut [Node], at: NodeNumber, stamp: &Stamp)
     requires tree { IsTree nodes.old }
     requires stamp { IsStamp stamp.now }
-    requires beside { AreBeside stamp.now.table.now nodes.old }
+    requires indexed { AreIndexedNodes stamp.now.table.now nodes.old }
     requires nested { IsNested (context nodes.old) }
     requires empty { AreEmpty nodes.old }
     requires there { (e : Element) × (number nodes.old e ≡ Some at) }
     requires inside { at < length nodes.old }
     ensures children { SameChildren nodes.old nodes.new }
     ensures room { MoreRoom nodes.old nodes.new }
-    ensures beside { AreBeside stamp.now.table.now nodes.new }
+    ensures indexed { AreIndexedNodes stamp.now.table.now nodes.new }
     ensures cleared { (e : Element) → number nodes.old e ≡ Some at → context nodes.new ≡ clear (context nodes.old) e (deps_of stamp.now) }
     ensures shown { (e : Element) (off : Element → Bool) → number nodes.old e ≡ Some at → ShownBut nodes.old off
         → ShownBut nodes.new (λ x. (is_any (presence_of (slice_get nodes.old at)) && is_same x e) || off x) }
@@ -130,16 +138,16 @@ pub fn clear_below(nodes: &mut [Node], at: NodeNumber, stamp: &Stamp)
     }
     let items = count_items(nodes, at);
     let from = first_item(nodes, at);
-    // Where nothing is left all is gone, whatever its counter. The next item that is shown, new or late, brings it down to its own.
-    let mut gone = u64::MAX;
+    // Where nothing is left all are empty, whatever their counters. The next item that is shown, new or late, lowers it to its own.
+    let mut empty_below = u64::MAX;
     'items: for position in from..items {
         let child = item_at(nodes, at, position);
         let was_present = is_present(nodes, child);
         clear_below(nodes, child, stamp);
         show_cleared(nodes, at, position, was_present);
-        gone = gone_after(nodes, at, position, child, gone);
+        empty_below = empty_below_after(nodes, at, position, child, empty_below);
     }
-    set_gone(nodes, at, gone);
+    set_empty_below(nodes, at, empty_below);
     clear_node(nodes, at, stamp);
 }
 
@@ -148,12 +156,12 @@ pub fn clear_below(nodes: &mut [Node], at: NodeNumber, stamp: &Stamp)
 pub fn clear_at(nodes: &mut [Node], path: &[Hop], stamp: &Stamp)
     requires tree { IsTree nodes.old }
     requires stamp { IsStamp stamp.now }
-    requires beside { AreBeside stamp.now.table.now nodes.old }
+    requires indexed { AreIndexedNodes stamp.now.table.now nodes.old }
     requires nested { IsNested (context nodes.old) }
     requires empty { AreEmpty nodes.old }
     ensures children { SameChildren nodes.old nodes.new }
     ensures room { MoreRoom nodes.old nodes.new }
-    ensures beside { AreBeside stamp.now.table.now nodes.new }
+    ensures indexed { AreIndexedNodes stamp.now.table.now nodes.new }
     ensures cleared { context nodes.new ≡ clear (context nodes.old) (end_of (map hop_of path.now)) (deps_of stamp.now) }
     ensures shown { (off : Element → Bool) → ShownBut nodes.old off
         → ShownBut nodes.new (λ x. is_same x (end_of (map hop_of path.now)) || off x) }

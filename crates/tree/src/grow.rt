@@ -2,8 +2,8 @@
 
 ghost use Rattle.std.specs.Prelude.{◌≡◌, ◌<◌, ◌≤◌, ℕ, None, Some, OnOk, IfOk, length, slice_get};
 ghost use Rattle.std.specs.Borrow.{sem};
-ghost use Rattle.semantics.specs.Paths.{Key as TheKey, FieldKey, ItemKey};
-ghost use Rattle.operation.specs.cursor.Meanings.{hop_of};
+ghost use Rattle.semantics.specs.Paths.{Hop as TheHop, FieldHop, ItemHop};
+ghost use Rattle.operation.specs.cursor.Steps.{hop_of};
 ghost use Rattle.tree.specs.Lending.{LendsNodeIn};
 ghost use Rattle.tree.specs.Nodes.{IsEmptyNode, IsOrphan, IsTree, Kept, child_number, child_room, links, order_room, presence_room};
 ghost use Rattle.tree.specs.Nodes.{register_room};
@@ -77,7 +77,7 @@ fn push_node(nodes: &mut Vec<Node>, fresh: Node) -> Result<NodeNumber, AllocErro
     ensures kept { Kept nodes.old.items nodes.new.items }
     ensures orphan { IfOk result (λ j. IsOrphan nodes.new.items j × (j ≡ length nodes.old.items)) }
     ensures shape { (i : ℕ) → links nodes.old.items i ≡ links nodes.new.items i }
-    ensures rooms { (i : ℕ) (k : TheKey) → child_room (slice_get nodes.old.items i) k ≤ child_room (slice_get nodes.new.items i) k }
+    ensures rooms { (i : ℕ) (k : TheHop) → child_room (slice_get nodes.old.items i) k ≤ child_room (slice_get nodes.new.items i) k }
 {
     let number = NodeNumber::new(nodes.len());
     nodes.push(fresh)?;
@@ -89,10 +89,10 @@ fn link_field(nodes: &mut Vec<Node>, at: NodeNumber, key: Key, number: NodeNumbe
     requires tree { IsTree nodes.old.items }
     requires above { at < number }
     requires orphan { IsOrphan nodes.old.items number }
-    requires absent { child_number nodes.old.items at (FieldKey key) ≡ None }
-    requires room { 0 < child_room (slice_get nodes.old.items at) (FieldKey key) }
+    requires absent { child_number nodes.old.items at (FieldHop key) ≡ None }
+    requires room { 0 < child_room (slice_get nodes.old.items at) (FieldHop key) }
     ensures kept { Kept nodes.old.items nodes.new.items }
-    ensures child { child_number nodes.new.items at (FieldKey key) ≡ Some number }
+    ensures child { child_number nodes.new.items at (FieldHop key) ≡ Some number }
 {
     let node = node_in_vec(nodes, at);
     node.fields.put(key, number.index());
@@ -103,10 +103,10 @@ fn link_item(nodes: &mut Vec<Node>, at: NodeNumber, id: OpId, number: NodeNumber
     requires tree { IsTree nodes.old.items }
     requires above { at < number }
     requires orphan { IsOrphan nodes.old.items number }
-    requires absent { child_number nodes.old.items at (ItemKey id) ≡ None }
-    requires room { 0 < child_room (slice_get nodes.old.items at) (ItemKey id) }
+    requires absent { child_number nodes.old.items at (ItemHop id) ≡ None }
+    requires room { 0 < child_room (slice_get nodes.old.items at) (ItemHop id) }
     ensures kept { Kept nodes.old.items nodes.new.items }
-    ensures child { child_number nodes.new.items at (ItemKey id) ≡ Some number }
+    ensures child { child_number nodes.new.items at (ItemHop id) ≡ Some number }
 {
     let node = node_in_vec(nodes, at);
     node.items.put(id, number.index());

@@ -3,11 +3,11 @@
 ghost use Rattle.std.specs.Prelude.{◌≡◌, ◌<◌, ℕ, List, Option, Some, None, IsTrue, IsFalse, IsSome, length, map, option_map, slice_get};
 ghost use Rattle.semantics.specs.Elements.{Element, Item, EmptyMap, is_under};
 ghost use Rattle.semantics.specs.Operations.{Insert, slot_of};
-ghost use Rattle.operation.specs.value.Meanings.{scalar_of};
-ghost use Rattle.operation.specs.cursor.Meanings.{hop_of, tag_of};
+ghost use Rattle.operation.specs.value.Values.{scalar_of};
+ghost use Rattle.operation.specs.cursor.Steps.{hop_of, tag_of};
 ghost use Rattle.semantics.specs.Context.{has_item, has_position};
 ghost use Rattle.tree.specs.Nested.{IsNested};
-ghost use Rattle.tree.specs.Nodes.{AreBeside, IsTree, MoreRoom, SameLinks, context, node_at, number, order_of, order_room};
+ghost use Rattle.tree.specs.Nodes.{AreIndexedNodes, IsTree, MoreRoom, SameLinks, context, node_at, number, order_of, order_room};
 ghost use Rattle.tree.specs.Shown.{AreEmpty, AreShown, ShownBut};
 ghost use Rattle.tree.specs.Writes.{IsStamp, assigned, deps_of, end_of, linked};
 ghost use Rattle.tree.specs.Trees.{CanInsert, SlotIs};
@@ -56,7 +56,7 @@ fn link_order(nodes: &mut [Node], at: NodeNumber, prev: Option<OpId>, id: &OpId)
     requires room { 0 < order_room (slice_get nodes.old at) }
     ensures links { SameLinks nodes.old nodes.new }
     ensures room { MoreRoom nodes.old nodes.new }
-    ensures beside { (table : List ℕ) → AreBeside table nodes.old → AreBeside table nodes.new }
+    ensures indexed { (table : List ℕ) → AreIndexedNodes table nodes.old → AreIndexedNodes table nodes.new }
     ensures linked { (e : Element) → number nodes.old e ≡ Some at → context nodes.new ≡ linked (context nodes.old) e prev id.now }
 {
     let node = node_at_mut(nodes, at);
@@ -72,7 +72,7 @@ fn link_list(nodes: &mut [Node], slot: &Slot<'_>, id: &OpId) -> NodeNumber
     requires room { 0 < order_room (node_at nodes.old (end_of (map hop_of slot.now.list.now))) }
     ensures links { SameLinks nodes.old nodes.new }
     ensures room { MoreRoom nodes.old nodes.new }
-    ensures beside { (table : List ℕ) → AreBeside table nodes.old → AreBeside table nodes.new }
+    ensures indexed { (table : List ℕ) → AreIndexedNodes table nodes.old → AreIndexedNodes table nodes.new }
     ensures item { number nodes.old (Item (end_of (map hop_of slot.now.list.now)) id.now) ≡ Some result }
     ensures linked { context nodes.new ≡ linked (context nodes.old) (end_of (map hop_of slot.now.list.now)) slot.now.prev id.now }
 {
@@ -82,17 +82,17 @@ fn link_list(nodes: &mut [Node], slot: &Slot<'_>, id: &OpId) -> NodeNumber
     item
 }
 
-/// Inserts a new item into a list, and writes it. What lists show, what is gone of them, and the flags of fields may be wrong then on
-/// the way to it, and nowhere else.
+/// Inserts a new item into a list, and writes it. What lists show, their bounds of empty items, and the flags of fields may be wrong then
+/// on the way to it, and nowhere else.
 pub fn insert(nodes: &mut [Node], slot: &Slot<'_>, stamp: &Stamp, tag: Tag, scalar: Option<Scalar>)
     requires tree { IsTree nodes.old }
     requires stamp { IsStamp stamp.now }
-    requires beside { AreBeside stamp.now.table.now nodes.old }
+    requires indexed { AreIndexedNodes stamp.now.table.now nodes.old }
     requires nested { IsNested (context nodes.old) }
     requires empty { AreEmpty nodes.old }
     requires fits { CanInsert nodes.old (end_of (map hop_of slot.now.list.now)) slot.now.prev stamp.now.id scalar }
     ensures tree { IsTree nodes.new }
-    ensures beside { AreBeside stamp.now.table.now nodes.new }
+    ensures indexed { AreIndexedNodes stamp.now.table.now nodes.new }
     ensures shown { AreShown nodes.old
         → ShownBut nodes.new (is_under (Item (end_of (map hop_of slot.now.list.now)) stamp.now.id)) }
     ensures inserted { context nodes.new

@@ -7,11 +7,12 @@ mod clear;
 mod find;
 mod grow;
 mod insert;
-mod listed;
+mod items_inserted;
 mod node;
 mod reserve;
 mod resolve;
 mod show;
+mod spot;
 mod stamp;
 #[cfg(test)]
 mod tests;

@@ -54,7 +54,7 @@ pub struct Node {
     /// The nodes of the list's items.
     pub items: Numbers,
     /// Nothing stands at an item of the list whose id has a smaller counter.
-    pub gone: u64,
+    pub empty_below: u64,
     /// The order of the list's items.
     pub order: ListOrder,
     /// Whether it was written to. A node that was only reserved is no field yet.
@@ -62,7 +62,7 @@ pub struct Node {
 }
 
 impl Node {
-    /// An empty node. Takes no memory.
+    /// An empty node. Allocates nothing.
     pub fn new(alloc: Global) -> Node
         ensures { IsEmptyNode result }
     {
@@ -71,7 +71,7 @@ impl Node {
             register: Register::new(alloc),
             fields: Fields::new(alloc),
             items: Numbers::new(alloc),
-            gone: 0,
+            empty_below: 0,
             order: ListOrder::new(alloc),
             is_written: false,
         }

@@ -3,9 +3,9 @@
 ghost use Rattle.std.specs.Prelude.{◌≡◌, ◌<◌, ℕ, List, Some, IfOk, OnOk, length, map, option_map};
 ghost use Rattle.semantics.specs.Elements.{Element, Item};
 ghost use Rattle.semantics.specs.Operations.{Insert, scalar_in};
-ghost use Rattle.operation.specs.value.Meanings.{scalar_of, value_of};
-ghost use Rattle.operation.specs.cursor.Meanings.{hop_of};
-ghost use Rattle.operation.specs.Meanings.{mutation_of, stamped_of};
+ghost use Rattle.operation.specs.value.Values.{scalar_of, value_of};
+ghost use Rattle.operation.specs.cursor.Steps.{hop_of};
+ghost use Rattle.operation.specs.Ops.{mutation_of, stamped_of};
 ghost use Rattle.tree.specs.Nodes.{IsTree, Kept, node_at, number, order_room, presence_room, register_room};
 ghost use Rattle.tree.specs.Writes.{HasRoom, RoomTo, end_of};
 ghost use Rattle.tree.specs.Trees.{IsReserved};

@@ -5,9 +5,9 @@ ghost use Rattle.std.specs.List.{filter};
 ghost use Rattle.semantics.specs.Ids.{OpId as TheId, is_same_id};
 ghost use Rattle.semantics.specs.Elements.{Element, Field, Item, EmptyMap, Name, is_same, is_under};
 ghost use Rattle.semantics.specs.Operations.{Insert, slot_of, target_in};
-ghost use Rattle.semantics.specs.Paths.{FieldKey, ItemKey, child};
-ghost use Rattle.operation.specs.cursor.Meanings.{hop_of};
-ghost use Rattle.operation.specs.Meanings.{mutation_of};
+ghost use Rattle.semantics.specs.Paths.{FieldHop, ItemHop, child};
+ghost use Rattle.operation.specs.cursor.Steps.{hop_of};
+ghost use Rattle.operation.specs.Ops.{mutation_of};
 ghost use Rattle.tree.specs.Nodes.{IsTree, MoreRoom, child_number, links, number};
 ghost use Rattle.tree.specs.Shown.{AreEmpty, AreShown, SameButFlags, ShownBut};
 ghost use Rattle.tree.specs.Writes.{end_of};
@@ -19,19 +19,23 @@ use crate::walk::item_of;
 use ids::OpId;
 use operation::{Hop, Key, Mutation, Op, Place};
 
-/// How far a list is gone that has an item with this id: no further than to the item, if something stands there.
-pub fn gone_with(gone: u64, id: &OpId, stands: bool) -> u64
-    ensures { result ≡ cond stands (min gone id.now.counter) gone }
+/// The bound below which all items of a list are empty, lowered to this id's counter if the item is present.
+pub fn empty_below_with(empty_below: u64, id: &OpId, stands: bool) -> u64
+    ensures { result ≡ cond stands (min empty_below id.now.counter) empty_below }
 {
-    if stands { gone.min(id.counter) } else { gone }
+    if stands {
+        empty_below.min(id.counter)
+    } else {
+        empty_below
+    }
 }
 
-/// Shows an item of a node's list if something stands at its node, and hides it if nothing does. An item that is shown is gone no
-/// longer, however old it is. A binary search and a walk in one block of the list.
+/// Shows an item of a node's list if something stands at its node, and hides it if nothing does. The bound of
+/// empty items falls to an item that is shown, however old it is. A binary search and a walk in one block of the list.
 fn show_item(nodes: &mut [Node], at: NodeNumber, id: &OpId, item: NodeNumber)
     requires tree { IsTree nodes.old }
     requires inside { at < length nodes.old }
-    requires item { child_number nodes.old at (ItemKey id.now) ≡ Some item }
+    requires item { child_number nodes.old at (ItemHop id.now) ≡ Some item }
     ensures same { SameButFlags nodes.old nodes.new }
     ensures room { MoreRoom nodes.old nodes.new }
     ensures shown { (e : Element) (off : Element → Bool) → number nodes.old e ≡ Some at
@@ -41,7 +45,7 @@ fn show_item(nodes: &mut [Node], at: NodeNumber, id: &OpId, item: NodeNumber)
     let shown = is_present(nodes, item);
     let node = node_at_mut(nodes, at);
     node.order.set_shown(id, shown);
-    node.gone = gone_with(node.gone, id, shown);
+    node.empty_below = empty_below_with(node.empty_below, id, shown);
 }
 
 /// The same for the item with this index among those that have a node.
@@ -67,7 +71,7 @@ pub fn flag_field(nodes: &mut [Node], at: NodeNumber, position: usize, field: No
     requires inside { at < length nodes.old }
     requires within { position < length (links nodes.old at).0 }
     requires field { (d : Name × ℕ)
-        → child_number nodes.old at (FieldKey (slice_index_or (links nodes.old at).0 position d).0) ≡ Some field }
+        → child_number nodes.old at (FieldHop (slice_index_or (links nodes.old at).0 position d).0) ≡ Some field }
     ensures same { SameButFlags nodes.old nodes.new }
     ensures room { MoreRoom nodes.old nodes.new }
     ensures shown { (e : Element) (off : Element → Bool) (d : Name × ℕ) → number nodes.old e ≡ Some at
@@ -85,7 +89,7 @@ fn show_field(nodes: &mut [Node], at: NodeNumber, key: &Key) -> Option<NodeNumbe
     requires tree { IsTree nodes.old }
     requires inside { at < length nodes.old }
     ensures same { SameButFlags nodes.old nodes.new }
-    ensures number { result ≡ child_number nodes.old at (FieldKey key.now) }
+    ensures number { result ≡ child_number nodes.old at (FieldHop key.now) }
     ensures shown { (e : Element) (off : Element → Bool) → number nodes.old e ≡ Some at
         → ShownBut nodes.old (λ x. is_same x (Field e key.now) || off x) → ShownBut nodes.new off }
 {
@@ -100,7 +104,7 @@ fn show_entry(nodes: &mut [Node], at: NodeNumber, id: &OpId) -> Option<NodeNumbe
     requires tree { IsTree nodes.old }
     requires inside { at < length nodes.old }
     ensures same { SameButFlags nodes.old nodes.new }
-    ensures number { result ≡ child_number nodes.old at (ItemKey id.now) }
+    ensures number { result ≡ child_number nodes.old at (ItemHop id.now) }
     ensures shown { (e : Element) (off : Element → Bool) → number nodes.old e ≡ Some at
         → ShownBut nodes.old (λ x. is_same x (Item e id.now) || off x) → ShownBut nodes.new off }
 {
@@ -178,7 +182,8 @@ fn show_insert(nodes: &mut [Node], place: &Place, id: &OpId)
     }
 }
 
-/// Sets what the lists show, what is gone of them, and the flags of fields, on the way to an operation's target, after it was applied:
+/// Sets what the lists show, their bounds of empty items, and the flags of fields, on the way to an operation's target, after it was
+/// applied:
 /// beneath it all are right already.
 pub fn show(nodes: &mut [Node], op: &Op)
     requires { IsTree nodes.old }

@@ -10,20 +10,20 @@ ghost use Rattle.semantics.specs.Stamped.{loose_operation};
 ghost use Rattle.semantics.specs.Elements.{Element};
 ghost use Rattle.semantics.specs.Questions.{resolve, Answer, ConflictsAre, ItemsAre, KeysAre, Refused, ValuesAre};
 ghost use Rattle.semantics.specs.DocumentAnswer.{visible_items, visible_names};
-ghost use Rattle.operation.specs.Meanings.{mutation_of, stamped_of};
+ghost use Rattle.operation.specs.Ops.{mutation_of, stamped_of};
 ghost use Rattle.tree.specs.Answers.{IsAnswer};
 ghost use Rattle.tree.specs.Nodes.{context, tagged, valued};
 ghost use Rattle.tree.specs.Trees.{IsPlaced, IsReserved, Planted, document, items_stand};
 
-use crate::answer::{conflicts, conflicts_at, items, items_at, keys, keys_at, values, values_at};
+use crate::answer::{conflicts, items, keys, values};
 use crate::apply::apply;
-use crate::listed::items_stand;
+use crate::items_inserted::items_stand;
 use crate::node::Node;
 use crate::reserve::reserve_operation;
 use crate::resolve::resolve;
 use crate::stamp::Stamp;
 use ids::{OpId, Refusal, ReplicaTable};
-use operation::{ElementPlace, Expr, Key, Op, Place, Scalar, Tag};
+use operation::{Expr, Key, Op, Place, Scalar, Tag};
 use std::alloc::{AllocError, Global};
 use std::marker::Model;
 
@@ -80,7 +80,7 @@ impl Tree {
         Ok(())
     }
 
-    /// Applies an operation that was reserved. Takes no memory. Beneath an assign's or a delete's element it visits each node at
+    /// Applies an operation that was reserved. Allocates nothing. Beneath an assign's or a delete's element it visits each node at
     /// which something stands, and of the children of those the fields whose flags are raised, and the items from the first on that
     /// stood after the list was last cleared, or that was written to since. It writes at each element of the path, and then sets the
     /// flags of the fields there, and whether the lists show the items there.
@@ -122,113 +122,59 @@ impl Tree {
         resolve(alloc, &self.nodes, expression)
     }
 
-    /// The values in the register at an element, rising by id. Copies each.
+    /// The values in the register at the element that an expression leads to, rising by id. Copies each. Allocates nothing on the way
+    /// there: a binary search for each key, and for an index a look at how many items each block of the list shows.
     ///
     /// # Errors
-    /// `AllocError` if allocation fails.
-    pub fn values(
-        &self,
-        alloc: Global,
-        element: &ElementPlace,
-    ) -> Result<Vec<(OpId, Scalar)>, AllocError>
-        ensures { IfOk result (λ v. valued v.items ≡ (document self.now).register element.now) }
+    /// The refusal of the expression, as `resolve`, and `AtHead` where it leads to a head; or `NoMemory` if allocation fails.
+    pub fn values(&self, alloc: Global, expression: &Expr) -> Result<Vec<(OpId, Scalar)>, Refusal>
+        ensures answer { IfOk result
+            (λ v. IsAnswer (document self.now) (λ e. ValuesAre ((document self.now).register e)) expression.now
+            (ValuesAre (valued v.items))) }
+        ensures err { IfErr result
+            (λ why. (why ≡ NoMemory) ⊎ ((f : Element → Answer) → IsAnswer (document self.now) f expression.now (Refused why))) }
     {
-        values(&self.nodes, element, alloc)
+        values(&self.nodes, expression, alloc)
     }
 
     /// The presence there, rising by id.
     ///
     /// # Errors
-    /// `AllocError` if allocation fails.
-    pub fn conflicts(
-        &self,
-        alloc: Global,
-        element: &ElementPlace,
-    ) -> Result<Vec<(OpId, Tag)>, AllocError>
-        ensures { IfOk result (λ v. tagged v.items ≡ (document self.now).presence element.now) }
-    {
-        conflicts(&self.nodes, element, alloc)
-    }
-
-    /// The keys of the fields there at which something stands, in byte order. Looks at the node of each field whose flag is raised, and
-    /// passes the flags of the others many at a time.
-    ///
-    /// # Errors
-    /// `AllocError` if allocation fails.
-    pub fn keys(&self, alloc: Global, element: &ElementPlace) -> Result<Vec<Key>, AllocError>
-        ensures { IfOk result (λ v. v.items ≡ visible_names (document self.now) element.now) }
-    {
-        keys(&self.nodes, element, alloc)
-    }
-
-    /// The visible items there, in list order. Looks at each item of the blocks in which one is shown, tombstones included.
-    ///
-    /// # Errors
-    /// `AllocError` if allocation fails.
-    pub fn items(&self, alloc: Global, element: &ElementPlace) -> Result<Vec<OpId>, AllocError>
-        ensures { IfOk result (λ v. v.items ≡ visible_items (document self.now) element.now) }
-    {
-        items(&self.nodes, element, alloc)
-    }
-
-    /// The values at the element that an expression leads to, as `values`. Costs a walk along the expression, and copies no key.
-    ///
-    /// # Errors
-    /// The refusal of the expression, as `resolve`, and `AtHead` where it leads to a head; or `NoMemory` if allocation fails.
-    pub fn values_at(
-        &self,
-        alloc: Global,
-        expression: &Expr,
-    ) -> Result<Vec<(OpId, Scalar)>, Refusal>
-        ensures answer { IfOk result
-            (λ v. IsAnswer (document self.now) (λ e. ValuesAre ((document self.now).register e)) expression.now (ValuesAre (valued v.items))) }
-        ensures err { IfErr result
-            (λ why. (why ≡ NoMemory) ⊎ ((f : Element → Answer) → IsAnswer (document self.now) f expression.now (Refused why))) }
-    {
-        values_at(&self.nodes, expression, alloc)
-    }
-
-    /// The presence at the element that an expression leads to, as `conflicts`.
-    ///
-    /// # Errors
-    /// As `values_at`.
-    pub fn conflicts_at(
-        &self,
-        alloc: Global,
-        expression: &Expr,
-    ) -> Result<Vec<(OpId, Tag)>, Refusal>
+    /// As `values`.
+    pub fn conflicts(&self, alloc: Global, expression: &Expr) -> Result<Vec<(OpId, Tag)>, Refusal>
         ensures answer { IfOk result
             (λ v. IsAnswer (document self.now) (λ e. ConflictsAre ((document self.now).presence e)) expression.now
             (ConflictsAre (tagged v.items))) }
         ensures err { IfErr result
             (λ why. (why ≡ NoMemory) ⊎ ((f : Element → Answer) → IsAnswer (document self.now) f expression.now (Refused why))) }
     {
-        conflicts_at(&self.nodes, expression, alloc)
+        conflicts(&self.nodes, expression, alloc)
     }
 
-    /// The keys at the element that an expression leads to, as `keys`.
+    /// The keys of the fields there at which something stands, in byte order. Looks at the node of each field whose flag is raised, and
+    /// passes the flags of the others many at a time.
     ///
     /// # Errors
-    /// As `values_at`.
-    pub fn keys_at(&self, alloc: Global, expression: &Expr) -> Result<Vec<Key>, Refusal>
+    /// As `values`.
+    pub fn keys(&self, alloc: Global, expression: &Expr) -> Result<Vec<Key>, Refusal>
         ensures answer { IfOk result
             (λ v. IsAnswer (document self.now) (λ e. KeysAre (visible_names (document self.now) e)) expression.now (KeysAre v.items)) }
         ensures err { IfErr result
             (λ why. (why ≡ NoMemory) ⊎ ((f : Element → Answer) → IsAnswer (document self.now) f expression.now (Refused why))) }
     {
-        keys_at(&self.nodes, expression, alloc)
+        keys(&self.nodes, expression, alloc)
     }
 
-    /// The items at the element that an expression leads to, as `items`.
+    /// The visible items there, in list order. Looks at each item of the blocks in which one is shown, tombstones included.
     ///
     /// # Errors
-    /// As `values_at`.
-    pub fn items_at(&self, alloc: Global, expression: &Expr) -> Result<Vec<OpId>, Refusal>
+    /// As `values`.
+    pub fn items(&self, alloc: Global, expression: &Expr) -> Result<Vec<OpId>, Refusal>
         ensures answer { IfOk result
             (λ v. IsAnswer (document self.now) (λ e. ItemsAre (visible_items (document self.now) e)) expression.now (ItemsAre v.items)) }
         ensures err { IfErr result
             (λ why. (why ≡ NoMemory) ⊎ ((f : Element → Answer) → IsAnswer (document self.now) f expression.now (Refused why))) }
     {
-        items_at(&self.nodes, expression, alloc)
+        items(&self.nodes, expression, alloc)
     }
 }

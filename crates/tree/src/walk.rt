@@ -4,9 +4,9 @@ ghost use Rattle.std.specs.Prelude.{◌≡◌, ◌<◌, ◌≤◌, ℕ, Option, 
 ghost use Rattle.semantics.specs.Ids.{OpId as TheId};
 ghost use Rattle.semantics.specs.Elements.{Element, Field, Item, Name};
 ghost use Rattle.semantics.specs.DocumentAnswer.{is_any};
-ghost use Rattle.semantics.specs.Paths.{ItemKey};
-ghost use Rattle.operation.specs.cursor.Meanings.{hop_of};
-ghost use Rattle.tree.specs.Nodes.{IsTree, child_number, context, is_flagged, links, number};
+ghost use Rattle.semantics.specs.Paths.{ItemHop};
+ghost use Rattle.operation.specs.cursor.Steps.{hop_of};
+ghost use Rattle.tree.specs.Nodes.{IsTree, child_number, context, is_flagged, links, next_number, number};
 ghost use Rattle.tree.specs.Shown.{AreEmpty};
 ghost use Rattle.tree.specs.Writes.{end_of};
 
@@ -85,10 +85,18 @@ pub fn child_of(nodes: &[Node], at: NodeNumber, hop: &Hop) -> Option<NodeNumber>
     child.map(NodeNumber::new)
 }
 
+/// The same from a node that may not have been made.
+pub fn next_of(nodes: &[Node], node: Option<NodeNumber>, hop: &Hop) -> Option<NodeNumber>
+    requires { IfSome node (λ i. i < length nodes.now) }
+    ensures { result ≡ next_number nodes.now node (hop_of hop.now) }
+{
+    child_of(nodes, node?, hop)
+}
+
 /// The number of an item's node, by the item's id. Binary search.
 pub fn item_of(nodes: &[Node], at: NodeNumber, id: &OpId) -> Option<NodeNumber>
     requires { at < length nodes.now }
-    ensures { result ≡ child_number nodes.now at (ItemKey id.now) }
+    ensures { result ≡ child_number nodes.now at (ItemHop id.now) }
 {
     node_at(nodes, at).items.get(id).map(NodeNumber::new)
 }

@@ -2,10 +2,11 @@
 
 ghost use Rattle.std.specs.Prelude.{◌≡◌, ◌<◌, ◌≤◌, ℕ, List, Option, Some, IsSome, length, map, option_map, slice_get};
 ghost use Rattle.semantics.specs.Elements.{Element, Field, Item, Name, depth, is_under};
-ghost use Rattle.operation.specs.value.Meanings.{scalar_of};
-ghost use Rattle.operation.specs.cursor.Meanings.{hop_of, tag_of};
+ghost use Rattle.operation.specs.value.Values.{scalar_of};
+ghost use Rattle.operation.specs.cursor.Steps.{hop_of, tag_of};
 ghost use Rattle.tree.specs.Nested.{IsNested};
-ghost use Rattle.tree.specs.Nodes.{AreBeside, IsTree, MoreRoom, RoomElse, SameLinks, child_number, context, node_at, number, presence_room};
+ghost use Rattle.tree.specs.Nodes.{AreIndexedNodes, IsTree, MoreRoom, RoomElse, SameLinks, child_number, context, node_at, number};
+ghost use Rattle.tree.specs.Nodes.{presence_room};
 ghost use Rattle.tree.specs.Nodes.{register_room};
 ghost use Rattle.tree.specs.Shown.{AreEmpty, AreShown, ShownBut};
 ghost use Rattle.tree.specs.Writes.{HasRoom, IsStamp, assigned, deps_of, end_of, entered, entered_by, mark, name_at, registered};
@@ -24,7 +25,7 @@ fn mark_node(nodes: &mut [Node], at: NodeNumber, stamp: &Stamp, tag: Tag)
     requires room { 0 < presence_room (slice_get nodes.old at) }
     ensures links { SameLinks nodes.old nodes.new }
     ensures room { RoomElse at nodes.old nodes.new }
-    ensures beside { AreBeside stamp.now.table.now nodes.old → AreBeside stamp.now.table.now nodes.new }
+    ensures indexed { AreIndexedNodes stamp.now.table.now nodes.old → AreIndexedNodes stamp.now.table.now nodes.new }
     ensures marked { (e : Element) → number nodes.old e ≡ Some at
         → context nodes.new ≡ mark (context nodes.old) e stamp.now.id (tag_of tag) }
 {
@@ -38,7 +39,7 @@ fn name_node(nodes: &mut [Node], at: NodeNumber)
     requires inside { at < length nodes.old }
     ensures links { SameLinks nodes.old nodes.new }
     ensures room { MoreRoom nodes.old nodes.new }
-    ensures beside { (table : List ℕ) → AreBeside table nodes.old → AreBeside table nodes.new }
+    ensures indexed { (table : List ℕ) → AreIndexedNodes table nodes.old → AreIndexedNodes table nodes.new }
     ensures named { (e : Element) (n : Name) → number nodes.old (Field e n) ≡ Some at
         → context nodes.new ≡ name_at (context nodes.old) e n }
 {
@@ -55,7 +56,7 @@ fn enter(nodes: &mut [Node], at: NodeNumber, hop: &Hop, stamp: &Stamp) -> NodeNu
     requires child { IsSome (child_number nodes.old at (hop_of hop.now)) }
     ensures links { SameLinks nodes.old nodes.new }
     ensures room { RoomElse at nodes.old nodes.new }
-    ensures beside { AreBeside stamp.now.table.now nodes.old → AreBeside stamp.now.table.now nodes.new }
+    ensures indexed { AreIndexedNodes stamp.now.table.now nodes.old → AreIndexedNodes stamp.now.table.now nodes.new }
     ensures child { child_number nodes.old at (hop_of hop.now) ≡ Some result }
     ensures entered { (e : Element) → number nodes.old e ≡ Some at
         → context nodes.new ≡ entered_by (context nodes.old) e (hop_of hop.now) stamp.now.id }
@@ -80,7 +81,7 @@ pub fn write_path(nodes: &mut [Node], path: &[Hop], stamp: &Stamp, tag: Tag) -> 
     ensures register_room { (i : ℕ) → register_room (slice_get nodes.old i) ≤ register_room (slice_get nodes.new i) }
     ensures deeper { (e : Element) → length path.now < depth e → 0 < presence_room (node_at nodes.old e)
         → 0 < presence_room (node_at nodes.new e) }
-    ensures beside { AreBeside stamp.now.table.now nodes.old → AreBeside stamp.now.table.now nodes.new }
+    ensures indexed { AreIndexedNodes stamp.now.table.now nodes.old → AreIndexedNodes stamp.now.table.now nodes.new }
     ensures inside { result < length nodes.new }
     ensures at { number nodes.old (end_of (map hop_of path.now)) ≡ Some result }
     ensures written { context nodes.new
@@ -102,7 +103,7 @@ fn put_register(nodes: &mut [Node], at: NodeNumber, stamp: &Stamp, scalar: Scala
     requires inside { at < length nodes.old }
     requires room { 0 < register_room (slice_get nodes.old at) }
     ensures links { SameLinks nodes.old nodes.new }
-    ensures beside { AreBeside stamp.now.table.now nodes.old → AreBeside stamp.now.table.now nodes.new }
+    ensures indexed { AreIndexedNodes stamp.now.table.now nodes.old → AreIndexedNodes stamp.now.table.now nodes.new }
     ensures written { (e : Element) → number nodes.old e ≡ Some at
         → context nodes.new ≡ registered (context nodes.old) e stamp.now.id (Some (scalar_of scalar)) }
 {
@@ -114,12 +115,12 @@ fn put_register(nodes: &mut [Node], at: NodeNumber, stamp: &Stamp, scalar: Scala
 fn put_scalar(nodes: &mut [Node], at: NodeNumber, stamp: &Stamp, scalar: Option<Scalar>)
     requires tree { IsTree nodes.old }
     requires stamp { IsStamp stamp.now }
-    requires beside { AreBeside stamp.now.table.now nodes.old }
+    requires indexed { AreIndexedNodes stamp.now.table.now nodes.old }
     requires inside { at < length nodes.old }
     requires room { IsSome scalar → 0 < register_room (slice_get nodes.old at) }
     ensures tree { IsTree nodes.new }
     ensures links { SameLinks nodes.old nodes.new }
-    ensures beside { AreBeside stamp.now.table.now nodes.new }
+    ensures indexed { AreIndexedNodes stamp.now.table.now nodes.new }
     ensures written { (e : Element) → number nodes.old e ≡ Some at
         → context nodes.new ≡ registered (context nodes.old) e stamp.now.id (option_map scalar_of scalar) }
 {
@@ -132,13 +133,13 @@ fn put_scalar(nodes: &mut [Node], at: NodeNumber, stamp: &Stamp, scalar: Option<
 pub fn settle(nodes: &mut [Node], at: NodeNumber, stamp: &Stamp, tag: Tag, scalar: Option<Scalar>)
     requires tree { IsTree nodes.old }
     requires stamp { IsStamp stamp.now }
-    requires beside { AreBeside stamp.now.table.now nodes.old }
+    requires indexed { AreIndexedNodes stamp.now.table.now nodes.old }
     requires inside { at < length nodes.old }
     requires room { 0 < presence_room (slice_get nodes.old at) }
     requires register { IsSome scalar → 0 < register_room (slice_get nodes.old at) }
     ensures tree { IsTree nodes.new }
     ensures links { SameLinks nodes.old nodes.new }
-    ensures beside { AreBeside stamp.now.table.now nodes.new }
+    ensures indexed { AreIndexedNodes stamp.now.table.now nodes.new }
     ensures settled { (e : Element) → number nodes.old e ≡ Some at
         → context nodes.new
         ≡ registered (mark (context nodes.old) e stamp.now.id (tag_of tag)) e stamp.now.id (option_map scalar_of scalar) }
@@ -147,18 +148,18 @@ pub fn settle(nodes: &mut [Node], at: NodeNumber, stamp: &Stamp, tag: Tag, scala
     put_scalar(nodes, at, stamp, scalar);
 }
 
-/// Clears what stands at the end of a path, and writes there. What lists show, what is gone of them, and the flags of fields may be wrong
-/// then on the way there, and nowhere else.
+/// Clears what stands at the end of a path, and writes there. What lists show, their bounds of empty items, and the flags of fields may be
+/// wrong then on the way there, and nowhere else.
 pub fn assign(nodes: &mut [Node], path: &[Hop], stamp: &Stamp, tag: Tag, scalar: Option<Scalar>)
     requires tree { IsTree nodes.old }
     requires stamp { IsStamp stamp.now }
-    requires beside { AreBeside stamp.now.table.now nodes.old }
+    requires indexed { AreIndexedNodes stamp.now.table.now nodes.old }
     requires nested { IsNested (context nodes.old) }
     requires empty { AreEmpty nodes.old }
     requires room { HasRoom nodes.old (map hop_of path.now) }
     requires register { IsSome scalar → 0 < register_room (node_at nodes.old (end_of (map hop_of path.now))) }
     ensures tree { IsTree nodes.new }
-    ensures beside { AreBeside stamp.now.table.now nodes.new }
+    ensures indexed { AreIndexedNodes stamp.now.table.now nodes.new }
     ensures shown { AreShown nodes.old → ShownBut nodes.new (is_under (end_of (map hop_of path.now))) }
     ensures assigned { context nodes.new
         ≡ assigned (context nodes.old) stamp.now.id (deps_of stamp.now) (end_of (map hop_of path.now)) (tag_of tag)

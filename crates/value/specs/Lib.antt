@@ -1,4 +1,4 @@
 -- What values mean, when two are one, and their form in JSON.
-pub mod Meanings
+pub mod Values
 pub mod Forms
-pub mod Equality
+pub mod SameValues

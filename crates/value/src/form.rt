@@ -5,7 +5,7 @@ ghost use Rattle.ids.specs.declared.refusal.Refusal.TheVariants.{NoMemory};
 ghost use Rattle.semantics.specs.Elements.{Value as TheValue, Plain};
 ghost use Rattle.serde_json.specs.View.{view};
 ghost use Rattle.value.specs.Forms.{IsText, IsWithinLimits, json_of, scalar_json, value_form};
-ghost use Rattle.value.specs.Meanings.{scalar_of, value_of};
+ghost use Rattle.value.specs.Values.{scalar_of, value_of};
 
 use crate::text::Text;
 use crate::value::{Scalar, Val};

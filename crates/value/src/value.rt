@@ -5,8 +5,8 @@ ghost use Rattle.std.specs.Cmp;
 ghost use Rattle.ids.specs.declared.refusal.Refusal.TheVariants.{NoMemory, TextTooLong};
 ghost use Rattle.semantics.specs.Elements as element;
 ghost use Rattle.semantics.specs.Limits.{most_text_bytes};
-ghost use Rattle.value.specs.Equality.{is_same_scalar, is_same_value, same_scalar_equiv, same_value_equiv};
-ghost use Rattle.value.specs.Meanings.{scalar_of, value_of};
+ghost use Rattle.value.specs.SameValues.{is_same_scalar, is_same_value, same_scalar_equiv, same_value_equiv};
+ghost use Rattle.value.specs.Values.{scalar_of, value_of};
 
 use crate::text::Text;
 use ids::Refusal;

@@ -3,7 +3,7 @@
 ghost use Rattle.std.specs.Prelude.{◌≡◌, ◌≤◌, ◌<◌, ◌+◌, [], length, Some, slice_get, vec_len, vec_capacity, OnOk};
 ghost use Rattle.std.specs.List.{All, insert, zip, items_where_true};
 ghost use Rattle.lanes.specs.Kernels.{packed};
-ghost use Rattle.version.specs.Columns.{AreBeside, uncovered, first_bits};
+ghost use Rattle.version.specs.Columns.{OfOneLength, uncovered, first_bits};
 
 use crate::marks::keep_marked;
 use crate::vector::VersionVector;
@@ -26,7 +26,7 @@ pub struct IdColumns {
 impl Model for IdColumns {
     ghost use Rattle.std.specs.Prelude.{min, ◌-◌, vec_len, vec_capacity};
     ghost use Rattle.std.specs.List.{zip};
-    ghost use Rattle.version.specs.Columns.{Columns, AreBeside};
+    ghost use Rattle.version.specs.Columns.{Columns, OfOneLength};
 
     ghost Value = { Columns };
 
@@ -36,7 +36,7 @@ impl Model for IdColumns {
           (min (vec_capacity c.bounds - vec_len c.bounds) (vec_capacity c.mask - vec_len c.mask));
     } };
 
-    ghost invariant = { λ c. AreBeside c.counters.items c.indices.items c.bounds.items c.mask.items };
+    ghost invariant = { λ c. OfOneLength c.counters.items c.indices.items c.bounds.items c.mask.items };
 }
 
 impl IdColumns {
@@ -81,7 +81,7 @@ impl IdColumns {
         self.mask.reserve(1)
     }
 
-    /// Inserts an id at a position. Takes no memory. Costs what an insert into `Rings` does, so at the end it is one push.
+    /// Inserts an id at a position. Allocates nothing. Costs what an insert into `Rings` does, so at the end it is one push.
     pub fn insert(&mut self, position: usize, counter: u64, index: usize)
         requires within { position ≤ length self.old.ids }
         requires room { 0 < self.old.room }
@@ -98,14 +98,14 @@ impl IdColumns {
 }
 
 impl VersionVector {
-    /// Keeps, in order, the ids that the vector doesn't cover. Takes no memory.
+    /// Keeps, in order, the ids that the vector doesn't cover. Allocates nothing.
     pub fn keep_uncovered(&self, ids: &mut IdColumns)
         requires { All (λ id. id.1 < length self.now) ids.old.ids }
         ensures ids { ids.new.ids ≡ items_where_true (uncovered self.now ids.old.ids) ids.old.ids }
         ensures room { ids.old.room ≤ ids.new.room }
     {
-        ids.counters.straighten();
-        ids.indices.straighten();
+        ids.counters.make_contiguous();
+        ids.indices.make_contiguous();
         mark_uncovered(
             self,
             ids.counters.as_slice(),
@@ -123,7 +123,7 @@ impl VersionVector {
 }
 
 /// Sets the bit of each id that the vector doesn't cover, and clears the others. The ids are given as two columns; the bounds are
-/// scratch. Takes no memory.
+/// scratch. Allocates nothing.
 fn mark_uncovered(
     vector: &VersionVector,
     counters: &[u64],
@@ -131,7 +131,7 @@ fn mark_uncovered(
     bounds: &mut Vec<u64>,
     mask: &mut Vec<u64>,
 )
-    requires beside { AreBeside counters.now indices.now bounds.old.items mask.old.items }
+    requires width { OfOneLength counters.now indices.now bounds.old.items mask.old.items }
     requires within { All (λ id. id.1 < length vector.now) (zip counters.now indices.now) }
     ensures marks { mask.new.items ≡ packed (uncovered vector.now (zip counters.now indices.now)) }
     ensures bounds { length bounds.new.items ≡ length bounds.old.items }
@@ -152,10 +152,10 @@ fn keep_ids(
     bounds: &mut Vec<u64>,
     mask: &mut Vec<u64>,
 )
-    requires { AreBeside counters.old.items indices.old.items bounds.old.items mask.old.items }
+    requires { OfOneLength counters.old.items indices.old.items bounds.old.items mask.old.items }
     ensures ids { zip counters.new.items indices.new.items
         ≡ items_where_true (first_bits mask.old.items (length counters.old.items)) (zip counters.old.items indices.old.items) }
-    ensures beside { AreBeside counters.new.items indices.new.items bounds.new.items mask.new.items }
+    ensures width { OfOneLength counters.new.items indices.new.items bounds.new.items mask.new.items }
     ensures few { length counters.new.items ≤ length counters.old.items }
     ensures capacity_of_counters { counters.old.room ≤ counters.new.room }
     ensures capacity_of_indices { indices.old.room ≤ indices.new.room }

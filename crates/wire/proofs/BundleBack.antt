@@ -4,7 +4,7 @@ use Rattle.std.specs.List.{All}
 use Rattle.std.proofs.lemmas.List.Elements.{All-head, All-tail}
 use Rattle.semantics.specs.Stamped.{Stamped}
 use Rattle.wire.specs.Bundles.{all_or_bad, bundle_form, bundle_text, readable}
-use Rattle.json_lines.specs.Lines.{IsFirstLine}
+use Rattle.wire.specs.Lines.{IsFirstLine}
 use Rattle.wire.specs.Messages.{op_line}
 use Rattle.wire.specs.Operations.{operation_json}
 use Rattle.wire.specs.Reading.{op_form}

@@ -4,7 +4,7 @@ use Rattle.ids.specs.declared.refusal.Refusal.{Refusal}
 use Rattle.ids.specs.declared.refusal.Refusal.TheVariants.{BadLine}
 use Rattle.semantics.specs.Stamped.{Stamped}
 use Rattle.wire.specs.Bundles.{Readable, readable}
-use Rattle.json_lines.specs.Lines.{HasNoEnd, IsFirstLine}
+use Rattle.wire.specs.Lines.{HasNoEnd, IsFirstLine}
 use Rattle.wire.specs.Reading.{op_form}
 use Rattle.wire.proofs.CutLines.{cut-first_line, cut-no_end}
 

@@ -1,7 +1,7 @@
 -- The lines of a text, one by one.
 use Rattle.std.proofs.Common.{◌≡◌, ◌≢◌, ◌==◌, ℕ, List, [], ◌∷◌, ◌++◌, false, refl, arith}
 use Rattle.std.proofs.lemmas.List.Elements.{All-head, All-tail}
-use Rattle.json_lines.specs.Lines.{cut, HasNoEnd, IsFirstLine}
+use Rattle.wire.specs.Lines.{cut, HasNoEnd, IsFirstLine}
 
 other_byte : (b : ℕ) → b ≢ 10 → (b == 10) ≡ false
 other_byte b h = grind (arith)

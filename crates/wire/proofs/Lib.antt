@@ -1,6 +1,5 @@
 pub mod ReadVectors
 pub mod ListedVectors
-pub mod NoFloats
 pub mod WrongLengths
 pub mod ReadPlaces
 pub mod CutLines
@@ -15,3 +14,5 @@ pub mod BundleBack
 pub mod WholeTexts
 pub mod WholeOperations
 pub mod SentOperations
+pub mod OrNoMemory
+pub mod JsonTexts

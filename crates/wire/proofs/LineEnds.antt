@@ -10,7 +10,7 @@ use Rattle.json.proofs.Printed.Strings.{escape_byte_plain}
 use Rattle.serde_json.specs.Data.{Num, unsigned, negative, float, Data, null, boolean, number, string, array, object, Items, no_items, item}
 use Rattle.serde_json.specs.Data.{Members, no_members, member}
 use Rattle.serde_json.specs.Written.{comma_if, compact_text, items_text, members_text, number_text}
-use Rattle.json_lines.specs.Lines.{HasNoEnd}
+use Rattle.wire.specs.Lines.{HasNoEnd}
 
 -- ---- bytes that are given
 

@@ -12,21 +12,21 @@ use Rattle.semantics.specs.Tables.{by_table}
 use Rattle.semantics.specs.Elements.{Element, Doc, Field, Item, Place, At, HeadOf, Tag, AsMap, AsList, Value, Plain, EmptyMap, EmptyList}
 use Rattle.semantics.specs.Elements.{Null, Boolean, Whole, Text, depth}
 use Rattle.semantics.specs.Operations.{Mutation, Assign, Insert, Delete, element_of}
-use Rattle.semantics.specs.Paths.{Key, FieldKey, ItemKey, child, down, keys_from_root}
+use Rattle.semantics.specs.Paths.{Hop, FieldHop, ItemHop, child, down, hops_from_root}
 use Rattle.semantics.specs.Stamped.{Stamped}
 use Rattle.semantics.specs.Vectors.{AreAbove, IsCanonical, Vector}
-use Rattle.semantics.proofs.ElementPaths.{down-keys_from_root}
+use Rattle.semantics.proofs.ElementPaths.{down-hops_from_root}
 use Rattle.semantics.proofs.TableVectors.{canonical-by_table}
 use Rattle.operation.specs.declared.op.Op.{Op}
 use Rattle.operation.specs.Alone.{key_of_member}
-use Rattle.operation.specs.Meanings.{mutation_of, stamped_of}
+use Rattle.operation.specs.Ops.{mutation_of, stamped_of}
 use Rattle.operation.proofs.AloneFaults.{all-by_table, members_all}
 use Rattle.operation.proofs.PlaceKeys.{items_of_members-keys}
 use Rattle.serde_json.specs.Data.{Data}
 use Rattle.serde_json.specs.View.{items_of}
 use Rattle.operation.specs.cursor.Places.{LastKey, DocKey, FieldName, ItemId, HeadKey, depth_of}
 use Rattle.operation.specs.value.Forms.{IsWithinLimits, json_of, value_form}
-use Rattle.json_lines.specs.Forms.{and_then, phrase_form}
+use Rattle.wire.specs.Forms.{and_then, phrase_form}
 use Rattle.wire.specs.Members.{member_form}
 use Rattle.wire.specs.Messages.{hello_json, hello_of}
 use Rattle.wire.specs.Operations.{entered_json, id_json, key_json, last_from, last_json, mutation_json, operation_json, parts_from}
@@ -49,90 +49,90 @@ pairs_back table p (a ∷ v) h = rw (h.1.0, h.1.1, lt-ltb p a.replica h.0, h.1.2
 -- ---- places
 
 -- a key as it is written
-abbrev written_key : Key → LastKey
-written_key (FieldKey n) = FieldName n
-written_key (ItemKey a) = ItemId a
+abbrev written_key : Hop → LastKey
+written_key (FieldHop n) = FieldName n
+written_key (ItemHop a) = ItemId a
 
 -- as what the element before a key is entered
-abbrev tag_before : Key → Tag
-tag_before (FieldKey n) = AsMap
-tag_before (ItemKey a) = AsList
+abbrev tag_before : Hop → Tag
+tag_before (FieldHop n) = AsMap
+tag_before (ItemHop a) = AsList
 
 -- the parts of a path from one key on
-abbrev path_parts : LastKey → List Key → List Entered
+abbrev path_parts : LastKey → List Hop → List Entered
 path_parts before [] = []
 path_parts before (k ∷ ks) = record { key = before; tag = tag_before k } ∷ path_parts (written_key k) ks
 
 -- its last key
-abbrev path_last : LastKey → List Key → LastKey
+abbrev path_last : LastKey → List Hop → LastKey
 path_last before [] = before
 path_last before (k ∷ ks) = path_last (written_key k) ks
 
-key_back : (table : List ℕ) (k : Key) → IsSentKey table k → key_form table (key_json k) ≡ Ok (written_key k)
-key_back table (FieldKey n) h = rw (le-ltb 256 (length n) h) refl
-key_back table (ItemKey a) h = rw (h.0, h.1, h.2) refl
+key_back : (table : List ℕ) (k : Hop) → IsSentKey table k → key_form table (key_json k) ≡ Ok (written_key k)
+key_back table (FieldHop n) h = rw (le-ltb 256 (length n) h) refl
+key_back table (ItemHop a) h = rw (h.0, h.1, h.2) refl
 
-part_back : (table : List ℕ) (d : Data) (before : LastKey) (k : Key) → key_form table d ≡ Ok before
+part_back : (table : List ℕ) (d : Data) (before : LastKey) (k : Hop) → key_form table d ≡ Ok before
     → and_then (entered_of table) (phrase_form (entered_json d k)) ≡ Ok (record { key = before; tag = tag_before k })
-part_back table d before (FieldKey n) e = rw e refl
-part_back table d before (ItemKey a) e = rw e refl
+part_back table d before (FieldHop n) e = rw e refl
+part_back table d before (ItemHop a) e = rw e refl
 
-parts_back : (table : List ℕ) (d : Data) (before : LastKey) (ks : List Key) → key_form table d ≡ Ok before → AreSentKeys table ks
+parts_back : (table : List ℕ) (d : Data) (before : LastKey) (ks : List Hop) → key_form table d ≡ Ok before → AreSentKeys table ks
     → parts_of table (items_of (parts_from d ks)) ≡ Ok (path_parts before ks)
 parts_back table d before [] e h = refl
 parts_back table d before (k ∷ ks) e h = rw
     (part_back table d before k e, parts_back table (key_json k) (written_key k) ks (key_back table k h.0) h.1) refl
 
-last_back : (table : List ℕ) (d : Data) (before : LastKey) (ks : List Key) → key_form table d ≡ Ok before → AreSentKeys table ks
+last_back : (table : List ℕ) (d : Data) (before : LastKey) (ks : List Hop) → key_form table d ≡ Ok before → AreSentKeys table ks
     → key_form table (last_from d ks) ≡ Ok (path_last before ks)
 last_back table d before [] e h = e
 last_back table d before (k ∷ ks) e h = last_back table (key_json k) (written_key k) ks (key_back table k h.0) h.1
 
-head_back : (table : List ℕ) (d : Data) (before : LastKey) (ks : List Key) → key_form table d ≡ Ok before → AreSentKeys table ks
+head_back : (table : List ℕ) (d : Data) (before : LastKey) (ks : List Hop) → key_form table d ≡ Ok before → AreSentKeys table ks
     → parts_of table (items_of (parts_from d ks ++ phrase (codes "l") (last_from d ks ∷ []) ∷ []))
     ≡ Ok (path_parts before ks ++ record { key = path_last before ks; tag = AsList } ∷ [])
 head_back table d before [] e h = rw e refl
 head_back table d before (k ∷ ks) e h = rw
     (part_back table d before k e, head_back table (key_json k) (written_key k) ks (key_back table k h.0) h.1) refl
 
-entry_back : (e : Element) (k : Key) → element_at e (Some (tag_before k)) (written_key k) ≡ Ok (child e k)
-entry_back e (FieldKey n) = refl
-entry_back e (ItemKey a) = refl
+entry_back : (e : Element) (k : Hop) → element_at e (Some (tag_before k)) (written_key k) ≡ Ok (child e k)
+entry_back e (FieldHop n) = refl
+entry_back e (ItemHop a) = refl
 
-no_head : (t k : Key) → is_list_head (Some (tag_before t)) (written_key k) ≡ false
-no_head (FieldKey n) k = refl
-no_head (ItemKey a) (FieldKey m) = refl
-no_head (ItemKey a) (ItemKey b) = refl
+no_head : (t k : Hop) → is_list_head (Some (tag_before t)) (written_key k) ≡ false
+no_head (FieldHop n) k = refl
+no_head (ItemHop a) (FieldHop m) = refl
+no_head (ItemHop a) (ItemHop b) = refl
 
-walk_back : (e f : Element) (t : Option Tag) (before : LastKey) (ks : List Key) → element_at e t before ≡ Ok f
+walk_back : (e f : Element) (t : Option Tag) (before : LastKey) (ks : List Hop) → element_at e t before ≡ Ok f
     → is_list_head t before ≡ false
     → place_below e t (path_parts before ks) (path_last before ks) ≡ Ok (At (down f ks))
 walk_back e f t before [] there other = rw (other, there) refl
 walk_back e f t before (k ∷ ks) there other =
     rw there (walk_back f (child f k) (Some (tag_before k)) (written_key k) ks (entry_back f k) (no_head k k))
 
-walk_to_head : (e f : Element) (t : Option Tag) (before : LastKey) (ks : List Key) → element_at e t before ≡ Ok f
+walk_to_head : (e f : Element) (t : Option Tag) (before : LastKey) (ks : List Hop) → element_at e t before ≡ Ok f
     → place_below e t (path_parts before ks ++ record { key = path_last before ks; tag = AsList } ∷ []) HeadKey ≡ Ok (HeadOf (down f ks))
 walk_to_head e f t before [] there = rw there refl
 walk_to_head e f t before (k ∷ ks) there = rw there (walk_to_head f (child f k) (Some (tag_before k)) (written_key k) ks (entry_back f k))
 
-count_back : (d : Data) (ks : List Key) → count_parts (items_of (parts_from d ks)) ≡ length ks
+count_back : (d : Data) (ks : List Hop) → count_parts (items_of (parts_from d ks)) ≡ length ks
 count_back d [] = refl
 count_back d (k ∷ ks) = ap suc (count_back (key_json k) ks)
 
-count_head : (d x : Data) (ks : List Key) → count_parts (items_of (parts_from d ks ++ x ∷ [])) ≡ suc (length ks)
+count_head : (d x : Data) (ks : List Hop) → count_parts (items_of (parts_from d ks ++ x ∷ [])) ≡ suc (length ks)
 count_head d x [] = refl
 count_head d x (k ∷ ks) = ap suc (count_head (key_json k) x ks)
 
-length_keys : (e : Element) → length (keys_from_root e) ≡ depth e
+length_keys : (e : Element) → length (hops_from_root e) ≡ depth e
 length_keys Doc = refl
-length_keys (Field e n) = omega (arith, length-append (keys_from_root e) (FieldKey n ∷ []), length_keys e)
-length_keys (Item e a) = omega (arith, length-append (keys_from_root e) (ItemKey a ∷ []), length_keys e)
+length_keys (Field e n) = omega (arith, length-append (hops_from_root e) (FieldHop n ∷ []), length_keys e)
+length_keys (Item e a) = omega (arith, length-append (hops_from_root e) (ItemHop a ∷ []), length_keys e)
 
-place_back : (table : List ℕ) (p : Place) → AreSentKeys table (keys_from_root (element_of p)) → depth_of p ≤ 32
+place_back : (table : List ℕ) (p : Place) → AreSentKeys table (hops_from_root (element_of p)) → depth_of p ≤ 32
     → place_form table (path_json p) (last_json p) ≡ Ok p
 place_back table (At e) h few =
-    let ks = keys_from_root e in
+    let ks = hops_from_root e in
     let short : count_parts (items_of (parts_from root_json ks)) ≤ 32 = omega (arith, count_back root_json ks, length_keys e, few) in
     rw (
       le-ltb 32
@@ -141,14 +141,14 @@ place_back table (At e) h few =
       parts_back table root_json DocKey ks refl h,
       last_back table root_json DocKey ks refl h,
     )
-    (walk_back Doc Doc None DocKey ks refl refl ∙ ap (λ (d : Element). Ok (At d)) (down-keys_from_root e))
+    (walk_back Doc Doc None DocKey ks refl refl ∙ ap (λ (d : Element). Ok (At d)) (down-hops_from_root e))
 place_back table (HeadOf e) h few =
-    let ks = keys_from_root e in
+    let ks = hops_from_root e in
     let x = phrase (codes "l") (last_from root_json ks ∷ []) in
     let short : count_parts (items_of (parts_from root_json ks ++ x ∷ [])) ≤ 32 = omega
     (arith, count_head root_json x ks, length_keys e, few) in
     rw (le-ltb 32 (count_parts (items_of (parts_from root_json ks ++ x ∷ []))) short, head_back table root_json DocKey ks refl h)
-    (walk_to_head Doc Doc None DocKey ks refl ∙ ap (λ (d : Element). Ok (HeadOf d)) (down-keys_from_root e))
+    (walk_to_head Doc Doc None DocKey ks refl ∙ ap (λ (d : Element). Ok (HeadOf d)) (down-hops_from_root e))
 
 -- ---- mutations
 
@@ -204,11 +204,11 @@ sent_column table column typed counters =
     sent_vector table 0 (by_table table column) (canonical-by_table table column) (above_zero (by_table table column) typed) typed
     (all-by_table (is_member table) table column (members_all table)) counters
 
-sent_keys : (table : List ℕ) (ks : List Key) → AreTypedKeys ks → list_all (key_of_member table) ks ≡ true → list_all key_counted ks ≡ true
+sent_keys : (table : List ℕ) (ks : List Hop) → AreTypedKeys ks → list_all (key_of_member table) ks ≡ true → list_all key_counted ks ≡ true
     → AreSentKeys table ks
 sent_keys table [] typed members counters = tt
-sent_keys table (FieldKey n ∷ ks) typed members counters = (typed.0, sent_keys table ks typed.1 members counters)
-sent_keys table (ItemKey a ∷ ks) typed members counters =
+sent_keys table (FieldHop n ∷ ks) typed members counters = (typed.0, sent_keys table ks typed.1 members counters)
+sent_keys table (ItemHop a ∷ ks) typed members counters =
     let m = and_parts (is_member table a.replica) (list_all (key_of_member table) ks) members in
     let n = and_parts (is_counter a.counter) (list_all key_counted ks) counters in
     ((n.0, typed.0, m.0), sent_keys table ks typed.1 m.1 n.1)
@@ -224,7 +224,7 @@ typed_sent table o own_typed vector_typed place_typed within sent =
     record {
       id = (sent.id, own_typed, own.0);
       vector = sent_column table o.deps vector_typed sent.vector;
-      keys = sent_keys table (keys_from_root (element_of s.place)) place_typed.keys
+      keys = sent_keys table (hops_from_root (element_of s.place)) place_typed.keys
           (sym (items_of_members-keys table (element_of s.place)) ∙ parts.1) sent.items;
       few = place_typed.few;
       mutation = within;

@@ -13,12 +13,12 @@ use Rattle.serde_json.specs.declared.value.Value.{Value}
 use Rattle.serde_json.specs.View.{items_view}
 use Rattle.operation.specs.cursor.declared.hop.Hop.{Hop}
 use Rattle.operation.specs.cursor.declared.tag.Tag.{Tag}
-use Rattle.operation.specs.cursor.Meanings.{hop_of}
+use Rattle.operation.specs.cursor.Steps.{hop_of}
 use Rattle.operation.specs.cursor.Places.{LastKey, place_from}
 use Rattle.operation.proofs.cursor.RootPaths.{depth-hops}
-use Rattle.wire.specs.Meanings.{entered_as, keys_ahead}
+use Rattle.wire.specs.Parts.{entered_as, keys_ahead}
 use Rattle.wire.specs.Places.{Entered, count_parts, element_at, is_list_head, parts_of, path_of, place_below}
-use Rattle.json_lines.specs.Forms.{IsOrNoMemory}
+use Rattle.wire.specs.Forms.{IsOrNoMemory}
 
 -- ---- paths
 

@@ -7,11 +7,11 @@ use Rattle.semantics.specs.Ids.{OpId, id_at}
 use Rattle.semantics.specs.Faults.{items_of_members}
 use Rattle.semantics.specs.Limits.{most_counter}
 use Rattle.semantics.specs.Operations.{element_of}
-use Rattle.semantics.specs.Paths.{keys_from_root}
+use Rattle.semantics.specs.Paths.{hops_from_root}
 use Rattle.semantics.specs.Tables.{by_table, greatest_in}
 use Rattle.semantics.specs.Vectors.{Vector, raise}
 use Rattle.operation.specs.declared.op.Op.{Op}
-use Rattle.operation.specs.Meanings.{stamped_of}
+use Rattle.operation.specs.Ops.{stamped_of}
 use Rattle.operation.proofs.AloneFaults.{all-by_table, members_all}
 use Rattle.wire.specs.Sent.{CanBeSent, are_counters, is_counter, key_counted}
 
@@ -55,14 +55,14 @@ counted (p ∷ ps) (c ∷ cs) h = at_test (c == 0) refl (counted ps cs (omega (a
 
 pub tested_sent : (table : List ℕ) (o : Op)
     → (is_member table o.id.replica && items_of_members table (element_of o.place)) ≡ true
-    → (is_counter o.id.counter && nat_le (greatest_in o.deps) most_counter && list_all key_counted (keys_from_root (element_of o.place)))
+    → (is_counter o.id.counter && nat_le (greatest_in o.deps) most_counter && list_all key_counted (hops_from_root (element_of o.place)))
     ≡ true
     → CanBeSent table (stamped_of table o)
 tested_sent table o names counts =
     let own = is_member table o.id.replica in
     let items = items_of_members table (element_of o.place) in
     let named = and_parts own items names in
-    let keys = list_all key_counted (keys_from_root (element_of o.place)) in
+    let keys = list_all key_counted (hops_from_root (element_of o.place)) in
     let both = and_parts (is_counter o.id.counter && nat_le (greatest_in o.deps) most_counter) keys counts in
     let first = and_parts (is_counter o.id.counter) (nat_le (greatest_in o.deps) most_counter) both.0 in
     let column = list_all (λ (a : OpId). is_member table a.replica) (by_table table o.deps) in

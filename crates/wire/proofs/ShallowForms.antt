@@ -3,7 +3,7 @@ use Rattle.std.proofs.Common.{◌≤◌, ℕ, List, [], ◌∷◌, ◌++◌, map
 use Rattle.std.specs.Prelude.{pos, negsuc}
 use Rattle.semantics.specs.Elements.{Null, Boolean, Whole, Text, Value, Plain, EmptyMap, EmptyList, Place, At, HeadOf}
 use Rattle.semantics.specs.Operations.{Mutation, Assign, Insert, Delete}
-use Rattle.semantics.specs.Paths.{Key, FieldKey, ItemKey, keys_from_root}
+use Rattle.semantics.specs.Paths.{Hop, FieldHop, ItemHop, hops_from_root}
 use Rattle.semantics.specs.Stamped.{Stamped}
 use Rattle.semantics.specs.Vectors.{Vector}
 use Rattle.serde_json.specs.Data.{Data, depth, items_depth}
@@ -23,19 +23,19 @@ depth-json_of (Plain (Text s)) = omega arith
 depth-json_of EmptyMap = omega arith
 depth-json_of EmptyList = omega arith
 
-depth-key_json : (k : Key) → depth (key_json k) ≤ 1
-depth-key_json (FieldKey n) = omega arith
-depth-key_json (ItemKey a) = omega arith
+depth-key_json : (k : Hop) → depth (key_json k) ≤ 1
+depth-key_json (FieldHop n) = omega arith
+depth-key_json (ItemHop a) = omega arith
 
-depth-entered_json : (before : Data) (k : Key) → depth before ≤ 1 → depth (entered_json before k) ≤ 2
-depth-entered_json before (FieldKey n) h = omega (arith, h)
-depth-entered_json before (ItemKey a) h = omega (arith, h)
+depth-entered_json : (before : Data) (k : Hop) → depth before ≤ 1 → depth (entered_json before k) ≤ 2
+depth-entered_json before (FieldHop n) h = omega (arith, h)
+depth-entered_json before (ItemHop a) h = omega (arith, h)
 
-depth-parts_from : (before : Data) (ks : List Key) → depth before ≤ 1 → items_depth (items_of (parts_from before ks)) ≤ 2
+depth-parts_from : (before : Data) (ks : List Hop) → depth before ≤ 1 → items_depth (items_of (parts_from before ks)) ≤ 2
 depth-parts_from before [] h = omega arith
 depth-parts_from before (k ∷ ks) h = omega (arith, depth-entered_json before k h, depth-parts_from (key_json k) ks (depth-key_json k))
 
-depth-last_from : (before : Data) (ks : List Key) → depth before ≤ 1 → depth (last_from before ks) ≤ 1
+depth-last_from : (before : Data) (ks : List Hop) → depth before ≤ 1 → depth (last_from before ks) ≤ 1
 depth-last_from before [] h = h
 depth-last_from before (k ∷ ks) h = depth-last_from (key_json k) ks (depth-key_json k)
 
@@ -44,13 +44,13 @@ depth-append [] d n h l = omega (arith, l)
 depth-append (x ∷ ds) d n h l = omega (arith, h, depth-append ds d n (omega (arith, h)) l)
 
 depth-parts_of : (p : Place) → items_depth (items_of (parts_of p)) ≤ 2
-depth-parts_of (At e) = depth-parts_from root_json (keys_from_root e) (omega arith)
+depth-parts_of (At e) = depth-parts_from root_json (hops_from_root e) (omega arith)
 depth-parts_of (HeadOf l) =
-    depth-append (parts_from root_json (keys_from_root l)) _ 2 (depth-parts_from root_json (keys_from_root l) (omega arith))
-    (omega (arith, depth-last_from root_json (keys_from_root l) (omega arith)))
+    depth-append (parts_from root_json (hops_from_root l)) _ 2 (depth-parts_from root_json (hops_from_root l) (omega arith))
+    (omega (arith, depth-last_from root_json (hops_from_root l) (omega arith)))
 
 depth-last_json : (p : Place) → depth (last_json p) ≤ 1
-depth-last_json (At e) = depth-last_from root_json (keys_from_root e) (omega arith)
+depth-last_json (At e) = depth-last_from root_json (hops_from_root e) (omega arith)
 depth-last_json (HeadOf l) = omega arith
 
 depth-pairs : (v : Vector) → items_depth (items_of (map pair_json v)) ≤ 1

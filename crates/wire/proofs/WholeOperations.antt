@@ -1,4 +1,4 @@
--- The line of an operation that can be sent is read as that operation, where its texts are UTF-8.
+-- The line of an operation or of a vector that can be sent is read as that operation or vector, where its texts are UTF-8.
 use Rattle.std.proofs.Common.{◌≡◌, ◌≤◌, ◌<◌, ◌^◌, ℕ, IsUtf8, nat_le, List, [], ◌∷◌, ◌++◌, map, Ok, true, ap, ◌∙◌, arith}
 use Rattle.std.specs.Prelude.{codes, pos, negsuc}
 use Rattle.std.proofs.lemmas.Bool.{and_parts, leb-true}
@@ -6,22 +6,22 @@ use Rattle.ids.specs.Configurations.{is_from_one_to}
 use Rattle.semantics.specs.Elements.{Value, Plain, EmptyMap, EmptyList, Null, Boolean, Whole, Text, Place, At, HeadOf}
 use Rattle.semantics.specs.Ids.{OpId}
 use Rattle.semantics.specs.Operations.{Mutation, Assign, Insert, Delete, element_of}
-use Rattle.semantics.specs.Paths.{Key, FieldKey, ItemKey, keys_from_root}
+use Rattle.semantics.specs.Paths.{Hop, FieldHop, ItemHop, hops_from_root}
 use Rattle.semantics.specs.Stamped.{Stamped}
 use Rattle.semantics.specs.Vectors.{Vector}
 use Rattle.serde_json.specs.Data.{Data, depth}
 use Rattle.serde_json.specs.View.{items_of}
 use Rattle.operation.specs.value.Forms.{IsWithinLimits, json_of}
-use Rattle.json_lines.specs.Forms.{and_then}
-use Rattle.wire.specs.Messages.{op_line}
+use Rattle.wire.specs.Forms.{and_then, phrase_form}
+use Rattle.wire.specs.Messages.{hello_form, hello_json, hello_of, op_line, vector_line}
 use Rattle.wire.specs.Operations.{entered_json, id_json, key_json, last_from, last_json, mutation_json, operation_json, parts_from}
 use Rattle.wire.specs.Operations.{parts_of, phrase, root_json}
 use Rattle.wire.specs.Reading.{op_form, operation_form}
 use Rattle.wire.specs.Sent.{AreSentKeys, IsSent, IsSentId, IsSentKey, IsSentMutation, IsSentVector}
 use Rattle.wire.specs.Vectors.{pair_json}
-use Rattle.json_lines.proofs.JsonTexts.{json_form-read}
-use Rattle.wire.proofs.ReadBack.{operation_back}
-use Rattle.wire.proofs.ShallowForms.{depth-operation_json}
+use Rattle.wire.proofs.JsonTexts.{json_form-read}
+use Rattle.wire.proofs.ReadBack.{hello_back, operation_back}
+use Rattle.wire.proofs.ShallowForms.{depth-hello_json, depth-operation_json}
 use Rattle.wire.proofs.WholeTexts.{HasWhole, ItemsHaveWhole, read-compact_text}
 
 limited : (limit n : ℕ) → limit < 2 ^ 64 → is_from_one_to limit n ≡ true → n < 2 ^ 64
@@ -37,20 +37,20 @@ pairs : (table : List ℕ) (p : ℕ) (v : Vector) → IsSentVector table p v →
 pairs table p [] h = tt
 pairs table p (a ∷ v) h = ((replica table a h.1, (counter table a h.1, tt)), pairs table a.replica v h.2)
 
-key : (table : List ℕ) (k : Key) → IsSentKey table k → HasWhole (key_json k)
-key table (FieldKey n) h = tt
-key table (ItemKey a) h = (counter table a h, (replica table a h, tt))
+key : (table : List ℕ) (k : Hop) → IsSentKey table k → HasWhole (key_json k)
+key table (FieldHop n) h = tt
+key table (ItemHop a) h = (counter table a h, (replica table a h, tt))
 
-part : (before : Data) (k : Key) → HasWhole before → HasWhole (entered_json before k)
-part before (FieldKey n) h = (tt, (h, tt))
-part before (ItemKey a) h = (tt, (h, tt))
+part : (before : Data) (k : Hop) → HasWhole before → HasWhole (entered_json before k)
+part before (FieldHop n) h = (tt, (h, tt))
+part before (ItemHop a) h = (tt, (h, tt))
 
-parts : (table : List ℕ) (before : Data) (ks : List Key) → HasWhole before → AreSentKeys table ks
+parts : (table : List ℕ) (before : Data) (ks : List Hop) → HasWhole before → AreSentKeys table ks
     → ItemsHaveWhole (items_of (parts_from before ks))
 parts table before [] h sent = tt
 parts table before (k ∷ ks) h sent = (part before k h, parts table (key_json k) ks (key table k sent.0) sent.1)
 
-last : (table : List ℕ) (before : Data) (ks : List Key) → HasWhole before → AreSentKeys table ks → HasWhole (last_from before ks)
+last : (table : List ℕ) (before : Data) (ks : List Hop) → HasWhole before → AreSentKeys table ks → HasWhole (last_from before ks)
 last table before [] h sent = h
 last table before (k ∷ ks) h sent = last table (key_json k) ks (key table k sent.0) sent.1
 
@@ -61,15 +61,15 @@ one_more (x ∷ ds) d h k = (h.0, one_more ds d h.1 k)
 root : HasWhole root_json
 root = omega arith
 
-place : (table : List ℕ) (p : Place) → AreSentKeys table (keys_from_root (element_of p)) → ItemsHaveWhole (items_of (parts_of p))
-place table (At e) h = parts table root_json (keys_from_root e) root h
+place : (table : List ℕ) (p : Place) → AreSentKeys table (hops_from_root (element_of p)) → ItemsHaveWhole (items_of (parts_of p))
+place table (At e) h = parts table root_json (hops_from_root e) root h
 place table (HeadOf l) h =
-    one_more (parts_from root_json (keys_from_root l)) (phrase (codes "l") (last_from root_json (keys_from_root l) ∷ []))
-    (parts table root_json (keys_from_root l) root h)
-    (tt, (last table root_json (keys_from_root l) root h, tt))
+    one_more (parts_from root_json (hops_from_root l)) (phrase (codes "l") (last_from root_json (hops_from_root l) ∷ []))
+    (parts table root_json (hops_from_root l) root h)
+    (tt, (last table root_json (hops_from_root l) root h, tt))
 
-last_key : (table : List ℕ) (p : Place) → AreSentKeys table (keys_from_root (element_of p)) → HasWhole (last_json p)
-last_key table (At e) h = last table root_json (keys_from_root e) root h
+last_key : (table : List ℕ) (p : Place) → AreSentKeys table (hops_from_root (element_of p)) → HasWhole (last_json p)
+last_key table (At e) h = last table root_json (hops_from_root e) root h
 last_key table (HeadOf l) h = omega arith
 
 value : (v : Value) → IsWithinLimits v → HasWhole (json_of v)
@@ -105,3 +105,12 @@ op_form-op_line table s sent utf8 =
     let shallow : depth (operation_json s) ≤ 127 = omega (arith, depth-operation_json s) in
     ap (and_then (operation_form table)) (json_form-read (op_line s) d utf8 (read-compact_text d (operation table s sent) shallow))
     ∙ operation_back table s sent
+
+pub hello_form-vector_line : (table : List ℕ) (v : Vector) → IsSentVector table 0 v → IsUtf8 (vector_line v)
+    → hello_form table (vector_line v) ≡ Ok v
+hello_form-vector_line table v sent utf8 =
+    let d = hello_json v in
+    let whole : HasWhole (hello_json v) = (tt, (pairs table 0 v sent, tt)) in
+    let shallow : depth (hello_json v) ≤ 127 = omega (arith, depth-hello_json v) in
+    ap (λ r. and_then (hello_of table) (and_then phrase_form r)) (json_form-read (vector_line v) d utf8 (read-compact_text d whole shallow))
+    ∙ hello_back table v sent

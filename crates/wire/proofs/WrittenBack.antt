@@ -14,16 +14,16 @@ use Rattle.semantics.specs.Ids.{OpId, id_at}
 use Rattle.semantics.specs.Elements.{Element, Doc, Field, Item, Place, At, HeadOf, Tag, AsMap, AsList, AsRegister, Value, Plain, EmptyMap}
 use Rattle.semantics.specs.Elements.{EmptyList, Null, Boolean, Whole, Text}
 use Rattle.semantics.specs.Operations.{Mutation, Assign, Insert, Delete}
-use Rattle.semantics.specs.Paths.{Key, FieldKey, ItemKey, down, keys_from_root}
+use Rattle.semantics.specs.Paths.{Hop, FieldHop, ItemHop, down, hops_from_root}
 use Rattle.semantics.specs.Stamped.{Stamped}
 use Rattle.semantics.specs.Vectors.{Vector}
 use Rattle.serde_json.specs.Data.{Data, null, boolean, number, string, array, object, unsigned, negative, float, Items, no_items, item}
 use Rattle.serde_json.specs.Data.{no_members, member}
 use Rattle.serde_json.specs.View.{items_of}
 use Rattle.operation.specs.cursor.Places.{LastKey, DocKey, FieldName, ItemId, HeadKey}
-use Rattle.operation.proofs.cursor.RootPaths.{keys_from_root-down}
+use Rattle.operation.proofs.cursor.RootPaths.{hops_from_root-down}
 use Rattle.operation.specs.value.Forms.{json_of, value_form}
-use Rattle.json_lines.specs.Forms.{and_then, list_form, number_form, phrase_form, phrase_of, text_form, with_parts}
+use Rattle.wire.specs.Forms.{and_then, list_form, number_form, phrase_form, phrase_of, text_form, with_parts}
 use Rattle.wire.specs.Members.{counter_form, id_of, limited_form, member_form, member_of, replica_form}
 use Rattle.wire.specs.Messages.{hello_json, hello_of, only_vector}
 use Rattle.wire.specs.Operations.{head_json, id_json, last_from, last_json, mutation_json, operation_json, parts_from, path_json, phrase}
@@ -260,26 +260,26 @@ path_in table d xs h =
 -- the parts from one key on, and the last key, lead from f to the element at these keys, or to the head of its list
 abbrev LeadTo : Element → Data → List Data → Data → Place → Type 0
 LeadTo f before ds last p =
-    ((ks : List Key) × (p ≡ At (down f ks)) × (ds ≡ parts_from before ks) × (last ≡ last_from before ks))
-    ⊎ ((ks : List Key) × (p ≡ HeadOf (down f ks)) × (ds ≡ parts_from before ks ++ phrase (codes "l") (last_from before ks ∷ []) ∷ [])
+    ((ks : List Hop) × (p ≡ At (down f ks)) × (ds ≡ parts_from before ks) × (last ≡ last_from before ks))
+    ⊎ ((ks : List Hop) × (p ≡ HeadOf (down f ks)) × (ds ≡ parts_from before ks ++ phrase (codes "l") (last_from before ks ∷ []) ∷ [])
     × (last ≡ head_json))
 
 -- one key more in front
 one_field : (f : Element) (before : Data) (n : List ℕ) (ds : List Data) (last : Data) (p : Place) → LeadTo (Field f n) (string n) ds last p
     → LeadTo f before (part_data before AsMap ∷ ds) last p
-one_field f before n ds last p (inl l) = inl (FieldKey n ∷ l.0, l.1, ap (λ es. part_data before AsMap ∷ es) l.2, l.3)
-one_field f before n ds last p (inr l) = inr (FieldKey n ∷ l.0, l.1, ap (λ es. part_data before AsMap ∷ es) l.2, l.3)
+one_field f before n ds last p (inl l) = inl (FieldHop n ∷ l.0, l.1, ap (λ es. part_data before AsMap ∷ es) l.2, l.3)
+one_field f before n ds last p (inr l) = inr (FieldHop n ∷ l.0, l.1, ap (λ es. part_data before AsMap ∷ es) l.2, l.3)
 
 one_item : (f : Element) (before : Data) (a : OpId) (ds : List Data) (last : Data) (p : Place) → LeadTo (Item f a) (id_json a) ds last p
     → LeadTo f before (part_data before AsList ∷ ds) last p
-one_item f before a ds last p (inl l) = inl (ItemKey a ∷ l.0, l.1, ap (λ es. part_data before AsList ∷ es) l.2, l.3)
-one_item f before a ds last p (inr l) = inr (ItemKey a ∷ l.0, l.1, ap (λ es. part_data before AsList ∷ es) l.2, l.3)
+one_item f before a ds last p (inl l) = inl (ItemHop a ∷ l.0, l.1, ap (λ es. part_data before AsList ∷ es) l.2, l.3)
+one_item f before a ds last p (inr l) = inr (ItemHop a ∷ l.0, l.1, ap (λ es. part_data before AsList ∷ es) l.2, l.3)
 
 at_last : (f : Element) (before : Data) (t : Tag) (last : LastKey) (p : Place) → place_at_last f (Some t) last ≡ Ok p
     → LeadTo f before (part_data before t ∷ []) (key_data last) p
 at_last f before AsList HeadKey p h = inr ([], sym (same_ok (HeadOf f) p h), refl, refl)
-at_last f before AsList (ItemId a) p h = inl (ItemKey a ∷ [], sym (same_ok (At (Item f a)) p h), refl, refl)
-at_last f before AsMap (FieldName n) p h = inl (FieldKey n ∷ [], sym (same_ok (At (Field f n)) p h), refl, refl)
+at_last f before AsList (ItemId a) p h = inl (ItemHop a ∷ [], sym (same_ok (At (Item f a)) p h), refl, refl)
+at_last f before AsMap (FieldName n) p h = inl (FieldHop n ∷ [], sym (same_ok (At (Field f n)) p h), refl, refl)
 at_last f before AsList DocKey p h = absurd (cc)
 at_last f before AsList (FieldName n) p h = absurd (cc)
 at_last f before AsMap DocKey p h = absurd (cc)
@@ -290,6 +290,7 @@ at_last f before AsRegister (FieldName n) p h = absurd (cc)
 at_last f before AsRegister (ItemId a) p h = absurd (cc)
 at_last f before AsRegister HeadKey p h = absurd (cc)
 
+-- what stands below an element is written so that its parts lead there again, by the list of what was entered
 below : (f : Element) (before : Data) (t : Tag) (xs : List Entered) (last : LastKey) (p : Place) → place_below f (Some t) xs last ≡ Ok p
     → LeadTo f before (part_data before t ∷ parts_data xs) (key_data last) p
 below f before t [] last p h = at_last f before t last p h
@@ -328,12 +329,12 @@ below f before t (x ∷ xs) last p h = by t x.key refl (λ e d there. below e d 
 led : (ds : List Data) (last : Data) (p : Place) → LeadTo Doc root_json ds last p
     → (array (items_of ds) ≡ path_json p) × (last ≡ last_json p)
 led ds last p (inl l) =
-    let keys : l.0 ≡ keys_from_root (down Doc l.0) = sym (keys_from_root-down l.0) in (
+    let keys : l.0 ≡ hops_from_root (down Doc l.0) = sym (hops_from_root-down l.0) in (
       ap (λ (es : List Data). array (items_of es)) (l.2 ∙ ap (parts_from root_json) keys) ∙ ap path_json (sym l.1),
       l.3 ∙ ap (last_from root_json) keys ∙ ap last_json (sym l.1),
     )
 led ds last p (inr l) =
-    let keys : l.0 ≡ keys_from_root (down Doc l.0) = sym (keys_from_root-down l.0) in (
+    let keys : l.0 ≡ hops_from_root (down Doc l.0) = sym (hops_from_root-down l.0) in (
       ap (λ (es : List Data). array (items_of es))
           (l.2 ∙ ap (λ ks. parts_from root_json ks ++ phrase (codes "l") (last_from root_json ks ∷ []) ∷ []) keys)
           ∙ ap path_json (sym l.1),

@@ -10,8 +10,8 @@ use Rattle.semantics.specs.Vectors.{Vector}
 use Rattle.serde_json.specs.Data.{Data}
 use Rattle.serde_json.specs.Read.{read}
 use Rattle.wire.specs.Bundles.{Readable, all_or_bad, bundle_form, line_readable, lines_readable, tail_readable}
-use Rattle.json_lines.specs.Forms.{and_then, json_form, phrase_form}
-use Rattle.json_lines.specs.Lines.{Bad, cut}
+use Rattle.wire.specs.Forms.{and_then, json_form, phrase_form}
+use Rattle.wire.specs.Lines.{Bad, cut}
 use Rattle.wire.specs.Messages.{hello_form, hello_json, hello_of}
 use Rattle.wire.specs.Operations.{operation_json}
 use Rattle.wire.specs.Reading.{op_form, operation_form}

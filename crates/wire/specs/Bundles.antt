@@ -4,7 +4,7 @@ use Rattle.std.specs.Option.{option_map_or}
 use Rattle.ids.specs.declared.refusal.Refusal.{Refusal}
 use Rattle.ids.specs.declared.refusal.Refusal.TheVariants.{NoMemory, BadLine}
 use Rattle.semantics.specs.Stamped.{Stamped}
-use Rattle.json_lines.specs.Lines.{Bad, cut}
+use Rattle.wire.specs.Lines.{Bad, cut}
 use Rattle.wire.specs.Messages.{op_line}
 use Rattle.wire.specs.Reading.{op_form}
 

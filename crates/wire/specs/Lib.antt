@@ -1,10 +1,12 @@
--- What operations, vectors and their parts are, as JSON.
+-- What lines and their parts are, and operations and vectors as JSON.
+pub mod Forms
+pub mod Lines
 pub mod Members
 pub mod Vectors
 pub mod Places
 pub mod Operations
 pub mod Reading
-pub mod Meanings
+pub mod Parts
 pub mod Sent
 pub mod Writing
 pub mod Messages

@@ -7,7 +7,7 @@ use Rattle.ids.specs.declared.refusal.Refusal.TheVariants.{UnknownReplica, BadLi
 use Rattle.semantics.specs.Limits.{most_counter, most_replica}
 use Rattle.semantics.specs.Ids.{OpId, id_at}
 use Rattle.serde_json.specs.Data.{Data, Items, no_items, item}
-use Rattle.json_lines.specs.Forms.{and_then, list_form, number_form}
+use Rattle.wire.specs.Forms.{and_then, list_form, number_form}
 
 -- a number from 1 to the limit
 abbrev pub limited_form : ℕ → Data → Result ℕ Refusal

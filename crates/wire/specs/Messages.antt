@@ -7,7 +7,7 @@ use Rattle.semantics.specs.Stamped.{Stamped}
 use Rattle.semantics.specs.Vectors.{Vector}
 use Rattle.serde_json.specs.Data.{Data, Items, no_items, item}
 use Rattle.serde_json.specs.Written.{compact_text}
-use Rattle.json_lines.specs.Forms.{and_then, json_form, phrase_form}
+use Rattle.wire.specs.Forms.{and_then, json_form, phrase_form}
 use Rattle.wire.specs.Vectors.{vector_form, vector_json}
 use Rattle.wire.specs.Operations.{operation_json, phrase}
 

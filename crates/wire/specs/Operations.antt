@@ -3,7 +3,7 @@ use Rattle.std.specs.Prelude.{ℕ, List, [], ◌∷◌, ◌++◌, codes}
 use Rattle.ids.specs.declared.id.OpId.{OpId}
 use Rattle.semantics.specs.Elements.{Place, At, HeadOf}
 use Rattle.semantics.specs.Operations.{Mutation, Assign, Insert, Delete}
-use Rattle.semantics.specs.Paths.{Key, FieldKey, ItemKey, keys_from_root}
+use Rattle.semantics.specs.Paths.{Hop, FieldHop, ItemHop, hops_from_root}
 use Rattle.semantics.specs.Stamped.{Stamped}
 use Rattle.serde_json.specs.Data.{Data, string, array, item}
 use Rattle.serde_json.specs.View.{items_of}
@@ -27,29 +27,29 @@ abbrev pub head_json : Data
 head_json = count 1
 
 -- the key of a field or an item
-abbrev pub key_json : Key → Data
-key_json (FieldKey n) = string n
-key_json (ItemKey a) = id_json a
+abbrev pub key_json : Hop → Data
+key_json (FieldHop n) = string n
+key_json (ItemHop a) = id_json a
 
 -- one part of a path: a key, with the tag of what is entered there, the map before a field and the list before an item
-abbrev pub entered_json : Data → Key → Data
-entered_json before (FieldKey n) = phrase (codes "m") (before ∷ [])
-entered_json before (ItemKey a) = phrase (codes "l") (before ∷ [])
+abbrev pub entered_json : Data → Hop → Data
+entered_json before (FieldHop n) = phrase (codes "m") (before ∷ [])
+entered_json before (ItemHop a) = phrase (codes "l") (before ∷ [])
 
 -- the parts from one key on
-abbrev pub parts_from : Data → List Key → List Data
+abbrev pub parts_from : Data → List Hop → List Data
 parts_from before [] = []
 parts_from before (k ∷ ks) = entered_json before k ∷ parts_from (key_json k) ks
 
 -- the last key, from one key on
-abbrev pub last_from : Data → List Key → Data
+abbrev pub last_from : Data → List Hop → Data
 last_from before [] = before
 last_from before (k ∷ ks) = last_from (key_json k) ks
 
 -- the keys that a place stands in; a head stands in its list
 abbrev pub parts_of : Place → List Data
-parts_of (At e) = parts_from root_json (keys_from_root e)
-parts_of (HeadOf l) = parts_from root_json (keys_from_root l) ++ phrase (codes "l") (last_from root_json (keys_from_root l) ∷ []) ∷ []
+parts_of (At e) = parts_from root_json (hops_from_root e)
+parts_of (HeadOf l) = parts_from root_json (hops_from_root l) ++ phrase (codes "l") (last_from root_json (hops_from_root l) ∷ []) ∷ []
 
 -- what a place stands in, from the root down
 abbrev pub path_json : Place → Data
@@ -57,7 +57,7 @@ path_json p = array (items_of (parts_of p))
 
 -- its own key
 abbrev pub last_json : Place → Data
-last_json (At e) = last_from root_json (keys_from_root e)
+last_json (At e) = last_from root_json (hops_from_root e)
 last_json (HeadOf l) = head_json
 
 -- what is done, and the value that is written

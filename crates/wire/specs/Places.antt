@@ -10,7 +10,7 @@ use Rattle.semantics.specs.Elements.{Element, Doc, Field, Item, Place, At, HeadO
 use Rattle.serde_json.specs.Data.{Data, Items, no_items, item}
 use Rattle.serde_json.specs.Find.{as_array, as_str}
 use Rattle.operation.specs.cursor.Places.{LastKey, DocKey, FieldName, ItemId, HeadKey}
-use Rattle.json_lines.specs.Forms.{and_then, list_form, number_form, phrase_form}
+use Rattle.wire.specs.Forms.{and_then, list_form, number_form, phrase_form}
 use Rattle.wire.specs.Members.{id_of, member_of}
 
 -- ---- keys

@@ -8,7 +8,7 @@ use Rattle.semantics.specs.Operations.{Mutation, Assign, Insert, Delete}
 use Rattle.semantics.specs.Stamped.{Stamped}
 use Rattle.serde_json.specs.Data.{Data, Items, no_items, item}
 use Rattle.operation.specs.value.Forms.{value_form}
-use Rattle.json_lines.specs.Forms.{and_then, json_form, phrase_form}
+use Rattle.wire.specs.Forms.{and_then, json_form, phrase_form}
 use Rattle.wire.specs.Members.{member_form}
 use Rattle.wire.specs.Places.{place_form}
 use Rattle.wire.specs.Vectors.{vector_form}

@@ -1,5 +1,5 @@
 -- The operations that a line can carry with a table of replicas, and what of that types keep.
-use Rattle.std.specs.Prelude.{◌≡◌, ℕ, ◌<◌, ◌≤◌, ⊤, IsTrue, Bool, true, List, [], ◌∷◌, length, Ok}
+use Rattle.std.specs.Prelude.{ℕ, ◌<◌, ◌≤◌, ⊤, IsTrue, Bool, true, List, [], ◌∷◌, length}
 use Rattle.std.specs.List.{list_all}
 use Rattle.ids.specs.Configurations.{is_from_one_to}
 use Rattle.ids.specs.Members.{is_member}
@@ -8,13 +8,11 @@ use Rattle.semantics.specs.Ids.{OpId}
 use Rattle.semantics.specs.Elements.{Place}
 use Rattle.semantics.specs.Faults.{is_of_members}
 use Rattle.semantics.specs.Operations.{Mutation, Assign, Insert, Delete, element_of}
-use Rattle.semantics.specs.Paths.{Key, FieldKey, ItemKey, keys_from_root}
+use Rattle.semantics.specs.Paths.{Hop, FieldHop, ItemHop, hops_from_root}
 use Rattle.semantics.specs.Stamped.{Stamped}
 use Rattle.semantics.specs.Vectors.{Vector}
 use Rattle.operation.specs.cursor.Places.{depth_of}
 use Rattle.operation.specs.value.Forms.{IsWithinLimits}
-use Rattle.wire.specs.Operations.{mutation_json}
-use Rattle.wire.specs.Reading.{mutation_form}
 
 -- the id of a member's operation, whose numbers are within their limits
 abbrev pub IsSentId : List ℕ → OpId → Type 0
@@ -27,12 +25,12 @@ IsSentVector table p [] = ⊤
 IsSentVector table p (a ∷ v) = (p < a.replica) × IsSentId table a × IsSentVector table a.replica v
 
 -- a field's key of at most 256 bytes, or the id of a member's item
-abbrev pub IsSentKey : List ℕ → Key → Type 0
-IsSentKey table (FieldKey n) = length n ≤ most_key_bytes
-IsSentKey table (ItemKey a) = IsSentId table a
+abbrev pub IsSentKey : List ℕ → Hop → Type 0
+IsSentKey table (FieldHop n) = length n ≤ most_key_bytes
+IsSentKey table (ItemHop a) = IsSentId table a
 
 -- such keys
-abbrev pub AreSentKeys : List ℕ → List Key → Type 0
+abbrev pub AreSentKeys : List ℕ → List Hop → Type 0
 AreSentKeys table [] = ⊤
 AreSentKeys table (k ∷ ks) = IsSentKey table k × AreSentKeys table ks
 
@@ -46,7 +44,7 @@ IsSentMutation Delete = ⊤
 pub record IsSent (table : List ℕ) (s : Stamped) : Type 0 where
   pub id : IsSentId table s.id
   pub vector : IsSentVector table 0 s.vector
-  pub keys : AreSentKeys table (keys_from_root (element_of s.place))
+  pub keys : AreSentKeys table (hops_from_root (element_of s.place))
   pub few : depth_of s.place ≤ most_keys
   pub mutation : IsSentMutation s.mutation
 
@@ -61,16 +59,16 @@ abbrev pub are_counters : Vector → Bool
 are_counters v = list_all (λ a. is_counter a.counter) v
 
 -- the key is a field's, or has such a counter
-abbrev pub key_counted : Key → Bool
-key_counted (FieldKey n) = true
-key_counted (ItemKey a) = is_counter a.counter
+abbrev pub key_counted : Hop → Bool
+key_counted (FieldHop n) = true
+key_counted (ItemHop a) = is_counter a.counter
 
 -- all names are of members, and all counters are those of the wire: in its id, its vector and its place
 pub record CanBeSent (table : List ℕ) (s : Stamped) : Type 0 where
   pub members : IsTrue (is_of_members table s)
   pub id : IsTrue (is_counter s.id.counter)
   pub vector : IsTrue (are_counters s.vector)
-  pub items : IsTrue (list_all key_counted (keys_from_root (element_of s.place)))
+  pub items : IsTrue (list_all key_counted (hops_from_root (element_of s.place)))
 
 -- the number of a replica, from 1 to the greatest of 32 bits
 abbrev pub IsReplicaNumber : ℕ → Type 0
@@ -82,23 +80,16 @@ AreReplicaNumbers [] = ⊤
 AreReplicaNumbers (a ∷ v) = IsReplicaNumber a.replica × AreReplicaNumbers v
 
 -- what the type of a key keeps: at most 256 bytes of a name, or the number of a replica
-abbrev pub IsTypedKey : Key → Type 0
-IsTypedKey (FieldKey n) = length n ≤ most_key_bytes
-IsTypedKey (ItemKey a) = IsReplicaNumber a.replica
+abbrev pub IsTypedKey : Hop → Type 0
+IsTypedKey (FieldHop n) = length n ≤ most_key_bytes
+IsTypedKey (ItemHop a) = IsReplicaNumber a.replica
 
 -- such keys
-abbrev pub AreTypedKeys : List Key → Type 0
+abbrev pub AreTypedKeys : List Hop → Type 0
 AreTypedKeys [] = ⊤
 AreTypedKeys (k ∷ ks) = IsTypedKey k × AreTypedKeys ks
 
 -- what the types of a place keep
 pub record IsTypedPlace (p : Place) : Type 0 where
-  pub keys : AreTypedKeys (keys_from_root (element_of p))
+  pub keys : AreTypedKeys (hops_from_root (element_of p))
   pub few : depth_of p ≤ most_keys
-
--- what the types of an operation keep: of its ids, its place, and the value that it writes
-pub record IsTyped (s : Stamped) : Type 0 where
-  pub id : IsReplicaNumber s.id.replica
-  pub vector : AreReplicaNumbers s.vector
-  pub place : IsTypedPlace s.place
-  pub mutation : mutation_form (mutation_json s.mutation) ≡ Ok s.mutation

@@ -6,7 +6,7 @@ use Rattle.semantics.specs.Ids.{OpId, id_at}
 use Rattle.semantics.specs.Vectors.{Vector}
 use Rattle.serde_json.specs.Data.{Data, Items, no_items, item, number, array, unsigned}
 use Rattle.serde_json.specs.View.{items_of}
-use Rattle.json_lines.specs.Forms.{and_then, list_form}
+use Rattle.wire.specs.Forms.{and_then, list_form}
 use Rattle.wire.specs.Members.{counter_form, member_of, replica_form}
 
 -- ---- reading

@@ -7,8 +7,8 @@ use Rattle.json.specs.Written.{Written}
 use Rattle.serde_json.specs.Data.{Data}
 use Rattle.serde_json.specs.View.{items_of}
 use Rattle.serde_json.specs.Written.{items_outline, outline}
-use Rattle.semantics.specs.Paths.{Key}
-use Rattle.operation.specs.cursor.Meanings.{hop_of}
+use Rattle.semantics.specs.Paths.{Hop as TheHop}
+use Rattle.operation.specs.cursor.Steps.{hop_of}
 use Rattle.operation.specs.cursor.declared.hop.Hop.{Hop}
 use Rattle.wire.specs.Operations.{key_json, root_json}
 
@@ -26,11 +26,11 @@ pub record IsWritten (ts : List Token) (old new : Written) : Type 0 where
   pub before : new.before ≡ old.before
 
 -- the key before the first hop is the root's
-abbrev pub key_before : Option Key → Data
+abbrev pub key_before : Option TheHop → Data
 key_before None = root_json
 key_before (Some k) = key_json k
 
 -- the key of a hop, if there is one
-abbrev pub key_of : Option (Bor Hop) → Option Key
+abbrev pub key_of : Option (Bor Hop) → Option TheHop
 key_of None = None
 key_of (Some h) = Some (hop_of h.now)

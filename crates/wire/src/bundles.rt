@@ -4,19 +4,19 @@ ghost use Rattle.std.specs.Prelude.{◌≡◌, ◌⊎◌, ◌++◌, ℕ, List, [
 ghost use Rattle.std.specs.List.{All};
 ghost use Rattle.ids.specs.declared.refusal.Refusal.TheVariants.{NoMemory};
 ghost use Rattle.semantics.specs.Stamped.{Stamped};
-ghost use Rattle.operation.specs.Meanings.{stamped_of};
+ghost use Rattle.operation.specs.Ops.{stamped_of};
 ghost use Rattle.wire.specs.Bundles.{IsBadOf, bundle_form, bundle_text, readable};
-ghost use Rattle.json_lines.specs.Forms.{json_form};
-ghost use Rattle.json_lines.specs.Lines.{cut};
+ghost use Rattle.wire.specs.Forms.{json_form};
+ghost use Rattle.wire.specs.Lines.{cut};
 ghost use Rattle.wire.specs.Messages.{op_line};
 ghost use Rattle.wire.specs.Operations.{operation_json};
 ghost use Rattle.wire.specs.Reading.{op_form};
 ghost use Rattle.wire.specs.Sent.{CanBeSent};
 
+use crate::lines::{LINE_END, Lines};
 use crate::messages::read_op;
 use crate::writing::with_line;
 use ids::{Refusal, ReplicaTable};
-use json_lines::{LINE_END, Lines};
 use operation::{Op, Shared};
 use std::alloc::{AllocError, Global};
 

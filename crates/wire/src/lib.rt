@@ -1,12 +1,14 @@
-//! The wire: operations, version vectors and bundles of operations, as lines of JSON.
+//! The wire: operations, version vectors and bundles of operations, as lines of JSON. The lines of a text and the parts of a line are
+//! read by the same functions for scripts.
 #![tactic(auto)]
 
 mod bundles;
+mod canonical;
 mod escapes;
-mod guess;
+mod forms;
+mod lines;
 mod members;
 mod messages;
-mod operations;
 mod places;
 mod reading;
 mod scan;
@@ -17,9 +19,11 @@ pub use bundles::{
     LinesRead, bundles_are_read_back, bundles_are_written_alike, read_bundle, read_lines,
     write_bundle,
 };
+pub use forms::{json_of, list_in, number_in, phrase_in, text_in};
+pub use lines::{LINE_END, Line, Lines};
 pub use messages::{
     lines_are_read_back, operations_are_read_back, read_op, read_vector,
     what_is_read_is_written_alike, write_op, write_vector,
 };
-pub use operations::{id_value, operation_value};
-pub use vectors::{vector_in, vector_value};
+pub use vectors::vector_in;
+pub use writing::{put_id, put_op, put_scalar, put_vector};

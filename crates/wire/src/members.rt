@@ -5,8 +5,8 @@ ghost use Rattle.std.specs.Prelude.{◌≡◌, ◌≤◌, IfOk};
 ghost use Rattle.serde_json.specs.View.{view, items_view};
 ghost use Rattle.wire.specs.Members.{counter_form, id_of, limited_form, member_form, member_of, replica_form};
 
+use crate::forms::{list_in, number_in};
 use ids::{MOST_COUNTER, OpId, Refusal, ReplicaId, ReplicaTable};
-use json_lines::{list_in, number_in};
 use serde_json::Value;
 
 /// The greatest number of a replica.

@@ -1,26 +1,28 @@
 //! Messages: an operation or a vector, each as the text of one line without its line feed.
 #![tactic(auto, using(crate::proofs::WrongLengths::wrong_lengths))]
 
-ghost use Rattle.std.specs.Prelude.{◌≡◌, ℕ, List, Ok, IfOk, IsTrue, IsUtf8, length};
+ghost use Rattle.std.specs.Prelude.{◌≡◌, ℕ, List, Ok, OnOk, IfOk, IsTrue, IsUtf8, length};
 ghost use Rattle.semantics.specs.Tables.{by_table};
 ghost use Rattle.serde_json.specs.View.{view, items_view};
-ghost use Rattle.operation.specs.Meanings.{stamped_of};
-ghost use Rattle.json_lines.specs.Forms.{IsRead, json_form};
+ghost use Rattle.operation.specs.Ops.{stamped_of};
+ghost use Rattle.wire.specs.Forms.{IsRead, json_form};
 ghost use Rattle.wire.specs.Messages.{hello_form, hello_json, only_vector, op_line, vector_line};
 ghost use Rattle.semantics.specs.Stamped.{Stamped};
 ghost use Rattle.semantics.specs.Vectors.{Vector};
 ghost use Rattle.wire.specs.Operations.{operation_json};
 ghost use Rattle.wire.specs.Reading.{op_form, operation_form};
 ghost use Rattle.wire.specs.Sent.{AreReplicaNumbers, CanBeSent, IsSent, are_counters};
+ghost use Rattle.wire.specs.Writing.{IsWritten, tokens_of};
 
-use crate::guess::guess_op;
+use crate::canonical::read_canonical;
+use crate::forms::{json_of, phrase_in};
 use crate::reading::operation_in;
-use crate::vectors::{vector_in, vector_value};
-use crate::writing::with_line;
+use crate::vectors::vector_in;
+use crate::writing::{put_vector, with_line};
 use ids::{Refusal, ReplicaTable};
-use json_lines::{json_of, phrase_in};
+use json::Writer;
 use operation::{Op, Shared, VersionVector};
-use serde_json::{Value, json};
+use serde_json::Value;
 use std::alloc::{AllocError, Global};
 
 /// Room for a line of usual length.
@@ -53,19 +55,24 @@ pub fn write_vector(
         (λ text. IsTrue (are_counters (by_table table.now vector.now))
         → hello_form table.now text.items ≡ Ok (by_table table.now vector.now)) }
 {
-    Ok(hello_value(alloc, table, vector)?.to_vec(alloc)?)
+    let mut out = Writer::new(Vec::with_capacity(alloc, LINE_BYTES)?);
+    put_hello(&mut out, table, vector)?;
+    Ok(out.into_inner())
 }
 
-fn hello_value(
-    alloc: Global,
+/// Writes a vector after its word.
+fn put_hello(
+    out: &mut Writer,
     table: &ReplicaTable,
     vector: &VersionVector,
-) -> Result<Value, AllocError>
-    ensures json { IfOk result (λ v. view v ≡ hello_json (by_table table.now vector.now)) }
-    ensures typed { IfOk result (λ _. AreReplicaNumbers (by_table table.now vector.now)) }
+) -> Result<(), AllocError>
+    ensures json { OnOk result (IsWritten (tokens_of (hello_json (by_table table.now vector.now))) out.old out.new) }
+    ensures typed { OnOk result (AreReplicaNumbers (by_table table.now vector.now)) }
 {
-    let vector = vector_value(alloc, table, vector)?;
-    json!(in alloc; ["hello", vector])
+    out.begin_array()?;
+    out.string("hello")?;
+    put_vector(out, table, vector)?;
+    out.end_array()
 }
 
 /// The operation on a line, its vector as wide as the table.
@@ -92,7 +99,7 @@ fn op_in(alloc: Global, text: &[u8], table: &ReplicaTable) -> Result<Op, Refusal
     ensures read { IsRead (stamped_of table.now) result (op_form table.now text.now) }
     ensures width { IfOk result (λ o. length o.deps ≡ length table.now) }
 {
-    if let Some(op) = guess_op(alloc, text, table) {
+    if let Some(op) = read_canonical(alloc, text, table) {
         return Ok(op);
     }
     let value = json_of(alloc, text)?;

@@ -5,20 +5,20 @@ ghost use Rattle.std.specs.Prelude.{◌≡◌, IfOk, MatchResult, Ok, Err, lengt
 ghost use Rattle.serde_json.specs.View.{view, items_view};
 ghost use Rattle.semantics.specs.Operations.{Delete};
 ghost use Rattle.semantics.specs.Tables.{by_table};
-ghost use Rattle.operation.specs.value.Meanings.{value_of};
-ghost use Rattle.operation.specs.Meanings.{mutation_of, stamped_of};
-ghost use Rattle.json_lines.specs.Forms.{IsRead, IsOrNoMemory};
-ghost use Rattle.wire.specs.Meanings.{fields_meant};
+ghost use Rattle.operation.specs.value.Values.{value_of};
+ghost use Rattle.operation.specs.Ops.{mutation_of, stamped_of};
+ghost use Rattle.wire.specs.Forms.{IsRead, IsOrNoMemory};
+ghost use Rattle.wire.specs.Parts.{fields_meant};
 ghost use Rattle.wire.specs.Members.{member_form};
 ghost use Rattle.wire.specs.Places.{place_form};
 ghost use Rattle.wire.specs.Reading.{fields_form, five_parts, mutation_form, nothing_more, only_value, operation_form};
 ghost use Rattle.wire.specs.Vectors.{vector_form};
 
+use crate::forms::phrase_in;
 use crate::members::member_in;
 use crate::places::place_in;
 use crate::vectors::vector_in;
 use ids::{OpId, Refusal, ReplicaTable};
-use json_lines::phrase_in;
 use operation::{Mutation, Op, Place, Val, VersionVector};
 use serde_json::Value;
 use std::alloc::Global;

@@ -69,12 +69,12 @@ impl<'a> Scan<'a> {
         ensures { length vector.new ≡ length vector.old }
     {
         self.bytes(b",[")?;
-        for near in 0..table.len() {
+        for hint in 0..table.len() {
             if self.peek()? == b']' {
                 break;
             }
             let id = self.pair()?;
-            let index = index_near(table, near, id.replica)?;
+            let index = index_with_hint(table, hint, id.replica)?;
             vector.raise(index, id.counter);
             self.takes(b',');
         }
@@ -277,12 +277,12 @@ fn id_of(counter: u64, replica: u64) -> Option<OpId> {
     Some(OpId { counter, replica })
 }
 
-/// The index of a replica. It is looked for at this one first, where it stands if all members before it have a pair.
-fn index_near(table: &ReplicaTable, near: usize, replica: ReplicaId) -> Option<usize>
+/// The index of a replica. Tries `hint` first, which is right when every earlier member has a pair.
+fn index_with_hint(table: &ReplicaTable, hint: usize, replica: ReplicaId) -> Option<usize>
     ensures { IfSome result (λ index. index < length table.now) }
 {
-    if table.at(near) == Some(replica) {
-        return Some(near);
+    if table.at(hint) == Some(replica) {
+        return Some(hint);
     }
     table.index_of(replica)
 }

@@ -1,19 +1,18 @@
-//! Version vectors in JSON: a list of pairs of a replica and its counter.
+//! Version vectors, read of JSON: a list of pairs of a replica and its counter.
 #![tactic(auto, using(crate::proofs::WrongLengths::wrong_lengths))]
 
 ghost use Rattle.std.specs.Prelude.{◌≡◌, ◌≤◌, IfOk, length};
 ghost use Rattle.semantics.specs.Tables.{by_table};
 ghost use Rattle.serde_json.specs.View.{view, items_view};
-ghost use Rattle.json_lines.specs.Forms.{IsRead};
-ghost use Rattle.wire.specs.Sent.{AreReplicaNumbers, IsReplicaNumber};
-ghost use Rattle.wire.specs.Vectors.{pair_form, pair_json, pairs_above, vector_form, vector_json};
+ghost use Rattle.wire.specs.Forms.{IsRead};
+ghost use Rattle.wire.specs.Vectors.{pair_form, pairs_above, vector_form};
 
+use crate::forms::list_in;
 use crate::members::{counter_in, replica_in};
 use ids::{OpId, Refusal, ReplicaTable};
-use json_lines::list_in;
 use operation::VersionVector;
-use serde_json::{Value, json};
-use std::alloc::{AllocError, Global};
+use serde_json::Value;
+use std::alloc::Global;
 
 /// A vector whose replicas are members, and rise.
 ///
@@ -63,36 +62,4 @@ fn pair_in(value: &Value) -> Result<OpId, Refusal>
     let replica = replica_in(replica)?;
     let counter = counter_in(counter)?;
     Ok(OpId { counter, replica })
-}
-
-/// The vector as JSON, which is indexed by the table.
-///
-/// # Errors
-/// `AllocError` if allocation fails.
-pub fn vector_value(
-    alloc: Global,
-    table: &ReplicaTable,
-    vector: &VersionVector,
-) -> Result<Value, AllocError>
-    ensures json { IfOk result (λ v. view v ≡ vector_json (by_table table.now vector.now)) }
-    ensures typed { IfOk result (λ _. AreReplicaNumbers (by_table table.now vector.now)) }
-{
-    let mut pairs = Vec::new(alloc);
-    let count = table.len().min(vector.width());
-    for index in 0..count {
-        let counter = vector.get(index);
-        if counter > 0 {
-            if let Some(replica) = table.at(index) {
-                pairs.push(pair_value(alloc, OpId { counter, replica })?)?;
-            }
-        }
-    }
-    Ok(Value::Array(pairs))
-}
-
-fn pair_value(alloc: Global, id: OpId) -> Result<Value, AllocError>
-    ensures json { IfOk result (λ v. view v ≡ pair_json id) }
-    ensures typed { IfOk result (λ _. IsReplicaNumber id.replica) }
-{
-    json!(in alloc; [id.replica.number(), id.counter])
 }

@@ -1,13 +1,13 @@
-//! Operations, as they are written: token by token into the text of their line, with no JSON value in between.
+//! Operations, their ids, vectors and values, as they are written: token by token into a text, with no JSON value in between.
 
 ghost use Rattle.std.specs.Prelude.{◌≡◌, ◌++◌, ◌∷◌, [], List, map, IfOk, Ok, OnOk};
 ghost use Rattle.serde_json.specs.Data.{Data};
 ghost use Rattle.semantics.specs.Elements.{Plain};
 ghost use Rattle.semantics.specs.Tables.{by_table};
-ghost use Rattle.operation.specs.cursor.Meanings.{hop_of};
+ghost use Rattle.operation.specs.cursor.Steps.{hop_of};
 ghost use Rattle.operation.specs.value.Forms.{IsWithinLimits, json_of, scalar_json};
-ghost use Rattle.operation.specs.value.Meanings.{scalar_of, value_of};
-ghost use Rattle.operation.specs.Meanings.{mutation_of, stamped_of};
+ghost use Rattle.operation.specs.value.Values.{scalar_of, value_of};
+ghost use Rattle.operation.specs.Ops.{mutation_of, stamped_of};
 ghost use Rattle.wire.specs.Messages.{op_line};
 ghost use Rattle.wire.specs.Operations.{entered_json, id_json, last_from, last_json, mutation_json, operation_json, parts_from};
 ghost use Rattle.wire.specs.Operations.{path_json, phrase, root_json};
@@ -38,7 +38,11 @@ pub(crate) fn with_line(text: Vec<u8>, op: &Op, table: &ReplicaTable) -> Result<
     Ok(out.into_inner())
 }
 
-fn put_op(out: &mut Writer, op: &Op, table: &ReplicaTable) -> Result<(), AllocError>
+/// Writes an operation, whose vector is indexed by the table.
+///
+/// # Errors
+/// `AllocError` if allocation fails.
+pub fn put_op(out: &mut Writer, op: &Op, table: &ReplicaTable) -> Result<(), AllocError>
     ensures json { OnOk result (IsWritten (tokens_of (operation_json (stamped_of table.now op.now))) out.old out.new) }
     ensures sent { OnOk result (CanBeSent table.now (stamped_of table.now op.now) → IsSent table.now (stamped_of table.now op.now)) }
 {
@@ -53,7 +57,10 @@ fn put_op(out: &mut Writer, op: &Op, table: &ReplicaTable) -> Result<(), AllocEr
 }
 
 /// Writes counter and replica.
-fn put_id(out: &mut Writer, id: OpId) -> Result<(), AllocError>
+///
+/// # Errors
+/// `AllocError` if allocation fails.
+pub fn put_id(out: &mut Writer, id: OpId) -> Result<(), AllocError>
     ensures { OnOk result (IsWritten (tokens_of (id_json id)) out.old out.new) }
 {
     out.begin_array()?;
@@ -74,7 +81,10 @@ fn put_pair(out: &mut Writer, id: OpId) -> Result<(), AllocError>
 }
 
 /// Writes a pair for each counter above 0 of a vector indexed by the table.
-fn put_vector(
+///
+/// # Errors
+/// `AllocError` if allocation fails.
+pub fn put_vector(
     out: &mut Writer,
     table: &ReplicaTable,
     vector: &VersionVector,
@@ -209,7 +219,11 @@ fn put_value(out: &mut Writer, value: &Val) -> Result<(), AllocError>
     }
 }
 
-fn put_scalar(out: &mut Writer, scalar: &Scalar) -> Result<(), AllocError>
+/// Writes a value that is no map and no list.
+///
+/// # Errors
+/// `AllocError` if allocation fails.
+pub fn put_scalar(out: &mut Writer, scalar: &Scalar) -> Result<(), AllocError>
     ensures json { OnOk result (IsWritten (tokens_of (scalar_json (scalar_of scalar.now))) out.old out.new) }
     ensures within { IsWithinLimits (Plain (scalar_of scalar.now)) }
 {

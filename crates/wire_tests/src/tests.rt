@@ -1,7 +1,7 @@
 //! Lines with values from the rules, and each call once where it succeeds.
 
 mod bundles;
-mod guesses;
+mod canonical_lines;
 mod operations;
 mod vectors;
 

@@ -26,10 +26,10 @@ pub answer-given : (E : Engine) (t k : ℕ) (m : Option Message) (v : Vector) �
 answer-given E t k m v e f = rw (e, f) (refl, refl)
 
 -- a hello that is refused, and not for memory, names a replica that isn't a member
-pub names_stranger : (E : Engine) (v : Vector) (why : Refusal) → (why ≡ NoMemory) ⊎ ((why ≡ UnknownReplica) × (names_members E v ≡ false))
+pub names_nonmember : (E : Engine) (v : Vector) (why : Refusal) → (why ≡ NoMemory) ⊎ ((why ≡ UnknownReplica) × (names_members E v ≡ false))
     → why ≡ UnknownReplica → names_members E v ≡ false
-names_stranger E v why (inl e) is = absurd (let z : NoMemory ≡ UnknownReplica = sym e ∙ is in cc)
-names_stranger E v why (inr f) is = f.1
+names_nonmember E v why (inl e) is = absurd (let z : NoMemory ≡ UnknownReplica = sym e ∙ is in cc)
+names_nonmember E v why (inr f) is = f.1
 
 -- the same where the messages are read as a slice
 module _ (E : Engine) (t : ℕ) (all slice : List AnyMessage) (at : ℕ) (same : slice ≡ all) where

@@ -11,9 +11,10 @@ use Rattle.semantics.specs.Replica.{Replica, IsRunning}
 use Rattle.semantics.specs.Delivery.{answer_to, deliver}
 use Rattle.semantics.specs.Drain.{counted, drain, drain_for, receive, Drains}
 use Rattle.semantics.specs.Engine.{Engine, Handled, Message}
-use Rattle.semantics.specs.WriteSteps.{after_item, after_request, reply_to, take_item, take_for, publish, give, give_for, handle_all}
+use Rattle.semantics.specs.WriteSteps.{after_submission, after_request, reply_to, take_submission, take_for, publish, give, give_for}
+use Rattle.semantics.specs.WriteSteps.{handle_all}
 use Rattle.semantics.specs.WriteSteps.{whole_step}
-use Rattle.semantics.specs.World.{WorldAct, Push, Take, Publish, Give, Whole, Poll, Ask, Learn, SayHello, AnswerHello, Deliver, Lines}
+use Rattle.semantics.specs.World.{WorldAct, Push, Take, Publish, Give, WholeStep, Poll, Ask, Learn, SayHello, AnswerHello, Deliver, Lines}
 use Rattle.semantics.specs.World.{CountDropped, engine_step}
 use Rattle.semantics.specs.WorldHistory.{BeginsWith, HasGrown}
 use Rattle.semantics.proofs.AmongLists.{among_left}
@@ -30,7 +31,7 @@ use Rattle.semantics.proofs.SoundGiving.{answer_given}
 use Rattle.semantics.proofs.SoundPublishing.{none_due, published}
 use Rattle.semantics.proofs.SoundSteps.{stepped, taken_for}
 use Rattle.semantics.proofs.SoundTaking.{floor_within, took}
-use Rattle.handling.proofs.replica.Turns.{ended_by_count}
+use Rattle.replica.proofs.Turns.{ended_by_count}
 use Rattle.world.specs.Parts.{IsQueued, IsBetween, IsHandledInPart, TakesInPart, PublishesInPart, StepsInPart, IsInPart}
 use Rattle.world.proofs.DrawnWaiting.{Draws, delivered_waits, draws_both, gives_draw, item_waits, rest_draws, step_waits, take_draws}
 use Rattle.world.proofs.DrawnWaiting.{takes_draw}
@@ -55,21 +56,21 @@ left_drains n d h = by (cases_lt (length d.waiting) n)
         ∙ goes_on n (length d.waiting - n) d in
         subst (Drains (drain_for n d)) (sym all) (part_drained (length d.waiting - n) (drain_for n d) (part_drained n d h).0).1
 
--- ---- an item that is handled in part
+-- ---- a submission that is handled in part
 
--- the replica q is between r, and r after the item x
+-- the replica q is between r, and r after the submission x
 record IsWithin (r : Replica) (x : Submitted) (q : Replica) : Type 0 where
   pub own : q.own ≡ r.own
-  pub own_after : (after_item r x).own ≡ q.own
+  pub own_after : (after_submission r x).own ≡ q.own
   pub begins : BeginsWith q.entries r.entries
-  pub goes_on : BeginsWith (after_item r x).entries q.entries
+  pub goes_on : BeginsWith (after_submission r x).entries q.entries
   pub waited : (o : Stamped) → IsAmong o q.waiting → IsAmong o r.waiting ⊎ (x.request ≡ OfPeer o)
-  pub waits : (o : Stamped) → IsAmong o (after_item r x).waiting → IsAmong o q.waiting ⊎ (x.request ≡ OfPeer o)
+  pub waits : (o : Stamped) → IsAmong o (after_submission r x).waiting → IsAmong o q.waiting ⊎ (x.request ≡ OfPeer o)
 
--- all of an item that was delivered
-peer_item : (r : Replica) (x : Submitted) (s : Stamped) → x.request ≡ OfPeer s → x.floor ≤ length r.entries
-    → after_item r x ≡ counted (receive r s)
-peer_item r x s is floor =
+-- all of a submission that was delivered
+peer_submission : (r : Replica) (x : Submitted) (s : Stamped) → x.request ≡ OfPeer s → x.floor ≤ length r.entries
+    → after_submission r x ≡ counted (receive r s)
+peer_submission r x s is floor =
     let low : nat_lt (length r.entries) x.floor ≡ false = le-ltb (length r.entries) x.floor floor in
     rw low (ap (after_request r x) is)
 
@@ -80,7 +81,7 @@ within_delivery r x s n h is floor =
     let running : IsRunning d = delivered r s h in
     let part = (part_drained n d running).1 in
     let left = left_drains n d running in
-    let all = peer_item r x s is floor in
+    let all = peer_submission r x s is floor in
     let part_begins = drain_begins d (drain_for n d) part in
     let left_begins = drain_begins (drain_for n d) (drain d) left in record {
       own = part.own ∙ same_own r s (answer_to r s);
@@ -107,7 +108,7 @@ module _ (E : Engine) (x : Submitted) (queue : List Submitted) (s : IsSound E) (
         waits = λ o m. item_waits E.replica x o s.running m;
       }
 
-  after_it : IsWithin E.replica x (after_item E.replica x)
+  after_it : IsWithin E.replica x (after_submission E.replica x)
   after_it =
       let all = handled E.replica x s.running (s.queued x (subst (IsAmong x) (sym oldest) (inl refl))) its_floor in record {
         own = all.own;
@@ -132,7 +133,7 @@ module _ (E : Engine) (x : Submitted) (queue : List Submitted) (s : IsSound E) (
     F = record E { replica = q }
 
     abbrev G : Engine
-    G = record E { queue = queue; replica = after_item E.replica x; handled = E.handled ++ answered ∷ [] }
+    G = record E { queue = queue; replica = after_submission E.replica x; handled = E.handled ++ answered ∷ [] }
 
     stays : (g : Handled) → IsAmong g (E.due ++ E.handled) → IsAmong g (E.due ++ (E.handled ++ answered ∷ []))
     stays g m = elim (among_cases E.due E.handled g m) [
@@ -143,13 +144,13 @@ module _ (E : Engine) (x : Submitted) (queue : List Submitted) (s : IsSound E) (
     queued : (o : Stamped) → x.request ≡ OfPeer o → IsQueued o E
     queued o is = (x, subst (IsAmong x) (sym oldest) (inl refl), is)
 
-    taken_is : (take_item E).engine ≡ G
+    taken_is : (take_submission E).engine ≡ G
     taken_is = rw (oldest, free) refl
 
-    between_taken : IsBetween E F (take_item E).engine
+    between_taken : IsBetween E F (take_submission E).engine
     between_taken = subst (IsBetween E F) (sym taken_is) (record {
       beyond = grown_by_history E q E.queue E.handled E.due E.published w.own w.begins (omega arith) (λ g m. m);
-      before = grown_by_history F (after_item E.replica x) queue (E.handled ++ answered ∷ []) E.due E.published w.own_after w.goes_on
+      before = grown_by_history F (after_submission E.replica x) queue (E.handled ++ answered ∷ []) E.due E.published w.own_after w.goes_on
           (omega arith) stays;
       waited = λ o m. elim (w.waited o m) [ inl a ↦ inl a | inr is ↦ inr (queued o is) ];
       waits = λ o m. elim (w.waits o m) [ inl a ↦ inl a | inr is ↦ inr (queued o is) ];
@@ -173,11 +174,11 @@ stays_between E = record { beyond = grown_refl E; before = grown_refl E; waited 
 not_begun_at : (ms : List Message) (w : WorldAct) (E F : Engine) → IsSound E → F ≡ E → IsBetween E F (engine_step ms w E).engine
 not_begun_at ms w E F s same = subst (λ A. IsBetween E A (engine_step ms w E).engine) (sym same) (not_begun ms w E s)
 
-took_in_part : (E F : Engine) → IsSound E → TakesInPart E F → IsBetween E F (take_item E).engine
+took_in_part : (E F : Engine) → IsSound E → TakesInPart E F → IsBetween E F (take_submission E).engine
 took_in_part E F s (inl same) = not_begun_at [] Take E F s same
 took_in_part E F s (inr h) =
-    subst (λ A. IsBetween E A (take_item E).engine) (sym h.same)
-    (between_taken E h.item h.queue s h.oldest h.free F.replica (within E h.item h.queue s h.oldest F.replica h.handled))
+    subst (λ A. IsBetween E A (take_submission E).engine) (sym h.same)
+    (between_taken E h.submission h.queue s h.oldest h.free F.replica (within E h.submission h.queue s h.oldest F.replica h.handled))
 
 published_in_part : (E F : Engine) → IsSound E → PublishesInPart E F → IsBetween E F (publish E).engine
 published_in_part E F s h =
@@ -198,7 +199,8 @@ published_in_part E F s h =
 
 pub takes_then : (n m : ℕ) (E : Engine) → take_for (n + m) E ≡ take_for m (take_for n E)
 takes_then zero m E = ap (λ k. take_for k E) (let e : zero + m ≡ m = omega arith in e)
-takes_then (suc n) m E = ap (λ k. take_for k E) (let e : suc n + m ≡ suc (n + m) = omega arith in e) ∙ takes_then n m (take_item E).engine
+takes_then (suc n) m E = ap (λ k. take_for k E) (let e : suc n + m ≡ suc (n + m) = omega arith in e)
+    ∙ takes_then n m (take_submission E).engine
 
 -- E leads to A, and B to G
 wider : (E A F B G : Engine) → HasGrown E A → Draws E A → IsBetween A F B → ((x : Submitted) → IsAmong x B.queue → IsAmong x F.queue)
@@ -232,7 +234,7 @@ stepped_in_part E F s (inl h) =
     let n : ℕ = h.0 in
     let left : ℕ = E.batch - (n + 1) in
     let A : Engine = take_for n E in
-    let B : Engine = (take_item A).engine in
+    let B : Engine = (take_submission A).engine in
     let T : Engine = take_for E.batch E in
     let answers : ℕ = length (handle_all E).due in
     let first = taken_for n E s in
@@ -263,7 +265,7 @@ stepped_in_part E F s (inr h) =
 pub begun : (ms : List Message) (w : WorldAct) (E F : Engine) → IsSound E → IsInPart ms w E F → IsBetween E F (engine_step ms w E).engine
 begun ms Take E F s h = took_in_part E F s h
 begun ms Publish E F s h = published_in_part E F s h
-begun ms Whole E F s h = stepped_in_part E F s h
+begun ms WholeStep E F s h = stepped_in_part E F s h
 begun ms (Deliver c k) E F s h = h
 begun ms (Lines c ss bad) E F s h = h
 begun ms (Push c command) E F s h = not_begun_at ms (Push c command) E F s h

@@ -11,11 +11,12 @@ use Rattle.semantics.specs.LegalAnswer.{Request, OfCommand, OfPeer, Submitted}
 use Rattle.semantics.specs.Replica.{Replica, IsRunning, operations}
 use Rattle.semantics.specs.Delivery.{Delivered, Kept, Known, NotKept, answer_to, deliver, kept_by}
 use Rattle.semantics.specs.Engine.{Engine, Client, Message, Hello, Bundle}
-use Rattle.semantics.specs.WriteSteps.{push, after_made, after_request, after_item, take_oldest, take_item, take_for, publish, give}
+use Rattle.semantics.specs.WriteSteps.{push, after_made, after_request, after_submission, take_oldest, take_submission, take_for, publish}
+use Rattle.semantics.specs.WriteSteps.{give}
 use Rattle.semantics.specs.WriteSteps.{give_for, handle_all, whole_step}
-use Rattle.semantics.specs.PeerSteps.{names_members, answer_hello, refusal_in, unless_refused, submit_all, receive_lines, before_stranger}
-use Rattle.semantics.specs.PeerSteps.{stranger_fault, receive_message}
-use Rattle.semantics.specs.World.{WorldAct, Push, Take, Publish, Give, Whole, Poll, Ask, Learn, SayHello, AnswerHello, Deliver, Lines}
+use Rattle.semantics.specs.PeerSteps.{names_members, answer_hello, refusal_in, unless_refused, submit_all, receive_lines, before_nonmember}
+use Rattle.semantics.specs.PeerSteps.{nonmember_fault, receive_message}
+use Rattle.semantics.specs.World.{WorldAct, Push, Take, Publish, Give, WholeStep, Poll, Ask, Learn, SayHello, AnswerHello, Deliver, Lines}
 use Rattle.semantics.specs.World.{CountDropped, engine_step}
 use Rattle.semantics.proofs.Delivered.{delivered}
 use Rattle.semantics.proofs.Drained.{drained}
@@ -37,8 +38,8 @@ delivered_waits r s o = by (answer_to r s)
     by Known m = inr m
     by (NotKept why) m = inr m
 
--- what waits after an item waited, or is the item's operation
-pub item_waits : (r : Replica) (x : Submitted) (o : Stamped) → IsRunning r → IsAmong o (after_item r x).waiting
+-- what waits after a submission waited, or is the submission's operation
+pub item_waits : (r : Replica) (x : Submitted) (o : Stamped) → IsRunning r → IsAmong o (after_submission r x).waiting
     → IsAmong o r.waiting ⊎ (x.request ≡ OfPeer o)
 item_waits r x o h = at_floor (nat_lt (length r.entries) x.floor) refl
   where
@@ -53,7 +54,7 @@ item_waits r x o h = at_floor (nat_lt (length r.entries) x.floor) refl
     of_request (OfCommand c) is m = inl (of_made c (make (operations r) r.own c) m)
     of_request (OfPeer s) is m = of_peer s is ((drained (deliver r s) (delivered r s h)).1.waits o m)
 
-    at_floor : (b : Bool) → nat_lt (length r.entries) x.floor ≡ b → IsAmong o (after_item r x).waiting
+    at_floor : (b : Bool) → nat_lt (length r.entries) x.floor ≡ b → IsAmong o (after_submission r x).waiting
         → IsAmong o r.waiting ⊎ (x.request ≡ OfPeer o)
     at_floor true e = rw e (λ m. inl m)
     at_floor false e = rw e (of_request x.request refl)
@@ -77,7 +78,7 @@ draws_both E F G a b = record {
   queue = λ x m. a.queue x (b.queue x m);
 }
 
-pub take_draws : (E : Engine) → IsSound E → Draws E (take_item E).engine
+pub take_draws : (E : Engine) → IsSound E → Draws E (take_submission E).engine
 take_draws E s = at_queue E.queue refl
   where
     at_test : (x : Submitted) (queue : List Submitted) → E.queue ≡ x ∷ queue → (b : Bool)
@@ -95,8 +96,8 @@ take_draws E s = at_queue E.queue refl
 
 pub takes_draw : (n : ℕ) (E : Engine) → IsSound E → Draws E (take_for n E)
 takes_draw zero E s = draws_still E E (refl, refl)
-takes_draw (suc n) E s = draws_both E (take_item E).engine (take_for n (take_item E).engine) (take_draws E s)
-    (takes_draw n (take_item E).engine (took E s).sound)
+takes_draw (suc n) E s = draws_both E (take_submission E).engine (take_for n (take_submission E).engine) (take_draws E s)
+    (takes_draw n (take_submission E).engine (took E s).sound)
 
 pub gives_draw : (n : ℕ) (E : Engine) → Draws E (give_for n E)
 gives_draw zero E = draws_still E E (refl, refl)
@@ -130,7 +131,7 @@ receive_still E c ss bad = at_client (slice_get E.clients c) refl
 message_still : (E : Engine) (c : ℕ) (m : Option Message) → (receive_message E c m).engine.replica ≡ E.replica
 message_still E c None = refl
 message_still E c (Some (Hello v)) = refl
-message_still E c (Some (Bundle ss)) = receive_still E c (before_stranger E.replica.members ss) (stranger_fault E.replica.members ss)
+message_still E c (Some (Bundle ss)) = receive_still E c (before_nonmember E.replica.members ss) (nonmember_fault E.replica.members ss)
 
 answer_still : (E : Engine) (t k : ℕ) (m : Option Message) → (answer_hello E t k m).engine.replica ≡ E.replica
 answer_still E t k None = refl
@@ -154,7 +155,7 @@ step_waits ms (Push c command) E h = waits_still E (push E c (OfCommand command)
 step_waits ms Take E h = (take_draws E h).waits
 step_waits ms Publish E h = waits_still E (publish E).engine (still_published E).0
 step_waits ms Give E h = waits_still E (give E).engine (still_given E).0
-step_waits ms Whole E h = (draws_both E (take_for E.batch E) (whole_step E).engine (takes_draw E.batch E h)
+step_waits ms WholeStep E h = (draws_both E (take_for E.batch E) (whole_step E).engine (takes_draw E.batch E h)
     (rest_draws (take_for E.batch E) (length (handle_all E).due))).waits
 step_waits ms (Poll c serial) E h = waits_still E (engine_step ms (Poll c serial) E).engine (still_polled E c serial).0
 step_waits ms (Ask t q) E h = waits_still E (engine_step ms (Ask t q) E).engine (still_seen E t E.published).0

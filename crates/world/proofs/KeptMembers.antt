@@ -10,12 +10,13 @@ use Rattle.semantics.specs.LegalAnswer.{Request, OfCommand, OfPeer, Submitted}
 use Rattle.semantics.specs.Replica.{Replica, IsRunning, operations}
 use Rattle.semantics.specs.Engine as engine
 use Rattle.semantics.specs.Engine.{Engine, Client, Cell, Given, Message, Hello, Bundle}
-use Rattle.semantics.specs.WriteSteps.{push, after_made, after_request, after_item, take_oldest, take_item, take_for, publish, give_oldest}
+use Rattle.semantics.specs.WriteSteps.{push, after_made, after_request, after_submission, take_oldest, take_submission, take_for, publish}
+use Rattle.semantics.specs.WriteSteps.{give_oldest}
 use Rattle.semantics.specs.WriteSteps.{give, give_for, handle_all}
 use Rattle.semantics.specs.ReadSteps.{cell_at, poll, poll_cell, see, learn}
-use Rattle.semantics.specs.PeerSteps.{names_members, answer_hello, refusal_in, unless_refused, submit_all, receive_lines, before_stranger}
-use Rattle.semantics.specs.PeerSteps.{stranger_fault, receive_message}
-use Rattle.semantics.specs.World.{WorldAct, Push, Take, Publish, Give, Whole, Poll, Ask, Learn, SayHello, AnswerHello, Deliver, Lines}
+use Rattle.semantics.specs.PeerSteps.{names_members, answer_hello, refusal_in, unless_refused, submit_all, receive_lines, before_nonmember}
+use Rattle.semantics.specs.PeerSteps.{nonmember_fault, receive_message}
+use Rattle.semantics.specs.World.{WorldAct, Push, Take, Publish, Give, WholeStep, Poll, Ask, Learn, SayHello, AnswerHello, Deliver, Lines}
 use Rattle.semantics.specs.World.{CountDropped, engine_step}
 use Rattle.semantics.proofs.ReceivedItems.{received}
 use Rattle.semantics.proofs.SoundEngines.{IsSound}
@@ -36,14 +37,14 @@ request_keeps : (r : Replica) (x : Submitted) (q : Request) → IsRunning r → 
 request_keeps r x (OfCommand c) h = made_keeps r x c (make (operations r) r.own c)
 request_keeps r x (OfPeer s) h = (received r s h).members
 
-item_keeps : (r : Replica) (x : Submitted) → IsRunning r → (after_item r x).members ≡ r.members
+item_keeps : (r : Replica) (x : Submitted) → IsRunning r → (after_submission r x).members ≡ r.members
 item_keeps r x h = at_floor (nat_lt (length r.entries) x.floor) refl
   where
-    at_floor : (b : Bool) → nat_lt (length r.entries) x.floor ≡ b → (after_item r x).members ≡ r.members
+    at_floor : (b : Bool) → nat_lt (length r.entries) x.floor ≡ b → (after_submission r x).members ≡ r.members
     at_floor true e = rw e refl
     at_floor false e = rw e (request_keeps r x x.request h)
 
-take_keeps : (E : Engine) → IsSound E → HasMembers E (take_item E).engine
+take_keeps : (E : Engine) → IsSound E → HasMembers E (take_submission E).engine
 take_keeps E s = at_queue E.queue
   where
     at_test : (x : Submitted) (queue : List Submitted) (b : Bool) → (is_any E.due || nat_le E.batch (length E.handled)) ≡ b
@@ -57,7 +58,7 @@ take_keeps E s = at_queue E.queue
 
 takes_keep : (n : ℕ) (E : Engine) → IsSound E → HasMembers E (take_for n E)
 takes_keep zero E s = refl
-takes_keep (suc n) E s = takes_keep n (take_item E).engine (took E s).sound ∙ take_keeps E s
+takes_keep (suc n) E s = takes_keep n (take_submission E).engine (took E s).sound ∙ take_keeps E s
 
 publish_keeps : (E : Engine) → HasMembers E (publish E).engine
 publish_keeps E = at_test (is_any E.due || not (is_any E.handled)) refl
@@ -150,14 +151,14 @@ receive_keeps E c ss bad = at_client (slice_get E.clients c) refl
 message_keeps : (E : Engine) (c : ℕ) (m : Option Message) → HasMembers E (receive_message E c m).engine
 message_keeps E c None = refl
 message_keeps E c (Some (Hello v)) = refl
-message_keeps E c (Some (Bundle ss)) = receive_keeps E c (before_stranger E.replica.members ss) (stranger_fault E.replica.members ss)
+message_keeps E c (Some (Bundle ss)) = receive_keeps E c (before_nonmember E.replica.members ss) (nonmember_fault E.replica.members ss)
 
 pub members_stay : (ms : List Message) (a : WorldAct) (E : Engine) → IsSound E → HasMembers E (engine_step ms a E).engine
 members_stay ms (Push c command) E s = ap (λ (r : Replica). r.members) (push_keeps E c (OfCommand command)).replica
 members_stay ms Take E s = take_keeps E s
 members_stay ms Publish E s = publish_keeps E
 members_stay ms Give E s = give_keeps E
-members_stay ms Whole E s = gives_keep (length (handle_all E).due) (handle_all E) ∙ publish_keeps (take_for E.batch E)
+members_stay ms WholeStep E s = gives_keep (length (handle_all E).due) (handle_all E) ∙ publish_keeps (take_for E.batch E)
     ∙ takes_keep E.batch E s
 members_stay ms (Poll c serial) E s = poll_keeps E c serial
 members_stay ms (Ask t q) E s = see_keeps E t E.published

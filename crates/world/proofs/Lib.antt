@@ -9,8 +9,8 @@ pub mod TakenRequests
 pub mod AnsweredHellos
 pub mod KeptMembers
 pub mod TurnedWorlds
-pub mod BesideVectors
-pub mod BeforeStrangers
+pub mod ReindexedVectors
+pub mod BeforeNonmembers
 pub mod ReachedWorlds
 pub mod DrawnWaiting
 pub mod BetweenEngines

@@ -13,11 +13,11 @@ use Rattle.semantics.proofs.Beginnings.{first_of_longer}
 use Rattle.semantics.proofs.OwnReplies.{all_first}
 use Rattle.semantics.proofs.EntryHistories.{entries_legal}
 use Rattle.semantics.proofs.GrownEngines.{begins_trans}
-use Rattle.handling.specs.operation.declared.command.Entry.{Entry}
-use Rattle.handling.specs.operation.Meanings.{entry_of, op_in}
-use Rattle.handling.specs.oplog.Logs.{history}
-use Rattle.handling.proofs.oplog.Oldest.{history-more}
-use Rattle.handling.specs.document.Documents.{Contents, MayFollowEntries}
+use Rattle.replica.specs.operation.declared.command.Entry.{Entry}
+use Rattle.replica.specs.operation.Ops.{entry_of, op_in}
+use Rattle.replica.specs.oplog.Logs.{history}
+use Rattle.replica.proofs.oplog.Oldest.{history-more}
+use Rattle.replica.specs.document.Documents.{Contents, MayFollowEntries}
 use Rattle.world.specs.Publishers.{CanPublish, PublishesMore, appended_of}
 
 -- what is pending first is the next to be published

@@ -1,7 +1,7 @@
 -- Worlds that steps lead to from a new one, and their engines.
 use Rattle.std.proofs.Common.{◌≡◌, ℕ, List, ◌++◌, [], ◌∷◌, Some, sym, ap, ◌∙◌, slice_get}
 use Rattle.semantics.specs.Engine.{Engine}
-use Rattle.semantics.specs.WriteSteps.{take_item}
+use Rattle.semantics.specs.WriteSteps.{take_submission}
 use Rattle.semantics.specs.World.{World, WorldStep, Take, step_by, opened, engine_step, world_after, world_step}
 use Rattle.semantics.proofs.SetElements.{get-set_same}
 use Rattle.semantics.proofs.SoundEngines.{IsSound}
@@ -22,7 +22,7 @@ after_step W s E there = ap (λ (V : World). slice_get V.engines s.engine)
     (ap (λ t. t.world) (world_step-there W.engines W.messages s E there))
     ∙ get-set_same W.engines s.engine E (engine_step W.messages s.act E).engine there
 
-pub reached_take : (E : Engine) → IsReachedEngine E → IsReachedEngine (take_item E).engine
+pub reached_take : (E : Engine) → IsReachedEngine E → IsReachedEngine (take_submission E).engine
 reached_take E (cs, steps, e, h) = (
   cs,
   steps ++ step_by e Take ∷ [],

@@ -5,7 +5,7 @@ use Rattle.std.proofs.lemmas.Option.{slice_get-map, slice_get_read}
 use Rattle.ids.specs.declared.refusal.Refusal.TheVariants.{SerialEnd, QueueFull}
 use Rattle.semantics.specs.LegalAnswer.{Request}
 use Rattle.semantics.specs.Engine.{Engine, Client, Cell, Given, Ticket, Denied, Replied}
-use Rattle.semantics.specs.WriteSteps.{with_answer, give_to, with_cell, next_item, push}
+use Rattle.semantics.specs.WriteSteps.{with_answer, give_to, with_cell, next_submission, push}
 use Rattle.semantics.specs.ReadSteps.{poll, cell_at, see}
 
 -- what stands at an index of a list, as its image
@@ -40,8 +40,8 @@ pub push-there : (E : Engine) (c : ℕ) (q : Request) (k : Client) → slice_get
     → push E c q
     ≡ record {
       engine = record E {
-        queue = E.queue ++ next_item c k q ∷ [];
-        clients = slice_set E.clients c (with_cell k (next_item c k q));
+        queue = E.queue ++ next_submission c k q ∷ [];
+        clients = slice_set E.clients c (with_cell k (next_submission c k q));
       };
       reply = Ticket (suc (length k.cells));
     }

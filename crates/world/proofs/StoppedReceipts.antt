@@ -4,7 +4,7 @@ use Rattle.ids.specs.declared.refusal.Refusal.{Refusal}
 use Rattle.ids.specs.declared.refusal.Refusal.TheVariants.{NoMemory}
 use Rattle.semantics.specs.Stamped.{Stamped}
 use Rattle.semantics.specs.Engine.{Engine, Message, Bundle}
-use Rattle.semantics.specs.PeerSteps.{before_stranger, receive_lines, receive_message, stranger_fault}
+use Rattle.semantics.specs.PeerSteps.{before_nonmember, receive_lines, receive_message, nonmember_fault}
 use Rattle.semantics.specs.World.{Lines}
 use Rattle.semantics.proofs.SoundEngines.{IsSound}
 use Rattle.world.specs.Parts.{IsBetween}
@@ -26,9 +26,9 @@ lines_stopped E F c ss ts bad got sound (inr read) (inr part) = between_same (λ
 -- the same of a message
 pub message_stopped : (E F : Engine) (c : ℕ) (m : Option Message) (ss ts : List Stamped) (got : Option Refusal) → IsSound E
     → m ≡ Some (Bundle ss)
-    → (got ≡ Some NoMemory) ⊎ ((ts ≡ before_stranger E.replica.members ss) × (got ≡ stranger_fault E.replica.members ss))
+    → (got ≡ Some NoMemory) ⊎ ((ts ≡ before_nonmember E.replica.members ss) × (got ≡ nonmember_fault E.replica.members ss))
     → (F ≡ E) ⊎ ((got ≢ Some NoMemory) × IsBetween E F (receive_lines E c ts got).engine)
     → IsBetween E F (receive_message E c m).engine
 message_stopped E F c m ss ts got sound is read part =
     between_same (ap (λ o. (receive_message E c o).engine) (sym is))
-    (lines_stopped E F c (before_stranger E.replica.members ss) ts (stranger_fault E.replica.members ss) got sound read part)
+    (lines_stopped E F c (before_nonmember E.replica.members ss) ts (nonmember_fault E.replica.members ss) got sound read part)

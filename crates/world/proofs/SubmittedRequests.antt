@@ -6,15 +6,15 @@ use Rattle.ids.specs.declared.refusal.Refusal.{Refusal}
 use Rattle.semantics.specs.Stamped.{Stamped}
 use Rattle.semantics.specs.LegalAnswer.{Request, OfPeer}
 use Rattle.semantics.specs.Engine.{Engine, Client, Ticket, Denied}
-use Rattle.semantics.specs.WriteSteps.{next_item, with_cell, submit, push}
+use Rattle.semantics.specs.WriteSteps.{next_submission, with_cell, submit, push}
 use Rattle.semantics.specs.PeerSteps.{as_received, receive_lines, submit_all}
-use Rattle.handling.specs.operation.declared.op.Op.{Op}
-use Rattle.handling.specs.operation.Meanings.{stamped_of}
-use Rattle.handling.specs.items.Meanings.{received_of, stranger}
+use Rattle.replica.specs.operation.declared.op.Op.{Op}
+use Rattle.replica.specs.operation.Ops.{stamped_of}
+use Rattle.replica.specs.operation.Submissions.{received_of, nonmember}
 
 -- an operation whose vector has the table's width is received as it is
 pub received_wide : (table : List ℕ) (o : Op) → length o.deps ≡ length table → received_of table o ≡ stamped_of table o
-received_wide table o width = ap (λ b. cond b (stamped_of table o) (stranger table (stamped_of table o)))
+received_wide table o width = ap (λ b. cond b (stamped_of table o) (nonmember table (stamped_of table o)))
     (eq-eqb (length o.deps) (length table) width)
 
 -- what stands at an index within the list
@@ -35,10 +35,11 @@ pub push_keeps : (E : Engine) (c : ℕ) (q : Request) → Keeps E (push E c q).e
 push_keeps E c q = at_client (slice_get E.clients c) refl
   where
     at_tests : (k : Client) (a b : Bool) → nat_le E.serials (length k.cells) ≡ a → nat_le E.capacity (length E.queue) ≡ b
-        → Keeps E (submit E c k (next_item c k q)).engine
+        → Keeps E (submit E c k (next_submission c k q)).engine
     at_tests k true b e f = rw e (same E)
     at_tests k false true e f = rw (e, f) (same E)
-    at_tests k false false e f = rw (e, f) (record { replica = refl; clients = length-set E.clients c (with_cell k (next_item c k q)) })
+    at_tests k false false e f = rw (e, f)
+        (record { replica = refl; clients = length-set E.clients c (with_cell k (next_submission c k q)) })
 
     at_client : (o : Option Client) → slice_get E.clients c ≡ o → Keeps E (push E c q).engine
     at_client None e = rw e (same E)
@@ -49,7 +50,7 @@ pub denied_same : (E : Engine) (c : ℕ) (q : Request) (why : Refusal) → (push
 denied_same E c q why h = at_client (slice_get E.clients c) refl h
   where
     at_tests : (k : Client) (a b : Bool) → nat_le E.serials (length k.cells) ≡ a → nat_le E.capacity (length E.queue) ≡ b
-        → (submit E c k (next_item c k q)).reply ≡ Denied why → (submit E c k (next_item c k q)).engine ≡ E
+        → (submit E c k (next_submission c k q)).reply ≡ Denied why → (submit E c k (next_submission c k q)).engine ≡ E
     at_tests k true b e f w = rw e refl
     at_tests k false true e f w = rw (e, f) refl
     at_tests k false false e f w = (let z = rw (e, f) at w in cc)

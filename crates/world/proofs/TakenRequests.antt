@@ -8,9 +8,9 @@ use Rattle.ids.specs.declared.refusal.Refusal.TheVariants.{QueueFull, SerialEnd}
 use Rattle.semantics.specs.Stamped.{Stamped}
 use Rattle.semantics.specs.Engine.{Engine, Client, Outcome, Ticket, Denied}
 use Rattle.semantics.specs.PeerSteps.{as_received, receive_lines, submit_all}
-use Rattle.semantics.specs.WriteSteps.{next_item, with_cell, push}
-use Rattle.handling.specs.items.declared.item.Request.{Request}
-use Rattle.handling.specs.items.Meanings.{request_of, submitted_of}
+use Rattle.semantics.specs.WriteSteps.{next_submission, with_cell, push}
+use Rattle.replica.specs.operation.declared.submission.Request.{Request}
+use Rattle.replica.specs.operation.Submissions.{request_of, submitted_of}
 use Rattle.world.specs.declared.engine.Engine.TheInside.{Inside}
 use Rattle.world.specs.declared.client.Client.{Client as AnyClient}
 use Rattle.world.specs.Engines.{cell_of, client_of}
@@ -75,9 +75,9 @@ module _ (e : Inside) (A : Engine) (at : ℕ) (q : Request) (k : AnyClient) (is 
       → push A at (request_of A.replica.members q)
       ≡ record {
         engine = record (the_view e) {
-          queue = map (submitted_of table) e.queue.items ++ next_item at (client_of table k) (request_of table q) ∷ [];
+          queue = map (submitted_of table) e.queue.items ++ next_submission at (client_of table k) (request_of table q) ∷ [];
           clients = slice_set (map (client_of table) e.clients.items) at
-              (with_cell (client_of table k) (next_item at (client_of table k) (request_of table q)));
+              (with_cell (client_of table k) (next_submission at (client_of table k) (request_of table q)));
         };
         reply = Ticket (suc (length (client_of table k).cells));
       }

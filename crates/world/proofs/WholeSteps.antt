@@ -3,7 +3,7 @@ use Rattle.std.proofs.Common.{◌≡◌, ℕ, zero, suc, ◌-◌, ◌+◌, ◌<�
 use Rattle.std.proofs.Common.{arith}
 use Rattle.semantics.specs.DocumentAnswer.{is_any}
 use Rattle.semantics.specs.Engine.{Engine}
-use Rattle.semantics.specs.WriteSteps.{take_oldest, take_item, take_for, give, give_for}
+use Rattle.semantics.specs.WriteSteps.{take_oldest, take_submission, take_for, give, give_for}
 
 -- ---- tests
 
@@ -26,7 +26,7 @@ pub take_none : (n : ℕ) (E : Engine) → E.queue ≡ [] → take_for n E ≡ E
 take_none zero E e = refl
 take_none (suc n) E e = ap (take_for n) (ap (λ queue. (take_oldest E queue).engine) e) ∙ take_none n E e
 
-pub take_next : (n i : ℕ) (E : Engine) → i < n → take_for (n - (i + 1)) (take_item E).engine ≡ take_for (n - i) E
+pub take_next : (n i : ℕ) (E : Engine) → i < n → take_for (n - (i + 1)) (take_submission E).engine ≡ take_for (n - i) E
 take_next n i E l = ap (λ k. take_for k E) (sym_one)
   where
     sym_one : suc (n - (i + 1)) ≡ n - i

@@ -3,14 +3,14 @@ use Rattle.std.specs.Prelude.{◌+◌, ℕ, ⊤, Bool, true, false, List, map, O
 use Rattle.ids.specs.Configurations.{Configuration}
 use Rattle.ids.specs.declared.refusal.Refusal.{Refusal}
 use Rattle.ids.specs.declared.refusal.Refusal.TheVariants.{NoMemory}
-use Rattle.semantics.specs.LegalAnswer.{Reply, NotMade}
+use Rattle.semantics.specs.LegalAnswer.{Reply, RefusedAt}
 use Rattle.semantics.specs.Engine as engine
 use Rattle.semantics.specs.Engine.{Engine}
 use Rattle.semantics.specs.World.{WorldStep}
 use Rattle.semantics.specs.WorldHistory.{IsEngineAfter}
 use Rattle.semantics.specs.Tables.{by_table}
-use Rattle.handling.specs.operation.Meanings.{stamped_of}
-use Rattle.handling.specs.items.Meanings.{reply_of, submitted_of}
+use Rattle.replica.specs.operation.Ops.{stamped_of}
+use Rattle.replica.specs.operation.Submissions.{reply_of, submitted_of}
 use Rattle.world.specs.declared.engine.Handled.{Handled}
 use Rattle.world.specs.declared.client.Given.{Given}
 use Rattle.world.specs.declared.client.Cell.{Cell}
@@ -18,9 +18,9 @@ use Rattle.world.specs.declared.client.Client.{Client}
 use Rattle.world.specs.declared.message.Message.{Message}
 use Rattle.world.specs.declared.message.Message.TheVariants as message
 
--- an item that was handled
+-- a submission that was handled
 abbrev pub handled_of : List ℕ → Handled → engine.Handled
-handled_of table h = record { submitted = submitted_of table h.item; reply = reply_of h.reply }
+handled_of table h = record { submitted = submitted_of table h.submission; reply = reply_of h.reply }
 
 -- an answer that was set
 abbrev pub given_of : Given → engine.Given
@@ -28,7 +28,7 @@ given_of g = record { reply = reply_of g.reply; published = g.published }
 
 -- what was submitted under a serial, with its answer
 abbrev pub cell_of : List ℕ → Cell → engine.Cell
-cell_of table cell = record { submitted = submitted_of table cell.item; answer = option_map given_of cell.answer }
+cell_of table cell = record { submitted = submitted_of table cell.submission; answer = option_map given_of cell.answer }
 
 -- a client
 abbrev pub client_of : List ℕ → Client → engine.Client
@@ -63,7 +63,7 @@ IsNoHello None = ⊤
 IsNoHello (Some (engine.Hello v)) = ⊥
 IsNoHello (Some (engine.Bundle ss)) = ⊤
 
--- the item was refused because allocation failed
+-- the submission was refused because allocation failed
 abbrev pub is_no_memory : Reply → Bool
-is_no_memory (NotMade NoMemory m) = true
+is_no_memory (RefusedAt NoMemory m) = true
 is_no_memory _ = false

@@ -8,11 +8,11 @@ use Rattle.semantics.specs.Replica.{Replica}
 use Rattle.semantics.specs.Delivery.{deliver}
 use Rattle.semantics.specs.Drain.{counted, drain_for}
 use Rattle.semantics.specs.Engine.{Engine, Message}
-use Rattle.semantics.specs.WriteSteps.{after_item, take_for}
-use Rattle.semantics.specs.World.{WorldAct, Take, Publish, Whole, Deliver, Lines, engine_step}
+use Rattle.semantics.specs.WriteSteps.{after_submission, take_for}
+use Rattle.semantics.specs.World.{WorldAct, Take, Publish, WholeStep, Deliver, Lines, engine_step}
 use Rattle.semantics.specs.WorldHistory.{HasGrown}
 
--- the operation is that of an item in the queue
+-- the operation is that of a submission in the queue
 abbrev pub IsQueued : Stamped → Engine → Type 0
 IsQueued s E = (x : Submitted) × IsAmong x E.queue × (x.request ≡ OfPeer s)
 
@@ -24,20 +24,21 @@ pub record IsBetween (E F G : Engine) : Type 0 where
   pub waited : (s : Stamped) → IsAmong s F.replica.waiting → IsAmong s E.replica.waiting ⊎ IsQueued s E
   pub waits : (s : Stamped) → IsAmong s G.replica.waiting → IsAmong s F.replica.waiting ⊎ IsQueued s F
 
--- q is the replica r after a part of what handling the item x does: a delivery and some turns of the drain after it, or nothing, or all
+-- q is the replica r after a part of what handling the submission x does: a delivery and some turns of the drain after it, or
+-- nothing, or all
 abbrev pub IsHandledInPart : Replica → Submitted → Replica → Type 0
 IsHandledInPart r x q =
     (q ≡ r)
-    ⊎ (q ≡ after_item r x)
+    ⊎ (q ≡ after_submission r x)
     ⊎ ((s : Stamped) × (n : ℕ) × (x.request ≡ OfPeer s) × (x.floor ≤ length r.entries) × (q ≡ counted (drain_for n (deliver r s))))
 
--- F is E where the oldest item was handled in part. It is still in the queue.
+-- F is E where the oldest submission was handled in part. It is still in the queue.
 pub record HandlesInPart (E F : Engine) : Type 0 where
   pub free : (is_any E.due || nat_le E.batch (length E.handled)) ≡ false
-  pub item : Submitted
+  pub submission : Submitted
   pub queue : List Submitted
-  pub oldest : E.queue ≡ item ∷ queue
-  pub handled : IsHandledInPart E.replica item F.replica
+  pub oldest : E.queue ≡ submission ∷ queue
+  pub handled : IsHandledInPart E.replica submission F.replica
   pub same : F ≡ record E { replica = F.replica }
 
 -- F is E after a part of a take
@@ -59,7 +60,7 @@ StepsInPart E F = ((n : ℕ) × (n < E.batch) × TakesInPart (take_for n E) F) �
 abbrev pub IsInPart : List Message → WorldAct → Engine → Engine → Type 0
 IsInPart ms Take E F = TakesInPart E F
 IsInPart ms Publish E F = PublishesInPart E F
-IsInPart ms Whole E F = StepsInPart E F
+IsInPart ms WholeStep E F = StepsInPart E F
 IsInPart ms (Deliver c k) E F = IsBetween E F (engine_step ms (Deliver c k) E).engine
 IsInPart ms (Lines c ss bad) E F = IsBetween E F (engine_step ms (Lines c ss bad) E).engine
 IsInPart ms _ E F = F ≡ E

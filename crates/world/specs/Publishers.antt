@@ -5,10 +5,10 @@ use Rattle.ids.specs.Members.{is_member}
 use Rattle.semantics.specs.Stamped.{IsLegalStamped}
 use Rattle.semantics.specs.Entries.{Entry as TheEntry, stamped_entries}
 use Rattle.semantics.specs.WorldHistory.{BeginsWith}
-use Rattle.handling.specs.operation.declared.command.Entry.{Entry}
-use Rattle.handling.specs.operation.Meanings.{op_in}
-use Rattle.handling.specs.oplog.Logs.{history}
-use Rattle.handling.specs.document.Documents.{Contents}
+use Rattle.replica.specs.operation.declared.command.Entry.{Entry}
+use Rattle.replica.specs.operation.Ops.{op_in}
+use Rattle.replica.specs.oplog.Logs.{history}
+use Rattle.replica.specs.document.Documents.{Contents}
 
 -- all that was appended: what is published, and then the pending entries, which begin with the oldest
 abbrev pub appended_of : Contents → List Entry → List TheEntry

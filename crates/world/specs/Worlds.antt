@@ -6,7 +6,7 @@ use Rattle.ids.specs.Configurations.{Configuration, is_within_limits}
 use Rattle.semantics.specs.Engine.{Engine, Message}
 use Rattle.semantics.specs.World.{World, WorldStep as TheStep, opened, world_after}
 use Rattle.world.specs.declared.step.WorldStep.{WorldStep}
-use Rattle.world.specs.Meanings.{AsksBeside, step_of}
+use Rattle.world.specs.Acts.{ActHasWidthOf, step_of}
 use Rattle.world.specs.Parts.{IsBetween, IsInPart}
 
 -- the engines, the messages, how many steps were done, and whether an allocation failed
@@ -37,8 +37,8 @@ abbrev pub step_in : List (List ℕ) → WorldStep → TheStep
 step_in tables s = step_of (table_at tables s.engine) s
 
 -- a vector that the step asks about is indexed by the table of its engine
-abbrev pub IsAskedBeside : List (List ℕ) → WorldStep → Type 0
-IsAskedBeside tables s = AsksBeside (table_at tables s.engine) s.act
+abbrev pub StepHasWidthIn : List (List ℕ) → WorldStep → Type 0
+StepHasWidthIn tables s = ActHasWidthOf (table_at tables s.engine) s.act
 
 -- steps lead to the world from a new one, whose configurations are within the limits
 pub record IsReachedWorld (W : World) : Type 0 where

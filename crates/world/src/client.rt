@@ -1,10 +1,10 @@
 //! What an engine keeps for a client: a cell for each serial, and how much the client's token has seen.
 
 ghost use Rattle.std.specs.Prelude.{◌≡◌, ◌+◌, ◌<◌, ◌^◌, ℕ, List, option_map, vec_len, OnErr, OnOk};
-ghost use Rattle.semantics.specs.WriteSteps.{next_item, with_cell, with_answer};
+ghost use Rattle.semantics.specs.WriteSteps.{next_submission, with_cell, with_answer};
 ghost use Rattle.semantics.specs.ReadSteps.{cell_at};
 
-use handling::{Item, Reply, Request};
+use replica::{Reply, Request, Submission};
 use std::alloc::AllocError;
 
 /// An answer that was set, with how many entries were published then.
@@ -17,7 +17,7 @@ pub struct Given {
 /// What was submitted under a serial, and its answer once it is set.
 #[derive(Debug, Drop)]
 pub struct Cell {
-    pub item: Item,
+    pub submission: Submission,
     pub answer: Option<Given>,
 }
 
@@ -29,7 +29,7 @@ pub struct Client {
 }
 
 impl Client {
-    ghost use Rattle.handling.specs.items.Meanings.{request_of, submitted_of};
+    ghost use Rattle.replica.specs.operation.Submissions.{request_of, submitted_of};
     ghost use Rattle.world.specs.Engines.{client_of, cell_of, given_of};
 
     /// The cell of a serial; none has the serial 0.
@@ -44,13 +44,13 @@ impl Client {
 
     /// What the client, number `client` of its engine, submits next: the request, under its next serial, with what its token has
     /// seen as the floor.
-    pub fn next_item(&self, client: usize, request: Request) -> Item
+    pub fn next_submission(&self, client: usize, request: Request) -> Submission
         requires { vec_len self.now.cells + 1 < 2 ^ 64 }
-        ensures item { (table : List ℕ)
-            → submitted_of table result ≡ next_item client (client_of table self.now) (request_of table request) }
+        ensures submission { (table : List ℕ)
+            → submitted_of table result ≡ next_submission client (client_of table self.now) (request_of table request) }
         ensures request { result.request ≡ request }
     {
-        Item {
+        Submission {
             client,
             serial: self.cells.len() as u64 + 1,
             floor: self.seen,
@@ -62,12 +62,15 @@ impl Client {
     ///
     /// # Errors
     /// `AllocError` if allocation fails. Nothing is kept then.
-    pub fn keep(&mut self, item: Item) -> Result<(), AllocError>
+    pub fn keep(&mut self, submission: Submission) -> Result<(), AllocError>
         ensures client { OnOk result ((table : List ℕ)
-            → client_of table self.new ≡ with_cell (client_of table self.old) (submitted_of table item)) }
+            → client_of table self.new ≡ with_cell (client_of table self.old) (submitted_of table submission)) }
         ensures unchanged { OnErr result ((table : List ℕ) → client_of table self.new ≡ client_of table self.old) }
     {
-        self.cells.push(Cell { item, answer: None })?;
+        self.cells.push(Cell {
+            submission,
+            answer: None,
+        })?;
         Ok(())
     }
 

@@ -4,9 +4,9 @@ ghost use Rattle.std.specs.Prelude.{◌≡◌, OnOk, OnErr, IfOk, true, map, [],
 ghost use Rattle.ids.specs.Configurations.{is_within_limits};
 ghost use Rattle.semantics.specs.World.{engine_step, opened_engine, sent_by};
 ghost use Rattle.semantics.specs.Publication.{Holds};
-ghost use Rattle.handling.specs.replica.Replicas.{replica_of};
+ghost use Rattle.replica.specs.Replicas.{replica_of};
 ghost use Rattle.world.specs.Engines.{IsReachedEngine, client_of, message_of};
-ghost use Rattle.world.specs.Meanings.{AsksBeside, act_of, step_reply_of};
+ghost use Rattle.world.specs.Acts.{ActHasWidthOf, act_of, step_reply_of};
 ghost use Rattle.world.specs.Parts.{IsInPart};
 
 mod peers;
@@ -18,8 +18,8 @@ use crate::client::Client;
 use crate::message::Message;
 use crate::publisher::Publisher;
 use crate::step::{WorldAct, WorldReply};
-use handling::{Document, Handler, Item, Replica, Reply};
 use ids::{Config, ReplicaTable};
+use replica::{Document, Handler, Replica, Reply, Submission};
 use std::alloc::{AllocError, Global};
 use std::collections::VecDeque;
 use std::marker::Model;
@@ -27,7 +27,7 @@ use std::marker::Model;
 /// A submission that was handled, and its reply.
 #[derive(Debug, Drop)]
 pub struct Handled {
-    item: Item,
+    submission: Submission,
     reply: Reply,
 }
 
@@ -39,7 +39,7 @@ pub struct Engine {
     serials: u64,
     handler: Handler,
     publisher: Publisher,
-    queue: VecDeque<Item>,
+    queue: VecDeque<Submission>,
     /// Handled and not published.
     handled: VecDeque<Handled>,
     /// Published and not answered.
@@ -54,8 +54,8 @@ impl Model for Engine {
     ghost use Rattle.semantics.specs.Codes.{coded_element};
     ghost use Rattle.semantics.specs.Engine.{Engine as TheEngine};
     ghost use Rattle.semantics.specs.Publication.{Holds};
-    ghost use Rattle.handling.specs.replica.Replicas.{replica_of};
-    ghost use Rattle.handling.specs.items.Meanings.{submitted_of};
+    ghost use Rattle.replica.specs.Replicas.{replica_of};
+    ghost use Rattle.replica.specs.operation.Submissions.{submitted_of};
     ghost use Rattle.world.specs.Engines.{client_of, handled_of};
 
     ghost Value = { TheEngine };
@@ -121,7 +121,7 @@ impl Engine {
         act: &WorldAct,
     ) -> Result<WorldReply, AllocError>
         requires reached { IsReachedEngine self.old }
-        requires beside { AsksBeside self.old.replica.members act.now }
+        requires width { ActHasWidthOf self.old.replica.members act.now }
         ensures engine { OnOk result (self.new
             ≡ (engine_step (map message_of messages.old.items) (act_of self.old.replica.members act.now) self.old).engine) }
         ensures reply { IfOk result
@@ -139,7 +139,7 @@ impl Engine {
             WorldAct::Take => self.take(alloc),
             WorldAct::Publish => self.publish(alloc),
             WorldAct::Give => Ok(self.give()),
-            WorldAct::Step => self.step(alloc),
+            WorldAct::WholeStep => self.step(alloc),
             WorldAct::Poll { client, serial } => Ok(self.poll(*client, *serial)),
             WorldAct::Ask { token, question } => self.ask(alloc, *token, question),
             WorldAct::Learn {
@@ -147,8 +147,10 @@ impl Engine {
                 client,
                 serial,
             } => Ok(self.learn(*token, *client, *serial)),
-            WorldAct::Hello { token } => self.hello(messages, *token),
-            WorldAct::Bundle { token, message } => self.bundle(alloc, messages, *token, *message),
+            WorldAct::SayHello { token } => self.hello(messages, *token),
+            WorldAct::AnswerHello { token, message } => self.bundle(
+                alloc, messages, *token, *message,
+            ),
             WorldAct::Deliver { client, message } => self.deliver(
                 alloc, messages, *client, *message,
             ),

@@ -9,12 +9,15 @@ mod publisher;
 mod step;
 mod world;
 
-pub use handling::Reply;
+pub use replica::Reply;
 pub use step::{WorldAct, WorldReply, WorldStep};
 pub use world::World;
 
 // Handed on from the crates below, for users of this one.
-pub use handling::{
+pub use replica::{
     Command, Expr, ExprStep, Key, Op, Question, Reading, Scalar, Shared, Tag, Val, VersionVector,
 };
-pub use wire::{id_value, operation_value, vector_in, vector_value};
+pub use wire::{
+    LINE_END, Lines, json_of, list_in, number_in, phrase_in, put_id, put_op, put_scalar,
+    put_vector, text_in, vector_in,
+};

@@ -3,8 +3,8 @@
 ghost use Rattle.std.specs.Prelude.{◌≡◌, length};
 ghost use Rattle.std.specs.List.{All};
 
-use handling::{Op, Shared, VersionVector};
 use ids::ReplicaTable;
+use replica::{Op, Shared, VersionVector};
 
 /// A vector, with the table that indexes it.
 #[derive(Debug, Drop)]

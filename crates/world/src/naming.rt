@@ -6,12 +6,12 @@ ghost use Rattle.ids.specs.Members.{is_member};
 ghost use Rattle.ids.specs.declared.refusal.Refusal.TheVariants.{NoMemory, UnknownReplica};
 ghost use Rattle.semantics.specs.Tables.{by_table};
 ghost use Rattle.semantics.specs.Faults.{is_of_members};
-ghost use Rattle.semantics.specs.PeerSteps.{before_stranger, stranger_fault};
-ghost use Rattle.handling.specs.operation.Meanings.{stamped_of};
+ghost use Rattle.semantics.specs.PeerSteps.{before_nonmember, nonmember_fault};
+ghost use Rattle.replica.specs.operation.Ops.{stamped_of};
 
 use crate::message::NamedOps;
-use handling::{Op, Shared, VersionVector, names_members};
 use ids::{Refusal, ReplicaTable};
+use replica::{Op, Shared, VersionVector, names_members};
 use std::alloc::Global;
 use wire::LinesRead;
 
@@ -19,7 +19,7 @@ use wire::LinesRead;
 ///
 /// # Errors
 /// `UnknownReplica` if it names a replica that isn't in that table, `NoMemory` if allocation fails.
-pub fn vector_beside(
+pub fn reindexed_vector(
     alloc: Global,
     from: &ReplicaTable,
     vector: &VersionVector,
@@ -52,7 +52,7 @@ pub fn vector_beside(
 ///
 /// # Errors
 /// `UnknownReplica` if it names a replica that isn't in that table, `NoMemory` if allocation fails.
-pub fn op_beside(
+pub fn reindexed_op(
     alloc: Global,
     from: &ReplicaTable,
     op: &Op,
@@ -69,7 +69,7 @@ pub fn op_beside(
     }
     let named = Op {
         id: op.id,
-        deps: vector_beside(alloc, from, &op.deps, to)?,
+        deps: reindexed_vector(alloc, from, &op.deps, to)?,
         place: op.place.clone()?,
         mutation: op.mutation.clone()?,
     };
@@ -78,15 +78,15 @@ pub fn op_beside(
 
 /// Copies of the operations for another table, up to the first that names a replica which isn't in it. A failed allocation stops it
 /// too, as `NoMemory`.
-pub fn ops_beside(alloc: Global, from: &NamedOps, to: &ReplicaTable) -> LinesRead
+pub fn reindexed_ops(alloc: Global, from: &NamedOps, to: &ReplicaTable) -> LinesRead
     ensures read { (result.stopped ≡ Some NoMemory)
-        ⊎ ((map (stamped_of to.now) result.ops.items ≡ before_stranger to.now (map (stamped_of from.now.table) from.now.ops.items))
-        × (result.stopped ≡ stranger_fault to.now (map (stamped_of from.now.table) from.now.ops.items))) }
+        ⊎ ((map (stamped_of to.now) result.ops.items ≡ before_nonmember to.now (map (stamped_of from.now.table) from.now.ops.items))
+        × (result.stopped ≡ nonmember_fault to.now (map (stamped_of from.now.table) from.now.ops.items))) }
     ensures width { All (λ o. length o.deps ≡ length to.now) result.ops.items }
 {
     let mut ops = Vec::new(alloc);
     for op in &from.ops {
-        match op_beside(alloc, &from.table, op, to) {
+        match reindexed_op(alloc, &from.table, op, to) {
             Ok(named) => {
                 if ops.push(named).is_err() {
                     return LinesRead {

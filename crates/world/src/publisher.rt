@@ -4,8 +4,7 @@ ghost use Rattle.std.specs.Prelude.{◌≡◌, [], drop, OnOk};
 ghost use Rattle.semantics.specs.WorldHistory.{BeginsWith};
 ghost use Rattle.world.specs.Publishers.{CanPublish, PublishesMore, appended_of};
 
-use handling::{Document, Entry, Publish};
-use ids::Refusal;
+use replica::{Document, Entry, Publish};
 use std::alloc::{AllocError, Global};
 use std::collections::VecDeque;
 use std::marker::Model;
@@ -79,7 +78,7 @@ impl Publisher {
 impl Publish for Publisher {
     ghost publication = { λ p. p };
 
-    fn add(&mut self, entry: Entry) -> Result<(), Refusal> {
+    fn add(&mut self, entry: Entry) -> Result<(), AllocError> {
         self.pending.push_back(entry)?;
         Ok(())
     }

@@ -1,7 +1,7 @@
 //! The steps of a world and what they reply.
 
-use handling::{Command, Question, Reading, Reply, Shared, VersionVector};
 use ids::{Refusal, ReplicaTable};
+use replica::{Command, Question, Reading, Reply, Shared, VersionVector};
 
 /// A step of a world: what the engine with this number does. Engines are numbered from 0.
 #[derive(Debug, Drop)]
@@ -26,7 +26,7 @@ pub enum WorldAct {
     /// The writer sets the answer to the oldest submission that is published.
     Give,
     /// The writer takes up to a batch of submissions and handles them, publishes, and then sets their answers.
-    Step,
+    WholeStep,
     /// A client polls one of its serials.
     Poll {
         client: usize,
@@ -44,11 +44,11 @@ pub enum WorldAct {
         serial: u64,
     },
     /// A token sends a hello: the vector of what is published.
-    Hello {
+    SayHello {
         token: usize,
     },
     /// A token answers a hello with a bundle of what the sender lacks.
-    Bundle {
+    AnswerHello {
         token: usize,
         message: usize,
     },

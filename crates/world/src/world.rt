@@ -7,8 +7,8 @@ ghost use Rattle.ids.specs.declared.refusal.Refusal.TheVariants.{NoMemory, BadCo
 ghost use Rattle.ids.specs.Configurations.{is_within_limits};
 ghost use Rattle.semantics.specs.World.{opened, opened_engine, world_step, world_after, replies_of};
 ghost use Rattle.world.specs.Engines.{message_of};
-ghost use Rattle.world.specs.Meanings.{step_reply_of};
-ghost use Rattle.world.specs.Worlds.{IsAskedBeside, IsReachedWorld, MovesInPart, StopsInStep, step_in, tables_of, world, world_of};
+ghost use Rattle.world.specs.Acts.{step_reply_of};
+ghost use Rattle.world.specs.Worlds.{StepHasWidthIn, IsReachedWorld, MovesInPart, StopsInStep, step_in, tables_of, world, world_of};
 
 use crate::engine::Engine;
 use crate::message::Message;
@@ -88,7 +88,7 @@ impl World {
     /// `AllocError` if allocation fails, and at each call after that. `steps_done` steps were done whole; the next one may be done
     /// in part, by its engine alone, which is then between what it was and what the whole step makes of it.
     pub fn run(&mut self, alloc: Global, steps: &[WorldStep]) -> Result<Vec<WorldReply>, AllocError>
-        requires { All (IsAskedBeside (tables_of self.old.engines)) steps.now }
+        requires { All (StepHasWidthIn (tables_of self.old.engines)) steps.now }
         ensures replies { IfOk result
             (λ rs. map step_reply_of rs.items ≡ replies_of (world_of self.old) (map (step_in (tables_of self.old.engines)) steps.now)) }
         ensures world { OnOk result (world_of self.new
@@ -160,7 +160,7 @@ fn run_all(
 ) -> Result<Vec<WorldReply>, AllocError>
     requires reached { IsReachedWorld (world engines.old.items (map message_of messages.old.items)) }
     requires none { whole.old ≡ 0 }
-    requires beside { All (IsAskedBeside (tables_of engines.old.items)) steps.now }
+    requires width { All (StepHasWidthIn (tables_of engines.old.items)) steps.now }
     ensures replies { IfOk result
         (λ rs. map step_reply_of rs.items
         ≡ replies_of (world engines.old.items (map message_of messages.old.items))
@@ -191,7 +191,7 @@ fn turn(
     step: &WorldStep,
 ) -> Result<WorldReply, AllocError>
     requires reached { IsReachedWorld (world engines.old.items (map message_of messages.old.items)) }
-    requires beside { IsAskedBeside (tables_of engines.old.items) step.now }
+    requires width { StepHasWidthIn (tables_of engines.old.items) step.now }
     ensures world { OnOk result (world engines.new.items (map message_of messages.new.items)
         ≡ (world_step (world engines.old.items (map message_of messages.old.items))
         (step_in (tables_of engines.old.items) step.now)).world) }

@@ -2,9 +2,9 @@
 
 ghost use Rattle.std.specs.Prelude.{ℕ, List, IfOk, IfSome};
 ghost use Rattle.std.specs.List.{All};
-ghost use Rattle.document.specs.Documents.{IsBeside};
-ghost use Rattle.world.specs.Meanings.{AsksBeside};
-ghost use Rattle.world.specs.Worlds.{IsAskedBeside, tables_of};
+ghost use Rattle.document.specs.Documents.{HasWidthOf};
+ghost use Rattle.world.specs.Acts.{ActHasWidthOf};
+ghost use Rattle.world.specs.Worlds.{StepHasWidthIn, tables_of};
 
 mod documents;
 mod lives;
@@ -164,7 +164,7 @@ fn command(alloc: Global, act: Act) -> Result<Option<(usize, Command)>, Refusal>
 
 /// The question of a token, if the act is one.
 fn question(alloc: Global, act: Act) -> Result<Option<(usize, Question)>, Refusal>
-    ensures { IfOk result (λ o. IfSome o (λ p. (table : List ℕ) → IsBeside table p.1)) }
+    ensures { IfOk result (λ o. IfSome o (λ p. (table : List ℕ) → HasWidthOf table p.1)) }
 {
     Ok(match act {
         Ask(token, key) => Some((token, Question::Values(at(alloc, &[AtKey(key)])?))),
@@ -179,7 +179,7 @@ fn question(alloc: Global, act: Act) -> Result<Option<(usize, Question)>, Refusa
 
 /// An act that is a phase of the writer, a poll, or of peers.
 fn other_act(alloc: Global, act: Act) -> Result<Option<WorldAct>, Refusal>
-    ensures { IfOk result (λ o. IfSome o (λ a. (table : List ℕ) → AsksBeside table a)) }
+    ensures { IfOk result (λ o. IfSome o (λ a. (table : List ℕ) → ActHasWidthOf table a)) }
 {
     Ok(Some(match act {
         Take => WorldAct::Take,
@@ -191,8 +191,8 @@ fn other_act(alloc: Global, act: Act) -> Result<Option<WorldAct>, Refusal>
             client,
             serial,
         },
-        Hello(token) => WorldAct::Hello { token },
-        Bundle(token, message) => WorldAct::Bundle { token, message },
+        Hello(token) => WorldAct::SayHello { token },
+        Bundle(token, message) => WorldAct::AnswerHello { token, message },
         Deliver(client, message) => WorldAct::Deliver { client, message },
         Lines(client, text) => {
             let text = text.as_bytes().to_vec(alloc)?;
@@ -204,7 +204,7 @@ fn other_act(alloc: Global, act: Act) -> Result<Option<WorldAct>, Refusal>
 }
 
 fn act_of(alloc: Global, act: Act) -> Result<WorldAct, Refusal>
-    ensures { (table : List ℕ) → IfOk result (AsksBeside table) }
+    ensures { (table : List ℕ) → IfOk result (ActHasWidthOf table) }
 {
     if let Some(other) = other_act(alloc, act)? {
         return Ok(other);
@@ -216,11 +216,11 @@ fn act_of(alloc: Global, act: Act) -> Result<WorldAct, Refusal>
     if let Some((token, question)) = question(alloc, act)? {
         return Ok(WorldAct::Ask { token, question });
     }
-    Ok(WorldAct::Step)
+    Ok(WorldAct::WholeStep)
 }
 
 fn step(alloc: Global, engine: usize, act: Act) -> Result<WorldStep, Refusal>
-    ensures { (tables : List (List ℕ)) → IfOk result (IsAskedBeside tables) }
+    ensures { (tables : List (List ℕ)) → IfOk result (StepHasWidthIn tables) }
 {
     let act = act_of(alloc, act)?;
     Ok(WorldStep { engine, act })
@@ -228,7 +228,7 @@ fn step(alloc: Global, engine: usize, act: Act) -> Result<WorldStep, Refusal>
 
 /// The steps of these acts of an engine.
 fn steps(alloc: Global, engine: usize, acts: &[Act]) -> Result<Vec<WorldStep>, Refusal>
-    ensures { (tables : List (List ℕ)) → IfOk result (λ v. All (IsAskedBeside tables) v.items) }
+    ensures { (tables : List (List ℕ)) → IfOk result (λ v. All (StepHasWidthIn tables) v.items) }
 {
     let mut steps = Vec::new(alloc);
     for act in acts {
@@ -244,7 +244,7 @@ fn missing_step(
     token: usize,
     counters: &[u64],
 ) -> Result<WorldStep, Refusal>
-    ensures { IfOk result (IsAskedBeside (tables_of world.now.engines)) }
+    ensures { IfOk result (StepHasWidthIn (tables_of world.now.engines)) }
 {
     let Some(table) = world.table(0) else {
         return Err(Refusal::NoReading);
@@ -265,7 +265,7 @@ type Row<'a> = (Act<'a>, &'a str);
 
 /// The steps of the acts of these rows.
 fn row_steps(alloc: Global, engine: usize, rows: &[Row]) -> Result<Vec<WorldStep>, Refusal>
-    ensures { (tables : List (List ℕ)) → IfOk result (λ v. All (IsAskedBeside tables) v.items) }
+    ensures { (tables : List (List ℕ)) → IfOk result (λ v. All (StepHasWidthIn tables) v.items) }
 {
     let mut acts = Vec::new(alloc);
     for (act, _) in rows {

@@ -1,7 +1,7 @@
 //! What is done with both engines.
 
 ghost use Rattle.std.specs.Prelude.{List, ℕ, IfOk};
-ghost use Rattle.document.specs.Documents.{IsBeside};
+ghost use Rattle.document.specs.Documents.{HasWidthOf};
 
 use super::dice::Dice;
 use cursor::{Expr, Place, Step as Hop};
@@ -66,7 +66,7 @@ pub struct Probe {
 
 impl Probe {
     pub fn question(&self) -> Result<Question, Refusal>
-        ensures { IfOk result (λ q. (table : List ℕ) → IsBeside table q) }
+        ensures { IfOk result (λ q. (table : List ℕ) → HasWidthOf table q) }
     {
         let place = self.place.clone()?;
         Ok(match self.kind {

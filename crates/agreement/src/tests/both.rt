@@ -2,7 +2,7 @@
 
 ghost use Rattle.std.specs.Prelude.{◌≡◌};
 ghost use Rattle.ids.specs.Members.{in_order};
-ghost use Rattle.world.specs.Meanings.{AsksBeside};
+ghost use Rattle.world.specs.Acts.{ActHasWidthOf};
 ghost use Rattle.world.specs.Worlds.{table_at, tables_of};
 
 use super::acts::{Act, CLIENTS, Probe, REPLICAS};
@@ -12,8 +12,7 @@ use engine::{
     Client, EngineName, Notice, Parts, ReaderToken, Step, Ticket, Writer, close, open, prepare,
 };
 use ids::{Config, Refusal, ReplicaId, ReplicaTable};
-use items::Reply;
-use operation::{Command, Op, Shared};
+use operation::{Command, Op, Reply, Shared};
 use std::alloc::{AllocError, Global};
 use std::marker::Brand;
 use std::process::Abort;
@@ -129,7 +128,7 @@ fn is_same<N: EngineName, R: Wait>(
 
 /// What the world's engine replies to an act.
 pub fn reply(alloc: Global, world: &mut World, act: WorldAct) -> Result<WorldReply, Fail>
-    requires { AsksBeside (table_at (tables_of world.old.engines) 0) act }
+    requires { ActHasWidthOf (table_at (tables_of world.old.engines) 0) act }
 {
     let step = WorldStep { engine: 0, act };
     let mut replies = world.run(alloc, &[step])?;
@@ -228,10 +227,10 @@ fn is_same_receipt(told: &WorldReply, ticket: &Result<Ticket, Refusal>) -> bool 
 
 fn line_of(alloc: Global, world: &World, op: &Op) -> Result<Vec<u8>, Fail> {
     let table = world.table(0).ok_or("no engine")?;
-    Ok(line_beside(alloc, table, op)?)
+    Ok(line_in_table(alloc, table, op)?)
 }
 
-fn line_beside(alloc: Global, table: &ReplicaTable, op: &Op) -> Result<Vec<u8>, AllocError> {
+fn line_in_table(alloc: Global, table: &ReplicaTable, op: &Op) -> Result<Vec<u8>, AllocError> {
     let mut text = write_op(alloc, op, table)?;
     text.push(b'\n')?;
     Ok(text)
@@ -243,7 +242,7 @@ fn step<N: EngineName, R: Wait>(
     world: &mut World,
     engine: &mut Engine<N>,
 ) -> Result<bool, Fail> {
-    let told = reply(alloc, world, WorldAct::Step)?;
+    let told = reply(alloc, world, WorldAct::WholeStep)?;
     let stepped = engine.writer.step(rt, alloc);
     Ok(is_same_step(&told, &stepped))
 }

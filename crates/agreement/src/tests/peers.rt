@@ -35,7 +35,7 @@ pub fn send_the_same<N: EngineName>(
 
 /// The line of the vector that the world's engine sends as a hello.
 fn world_hello(alloc: Global, world: &mut World) -> Result<Vec<u8>, Fail> {
-    let act = WorldAct::Hello {
+    let act = WorldAct::SayHello {
         token: CLIENTS as usize,
     };
     match reply(alloc, world, act)? {

@@ -64,9 +64,9 @@ fn assert_keys(rt: &impl Abort, keys: &SortedKeys, want: &[(&str, usize)]) {
 }
 
 /// Asserts that what a search answers is the same wherever it begins to look.
-fn assert_near(rt: &impl Abort, keys: &SortedKeys, key: &Key, want: Result<usize, usize>) {
-    for near in 0..9 {
-        assert_eq!(rt; keys.find_near(key, near), want, "near {near}");
+fn assert_any_hint(rt: &impl Abort, keys: &SortedKeys, key: &Key, want: Result<usize, usize>) {
+    for hint in 0..9 {
+        assert_eq!(rt; keys.find_with_hint(key, hint), want, "hint {hint}");
     }
 }
 
@@ -81,7 +81,7 @@ fn assert_found(
         let key = Key::new(alloc, text)?;
         let mut probes = 0;
         assert_eq!(rt; keys.find(&key, &mut probes), *want, "of {text}");
-        assert_near(rt, keys, &key, *want);
+        assert_any_hint(rt, keys, &key, *want);
     }
     Ok(())
 }

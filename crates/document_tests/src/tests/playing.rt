@@ -8,8 +8,8 @@ ghost use Rattle.ids.specs.Members.{is_member};
 ghost use Rattle.semantics.specs.Entries.{applied};
 ghost use Rattle.semantics.specs.Stamped.{MayFollow};
 ghost use Rattle.operation.specs.Alone.{alone_fault_of_op};
-ghost use Rattle.operation.specs.Meanings.{stamped_of};
-ghost use Rattle.document.specs.Documents.{HasRoomFor, IsBeside};
+ghost use Rattle.operation.specs.Ops.{stamped_of};
+ghost use Rattle.document.specs.Documents.{HasRoomFor, HasWidthOf};
 
 use cursor::{Expr, Place, Tag};
 use document::{Document, Question, Reading};
@@ -245,7 +245,7 @@ fn beside(alloc: Global, document: &Document, counters: [u64; 3]) -> Result<Vers
 
 /// The question of a turn that asks one. The others are never asked.
 fn question(alloc: Global, document: &Document, turn: Turn) -> Result<Question, Refusal>
-    ensures { IfOk result (λ q. IsBeside document.now.table q) }
+    ensures { IfOk result (λ q. HasWidthOf document.now.table q) }
 {
     Ok(match turn {
         Turn::Values(path, _) => Question::Values(expr(alloc, path)?),

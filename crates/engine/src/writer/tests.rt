@@ -1,9 +1,9 @@
 //! The atomic steps of an engine in every order that a small case allows.
 //!
-//! Where a batch has one item, a step of the writer takes it, publishes, and sets its answer; a client's submission is a push, its poll
-//! a get, and a question is an enter. No test can force a schedule of threads. So these steps are done here on one thread, in each order
-//! of two clients, a writer and a reader, and each answer is compared with what counting says: how many items were pushed, taken,
-//! published and answered.
+//! Where a batch has one submission, a step of the writer takes it, publishes, and sets its answer; a client's submission is a push, its
+//! poll a get, and a question is an enter. No test can force a schedule of threads. So these steps are done here on one thread, in each
+//! order of two clients, a writer and a reader, and each answer is compared with what counting says: how many submissions were pushed,
+//! taken, published and answered.
 
 mod schedules;
 
@@ -14,9 +14,9 @@ use super::*;
 use crate::client::Client;
 use crate::closing::close;
 use crate::opening::{Parts, open, prepare};
-use command::{Seat, Ticket};
-use handling::{Command, Expr, ExprStep as Hop, Key, Question, Reading, Scalar, Val};
+use command::{ReaderToken, Ticket};
 use ids::{Config, ReplicaId};
+use replica::{Command, Expr, ExprStep as Hop, Key, Question, Reading, Scalar, Val};
 use schedules::{go_on, schedule};
 use std::marker::Brand;
 use std::process::Abort;
@@ -25,14 +25,14 @@ use std::test::Fail;
 /// An atomic step, and whose it is.
 #[derive(Clone, Copy)]
 enum Atomic {
-    /// A client pushes an item. The n-th item in the queue's order assigns n at the one key.
+    /// A client pushes a submission. The n-th submission in the queue's order assigns n at the one key.
     Push(usize),
-    /// The writer takes an item, if one waits, and handles it.
+    /// The writer takes a submission, if one waits, and handles it.
     Take,
     Publish,
     /// The writer sets the answer of what it took.
     Set,
-    /// A client gets the answer of each of its items.
+    /// A client gets the answer of each of its submissions.
     Get(usize),
     /// The reader enters, and reads the number at the key.
     Enter,
@@ -64,13 +64,13 @@ const LAST: &[Atomic] = &[
     Atomic::Enter,
 ];
 
-/// How many items the queue has room for.
+/// How many submissions the queue has room for.
 const QUEUE: usize = 2;
 
 /// What was done so far.
 #[derive(Clone, Copy, Default)]
 struct Counted {
-    /// Who pushed each item, in the queue's order.
+    /// Who pushed each submission, in the queue's order.
     pushed_by: [usize; 4],
     pushed: usize,
     taken: usize,
@@ -154,7 +154,7 @@ fn play_with<N: EngineName, R: Wait + Abort>(
     alloc: Global,
     writer: &mut Writer<N>,
     clients: &mut Vec<Client<N>>,
-    reader: &mut Seat<N>,
+    reader: &mut ReaderToken<N>,
     steps: &[Atomic],
 ) -> Result<(), Fail> {
     let mut counted = Counted::default();
@@ -172,7 +172,7 @@ fn play_with<N: EngineName, R: Wait + Abort>(
     Ok(())
 }
 
-/// Pushes the next item, and asserts that it is refused exactly if the queue is full.
+/// Pushes the next submission, and asserts that it is refused exactly if the queue is full.
 fn push<N: EngineName, R: Wait + Abort>(
     rt: &R,
     alloc: Global,
@@ -208,7 +208,7 @@ fn at_key(alloc: Global) -> Result<Expr, Refusal> {
     Ok(Expr::new(vec![in alloc; step]?))
 }
 
-/// Takes and handles the oldest item of the queue, if there is one.
+/// Takes and handles the oldest submission of the queue, if there is one.
 fn take<N: EngineName, R: Wait + Abort>(
     rt: &R,
     alloc: Global,
@@ -244,7 +244,7 @@ fn set<N: EngineName>(writer: &mut Writer<N>, counted: &mut Counted) -> Result<(
     Ok(())
 }
 
-/// Polls for each item of a client, and asserts that the n-th of all that were pushed made the n-th entry, once it is answered.
+/// Polls for each submission of a client, and asserts that the n-th of all that were pushed made the n-th entry, once it is answered.
 fn get<N: EngineName, R: Abort>(
     rt: &R,
     clients: &mut Vec<Client<N>>,
@@ -263,7 +263,7 @@ fn get<N: EngineName, R: Abort>(
     Ok(())
 }
 
-/// The position at which the client's item with this serial was made, if it is answered.
+/// The position at which the client's submission with this serial was made, if it is answered.
 fn made_at<N: EngineName>(
     client: &mut Client<N>,
     number: usize,
@@ -282,7 +282,7 @@ fn made_at<N: EngineName>(
 }
 
 /// The number at the key, 0 if nothing was assigned.
-fn number<N: EngineName>(alloc: Global, reader: &mut Seat<N>) -> Result<usize, Fail> {
+fn number<N: EngineName>(alloc: Global, reader: &mut ReaderToken<N>) -> Result<usize, Fail> {
     let Reading::Values(values) = reader.ask(alloc, &Question::Values(at_key(alloc)?))? else {
         return Err("no values".into());
     };

@@ -2,15 +2,14 @@
 
 ghost use Rattle.std.specs.Prelude.{◌≡◌};
 ghost use Rattle.ids.specs.Members.{in_order};
-ghost use Rattle.document.specs.Documents.{IsBeside};
+ghost use Rattle.document.specs.Documents.{HasWidthOf};
 
 use super::*;
 use cursor::Expr;
 use document::{Question, Reading};
 use fixtures::{field, op};
 use ids::ReplicaId;
-use items::Reply;
-use operation::{Command, Mutation, Op, Shared};
+use operation::{Command, Mutation, Op, Reply, Shared};
 use std::marker::Brand;
 use std::process::Abort;
 use std::sync::Wait;
@@ -271,7 +270,7 @@ fn ask<N: EngineName>(
     token: Token,
     question: &Question,
 ) -> Result<Reading, Fail>
-    requires { IsBeside N.table question.now }
+    requires { HasWidthOf N.table question.now }
 {
     match token {
         Token::Reader => Ok(stage.reader.ask(alloc, question)?),

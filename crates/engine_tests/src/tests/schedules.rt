@@ -63,10 +63,10 @@ fn alone(alloc: Global, clients: u32) -> Result<Config, Refusal> {
 fn a_reader_without_pause_never_sees_less(rt: HostRuntime) -> Result<(), Fail> {
     let alloc = rt.alloc();
     let parts = prepare(alloc, alone(alloc, 1)?)?;
-    beside_publishes::<Brand, _>(&rt, alloc, parts)
+    publishes_meanwhile::<Brand, _>(&rt, alloc, parts)
 }
 
-fn beside_publishes<N: EngineName + Send + Sync, R: Threads + Wait + Abort + Sync>(
+fn publishes_meanwhile<N: EngineName + Send + Sync, R: Threads + Wait + Abort + Sync>(
     rt: &R,
     alloc: Global,
     parts: Parts,

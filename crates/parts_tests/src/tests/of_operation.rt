@@ -312,18 +312,6 @@ fn mutations_are_as_their_copies(rt: HostRuntime) -> Result<(), Fail> {
     Ok(())
 }
 
-/// Whether the mutation of a row is an insert.
-fn is_insert(does: Does) -> bool {
-    let mutation = mutation(does);
-    mutation.is_insert()
-}
-
-#[test]
-fn only_inserts_are_inserts(rt: HostRuntime) {
-    let found = [is_insert(Assign), is_insert(Insert), is_insert(Delete)];
-    assert_eq!(rt; found, [false, true, false]);
-}
-
 /// The operation 1@1, which assigns at the root.
 fn first_op(alloc: Global) -> Result<Op, Refusal> {
     op(alloc, (1, 1), &[0], Root, Assign)

@@ -105,7 +105,7 @@ fn assert_filled(rt: &impl Abort, alloc: Global, row: &Row) -> Result<(), Fail> 
     let mut beside = Vec::new(alloc);
     fill(&mut numbers, &mut beside, row)?;
     assert_items(rt, &numbers, &beside);
-    numbers.straighten();
+    numbers.make_contiguous();
     assert_eq!(rt; numbers.as_slice(), beside.as_slice());
     put(&mut numbers, &mut beside, 0, 7)?;
     assert_items(rt, &numbers, &beside);

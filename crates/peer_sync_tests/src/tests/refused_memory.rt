@@ -15,7 +15,7 @@ use super::showing::{Shown, To, expr, is_wanted, question};
 use super::*;
 use engine::{Client, EngineName, Final, Parts, ReaderToken, Step, Writer, close, open};
 use fixtures::{Pair, pair_of};
-use items::Reply;
+use operation::Reply;
 use std::alloc::Global;
 use std::marker::Brand;
 use std::process::Abort;
@@ -111,7 +111,7 @@ fn with_one<N: EngineName, R: Wait + Abort>(
     requires own { parts.config.own ≡ N.own }
     requires table { in_order parts.config.members ≡ N.table }
 {
-    // `open` is refused for a failed allocation, or because the copies have no seat for a reader.
+    // `open` is refused for a failed allocation, or because the copies have no place for a reader.
     let Ok((mut writer, mut clients, mut readers)) = open::<N>(rt, alloc, parts) else {
         refused.note();
         return Ok(false);

@@ -1,7 +1,7 @@
 //! What a reader is shown in a test: questions as rows, and their answers.
 
 ghost use Rattle.std.specs.Prelude.{◌≡◌, IfOk};
-ghost use Rattle.document.specs.Documents.{IsBeside};
+ghost use Rattle.document.specs.Documents.{HasWidthOf};
 
 use cursor::{Expr, Step, Tag};
 use document::{Question, Reading};
@@ -60,7 +60,7 @@ fn step(alloc: Global, to: To) -> Result<Step, Refusal> {
 
 /// The question for what is to be shown.
 pub fn question<N: EngineName>(reader: &ReaderToken<N>, expr: Expr, want: Shown) -> Question
-    ensures { IsBeside N.table result }
+    ensures { HasWidthOf N.table result }
 {
     match want {
         Shown::Values(_) => Question::Values(expr),

@@ -6,6 +6,7 @@
 ghost use Rattle.std.specs.Prelude.{◌≡◌, ℕ, IfOk, OnErr};
 ghost use Rattle.semantics.specs.Entries.{IsAbove};
 
+use super::recorder::{Before, Recorder};
 use super::*;
 use cursor::{Expr, Place, Step};
 use document::{Question, Reading};
@@ -13,6 +14,7 @@ use fixtures::{Pair, field, id_of, pair_of, vector};
 use ids::Refusal;
 use operation::{Command, Mutation, Op, Shared};
 use std::alloc::Global;
+use std::marker::Brand;
 use std::process::Abort;
 use std::test::Fail;
 use value::{Key, Val};
@@ -157,12 +159,21 @@ fn deliver(
     Ok(())
 }
 
-/// Drains.
+/// Drains, with a recorder as the publisher.
 fn drain(alloc: Global, replica: &mut Replica) -> Result<(), Refusal>
     ensures { (serial : ℕ) → IsAbove 0 serial replica.old.document.entries → IsAbove 0 serial replica.new.document.entries }
 {
+    drain_after::<Brand>(alloc, replica)
+}
+
+/// Drains after a history that has this name.
+fn drain_after<B: Before>(alloc: Global, replica: &mut Replica) -> Result<(), Refusal>
+    requires before { (replica.old.own ≡ B.own) × (replica.old.document.table ≡ B.members) × (replica.old.document.entries ≡ B.entries) }
+    ensures { (serial : ℕ) → IsAbove 0 serial replica.old.document.entries → IsAbove 0 serial replica.new.document.entries }
+{
     let _running = replica.document();
-    Ok(replica.drain(alloc)?)
+    let mut recorder: Recorder<B> = Recorder::new(alloc);
+    Ok(replica.drain(alloc, &mut recorder)?)
 }
 
 /// The id of the next one, if there is one.

@@ -4,7 +4,7 @@ ghost use Rattle.std.specs.Prelude.{◌≡◌, IsTrue, length};
 ghost use Rattle.ids.specs.Members.{is_member};
 ghost use Rattle.semantics.specs.LegalHistory.{IsFormed};
 ghost use Rattle.semantics.specs.Operations.{slot_of};
-ghost use Rattle.operation.specs.Meanings.{mutation_of, stamped_of};
+ghost use Rattle.operation.specs.Ops.{mutation_of, stamped_of};
 ghost use Rattle.tree.specs.Nodes.{IsTree, context};
 ghost use Rattle.tree.specs.Trees.{FitsIn, IsPlaced, document};
 
@@ -12,7 +12,7 @@ use crate::insert::slot_of;
 use crate::node::{Node, node_at};
 use crate::tree::Tree;
 use crate::walk::walk;
-use operation::Op;
+use operation::{Mutation, Op};
 use std::alloc::Global;
 use std::process::Abort;
 use std::test::Fail;
@@ -42,7 +42,7 @@ fn may_apply(tree: &Tree, op: &Op) -> bool
 fn is_formed(op: &Op) -> bool
     ensures { IsTrue result → IsFormed (mutation_of op.now.mutation) op.now.place }
 {
-    if op.mutation.is_insert() {
+    if matches!(op.mutation, Mutation::Insert(_)) {
         slot_of(&op.place).is_some()
     } else {
         !op.place.is_head()
@@ -54,7 +54,7 @@ fn fits(nodes: &[Node], op: &Op) -> bool
     requires { IsTree nodes.now }
     ensures { IsTrue result → FitsIn (context nodes.now) op.now.id (slot_of (mutation_of op.now.mutation) op.now.place) }
 {
-    if !op.mutation.is_insert() {
+    if !matches!(op.mutation, Mutation::Insert(_)) {
         return true;
     }
     let Some(slot) = slot_of(&op.place) else {

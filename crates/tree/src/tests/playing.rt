@@ -2,9 +2,11 @@
 
 use super::applying::play;
 use super::rows::{Does, Pair, Where, element_of, op, pair_of};
+use crate::answer::{conflicts_of, items_of, keys_of, values_of};
 use crate::tree::Tree;
+use crate::walk::walk;
 use ids::{Refusal, ReplicaTable};
-use operation::{ElementPlace, Scalar, Tag};
+use operation::{Place, Scalar, Tag};
 use std::alloc::Global;
 use std::process::Abort;
 use std::test::Fail;
@@ -31,10 +33,11 @@ fn assert_items(
     rt: &impl Abort,
     alloc: Global,
     tree: &Tree,
-    element: &ElementPlace,
+    element: &Place,
     want: &[Pair],
 ) -> Result<(), Fail> {
-    let items = tree.items(alloc, element)?;
+    let node = walk(&tree.nodes, element.hops());
+    let items = items_of(&tree.nodes, node, alloc)?;
     assert_eq!(rt; items.len(), want.len(), "of {want:?}");
     for (id, pair) in items.iter().zip(want) {
         assert_eq!(rt; pair_of(*id), *pair, "of {want:?}");
@@ -47,10 +50,11 @@ fn assert_keys(
     rt: &impl Abort,
     alloc: Global,
     tree: &Tree,
-    element: &ElementPlace,
+    element: &Place,
     want: &[&str],
 ) -> Result<(), Fail> {
-    let keys = tree.keys(alloc, element)?;
+    let node = walk(&tree.nodes, element.hops());
+    let keys = keys_of(&tree.nodes, node, alloc)?;
     assert_eq!(rt; keys.len(), want.len(), "of {want:?}");
     for (key, name) in keys.iter().zip(want) {
         assert_eq!(rt; key.as_str(), *name, "of {want:?}");
@@ -71,10 +75,11 @@ pub fn assert_values(
     rt: &impl Abort,
     alloc: Global,
     tree: &Tree,
-    element: &ElementPlace,
+    element: &Place,
     want: &[(Pair, &str)],
 ) -> Result<(), Fail> {
-    let values = tree.values(alloc, element)?;
+    let node = walk(&tree.nodes, element.hops());
+    let values = values_of(&tree.nodes, node, alloc)?;
     assert_eq!(rt; values.len(), want.len(), "of {want:?}");
     for ((id, scalar), (pair, value)) in values.iter().zip(want) {
         assert_eq!(rt;
@@ -91,10 +96,11 @@ fn assert_conflicts(
     rt: &impl Abort,
     alloc: Global,
     tree: &Tree,
-    element: &ElementPlace,
+    element: &Place,
     want: &[(Pair, Tag)],
 ) -> Result<(), Fail> {
-    let conflicts = tree.conflicts(alloc, element)?;
+    let node = walk(&tree.nodes, element.hops());
+    let conflicts = conflicts_of(&tree.nodes, node, alloc)?;
     assert_eq!(rt; conflicts.len(), want.len(), "of {want:?}");
     for ((id, tag), row) in conflicts.iter().zip(want) {
         assert_eq!(rt; (pair_of(*id), *tag), *row, "of {want:?}");

@@ -1,9 +1,10 @@
 //! What `reserve` leaves as it was, and what may follow it.
 
 use super::playing::{assert_values, empty, take_turns};
+use super::rows::no_head;
 use super::*;
 use crate::tree::Tree;
-use operation::{ElementPlace, Expr, ExprStep as Step, Key};
+use operation::{Expr, ExprStep as Step, Key, Place};
 use std::alloc::Global;
 use std::process::Abort;
 
@@ -56,10 +57,9 @@ fn at_first(alloc: Global) -> Result<Expr, Fail> {
 }
 
 /// The place of the list's first item.
-fn first_item(alloc: Global, tree: &Tree) -> Result<ElementPlace, Fail> {
+fn first_item(alloc: Global, tree: &Tree) -> Result<Place, Fail> {
     let expression = at_first(alloc)?;
-    let place = tree.resolve(alloc, &expression)?;
-    Ok(place.into_element().ok_or("a head")?)
+    no_head(tree.resolve(alloc, &expression)?)
 }
 
 /// Reserves an operation, and asserts all that the groceries hold.

@@ -1,7 +1,7 @@
 //! Operations and places as they are written in a table of turns.
 
 use ids::{OpId, Refusal, ReplicaId};
-use operation::{ElementPlace, Key, Mutation, Op, Place, Scalar, Text, Val, VersionVector};
+use operation::{Key, Mutation, Op, Place, Scalar, Text, Val, VersionVector};
 use std::alloc::Global;
 use std::test::Fail;
 
@@ -78,10 +78,17 @@ fn place_of(alloc: Global, at: Where) -> Result<Place, Refusal> {
     }
 }
 
-/// The place of a row, which must not be a head, as an element's.
-pub fn element_of(alloc: Global, at: Where) -> Result<ElementPlace, Fail> {
-    let place = place_of(alloc, at)?;
-    Ok(place.into_element().ok_or("a head")?)
+/// The place of a row, which must not be a head.
+pub fn element_of(alloc: Global, at: Where) -> Result<Place, Fail> {
+    no_head(place_of(alloc, at)?)
+}
+
+/// A place, which must not be a head.
+pub fn no_head(place: Place) -> Result<Place, Fail> {
+    if place.is_head() {
+        return Err("a head".into());
+    }
+    Ok(place)
 }
 
 /// A text as a value.

@@ -10,18 +10,18 @@ ghost use Rattle.semantics.specs.Engine.{Hello as HelloOf};
 ghost use Rattle.semantics.specs.WriteSteps.{push};
 ghost use Rattle.semantics.specs.PeerSteps.{answer_hello, answer_sent, lacked, names_members, published_vector, receive_lines};
 ghost use Rattle.semantics.specs.PeerSteps.{receive_message, say_hello, submit_all};
-ghost use Rattle.handling.specs.operation.Meanings.{stamped_of};
+ghost use Rattle.replica.specs.operation.Ops.{stamped_of};
 ghost use Rattle.wire.specs.Bundles.{readable};
 ghost use Rattle.world.specs.Engines.{IsNoHello, IsReachedEngine, first_of, message_of, stop_after};
 ghost use Rattle.world.specs.Parts.{IsBetween};
-ghost use Rattle.world.specs.Meanings.{step_reply_of};
+ghost use Rattle.world.specs.Acts.{step_reply_of};
 
 use crate::engine::Engine;
 use crate::message::{Message, NamedOps, NamedVector};
-use crate::naming::{ops_beside, vector_beside};
+use crate::naming::{reindexed_ops, reindexed_vector};
 use crate::step::WorldReply;
-use handling::{Op, Request, Shared};
 use ids::Refusal;
+use replica::{Op, Request, Shared};
 use std::alloc::{AllocError, Global};
 use wire::{LinesRead, read_lines};
 
@@ -110,7 +110,7 @@ impl Engine {
             ⊎ ((why ≡ UnknownReplica) × (names_members self.now (by_table hello.now.table hello.now.vector) ≡ false))) }
     {
         let table = self.shown().table().clone()?;
-        let vector = vector_beside(alloc, &hello.table, &hello.vector, &table)?;
+        let vector = reindexed_vector(alloc, &hello.table, &hello.vector, &table)?;
         let ops = self.shown().missing(alloc, &vector)?;
         Ok(NamedOps { table, ops })
     }
@@ -137,7 +137,7 @@ impl Engine {
         let Some(Message::Bundle(bundle)) = messages.get(message) else {
             return Ok(WorldReply::NoMessage);
         };
-        let read = ops_beside(alloc, bundle, self.shown().table());
+        let read = reindexed_ops(alloc, bundle, self.shown().table());
         self.receive(client, read)
     }
 

@@ -4,15 +4,15 @@ ghost use Rattle.std.specs.Prelude.{◌≡◌, OnErr, OnOk, IfOk, map, length, o
 ghost use Rattle.semantics.specs.Engine.{Engine as TheEngine, Read, published_entries};
 ghost use Rattle.semantics.specs.LegalAnswer.{reading_of};
 ghost use Rattle.semantics.specs.ReadSteps.{ask, cell_under, learn, poll, see, seen_by};
-ghost use Rattle.handling.specs.document.Documents.{IsBeside, asked_of};
+ghost use Rattle.replica.specs.document.Documents.{HasWidthOf, asked_of};
 ghost use Rattle.world.specs.Engines.{client_of, given_of};
-ghost use Rattle.world.specs.Meanings.{step_reply_of};
+ghost use Rattle.world.specs.Acts.{step_reply_of};
 
 use crate::client::{Client, Given};
 use crate::engine::Engine;
 use crate::step::WorldReply;
-use handling::{Document, Question};
 use ids::Refusal;
+use replica::{Document, Question};
 use std::alloc::{AllocError, Global};
 
 impl Engine {
@@ -58,7 +58,7 @@ impl Engine {
         token: usize,
         question: &Question,
     ) -> Result<WorldReply, AllocError>
-        requires { IsBeside self.old.replica.members question.now }
+        requires { HasWidthOf self.old.replica.members question.now }
         ensures engine { OnOk result (self.new ≡ (ask self.old token (asked_of self.old.replica.members question.now)).engine) }
         ensures reply { IfOk result (λ r. step_reply_of r ≡ (ask self.old token (asked_of self.old.replica.members question.now)).reply) }
         ensures unchanged { OnErr result (self.new ≡ self.old) }
@@ -73,7 +73,7 @@ impl Engine {
     /// # Errors
     /// `AllocError` if allocation fails.
     fn read(&self, alloc: Global, question: &Question) -> Result<WorldReply, AllocError>
-        requires { IsBeside self.now.replica.members question.now }
+        requires { HasWidthOf self.now.replica.members question.now }
         ensures reply { IfOk result
             (λ r. step_reply_of r
             ≡ Read self.now.published (reading_of (published_entries self.now) (asked_of self.now.replica.members question.now))) }

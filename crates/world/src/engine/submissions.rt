@@ -4,16 +4,16 @@ ghost use Rattle.std.specs.Prelude.{◌≡◌, ◌++◌, ◌∷◌, [], ◌+◌,
 ghost use Rattle.semantics.specs.LegalAnswer.{OfCommand};
 ghost use Rattle.semantics.specs.Engine.{Client as TheClient};
 ghost use Rattle.semantics.specs.WriteSteps.{push, with_cell};
-ghost use Rattle.handling.specs.operation.Meanings.{command_of};
-ghost use Rattle.handling.specs.items.Meanings.{request_of, submitted_of};
+ghost use Rattle.replica.specs.operation.Ops.{command_of};
+ghost use Rattle.replica.specs.operation.Submissions.{request_of, submitted_of};
 ghost use Rattle.world.specs.Engines.{client_of, taken_or_denied};
-ghost use Rattle.world.specs.Meanings.{step_reply_of};
+ghost use Rattle.world.specs.Acts.{step_reply_of};
 
 use crate::client::Client;
 use crate::engine::Engine;
 use crate::step::WorldReply;
-use handling::{Command, Item, Request, Shared};
 use ids::Refusal;
+use replica::{Command, Request, Shared, Submission};
 use std::alloc::AllocError;
 use std::collections::VecDeque;
 
@@ -72,9 +72,9 @@ impl Engine {
         if self.queue.len() >= self.capacity {
             return Ok(Some(Refusal::QueueFull));
         }
-        let item = k.next_item(client, request);
+        let submission = k.next_submission(client, request);
         let k = &mut self.clients[client];
-        enqueue(&mut self.queue, k, item)?;
+        enqueue(&mut self.queue, k, submission)?;
         Ok(None)
     }
 }
@@ -83,15 +83,20 @@ impl Engine {
 ///
 /// # Errors
 /// `AllocError` if allocation fails. Nothing is kept or queued then.
-fn enqueue(queue: &mut VecDeque<Item>, k: &mut Client, item: Item) -> Result<(), AllocError>
-    ensures queue { OnOk result (queue.new.items ≡ queue.old.items ++ item ∷ []) }
-    ensures client { OnOk result ((table : List ℕ) → client_of table k.new ≡ with_cell (client_of table k.old) (submitted_of table item)) }
+fn enqueue(
+    queue: &mut VecDeque<Submission>,
+    k: &mut Client,
+    submission: Submission,
+) -> Result<(), AllocError>
+    ensures queue { OnOk result (queue.new.items ≡ queue.old.items ++ submission ∷ []) }
+    ensures client { OnOk result
+        ((table : List ℕ) → client_of table k.new ≡ with_cell (client_of table k.old) (submitted_of table submission)) }
     ensures unqueued { OnErr result (queue.new.items ≡ queue.old.items) }
     ensures unchanged { OnErr result ((table : List ℕ) → client_of table k.new ≡ client_of table k.old) }
 {
-    let kept = item.clone()?;
+    let kept = submission.clone()?;
     queue.reserve(1)?;
     k.keep(kept)?;
-    queue.push_back_reserved(item);
+    queue.push_back_reserved(submission);
     Ok(())
 }

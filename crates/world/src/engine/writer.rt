@@ -4,19 +4,20 @@ ghost use Rattle.std.specs.Prelude.{◌≡◌, ◌<◌, OnErr, OnOk, IfOk, map, 
 ghost use Rattle.semantics.specs.Entries.{IsAbove};
 ghost use Rattle.semantics.specs.Replica.{IsRunning};
 ghost use Rattle.semantics.specs.Publication.{Holds};
-ghost use Rattle.semantics.specs.WriteSteps.{after_item, give, give_for, give_to, publish, reply_to, take_for, take_item, whole_step};
-ghost use Rattle.handling.specs.replica.Replicas.{replica_of};
-ghost use Rattle.handling.specs.items.Meanings.{reply_of, submitted_of};
+ghost use Rattle.semantics.specs.WriteSteps.{after_submission, give, give_for, give_to, publish, reply_to, take_for, take_submission};
+ghost use Rattle.semantics.specs.WriteSteps.{whole_step};
+ghost use Rattle.replica.specs.Replicas.{replica_of};
+ghost use Rattle.replica.specs.operation.Submissions.{reply_of, submitted_of};
 ghost use Rattle.world.specs.Engines.{IsReachedEngine, client_of, given_of, is_no_memory};
-ghost use Rattle.world.specs.Meanings.{step_reply_of};
+ghost use Rattle.world.specs.Acts.{step_reply_of};
 ghost use Rattle.world.specs.Parts.{IsHandledInPart, PublishesInPart, StepsInPart, TakesInPart};
 
 use crate::client::{Client, Given};
 use crate::engine::{Engine, Handled};
 use crate::publisher::Publisher;
 use crate::step::WorldReply;
-use handling::{Handler, Item, Reply};
 use ids::Refusal;
+use replica::{Handler, Reply, Submission};
 use std::alloc::{AllocError, Global};
 use std::mem;
 
@@ -27,22 +28,23 @@ impl Engine {
     /// `AllocError` if allocation fails. The submission may be handled in part then, and is still in the queue.
     pub fn take(&mut self, alloc: Global) -> Result<WorldReply, AllocError>
         requires { IsReachedEngine self.old }
-        ensures engine { OnOk result (self.new ≡ (take_item self.old).engine) }
-        ensures reply { IfOk result (λ r. step_reply_of r ≡ (take_item self.old).reply) }
+        ensures engine { OnOk result (self.new ≡ (take_submission self.old).engine) }
+        ensures reply { IfOk result (λ r. step_reply_of r ≡ (take_submission self.old).reply) }
         ensures stopped { OnErr result (TakesInPart self.old self.new) }
     {
         if !self.due.is_empty() || self.handled.len() >= self.batch {
             return Ok(WorldReply::Idle);
         }
         self.handled.reserve(1)?;
-        let Some(item) = self.queue.pop_front() else {
+        let Some(submission) = self.queue.pop_front() else {
             return Ok(WorldReply::Idle);
         };
-        let Ok(reply) = handle(alloc, &mut self.handler, &mut self.publisher, &item) else {
-            self.queue.push_front_reserved(item);
+        let Ok(reply) = handle(alloc, &mut self.handler, &mut self.publisher, &submission) else {
+            self.queue.push_front_reserved(submission);
             return Err(AllocError);
         };
-        self.handled.push_back_reserved(Handled { item, reply });
+        self.handled
+            .push_back_reserved(Handled { submission, reply });
         Ok(WorldReply::Took)
     }
 
@@ -72,8 +74,8 @@ impl Engine {
         let Some(handled) = self.due.pop_front() else {
             return WorldReply::Idle;
         };
-        let client = handled.item.client;
-        let serial = handled.item.serial;
+        let client = handled.submission.client;
+        let serial = handled.submission.serial;
         let given = Given {
             reply: handled.reply,
             published: self.publisher.published().len(),
@@ -138,23 +140,23 @@ fn handle(
     alloc: Global,
     handler: &mut Handler,
     publisher: &mut Publisher,
-    item: &Item,
+    submission: &Submission,
 ) -> Result<Reply, AllocError>
     requires holds { Holds publisher.old (replica_of handler.old.replica) }
     requires running { IsRunning (replica_of handler.old.replica) }
-    requires above { IsAbove item.now.client item.now.serial handler.old.replica.document.entries }
+    requires above { IsAbove submission.now.client submission.now.serial handler.old.replica.document.entries }
     ensures replica { OnOk result (replica_of handler.new.replica
-        ≡ after_item (replica_of handler.old.replica) (submitted_of handler.old.replica.document.table item.now)) }
+        ≡ after_submission (replica_of handler.old.replica) (submitted_of handler.old.replica.document.table submission.now)) }
     ensures reply { IfOk result
-        (λ r. reply_of r ≡ reply_to (replica_of handler.old.replica) (submitted_of handler.old.replica.document.table item.now)) }
+        (λ r. reply_of r ≡ reply_to (replica_of handler.old.replica) (submitted_of handler.old.replica.document.table submission.now)) }
     ensures table { handler.new.replica.document.table ≡ handler.old.replica.document.table }
     ensures holds { Holds publisher.new (replica_of handler.new.replica) }
     ensures published { publisher.new.published ≡ publisher.old.published }
     ensures stopped { OnErr result
-        (IsHandledInPart (replica_of handler.old.replica) (submitted_of handler.old.replica.document.table item.now)
+        (IsHandledInPart (replica_of handler.old.replica) (submitted_of handler.old.replica.document.table submission.now)
         (replica_of handler.new.replica)) }
 {
-    let reply = handler.handle(alloc, publisher, item);
+    let reply = handler.handle(alloc, publisher, submission);
     if handler.behind || is_no_memory(&reply) {
         return Err(AllocError);
     }

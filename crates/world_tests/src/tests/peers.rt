@@ -191,7 +191,7 @@ fn bundles_answer_hellos(rt: HostRuntime) -> Result<(), Fail> {
 }
 
 #[test]
-fn hellos_of_strangers(rt: HostRuntime) -> Result<(), Fail> {
+fn hellos_of_nonmembers(rt: HostRuntime) -> Result<(), Fail> {
     const ROWS: &[Talk] = &[
         (1, Hello(2), "Hello 0: 0 0"),
         (0, Bundle(2, 0), "Bundle 1 of 0"),
@@ -229,7 +229,7 @@ const BAD_THIRD: &str = r#"["op",[1,2],[],[["m",0]],"a",["a",7]]
 "#;
 
 #[test]
-fn bundles_of_strangers(rt: HostRuntime) -> Result<(), Fail> {
+fn bundles_of_nonmembers(rt: HostRuntime) -> Result<(), Fail> {
     const ROWS: &[Talk] = &[
         (1, Lines(0, FIRST), "Received 1 from 1"),
         (1, Push(0, "b", 2), "Ticket(2)"),

@@ -3,8 +3,8 @@ use Rattle.std.proofs.lemmas.Option.{slice_get_read}
 use Rattle.semantics.specs.Ids.{OpId as AnId}
 use Rattle.semantics.specs.Elements.{Scalar as TheScalar, Whole}
 use Rattle.peer_sync.specs.value.declared.value.Scalar.{Scalar}
-use Rattle.peer_sync.specs.value.Meanings.{scalar_of}
-use Rattle.peer_sync.specs.value.Equality.{is_same_scalar, scalar_decides}
+use Rattle.peer_sync.specs.value.Values.{scalar_of}
+use Rattle.peer_sync.specs.value.SameValues.{is_same_scalar, scalar_decides}
 use Rattle.bench.proofs.Submitting.{alone}
 use Rattle.bench.proofs.working.is_number_alone.Goals as goal
 

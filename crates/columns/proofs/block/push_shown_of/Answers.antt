@@ -10,6 +10,7 @@ loop-at-preserved c =
     let on : i + 16 ≡ i + (i + 16 - i) = omega arith in
     record {
       within = within;
-      rest = pushed_run c.args.flags.now c.args.ids.now i (i + 16 - i) c.requires (i + 16) on c.loop-at.items.items c.push_run.new.items.items
+      rest = pushed_run c.args.flags.now c.args.ids.now i (i + 16 - i) c.requires
+          (i + 16) on c.loop-at.items.items c.push_run.new.items.items
           (c.args.items.now.items ++ items_where_true c.args.flags.now c.args.ids.now) c.in_ok-push_run.ensures c.loop-at.invariant.rest;
     }

@@ -5,7 +5,7 @@ use Rattle.std.specs.List.{cons_option}
 use Rattle.semantics.specs.Entries.{entry_at, missing, stamped_in, stamped_entries}
 use Rattle.semantics.specs.Stamped.{Stamped}
 use Rattle.semantics.specs.Tables.{by_table}
-use Rattle.oplog.specs.operation.Meanings.{stamped_of}
+use Rattle.oplog.specs.operation.Ops.{stamped_of}
 use Rattle.oplog.proofs.Missing.{positions-read}
 use Rattle.document.proofs.MissingOps.{found, found_all, found_next}
 use Rattle.document.proofs.answer.missing.Goals as goal

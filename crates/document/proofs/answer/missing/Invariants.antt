@@ -1,7 +1,7 @@
 use Rattle.std.proofs.Common.{◌≡◌, ◌++◌, drop, length, map}
 use Rattle.std.specs.List.{All}
 use Rattle.oplog.specs.operation.declared.op.Op.{Op}
-use Rattle.oplog.specs.operation.Meanings.{stamped_of}
+use Rattle.oplog.specs.operation.Ops.{stamped_of}
 use Rattle.document.proofs.MissingOps.{found}
 use Rattle.document.proofs.answer.missing.Given as goal
 

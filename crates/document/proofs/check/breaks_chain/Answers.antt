@@ -14,7 +14,7 @@ returns-in-Some c =
     (λ t. not (c.get.ensures t == c.get-in-Some.ensures t))
     ∙ ap not
     (chain_there (applied c.args.log.now.entries) table c.args.op.now.deps c.args.applied.now c.requires.distinct c.requires.width
-    c.requires.beside c.requires.applied c.in-Some.index c.args.op.now.id.replica there)
+    c.requires.fits c.requires.applied c.in-Some.index c.args.op.now.id.replica there)
 
 pub returns-in-None : goal.returns-in-None
 returns-in-None c =

@@ -1,6 +1,6 @@
 use Rattle.std.proofs.Common.{true, false, refl, sym, ◌∙◌}
 use Rattle.semantics.specs.Operations.{element_of}
-use Rattle.oplog.specs.operation.Meanings.{stamped_of}
+use Rattle.oplog.specs.operation.Ops.{stamped_of}
 use Rattle.document.proofs.ReceivedFaults.{fault-tested, items-tested}
 use Rattle.document.proofs.check.check.Goals as goal
 

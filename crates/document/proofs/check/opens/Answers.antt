@@ -4,7 +4,7 @@ use Rattle.semantics.specs.Vectors.{is_at_most}
 use Rattle.semantics.specs.Stamped.{Stamped}
 use Rattle.semantics.proofs.ColumnComparison.{at_most-by_table}
 use Rattle.oplog.specs.operation.declared.op.Op.{Op}
-use Rattle.oplog.specs.operation.Meanings.{stamped_of}
+use Rattle.oplog.specs.operation.Ops.{stamped_of}
 use Rattle.document.specs.Checks.{entry_there, is_beyond, opens}
 use Rattle.document.proofs.check.opens.Goals as goal
 

@@ -2,12 +2,12 @@
 use Rattle.std.proofs.Common.{◌≡◌, ◌++◌, ℕ, List, Some, length, sym, ap, ◌∙◌, subst, arith, refl, rules}
 use Rattle.crossbeam_queue.specs.Passes.{view}
 use Rattle.semantics.specs.Entries.{Entry, Own, entry_at, IsEntryHistory}
-use Rattle.handling.specs.oplog.Logs.{history}
+use Rattle.replica.specs.oplog.Logs.{history}
 use Rattle.semantics.specs.WorldHistory.{BeginsWith}
-use Rattle.handling.specs.items.declared.item.Item.{Item}
+use Rattle.replica.specs.operation.declared.submission.Submission.{Submission}
 use Rattle.command.specs.InOrder.{of}
-use Rattle.engine.specs.Clients.{items_by, AreClients}
-use Rattle.engine.specs.Turns.{Writer}
+use Rattle.engine.specs.Clients.{submissions_by, AreClients}
+use Rattle.engine.specs.WriterSteps.{Writer}
 use Rattle.engine.proofs.OwnSubmissions.{own_submitted}
 use Rattle.engine.proofs.Gathering.{gathering_none, gathering_head, gathering_more, gathered_seen, known_at}
 use Rattle.engine.proofs.closing.close.Goals as goal
@@ -55,8 +55,8 @@ returns-clause-taken g c =
     let same : length c.writer.inside.held.items ≡ length c.args.writer.held = ap (λ (w : Writer). length w.held) c.writer.view_is in (
       q.0,
       omega (arith, held, same, q.1),
-      λ k d at. ap (λ (l : List Item). of k (l ++ q.0)) (sym got)
-          ∙ q.2 k (items_by d) (known_at _ _ _ _ _ _ c.loop-client.invariant.2 (search rules) k d at),
+      λ k d at. ap (λ (l : List Submission). of k (l ++ q.0)) (sym got)
+          ∙ q.2 k (submissions_by d) (known_at _ _ _ _ _ _ c.loop-client.invariant.2 (search rules) k d at),
     )
 
 pub returns-clause-own : goal.returns-clause-own
@@ -67,10 +67,10 @@ returns-clause-own g c k d at n serial command s there =
     let begins : BeginsWith c.writer.inside.handler.replica.document.entries P = subst
     (λ (G : List Entry). BeginsWith G P) c.writer.invariant.holds.appended c.notice-notice.ensures.appended in
     let all : of k ((view c.writer.inside.taker.pass).got ++ q.0)
-    ≡ items_by d = ap (λ (l : List Item). of k (l ++ q.0)) (sym c.loop-client.invariant.3)
-    ∙ q.2 k (items_by d) (known_at _ _ _ _ _ _ c.loop-client.invariant.2 (search rules) k d at) in
+    ≡ submissions_by d = ap (λ (l : List Submission). of k (l ++ q.0)) (sym c.loop-client.invariant.3)
+    ∙ q.2 k (submissions_by d) (known_at _ _ _ _ _ _ c.loop-client.invariant.2 (search rules) k d at) in
     own_submitted table (view c.writer.inside.taker.pass).got q.0
-    (items_by d) P c.writer.inside.handler.replica.document.entries n k serial command s c.writer.invariant.come_from begins all
+    (submissions_by d) P c.writer.inside.handler.replica.document.entries n k serial command s c.writer.invariant.come_from begins all
     (subst (λ (G : List Entry). entry_at n G ≡ Some (Own k serial command s))
     (sym (ap (λ (w : Writer). w.published) c.writer.view_is)) there)
 

@@ -11,8 +11,8 @@ loop-number-preserved g c =
     let before = c.loop-number.invariant in
     let client = c.new.result in
     let pushed : c.push_reserved.new.self.items ≡ c.loop-number.clients.items ++ client ∷ [] = search rules in
-    let unseen = All-pop (λ seat. seat.seen ≡ []) c.loop-number.seats.items c.pop.new.self.items
-    (Some c.in-Some.seat) c.in-Some.ensures.items before.unseen in
+    let unseen = All-pop (λ token. token.seen ≡ []) c.loop-number.tokens.items c.pop.new.self.items
+    (Some c.in-Some.token) c.in-Some.ensures.items before.unseen in
     let fresh : IsNewClient c.args.config.now client = record {
       replica = search rules;
       serials = search rules;
@@ -32,7 +32,7 @@ loop-number-preserved g c =
       count = search rules;
       new = subst (λ (cs : List Client). (k : ℕ) → (d : Client) → k < length cs → IsNewClient c.args.config.now (slice_index_or cs k d))
           (sym pushed) (All-push (IsNewClient c.args.config.now) c.loop-number.clients.items client before.new fresh);
-      seats = search rules;
+      tokens = search rules;
       unseen = unseen.0;
       room = search rules;
     }

@@ -1,4 +1,4 @@
--- this many clients were made of the last seats
+-- this many clients were made of the last tokens
 use Rattle.std.proofs.Common.{◌≡◌, ◌+◌, ◌≤◌, [], length, vec_capacity}
 use Rattle.std.specs.List.{All}
 use Rattle.std.specs.Arc.{arc_value}
@@ -15,7 +15,7 @@ invariant-loop-number g l = record {
   are : AreClients l.taker.pass.table_id 0 l.clients.items;
   count : length l.clients.items ≡ l.number;
   new : All (IsNewClient l.fn.config) l.clients.items;
-  seats : length l.seats.items + l.number ≡ l.fn.config.clients + l.fn.config.readers;
-  unseen : All (λ s. s.seen ≡ []) l.seats.items;
+  tokens : length l.tokens.items + l.number ≡ l.fn.config.clients + l.fn.config.readers;
+  unseen : All (λ s. s.seen ≡ []) l.tokens.items;
   room : l.fn.config.clients ≤ vec_capacity l.clients;
 }

@@ -1,9 +1,9 @@
 use Rattle.std.proofs.Common.{◌≡◌, ◌≤◌, vec_capacity, vec_len}
 use Rattle.crossbeam_queue.specs.Passes.{view}
 use Rattle.semantics.specs.Publication.{Holds}
-use Rattle.handling.specs.replica.Replicas.{replica_of}
-use Rattle.handling.specs.Meanings.{handler_of}
-use Rattle.engine.specs.Turns.{publication_of}
+use Rattle.replica.specs.Replicas.{replica_of}
+use Rattle.replica.specs.Handlers.{handler_of}
+use Rattle.engine.specs.WriterSteps.{publication_of}
 use Rattle.engine.proofs.Filling.{IsFilling}
 use Rattle.engine.proofs.writer.fill.Given as goal
 

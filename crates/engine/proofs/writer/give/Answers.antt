@@ -3,8 +3,8 @@ use Rattle.semantics.specs.Entries.{Entry}
 use Rattle.semantics.specs.Engine.{Handled}
 use Rattle.semantics.specs.PeerAnswers.{IsAnswer}
 use Rattle.semantics.specs.Batches.{AreAnswers}
-use Rattle.handling.specs.items.Meanings.{reply_of, submitted_of}
-use Rattle.command.specs.Answers.{Answered}
+use Rattle.replica.specs.operation.Submissions.{reply_of, submitted_of}
+use Rattle.command.specs.Answers.{AnswerCell}
 use Rattle.engine.proofs.Filling.{answers_pop, answers_reversed}
 use Rattle.engine.proofs.writer.give.Goals as goal
 
@@ -15,8 +15,8 @@ fill-requires g c =
     let y = reply_of c.handled.inside.reply in
     let popped = answers_pop own table c.args.notice.now c.loop-handled.held.items c.pop.new.self.items c.in-Some.handled
     c.in-Some.ensures.items c.loop-handled.invariant.0 in
-    subst (λ (a : Answered). IsAnswer own table c.again.result (submitted_of table a.item) y) (sym c.deref_mut.ensures.value)
-    (subst (λ (G : List Entry). IsAnswer own table G (submitted_of table c.handled.inside.envelope.answer.value.item) y)
+    subst (λ (a : AnswerCell). IsAnswer own table c.again.result (submitted_of table a.submission) y) (sym c.deref_mut.ensures.value)
+    (subst (λ (G : List Entry). IsAnswer own table G (submitted_of table c.handled.inside.envelope.answer.value.submission) y)
     (sym c.again.ensures)
     (subst (λ (h : Handled). IsAnswer own table c.args.notice.now h.submitted h.reply) (sym c.handled.view_is) popped.1))
 

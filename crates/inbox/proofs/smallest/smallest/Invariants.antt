@@ -6,7 +6,7 @@ use Rattle.std.specs.BTreeSet.{contains}
 use Rattle.std.specs.FinMap.{find}
 use Rattle.slab.specs.Slab.{get}
 use Rattle.document.specs.operation.declared.op.Op.{Op}
-use Rattle.document.specs.operation.Meanings.{stamped_of}
+use Rattle.document.specs.operation.Ops.{stamped_of}
 use Rattle.inbox.specs.declared.awaited.Awaited.{Awaited}
 use Rattle.inbox.specs.Awaiting.{await_cmp, IsMet, IsPassed, IsReadyAt}
 use Rattle.inbox.proofs.smallest.smallest.Given as goal

@@ -2,7 +2,7 @@ use Rattle.std.proofs.Common.{rules, ◌≡◌, ◌∙◌, Some, None, refl, sym
 use Rattle.std.specs.Prelude.{option_map}
 use Rattle.semantics.specs.Operations as operations
 use Rattle.semantics.specs.Operations.{misplaced}
-use Rattle.operation.specs.Meanings.{misplaced_of, mutation_of}
+use Rattle.operation.specs.Ops.{misplaced_of, mutation_of}
 use Rattle.operation.proofs.AloneFaults.{fault-alone}
 use Rattle.operation.proofs.alone.check_alone.Goals as goal
 

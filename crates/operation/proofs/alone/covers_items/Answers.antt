@@ -5,7 +5,7 @@ use Rattle.std.proofs.lemmas.Iterator.{YieldsList-from_slice}
 use Rattle.std.proofs.lemmas.Iterator.Search.{all_from_yields_List}
 use Rattle.semantics.specs.Operations.{element_of}
 use Rattle.semantics.specs.Tables.{by_table}
-use Rattle.cursor.specs.Meanings.{hop_of}
+use Rattle.cursor.specs.Steps.{hop_of}
 use Rattle.operation.specs.Alone.{key_covered}
 use Rattle.operation.proofs.PlaceKeys.{items_covered-keys}
 use Rattle.operation.proofs.alone.covers_items.Goals as goal

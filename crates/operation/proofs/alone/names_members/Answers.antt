@@ -6,7 +6,7 @@ use Rattle.std.proofs.lemmas.Iterator.Search.{all_from_yields_List}
 use Rattle.ids.specs.Members.{is_member}
 use Rattle.semantics.specs.Operations.{element_of}
 use Rattle.semantics.specs.Faults.{items_of_members}
-use Rattle.cursor.specs.Meanings.{hop_of}
+use Rattle.cursor.specs.Steps.{hop_of}
 use Rattle.operation.specs.Alone.{key_of_member}
 use Rattle.operation.proofs.PlaceKeys.{items_of_members-keys}
 use Rattle.operation.proofs.alone.names_members.Goals as goal

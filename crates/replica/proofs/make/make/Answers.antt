@@ -10,7 +10,7 @@ use Rattle.semantics.specs.Context.{doc}
 use Rattle.semantics.specs.DocumentAnswer.{visible_items}
 use Rattle.semantics.specs.Entries.{Entry, applied}
 use Rattle.semantics.proofs.EntryHistories.{length-applied}
-use Rattle.inbox.specs.operation.Meanings.{command_of}
+use Rattle.inbox.specs.operation.Ops.{command_of}
 use Rattle.replica.proofs.MadeOperations.{make-full, make-resolved, make-placed, made_at}
 use Rattle.replica.proofs.make.make.Goals as goal
 

@@ -4,7 +4,7 @@ use Rattle.semantics.specs.Faults.{fault_of}
 use Rattle.semantics.specs.Making.{is_full}
 use Rattle.semantics.specs.Stamped.{Stamped}
 use Rattle.inbox.specs.operation.declared.op.Op.{Op}
-use Rattle.inbox.specs.operation.Meanings.{stamped_of}
+use Rattle.inbox.specs.operation.Ops.{stamped_of}
 use Rattle.replica.proofs.waiting.next_turn.Goals as goal
 
 -- where the history has room, the first ready one is next

@@ -14,7 +14,8 @@ returns-clause-items g c =
     let at = c.make_way-at.result.0 in
     let item = c.make_way-at.result.1 in
     let front = with_items_is c.args.slots.now slots (c.make_way-at.auto.slots ∙ c.deref_mut.ensures.len) in
-    let put : c.insert_reserved.new.items.items ≡ insert slots at item = c.insert_reserved.ensures.items ∙ (λ t. insert (front t) at item) in
+    let put : c.insert_reserved.new.items.items ≡ insert slots at item = c.insert_reserved.ensures.items
+    ∙ (λ t. insert (front t) at item) in
     let closed : IsClosed 2048 starts (starts_of c.close_ring.new.starts) c.len.result = c.close_ring.ensures.closed in
     let count : length c.insert_reserved.new.items.items ≡ c.len.result = search rules in
     let full : length starts * 2048 ≤ length slots = let a = c.make_way-at.ensures.starts in let b = c.make_way-at.ensures.slots in

@@ -1,7 +1,7 @@
 -- What is left decides, after the engines so far.
 use Rattle.std.proofs.Common.{◌≡◌, ◌++◌, drop, Ok}
 use Rattle.serde_json.specs.View.{items_view}
-use Rattle.json_lines.specs.Forms.{and_then}
+use Rattle.world.specs.wire.Forms.{and_then}
 use Rattle.scripts.specs.Engines.{engines_of}
 use Rattle.scripts.proofs.configuration.engines_in.Given as goal
 

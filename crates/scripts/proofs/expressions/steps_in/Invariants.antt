@@ -1,8 +1,8 @@
 -- What is left decides, after the steps so far.
 use Rattle.std.proofs.Common.{◌≡◌, ◌++◌, drop, map, Ok}
-use Rattle.world.specs.cursor.Meanings.{step_of}
+use Rattle.world.specs.cursor.Steps.{step_of}
 use Rattle.serde_json.specs.View.{items_view}
-use Rattle.json_lines.specs.Forms.{and_then}
+use Rattle.world.specs.wire.Forms.{and_then}
 use Rattle.scripts.specs.Expressions.{path_steps_of}
 use Rattle.scripts.proofs.expressions.steps_in.Given as goal
 

@@ -8,7 +8,7 @@ use Rattle.world.specs.Worlds.{tables_of}
 use Rattle.scripts.specs.declared.error.ScriptError.{ScriptError}
 use Rattle.scripts.specs.Engines.{if_within_limits}
 use Rattle.scripts.specs.Errors.{IsErrorOf, error_of}
-use Rattle.json_lines.specs.Lines.{Bad, on_line, unless_bad}
+use Rattle.world.specs.wire.Lines.{Bad, on_line, unless_bad}
 use Rattle.scripts.specs.Scripts.{steps_left}
 use Rattle.scripts.proofs.AskedTables.{opened_tables}
 use Rattle.scripts.proofs.script.open.Goals as goal

@@ -9,10 +9,10 @@ use Rattle.scripts.specs.Engines.{engines_line}
 use Rattle.ids.specs.Configurations.{is_within_limits}
 use Rattle.scripts.specs.Engines.{if_within_limits, said_engines}
 use Rattle.scripts.specs.Errors.{IsErrorOf, error_of}
-use Rattle.json_lines.specs.Lines.{Bad, IsFirstLine, on_line, unless_bad}
+use Rattle.world.specs.wire.Lines.{Bad, IsFirstLine, on_line, unless_bad}
 use Rattle.scripts.specs.Scripts.{script_form, steps_left}
 use Rattle.scripts.proofs.StepsLeft.{script_form-bad, script_form-engines, script_form-none}
-use Rattle.json_lines.proofs.OrNoMemory.{IsOrNoMemory-Err}
+use Rattle.world.proofs.wire.OrNoMemory.{IsOrNoMemory-Err}
 use Rattle.scripts.proofs.script.read_script.Goals as goal
 
 both : {T E : Type 0} (r : Result T E) (P Q : T → Type 0) → IfOk r P → IfOk r Q → IfOk r (λ x. P x × Q x)

@@ -5,11 +5,11 @@ use Rattle.std.proofs.lemmas.List.Elements.{All-push}
 use Rattle.ids.specs.declared.refusal.Refusal.TheVariants.{BadLine}
 use Rattle.semantics.specs.World.{WorldStep as TheStep}
 use Rattle.world.specs.declared.step.WorldStep.{WorldStep}
-use Rattle.world.specs.Worlds.{IsAskedBeside, step_in, tables_of}
+use Rattle.world.specs.Worlds.{StepHasWidthIn, step_in, tables_of}
 use Rattle.scripts.specs.Errors.{error_of}
 use Rattle.scripts.specs.Scripts.{steps_left}
 use Rattle.scripts.proofs.StepsLeft.{after, after-step, after-bad, after-cut}
-use Rattle.json_lines.proofs.OrNoMemory.{IsOrNoMemory-Err}
+use Rattle.world.proofs.wire.OrNoMemory.{IsOrNoMemory-Err}
 use Rattle.scripts.proofs.script.read_steps.Goals as goal
 
 pub loop-line-preserved : goal.loop-line-preserved
@@ -26,8 +26,8 @@ loop-line-preserved c =
       left = rw (c.in_ok-push-in-Ok.ensures.items, c.in-Some.ensures.number.1, c.in-Some.ensures.number.0)
           (ap (λ (ss : List TheStep). after ss (steps_left engines (c.loop-line.lines.taken + 1) c.take_line.new.self.rest.now)) more
           ∙ sym step ∙ c.loop-line.invariant.left);
-      beside = subst (All (IsAskedBeside tables)) (sym c.in_ok-push-in-Ok.ensures.items)
-          (All-push (IsAskedBeside tables) old x c.loop-line.invariant.beside c.in-Ok.ensures.beside);
+      width = subst (All (StepHasWidthIn tables)) (sym c.in_ok-push-in-Ok.ensures.items)
+          (All-push (StepHasWidthIn tables) old x c.loop-line.invariant.width c.in-Ok.ensures.width);
     }
 
 pub returns-in-Err-clause-steps : goal.returns-in-Err-clause-steps

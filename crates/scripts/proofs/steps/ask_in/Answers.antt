@@ -2,11 +2,11 @@ use Rattle.std.proofs.Common.{◌≡◌, ℕ, ◌∙◌, List, [], ◌∷◌, le
 use Rattle.std.specs.Prelude.{slice_get}
 use Rattle.semantics.specs.LegalAnswer.{Asked}
 use Rattle.semantics.specs.World.{Ask, step_by}
-use Rattle.world.specs.document.Documents.{IsBeside, asked_of}
+use Rattle.world.specs.document.Documents.{HasWidthOf, asked_of}
 use Rattle.world.specs.Worlds.{tables_of}
 use Rattle.serde_json.specs.declared.value.Value.{Value}
 use Rattle.serde_json.specs.View.{view, items_view}
-use Rattle.json_lines.specs.Forms.{number_form}
+use Rattle.world.specs.wire.Forms.{number_form}
 use Rattle.scripts.specs.Requests.{question_form, table_in}
 use Rattle.scripts.specs.Steps.{ask_of}
 use Rattle.scripts.proofs.AskedTables.{same_table}
@@ -23,11 +23,11 @@ asked tables (x1 ∷ x2 ∷ []) x y z e t q n a b d i j k = absurd (omega (arith
 asked tables (x1 ∷ x2 ∷ x3 ∷ []) x y z e t q n a b d i j k = rw (← a, ← b, ← d, i, j, k) refl
 asked tables (x1 ∷ x2 ∷ x3 ∷ x4 ∷ xs) x y z e t q n a b d i j k = absurd (omega (arith, n))
 
-pub returns-clause-beside : goal.returns-clause-beside
-returns-clause-beside c =
+pub returns-clause-width : goal.returns-clause-width
+returns-clause-width c =
     let tables = tables_of c.args.world.now.engines in
-    subst (λ table. IsBeside table c.in_ok-question.question)
-    (ap table_in c.table.ensures ∙ same_table tables c.in_ok-engine.engine) c.in_ok-question.ensures.beside
+    subst (λ table. HasWidthOf table c.in_ok-question.question)
+    (ap table_in c.table.ensures ∙ same_table tables c.in_ok-engine.engine) c.in_ok-question.ensures.width
 
 pub returns-clause-read : goal.returns-clause-read
 returns-clause-read c =

@@ -18,6 +18,8 @@ loop-position-init c = λ e at.
     (wanted_skip ns (λ n. is_any ((context ns).presence (Field e n))) (links ns c.args.at).0 ([], 0) 0 next.result next.ensures.from
     next.ensures.within (λ i low high. next.ensures.passed e i ([], 0) at c.requires.empty low high))
 
+-- the keys so far are those of the fields up to here at which something stands: this one is added where it shows, and what lies
+-- between it and the next raised flag shows nothing
 pub loop-position-preserved : goal.loop-position-preserved
 loop-position-preserved c = λ e at.
     let ns = c.args.nodes.now in

@@ -1,6 +1,6 @@
 use Rattle.std.proofs.Common.{sym, ◌∙◌, subst}
 use Rattle.semantics.specs.Stamped.{loose_operation}
-use Rattle.operation.specs.Meanings.{stamped_of}
+use Rattle.operation.specs.Ops.{stamped_of}
 use Rattle.tree.specs.Nested.{IsNested}
 use Rattle.tree.specs.Nodes.{context}
 use Rattle.tree.proofs.Nested.{nested_apply}
@@ -16,8 +16,8 @@ returns-clause-nested c =
     subst IsNested (sym applied)
     (nested_apply (context c.args.nodes.now) (loose_operation (stamped_of c.args.stamp.now.table.now c.args.op.now)) c.requires.nested)
 
-pub returns-clause-beside : goal.returns-clause-beside
-returns-clause-beside c = c.show.ensures.same.beside c.args.stamp.now.table.now c.run.ensures.beside
+pub returns-clause-indexed : goal.returns-clause-indexed
+returns-clause-indexed c = c.show.ensures.same.indexed c.args.stamp.now.table.now c.run.ensures.indexed
 
 pub returns-clause-shown : goal.returns-clause-shown
 returns-clause-shown c = (c.show.ensures.shown (c.run.ensures.shown c.requires.shown)).0

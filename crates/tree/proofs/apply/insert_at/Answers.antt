@@ -3,8 +3,8 @@ use Rattle.std.specs.Prelude.{option_map}
 use Rattle.semantics.specs.Ids.{OpId}
 use Rattle.semantics.specs.Elements.{Element, Item, EmptyMap, is_under}
 use Rattle.semantics.specs.Operations.{Insert, slot_of}
-use Rattle.operation.specs.value.Meanings.{scalar_of}
-use Rattle.operation.specs.cursor.Meanings.{hop_of, tag_of}
+use Rattle.operation.specs.value.Values.{scalar_of}
+use Rattle.operation.specs.cursor.Steps.{hop_of, tag_of}
 use Rattle.tree.specs.Nodes.{context}
 use Rattle.tree.specs.Shown.{ShownBut}
 use Rattle.tree.specs.Writes.{assigned, deps_of, end_of, linked}

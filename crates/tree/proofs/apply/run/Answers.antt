@@ -3,9 +3,9 @@ use Rattle.std.specs.Prelude.{option_map}
 use Rattle.semantics.specs.Elements.{Item, is_under}
 use Rattle.semantics.specs.LegalHistory.{IsFormed}
 use Rattle.semantics.specs.Operations.{element_of, slot_of, target_in}
-use Rattle.operation.specs.value.Meanings.{scalar_of, value_of as meaning_of}
-use Rattle.operation.specs.Meanings.{mutation_of}
-use Rattle.operation.specs.cursor.Meanings.{hop_of, tag_of}
+use Rattle.operation.specs.value.Values.{scalar_of, value_of as meaning_of}
+use Rattle.operation.specs.Ops.{mutation_of}
+use Rattle.operation.specs.cursor.Steps.{hop_of, tag_of}
 use Rattle.tree.specs.Nodes.{context, node_at, register_room}
 use Rattle.tree.specs.Shown.{ShownBut}
 use Rattle.tree.specs.Writes.{RoomTo, end_of}
@@ -13,7 +13,7 @@ use Rattle.tree.specs.Trees.{Planted}
 use Rattle.tree.proofs.Rooms.{room_along}
 use Rattle.tree.proofs.Applied.{end_is, assign_reserved, register_reserved, scalar_reserved, can_insert, assign_applied, insert_applied}
 use Rattle.tree.proofs.Applied.{delete_applied}
-use Rattle.tree.proofs.NearTarget.{at_way}
+use Rattle.tree.proofs.OnTheWay.{at_way}
 use Rattle.tree.proofs.Shape.{children_tree}
 use Rattle.tree.proofs.Showing.{shown_but}
 use Rattle.tree.proofs.Slots.{formed_slot, slot_of_any}

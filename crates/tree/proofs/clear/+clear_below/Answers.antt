@@ -6,17 +6,18 @@ use Rattle.std.specs.List.{filter}
 use Rattle.std.proofs.lemmas.List.{drop_all}
 use Rattle.semantics.specs.Ids.{OpId, id_at, id_cmp}
 use Rattle.semantics.specs.Elements.{Element, Field, Item, Name, is_same}
-use Rattle.semantics.specs.Paths.{FieldKey}
+use Rattle.semantics.specs.Paths.{FieldHop}
 use Rattle.semantics.specs.Context.{Context, clear, without}
 use Rattle.semantics.specs.DocumentAnswer.{is_any}
 use Rattle.tree.specs.Nested.{IsNested}
-use Rattle.tree.specs.Nodes.{number, gone_of, links, context, Links, node_in, presence_of}
+use Rattle.tree.specs.Nodes.{number, empty_below_of, links, context, Links, node_in, presence_of}
 use Rattle.tree.specs.Shown.{ShownBut}
 use Rattle.tree.specs.Writes.{clear_own, deps_of, fields_of, items_of}
 use Rattle.tree.proofs.Shape.{children_linked, children_number, children_same, children_trans, children_tree, number_child, room_same}
 use Rattle.tree.proofs.Shape.{room_trans}
 use Rattle.tree.proofs.Clears.{clear_each, turn_field, turn_item, clear_whole}
-use Rattle.tree.proofs.Gone.{left_none, none_any, none_before, none_left, past_fields, past_gone, stands_behind, stands_more, stood_before}
+use Rattle.tree.proofs.EmptyBelow.{left_none, none_any, none_before, none_left, past_fields, past_empty, stands_behind, stands_more}
+use Rattle.tree.proofs.EmptyBelow.{stood_before}
 use Rattle.tree.proofs.Nested.{clear_empty, nested_clear}
 use Rattle.tree.proofs.Showing.{but_kept, but_wider, flags_children, flags_context, flags_number, flags_tree, empty_kept, lower, or_parts}
 use Rattle.tree.proofs.clear.+clear_below.Goals as goal
@@ -37,7 +38,7 @@ fields-init t c =
     record {
       shape = children_same old;
       room = room_same old;
-      beside = c.requires.beside;
+      indexed = c.requires.indexed;
       nested = c.requires.nested;
       empty = c.requires.empty;
       rest = λ e p. sym (past_fields e (deps_of c.args.stamp.now) fs (context old) ([], 0) c.requires.nested 0 next.result
@@ -69,7 +70,7 @@ flag_field-requires-clause-field t c = λ d.
     let here : number now e ≡ Some c.args.at = sym (children_number old now inv.shape e) ∙ p in
     let at : number mid e ≡ Some c.args.at = sym (children_number now mid one.children e) ∙ here in
     let x : Element = Field e (get_or (links mid c.args.at).0 c.fields.position d).0 in
-    sym (number_child mid e c.args.at (FieldKey (get_or (links mid c.args.at).0 c.fields.position d).0) at)
+    sym (number_child mid e c.args.at (FieldHop (get_or (links mid c.args.at).0 c.fields.position d).0) at)
     ∙ sym (children_number now mid one.children x)
     ∙ ap (λ (l : Links). number now (Field e (get_or l.0 c.fields.position d).0)) (sym (one.children.same c.args.at))
     ∙ c.field_at-child.ensures.number e d here
@@ -113,7 +114,7 @@ fields-preserved t c =
     record {
       shape = whole;
       room = room_trans old mid new (room_trans old now mid inv.room one.room) two.room;
-      beside = two.same.beside c.args.stamp.now.table.now one.beside;
+      indexed = two.same.indexed c.args.stamp.now.table.now one.indexed;
       nested = nested;
       empty = empty;
       rest = λ e p.
@@ -131,7 +132,7 @@ fields-preserved t c =
           (but_wider mid b x off (one.shown x off (child e p) (inv.shown e off p s))));
     }
 
--- the loop passes by the items that are gone, and clearing these would change nothing
+-- the loop passes by the items below the bound, and clearing these would change nothing
 pub items-init : goal.items-init
 items-init t c =
     let old = c.args.nodes.now in
@@ -142,7 +143,7 @@ items-init t c =
     let xs = (links old c.args.at).1 in
     let here : (e : Element) → number old e ≡ Some c.args.at → number now e ≡ Some c.args.at = λ e p.
     sym (children_number old now inv.shape e) ∙ p in
-    let g = gone_of (slice_get now c.args.at) in
+    let g = empty_below_of (slice_get now c.args.at) in
     let same : (links now c.args.at).1 ≡ xs = ap (λ (l : Links). l.1) (sym (inv.shape.same c.args.at)) in
     let from : drop c.first_item-from.result xs ≡ filter (λ x. nat_le g x.0.counter) (links now c.args.at).1 =
     ap (drop c.first_item-from.result) (sym same) ∙ c.first_item-from.ensures.from in
@@ -151,12 +152,12 @@ items-init t c =
     record {
       shape = inv.shape;
       room = inv.room;
-      beside = inv.beside;
+      indexed = inv.indexed;
       nested = inv.nested;
       empty = inv.empty;
       rest = λ e p.
           ap (λ ys. clear_each (context now) (items_of e ys) S) from
-          ∙ past_gone e S (λ a. nat_le g a.counter) (links now c.args.at).1 (context now) inv.nested
+          ∙ past_empty e S (λ a. nat_le g a.counter) (links now c.args.at).1 (context now) inv.nested
           (none_before now e c.args.at (here e p) inv.empty)
           ∙ ap (λ ys. clear_each (context now) (items_of e ys) S) same
           ∙ ap (λ C. clear_each C (items_of e xs) S)
@@ -214,7 +215,7 @@ items-preserved t c =
     record {
       shape = whole;
       room = room_trans old mid new (room_trans old now mid inv.room one.room) two.room;
-      beside = two.same.beside c.args.stamp.now.table.now one.beside;
+      indexed = two.same.indexed c.args.stamp.now.table.now one.indexed;
       nested = subst IsNested (sym (one.cleared x (child e p)) ∙ same) (nested_clear (context now) x S inv.nested);
       empty = two.empty e (sym (children_number old mid shape e) ∙ p) one.empty;
       rest = λ e p. ap (λ C. clear_each C (items_of e (drop (k + 1) xs)) S)
@@ -223,13 +224,14 @@ items-preserved t c =
       left = λ e p a lt any.
           let x : Element = Item e (get_or xs k d).0 in
           let cleared : context new ≡ clear (context now) x S = sym same ∙ one.cleared x (child e p) in
-          let stood = stood_before (context now) x S (Item e a) (sym (ap (λ (C : Context). is_any (C.presence (Item e a))) cleared) ∙ any) in
-          let least : c.gone_after-gone.result ≡ cond (is_any (presence_of (slice_get new c.item_at-child.result)))
-          (min c.items.gone (get_or xs k d).0.counter) c.items.gone = c.gone_after-gone.ensures d
+          let stood = stood_before (context now) x S (Item e a)
+          (sym (ap (λ (C : Context). is_any (C.presence (Item e a))) cleared) ∙ any) in
+          let least : c.empty_below_after-empty_below.result ≡ cond (is_any (presence_of (slice_get new c.item_at-child.result)))
+          (min c.items.empty_below (get_or xs k d).0.counter) c.items.empty_below = c.empty_below_after-empty_below.ensures d
           ∙ ap (λ (l : Links). cond (is_any (presence_of (slice_get new c.item_at-child.result)))
-          (min c.items.gone (get_or l.1 k d).0.counter) c.items.gone) (sym (whole.same c.args.at)) in
-          let le = lower (is_any (presence_of (slice_get new c.item_at-child.result))) c.items.gone (get_or xs k d).0.counter
-          c.gone_after-gone.result least in
+          (min c.items.empty_below (get_or l.1 k d).0.counter) c.items.empty_below) (sym (whole.same c.args.at)) in
+          let le = lower (is_any (presence_of (slice_get new c.item_at-child.result))) c.items.empty_below (get_or xs k d).0.counter
+          c.empty_below_after-empty_below.result least in
           let there : number new x ≡ Some c.item_at-child.result = sym (children_number now new
           (children_trans now mid new one.children (flags_children mid new two.same)) x) ∙ child e p in
           stands_more a xs k d within
@@ -255,36 +257,38 @@ items-preserved t c =
           (shape.same c.args.at) cleared));
     }
 
-pub set_gone-requires-clause-tree : goal.set_gone-requires-clause-tree
-set_gone-requires-clause-tree t c = children_tree c.args.nodes.now c.items.nodes c.items.invariant.shape c.requires.tree
+pub set_empty_below-requires-clause-tree : goal.set_empty_below-requires-clause-tree
+set_empty_below-requires-clause-tree t c = children_tree c.args.nodes.now c.items.nodes c.items.invariant.shape c.requires.tree
 
 pub clear_node-requires-clause-tree : goal.clear_node-requires-clause-tree
-clear_node-requires-clause-tree t c = flags_tree c.items.nodes c.set_gone.new.nodes c.set_gone.ensures.same
+clear_node-requires-clause-tree t c = flags_tree c.items.nodes c.set_empty_below.new.nodes c.set_empty_below.ensures.same
     (children_tree c.args.nodes.now c.items.nodes c.items.invariant.shape c.requires.tree)
 
-pub clear_node-requires-clause-beside : goal.clear_node-requires-clause-beside
-clear_node-requires-clause-beside t c = c.set_gone.ensures.same.beside c.args.stamp.now.table.now c.items.invariant.beside
+pub clear_node-requires-clause-indexed : goal.clear_node-requires-clause-indexed
+clear_node-requires-clause-indexed t c = c.set_empty_below.ensures.same.indexed c.args.stamp.now.table.now c.items.invariant.indexed
 
 pub returns-clause-children : goal.returns-clause-children
 returns-clause-children t c =
     let now = c.items.nodes in
-    let mid = c.set_gone.new.nodes in
+    let mid = c.set_empty_below.new.nodes in
     let new = c.clear_node.new.nodes in
     children_trans c.args.nodes.now now new c.items.invariant.shape
-    (children_trans now mid new (flags_children now mid c.set_gone.ensures.same) (children_linked mid new c.clear_node.ensures.links))
+    (children_trans now mid new (flags_children now mid c.set_empty_below.ensures.same)
+    (children_linked mid new c.clear_node.ensures.links))
 
 pub returns-clause-room : goal.returns-clause-room
 returns-clause-room t c =
     let now = c.items.nodes in
-    let mid = c.set_gone.new.nodes in
+    let mid = c.set_empty_below.new.nodes in
     let new = c.clear_node.new.nodes in
-    room_trans c.args.nodes.now now new c.items.invariant.room (room_trans now mid new c.set_gone.ensures.room c.clear_node.ensures.room)
+    room_trans c.args.nodes.now now new c.items.invariant.room
+    (room_trans now mid new c.set_empty_below.ensures.room c.clear_node.ensures.room)
 
 pub returns-clause-cleared : goal.returns-clause-cleared
 returns-clause-cleared t c = λ e p.
     let old = c.args.nodes.now in
     let now = c.items.nodes in
-    let mid = c.set_gone.new.nodes in
+    let mid = c.set_empty_below.new.nodes in
     let S = deps_of c.args.stamp.now in
     let here : number now e ≡ Some c.args.at = sym (children_number old now c.items.invariant.shape e) ∙ p in
     let xs = (links old c.args.at).1 in
@@ -294,14 +298,14 @@ returns-clause-cleared t c = λ e p.
     let all : context now
     ≡ clear_each (clear_each (context old) (fields_of e (links old c.args.at).0) S) (items_of e (links old c.args.at).1) S =
     ap (λ xs. clear_each (context now) (items_of e xs) S) (sym none) ∙ c.items.invariant.rest e p in
-    c.clear_node.ensures.cleared e (sym (flags_number now mid c.set_gone.ensures.same e) ∙ here)
-    ∙ ap (λ C. clear_own C e S) (sym (flags_context now mid c.set_gone.ensures.same) ∙ all) ∙ clear_whole old e c.args.at S p
+    c.clear_node.ensures.cleared e (sym (flags_number now mid c.set_empty_below.ensures.same e) ∙ here)
+    ∙ ap (λ C. clear_own C e S) (sym (flags_context now mid c.set_empty_below.ensures.same) ∙ all) ∙ clear_whole old e c.args.at S p
 
 pub returns-clause-empty : goal.returns-clause-empty
 returns-clause-empty t c =
     let old = c.args.nodes.now in
     let now = c.items.nodes in
-    let mid = c.set_gone.new.nodes in
+    let mid = c.set_empty_below.new.nodes in
     let new = c.clear_node.new.nodes in
     let S = deps_of c.args.stamp.now in
     let xs = (links old c.args.at).1 in
@@ -310,18 +314,19 @@ returns-clause-empty t c =
     let none : drop c.items.position xs ≡ [] = drop_all c.items.position xs (omega arith) in
     let (e, p) = c.requires.there in
     let here : number now e ≡ Some c.args.at = sym (children_number old now c.items.invariant.shape e) ∙ p in
-    let at : number mid e ≡ Some c.args.at = sym (flags_number now mid c.set_gone.ensures.same e) ∙ here in
+    let at : number mid e ≡ Some c.args.at = sym (flags_number now mid c.set_empty_below.ensures.same e) ∙ here in
     empty_kept mid new c.clear_node.ensures.links
     (λ x empty. ap (λ (C : Context). is_any (C.presence x)) (c.clear_node.ensures.cleared e at)
     ∙ left_none S (is_same x e) ((context mid).presence x) empty)
-    (c.set_gone.ensures.empty e here (none_left now e c.items.gone (drop c.items.position xs) none (c.items.invariant.left e p))
+    (c.set_empty_below.ensures.empty e here
+    (none_left now e c.items.empty_below (drop c.items.position xs) none (c.items.invariant.left e p))
     c.items.invariant.empty)
 
 pub returns-clause-shown : goal.returns-clause-shown
 returns-clause-shown t c = λ e off p s.
     let old = c.args.nodes.now in
     let now = c.items.nodes in
-    let mid = c.set_gone.new.nodes in
+    let mid = c.set_empty_below.new.nodes in
     let new = c.clear_node.new.nodes in
     let S = deps_of c.args.stamp.now in
     let xs = (links old c.args.at).1 in
@@ -329,7 +334,7 @@ returns-clause-shown t c = λ e off p s.
     ∙ sym c.count_items-items.ensures in
     let none : drop c.items.position xs ≡ [] = drop_all c.items.position xs (omega arith) in
     let here : number now e ≡ Some c.args.at = sym (children_number old now c.items.invariant.shape e) ∙ p in
-    let done = c.clear_node.ensures.cleared e (sym (flags_number now mid c.set_gone.ensures.same e) ∙ here) in
+    let done = c.clear_node.ensures.cleared e (sym (flags_number now mid c.set_empty_below.ensures.same e) ∙ here) in
     let present : is_any (presence_of (slice_get old c.args.at)) ≡ true = sym c.is_present.ensures ∙ c.if-not-is_present.false in
     subst (λ b. ShownBut new (λ x. (b && is_same x e) || off x)) (sym present)
     (but_kept mid new c.clear_node.ensures.links (λ l. ap (λ (C : Context). C.order l) done) off (λ x. is_same x e || off x)
@@ -338,5 +343,5 @@ returns-clause-shown t c = λ e off p s.
       ap (λ (C : Context). C.presence x) done
           ∙ ap (λ b. cond b (without S ((context mid).presence x)) ((context mid).presence x)) (or_parts (is_same x e) (off x) far).0,
     ))
-    (c.set_gone.ensures.shown e off here
-    (none_left now e c.items.gone (drop c.items.position xs) none (c.items.invariant.left e p)) (c.items.invariant.shown e off p s)))
+    (c.set_empty_below.ensures.shown e off here
+    (none_left now e c.items.empty_below (drop c.items.position xs) none (c.items.invariant.left e p)) (c.items.invariant.shown e off p s)))

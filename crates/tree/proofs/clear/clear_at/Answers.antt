@@ -1,6 +1,6 @@
 use Rattle.std.proofs.Common.{◌≡◌, Some, false, map, sym, ◌∙◌}
 use Rattle.semantics.specs.DocumentAnswer.{is_any}
-use Rattle.operation.specs.cursor.Meanings.{hop_of}
+use Rattle.operation.specs.cursor.Steps.{hop_of}
 use Rattle.std.specs.Prelude.{slice_get}
 use Rattle.tree.specs.Nodes.{number, presence_of}
 use Rattle.tree.specs.Writes.{deps_of, end_of}

@@ -1,27 +1,27 @@
 use Rattle.std.proofs.Common.{refl, sym, ap, ◌∙◌, arith}
-use Rattle.operation.specs.cursor.Meanings.{tag_of}
-use Rattle.operation.specs.value.Meanings.{scalar_of}
-use Rattle.columns.proofs.Beside.{indices_within}
+use Rattle.operation.specs.cursor.Steps.{tag_of}
+use Rattle.operation.specs.value.Values.{scalar_of}
+use Rattle.columns.proofs.IndexedEntries.{indices_within}
 use Rattle.tree.specs.declared.node.Node.{Node}
 use Rattle.tree.specs.Nodes.{tagged, valued}
 use Rattle.tree.specs.Writes.{deps_of}
 use Rattle.tree.proofs.Mapped.{without-mapped}
 use Rattle.tree.proofs.Shape.{links_set}
 use Rattle.tree.proofs.Contexts.{context_set, cleared_with}
-use Rattle.tree.proofs.NodeWrites.{beside_at, beside_set, room_set}
+use Rattle.tree.proofs.NodeWrites.{indexed_at, indexed_set, room_set}
 use Rattle.tree.proofs.clear.clear_node.Goals as goal
 
 pub clear-requires : goal.clear-requires
 clear-requires c = λ k d h.
     let n : Node = c.node_at_mut-node.result.now in
-    let stands = beside_at c.args.stamp.now.table.now c.args.nodes.now c.args.at n c.node_at_mut-node.ensures.node c.requires.beside in
+    let stands = indexed_at c.args.stamp.now.table.now c.args.nodes.now c.args.at n c.node_at_mut-node.ensures.node c.requires.indexed in
     let within = indices_within c.args.stamp.now.table.now n.presence.entries n.presence.indices stands.0 k d h in
     let width = c.requires.stamp.width in omega arith
 
 pub clear-requires-2 : goal.clear-requires-2
 clear-requires-2 c = λ k d h.
     let n : Node = c.node_at_mut-node.result.now in
-    let stands = beside_at c.args.stamp.now.table.now c.args.nodes.now c.args.at n c.node_at_mut-node.ensures.node c.requires.beside in
+    let stands = indexed_at c.args.stamp.now.table.now c.args.nodes.now c.args.at n c.node_at_mut-node.ensures.node c.requires.indexed in
     let within = indices_within c.args.stamp.now.table.now n.register.entries n.register.indices stands.1 k d h in
     let width = c.requires.stamp.width in omega arith
 
@@ -39,15 +39,16 @@ returns-clause-room c =
     let m : Node = record n { presence = c.clear.new.self; register = c.clear-2.new.self } in
     room_set ns c.args.at n m c.node_at_mut-node.ensures.node c.clear.ensures.room c.clear-2.ensures.room
 
-pub returns-clause-beside : goal.returns-clause-beside
-returns-clause-beside c =
+pub returns-clause-indexed : goal.returns-clause-indexed
+returns-clause-indexed c =
     let ns = c.args.nodes.now in
     let table = c.args.stamp.now.table.now in
     let n : Node = c.node_at_mut-node.result.now in
     let m : Node = record n { presence = c.clear.new.self; register = c.clear-2.new.self } in
     let g = c.node_at_mut-node.ensures.node in
-    let stands = beside_at table ns c.args.at n g c.requires.beside in
-    beside_set table ns c.args.at n m g c.requires.beside (c.clear.ensures.beside table stands.0, c.clear-2.ensures.beside table stands.1)
+    let stands = indexed_at table ns c.args.at n g c.requires.indexed in
+    indexed_set table ns c.args.at n m g c.requires.indexed
+    (c.clear.ensures.indexed table stands.0, c.clear-2.ensures.indexed table stands.1)
 
 pub returns-clause-cleared : goal.returns-clause-cleared
 returns-clause-cleared c = λ e at.
@@ -56,7 +57,7 @@ returns-clause-cleared c = λ e at.
     let n : Node = c.node_at_mut-node.result.now in
     let m : Node = record n { presence = c.clear.new.self; register = c.clear-2.new.self } in
     let g = c.node_at_mut-node.ensures.node in
-    let stands = beside_at s.table.now ns c.args.at n g c.requires.beside in
+    let stands = indexed_at s.table.now ns c.args.at n g c.requires.indexed in
     let width = sym c.requires.stamp.width in
     context_set ns c.requires.tree e c.args.at n m at g refl refl
     ∙ cleared_with ns e c.args.at n m (deps_of s) at g

@@ -1,5 +1,5 @@
 use Rattle.std.proofs.Common.{refl}
-use Rattle.semantics.specs.Paths.{FieldKey}
+use Rattle.semantics.specs.Paths.{FieldHop}
 use Rattle.tree.specs.declared.node.Node.{Node}
 use Rattle.tree.proofs.Linked.{OnlyLinks, linked_kept}
 use Rattle.tree.proofs.LinkedChildren.{field_linked, linked_field}
@@ -11,8 +11,8 @@ returns-clause-kept c =
     let n : Node = c.node_in_vec-node.result.now in
     let m : Node = record n { fields = c.put.new.self } in
     let there = c.node_in_vec-node.ensures.node in
-    let only : OnlyLinks n m = record { presence = refl; register = refl; order = refl; gone = refl; written = refl } in
-    linked_kept c.args.at (FieldKey c.args.key) c.args.number ns n m there only
+    let only : OnlyLinks n m = record { presence = refl; register = refl; order = refl; empty_below = refl; written = refl } in
+    linked_kept c.args.at (FieldHop c.args.key) c.args.number ns n m there only
     (linked_field ns c.args.at n m c.args.number there c.args.key (rw c.index.ensures at c.put.ensures.entries) only c.requires.tree
     c.requires.orphan c.requires.absent refl c.put.ensures.flags c.put.ensures.unflagged)
     c.requires.tree c.requires.above c.requires.orphan

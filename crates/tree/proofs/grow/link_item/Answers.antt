@@ -1,5 +1,5 @@
 use Rattle.std.proofs.Common.{refl}
-use Rattle.semantics.specs.Paths.{ItemKey}
+use Rattle.semantics.specs.Paths.{ItemHop}
 use Rattle.tree.specs.declared.node.Node.{Node}
 use Rattle.tree.proofs.Linked.{OnlyLinks, linked_kept}
 use Rattle.tree.proofs.LinkedChildren.{item_linked, linked_item}
@@ -11,8 +11,8 @@ returns-clause-kept c =
     let n : Node = c.node_in_vec-node.result.now in
     let m : Node = record n { items = c.put.new.self } in
     let there = c.node_in_vec-node.ensures.node in
-    let only : OnlyLinks n m = record { presence = refl; register = refl; order = refl; gone = refl; written = refl } in
-    linked_kept c.args.at (ItemKey c.args.id) c.args.number ns n m there only
+    let only : OnlyLinks n m = record { presence = refl; register = refl; order = refl; empty_below = refl; written = refl } in
+    linked_kept c.args.at (ItemHop c.args.id) c.args.number ns n m there only
     (linked_item ns c.args.at n m c.args.number there c.args.id (rw c.index.ensures at c.put.ensures.entries) only c.requires.tree
     c.requires.absent refl)
     c.requires.tree c.requires.above c.requires.orphan

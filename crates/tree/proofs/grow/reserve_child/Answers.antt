@@ -1,7 +1,7 @@
 use Rattle.std.proofs.Common.{◌<◌, refl, sym, subst, OnOk, set}
 use Rattle.std.specs.Prelude.{slice_get}
-use Rattle.semantics.specs.Paths.{FieldKey, ItemKey}
-use Rattle.operation.specs.cursor.Meanings.{hop_of}
+use Rattle.semantics.specs.Paths.{FieldHop, ItemHop}
+use Rattle.operation.specs.cursor.Steps.{hop_of}
 use Rattle.tree.specs.declared.node.Node.{Node}
 use Rattle.tree.specs.Nodes.{child_room}
 use Rattle.tree.proofs.ListReads.{get_same}
@@ -28,7 +28,7 @@ returns-in-Field-clause-room c =
     let n : Node = c.node_in_vec-node.result.now in
     let m : Node = record n { fields = c.reserve_one.new.self } in
     subst (λ h. OnOk c.reserve_one.result (0 < child_room (slice_get (set ns c.args.at m) c.args.at) (hop_of h))) (sym c.in-Field.is)
-    (subst (λ o. OnOk c.reserve_one.result (0 < child_room o (FieldKey c.in-Field.field-0)))
+    (subst (λ o. OnOk c.reserve_one.result (0 < child_room o (FieldHop c.in-Field.field-0)))
     (sym (get_same ns c.args.at m c.requires.inside)) c.reserve_one.ensures.room)
 
 pub returns-in-Item-clause-kept : goal.returns-in-Item-clause-kept
@@ -51,5 +51,5 @@ returns-in-Item-clause-room c =
     let n : Node = c.node_in_vec-node.result.now in
     let m : Node = record n { items = c.reserve_one-in-Item.new.self } in
     subst (λ h. OnOk c.reserve_one-in-Item.result (0 < child_room (slice_get (set ns c.args.at m) c.args.at) (hop_of h))) (sym c.in-Item.is)
-    (subst (λ o. OnOk c.reserve_one-in-Item.result (0 < child_room o (ItemKey c.in-Item.field-0)))
+    (subst (λ o. OnOk c.reserve_one-in-Item.result (0 < child_room o (ItemHop c.in-Item.field-0)))
     (sym (get_same ns c.args.at m c.requires.inside)) c.reserve_one-in-Item.ensures.room)

@@ -15,7 +15,7 @@ returns-clause-kept c =
       presence = (refl, refl, omega arith);
       register = (refl, refl, omega arith);
       order = (c.reserve_one.ensures.same, c.reserve_one.ensures.visible, c.reserve_one.ensures.kept);
-      gone = refl;
+      empty_below = refl;
       flags = refl;
       written = refl;
     })

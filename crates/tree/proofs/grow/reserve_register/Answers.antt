@@ -15,7 +15,7 @@ returns-clause-kept c =
       presence = (refl, refl, omega arith);
       register = (c.reserve_one.ensures.entries, c.reserve_one.ensures.indices, c.reserve_one.ensures.kept);
       order = (refl, refl, omega arith);
-      gone = refl;
+      empty_below = refl;
       flags = refl;
       written = refl;
     })

@@ -5,12 +5,12 @@ use Rattle.std.proofs.lemmas.List.{length-map}
 use Rattle.semantics.specs.DocumentAnswer.{is_any}
 use Rattle.semantics.specs.Elements.{Element, Item, AsList, is_same}
 use Rattle.semantics.specs.Context.{Context, clear}
-use Rattle.operation.specs.value.Meanings.{scalar_of}
-use Rattle.operation.specs.cursor.Meanings.{hop_of, tag_of}
+use Rattle.operation.specs.value.Values.{scalar_of}
+use Rattle.operation.specs.cursor.Steps.{hop_of, tag_of}
 use Rattle.tree.specs.Nested.{IsNested}
 use Rattle.tree.specs.Nodes.{context, number, node_in, presence_of, presence_room, register_room}
 use Rattle.tree.specs.Writes.{deps_of, end_of, entered, mark, registered}
-use Rattle.tree.proofs.NearTarget.{linked_shown, way_itself, written, written_shown}
+use Rattle.tree.proofs.OnTheWay.{linked_shown, way_itself, written, written_shown}
 use Rattle.tree.proofs.Nested.{nested_linked}
 use Rattle.tree.proofs.Shape.{children_linked, children_number, children_tree, children_trans, links_trans, number_inside, number_same}
 use Rattle.tree.proofs.Shape.{room_trans, tree_same}
@@ -18,8 +18,8 @@ use Rattle.tree.proofs.Showing.{but_wider, empty_kept}
 use Rattle.tree.proofs.Rooms.{depth_whole, more_room, path_room, room_along}
 use Rattle.tree.proofs.insert.insert.Goals as goal
 
-pub clear_below-requires-clause-beside : goal.clear_below-requires-clause-beside
-clear_below-requires-clause-beside c = c.link_list-item.ensures.beside c.args.stamp.now.table.now c.requires.beside
+pub clear_below-requires-clause-indexed : goal.clear_below-requires-clause-indexed
+clear_below-requires-clause-indexed c = c.link_list-item.ensures.indexed c.args.stamp.now.table.now c.requires.indexed
 
 pub clear_below-requires-clause-inside : goal.clear_below-requires-clause-inside
 clear_below-requires-clause-inside c =
@@ -88,7 +88,8 @@ settle-requires-clause-room c =
     let deep = depth_whole path in
     let count = length-map c.args.slot.now.list.now hop_of in
     let still = c.write_path.ensures.deeper t (omega arith) (more_room n0 n2 links room t c.requires.fits.room.1) in
-    let at : number n3 t ≡ Some c.link_list-item.result = sym (children_number n0 n2 links t ∙ number_same n2 n3 c.write_path.ensures.links t)
+    let at : number n3 t
+    ≡ Some c.link_list-item.result = sym (children_number n0 n2 links t ∙ number_same n2 n3 c.write_path.ensures.links t)
     ∙ c.link_list-item.ensures.item in
     subst (λ o. 0 < presence_room (node_in n3 o)) at still
 

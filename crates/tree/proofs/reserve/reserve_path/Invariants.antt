@@ -1,5 +1,5 @@
 use Rattle.std.proofs.Common.{◌≡◌, ◌<◌, ℕ, map, take, Some}
-use Rattle.operation.specs.cursor.Meanings.{hop_of}
+use Rattle.operation.specs.cursor.Steps.{hop_of}
 use Rattle.tree.specs.Nodes.{Kept, node_at, number, presence_room}
 use Rattle.tree.specs.Writes.{end_of}
 use Rattle.tree.proofs.reserve.reserve_path.Given as goal

@@ -1,8 +1,8 @@
 use Rattle.std.proofs.Common.{◌≡◌, map, None, sym, ap, ◌∙◌}
 use Rattle.semantics.specs.Operations.{slot_of, value_of}
-use Rattle.operation.specs.value.Meanings.{value_of as meaning_of}
-use Rattle.operation.specs.cursor.Meanings.{hop_of}
-use Rattle.operation.specs.Meanings.{mutation_of}
+use Rattle.operation.specs.value.Values.{value_of as meaning_of}
+use Rattle.operation.specs.cursor.Steps.{hop_of}
+use Rattle.operation.specs.Ops.{mutation_of}
 use Rattle.tree.proofs.Slots.{slot_of_any}
 use Rattle.tree.proofs.Reserved.{if_ok_three, place_ready}
 use Rattle.tree.proofs.reserve.reserve_slot.Goals as goal

@@ -1,7 +1,7 @@
 use Rattle.std.proofs.Common.{◌≡◌, ◌<◌, ◌||◌, ℕ, Some, refl, sym, ap, ◌∙◌, subst, arith, get_or, length, [], slice_get, set}
 use Rattle.std.proofs.lemmas.Option.{slice_get-get_or}
 use Rattle.semantics.specs.Elements.{Field, Name, is_same}
-use Rattle.semantics.specs.Paths.{FieldKey}
+use Rattle.semantics.specs.Paths.{FieldHop}
 use Rattle.tree.specs.declared.node.Node.{Node}
 use Rattle.tree.specs.Nodes.{child_number, links, links_of}
 use Rattle.tree.specs.Shown.{ShownBut}
@@ -14,7 +14,7 @@ use Rattle.tree.proofs.show.flag_field.Goals as goal
 pub is_present-stands-requires : goal.is_present-stands-requires
 is_present-stands-requires c =
     let d : Name × ℕ = ([], 0) in
-    (c.requires.tree.rising c.args.at (FieldKey (get_or (links c.args.nodes.now c.args.at).0 c.args.position d).0) c.args.field
+    (c.requires.tree.rising c.args.at (FieldHop (get_or (links c.args.nodes.now c.args.at).0 c.args.position d).0) c.args.field
     (c.requires.field d)).1
 
 pub set_flag-requires : goal.set_flag-requires

@@ -1,8 +1,8 @@
 use Rattle.std.proofs.Common.{◌≡◌, map, sym, ap, ◌∙◌, subst}
 use Rattle.semantics.specs.Elements.{Item, is_under}
 use Rattle.semantics.specs.Operations.{slot_of, target_in}
-use Rattle.operation.specs.cursor.Meanings.{hop_of}
-use Rattle.operation.specs.Meanings.{mutation_of}
+use Rattle.operation.specs.cursor.Steps.{hop_of}
+use Rattle.operation.specs.Ops.{mutation_of}
 use Rattle.tree.specs.Shown.{ShownBut}
 use Rattle.tree.specs.Writes.{end_of}
 use Rattle.tree.proofs.Applied.{end_is}

@@ -1,6 +1,6 @@
 use Rattle.std.proofs.Common.{false, map}
 use Rattle.semantics.specs.Elements.{Item, is_under}
-use Rattle.operation.specs.cursor.Meanings.{hop_of}
+use Rattle.operation.specs.cursor.Steps.{hop_of}
 use Rattle.tree.specs.Writes.{end_of}
 use Rattle.tree.proofs.Showing.{but_none, or_none}
 use Rattle.tree.proofs.show.show_at.Goals as goal

@@ -3,7 +3,7 @@ use Rattle.std.specs.Prelude.{slice_get}
 use Rattle.std.specs.FinMap.{find}
 use Rattle.std.proofs.lemmas.Option.{get_or_from_slice_get, slice_get_within}
 use Rattle.semantics.specs.Elements.{Field, Name, name_cmp, is_same}
-use Rattle.semantics.specs.Paths.{FieldKey}
+use Rattle.semantics.specs.Paths.{FieldHop}
 use Rattle.tree.specs.Nodes.{links, links_of}
 use Rattle.tree.specs.Shown.{ShownBut}
 use Rattle.tree.proofs.Shape.{number_child}
@@ -15,7 +15,7 @@ returns-in_err-position-clause-shown c = λ e off at s.
     let ns = c.args.nodes.now in
     let k = c.args.key.now in
     but_lost ns (Field e k) off
-    (number_child ns e c.args.at (FieldKey k) at ∙ ap (λ o. find name_cmp k (links_of o).0) c.node_at.ensures ∙ c.in_err-position.ensures) s
+    (number_child ns e c.args.at (FieldHop k) at ∙ ap (λ o. find name_cmp k (links_of o).0) c.node_at.ensures ∙ c.in_err-position.ensures) s
 
 pub flag_field-requires-clause-within : goal.flag_field-requires-clause-within
 flag_field-requires-clause-within c =

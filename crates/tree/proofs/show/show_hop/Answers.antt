@@ -1,7 +1,7 @@
 use Rattle.std.proofs.Common.{◌||◌, subst}
 use Rattle.semantics.specs.Elements.{is_same}
 use Rattle.semantics.specs.Paths.{child}
-use Rattle.operation.specs.cursor.Meanings.{hop_of}
+use Rattle.operation.specs.cursor.Steps.{hop_of}
 use Rattle.tree.specs.Shown.{ShownBut}
 use Rattle.tree.proofs.show.show_hop.Goals as goal
 

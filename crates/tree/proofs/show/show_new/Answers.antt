@@ -1,7 +1,7 @@
 use Rattle.std.proofs.Common.{◌≡◌, ◌||◌, Some, None, false, map, ap, sym, ◌∙◌}
 use Rattle.semantics.specs.Elements.{Element, Item, is_same}
-use Rattle.semantics.specs.Paths.{ItemKey}
-use Rattle.operation.specs.cursor.Meanings.{hop_of}
+use Rattle.semantics.specs.Paths.{ItemHop}
+use Rattle.operation.specs.cursor.Steps.{hop_of}
 use Rattle.tree.specs.Nodes.{next_number, number}
 use Rattle.tree.specs.Writes.{end_of}
 use Rattle.tree.proofs.Showing.{but_lost, but_none, flags_number, flags_trans, new_parts}
@@ -27,7 +27,7 @@ returns-in_default-clause-shown c = λ s.
     let t : Element = Item m c.args.id.now in
     let mid = c.show_path.new.nodes in
     let none : number mid t
-    ≡ None = ap (λ o. next_number mid o (ItemKey c.args.id.now))
+    ≡ None = ap (λ o. next_number mid o (ItemHop c.args.id.now))
     (sym (flags_number c.args.nodes.now mid c.show_path.ensures.same m) ∙ sym c.show_path.ensures.number ∙ c.in_default.is) in
     but_none mid (but_lost mid t (λ x. false) none
     (c.show_path.ensures.shown (λ x. is_same x t || false) (new_parts c.args.nodes.now m c.args.id.now s)))

@@ -1,7 +1,7 @@
 use Rattle.std.proofs.Common.{◌≡◌, ◌+◌, ◌||◌, map, take, Some, None, sym, ap, ◌∙◌}
 use Rattle.semantics.specs.Elements.{Item, is_same}
 use Rattle.semantics.specs.Paths.{child}
-use Rattle.operation.specs.cursor.Meanings.{hop_of}
+use Rattle.operation.specs.cursor.Steps.{hop_of}
 use Rattle.tree.specs.Nodes.{linked_by, number}
 use Rattle.tree.specs.Writes.{end_of}
 use Rattle.tree.proofs.Shape.{lost_at, number_child, number_inside}

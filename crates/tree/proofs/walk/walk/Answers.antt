@@ -1,5 +1,5 @@
 use Rattle.std.proofs.Common.{◌≡◌, ◌+◌, map, take, Some, sym, ◌∙◌}
-use Rattle.operation.specs.cursor.Meanings.{hop_of}
+use Rattle.operation.specs.cursor.Steps.{hop_of}
 use Rattle.tree.specs.Nodes.{number}
 use Rattle.tree.specs.Writes.{end_of}
 use Rattle.tree.proofs.Shape.{lost_at, number_inside}

@@ -1,11 +1,11 @@
 use Rattle.std.proofs.Common.{◌≡◌, ◌<◌, ◌||◌, false, map, sym, ap, ◌∙◌, arith, Some, subst}
 use Rattle.std.specs.Prelude.{option_map}
-use Rattle.operation.specs.value.Meanings.{scalar_of}
-use Rattle.operation.specs.cursor.Meanings.{hop_of, tag_of}
+use Rattle.operation.specs.value.Values.{scalar_of}
+use Rattle.operation.specs.cursor.Steps.{hop_of, tag_of}
 use Rattle.semantics.specs.Elements.{Item, is_same}
 use Rattle.tree.specs.Nodes.{context, number, node_in, register_room}
 use Rattle.tree.specs.Writes.{end_of, registered, mark, entered}
-use Rattle.tree.proofs.NearTarget.{way_itself, written, written_shown}
+use Rattle.tree.proofs.OnTheWay.{way_itself, written, written_shown}
 use Rattle.tree.proofs.Shape.{children_number, children_tree, links_trans, number_same}
 use Rattle.tree.proofs.Showing.{shown_but}
 use Rattle.tree.proofs.Rooms.{path_room}
@@ -48,7 +48,8 @@ returns-clause-shown c = λ shown.
     let new = c.put_scalar.new.nodes in
     let t = end_of (map hop_of c.args.path.now) in
     let a = c.args.stamp.now.id in
-    let at : number on t ≡ Some c.write_path-at.result = sym (number_same mid on c.write_path-at.ensures.links t) ∙ c.write_path-at.ensures.at in
+    let at : number on t ≡ Some c.write_path-at.result = sym (number_same mid on c.write_path-at.ensures.links t)
+    ∙ c.write_path-at.ensures.at in
     let is : context new ≡ written (context mid) t a (tag_of c.args.tag) (option_map scalar_of c.args.scalar) =
     c.put_scalar.ensures.written t at ∙ ap (λ C. registered C t a (option_map scalar_of c.args.scalar)) c.write_path-at.ensures.written in
     written_shown mid new (links_trans mid on new c.write_path-at.ensures.links c.put_scalar.ensures.links) t a (tag_of c.args.tag)

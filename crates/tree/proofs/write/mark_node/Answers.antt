@@ -1,5 +1,5 @@
 use Rattle.std.proofs.Common.{refl, ap, ◌∙◌}
-use Rattle.operation.specs.cursor.Meanings.{tag_of}
+use Rattle.operation.specs.cursor.Steps.{tag_of}
 use Rattle.tree.specs.declared.node.Node.{Node}
 use Rattle.tree.specs.Nodes.{tagged}
 use Rattle.tree.proofs.Mapped.{put-mapped}

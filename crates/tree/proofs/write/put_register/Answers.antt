@@ -1,5 +1,5 @@
 use Rattle.std.proofs.Common.{refl, ap, ◌∙◌}
-use Rattle.operation.specs.value.Meanings.{scalar_of}
+use Rattle.operation.specs.value.Values.{scalar_of}
 use Rattle.tree.specs.declared.node.Node.{Node}
 use Rattle.tree.specs.Nodes.{valued}
 use Rattle.tree.proofs.Mapped.{put-mapped}

@@ -1,6 +1,6 @@
 use Rattle.std.proofs.Common.{sym, ap, ◌∙◌}
 use Rattle.std.specs.Prelude.{option_map}
-use Rattle.operation.specs.value.Meanings.{scalar_of}
+use Rattle.operation.specs.value.Values.{scalar_of}
 use Rattle.tree.specs.Writes.{registered}
 use Rattle.tree.proofs.Shape.{number_same}
 use Rattle.tree.proofs.write.settle.Goals as goal

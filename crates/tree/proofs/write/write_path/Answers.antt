@@ -3,8 +3,8 @@ use Rattle.std.proofs.Common.{◌≡◌, ◌≢◌, ◌<◌, ◌+◌, map, sym, 
 use Rattle.std.specs.Prelude.{IsSome}
 use Rattle.std.proofs.lemmas.List.{take_all, length-map}
 use Rattle.semantics.specs.Elements.{depth}
-use Rattle.semantics.specs.Paths.{Key, child}
-use Rattle.operation.specs.cursor.Meanings.{hop_of, tag_of}
+use Rattle.semantics.specs.Paths.{Hop, child}
+use Rattle.operation.specs.cursor.Steps.{hop_of, tag_of}
 use Rattle.tree.specs.Nodes.{number, context, node_in, presence_room}
 use Rattle.tree.specs.Writes.{end_of, entered, entered_by, mark}
 use Rattle.tree.proofs.Shape.{number_child, number_same, tree_same, links_trans, number_inside}
@@ -24,7 +24,7 @@ pub enter-at-requires-clause-child : goal.enter-at-requires-clause-child
 enter-at-requires-clause-child c =
     let now = c.loop-hop.nodes in
     let k = c.loop-hop.hop-index in
-    let path : List Key = map hop_of c.args.path.now in
+    let path : List Hop = map hop_of c.args.path.now in
     let here = sym (number_same c.args.nodes.now now c.loop-hop.invariant.shape (end_of (take k path))) ∙ c.loop-hop.invariant.here in
     subst IsSome (number_more c.args.path.now k c.hop-item.result c.loop-hop-test.true c.hop-item.is now c.loop-hop.at here)
     (room_there now (number now (end_of (take (k + 1) path)))
@@ -36,7 +36,7 @@ loop-hop-preserved c =
     let now = c.loop-hop.nodes in
     let new = c.enter-at.new.nodes in
     let k = c.loop-hop.hop-index in
-    let path : List Key = map hop_of c.args.path.now in
+    let path : List Hop = map hop_of c.args.path.now in
     let count = length-map c.args.path.now hop_of in
     let e = end_of (take k path) in
     let x = hop_of c.hop-item.result in
@@ -49,7 +49,7 @@ loop-hop-preserved c =
     record {
       shape = links_trans old now new inv.shape c.enter-at.ensures.links;
       registers = λ i. let a = inv.registers i in let b = c.enter-at.ensures.room.register i in omega arith;
-      kept = λ b. c.enter-at.ensures.beside (inv.kept b);
+      kept = λ b. c.enter-at.ensures.indexed (inv.kept b);
       here = ap (number old) more ∙ number_same old now inv.shape (child e x) ∙ there;
       inside = number_inside new (tree_same now new c.enter-at.ensures.links tree) (child e x) c.enter-at.result
           (sym (number_same now new c.enter-at.ensures.links (child e x)) ∙ there);
@@ -75,7 +75,7 @@ pub returns-clause-written : goal.returns-clause-written
 returns-clause-written c =
     let old = c.args.nodes.now in
     let now = c.loop-hop.nodes in
-    let path : List Key = map hop_of c.args.path.now in
+    let path : List Hop = map hop_of c.args.path.now in
     let count = length-map c.args.path.now hop_of in
     let inv = c.loop-hop.invariant in
     let a = c.args.stamp.now.id in
@@ -87,7 +87,7 @@ returns-clause-written c =
 
 pub returns-clause-at : goal.returns-clause-at
 returns-clause-at c =
-    let path : List Key = map hop_of c.args.path.now in
+    let path : List Hop = map hop_of c.args.path.now in
     let count = length-map c.args.path.now hop_of in
     ap (λ xs. number c.args.nodes.now (end_of xs)) (sym (take_all c.loop-hop.hop-index path (omega arith))) ∙ c.loop-hop.invariant.here
 
@@ -95,7 +95,7 @@ pub returns-clause-deeper : goal.returns-clause-deeper
 returns-clause-deeper c = λ f hi r.
     let old = c.args.nodes.now in
     let now = c.loop-hop.nodes in
-    let path : List Key = map hop_of c.args.path.now in
+    let path : List Hop = map hop_of c.args.path.now in
     let count = length-map c.args.path.now hop_of in
     let inv = c.loop-hop.invariant in
     let e = end_of (take c.loop-hop.hop-index path) in

@@ -4,10 +4,10 @@ use Rattle.std.proofs.lemmas.List.{map-append}
 use Rattle.std.proofs.lemmas.List.Elements.{All-push}
 use Rattle.semantics.specs.Stamped.{Stamped}
 use Rattle.operation.specs.declared.op.Op.{Op}
-use Rattle.operation.specs.Meanings.{stamped_of}
+use Rattle.operation.specs.Ops.{stamped_of}
 use Rattle.wire.specs.Bundles.{Readable, readable}
 use Rattle.wire.proofs.BundleLines.{after, after-bad, after-cut, after-none, after-op}
-use Rattle.json_lines.proofs.OrNoMemory.{IsOrNoMemory-Err}
+use Rattle.wire.proofs.OrNoMemory.{IsOrNoMemory-Err}
 use Rattle.wire.proofs.bundles.read_lines.Goals as goal
 use Rattle.wire.proofs.bundles.read_lines.Goals.{in-Some-cut_line, in-None}
 

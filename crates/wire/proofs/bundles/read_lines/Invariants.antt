@@ -1,7 +1,7 @@
 -- What is left decides, after the operations so far.
 use Rattle.std.proofs.Common.{◌≡◌, map, length}
 use Rattle.std.specs.List.{All}
-use Rattle.operation.specs.Meanings.{stamped_of}
+use Rattle.operation.specs.Ops.{stamped_of}
 use Rattle.wire.specs.Bundles.{readable}
 use Rattle.wire.proofs.BundleLines.{after}
 use Rattle.wire.proofs.bundles.read_lines.Given as goal

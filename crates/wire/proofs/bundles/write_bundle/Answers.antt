@@ -5,7 +5,7 @@ use Rattle.std.proofs.lemmas.List.{drop_all, take_all}
 use Rattle.std.proofs.lemmas.List.Elements.{All-map, All-more}
 use Rattle.semantics.specs.Stamped.{Stamped}
 use Rattle.operation.specs.declared.op.Op.{Op}
-use Rattle.operation.specs.Meanings.{stamped_of}
+use Rattle.operation.specs.Ops.{stamped_of}
 use Rattle.wire.specs.Bundles.{bundle_form, bundle_text}
 use Rattle.wire.specs.Messages.{op_line}
 use Rattle.wire.specs.Reading.{op_form}

@@ -1,7 +1,7 @@
 -- What is left follows the lines so far, each of which is read as its operation.
 use Rattle.std.proofs.Common.{◌≡◌, ◌++◌, drop, map, take}
 use Rattle.std.specs.List.{All}
-use Rattle.operation.specs.Meanings.{stamped_of}
+use Rattle.operation.specs.Ops.{stamped_of}
 use Rattle.wire.specs.Bundles.{bundle_text}
 use Rattle.wire.proofs.BundleBack.{IsBackIfSent}
 use Rattle.wire.proofs.bundles.write_bundle.Given as goal

@@ -1,8 +1,8 @@
 -- What is left decides, after the parts so far.
 use Rattle.std.proofs.Common.{◌≡◌, ◌++◌, drop, length, map, Ok}
 use Rattle.serde_json.specs.View.{items_view}
-use Rattle.json_lines.specs.Forms.{and_then}
-use Rattle.wire.specs.Meanings.{part_meant}
+use Rattle.wire.specs.Forms.{and_then}
+use Rattle.wire.specs.Parts.{part_meant}
 use Rattle.wire.specs.Places.{parts_of}
 use Rattle.wire.proofs.places.parts_in.Given as goal
 

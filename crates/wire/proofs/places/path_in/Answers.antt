@@ -1,5 +1,5 @@
 use Rattle.std.proofs.Common.{inl, sym, ap, ◌∙◌, arith}
-use Rattle.json_lines.specs.Forms.{and_then}
+use Rattle.wire.specs.Forms.{and_then}
 use Rattle.wire.specs.Places.{path_of}
 use Rattle.wire.proofs.ReadPlaces.{path_of-few, path_of-many}
 use Rattle.wire.proofs.places.path_in.Goals as goal

@@ -1,5 +1,5 @@
 use Rattle.std.proofs.Common.{◌≡◌, true, false, inl, sym, ◌∙◌, arith}
-use Rattle.wire.specs.Meanings.{entered_as, key_meant}
+use Rattle.wire.specs.Parts.{entered_as, key_meant}
 use Rattle.wire.specs.Places.{is_list_head}
 use Rattle.wire.proofs.ReadPlaces.{element_within, head_within, keys_before_head}
 use Rattle.wire.proofs.places.place_at_last.Goals as goal

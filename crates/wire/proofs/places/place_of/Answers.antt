@@ -2,11 +2,11 @@ use Rattle.std.proofs.Common.{◌≡◌, Err, List, [], ◌∷◌, map, sym, ap,
 use Rattle.std.specs.Vec.Iter.{into_iter_items}
 use Rattle.semantics.specs.Elements.{Doc, Place}
 use Rattle.semantics.specs.Paths.{down}
-use Rattle.operation.specs.cursor.Meanings.{hop_of}
-use Rattle.json_lines.specs.Forms.{IsOrNoMemory}
+use Rattle.operation.specs.cursor.Steps.{hop_of}
+use Rattle.wire.specs.Forms.{IsOrNoMemory}
 use Rattle.wire.specs.declared.places.Part.{Part}
 use Rattle.wire.specs.declared.places.WrittenKey.{WrittenKey}
-use Rattle.wire.specs.Meanings.{entered_as, key_meant, part_meant}
+use Rattle.wire.specs.Parts.{entered_as, key_meant, part_meant}
 use Rattle.wire.specs.Places.{place_below}
 use Rattle.wire.proofs.ReadPlaces.{lost, nothing_left, passed_on}
 use Rattle.wire.proofs.places.place_of.Goals as goal

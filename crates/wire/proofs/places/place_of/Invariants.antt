@@ -3,8 +3,8 @@ use Rattle.std.proofs.Common.{◌≡◌, ◌≤◌, ◌+◌, None, length, map}
 use Rattle.std.specs.Vec.Iter.{into_iter_items, into_iter_len}
 use Rattle.semantics.specs.Elements.{Doc}
 use Rattle.semantics.specs.Paths.{down}
-use Rattle.operation.specs.cursor.Meanings.{hop_of}
-use Rattle.wire.specs.Meanings.{entered_as, key_meant, keys_ahead, part_meant}
+use Rattle.operation.specs.cursor.Steps.{hop_of}
+use Rattle.wire.specs.Parts.{entered_as, key_meant, keys_ahead, part_meant}
 use Rattle.wire.specs.Places.{place_below}
 use Rattle.wire.proofs.places.place_of.Given as goal
 

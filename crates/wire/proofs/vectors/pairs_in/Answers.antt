@@ -11,7 +11,7 @@ use Rattle.semantics.specs.Tables.{by_table, component}
 use Rattle.serde_json.specs.declared.value.Value.{Value}
 use Rattle.serde_json.specs.View.{view, items_view}
 use Rattle.operation.proofs.version.TableColumns.{component-raised, component-zeros}
-use Rattle.json_lines.specs.Forms.{and_then}
+use Rattle.wire.specs.Forms.{and_then}
 use Rattle.wire.specs.Vectors.{next_of, pair_form, pairs_above}
 use Rattle.wire.proofs.ReadVectors.{by_table-more, by_table-zeros, none_above}
 use Rattle.wire.proofs.vectors.pairs_in.Goals as goal
@@ -50,6 +50,7 @@ raise-requires c =
     let within = slice_get_within c.args.table.now c.in-Some.index c.in_ok-id.id.replica c.in-Some.ensures.found in
     omega (arith, within, c.loop-pair.invariant.width)
 
+-- one more pair was raised, above those before it: the column stands for the pairs so far, and the rest is read after them
 pub loop-pair-preserved : goal.loop-pair-preserved
 loop-pair-preserved c =
     let ps = c.args.table.now in

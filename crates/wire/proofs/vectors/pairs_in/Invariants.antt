@@ -2,7 +2,7 @@
 use Rattle.std.proofs.Common.{◌≡◌, ◌<◌, ◌++◌, ℕ, length, drop, Ok}
 use Rattle.semantics.specs.Tables.{by_table, component}
 use Rattle.serde_json.specs.View.{items_view}
-use Rattle.json_lines.specs.Forms.{and_then}
+use Rattle.wire.specs.Forms.{and_then}
 use Rattle.wire.specs.Vectors.{pairs_above}
 use Rattle.wire.proofs.vectors.pairs_in.Given as goal
 

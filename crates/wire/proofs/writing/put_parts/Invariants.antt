@@ -1,6 +1,6 @@
 -- The parts so far and those of the hops that are left are all; so is the last key.
 use Rattle.std.proofs.Common.{◌≡◌, ◌++◌, List, drop, map}
-use Rattle.operation.specs.cursor.Meanings.{hop_of}
+use Rattle.operation.specs.cursor.Steps.{hop_of}
 use Rattle.serde_json.specs.Data.{Data}
 use Rattle.wire.specs.Operations.{last_from, parts_from, root_json}
 use Rattle.wire.specs.Sent.{AreTypedKeys}

@@ -4,19 +4,19 @@ use Rattle.json.specs.Token.{Token, begin_array, end_array}
 use Rattle.serde_json.specs.Data.{Data}
 use Rattle.semantics.specs.Elements.{Place, At, HeadOf}
 use Rattle.semantics.specs.Operations.{element_of}
-use Rattle.semantics.specs.Paths.{keys_from_root}
-use Rattle.operation.specs.cursor.Meanings.{hop_of}
+use Rattle.semantics.specs.Paths.{hops_from_root}
+use Rattle.operation.specs.cursor.Steps.{hop_of}
 use Rattle.operation.specs.cursor.Places.{is_head}
 use Rattle.operation.specs.cursor.declared.hop.Hop.{Hop}
 use Rattle.wire.specs.Operations.{last_from, last_json, parts_from, parts_of, root_json}
 use Rattle.wire.specs.Writing.{key_before, key_of, tokens_of, tokens_of_all}
 use Rattle.wire.proofs.writing.put_place.Goals as goal
 
-element_parts : (p : Place) → is_head p ≡ false → parts_of p ≡ parts_from root_json (keys_from_root (element_of p))
+element_parts : (p : Place) → is_head p ≡ false → parts_of p ≡ parts_from root_json (hops_from_root (element_of p))
 element_parts (At e) h = refl
 element_parts (HeadOf l) h = absurd (cc)
 
-element_last : (p : Place) → is_head p ≡ false → last_json p ≡ last_from root_json (keys_from_root (element_of p))
+element_last : (p : Place) → is_head p ≡ false → last_json p ≡ last_from root_json (hops_from_root (element_of p))
 element_last (At e) h = refl
 element_last (HeadOf l) h = absurd (cc)
 

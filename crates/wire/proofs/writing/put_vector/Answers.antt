@@ -18,6 +18,7 @@ unmoved : (x y : Written) (here left : List OpId) (all : List Token) → x ≡ y
 unmoved x y here left all is next h =
     (λ i. (is i).tokens ++ tokens_of_all (map pair_json (sym next i))) ∙ h
 
+-- one more member was passed: its pair was written if its counter is above 0, and what is left is the vector from the next one on
 pub loop-index-preserved : goal.loop-index-preserved
 loop-index-preserved c =
     let ps = c.args.table.now in

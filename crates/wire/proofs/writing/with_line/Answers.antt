@@ -2,7 +2,7 @@ use Rattle.std.proofs.Common.{◌≡◌, ◌++◌, List, IsUtf8, ap, ◌∙◌, 
 use Rattle.json.specs.Print.{print}
 use Rattle.json.specs.Token.{Token}
 use Rattle.serde_json.proofs.Texts.{print-outline}
-use Rattle.operation.specs.Meanings.{stamped_of}
+use Rattle.operation.specs.Ops.{stamped_of}
 use Rattle.wire.specs.Operations.{operation_json}
 use Rattle.wire.specs.Writing.{tokens_of}
 use Rattle.wire.proofs.WholeOperations.{op_form-op_line}

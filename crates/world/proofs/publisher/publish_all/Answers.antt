@@ -1,6 +1,6 @@
 use Rattle.std.proofs.Common.{◌∙◌, List, drop, ap}
 use Rattle.std.proofs.lemmas.List.{drop-drop}
-use Rattle.handling.specs.operation.declared.command.Entry.{Entry}
+use Rattle.replica.specs.operation.declared.command.Entry.{Entry}
 use Rattle.world.proofs.Publishing.{published_on}
 use Rattle.world.proofs.publisher.publish_all.Goals as goal
 

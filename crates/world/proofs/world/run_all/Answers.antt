@@ -6,7 +6,7 @@ use Rattle.semantics.specs.Engine.{StepReply}
 use Rattle.world.specs.declared.step.WorldStep.{WorldStep}
 use Rattle.world.specs.declared.step.WorldReply.{WorldReply}
 use Rattle.world.specs.Engines.{message_of}
-use Rattle.world.specs.Meanings.{step_reply_of}
+use Rattle.world.specs.Acts.{step_reply_of}
 use Rattle.world.specs.Worlds.{MovesInPart, StopsInStep, step_in, tables_of, world}
 use Rattle.world.proofs.SingleSteps.{read_mapped}
 use Rattle.world.proofs.ReachedWorlds.{reached_after}
@@ -70,6 +70,7 @@ returns-in_err-push-clause-stopped c =
     (one_more W U V steps n c.step-item.result c.loop-step-test.true c.step-item.is c.loop-step.invariant.tables
     c.loop-step.invariant.so_far c.in_ok-reply.ensures.world)))
 
+-- one more whole step was done: the world is what all steps up to here lead to, the replies are theirs, and tables stay
 pub loop-step-preserved : goal.loop-step-preserved
 loop-step-preserved c =
     let W : World = world c.args.engines.now.items (map message_of c.args.messages.now.items) in

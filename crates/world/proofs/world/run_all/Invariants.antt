@@ -1,7 +1,7 @@
 use Rattle.std.proofs.Common.{◌≡◌, ◌++◌, map, drop, take}
 use Rattle.semantics.specs.World.{world_after, replies_of}
 use Rattle.world.specs.Engines.{message_of}
-use Rattle.world.specs.Meanings.{step_reply_of}
+use Rattle.world.specs.Acts.{step_reply_of}
 use Rattle.world.specs.Worlds.{world, step_in, tables_of}
 use Rattle.world.proofs.world.run_all.Given as goal
 

@@ -4,7 +4,7 @@ use Rattle.std.proofs.lemmas.Option.{slice_get_read}
 use Rattle.semantics.specs.Engine.{Engine, Message}
 use Rattle.semantics.specs.World.{WorldStep as TheStep, WorldOutcome, engine_step, sent_by, world_step}
 use Rattle.world.specs.declared.step.WorldStep.{WorldStep}
-use Rattle.world.specs.Meanings.{AsksBeside, act_of, step_of}
+use Rattle.world.specs.Acts.{ActHasWidthOf, act_of, step_of}
 use Rattle.world.specs.Parts.{IsInPart}
 use Rattle.world.specs.Worlds.{step_in, tables_of, world}
 use Rattle.world.specs.Engines.{message_of}
@@ -42,13 +42,13 @@ turn-requires-clause-reached c =
     let there = slice_get_read Es (length Es) c.args.step.now.engine E refl (omega arith) c.index_mut-engine.ensures.value in
     reached_at (world Es (map message_of c.args.messages.now.items)) c.requires.reached c.args.step.now.engine E there
 
-pub turn-requires-clause-beside : goal.turn-requires-clause-beside
-turn-requires-clause-beside c =
+pub turn-requires-clause-width : goal.turn-requires-clause-width
+turn-requires-clause-width c =
     let Es = c.args.engines.now.items in
     let s = c.args.step.now in
     let E : Engine = c.index_mut-engine.result.now in
     let there = slice_get_read Es (length Es) s.engine E refl (omega arith) c.index_mut-engine.ensures.value in
-    subst (λ table. AsksBeside table s.act) (own_table Es s.engine E there) c.requires.beside
+    subst (λ table. ActHasWidthOf table s.act) (own_table Es s.engine E there) c.requires.width
 
 -- the engine that moves is there
 there : (c : goal.After-engines-1) → slice_get c.args.engines.now.items c.args.step.now.engine ≡ Some c.index_mut-engine.result.now

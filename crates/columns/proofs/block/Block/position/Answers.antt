@@ -16,10 +16,10 @@ pub returns-in-Some : goal.returns-in-Some
 returns-in-Some c =
     let xs = c.deref.result.now in
     let there = c.in-Some.ensures.lookup in
-    let inside : c.args.near < length xs = ltb-true c.args.near (length xs) (sym there.0) in
-    let here : slice_get xs c.args.near ≡ Some c.in-Some.other.now =
-    slice_get_read xs _ c.args.near c.in-Some.other.now refl inside there.1 in
+    let inside : c.args.hint < length xs = ltb-true c.args.hint (length xs) (sym there.0) in
+    let here : slice_get xs c.args.hint ≡ Some c.in-Some.other.now =
+    slice_get_read xs _ c.args.hint c.in-Some.other.now refl inside there.1 in
     let same : c.in-Some.other.now ≡ c.args.id.now = same_id c.in-Some.other.now c.args.id.now (sym c.eq.ensures ∙ c.if-eq.true) in
-    stands_once c.args.self.now.items c.args.near c.args.id.now c.requires
-    (ap (λ ys. slice_get ys c.args.near) (sym (ap (λ (r : ListBlock). r.items) c.self.view_is) ∙ sym c.deref.ensures.value) ∙ here
+    stands_once c.args.self.now.items c.args.hint c.args.id.now c.requires
+    (ap (λ ys. slice_get ys c.args.hint) (sym (ap (λ (r : ListBlock). r.items) c.self.view_is) ∙ sym c.deref.ensures.value) ∙ here
     ∙ ap Some same)

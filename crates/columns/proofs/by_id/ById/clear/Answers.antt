@@ -4,20 +4,21 @@ use Rattle.ids.specs.Members.{AreDistinct}
 use Rattle.semantics.specs.Context.{without}
 use Rattle.semantics.specs.Vectors.{covers}
 use Rattle.semantics.specs.Tables.{by_table}
-use Rattle.columns.specs.Entries.{Entries, StandBeside, id_of}
+use Rattle.columns.specs.Entries.{Entries, AreIndicesIn, id_of}
 use Rattle.columns.specs.Held.{held_entries}
 use Rattle.columns.specs.declared.entry.Entry.{Entry}
 use Rattle.columns.specs.declared.held.Held.TheVariants.{Single}
-use Rattle.columns.proofs.Beside.{single_without}
+use Rattle.columns.proofs.IndexedEntries.{single_without}
 use Rattle.columns.proofs.by_id.ById.clear.Goals as goal
 
 -- what is left of a map with a single entry, by the test of its index
 left : {X : Type 0} (table v : List ℕ) (e : Entry X) (m : Entries X) (is_covered : Bool) → held_entries (Single e) ≡ m
     → is_covered ≡ nat_le e.counter (slice_index v e.index)
-    → AreDistinct table → length table ≡ length v → StandBeside table m.entries m.indices
+    → AreDistinct table → length table ≡ length v → AreIndicesIn table m.entries m.indices
     → cond is_covered [] ((id_of e, e.value) ∷ []) ≡ without (covers (by_table table v)) m.entries
 left {X = X} table v e m is_covered seen is distinct wide stand =
-    let alone : StandBeside table ((id_of e, e.value) ∷ []) (e.index ∷ []) = subst (λ (n : Entries X). StandBeside table n.entries n.indices)
+    let alone : AreIndicesIn table ((id_of e, e.value) ∷ []) (e.index ∷ []) = subst
+    (λ (n : Entries X). AreIndicesIn table n.entries n.indices)
     (sym seen) stand in
     ap (λ b. cond b [] ((id_of e, e.value) ∷ [])) is
     ∙ sym (single_without table v (id_of e) e.index e.value distinct wide alone)

@@ -1,4 +1,5 @@
-use Rattle.std.proofs.Common.{◌≡◌, ◌∙◌, ap, sym, refl, slice_get, Some, is_some, subst, length, set, length-set, arith, true, false, cond, rules}
+use Rattle.std.proofs.Common.{◌≡◌, ◌∙◌, ap, sym, refl, slice_get, Some, is_some, subst, length, set, length-set, arith, true, false, cond}
+use Rattle.std.proofs.Common.{rules}
 use Rattle.std.specs.Prelude.{min}
 use Rattle.std.specs.List.{filter}
 use Rattle.std.specs.FinMap.Entries.{is_some-find}

@@ -1,5 +1,5 @@
 use Rattle.std.proofs.Common.{◌≡◌, ◌<◌, ◌≤◌, ◌∙◌, ℕ, [], sym, length, arith}
-use Rattle.columns.proofs.Near.{found_here, goes_before, goes_last, sought_from}
+use Rattle.columns.proofs.HintedKeys.{found_here, goes_before, goes_last, sought_from}
 use Rattle.columns.proofs.sorted_keys.SortedKeys.look_behind.Goals as goal
 
 -- not the end, so a key stands there

@@ -2,7 +2,7 @@ use Rattle.std.proofs.Common.{◌≤◌, ◌<◌, ◌-◌, ◌+◌, ◌/◌, ◌
 use Rattle.semantics.specs.Elements.{Name, name_cmp}
 use Rattle.semantics.proofs.Orders.{name_total}
 use Rattle.columns.proofs.Halves.{halved, halfway}
-use Rattle.columns.proofs.Near.{found_here, is_there}
+use Rattle.columns.proofs.HintedKeys.{found_here, is_there}
 use Rattle.columns.proofs.Sought.{IsSought, sought_in, sought_before, sought_behind, sought_nowhere}
 use Rattle.columns.proofs.sorted_keys.SortedKeys.search.Goals as goal
 

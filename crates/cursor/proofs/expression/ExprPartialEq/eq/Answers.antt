@@ -1,8 +1,8 @@
 use Rattle.std.proofs.Common.{sym, ◌∙◌}
 use Rattle.std.specs.Cmp.Lexicographic.{pointwise}
 use Rattle.std.specs.Cmp.Derive.Mapped.{pointwise-map}
-use Rattle.cursor.specs.Equality.{is_same_step}
-use Rattle.cursor.specs.Meanings.{step_of}
+use Rattle.cursor.specs.SamePlaces.{is_same_step}
+use Rattle.cursor.specs.Steps.{step_of}
 use Rattle.cursor.proofs.expression.ExprPartialEq.eq.Goals as goal
 
 pub returns : goal.returns

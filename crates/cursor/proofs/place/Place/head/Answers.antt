@@ -4,8 +4,8 @@ use Rattle.std.specs.List.{each_same}
 use Rattle.semantics.specs.Elements.{Doc, HeadOf}
 use Rattle.semantics.specs.Operations.{element_of}
 use Rattle.semantics.specs.Paths.{down}
-use Rattle.semantics.proofs.ElementPaths.{down-keys_from_root}
-use Rattle.cursor.specs.Meanings.{hop_of}
+use Rattle.semantics.proofs.ElementPaths.{down-hops_from_root}
+use Rattle.cursor.specs.Steps.{hop_of}
 use Rattle.cursor.proofs.Below.{depth_below, step_from-Idx}
 use Rattle.cursor.proofs.place.Place.head.Goals as goal
 
@@ -13,7 +13,7 @@ leads_to : (c : goal.In_ok-from_clones) → down Doc (map hop_of c.in_ok-from_cl
 leads_to c =
     ap (λ hops. down Doc (map hop_of hops)) (each_same _ _ c.in_ok-from_clones.ensures.items)
     ∙ ap (down Doc) c.hops.ensures
-    ∙ down-keys_from_root (element_of c.args.self.now)
+    ∙ down-hops_from_root (element_of c.args.self.now)
 
 pub invariant_of-result : goal.invariant_of-result
 invariant_of-result c =

@@ -3,7 +3,7 @@ use Rattle.std.proofs.Common.{◌≡◌, map, inl, refl, sym, ap, ◌∙◌, ari
 use Rattle.semantics.specs.Elements.{Doc}
 use Rattle.semantics.specs.Operations.{element_of}
 use Rattle.semantics.specs.Paths.{child, down}
-use Rattle.cursor.specs.Meanings.{hop_of}
+use Rattle.cursor.specs.Steps.{hop_of}
 use Rattle.cursor.proofs.Below.{depth_below}
 use Rattle.cursor.proofs.RootPaths.{depth-child, down-longer}
 use Rattle.cursor.proofs.place.Place.with_hop.Goals as goal

@@ -1,4 +1,4 @@
-use Rattle.oplog.specs.operation.Meanings.{stamped_of}
+use Rattle.oplog.specs.operation.Ops.{stamped_of}
 use Rattle.oplog.proofs.operation.PassedAlone.{passed_alone}
 use Rattle.document.proofs.ReceivedFaults.{lawful}
 use Rattle.document.proofs.document.Document.check.Goals as goal

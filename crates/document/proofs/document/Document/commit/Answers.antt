@@ -6,7 +6,7 @@ use Rattle.semantics.specs.Tables.{component}
 use Rattle.semantics.specs.Stamped.{Stamped, loose_operation}
 use Rattle.oplog.specs.operation.declared.command.Entry.{Entry}
 use Rattle.oplog.specs.operation.declared.op.Op.{Op}
-use Rattle.oplog.specs.operation.Meanings.{entry_of, stamped_of}
+use Rattle.oplog.specs.operation.Ops.{entry_of, stamped_of}
 use Rattle.tree.specs.Trees.{IsPlaced, document}
 use Rattle.document.specs.Documents.{Contents, MayFollowEntries}
 use Rattle.oplog.proofs.version.TableColumns.{component-raised}
@@ -23,7 +23,7 @@ pub apply-requires-clause-placed : goal.apply-requires-clause-placed
 apply-requires-clause-placed c =
     let d = c.self.inside in
     let same = ap (stamped_of d.tree.table) c.deref-2.ensures
-    ∙ ap (λ table. stamped_of table c.op-op.result.now) c.self.invariant.beside ∙ c.op-op.ensures.stamped d.log.table in
+    ∙ ap (λ table. stamped_of table c.op-op.result.now) c.self.invariant.fits ∙ c.op-op.ensures.stamped d.log.table in
     subst (IsPlaced (document d.tree)) (sym same)
     (fits d.log.table d.applied d.log.entries d.tree (stamped_in (entry_of d.log.table c.args.entry)) c.self.invariant
     (lawful _ _ c.args.entry c.self.view_is c.requires.lawful))
@@ -49,7 +49,7 @@ invariant_of-self c =
     let table = d.log.table in
     let id = c.deref.result.now.id in
     let same = ap (stamped_of d.tree.table) c.deref-2.ensures
-    ∙ ap (λ table. stamped_of table c.op-op.result.now) c.self.invariant.beside ∙ c.op-op.ensures.stamped table in
+    ∙ ap (λ table. stamped_of table c.op-op.result.now) c.self.invariant.fits ∙ c.op-op.ensures.stamped table in
     let found : slice_get table c.in-Some.index ≡ Some id.replica = ap (λ ps. slice_get ps c.in-Some.index) (sym c.table.ensures)
     ∙ c.in-Some.ensures.found in
     let within : c.in-Some.index < length table = slice_get_within table c.in-Some.index id.replica found in

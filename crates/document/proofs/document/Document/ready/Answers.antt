@@ -1,7 +1,7 @@
 use Rattle.std.proofs.Common.{refl, sym, ap, length, ◌∙◌}
 use Rattle.semantics.specs.Entries.{applied}
 use Rattle.semantics.proofs.ColumnComparison.{ready-by_table}
-use Rattle.oplog.specs.operation.Meanings.{stamped_of}
+use Rattle.oplog.specs.operation.Ops.{stamped_of}
 use Rattle.document.specs.Documents.{Contents}
 use Rattle.document.proofs.document.Document.ready.Goals as goal
 

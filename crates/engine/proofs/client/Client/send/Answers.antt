@@ -1,21 +1,22 @@
 use Rattle.std.proofs.Common.{◌≡◌, None, length, ap, ◌∙◌, rules}
 use Rattle.std.specs.Arc.{arc_value}
 use Rattle.crossbeam_queue.specs.Passes.{ruled_capacity}
-use Rattle.handling.specs.items.declared.item.Item.{Item}
+use Rattle.replica.specs.operation.declared.submission.Submission.{Submission}
 use Rattle.engine.specs.Clients.{Client}
-use Rattle.engine.proofs.Sending.{next_item, as_next, keeps_next, sent_one}
+use Rattle.engine.proofs.Sending.{next_submission, as_next, keeps_next, sent_one}
 use Rattle.engine.proofs.client.Client.send.Goals as goal
 
 pub returns-in-Ok-send-clause-kept : goal.returns-in-Ok-send-clause-kept
 returns-in-Ok-send-clause-kept g c =
     let me : Client = c.args.self.now in
     let room : ruled_capacity (arc_value c.send.new.self.queue) ≡ ruled_capacity (arc_value c.self.inside.sender.queue) = search rules in
-    let x : Item = next_item me c.args.request in
-    let item : c.in-Ok.kept.item
+    let x : Submission = next_submission me c.args.request in
+    let submission : c.in-Ok.kept.submission
     ≡ x = as_next me _ _ _ _ (ap (λ (z : Client). z.number) c.self.view_is) c.requires
-    (c.seen_len.ensures.length ∙ ap (λ (z : Client). length z.seen) c.self.view_is) _ c.in-Ok.ensures.item.1 in
-    let kept : c.in-Ok.kept ≡ record { item = x; known = None } = keeps_next _ x item c.in-Ok.ensures.item.2 in
-    sent_one me _ c.reserve.new.self.items c.in-Ok.kept (record { item = x; known = None }) (ap (λ (z : Client). z.replica) c.self.view_is)
+    (c.seen_len.ensures.length ∙ ap (λ (z : Client). length z.seen) c.self.view_is) _ c.in-Ok.ensures.submission.1 in
+    let kept : c.in-Ok.kept ≡ record { submission = x; known = None } = keeps_next _ x submission c.in-Ok.ensures.submission.2 in
+    sent_one me _ c.reserve.new.self.items c.in-Ok.kept (record { submission = x; known = None })
+    (ap (λ (z : Client). z.replica) c.self.view_is)
     (ap (λ (z : Client). z.number) c.self.view_is) (ap (λ (z : Client). z.serials) c.self.view_is)
     (c.send.ensures.same.0 ∙ ap (λ (z : Client). z.queue) c.self.view_is) (room ∙ ap (λ (z : Client). z.capacity) c.self.view_is)
     (ap (λ (z : Client). z.seen) c.self.view_is) (ap (λ (z : Client). z.read) c.self.view_is)

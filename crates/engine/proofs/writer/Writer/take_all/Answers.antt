@@ -1,7 +1,7 @@
 use Rattle.crossbeam_queue.specs.Passes.{view}
 use Rattle.semantics.proofs.HandledBatches.{resumed}
-use Rattle.handling.specs.Meanings.{handler_of}
-use Rattle.engine.specs.Turns.{submitted_in}
+use Rattle.replica.specs.Handlers.{handler_of}
+use Rattle.engine.specs.WriterSteps.{submitted_in}
 use Rattle.engine.proofs.writer.Writer.take_all.Goals as goal
 
 pub fill-requires-clause-running : goal.fill-requires-clause-running

@@ -3,7 +3,7 @@ use Rattle.semantics.specs.Ids.{is_smaller_id}
 use Rattle.semantics.specs.Entries.{applied}
 use Rattle.semantics.specs.Stamped.{Stamped}
 use Rattle.document.specs.operation.declared.op.Op.{Op}
-use Rattle.document.specs.operation.Meanings.{stamped_of}
+use Rattle.document.specs.operation.Ops.{stamped_of}
 use Rattle.inbox.specs.Inboxes.{AreNotReady, AreRising, IsLeastReady}
 use Rattle.inbox.proofs.KeyedOps.{some_of}
 use Rattle.inbox.proofs.Ready.{least_first, least_ready, none_first, none_ready, wide_at}

@@ -1,4 +1,4 @@
-use Rattle.cursor.specs.value.Meanings.{value_of}
+use Rattle.cursor.specs.value.Values.{value_of}
 use Rattle.operation.proofs.command.Command.misplaced_at.Goals as goal
 
 pub returns-in-InsertAfter : goal.returns-in-InsertAfter

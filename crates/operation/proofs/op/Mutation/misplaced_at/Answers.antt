@@ -1,4 +1,4 @@
-use Rattle.cursor.specs.value.Meanings.{value_of}
+use Rattle.cursor.specs.value.Values.{value_of}
 use Rattle.operation.proofs.op.Mutation.misplaced_at.Goals as goal
 
 pub returns-in-Insert : goal.returns-in-Insert

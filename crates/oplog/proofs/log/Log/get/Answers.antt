@@ -2,7 +2,7 @@ use Rattle.std.proofs.Common.{◌≡◌, sym, ap, ◌∙◌, length, subst, slic
 use Rattle.std.specs.List.{All}
 use Rattle.std.specs.Prelude.{IfSome}
 use Rattle.std.specs.Option.{option_map}
-use Rattle.operation.specs.Meanings.{entry_of, op_in}
+use Rattle.operation.specs.Ops.{entry_of, op_in}
 use Rattle.operation.specs.declared.command.Entry.{Entry}
 use Rattle.semantics.specs.Entries.{entry_at}
 use Rattle.oplog.specs.Logs.{Logged}

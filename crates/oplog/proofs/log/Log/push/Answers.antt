@@ -10,12 +10,12 @@ use Rattle.semantics.specs.Stamped.{Stamped}
 use Rattle.semantics.specs.LegalHistory.{has_id}
 use Rattle.semantics.specs.Entries.{applied, stamped_in}
 use Rattle.operation.specs.declared.op.Op.{Op}
-use Rattle.operation.specs.Meanings.{entry_of, op_in}
+use Rattle.operation.specs.Ops.{entry_of, op_in}
 use Rattle.oplog.specs.Logs.{AreOfMembers, HaveOwnIds, Logged, history, numbers_of, positions_by}
 use Rattle.oplog.proofs.Oldest.{history-length, history-more}
 use Rattle.oplog.proofs.PlacedIds.{unplaced}
 use Rattle.oplog.proofs.Positions.{all_more, positions_inside}
-use Rattle.oplog.proofs.Room.{least_room-any, least_room-beside}
+use Rattle.oplog.proofs.Room.{least_room-any, least_room-width}
 use Rattle.oplog.proofs.log.Log.push.Goals as goal
 
 pub put_position-requires-clause-inside : goal.put_position-requires-clause-inside
@@ -34,7 +34,7 @@ pub push_reserved-requires : goal.push_reserved-requires
 push_reserved-requires c =
     let d = c.self.inside in
     let room = ap (λ (l : Logged). l.room) c.self.view_is in
-    let least = least_room-beside (vec_capacity d.entries - vec_len d.entries) d.positions.items in
+    let least = least_room-width (vec_capacity d.entries - vec_len d.entries) d.positions.items in
     omega arith
 
 pub invariant_of-self : goal.invariant_of-self

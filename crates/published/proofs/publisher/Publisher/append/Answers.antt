@@ -1,7 +1,7 @@
 use Rattle.std.proofs.Common.{◌≡◌, List, ◌∷◌, ◌++◌, [], drop, MatchBool, IsFalse, ap, sym, ◌∙◌, subst}
 use Rattle.semantics.specs.Making.{is_full}
 use Rattle.semantics.specs.Entries.{Entry as TheEntry, IsEntryHistory}
-use Rattle.document.specs.operation.Meanings.{entry_of}
+use Rattle.document.specs.operation.Ops.{entry_of}
 use Rattle.document.specs.oplog.Logs.{history}
 use Rattle.published.specs.Beginnings.{Beginning}
 use Rattle.published.specs.Copies.{Pending}

@@ -4,7 +4,7 @@ use Rattle.semantics.specs.LegalHistory.{has_id}
 use Rattle.semantics.specs.Delivery.{Kept as IsKept, answer_to_new, is_waiting}
 use Rattle.inbox.specs.operation.declared.op.Op.{Op}
 use Rattle.inbox.specs.operation.Alone.{alone_fault_of_op}
-use Rattle.inbox.specs.operation.Meanings.{stamped_of}
+use Rattle.inbox.specs.operation.Ops.{stamped_of}
 use Rattle.inbox.specs.Inboxes.{waiting_in}
 use Rattle.replica.specs.Replicas.{replica_with}
 use Rattle.replica.proofs.KeptOperations.{after_put}

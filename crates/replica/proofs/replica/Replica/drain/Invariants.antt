@@ -1,8 +1,7 @@
-use Rattle.std.proofs.Common.{◌≡◌, ◌≤◌, ℕ}
-use Rattle.semantics.specs.Drain.{counted, drain_for}
 use Rattle.replica.specs.Replicas.{replica_of}
+use Rattle.replica.proofs.Draining.{IsUnderWay}
 use Rattle.replica.proofs.replica.Replica.drain.Given as goal
 
--- at least as many turns as were counted
 abbrev pub invariant-loop : goal.invariant-loop
-invariant-loop l = (n : ℕ) × (l.counter ≤ n) × (replica_of l.self ≡ counted (drain_for n (replica_of l.fn.self)))
+invariant-loop g l = IsUnderWay (replica_of l.fn.self) (g.P.Publish.publication l.fn.publisher) (g.P.Publish.publication l.publisher)
+    (replica_of l.self) l.counter

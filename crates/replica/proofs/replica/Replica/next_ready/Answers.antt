@@ -1,5 +1,5 @@
 use Rattle.std.proofs.Common.{◌≡◌, Ok, Some, sym, ap, ◌∙◌, subst, true≢false}
-use Rattle.inbox.specs.operation.Meanings.{stamped_of}
+use Rattle.inbox.specs.operation.Ops.{stamped_of}
 use Rattle.replica.specs.Replicas.{Running, IsNextReady}
 use Rattle.replica.proofs.Leaving.{has_its_id, next_waits}
 use Rattle.replica.proofs.replica.Replica.next_ready.Goals as goal

@@ -1,4 +1,4 @@
-use Rattle.operation.specs.Meanings.{stamped_of}
+use Rattle.operation.specs.Ops.{stamped_of}
 use Rattle.replica.specs.Replicas.{replica_of}
 use Rattle.replica_tests.proofs.KeptSerials.{delivered_entries}
 use Rattle.replica_tests.proofs.tests.playing.deliver.Goals as goal

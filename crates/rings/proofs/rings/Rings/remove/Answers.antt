@@ -10,7 +10,8 @@ remove_in-requires-clause-within g c =
     let d = c.self.inside in
     let all : length d.slots.items ≡ length c.args.self.now.items = sym (length-straight 2048 (starts_of d.starts) d.slots.items)
     ∙ ap (λ (m : Sequence g.row.T.Denot). length m.items) c.self.view_is in
-    let moved = ap length (with_items_is d.slots c.straighten_all.new.slots (c.straighten_all.auto.slots ∙ c.deref_mut.ensures.len))
-    ∙ c.straighten_all.ensures.length ∙ ap length c.deref_mut.ensures.value in
+    let moved = ap length
+    (with_items_is d.slots c.make_all_contiguous.new.slots (c.make_all_contiguous.auto.slots ∙ c.deref_mut.ensures.len))
+    ∙ c.make_all_contiguous.ensures.length ∙ ap length c.deref_mut.ensures.value in
     let h = c.requires in
     omega (arith, all, moved, h)

@@ -2,7 +2,7 @@ use Rattle.std.proofs.Common.{ap, ◌∙◌}
 use Rattle.std.proofs.lemmas.List.{with_items_is}
 use Rattle.semantics.specs.Context.{apply}
 use Rattle.semantics.specs.Stamped.{loose_operation}
-use Rattle.operation.specs.Meanings.{stamped_of}
+use Rattle.operation.specs.Ops.{stamped_of}
 use Rattle.tree.specs.Nodes.{context}
 use Rattle.tree.proofs.tree.Tree.apply.Goals as goal
 

@@ -10,7 +10,7 @@ invariant_of-self c = record {
   nested = subst IsNested (sym c.reserve_operation.ensures.kept.same) c.self.invariant.nested;
   shown = kept_shown c.self.inside.nodes.items c.reserve_operation.new.nodes.items c.reserve_operation.ensures.kept c.self.invariant.shown;
   empty = kept_empty c.self.inside.nodes.items c.reserve_operation.new.nodes.items c.reserve_operation.ensures.kept c.self.invariant.empty;
-  beside = c.reserve_operation.ensures.kept.beside c.self.inside.table c.self.invariant.beside;
+  indexed = c.reserve_operation.ensures.kept.indexed c.self.inside.table c.self.invariant.indexed;
 }
 
 pub invariant_of-self-2 : goal.invariant_of-self-2
@@ -20,7 +20,7 @@ invariant_of-self-2 c = record {
   nested = subst IsNested (sym c.reserve_operation.ensures.kept.same) c.self.invariant.nested;
   shown = kept_shown c.self.inside.nodes.items c.reserve_operation.new.nodes.items c.reserve_operation.ensures.kept c.self.invariant.shown;
   empty = kept_empty c.self.inside.nodes.items c.reserve_operation.new.nodes.items c.reserve_operation.ensures.kept c.self.invariant.empty;
-  beside = c.reserve_operation.ensures.kept.beside c.self.inside.table c.self.invariant.beside;
+  indexed = c.reserve_operation.ensures.kept.indexed c.self.inside.table c.self.invariant.indexed;
 }
 
 pub returns-clause-reserved : goal.returns-clause-reserved

@@ -15,12 +15,12 @@ returns-then-index-len c = λ table.
     (λ i. record {
       seen = k.seen;
       cells = map-set (cell_of table) k.cells.items index
-          (record { item = c.index_mut-cell.result.now.item; answer = Some c.args.given }) i;
+          (record { submission = c.index_mut-cell.result.now.submission; answer = Some c.args.given }) i;
     })
     ∙ (λ i. record {
       seen = k.seen;
       cells = set (map (cell_of table) k.cells.items) (at i)
-          (cell_of table (record { item = c.index_mut-cell.result.now.item; answer = Some c.args.given }));
+          (cell_of table (record { submission = c.index_mut-cell.result.now.submission; answer = Some c.args.given }));
     })
     ∙ sym
     (with_answer-there (client_of table k) c.args.serial (given_of c.args.given) (cell_of table c.index_mut-cell.result.now)

@@ -5,9 +5,9 @@ use Rattle.semantics.specs.Tables.{by_table}
 use Rattle.semantics.specs.Engine.{Message as TheMessage, Bundle as TheBundle, Outcome, SentBundle}
 use Rattle.semantics.specs.Stamped.{Stamped}
 use Rattle.semantics.specs.PeerSteps.{lacked}
-use Rattle.handling.specs.operation.Meanings.{stamped_of}
+use Rattle.replica.specs.operation.Ops.{stamped_of}
 use Rattle.world.specs.Engines.{message_of}
-use Rattle.world.proofs.AnsweredHellos.{answered-none, answered-foreign, answered-given, names_stranger}
+use Rattle.world.proofs.AnsweredHellos.{answered-none, answered-foreign, answered-given, names_nonmember}
 use Rattle.world.proofs.engine.Engine.bundle.Goals as goal
 
 -- nothing more is sent
@@ -37,7 +37,7 @@ returns-in-Err-UnknownReplica-clause-engine c =
     let v = by_table c.in-Some.hello.now.table c.in-Some.hello.now.vector in
     let all = answered-foreign c.args.self.now c.args.token c.args.messages.now.items _ c.args.message c.deref.ensures.value v
     c.in-Some.ensures.some
-    (names_stranger c.args.self.now v _ c.in-Err-UnknownReplica.ensures c.in-Err-UnknownReplica.field-0-is) in
+    (names_nonmember c.args.self.now v _ c.in-Err-UnknownReplica.ensures c.in-Err-UnknownReplica.field-0-is) in
     sym (ap (λ (t : Outcome). t.engine) all.0)
 
 pub returns-in-Err-UnknownReplica-clause-reply : goal.returns-in-Err-UnknownReplica-clause-reply
@@ -45,7 +45,7 @@ returns-in-Err-UnknownReplica-clause-reply c =
     let v = by_table c.in-Some.hello.now.table c.in-Some.hello.now.vector in
     let all = answered-foreign c.args.self.now c.args.token c.args.messages.now.items _ c.args.message c.deref.ensures.value v
     c.in-Some.ensures.some
-    (names_stranger c.args.self.now v _ c.in-Err-UnknownReplica.ensures c.in-Err-UnknownReplica.field-0-is) in
+    (names_nonmember c.args.self.now v _ c.in-Err-UnknownReplica.ensures c.in-Err-UnknownReplica.field-0-is) in
     sym (ap (λ (t : Outcome). t.reply) all.0)
 
 pub returns-in-Err-UnknownReplica-clause-sent : goal.returns-in-Err-UnknownReplica-clause-sent
@@ -53,7 +53,7 @@ returns-in-Err-UnknownReplica-clause-sent c =
     let v = by_table c.in-Some.hello.now.table c.in-Some.hello.now.vector in
     let all = answered-foreign c.args.self.now c.args.token c.args.messages.now.items _ c.args.message c.deref.ensures.value v
     c.in-Some.ensures.some
-    (names_stranger c.args.self.now v _ c.in-Err-UnknownReplica.ensures c.in-Err-UnknownReplica.field-0-is) in
+    (names_nonmember c.args.self.now v _ c.in-Err-UnknownReplica.ensures c.in-Err-UnknownReplica.field-0-is) in
     none_sent _ _ all.1
 
 pub returns-clause-engine : goal.returns-clause-engine

@@ -3,8 +3,8 @@ use Rattle.std.proofs.lemmas.Bool.{ltb-true}
 use Rattle.ids.specs.declared.refusal.Refusal.TheVariants.{NoMemory}
 use Rattle.semantics.specs.Stamped.{Stamped}
 use Rattle.semantics.specs.Engine.{Engine as TheEngine, Bundle}
-use Rattle.semantics.specs.PeerSteps.{before_stranger, stranger_fault}
-use Rattle.handling.specs.operation.Meanings.{stamped_of}
+use Rattle.semantics.specs.PeerSteps.{before_nonmember, nonmember_fault}
+use Rattle.replica.specs.operation.Ops.{stamped_of}
 use Rattle.world.specs.Engines.{message_of}
 use Rattle.world.proofs.ReachedWorlds.{reached_sound}
 use Rattle.world.proofs.SingleSteps.{read_mapped}
@@ -18,8 +18,8 @@ returns-clause-stopped c =
     let M : List ℕ = A.replica.members in
     let b = c.in-Some-Bundle.bundle in
     let ss : List Stamped = map (stamped_of b.table) b.ops.items in
-    let ops = c.ops_beside-read.result.ops.items in
-    let got = c.ops_beside-read.result.stopped in
+    let ops = c.reindexed_ops-read.result.ops.items in
+    let got = c.reindexed_ops-read.result.stopped in
     let messages = c.args.messages.now in
     let at = c.args.message in
     let r = c.in-Some-Bundle.field-0.now in
@@ -28,9 +28,9 @@ returns-clause-stopped c =
     (ltb-true at (length messages) (sym c.in-Some-Bundle.ensures.lookup.0)) c.in-Some-Bundle.ensures.lookup.1
     ∙ ap (λ m. Some (message_of m)) c.in-Some-Bundle.field-0-is in
     let table : c.table.result.now ≡ M = c.table.ensures ∙ c.shown.ensures.table in
-    let read : (got ≡ Some NoMemory) ⊎ ((map (stamped_of M) ops ≡ before_stranger M ss) × (got ≡ stranger_fault M ss)) =
+    let read : (got ≡ Some NoMemory) ⊎ ((map (stamped_of M) ops ≡ before_nonmember M ss) × (got ≡ nonmember_fault M ss)) =
     subst (λ N. (got ≡ Some NoMemory)
-    ⊎ ((map (stamped_of N) ops ≡ before_stranger N ss) × (got ≡ stranger_fault N ss))) table c.ops_beside-read.ensures.read in
+    ⊎ ((map (stamped_of N) ops ≡ before_nonmember N ss) × (got ≡ nonmember_fault N ss))) table c.reindexed_ops-read.ensures.read in
     then_err c.receive.result
     (λ part. message_stopped A c.receive.new.self c.args.client (slice_get (map message_of c.args.messages.now) c.args.message) ss
     (map (stamped_of M) ops) got

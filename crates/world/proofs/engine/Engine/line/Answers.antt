@@ -1,7 +1,7 @@
 use Rattle.std.proofs.Common.{◌≡◌, ◌⊎◌, ℕ, List, Some, map, ◌∙◌, subst}
 use Rattle.ids.specs.declared.refusal.Refusal.TheVariants.{NoMemory}
 use Rattle.semantics.specs.Engine.{Engine as TheEngine}
-use Rattle.handling.specs.operation.Meanings.{stamped_of}
+use Rattle.replica.specs.operation.Ops.{stamped_of}
 use Rattle.wire.specs.Bundles.{readable}
 use Rattle.world.proofs.ReachedWorlds.{reached_sound}
 use Rattle.world.proofs.StoppedReceipts.{lines_stopped}

@@ -2,8 +2,8 @@ use Rattle.std.proofs.Common.{◌≡◌, ◌∙◌, ℕ, List, length, map, sym,
 use Rattle.semantics.specs.World.{opened_engine}
 use Rattle.ids.specs.Configurations.{Configuration}
 use Rattle.ids.specs.contracts.config.Config.{the_view}
-use Rattle.handling.specs.replica.Replicas.{replica_of}
-use Rattle.handling.specs.items.Meanings.{submitted_of}
+use Rattle.replica.specs.Replicas.{replica_of}
+use Rattle.replica.specs.operation.Submissions.{submitted_of}
 use Rattle.world.specs.Engines.{client_of, handled_of}
 use Rattle.world.proofs.engine.Engine.open.Goals as goal
 

@@ -2,8 +2,8 @@ use Rattle.std.proofs.Common.{◌+◌, length, sym, ap, ◌∙◌, arith}
 use Rattle.semantics.specs.LegalAnswer.{OfCommand}
 use Rattle.semantics.specs.Engine.{Engine as TheEngine, Ticket}
 use Rattle.semantics.specs.WriteSteps.{push}
-use Rattle.handling.specs.operation.declared.command.Command.{Command}
-use Rattle.handling.specs.operation.Meanings.{command_of}
+use Rattle.replica.specs.operation.declared.command.Command.{Command}
+use Rattle.replica.specs.operation.Ops.{command_of}
 use Rattle.world.specs.Engines.{taken_or_denied}
 use Rattle.world.proofs.TakenRequests.{client_there}
 use Rattle.world.proofs.engine.Engine.push.Goals as goal

@@ -3,7 +3,7 @@ use Rattle.std.proofs.Common.{arith, add-one}
 use Rattle.ids.specs.declared.refusal.Refusal.TheVariants.{NoMemory}
 use Rattle.semantics.specs.Engine.{Outcome, Received}
 use Rattle.semantics.specs.PeerSteps.{Receipt, as_received}
-use Rattle.handling.specs.operation.Meanings.{stamped_of}
+use Rattle.replica.specs.operation.Ops.{stamped_of}
 use Rattle.world.specs.Engines.{stop_after}
 use Rattle.world.proofs.StoppedReceipts.{between_same}
 use Rattle.world.proofs.TakenRequests.{receives}

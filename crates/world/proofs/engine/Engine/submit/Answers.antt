@@ -4,8 +4,8 @@ use Rattle.std.proofs.lemmas.List.{map-set, map-append}
 use Rattle.std.proofs.lemmas.Option.{same_Some}
 use Rattle.semantics.specs.LegalAnswer.{Request, Submitted}
 use Rattle.semantics.specs.Engine.{Engine as TheEngine, Client as TheClient, Outcome, Ticket}
-use Rattle.semantics.specs.WriteSteps.{next_item, with_cell}
-use Rattle.handling.specs.items.Meanings.{request_of, submitted_of}
+use Rattle.semantics.specs.WriteSteps.{next_submission, with_cell}
+use Rattle.replica.specs.operation.Submissions.{request_of, submitted_of}
 use Rattle.world.specs.Engines.{client_of}
 use Rattle.world.specs.contracts.engine.Engine.{the_view}
 use Rattle.world.proofs.SingleSteps.{set_itself}
@@ -51,15 +51,16 @@ returns-clause-engine c =
     let there = stands e c.args.self.now at k c.self.view_is c.requires.there c.index-k.ensures in
     let again = stands e c.args.self.now at m c.self.view_is c.requires.there c.index_mut-k.ensures.value in
     let same : client_of table m ≡ client_of table k = same_Some (client_of table m) (client_of table k) (sym again ∙ there) in
-    let item : submitted_of table c.next_item-item.result ≡ next_item at (client_of table k) q = c.next_item-item.ensures.item table in
-    let queue : map (submitted_of table) c.enqueue.new.queue.items ≡ E.queue ++ next_item at (client_of table k) q ∷ [] =
+    let submission : submitted_of table c.next_submission-submission.result
+    ≡ next_submission at (client_of table k) q = c.next_submission-submission.ensures.submission table in
+    let queue : map (submitted_of table) c.enqueue.new.queue.items ≡ E.queue ++ next_submission at (client_of table k) q ∷ [] =
     ap (map (submitted_of table)) c.in_ok-enqueue.ensures.queue
-    ∙ map-append (submitted_of table) e.queue.items (c.next_item-item.result ∷ [])
-    ∙ ap (λ (x : Submitted). E.queue ++ x ∷ []) item in
+    ∙ map-append (submitted_of table) e.queue.items (c.next_submission-submission.result ∷ [])
+    ∙ ap (λ (x : Submitted). E.queue ++ x ∷ []) submission in
     let clients : map (client_of table) (set ks at c.enqueue.new.k)
-    ≡ set (map (client_of table) ks) at (with_cell (client_of table k) (next_item at (client_of table k) q)) =
+    ≡ set (map (client_of table) ks) at (with_cell (client_of table k) (next_submission at (client_of table k) q)) =
     map-set (client_of table) ks at c.enqueue.new.k
-    ∙ ap (set (map (client_of table) ks) at) (c.in_ok-enqueue.ensures.client table ∙ (λ i. with_cell (same i) (item i))) in
+    ∙ ap (set (map (client_of table) ks) at) (c.in_ok-enqueue.ensures.client table ∙ (λ i. with_cell (same i) (submission i))) in
     (λ i. record E { queue = queue i; clients = clients i })
     ∙ sym (ap (λ (t : Outcome). t.engine) (queued e c.args.self.now at c.args.request k c.self.view_is c.requires.there c.index-k.ensures
     (omega arith) (omega arith)))

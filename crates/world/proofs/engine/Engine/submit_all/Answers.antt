@@ -13,9 +13,9 @@ use Rattle.semantics.proofs.GrownEngines.{grown_refl, grown_trans}
 use Rattle.semantics.proofs.SoundEngines.{IsSound}
 use Rattle.semantics.proofs.SoundReceiving.{submitted_all}
 use Rattle.semantics.proofs.SoundSubmitting.{pushed}
-use Rattle.handling.specs.operation.declared.op.Op.{Op}
-use Rattle.handling.specs.operation.Meanings.{stamped_of}
-use Rattle.handling.specs.items.Meanings.{received_of}
+use Rattle.replica.specs.operation.declared.op.Op.{Op}
+use Rattle.replica.specs.operation.Ops.{stamped_of}
+use Rattle.replica.specs.operation.Submissions.{received_of}
 use Rattle.world.specs.Engines.{taken_or_denied}
 use Rattle.world.specs.Parts.{IsBetween}
 use Rattle.world.proofs.DrawnWaiting.{submits_wait, waits_still}
@@ -86,6 +86,7 @@ returns-in_err-why-clause-stopped c = on_err c.from_residual.result (λ bad.
     } in
     subst (λ F. IsBetween S F (submit_all at bad 0 S all).engine) (sym c.in_err-why.ensures.unchanged) (subst (IsBetween S E) end between)))
 
+-- one more operation was submitted: with the rest of the list the engine comes to what the whole list leads to
 pub loop-op-preserved : goal.loop-op-preserved
 loop-op-preserved c =
     let E : TheEngine = c.loop-op.self in

@@ -6,8 +6,8 @@ use Rattle.ids.specs.declared.refusal.Refusal.{Refusal}
 use Rattle.semantics.specs.PeerSteps.{submit_all}
 use Rattle.semantics.specs.WorldHistory.{HasGrown}
 use Rattle.semantics.proofs.SoundEngines.{IsSound}
-use Rattle.handling.specs.operation.Meanings.{stamped_of}
-use Rattle.handling.specs.operation.declared.op.Op.{Op}
+use Rattle.replica.specs.operation.Ops.{stamped_of}
+use Rattle.replica.specs.operation.declared.op.Op.{Op}
 use Rattle.world.proofs.engine.Engine.submit_all.Given as goal
 
 abbrev pub invariant-loop-op : goal.invariant-loop-op

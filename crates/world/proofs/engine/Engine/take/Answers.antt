@@ -1,4 +1,4 @@
--- The oldest item is handled; where that stops halfway the item is put back at the front, and the replica alone has changed.
+-- The oldest submission is handled; where that stops halfway the submission is put back at the front, and the replica alone has changed.
 use Rattle.std.proofs.Common.{◌≡◌, ◌||◌, false, nat_le, inl, inr, ℕ, List, ◌∷◌, length, map, refl, sym, ap, ◌∙◌, subst, arith}
 use Rattle.std.proofs.Common.{eqb-true}
 use Rattle.std.proofs.lemmas.List.{length-map}
@@ -9,7 +9,7 @@ use Rattle.semantics.specs.LegalAnswer.{Submitted}
 use Rattle.semantics.specs.Engine.{Engine as TheEngine}
 use Rattle.semantics.specs.Replica.{IsRunning}
 use Rattle.semantics.proofs.SoundEngines.{IsSound}
-use Rattle.handling.specs.items.Meanings.{submitted_of}
+use Rattle.replica.specs.operation.Submissions.{submitted_of}
 use Rattle.world.specs.Engines.{client_of, handled_of}
 use Rattle.world.specs.Parts.{TakesInPart}
 use Rattle.world.specs.contracts.engine.Engine.{the_view}
@@ -26,7 +26,7 @@ handle-requires-clause-above c =
     let E : TheEngine = the_view c.self.inside in
     let s : IsSound E = subst IsSound (sym c.self.view_is) (reached_sound c.args.self.now c.requires) in
     let table = c.self.inside.handler.replica.document.table in
-    let x : Submitted = submitted_of table c.in-Some.item in
+    let x : Submitted = submitted_of table c.in-Some.submission in
     let oldest : E.queue
     ≡ x ∷ map (submitted_of table) c.pop_front.new.self.items = ap (map (submitted_of table)) c.in-Some.ensures.items in
     s.queued x (subst (IsAmong x) (sym oldest) (inl refl))
@@ -65,7 +65,7 @@ returns-in_default-handle-clause-stopped c =
     ≡ false = lt-leb E.batch (length E.handled) (omega (arith, length-map I.handled.items (handled_of table))) in
     let part : TakesInPart E F = inr (record {
       free = λ i. due i || low i;
-      item = submitted_of table c.in-Some.item;
+      submission = submitted_of table c.in-Some.submission;
       queue = map (submitted_of table) c.pop_front.new.self.items;
       oldest = ap (map (submitted_of table)) c.in-Some.ensures.items;
       handled = c.in_default-handle.ensures.stopped;

@@ -1,7 +1,7 @@
 use Rattle.std.proofs.Common.{◌≡◌, ◌+◌, ◌-◌, List, [], ◌∷◌, length, map, refl, sym, ap, ◌∙◌, subst, arith, eqb-true}
 use Rattle.semantics.specs.Engine.{Engine}
-use Rattle.semantics.specs.WriteSteps.{take_for, take_item}
-use Rattle.handling.specs.items.Meanings.{submitted_of}
+use Rattle.semantics.specs.WriteSteps.{take_for, take_submission}
+use Rattle.replica.specs.operation.Submissions.{submitted_of}
 use Rattle.world.specs.Engines.{IsReachedEngine}
 use Rattle.world.proofs.ReachedWorlds.{reached_take}
 use Rattle.world.specs.Parts.{TakesInPart}
@@ -35,12 +35,13 @@ pub loop-preserved : goal.loop-preserved
 loop-preserved c =
     let E : Engine = c.loop.self in
     let batch : c.self.inside.batch ≡ c.args.self.now.batch = ap (λ (F : Engine). F.batch) c.self.view_is in
-    let next : c.take.new.self ≡ (take_item E).engine = c.in_ok-take.ensures.engine in
+    let next : c.take.new.self ≡ (take_submission E).engine = c.in_ok-take.ensures.engine in
     record {
       taken =
           ap (λ (F : Engine). take_for (c.args.self.now.batch - (c.loop.counter + 1)) F) next
           ∙ take_next c.args.self.now.batch c.loop.counter E (omega (arith, batch, c.loop-test.true))
           ∙ c.loop.invariant.taken;
-      so_far = next ∙ ap (λ (F : Engine). (take_item F).engine) c.loop.invariant.so_far ∙ sym (takes_then c.loop.counter 1 c.args.self.now);
+      so_far = next ∙ ap (λ (F : Engine). (take_submission F).engine) c.loop.invariant.so_far
+          ∙ sym (takes_then c.loop.counter 1 c.args.self.now);
       reached = subst IsReachedEngine (sym next) (reached_take E c.loop.invariant.reached);
     }

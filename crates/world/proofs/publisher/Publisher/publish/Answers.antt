@@ -1,5 +1,5 @@
 use Rattle.std.proofs.Common.{refl}
-use Rattle.handling.specs.oplog.Logs.{history}
+use Rattle.replica.specs.oplog.Logs.{history}
 use Rattle.world.proofs.publisher.Publisher.publish.Goals as goal
 
 pub returns-clause-begins : goal.returns-clause-begins

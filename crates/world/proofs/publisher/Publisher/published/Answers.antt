@@ -1,7 +1,7 @@
 use Rattle.std.proofs.Common.{refl, subst}
 use Rattle.semantics.specs.Publication.{Publication}
 use Rattle.semantics.specs.WorldHistory.{BeginsWith}
-use Rattle.handling.specs.oplog.Logs.{history}
+use Rattle.replica.specs.oplog.Logs.{history}
 use Rattle.world.proofs.publisher.Publisher.published.Goals as goal
 
 pub returns-clause-begins : goal.returns-clause-begins

@@ -1,6 +1,0 @@
-use Rattle.std.proofs.Common.{◌≡◌}
-use Rattle.lanes.proofs.Raised.{raised}
-use Rattle.benches.proofs.kernels.plain.max_into.Given as goal
-
-abbrev pub invariant-loop-index : goal.invariant-loop-index
-invariant-loop-index l = l.a ≡ raised l.index l.fn.a l.b

@@ -1,0 +1,68 @@
+-- What a step of the writer does.
+use Rattle.std.specs.Prelude.{◌≡◌, ◌<◌, ◌≤◌, ℕ, List, [], ◌++◌, length, map}
+use Rattle.atomic_table.specs.Seated.{TableId}
+use Rattle.semantics.specs.Entries.{Entry}
+use Rattle.semantics.specs.LegalAnswer.{Submitted}
+use Rattle.semantics.specs.Replica.{IsRunning}
+use Rattle.semantics.specs.Engine.{Handled}
+use Rattle.semantics.specs.Handling.{Handler, Resumes, Runs}
+use Rattle.semantics.specs.Batches.{ComeFrom, AreAnswers, items_of}
+use Rattle.semantics.specs.Publication.{Publication, Holds}
+use Rattle.replica.specs.operation.declared.submission.Submission.{Submission}
+use Rattle.replica.specs.operation.Submissions.{submitted_of}
+use Rattle.command.specs.declared.hand.Hand.{Hand}
+use Rattle.engine.specs.declared.writer.Step.{Step}
+use Rattle.engine.specs.declared.writer.Step.TheVariants.{Idle, Published, Held}
+
+-- a writer: its queue and batch, the replica that it works on, what is published of that, all that it took so far, and what is
+-- handled and not answered
+pub record Writer : Type 0 where
+  pub queue : TableId
+  pub batch : ℕ
+  pub handler : Handler
+  pub published : List Entry
+  pub took : List Submission
+  pub held : List Handled
+
+-- what publishes the entries of the engine with this number and these members
+abbrev pub publication_of : ℕ → List ℕ → Publication → Publication
+publication_of own table p = record p { own = own; members = table }
+
+-- what was submitted, one by one
+abbrev pub submitted_in : List ℕ → List Submission → List Submitted
+submitted_in table items = map (submitted_of table) items
+
+-- what holds of a writer between its calls
+pub record IsWriter (own : ℕ) (table : List ℕ) (publication : Publication) (handler : Handler) (hand : Hand) (held : List Handled)
+    (batch room : ℕ) : Type 0 where
+  pub holds : Holds (publication_of own table publication) handler.replica
+  pub running : IsRunning handler.replica
+  pub come_from : ComeFrom (submitted_in table hand.got) handler.replica.entries
+  pub answers : AreAnswers own table handler.replica.entries held
+  pub none_ended : hand.known ≡ []
+  pub fits : batch ≤ room
+  pub positive : 0 < batch
+
+-- a step that began with nothing held went on with a drain that had ended early, and then took these submissions, at most a batch, which it
+-- handled one after another, none skipped
+pub record IsWriterStep (table : List ℕ) (w : Writer) (hs : List Handled) (v : Writer) : Type 0 where
+  pub rested : Handler
+  pub resumes : Resumes w.handler rested
+  pub runs : Runs rested hs v.handler
+  pub items : List Submission
+  pub took : v.took ≡ w.took ++ items
+  pub handled : items_of hs ≡ submitted_in table items
+  pub few : length hs ≤ w.batch
+
+-- how such a step ends
+abbrev pub Ends : Writer → List Handled → Step → Writer → Type 0
+Ends w hs Idle v = (hs ≡ []) × (v.held ≡ []) × (v.published ≡ w.published) × (v.published ≡ v.handler.replica.entries)
+Ends w hs (Published n) v = (n ≡ length hs) × (v.held ≡ []) × (v.published ≡ v.handler.replica.entries)
+    × (n ≡ 0 → length w.published < length v.published)
+Ends w hs Held v = (v.held ≡ hs) × (v.published ≡ w.published) × (length hs ≡ 0 → length v.published < length v.handler.replica.entries)
+
+-- a publish of what is held, and the answers after it; if allocation fails, nothing
+abbrev pub Shows : Writer → Step → Writer → Type 0
+Shows w Idle v = ⊥
+Shows w (Published n) v = (n ≡ length w.held) × (v ≡ record w { published = w.handler.replica.entries; held = [] })
+Shows w Held v = v ≡ w

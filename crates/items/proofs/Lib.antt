@@ -1,2 +1,0 @@
--- Lemmas on items.
-pub mod SameItems

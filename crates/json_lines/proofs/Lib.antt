@@ -1,2 +1,0 @@
-pub mod OrNoMemory
-pub mod JsonTexts

@@ -1,0 +1,37 @@
+//! Engines, from submit to poll, with reads beside a busy writer and with an exchange.
+
+mod figure;
+mod playing;
+mod stage;
+
+pub use figure::Figures;
+use ids::Refusal;
+pub use playing::play;
+use std::io;
+
+/// Prints how much engines did that were played; where it is timed also how much a second.
+pub fn report(
+    rt: &HostRuntime,
+    played: Result<Figures, Refusal>,
+    is_timed: bool,
+) -> io::Result<()> {
+    match played {
+        Ok(figures) => print(rt, &figures, is_timed),
+        Err(refusal) => println!(rt; "no engines: {refusal}"),
+    }
+}
+
+/// Prints a line for each figure.
+fn print(rt: &HostRuntime, figures: &Figures, is_timed: bool) -> io::Result<()> {
+    for figure in [figures.polls, figures.reads, figures.exchange] {
+        let (name, count) = (figure.name, figure.count);
+        if is_timed {
+            let rate = figure.a_second();
+            let what = figure.what;
+            println!(rt; "{name}: {count} operations, {rate} {what} a second")?;
+        } else {
+            println!(rt; "{name}: {count} operations")?;
+        }
+    }
+    Ok(())
+}

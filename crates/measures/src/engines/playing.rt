@@ -1,0 +1,178 @@
+//! The plays: a client that submits and polls, a reader next to a busy writer, and an exchange between two engines.
+
+ghost use Rattle.std.specs.Prelude.{◌≡◌};
+ghost use Rattle.ids.specs.Members.{in_order};
+
+use crate::engines::figure::{Figure, Figures, begin, nanos_since};
+use crate::engines::stage::{Stage, read_until, write_all};
+use engine::{EngineName, Parts, close, open, prepare};
+use ids::{Config, Refusal};
+use std::alloc::Global;
+use std::marker::Brand;
+use std::sync::Wait;
+use std::thread::{Threads, join};
+use std::time::Clock;
+
+/// How many operations are written in each of the first two plays.
+const OPS: u32 = 1_000;
+
+/// Plays with two engines, one play after another.
+///
+/// # Errors
+/// The refusal of a call: `NoMemory`, `NoReaderPlace`, `NoReading`.
+pub fn play<R: Threads + Wait + Clock + Sync>(rt: &R, alloc: Global) -> Result<Figures, Refusal> {
+    let one = prepare(alloc, configuration(alloc, 1)?)?;
+    let two = prepare(alloc, configuration(alloc, 2)?)?;
+    open_one::<Brand, R>(rt, alloc, one, two)
+}
+
+/// An engine of this number, among the two.
+fn configuration(alloc: Global, own: u32) -> Result<Config, Refusal> {
+    Ok(Config {
+        own,
+        members: vec![in alloc; 1, 2]?,
+        clients: 1,
+        readers: 1,
+        queue: 4_096,
+        batch: 64,
+        serials: u32::MAX,
+    })
+}
+
+fn open_one<A: EngineName + Send + Sync, R: Threads + Wait + Clock + Sync>(
+    rt: &R,
+    alloc: Global,
+    one: Parts,
+    two: Parts,
+) -> Result<Figures, Refusal>
+    requires book { one.opened.seen.book ≡ A.book }
+    requires own { one.config.own ≡ A.own }
+    requires table { in_order one.config.members ≡ A.table }
+{
+    let (mut writer, mut clients, mut readers) = open::<A>(rt, alloc, one)?;
+    let figures = match (clients.pop(), readers.pop()) {
+        (Some(mut client), Some(mut reader)) => {
+            let mut one = Stage {
+                writer: &mut writer,
+                client: &mut client,
+                reader: &mut reader,
+            };
+            open_two::<Brand, A, R>(rt, alloc, &mut one, two)
+        }
+        _ => Err(Refusal::NoReaderPlace),
+    };
+    let _left = close(rt, writer, Vec::new(alloc));
+    figures
+}
+
+fn open_two<B: EngineName, A: EngineName + Send + Sync, R: Threads + Wait + Clock + Sync>(
+    rt: &R,
+    alloc: Global,
+    one: &mut Stage<A>,
+    two: Parts,
+) -> Result<Figures, Refusal>
+    requires book { two.opened.seen.book ≡ B.book }
+    requires own { two.config.own ≡ B.own }
+    requires table { in_order two.config.members ≡ B.table }
+{
+    let (mut writer, mut clients, mut readers) = open::<B>(rt, alloc, two)?;
+    let figures = match (clients.pop(), readers.pop()) {
+        (Some(mut client), Some(mut reader)) => {
+            let mut two = Stage {
+                writer: &mut writer,
+                client: &mut client,
+                reader: &mut reader,
+            };
+            play_all(rt, alloc, one, &mut two)
+        }
+        _ => Err(Refusal::NoReaderPlace),
+    };
+    let _left = close(rt, writer, Vec::new(alloc));
+    figures
+}
+
+fn play_all<A: EngineName + Send + Sync, B: EngineName, R: Threads + Wait + Clock + Sync>(
+    rt: &R,
+    alloc: Global,
+    one: &mut Stage<A>,
+    two: &mut Stage<B>,
+) -> Result<Figures, Refusal> {
+    Ok(Figures {
+        polls: submit_to_poll(rt, alloc, one)?,
+        reads: read_meanwhile(rt, alloc, one)?,
+        exchange: exchange(rt, alloc, two, one)?,
+    })
+}
+
+/// A client submits, the writer steps, and the client polls, on one thread.
+fn submit_to_poll<N: EngineName, R: Wait + Clock>(
+    rt: &R,
+    alloc: Global,
+    stage: &mut Stage<N>,
+) -> Result<Figure, Refusal> {
+    let began = begin(rt);
+    let made = write_all(rt, alloc, stage.writer, stage.client, OPS)?;
+    Ok(Figure {
+        name: "submit to poll",
+        count: made,
+        what: "operations",
+        done: made as u64,
+        nanos: nanos_since(rt, began),
+    })
+}
+
+/// A reader asks without a pause, while a client and the writer go on in another thread.
+fn read_meanwhile<N: EngineName + Send + Sync, R: Threads + Wait + Clock + Sync>(
+    rt: &R,
+    alloc: Global,
+    stage: &mut Stage<N>,
+) -> Result<Figure, Refusal> {
+    let began = begin(rt);
+    let (seen, reads) = write_and_read(rt, alloc, stage)?;
+    Ok(Figure {
+        name: "reads beside a busy writer",
+        count: seen,
+        what: "reads",
+        done: reads,
+        nanos: nanos_since(rt, began),
+    })
+}
+
+fn write_and_read<N: EngineName + Send + Sync, R: Threads + Wait + Sync>(
+    rt: &R,
+    alloc: Global,
+    stage: &mut Stage<N>,
+) -> Result<(usize, u64), Refusal> {
+    let Stage {
+        writer,
+        client,
+        reader,
+    } = stage;
+    let (made, read) = join(
+        rt,
+        move || write_all(rt, alloc, writer, client, OPS),
+        move || read_until(alloc, reader, 2_000),
+    );
+    made?;
+    read
+}
+
+/// The first engine takes what it lacks of the second one's operations, as bytes.
+fn exchange<A: EngineName, B: EngineName, R: Wait + Clock>(
+    rt: &R,
+    alloc: Global,
+    to: &mut Stage<A>,
+    from: &mut Stage<B>,
+) -> Result<Figure, Refusal> {
+    let began = begin(rt);
+    let line = to.hello(alloc)?;
+    let bundle = from.answer(alloc, line.as_slice())?;
+    let seen = to.take(rt, alloc, bundle.as_slice())?;
+    Ok(Figure {
+        name: "an exchange",
+        count: seen,
+        what: "operations",
+        done: seen as u64,
+        nanos: nanos_since(rt, began),
+    })
+}

@@ -1,0 +1,51 @@
+//! Whether what was written is read as the same. It is proved that it is: a run tests what a compiler made of it.
+
+ghost use Rattle.std.specs.Prelude.{◌≡◌, List, map, Ok, IfOk, IsTrue};
+ghost use Rattle.std.specs.List.{All};
+ghost use Rattle.semantics.specs.Stamped.{Stamped};
+ghost use Rattle.operation.specs.Ops.{stamped_of};
+ghost use Rattle.wire.specs.Bundles.{bundle_form, bundle_text};
+ghost use Rattle.wire.specs.Sent.{CanBeSent};
+
+use crate::lines::samples::Sample;
+use ids::{Refusal, ReplicaTable};
+use operation::{Op, Shared};
+use std::alloc::{AllocError, Global};
+use std::io;
+use wire::{read_bundle, write_bundle};
+
+/// Prints for each sample whether what is written of it is read back.
+pub fn compare(rt: &impl Print, alloc: Global, samples: &[Sample]) -> io::Result<()> {
+    for sample in samples {
+        let name = sample.name;
+        let count = sample.ops.len();
+        match is_read_back(alloc, sample.ops.as_slice(), &sample.table) {
+            Ok(true) => println!(rt; "{name}: all of {count} are read back")?,
+            Ok(false) => println!(rt; "{name}: others are read back")?,
+            Err(AllocError) => println!(rt; "{name}: no memory")?,
+        }
+    }
+    Ok(())
+}
+
+/// Whether a bundle of the operations is read back, and what is read is written as the same bundle.
+///
+/// # Errors
+/// `AllocError` if allocation fails.
+fn is_read_back(alloc: Global, ops: &[Shared<Op>], table: &ReplicaTable) -> Result<bool, AllocError>
+    ensures sent { All (λ o. CanBeSent table.now (stamped_of table.now o)) ops.now → IfOk result IsTrue }
+    ensures same { IfOk result
+        (λ same. IsTrue same
+        → (again : List Stamped) × (bundle_form table.now (bundle_text (map (stamped_of table.now) ops.now)) ≡ Ok again)
+        × (bundle_text again ≡ bundle_text (map (stamped_of table.now) ops.now))) }
+{
+    let text = write_bundle(alloc, ops, table)?;
+    match read_bundle(alloc, text.as_slice(), table) {
+        Ok(again) => {
+            let rewritten = write_bundle(alloc, again.as_slice(), table)?;
+            Ok(rewritten.as_slice() == text.as_slice())
+        }
+        Err((_, Refusal::NoMemory)) => Err(AllocError),
+        Err(_) => Ok(false),
+    }
+}

@@ -1,0 +1,244 @@
+//! Tokens: readers of the published history, which take no lock and never wait.
+
+ghost use Rattle.std.specs.Prelude.{◌≡◌, ◌≤◌, ◌⊎◌, ◌↔◌, length, map, IsTrue, MatchResult, IfOk, IfErr};
+ghost use Rattle.left_right.specs.Sides.{view as view_at};
+ghost use Rattle.ids.specs.declared.refusal.Refusal.TheVariants.{NoMemory, NoReading};
+ghost use Rattle.semantics.specs.Entries.{IsEntryHistory, applied, lacked_of};
+ghost use Rattle.semantics.specs.NamedIds.{vector_of};
+ghost use Rattle.semantics.specs.Tables.{by_table};
+ghost use Rattle.semantics.specs.WorldHistory.{BeginsWith};
+ghost use Rattle.semantics.specs.Questions.{Question as TheQuestion, Refused};
+ghost use Rattle.semantics.specs.LegalAnswer.{Answered, OfDocument, reading_of};
+ghost use Rattle.semantics.specs.View.{view};
+ghost use Rattle.document.specs.operation.Ops.{stamped_of};
+ghost use Rattle.document.specs.oplog.Logs.{history};
+ghost use Rattle.document.specs.Documents.{HasWidthOf, asked_of, said_by};
+
+use crate::book::Point;
+use crate::copy::Copy;
+use crate::notice::{EngineName, Notice};
+use crate::seen::View;
+use crossbeam_utils::rule::{Outcome, Protocol};
+use document::{Op, Question, Reading as Answer, Shared, VersionVector};
+use ids::{Refusal, ReplicaTable};
+use left_right::reader::{Reader, Reading};
+use std::alloc::{AllocError, Global};
+use std::marker::{Model, PhantomData};
+
+/// The rule of the copies.
+pub struct Shown<N: EngineName> {
+    of: PhantomData<N>,
+}
+
+impl<N: EngineName> Protocol<Copy, View> for Shown<N> {
+    ghost use Rattle.std.specs.Prelude.{[]};
+    ghost use Rattle.published.specs.Copies.{HoldsOfCopies, reader_of};
+
+    ghost holds = { HoldsOfCopies N.book N.own N.table };
+
+    ghost first = { reader_of [] };
+}
+
+/// What the step of a read or of a publish proves.
+pub struct Sees<N: EngineName> {
+    of: PhantomData<N>,
+}
+
+impl<N: EngineName> Outcome<Copy, View> for Sees<N> {
+    ghost use Rattle.published.specs.Copies.{Sees};
+
+    ghost then = { Sees N.book N.own N.table };
+}
+
+/// A reader of an engine, for one thread at a time. It takes no lock and never waits, and never sees less than before. Contracts see two
+/// histories: the longest that it has read or learnt of, and what was published at the step of its last read.
+#[derive(Drop)]
+pub struct ReaderToken<N: EngineName> {
+    reader: Option<Reader<Copy, View, Shown<N>>>,
+    seen: Point,
+    table: ReplicaTable,
+}
+
+impl<N: EngineName> Model for ReaderToken<N> {
+    ghost use Rattle.std.specs.Prelude.{◌≡◌};
+    ghost use Rattle.std.specs.Coded.{codes};
+    ghost use Rattle.semantics.specs.Codes.{coded_element};
+    ghost use Rattle.semantics.specs.Entries.{IsEntryHistory};
+    ghost use Rattle.document.specs.oplog.Logs.{history};
+    ghost use Rattle.published.specs.Tokens.{TokenState, read_of};
+
+    ghost Value = { TokenState };
+
+    ghost coded = { Prim.hlevel (codes, coded_element) };
+
+    ghost view = { λ s. record { seen = history N.table s.seen.log; read = history N.table (read_of s.reader) } };
+
+    ghost invariant = { λ s. (s.seen.book ≡ N.book) × IsEntryHistory N.own (history N.table s.seen.log) × (s.table ≡ N.table) };
+}
+
+impl<N: EngineName> ReaderToken<N> {
+    pub(crate) fn new(
+        reader: Reader<Copy, View, Shown<N>>,
+        seen: Point,
+        table: ReplicaTable,
+    ) -> ReaderToken<N>
+        requires table { table ≡ N.table }
+        requires book { seen.book ≡ N.book }
+        requires legal { IsEntryHistory N.own (history N.table seen.log) }
+        ensures { result.seen ≡ history N.table seen.log }
+    {
+        ReaderToken {
+            reader: Some(reader),
+            seen,
+            table,
+        }
+    }
+
+    /// The table of the engine's members, which indexes the vectors of its questions and readings.
+    pub fn table(&self) -> &ReplicaTable
+        ensures { result.now ≡ N.table }
+    {
+        &self.table
+    }
+
+    /// How many entries it has seen.
+    pub fn seen_len(&self) -> usize
+        ensures length { result ≡ length self.now.seen }
+        ensures legal { IsEntryHistory N.own self.now.seen }
+    {
+        self.seen.len() as usize
+    }
+
+    /// Whether the notice is of at least as much as the token has seen. Both are beginnings of one history.
+    pub fn begins(&self, notice: &Notice<N>) -> bool
+        ensures begins { IsTrue result → BeginsWith notice.now self.now.seen }
+        ensures length { IsTrue result ↔ (length self.now.seen ≤ length notice.now) }
+    {
+        let point = notice.point();
+        self.seen.compare(point);
+        self.seen.len() <= point.len()
+    }
+
+    /// Learns of a notice: has seen the longer of the two histories from then on. Both are beginnings of one history. Never waits.
+    pub fn learn(&mut self, notice: &Notice<N>)
+        ensures grows { BeginsWith self.new.seen self.old.seen }
+        ensures learns { BeginsWith self.new.seen notice.now }
+        ensures one { (self.new.seen ≡ self.old.seen) ⊎ (self.new.seen ≡ notice.now) }
+        ensures read { self.new.read ≡ self.old.read }
+    {
+        let point = notice.point();
+        self.seen.compare(point);
+        if self.seen.len() < point.len() {
+            self.seen = point.again();
+        }
+    }
+
+    /// Enters the copy that is published at this step, which the token has then seen. Whoever entered leaves again.
+    ///
+    /// # Errors
+    /// `NoReading` if the copies gave no reading that begins with all that the token has seen. The token may have seen more then, never
+    /// less.
+    // Inlined, since a reading is large and would go through memory.
+    #[inline(always)]
+    fn enter(&mut self) -> Result<Reading<Copy, View, Shown<N>>, Refusal>
+        ensures grows { BeginsWith self.new.seen self.old.seen }
+        ensures legal { IsEntryHistory N.own self.new.seen }
+        ensures entries { IfOk result (λ r. r.part.value.entries ≡ self.new.seen) }
+        ensures table { IfOk result (λ r. r.part.value.table ≡ N.table) }
+        ensures read { IfOk result (λ r. history N.table (view_at r.place).read ≡ self.new.seen) }
+        ensures err { IfErr result (λ why. why ≡ NoReading) }
+    {
+        let before = self.seen.len();
+        let Some(reader) = self.reader.take() else {
+            return Err(Refusal::NoReading);
+        };
+        let reading = match reader.enter_as::<Sees<N>>() {
+            Ok(reading) => reading,
+            Err(reader) => {
+                self.reader = Some(reader);
+                return Err(Refusal::NoReading);
+            }
+        };
+        let copy = reading.get();
+        self.seen.compare(&copy.point);
+        if copy.point.len() < before {
+            self.reader = Some(reading.leave());
+            return Err(Refusal::NoReading);
+        }
+        self.seen = copy.point.again();
+        Ok(reading)
+    }
+
+    /// The vector of all that is published at the one step of this read, which the token has then seen. Never waits. Copies a counter
+    /// for each member.
+    ///
+    /// # Errors
+    /// `NoReading` as in `ask`, `NoMemory` if allocation fails. The token may have seen more then, never less.
+    pub fn vector(&mut self) -> Result<VersionVector, Refusal>
+        ensures grows { BeginsWith self.new.seen self.old.seen }
+        ensures legal { IsEntryHistory N.own self.new.seen }
+        ensures vector { IfOk result (λ v. by_table N.table v ≡ vector_of (applied self.new.seen)) }
+        ensures published { IfOk result (λ _. self.new.read ≡ self.new.seen) }
+        ensures err { IfErr result (λ why. (why ≡ NoMemory) ⊎ (why ≡ NoReading)) }
+    {
+        let reading = self.enter()?;
+        let vector: Result<VersionVector, AllocError> = reading.get().document.applied().clone();
+        self.reader = Some(reading.leave());
+        Ok(vector?)
+    }
+
+    /// The operations that the vector doesn't cover, the oldest first, of all that is published at the one step of this read, which the
+    /// token has then seen. Never waits. Takes time and memory in proportion to what is lacked.
+    ///
+    /// # Errors
+    /// As `vector`.
+    pub fn missing(
+        &mut self,
+        alloc: Global,
+        vector: &VersionVector,
+    ) -> Result<Vec<Shared<Op>>, Refusal>
+        requires { length vector.now ≡ length N.table }
+        ensures grows { BeginsWith self.new.seen self.old.seen }
+        ensures legal { IsEntryHistory N.own self.new.seen }
+        ensures ops { IfOk result (λ ops. map (stamped_of N.table) ops.items ≡ lacked_of self.new.seen (by_table N.table vector.now)) }
+        ensures published { IfOk result (λ _. self.new.read ≡ self.new.seen) }
+        ensures err { IfErr result (λ why. (why ≡ NoMemory) ⊎ (why ≡ NoReading)) }
+    {
+        let reading = self.enter()?;
+        let ops = reading.get().document.missing(alloc, vector);
+        self.reader = Some(reading.leave());
+        Ok(ops?)
+    }
+
+    /// Answers a question from the history that is published at the one step of this read, which the token has then seen. Never waits.
+    /// Costs a walk along the expression, and a copy of what is answered; for items a look at each, tombstones included, of the blocks
+    /// in which one is shown. The answer is also that of the operations as a set (`view`). The vector of a question has a counter for
+    /// each member.
+    ///
+    /// # Errors
+    /// `AtHead` for a step from a head, or where the expression ends at one; `PastEnd`; `TooDeep`: these are answers at that step too.
+    /// `NoMemory` if allocation fails. `NoReading` if the copies gave no reading that begins with all that the token has seen, which is
+    /// always so once the engine is closed. After the last two the token may have seen more, never less.
+    pub fn ask(&mut self, alloc: Global, question: &Question) -> Result<Answer, Refusal>
+        requires { HasWidthOf N.table question.now }
+        ensures grows { BeginsWith self.new.seen self.old.seen }
+        ensures legal { IsEntryHistory N.own self.new.seen }
+        ensures answer { IfOk result (λ r. said_by N.table r ≡ reading_of self.new.seen (asked_of N.table question.now)) }
+        ensures view { IfOk result
+            (λ r. (q : TheQuestion) → asked_of N.table question.now ≡ OfDocument q
+            → said_by N.table r ≡ Answered (view (applied self.new.seen) q)) }
+        ensures err { IfErr result
+            (λ why. (why ≡ NoMemory) ⊎ (why ≡ NoReading)
+            ⊎ (reading_of self.new.seen (asked_of N.table question.now) ≡ Answered (Refused why))) }
+        ensures view_refuses { IfErr result
+            (λ why. (why ≡ NoMemory) ⊎ (why ≡ NoReading)
+            ⊎ ((q : TheQuestion) → asked_of N.table question.now ≡ OfDocument q → view (applied self.new.seen) q ≡ Refused why)) }
+        ensures published { MatchResult result (λ _. self.new.read ≡ self.new.seen)
+            (λ why. (why ≡ NoMemory) ⊎ (why ≡ NoReading) ⊎ (self.new.read ≡ self.new.seen)) }
+    {
+        let reading = self.enter()?;
+        let answer = reading.get().document.ask(alloc, question);
+        self.reader = Some(reading.leave());
+        answer
+    }
+}

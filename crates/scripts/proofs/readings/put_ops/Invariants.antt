@@ -1,0 +1,14 @@
+-- What was written and what is left are all.
+use Rattle.std.proofs.Common.{◌≡◌, ◌++◌, ◌∷◌, drop, map}
+use Rattle.json.specs.Token.{begin_array}
+use Rattle.world.specs.wire.Writing.{tokens_of_all}
+use Rattle.world.specs.operation.Ops.{stamped_of}
+use Rattle.world.specs.wire.Operations.{operation_json}
+use Rattle.scripts.proofs.readings.put_ops.Given as goal
+
+abbrev pub invariant-loop-op : goal.invariant-loop-op
+invariant-loop-op l = record {
+  tokens : l.out.tokens ++ tokens_of_all (map (λ o. operation_json (stamped_of l.table o)) (drop l.op-index l.ops))
+      ≡ l.fn.out.tokens ++ begin_array ∷ tokens_of_all (map (λ o. operation_json (stamped_of l.table o)) l.ops);
+  before : l.out.before ≡ l.fn.out.before;
+}

@@ -1,0 +1,101 @@
+//! A quick way to read the lines that `write_op` writes, with no JSON value in between.
+//!
+//! The bytes of a line are taken apart in the one form in which operations are written, and anything else is given up (`Scan`). The
+//! operation that this leads to is written again, and only where that gives the very same bytes is it the line's. So what is read
+//! rests on the writer alone: where a step of `Scan` goes wrong, the line is read as any other JSON.
+
+ghost use Rattle.std.specs.Prelude.{◌≡◌, ◌&&◌, nat_le, Ok, IfSome, length, map};
+ghost use Rattle.std.specs.Bool.{OnTrue};
+ghost use Rattle.std.specs.List.{list_all};
+ghost use Rattle.semantics.specs.Limits.{most_counter};
+ghost use Rattle.semantics.specs.Operations.{element_of};
+ghost use Rattle.semantics.specs.Paths.{hops_from_root};
+ghost use Rattle.semantics.specs.Tables.{greatest_in};
+ghost use Rattle.operation.specs.Ops.{stamped_of};
+ghost use Rattle.wire.specs.Reading.{op_form};
+ghost use Rattle.wire.specs.Sent.{CanBeSent, is_counter, key_counted};
+ghost use Rattle.operation.specs.cursor.Steps.{hop_of};
+
+use crate::scan::Scan;
+use crate::writing::with_line;
+use ids::{MOST_COUNTER, ReplicaTable};
+use operation::{Hop, Op, names_members};
+use std::alloc::Global;
+
+/// How much more room the writer asks for than the line has bytes.
+const ROOM_AHEAD: usize = 8;
+
+/// No line without an escape is longer: it has at most 64 pairs of 33 bytes, 33 keys of 265, and a text of 4,096. Longer ones are left to
+/// the JSON reader, before anything is asked for.
+const LONGEST: usize = 1 << 14;
+
+/// The operation on a line in the form in which it is written, or `None` where it has another form, a character that is escaped by its
+/// number or the least whole number, where it is longer than `LONGEST`, or where memory is refused. Time is proportional to the length of
+/// the line at most.
+pub(crate) fn read_canonical(alloc: Global, text: &[u8], table: &ReplicaTable) -> Option<Op>
+    ensures read { IfSome result (λ o. op_form table.now text.now ≡ Ok (stamped_of table.now o)) }
+    ensures width { IfSome result (λ o. length o.deps ≡ length table.now) }
+{
+    if text.len() > LONGEST {
+        return None;
+    }
+    let op = Scan::new(text).op(alloc, table)?;
+    if !writes_back_as(alloc, text, &op, table) {
+        return None;
+    }
+    Some(op)
+}
+
+/// Whether the text is the line of the operation, which can be sent.
+fn writes_back_as(alloc: Global, text: &[u8], op: &Op, table: &ReplicaTable) -> bool
+    ensures { OnTrue result (op_form table.now text.now ≡ Ok (stamped_of table.now op.now)) }
+{
+    if !can_be_sent(op, table) {
+        return false;
+    }
+    let Ok(room) = Vec::with_capacity(alloc, text.len() + ROOM_AHEAD) else {
+        return false;
+    };
+    match with_line(room, op, table) {
+        Ok(line) => line.as_slice() == text,
+        Err(_) => false,
+    }
+}
+
+/// Whether the names are of members, and the counters those of the wire.
+fn can_be_sent(op: &Op, table: &ReplicaTable) -> bool
+    ensures { OnTrue result (CanBeSent table.now (stamped_of table.now op.now)) }
+{
+    names_members(op, table) && is_counted(op)
+}
+
+/// Whether the counters of the id, the vector and the items of the place are those of the wire; one of the vector may be 0.
+fn is_counted(op: &Op) -> bool
+    ensures { result ≡ (is_counter op.now.id.counter && nat_le (greatest_in op.now.deps) most_counter
+        && list_all key_counted (hops_from_root (element_of op.now.place))) }
+{
+    is_counter(op.id.counter) && op.deps.greatest() <= MOST_COUNTER && are_counted(op.place.hops())
+}
+
+/// Whether the counter of each item is one of the wire.
+fn are_counted(hops: &[Hop]) -> bool
+    ensures { result ≡ list_all key_counted (map hop_of hops.now) }
+{
+    hops.iter().all(|hop| is_hop_counted(hop))
+}
+
+fn is_counter(counter: u64) -> bool
+    ensures { result ≡ is_counter counter }
+{
+    counter >= 1 && counter <= MOST_COUNTER
+}
+
+/// Whether the hop is to a field, or to an item whose counter is one of the wire.
+fn is_hop_counted(hop: &Hop) -> bool
+    ensures { result ≡ key_counted (hop_of hop.now) }
+{
+    match hop {
+        Hop::Field(_) => true,
+        Hop::Item(id) => is_counter(id.counter),
+    }
+}

@@ -1,0 +1,42 @@
+#!/usr/bin/env bash
+# sessions.sh [PROGRAM]: plays each session of tests/scripts, and each script of examples, with the proved program, or with another one,
+# and compares its replies with those that stand there. Says how many differ, and fails if any does.
+#
+# A session is a script with its replies: '> ' before each of its lines, '< ' before the reply to the one above, and '# ' before what it
+# shows. Its first line has no reply, and each other line has one.
+set -euo pipefail
+top=$(cd "$(dirname "$0")/.." && pwd)
+program=${1:-$top/crates/jdoc/out/jdoc}
+played=0
+failed=0
+
+# Builds the program where it isn't: 'rt ci' has proved it.
+if [ ! -x "$program" ]; then
+    (cd "$top/crates/jdoc" && rt run -- run < stdin > /dev/null)
+fi
+
+# A session without its comments, as the program plays it.
+replayed() {
+    local script
+    script=$(sed -n 's/^> //p' "$1")
+    head -n 1 <<< "$script" | sed 's/^/> /'
+    paste -d '\n' <(tail -n +2 <<< "$script" | sed 's/^/> /') <("$program" run <<< "$script" | sed 's/^/< /')
+}
+
+# Counts a comparison of two files, of which the second is what the program said.
+compare() {
+    played=$((played + 1))
+    if ! diff -u "$1" "$2"; then
+        failed=$((failed + 1))
+        echo "sessions: FAILED: $3"
+    fi
+}
+
+for session in "$top"/tests/scripts/*.session; do
+    compare <(grep -v '^# ' "$session") <(replayed "$session") "$(basename "$session")"
+done
+for script in "$top"/examples/*.jsonl; do
+    compare "${script%.jsonl}.replies" <("$program" run "$script") "$(basename "$script")"
+done
+echo "sessions: $played played, $failed failed"
+[ "$failed" = 0 ]
