@@ -2,11 +2,12 @@
 use Rattle.std.proofs.Common.{◌≡◌, refl, sym, ap, ◌∙◌, subst, ℕ, zero, suc, Bool, true, false, true≢false, ◌||◌, List, [], ◌∷◌, ◌++◌}
 use Rattle.std.proofs.Common.{take, drop, Some, slice_get}
 use Rattle.std.proofs.lemmas.List.{take-append-drop}
+use Rattle.std.proofs.lemmas.Bool.{or_parts}
+use Rattle.std.proofs.lemmas.Option.{same_Some}
 use Rattle.semantics.specs.Ids.{OpId, is_same_id}
 use Rattle.semantics.proofs.Orders.{ids_from_test}
 use Rattle.semantics.specs.Context.{has_item}
 use Rattle.columns.specs.Blocks.{AreApart, IsPositionOf, ListBlock, joined}
-use Rattle.columns.proofs.Same.{or_parts, some_is}
 use Rattle.columns.proofs.InBlock.{dropped, has_at, has_item-append}
 use Rattle.columns.proofs.Walked.{lacks_other}
 use Rattle.columns.proofs.Changed.{has_in}
@@ -40,20 +41,20 @@ pub apart_blocks : (runs : List ListBlock) (j k : ℕ) (s r : ListBlock) (a : Op
 apart_blocks [] j k s r a apart at is other has = absurd (cc at)
 apart_blocks (t ∷ runs) zero zero s r a apart at is other has = absurd (other refl)
 apart_blocks (t ∷ runs) zero (suc k) s r a apart at is other has =
-    let here : has_item a t.items ≡ true = ap (λ (o : ListBlock). has_item a o.items) (some_is t s at) ∙ has in
+    let here : has_item a t.items ≡ true = ap (λ (o : ListBlock). has_item a o.items) (same_Some t s at) ∙ has in
     lacks_other a r.items (λ there. true≢false (sym (has_in runs k r a is there) ∙ apart_append a t.items (joined runs) apart here))
 apart_blocks (t ∷ runs) (suc j) zero s r a apart at is other has =
     lacks_other a r.items
     (λ there. true≢false
     (sym (has_in runs j s a at has)
-    ∙ apart_append a t.items (joined runs) apart (ap (λ (o : ListBlock). has_item a o.items) (some_is t r is) ∙ there)))
+    ∙ apart_append a t.items (joined runs) apart (ap (λ (o : ListBlock). has_item a o.items) (same_Some t r is) ∙ there)))
 apart_blocks (t ∷ runs) (suc j) (suc k) s r a apart at is other has = apart_blocks runs j k s r a
     (apart_rest t.items (joined runs) apart) at is (λ e. other (ap suc e)) has
 
 -- the items of one block are different
 pub apart_block : (runs : List ListBlock) (k : ℕ) (r : ListBlock) → AreApart (joined runs) → slice_get runs k ≡ Some r → AreApart r.items
 apart_block [] k r apart is = absurd (cc is)
-apart_block (t ∷ runs) zero r apart is = subst (λ (o : ListBlock). AreApart o.items) (some_is t r is)
+apart_block (t ∷ runs) zero r apart is = subst (λ (o : ListBlock). AreApart o.items) (same_Some t r is)
     (apart_first t.items (joined runs) apart)
 apart_block (t ∷ runs) (suc k) r apart is = apart_block runs k r (apart_rest t.items (joined runs) apart) is
 

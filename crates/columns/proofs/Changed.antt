@@ -6,34 +6,34 @@ use Rattle.std.specs.Prelude.{min}
 use Rattle.std.specs.List.{insert, items_where_true}
 use Rattle.std.specs.FinMap.{find, put}
 use Rattle.std.specs.FinMap.Entries.{find-put, is_some-find}
-use Rattle.std.proofs.lemmas.Bool.{cases_eq, or_right}
+use Rattle.std.proofs.lemmas.Bool.{cases_eq, or_right, or_parts}
 use Rattle.std.proofs.lemmas.List.{take-append-drop}
 use Rattle.std.proofs.lemmas.List.Edits.{length-insert}
-use Rattle.std.proofs.lemmas.Option.{slice_get_within}
+use Rattle.std.proofs.lemmas.Option.{slice_get_within, same_Some}
 use Rattle.semantics.specs.Ids.{OpId, id_cmp, is_same_id}
 use Rattle.semantics.proofs.Orders.{id_total, ids_from_test}
 use Rattle.semantics.proofs.SetElements.{get-set_other, get-set_same}
 use Rattle.semantics.specs.Context.{insert_after, has_item}
+use Rattle.semantics.proofs.Taken.{turned_ids}
 use Rattle.columns.specs.Rank.{has_key, keys_of}
 use Rattle.columns.specs.Blocks.{AreApart, AreBlocks, AreHomed, GoesIn, IsBehind, ListBlock, items_before, items_from, joined, joined_shown}
 use Rattle.columns.specs.Blocks.{room_at}
 use Rattle.columns.proofs.InBlock.{has_item-append}
 use Rattle.columns.proofs.Flags.{shown_insert}
-use Rattle.columns.proofs.Same.{or_parts, some_is, turned_ids}
 use Rattle.columns.proofs.Runs.{from_first, items_here, split_at}
 
 -- what stands at an index of a list of which one was set
 pub set_cases : {X : Type 0} (xs : List X) (i j : ℕ) (x y z : X) → slice_get xs i ≡ Some x → slice_get (set xs i y) j ≡ Some z
     → ((j ≡ i) × (z ≡ y)) ⊎ ((j ≡ i → ⊥) × (slice_get xs j ≡ Some z))
 set_cases xs i j x y z is at = elim (cases_eq j i) [
-  | inl e ↦ inl (e, some_is z y (sym at ∙ ap (slice_get (set xs i y)) e ∙ get-set_same xs i x y is))
+  | inl e ↦ inl (e, same_Some z y (sym at ∙ ap (slice_get (set xs i y)) e ∙ get-set_same xs i x y is))
   | inr other ↦ inr (other, sym (get-set_other xs i j y other) ∙ at)
 ]
 
 -- room at a block
 pub room_here : (runs : List ListBlock) (k : ℕ) (r : ListBlock) → slice_get runs k ≡ Some r → room_at runs k ≡ r.room
 room_here [] k r is = absurd (cc is)
-room_here (s ∷ runs) zero r is = ap (λ (o : ListBlock). o.room) (some_is s r is)
+room_here (s ∷ runs) zero r is = ap (λ (o : ListBlock). o.room) (same_Some s r is)
 room_here (s ∷ runs) (suc k) r is = room_here runs k r is
 
 -- a block with room is there
@@ -52,7 +52,7 @@ pub has_in : (runs : List ListBlock) (k : ℕ) (r : ListBlock) (a : OpId) → sl
     → has_item a (joined runs) ≡ true
 has_in [] k r a is has = absurd (cc is)
 has_in (s ∷ runs) zero r a is has = has_item-append a s.items (joined runs)
-    ∙ ap (λ b. b || has_item a (joined runs)) (ap (λ (o : ListBlock). has_item a o.items) (some_is s r is) ∙ has)
+    ∙ ap (λ b. b || has_item a (joined runs)) (ap (λ (o : ListBlock). has_item a o.items) (same_Some s r is) ∙ has)
 has_in (s ∷ runs) (suc k) r a is has = has_item-append a s.items (joined runs)
     ∙ or_right (has_item a s.items) (has_item a (joined runs)) (has_in runs k r a is has)
 
@@ -83,7 +83,7 @@ module _ (runs : List ListBlock) (k : ℕ) (r q : ListBlock) (is : slice_get run
     where
       go : (runs : List ListBlock) (k : ℕ) → slice_get runs k ≡ Some r → joined (set runs k q) ≡ joined runs
       go [] k is = absurd (cc is)
-      go (s ∷ runs) zero is = ap (λ xs. xs ++ joined runs) (same ∙ ap (λ (o : ListBlock). o.items) (sym (some_is s r is)))
+      go (s ∷ runs) zero is = ap (λ xs. xs ++ joined runs) (same ∙ ap (λ (o : ListBlock). o.items) (sym (same_Some s r is)))
       go (s ∷ runs) (suc k) is = ap (λ xs. s.items ++ xs) (go runs k is)
 
   -- those that are shown
@@ -93,7 +93,7 @@ module _ (runs : List ListBlock) (k : ℕ) (r q : ListBlock) (is : slice_get run
       go : (runs : List ListBlock) (k : ℕ) → slice_get runs k ≡ Some r → joined_shown (set runs k q) ≡ joined_shown runs
       go [] k is = absurd (cc is)
       go (s ∷ runs) zero is = ap (λ xs. xs ++ joined_shown runs)
-          (same ∙ ap (λ (o : ListBlock). items_where_true o.flags o.items) (sym (some_is s r is)))
+          (same ∙ ap (λ (o : ListBlock). items_where_true o.flags o.items) (sym (same_Some s r is)))
       go (s ∷ runs) (suc k) is = ap (λ xs. items_where_true s.flags s.items ++ xs) (go runs k is)
 
   pub room_same : q.room ≡ r.room → (j : ℕ) → room_at (set runs k q) j ≡ room_at runs j
@@ -101,7 +101,7 @@ module _ (runs : List ListBlock) (k : ℕ) (r q : ListBlock) (is : slice_get run
     where
       go : (runs : List ListBlock) (k j : ℕ) → slice_get runs k ≡ Some r → room_at (set runs k q) j ≡ room_at runs j
       go [] k j is = absurd (cc is)
-      go (s ∷ runs) zero zero is = same ∙ ap (λ (o : ListBlock). o.room) (sym (some_is s r is))
+      go (s ∷ runs) zero zero is = same ∙ ap (λ (o : ListBlock). o.room) (sym (same_Some s r is))
       go (s ∷ runs) zero (suc j) is = refl
       go (s ∷ runs) (suc k) zero is = refl
       go (s ∷ runs) (suc k) (suc j) is = go runs k j is
@@ -182,7 +182,7 @@ module _ (runs : List ListBlock) (k i : ℕ) (r q : ListBlock) (a : OpId) (is : 
           → joined (set runs k q) ≡ items_before runs k i ++ (a ∷ items_from runs k i)
       go [] k is = absurd (cc is)
       go (s ∷ runs) zero is =
-          ap (λ xs. xs ++ joined runs) (items ∙ ap (λ (o : ListBlock). insert o.items i a) (sym (some_is s r is)))
+          ap (λ xs. xs ++ joined runs) (items ∙ ap (λ (o : ListBlock). insert o.items i a) (sym (same_Some s r is)))
           ∙ append_assoc (take i s.items) (a ∷ drop i s.items) (joined runs)
       go (s ∷ runs) (suc k) is = ap (λ xs. s.items ++ xs) (go runs k is)
           ∙ sym (append_assoc s.items (items_before runs k i) (a ∷ items_from runs k i))
@@ -244,7 +244,7 @@ room_parts a b room = (omega (arith, room), omega (arith, room))
 
 -- two blocks at one index
 pub same_run : (runs : List ListBlock) (k : ℕ) (r q : ListBlock) → slice_get runs k ≡ Some r → slice_get runs k ≡ Some q → r ≡ q
-same_run runs k r q is at = some_is r q (sym is ∙ at)
+same_run runs k r q is at = same_Some r q (sym is ∙ at)
 
 -- all that `insert_after` does
 pub record IsPlaced (runs : List ListBlock) (homes : List (OpId × ℕ)) (prev : Option OpId) (a : OpId) (k : ℕ)

@@ -9,13 +9,12 @@ use Rattle.std.specs.FinMap.Entries.{is_some-find}
 use Rattle.std.proofs.lemmas.Bool.{or_right}
 use Rattle.std.proofs.lemmas.List.{length-drop, length-take, take-append-drop}
 use Rattle.std.proofs.lemmas.List.Edits.{length-insert}
-use Rattle.std.proofs.lemmas.Option.{slice_get_within}
+use Rattle.std.proofs.lemmas.Option.{slice_get_within, same_Some}
 use Rattle.semantics.specs.Ids.{OpId, id_cmp}
 use Rattle.semantics.proofs.SetElements.{get-set_same}
 use Rattle.columns.specs.Rank.{has_key, keys_of}
 use Rattle.semantics.specs.Context.{has_item}
 use Rattle.columns.specs.Blocks.{AreApart, AreBlocks, AreHomed, AreMoved, IsSameList, ListBlock, joined, joined_shown, room_at}
-use Rattle.columns.proofs.Same.{some_is}
 use Rattle.columns.proofs.InBlock.{has_item-append}
 use Rattle.columns.proofs.Flags.{shown_append}
 use Rattle.columns.proofs.Apart.{apart_append, apart_block, apart_blocks}
@@ -25,10 +24,10 @@ use Rattle.columns.proofs.Changed.{blocks_same, joined_same, room_here, set_case
 -- what stands at an index of a list into which one came
 insert_cases : {X : Type 0} (xs : List X) (i j : ℕ) (y z : X) → i ≤ length xs → slice_get (insert xs i y) j ≡ Some z
     → (z ≡ y) ⊎ ((h : ℕ) × (slice_get xs h ≡ Some z) × ((j < i) × (h ≡ j) ⊎ (i < j) × (suc h ≡ j)))
-insert_cases [] zero zero y z within at = inl (sym (some_is y z at))
+insert_cases [] zero zero y z within at = inl (sym (same_Some y z at))
 insert_cases [] zero (suc j) y z within at = absurd (cc at)
 insert_cases [] (suc i) j y z within at = absurd (omega (arith, within))
-insert_cases (x ∷ xs) zero zero y z within at = inl (sym (some_is y z at))
+insert_cases (x ∷ xs) zero zero y z within at = inl (sym (same_Some y z at))
 insert_cases (x ∷ xs) zero (suc j) y z within at = inr (j, at, inr (omega arith, refl))
 insert_cases (x ∷ xs) (suc i) zero y z within at = inr (0, at, inl (omega arith, refl))
 insert_cases (x ∷ xs) (suc i) (suc j) y z within at = elim (insert_cases xs i j y z (omega (arith, within)) at) [
@@ -51,7 +50,7 @@ module _ (runs : List ListBlock) (k at : ℕ) (r q b : ListBlock) (is : slice_ge
       go (s ∷ runs) zero is =
           sym (append_assoc q.items b.items (joined runs))
           ∙ ap (λ xs. xs ++ joined runs)
-          ((λ t. items t ++ back_items t) ∙ take-append-drop at r.items ∙ ap (λ (o : ListBlock). o.items) (sym (some_is s r is)))
+          ((λ t. items t ++ back_items t) ∙ take-append-drop at r.items ∙ ap (λ (o : ListBlock). o.items) (sym (same_Some s r is)))
       go (s ∷ runs) (suc k) is = ap (λ xs. s.items ++ xs) (go runs k is)
 
   pub shown_cut : length r.flags ≡ length r.items → joined_shown halves ≡ joined_shown runs
@@ -70,7 +69,7 @@ module _ (runs : List ListBlock) (k at : ℕ) (r q b : ListBlock) (is : slice_ge
       go [] k is = absurd (cc is)
       go (s ∷ runs) zero is =
           sym (append_assoc (items_where_true q.flags q.items) (items_where_true b.flags b.items) (joined_shown runs))
-          ∙ ap (λ xs. xs ++ joined_shown runs) (both ∙ ap (λ (o : ListBlock). items_where_true o.flags o.items) (sym (some_is s r is)))
+          ∙ ap (λ xs. xs ++ joined_shown runs) (both ∙ ap (λ (o : ListBlock). items_where_true o.flags o.items) (sym (same_Some s r is)))
       go (s ∷ runs) (suc k) is = ap (λ xs. items_where_true s.flags s.items ++ xs) (go runs k is)
 
   -- each block is one of the halves, or was there
@@ -204,7 +203,7 @@ blocks_first q homes last are items flags = record {
     none = ap (λ xs. xs ++ []) items
 
     one : (j : ℕ) (s : ListBlock) → slice_get (q ∷ []) j ≡ Some s → s ≡ q
-    one zero s there = sym (some_is q s there)
+    one zero s there = sym (same_Some q s there)
     one (suc j) s there = absurd (cc there)
 
 -- a block with the same items, and no less room

@@ -5,7 +5,7 @@ use Rattle.std.proofs.Common.{append_assoc, length-append}
 use Rattle.std.specs.Prelude.{min}
 use Rattle.std.specs.List.{All, insert, items_where_true}
 use Rattle.std.proofs.Math.Seq.{drop-cons, take-suc}
-use Rattle.std.proofs.lemmas.Option.{get_or_from_slice_get, slice_get_within}
+use Rattle.std.proofs.lemmas.Option.{get_or_from_slice_get, slice_get_within, same_Some}
 use Rattle.std.proofs.lemmas.List.{drop_all, length-take, take-append-drop}
 use Rattle.std.proofs.lemmas.List.Elements.{All-append, All-cons, All-drop, All-head, All-tail, All-take}
 use Rattle.semantics.specs.Ids.{OpId, is_same_id, is_smaller_id}
@@ -14,7 +14,6 @@ use Rattle.semantics.proofs.Orders.{id_itself}
 use Rattle.semantics.proofs.SkipOrder.{smaller_chain}
 use Rattle.std.proofs.lemmas.List.Edits.{length-insert}
 use Rattle.columns.specs.Blocks.{AreGreater, IsBlock, IsFirstSmaller, IsFloor}
-use Rattle.columns.proofs.Same.{some_is}
 use Rattle.columns.proofs.Flags.{shown_append, shown_insert, shown_most, shown_set}
 
 -- the items up to and with one
@@ -42,7 +41,7 @@ has_item-append a (x ∷ xs) ys = ap (λ b. is_same_id a x || b) (has_item-appen
 
 pub has_at : (xs : List OpId) (i : ℕ) (a : OpId) → slice_get xs i ≡ Some a → has_item a xs ≡ true
 has_at [] i a is = absurd (cc is)
-has_at (x ∷ xs) zero a is = ap (λ b. b || has_item a xs) (ap (is_same_id a) (some_is x a is) ∙ id_itself a)
+has_at (x ∷ xs) zero a is = ap (λ b. b || has_item a xs) (ap (is_same_id a) (same_Some x a is) ∙ id_itself a)
 has_at (x ∷ xs) (suc i) a is = later (is_same_id a x) (has_at xs i a is)
   where
     later : (b : Bool) → has_item a xs ≡ true → (b || has_item a xs) ≡ true

@@ -5,7 +5,7 @@ use Rattle.std.proofs.Common.{List, [], ◌∷◌, length, get_or, set, length-s
 use Rattle.std.specs.List.{All, insert}
 use Rattle.std.proofs.lemmas.Bool.{cases_lt}
 use Rattle.std.proofs.lemmas.List.Edits.{length-insert, get_or-insert_at, get_or-insert_below, get_or-insert_above}
-use Rattle.std.proofs.lemmas.Option.{slice_get_read, slice_get_within, get_or_from_slice_get}
+use Rattle.std.proofs.lemmas.Option.{slice_get_read, slice_get_within, get_or_from_slice_get, same_Some}
 use Rattle.std.proofs.lemmas.List.{get_or_default, length_push}
 use Rattle.semantics.specs.Ids.{OpId}
 use Rattle.semantics.proofs.SetElements.{get-set_other, get-set_same}
@@ -14,7 +14,6 @@ use Rattle.columns.specs.Blocks.{AreIndexed, AreMovedOn, IsMadeAt, ListBlock, it
 use Rattle.columns.proofs.Changed.{set_cases}
 use Rattle.columns.proofs.InBlock.{has_item-append}
 use Rattle.columns.proofs.Runs.{before_end}
-use Rattle.columns.proofs.Same.{some_is}
 use Rattle.columns.proofs.Walked.{lacks_other}
 
 -- what stands at a number
@@ -40,7 +39,7 @@ module _ (runs : List ListBlock) (indices : List ℕ) (are : AreIndexed runs ind
   -- no other block has it
   pub lacks_elsewhere : (k : ℕ) → slice_get indices home ≡ Some k → (j : ℕ) (s : ListBlock) → slice_get runs j ≡ Some s → (j ≡ k → ⊥)
       → has_item a s.items ≡ false
-  lacks_elsewhere k here j s at other = lacks_other a s.items (λ has. other (some_is j k (sym (has_at j s at has) ∙ here)))
+  lacks_elsewhere k here j s at other = lacks_other a s.items (λ has. other (same_Some j k (sym (has_at j s at has) ∙ here)))
 
   -- and so none before it
   pub lacks_in_front : (k : ℕ) → slice_get indices home ≡ Some k → has_item a (items_before runs k 0) ≡ false
@@ -54,8 +53,8 @@ module _ (runs : List ListBlock) (indices : List ℕ) (are : AreIndexed runs ind
       ap (has_item a) (sym (before_end runs (length runs) 0 (omega arith)))
       ∙ lacks_before runs a (length runs)
       (λ j s below at. lacks_other a s.items
-      (λ has. let same : j ≡ k = some_is j k (sym (has_at j s at has) ∙ here) in
-      let one : s ≡ r = some_is s r (sym at ∙ ap (slice_get runs) same ∙ is) in
+      (λ has. let same : j ≡ k = same_Some j k (sym (has_at j s at has) ∙ here) in
+      let one : s ≡ r = same_Some s r (sym at ∙ ap (slice_get runs) same ∙ is) in
       true≢false (sym has ∙ ap (λ (o : ListBlock). has_item a o.items) one ∙ lacks)))
 
   -- without a home it stands nowhere
@@ -117,7 +116,7 @@ module _ (old : List ℕ) (index n : ℕ) (now : List ℕ) (so_far : IsMovedTo o
       by_moved i k below at high (inl before) = so_far.moved i k before at high
       by_moved i k below at high (inr past) =
           let same : n ≡ i = omega (arith, below, past) in
-          let one : x ≡ k = some_is x k (sym here ∙ ap (slice_get now) same ∙ so_far.rest i past ∙ at) in
+          let one : x ≡ k = same_Some x k (sym here ∙ ap (slice_get now) same ∙ so_far.rest i past ∙ at) in
           absurd (omega (arith, one, less, high))
 
   -- another one is moved on
@@ -134,7 +133,7 @@ module _ (old : List ℕ) (index n : ℕ) (now : List ℕ) (so_far : IsMovedTo o
           get-set_other now n i (x + 1) (λ e. absurd (omega (arith, before, e))) ∙ so_far.kept i k before at low
       by_kept i k below at low (inr past) =
           let same : n ≡ i = omega (arith, below, past) in
-          let one : x ≡ k = some_is x k (sym here ∙ ap (slice_get now) same ∙ so_far.rest i past ∙ at) in
+          let one : x ≡ k = same_Some x k (sym here ∙ ap (slice_get now) same ∙ so_far.rest i past ∙ at) in
           absurd (omega (arith, one, most, low))
 
       by_moved : (i k : ℕ) → i < n + 1 → slice_get old i ≡ Some k → index ≤ k → (i < n) ⊎ (n ≤ i)
@@ -143,7 +142,7 @@ module _ (old : List ℕ) (index n : ℕ) (now : List ℕ) (so_far : IsMovedTo o
           get-set_other now n i (x + 1) (λ e. absurd (omega (arith, before, e))) ∙ so_far.moved i k before at high
       by_moved i k below at high (inr past) =
           let same : n ≡ i = omega (arith, below, past) in
-          let one : x ≡ k = some_is x k (sym here ∙ ap (slice_get now) same ∙ so_far.rest i past ∙ at) in
+          let one : x ≡ k = same_Some x k (sym here ∙ ap (slice_get now) same ∙ so_far.rest i past ∙ at) in
           ap (slice_get (set now n (x + 1))) (sym same) ∙ get-set_same now n x (x + 1) here
           ∙ ap Some (let next : x + 1 ≡ suc k = omega (arith, one) in next)
 

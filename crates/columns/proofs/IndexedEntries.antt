@@ -1,5 +1,5 @@
 -- Entries whose replicas are given by their indices in a table.
-use Rattle.std.proofs.Common.{◌≡◌, ℕ, zero, suc, ◌<◌, Bool, true, false, cond, not, nat_lt, nat_le, ◌||◌, ◌&&◌, IsTrue, List, [], ◌∷◌}
+use Rattle.std.proofs.Common.{◌≡◌, ℕ, zero, suc, ◌<◌, Bool, true, false, cond, not, nat_lt, nat_le, ◌||◌, IsTrue, List, [], ◌∷◌}
 use Rattle.std.proofs.Common.{length, get_or, map, Option, Some, slice_get, refl, sym, ap, ◌∙◌, arith}
 use Rattle.std.specs.declared.cmp.Ordering.TheVariants.{Less, Equal, Greater}
 use Rattle.std.specs.Ordering.{is_gt, is_eq}
@@ -8,6 +8,7 @@ use Rattle.std.specs.FinMap.{put, is_sorted}
 use Rattle.std.specs.FinMap.Entries.{by_order, below_all}
 use Rattle.std.proofs.lemmas.Bool.Decides.{nat_tests}
 use Rattle.std.proofs.lemmas.Option.{slice_get_within, get_or_from_slice_get}
+use Rattle.std.proofs.lemmas.Bool.{and_parts}
 use Rattle.ids.specs.Members.{AreDistinct}
 use Rattle.semantics.specs.Ids.{OpId, id_cmp}
 use Rattle.semantics.specs.Vectors.{covers}
@@ -22,14 +23,6 @@ use Rattle.columns.specs.declared.entry.Entry.{Entry}
 use Rattle.semantics.proofs.Orders.{id_total}
 use Rattle.columns.proofs.Ranks.{below_chain, below_keys}
 use Rattle.columns.proofs.Columns.{kept-map, insert-map, marks_of}
-
-and_first : (a b : Bool) → IsTrue (a && b) → IsTrue a
-and_first true b p = refl
-and_first false b p = p
-
-and_second : (a b : Bool) → IsTrue (a && b) → IsTrue b
-and_second true b p = p
-and_second false b p = cc
 
 -- the replica of each entry
 abbrev replicas : {X : Type 0} → List (OpId × X) → List (Option ℕ)
@@ -56,10 +49,10 @@ module _ {X : Type 0} where
       (insert (Some e.0.replica ∷ replicas es) (cond (is_gt r) (suc (rank id_cmp id (keys_of es))) 0) (Some id.replica))) [
         | Less ↦ λ r. ap (λ b. cond b (Some e.0.replica ∷ replicas es) (Some id.replica ∷ Some e.0.replica ∷ replicas es))
             (sym (below_chain id_cmp id_total id e.0 (keys_of es) r
-            (below_keys id_cmp e.0 es ∙ and_first (below_all id_cmp e.0 es) (is_sorted id_cmp es) s)))
+            (below_keys id_cmp e.0 es ∙ (and_parts (below_all id_cmp e.0 es) (is_sorted id_cmp es) s).0)))
         | Equal ↦ λ r. refl
         | Greater ↦ λ r. at_test (has_key id_cmp id (keys_of es))
-            (replicas-put id v es (and_second (below_all id_cmp e.0 es) (is_sorted id_cmp es) s))
+            (replicas-put id v es (and_parts (below_all id_cmp e.0 es) (is_sorted id_cmp es) s).1)
       ] refl
     where
       at_test : (b : Bool)

@@ -11,7 +11,6 @@ pub mod Columns
 pub mod Above
 pub mod IndexedEntries
 pub mod Removals
-pub mod Same
 pub mod Flags
 pub mod InBlock
 pub mod Runs

@@ -2,17 +2,16 @@
 use Rattle.std.proofs.Common.{◌≡◌, refl, sym, ap, ◌∙◌, ℕ, zero, suc, ◌+◌, ◌<◌, ◌≤◌, false, ◌||◌, List, [], ◌∷◌, ◌++◌, length, drop, take}
 use Rattle.std.proofs.Common.{Some, slice_get, arith, append_assoc}
 use Rattle.std.proofs.lemmas.List.{append-nil, drop_all, take-append-drop}
-use Rattle.std.proofs.lemmas.Option.{slice_get_within}
+use Rattle.std.proofs.lemmas.Option.{slice_get_within, same_Some}
 use Rattle.semantics.specs.Ids.{OpId}
 use Rattle.semantics.specs.Context.{has_item}
 use Rattle.columns.specs.Blocks.{ListBlock, items_at, items_before, items_from, joined}
-use Rattle.columns.proofs.Same.{some_is}
 use Rattle.columns.proofs.InBlock.{has_item-append}
 
 -- the items of the block at an index
 pub items_here : (runs : List ListBlock) (k : ℕ) (r : ListBlock) → slice_get runs k ≡ Some r → items_at runs k ≡ r.items
 items_here [] k r is = absurd (cc is)
-items_here (s ∷ runs) zero r is = ap (λ (o : ListBlock). o.items) (some_is s r is)
+items_here (s ∷ runs) zero r is = ap (λ (o : ListBlock). o.items) (same_Some s r is)
 items_here (s ∷ runs) (suc k) r is = items_here runs k r is
 
 -- from the first position on there are all

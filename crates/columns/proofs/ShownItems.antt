@@ -3,12 +3,13 @@ use Rattle.std.proofs.Common.{◌≡◌, refl, sym, ap, ◌∙◌, subst, ℕ, z
 use Rattle.std.proofs.Common.{[], ◌∷◌, ◌++◌, length, map, set, Some, slice_get, arith, length-append}
 use Rattle.std.specs.List.{filter, items_where_true}
 use Rattle.std.proofs.lemmas.List.{set-append_left, set-append_right}
-use Rattle.std.proofs.lemmas.Option.{slice_get_within}
+use Rattle.std.proofs.lemmas.Option.{slice_get_within, same_Some}
+use Rattle.std.proofs.lemmas.Bool.{or_parts}
 use Rattle.semantics.specs.Ids.{OpId, is_same_id}
 use Rattle.semantics.proofs.Orders.{id_itself, ids_from_test}
 use Rattle.semantics.specs.Context.{has_item}
+use Rattle.semantics.proofs.Taken.{turned_ids}
 use Rattle.columns.specs.Blocks.{AreApart, ListBlock, joined, joined_shown}
-use Rattle.columns.proofs.Same.{or_parts, some_is, turned_ids}
 use Rattle.columns.proofs.Flags.{shown_append}
 use Rattle.columns.proofs.InBlock.{has_at}
 use Rattle.columns.proofs.Walked.{get_in, get_past}
@@ -86,7 +87,7 @@ set_one : (f : OpId → Bool) (a : OpId) (b : Bool) (xs : List OpId) (i : ℕ) �
     → set (map f xs) i b ≡ map (changed f a b) xs
 set_one f a b [] i apart is = absurd (cc is)
 set_one f a b (x ∷ xs) zero apart is =
-    let same = some_is x a is in
+    let same = same_Some x a is in
     λ t. sym (ap (λ c. cond c b (f x)) (ap (λ y. is_same_id x y) (sym same) ∙ id_itself x)) t ∷ others_stay f a b xs
     (ap (λ y. has_item y xs) (sym same) ∙ apart.0) t
 set_one f a b (x ∷ xs) (suc i) apart is =
@@ -130,7 +131,7 @@ module _ (r q : ListBlock) (i : ℕ) (a : OpId) (b : Bool) (items : q.items ≡ 
   unfolding joined_flags offset AreLong
   flags_set [] k long is inside = absurd (cc is)
   flags_set (s ∷ runs) zero long is inside =
-      let same = sym (some_is s r is) in
+      let same = sym (same_Some s r is) in
       let fits = long 0 s refl in
       let within : i < length s.items = subst (λ (o : ListBlock). i < length o.items) same inside in
       ap (λ xs. xs ++ joined_flags runs) (flags ∙ ap (λ (o : ListBlock). set o.flags i b) same)
@@ -148,7 +149,7 @@ module _ (r q : ListBlock) (i : ℕ) (a : OpId) (b : Bool) (items : q.items ≡ 
   unfolding offset
   item_there [] k is there = absurd (cc is)
   item_there (s ∷ runs) zero is there =
-      let same = sym (some_is s r is) in
+      let same = sym (same_Some s r is) in
       let here : slice_get s.items i ≡ Some a = ap (λ (o : ListBlock). slice_get o.items i) (sym same) ∙ there in
       get_in s.items (joined runs) i (slice_get_within s.items i a here) ∙ here
   item_there (s ∷ runs) (suc k) is there =

@@ -4,6 +4,7 @@ use Rattle.std.proofs.Common.{Err, refl, sym, ap, ◌∙◌, true≢false, inl, 
 use Rattle.std.specs.List.{list_any}
 use Rattle.std.specs.Prelude.{◌↔◌, IsOk, MatchResult, slice_get, ⊤}
 use Rattle.std.proofs.lemmas.Bool.{and_from, and_left, and_right, cases_eq, eq-eqb, ne_eqb, not_from_true}
+use Rattle.std.proofs.lemmas.Option.{none-some}
 use Rattle.ids.specs.declared.refusal.Refusal.{Refusal}
 use Rattle.ids.specs.Members.{AreDistinct, is_member}
 use Rattle.semantics.specs.Ids.{OpId, id_at}
@@ -143,8 +144,5 @@ lawful G s kept
     (Err why) fault alone = (
       λ ok. absurd (true≢false (sym ok)),
       λ may. absurd
-          (none_some (sym (no_fault_where_follows (stamped_entries G) s kept may) ∙ fault)),
+          (none-some why (sym (no_fault_where_follows (stamped_entries G) s kept may) ∙ fault)),
     )
-  where
-    none_some : ◌≡◌ {A = Option Refusal} None (Some why) → ⊥
-    none_some e = cc

@@ -10,7 +10,7 @@ use Rattle.semantics.specs.PeerAnswers.{IsAnswer}
 use Rattle.semantics.specs.Handling.{Handler, Handles}
 use Rattle.semantics.specs.Batches.{ComeFrom, AreAnswers, IsBatch, items_of}
 use Rattle.semantics.specs.WorldHistory.{of_client}
-use Rattle.semantics.proofs.HandledBatches.{next_above, no_batch, one_more}
+use Rattle.semantics.proofs.HandledBatches.{next_above, no_batch, one_more, answers_snoc}
 use Rattle.replica.specs.operation.declared.submission.Submission.{Submission}
 use Rattle.replica.specs.operation.Submissions.{submitted_of}
 use Rattle.command.specs.InOrder.{of}
@@ -93,11 +93,6 @@ pub answers_pop : (p : ℕ) (ps : List ℕ) (G : List Entry) (whole rest : List 
     → AreAnswers p ps G whole → AreAnswers p ps G rest × IsAnswer p ps G h.submitted h.reply
 answers_pop p ps G whole rest h is a =
     let k = subst (λ (l : List Handled). AreAnswers p ps G l) is a in (answers_front p ps G rest h k, answers_last p ps G rest h k)
-
-answers_snoc : (p : ℕ) (ps : List ℕ) (G : List Entry) (hs : List Handled) (h : Handled) → AreAnswers p ps G hs
-    → IsAnswer p ps G h.submitted h.reply → AreAnswers p ps G (hs ++ h ∷ [])
-answers_snoc p ps G [] h a k = (k, tt)
-answers_snoc p ps G (g ∷ hs) h a k = (a.0, answers_snoc p ps G hs h a.1 k)
 
 -- in the other order they are answers too
 pub answers_reversed : (p : ℕ) (ps : List ℕ) (G : List Entry) (hs : List Handled) → AreAnswers p ps G hs → AreAnswers p ps G (reverse hs)

@@ -1,5 +1,5 @@
 -- What stands in the history of a closed engine was submitted by its client.
-use Rattle.std.proofs.Common.{◌≡◌, ◌==◌, ℕ, zero, suc, ◌-◌, Bool, true, false, cond, Some, List, [], ◌∷◌, ◌++◌, length, slice_get, refl}
+use Rattle.std.proofs.Common.{◌≡◌, ◌==◌, ℕ, ◌-◌, Bool, true, false, cond, Some, List, [], ◌∷◌, ◌++◌, length, refl}
 use Rattle.std.proofs.Common.{sym, ap, ◌∙◌, subst}
 use Rattle.std.proofs.lemmas.List.{map-append}
 use Rattle.semantics.specs.Making.{Command}
@@ -9,7 +9,7 @@ use Rattle.semantics.specs.LegalAnswer.{Submitted}
 use Rattle.semantics.specs.WorldHistory.{BeginsWith, of_client}
 use Rattle.semantics.specs.Batches.{AsksFor, ComeFrom}
 use Rattle.semantics.proofs.Beginnings.{entry_in_longer}
-use Rattle.semantics.proofs.HandledBatches.{of-append}
+use Rattle.semantics.proofs.HandledBatches.{of-append, get_longer}
 use Rattle.replica.specs.operation.declared.submission.Submission.{Submission}
 use Rattle.replica.specs.operation.Submissions.{submitted_of}
 use Rattle.command.specs.InOrder.{of}
@@ -25,11 +25,6 @@ submitted_of_client table c (x ∷ xs) = by (x.client == c) (submitted_of_client
         ≡ submitted_in table (cond b (x ∷ of c xs) (of c xs))
     by true e = ap (λ (l : List Submitted). submitted_of table x ∷ l) e
     by false e = e
-
-get_longer : (xs ys : List Submitted) (n : ℕ) (x : Submitted) → slice_get xs n ≡ Some x → slice_get (xs ++ ys) n ≡ Some x
-get_longer [] ys n x h = cc
-get_longer (y ∷ xs) ys zero x h = h
-get_longer (y ∷ xs) ys (suc n) x h = get_longer xs ys n x h
 
 -- an own entry of the history is of a command that was taken
 asked_at : (took : List Submitted) (G : List Entry) (n k serial : ℕ) (c : Command) (s : Stamped) → ComeFrom took G

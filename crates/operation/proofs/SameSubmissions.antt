@@ -1,6 +1,7 @@
 -- Items that are one were submitted as one, whatever the table is.
-use Rattle.std.proofs.Common.{◌≡◌, ◌&&◌, ◌==◌, ℕ, Bool, true, false, List, nat_eq, cond, length, refl, sym, ap, true≢false, eqb-true}
+use Rattle.std.proofs.Common.{◌≡◌, ◌&&◌, ◌==◌, ℕ, true, List, nat_eq, cond, length, refl, sym, ap, true≢false, eqb-true}
 use Rattle.std.proofs.Common.{eq-eqb}
+use Rattle.std.proofs.lemmas.Bool.{and_parts}
 use Rattle.semantics.specs.LegalAnswer.{OfCommand, OfPeer}
 use Rattle.semantics.specs.Tables.{by_table}
 use Rattle.semantics.specs.Stamped.{Stamped}
@@ -18,10 +19,6 @@ received table o =
     let s : Stamped = record { id = o.id; vector = by_table table o.counters; place = o.place; mutation = o.mutation } in
     cond (nat_eq (length o.counters) (length table)) s (nonmember table s)
 
-both : (a b : Bool) → (a && b) ≡ true → (a ≡ true) × (b ≡ true)
-both true b h = (refl, h)
-both false b h = absurd (true≢false (sym h))
-
 one_request : (q r : Request) → is_same_request q r ≡ true → (table : List ℕ) → request_of table q ≡ request_of table r
 one_request (Command c) (Command d) h table = ap OfCommand ((command_decides (command_of c) (command_of d)).0 h)
 one_request (Peer o) (Peer p) h table = ap (λ (x : Counted). OfPeer (received table x))
@@ -31,9 +28,9 @@ one_request (Peer o) (Command d) h table = absurd (true≢false (sym h))
 
 pub one_submission : (x y : Submission) → is_same_submission x y ≡ true → (table : List ℕ) → submitted_of table x ≡ submitted_of table y
 one_submission x y h table =
-    let t = both ((x.client == y.client) && (x.serial == y.serial) && (x.floor == y.floor)) (is_same_request x.request y.request) h in
-    let u = both ((x.client == y.client) && (x.serial == y.serial)) (x.floor == y.floor) t.0 in
-    let v = both (x.client == y.client) (x.serial == y.serial) u.0 in
+    let t = and_parts ((x.client == y.client) && (x.serial == y.serial) && (x.floor == y.floor)) (is_same_request x.request y.request) h in
+    let u = and_parts ((x.client == y.client) && (x.serial == y.serial)) (x.floor == y.floor) t.0 in
+    let v = and_parts (x.client == y.client) (x.serial == y.serial) u.0 in
     let client = eqb-true x.client y.client v.0 in
     let serial = eqb-true x.serial y.serial v.1 in
     let floor = eqb-true x.floor y.floor u.1 in

@@ -5,6 +5,7 @@ use Rattle.std.specs.Bool.{Decides}
 use Rattle.std.specs.Cmp.{IsEquivalence, decided, unsigned_Decides}
 use Rattle.std.specs.Cmp.Lexicographic.{pointwise}
 use Rattle.std.proofs.lemmas.Slice.Eq.{slice_eq-Decides}
+use Rattle.std.proofs.lemmas.Bool.{and_parts, and_from}
 use Rattle.semantics.specs.Ids.{OpId, is_same_id}
 use Rattle.semantics.specs.Elements.{Place}
 use Rattle.semantics.specs.Operations.{Mutation, Assign, Insert, Delete}
@@ -64,24 +65,15 @@ mutation_decides m n = (same_mutations m n, λ is. rw (← is) (mutation_itself 
 pub same_mutation_equiv : IsEquivalence is_same_mutation
 same_mutation_equiv = decided is_same_mutation mutation_decides
 
--- both parts of a test that holds
-parts : (a b : Bool) → (a && b) ≡ true → (a ≡ true) × (b ≡ true)
-parts true b h = (refl, h)
-parts false b h = absurd (true≢false (sym h))
-
-both : (a b : Bool) → a ≡ true → b ≡ true → (a && b) ≡ true
-both true b e f = f
-both false b e f = absurd (true≢false (sym e))
-
 same_commands : (c d : Command) → is_same_command c d ≡ true → c ≡ d
 same_commands c d h =
-    let t = parts (pointwise is_same_step c.expression d.expression) (is_same_mutation c.mutation d.mutation) h in
+    let t = and_parts (pointwise is_same_step c.expression d.expression) (is_same_mutation c.mutation d.mutation) h in
     let e = (expression_decides c.expression d.expression).0 t.0 in
     let m = same_mutations c.mutation d.mutation t.1 in
     λ i. record { expression = e i; mutation = m i }
 
 command_itself : (c : Command) → is_same_command c c ≡ true
-command_itself c = both (pointwise is_same_step c.expression c.expression) (is_same_mutation c.mutation c.mutation)
+command_itself c = and_from (pointwise is_same_step c.expression c.expression) (is_same_mutation c.mutation c.mutation)
     ((expression_decides c.expression c.expression).1 refl) (mutation_itself c.mutation)
 
 pub command_decides : (c d : Command) → Decides (is_same_command c d) (c ≡ d)
@@ -95,10 +87,10 @@ counters_decide xs ys = slice_eq-Decides unsigned_Decides xs ys (pointwise nat_e
 
 same_operations : (o p : Counted) → is_same_operation o p ≡ true → o ≡ p
 same_operations o p h =
-    let t = parts (is_same_id o.id p.id && pointwise nat_eq o.counters p.counters && is_same_place o.place p.place)
+    let t = and_parts (is_same_id o.id p.id && pointwise nat_eq o.counters p.counters && is_same_place o.place p.place)
     (is_same_mutation o.mutation p.mutation) h in
-    let u = parts (is_same_id o.id p.id && pointwise nat_eq o.counters p.counters) (is_same_place o.place p.place) t.0 in
-    let v = parts (is_same_id o.id p.id) (pointwise nat_eq o.counters p.counters) u.0 in
+    let u = and_parts (is_same_id o.id p.id && pointwise nat_eq o.counters p.counters) (is_same_place o.place p.place) t.0 in
+    let v = and_parts (is_same_id o.id p.id) (pointwise nat_eq o.counters p.counters) u.0 in
     let a = ids_from_test o.id p.id v.0 in
     let c = (counters_decide o.counters p.counters).0 v.1 in
     let q = (place_decides o.place p.place).0 u.1 in
@@ -107,10 +99,10 @@ same_operations o p h =
 
 operation_itself : (o : Counted) → is_same_operation o o ≡ true
 operation_itself o =
-    both (is_same_id o.id o.id && pointwise nat_eq o.counters o.counters && is_same_place o.place o.place)
+    and_from (is_same_id o.id o.id && pointwise nat_eq o.counters o.counters && is_same_place o.place o.place)
     (is_same_mutation o.mutation o.mutation)
-    (both (is_same_id o.id o.id && pointwise nat_eq o.counters o.counters) (is_same_place o.place o.place)
-    (both (is_same_id o.id o.id) (pointwise nat_eq o.counters o.counters) (id_itself o.id) ((counters_decide o.counters o.counters).1 refl))
+    (and_from (is_same_id o.id o.id && pointwise nat_eq o.counters o.counters) (is_same_place o.place o.place)
+    (and_from (is_same_id o.id o.id) (pointwise nat_eq o.counters o.counters) (id_itself o.id) ((counters_decide o.counters o.counters).1 refl))
     ((place_decides o.place o.place).1 refl))
     (mutation_itself o.mutation)
 

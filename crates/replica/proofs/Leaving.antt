@@ -1,8 +1,7 @@
 -- What leaves the inbox of a replica, and what the replica holds then.
 use Rattle.std.proofs.Common.{◌≡◌, ◌∷◌, inl, inr, ℕ, true, List, [], Some, sym, ap, ◌∙◌, subst, true≢false}
-use Rattle.std.proofs.lemmas.Bool.{or_left, or_right}
 use Rattle.ids.specs.Members.{is_member}
-use Rattle.semantics.specs.Ids.{OpId, is_same_id, is_smaller_id}
+use Rattle.semantics.specs.Ids.{OpId, is_smaller_id}
 use Rattle.semantics.specs.LegalHistory.{IsAmong}
 use Rattle.semantics.specs.Stamped.{Stamped, MayFollow}
 use Rattle.semantics.specs.Entries.{Peer, applied, stamped_entries}
@@ -11,10 +10,10 @@ use Rattle.semantics.specs.Delivery.{is_waiting}
 use Rattle.semantics.specs.Drain.{drain_for, without_waiting}
 use Rattle.semantics.proofs.EntryHistories.{entries_legal}
 use Rattle.semantics.proofs.FaultlessFollows.{follows_without_fault}
-use Rattle.semantics.proofs.Orders.{id_tested}
 use Rattle.semantics.proofs.SkipOrder.{not_itself}
 use Rattle.semantics.proofs.Taken.{taken_running}
 use Rattle.semantics.proofs.Waiting.{ready_first}
+use Rattle.semantics.proofs.Arriving.{waiting_under}
 use Rattle.inbox.specs.operation.declared.op.Op.{Op}
 use Rattle.inbox.specs.operation.Ops.{stamped_of}
 use Rattle.inbox.specs.document.Documents.{Contents, HasRoomFor}
@@ -22,12 +21,6 @@ use Rattle.inbox.specs.Inboxes.{StandAlone, waiting_in}
 use Rattle.inbox.proofs.Ready.{among_stamped}
 use Rattle.replica.specs.Replicas.{Running, IsReplica, IsNextReady, next_of, replica_of}
 use Rattle.replica.proofs.Turns.{appending, next_some, turn}
-
--- what is among them waits
-waits : (W : List Stamped) (s : Stamped) → IsAmong s W → is_waiting W s.id ≡ true
-waits [] s m = absurd m
-waits (w ∷ W) s (inl e) = or_left (is_same_id w.id s.id) (is_waiting W s.id) (id_tested w.id s.id (ap (λ (t : Stamped). t.id) (sym e)))
-waits (w ∷ W) s (inr m) = or_right (is_same_id w.id s.id) (is_waiting W s.id) (waits W s m)
 
 not_smaller : (a b : OpId) → a ≡ b → is_smaller_id a b ≡ true → ⊥
 not_smaller a b e smaller = true≢false (sym smaller ∙ ap (is_smaller_id a) (sym e) ∙ not_itself a)
@@ -67,7 +60,7 @@ module _ (r q : Running) (h : IsReplica r) (is : r ≡ q) (a : OpId) (n : (s : S
   -- it waits
   pub next_waits : is_waiting (waiting_in r.document.table r.waiting) a ≡ true
   next_waits = subst (λ a. is_waiting (waiting_in r.document.table r.waiting) a ≡ true) n.1
-      (waits (waiting_in r.document.table r.waiting) n.0 among)
+      (waiting_under (waiting_in r.document.table r.waiting) n.0 among)
 
   -- what has its id is that
   pub has_its_id : (o : Op) → (o.id ≡ a) × IsAmong o r.waiting → stamped_of r.document.table o ≡ n.0

@@ -1,13 +1,12 @@
 -- What is received, and what its delivery leaves.
 use Rattle.std.proofs.Common.{◌≡◌, ◌≢◌, ◌⊎◌, inl, inr, ℕ, suc, ◌<◌, Bool, true, false, cond, ◌&&◌, ◌||◌, nat_eq, List, []}
-use Rattle.std.proofs.Common.{◌∷◌, length, Option, Some, None, Result, Ok, Err, refl, sym, ap, ◌∙◌, arith, true≢false}
+use Rattle.std.proofs.Common.{◌∷◌, length, Some, Result, Ok, Err, refl, sym, ap, ◌∙◌, arith}
 use Rattle.std.specs.Prelude.{OnErr, OnOk, MatchResult}
-use Rattle.std.proofs.lemmas.Bool.{ne_eqb}
+use Rattle.std.proofs.lemmas.Bool.{ne_eqb, and_left, and_right}
 use Rattle.ids.specs.declared.refusal.Refusal.{Refusal}
 use Rattle.ids.specs.declared.refusal.Refusal.TheVariants.{NoMemory, UnknownReplica}
 use Rattle.ids.specs.Members.{is_member}
-use Rattle.inbox.proofs.operation.PassedAlone.{alone}
-use Rattle.semantics.specs.Operations.{Misplaced, element_of, misplaced}
+use Rattle.semantics.specs.Operations.{element_of, misplaced}
 use Rattle.semantics.specs.Tables.{greatest_in}
 use Rattle.semantics.specs.Stamped.{Stamped}
 use Rattle.semantics.specs.Faults.{alone_fault, first_failed, has_counter, items_covered, items_of_members, is_of_members}
@@ -17,7 +16,6 @@ use Rattle.semantics.specs.Delivery.{answer_after, answer_to, deliver, kept_by}
 use Rattle.inbox.specs.operation.declared.op.Op.{Op}
 use Rattle.inbox.specs.operation.declared.command.Delivered.{Delivered}
 use Rattle.inbox.specs.operation.declared.command.Delivered.TheVariants.{Known, Kept}
-use Rattle.inbox.specs.operation.Alone.{alone_fault_of_op}
 use Rattle.inbox.specs.operation.Ops.{stamped_of}
 use Rattle.inbox.specs.Inboxes.{delivered_of}
 use Rattle.replica.specs.Replicas as replicas
@@ -30,14 +28,10 @@ no_member (q ∷ ps) p h =
     let rest = no_member ps p (omega (arith, h)) in
     ap (λ b. b || is_member ps p) (ne_eqb q p (λ e. absurd (omega (arith, e, h)))) ∙ rest
 
-all_false : (a b c : Bool) → b ≡ false → (a && b && c) ≡ false
-all_false false b c e = refl
-all_false true false c e = refl
-all_false true true c e = absurd (true≢false e)
-
 strange : (ps : List ℕ) (s : Stamped) → is_of_members ps (nonmember ps s) ≡ false
-strange ps s = all_false (is_member ps s.id.replica) (is_member ps (suc (greatest_in ps)) && true)
-    (items_of_members ps (element_of s.place)) (ap (λ b. b && true) (no_member ps (suc (greatest_in ps)) (omega arith)))
+strange ps s = and_left (is_member ps s.id.replica && (is_member ps (suc (greatest_in ps)) && true)) (items_of_members ps (element_of s.place))
+    (and_right (is_member ps s.id.replica) (is_member ps (suc (greatest_in ps)) && true)
+    (ap (λ b. b && true) (no_member ps (suc (greatest_in ps)) (omega arith))))
 
 strange_fault : (ps : List ℕ) (s : Stamped) → alone_fault ps (nonmember ps s) ≡ Some UnknownReplica
 strange_fault ps s =
@@ -82,21 +76,3 @@ delivered r t o (Err why) (inl z) k same other = absurd (other (ap Err z.0))
 delivered r t o (Err why) (inr a) k same other =
     let is : answer_to r (received_of r.members o) ≡ delivery.NotKept why = sym (same_answer r o) ∙ a in
     (is, same ∙ sym (ap (kept_by r (received_of r.members o)) is))
-
--- ---- what is seen of an operation alone
-
-left_true : (a b c : Bool) → (a && b && c) ≡ true → a ≡ true
-left_true true b c e = refl
-left_true false b c e = e
-
-first_true : (a b : Bool) (c : Option Misplaced) (d : Bool) → first_failed a b c d ≡ None → a ≡ true
-first_true true b c d e = refl
-first_true false b c d e = absurd (let z : ⊥ = cc in z)
-
--- it is a member's
-pub member_alone : (table : List ℕ) (o : Op) → alone_fault_of_op table o ≡ None → is_member table o.id.replica ≡ true
-member_alone table o h =
-    let t = stamped_of table o in
-    left_true (is_member table o.id.replica) _ (items_of_members table (element_of t.place))
-    (first_true (is_of_members table t) (has_counter t) (misplaced t.mutation t.place) (items_covered t.vector (element_of t.place))
-    (alone table o h))

@@ -1,5 +1,5 @@
 -- The serials of the own entries, which no delivery and no drain changes.
-use Rattle.std.proofs.Common.{◌≡◌, ◌∷◌, ℕ, ◌+◌, List, [], Result, Ok, Err, refl, sym, ap, ◌∙◌, subst, arith}
+use Rattle.std.proofs.Common.{◌≡◌, ◌∷◌, ℕ, ◌+◌, List, Result, Ok, Err, refl, sym, ap, ◌∙◌, subst, arith}
 use Rattle.std.specs.Prelude.{OnOk, OnErr}
 use Rattle.ids.specs.declared.refusal.Refusal.{Refusal}
 use Rattle.operation.specs.declared.command.Delivered.{Delivered as AnAnswer}
@@ -8,13 +8,10 @@ use Rattle.semantics.specs.Making.{Command}
 use Rattle.semantics.specs.Entries.{Entry, Own, IsAbove}
 use Rattle.semantics.specs.Replica.{Replica, IsRunning, commit_own}
 use Rattle.semantics.specs.Delivery.{Delivered, Kept, Known, NotKept, answer_to, deliver, kept_by}
-use Rattle.semantics.specs.Drain.{counted, drain_for, drain, with_peers}
+use Rattle.semantics.specs.Drain.{counted, drain_for, drain}
 use Rattle.semantics.proofs.Beginnings.{above_more}
 use Rattle.semantics.proofs.Drained.{drained, part_drained}
-
-above_peers : (client serial : ℕ) (M : List Stamped) (G : List Entry) → IsAbove client serial G → IsAbove client serial (with_peers M G)
-above_peers client serial [] G h = h
-above_peers client serial (s ∷ M) G h = above_peers client serial M G h
+use Rattle.semantics.proofs.ReceivedItems.{above_with_peers}
 
 -- a turn of a drain keeps them
 pub above_turns : (client serial n : ℕ) (r q : Replica) → IsRunning r → q ≡ drain_for n r → IsAbove client serial r.entries
@@ -22,7 +19,7 @@ pub above_turns : (client serial n : ℕ) (r q : Replica) → IsRunning r → q 
 above_turns client serial n r q h e above =
     let parts = (part_drained n r h).1 in
     subst (IsAbove client serial) (sym (ap (λ (p : Replica). p.entries) e ∙ parts.entries))
-    (above_peers client serial parts.appended r.entries above)
+    (above_with_peers client serial parts.appended r.entries above)
 
 -- and so does a whole drain
 pub above_drained : (client serial : ℕ) (r q : Replica) → IsRunning r → q ≡ counted (drain r) → IsAbove client serial r.entries
@@ -30,7 +27,7 @@ pub above_drained : (client serial : ℕ) (r q : Replica) → IsRunning r → q 
 above_drained client serial r q h e above =
     let parts = (drained r h).1 in
     subst (IsAbove client serial) (sym (ap (λ (p : Replica). p.entries) e ∙ parts.entries))
-    (above_peers client serial parts.appended r.entries above)
+    (above_with_peers client serial parts.appended r.entries above)
 
 -- the next serial is above those that were, and above that of one more entry
 pub next_above : (client serial : ℕ) (c : Command) (s : Stamped) (G : List Entry) → IsAbove client serial G

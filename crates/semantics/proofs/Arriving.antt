@@ -39,7 +39,8 @@ waiting_one (y ∷ W) a h = elim (or_cases (is_same_id y.id a) (is_waiting W a) 
   | inr e ↦ (let r = waiting_one W a e in (r.0, inr r.1, r.2))
 ]
 
-waiting_under : (W : List Stamped) (s : Stamped) → IsAmong s W → is_waiting W s.id ≡ true
+-- what waits waits under its id
+pub waiting_under : (W : List Stamped) (s : Stamped) → IsAmong s W → is_waiting W s.id ≡ true
 waiting_under [] s m = absurd m
 waiting_under (y ∷ W) s (inl e) =
     or_left (is_same_id y.id s.id) (is_waiting W s.id) (ap (λ (z : Stamped). is_same_id z.id s.id) (sym e) ∙ id_itself s.id)

@@ -11,7 +11,7 @@ use Rattle.semantics.specs.Faults.{is_of_members}
 use Rattle.semantics.specs.Making.{is_full}
 use Rattle.semantics.specs.Entries.{missing}
 use Rattle.semantics.specs.Replica.{Replica, operations, IsRunning}
-use Rattle.semantics.specs.Delivery.{Delivered, Kept, Known, NotKept, answer_to, kept_by, deliver}
+use Rattle.semantics.specs.Delivery.{answer_to, deliver}
 use Rattle.semantics.specs.Drain.{receive, receive_all}
 use Rattle.semantics.specs.OneWorld.{AreWithin, IsOfWorld}
 use Rattle.semantics.specs.Exchange.{IsSettled, HasAll}
@@ -24,11 +24,7 @@ use Rattle.semantics.proofs.ReachedWorlds.{received}
 use Rattle.semantics.proofs.Room.{bounded}
 use Rattle.semantics.proofs.Growing.{receive_grows, still_full}
 use Rattle.semantics.proofs.Arriving.{comes_in}
-
-same_members : (r : Replica) (s : Stamped) (a : Delivered) → (kept_by r s a).members ≡ r.members
-same_members r s Kept = refl
-same_members r s Known = refl
-same_members r s (NotKept f) = refl
+use Rattle.semantics.proofs.ReceivedItems.{same_members}
 
 pub settled_next : (K : List Operation) → IsLegal K → (p : ℕ) (r : Replica) (s : Stamped) → IsSettled K p r → IsOfWorld K s
     → IsSettled K p (receive r s)

@@ -31,6 +31,8 @@ kept_running r s h alone other new lone = record {
   rising = rising_put s r.waiting lone h.rising;
 }
 
+-- What a peer delivers leaves a replica that runs. Nothing changes unless it is kept; and what is kept passed each test of the delivery, in
+-- their order, which is what `kept_running` asks of it.
 pub delivered : (r : Replica) (s : Stamped) → IsRunning r → IsRunning (deliver r s)
 delivered r s h = at_alone (alone_fault r.members s) refl
   where

@@ -21,7 +21,7 @@ use Rattle.semantics.proofs.Beginnings.{first_of_longer, no_shorter}
 use Rattle.semantics.proofs.Delivered.{delivered, own_committed}
 use Rattle.semantics.proofs.Drained.{part_drained}
 use Rattle.semantics.proofs.HandledItems.{as_stamped}
-use Rattle.semantics.proofs.OwnReplies.{own_made, own_refused, all_first}
+use Rattle.semantics.proofs.OwnReplies.{own_made, own_refused, all_first, above_lacks}
 use Rattle.semantics.proofs.ReceivedItems.{same_own, same_members, same_entries, running_counted}
 use Rattle.semantics.proofs.Replies.{made_stays, refused_stays}
 use Rattle.semantics.specs.PeerAnswers.{answer_with, WasAnswered, IsPeerAnswer, IsAnswer}
@@ -98,11 +98,6 @@ receipt r x s more G e l Known is = answered r s x.floor more G e l Known is
 receipt r x s more G e l (NotKept why) is = inl (answered r s x.floor more G e l (NotKept why) is)
 
 -- ---- items
-
-above_lacks : (client serial : ℕ) (G : List Entry) → IsAbove client serial G → LacksSerial client serial G
-above_lacks client serial [] h = tt
-above_lacks client serial (Own k n c s ∷ G) h = (λ e f. (let l : n < serial = h.0 e in omega arith), above_lacks client serial G h.1)
-above_lacks client serial (Peer s ∷ G) h = above_lacks client serial G h
 
 -- the replica as it was
 unchanged : (r : Replica) (x : Submitted) (y : Reply) → IsRunning r → IsAnswer r.own r.members r.entries x y → IsAfter r x y r

@@ -47,7 +47,8 @@ of-append c (x ∷ xs) ys = of_one_more (x.client == c) x (of_client c (xs ++ ys
 of_itself : (x : Submitted) → of_client x.client (x ∷ []) ≡ x ∷ []
 of_itself x = ap (λ b. cond b (x ∷ []) []) (eq-eqb x.client x.client refl)
 
-get_longer : (xs ys : List Submitted) (n : ℕ) (x : Submitted) → slice_get xs n ≡ Some x → slice_get (xs ++ ys) n ≡ Some x
+-- what stands in a list stands there however it goes on
+pub get_longer : (xs ys : List Submitted) (n : ℕ) (x : Submitted) → slice_get xs n ≡ Some x → slice_get (xs ++ ys) n ≡ Some x
 get_longer [] ys n x h = cc
 get_longer (y ∷ xs) ys zero x h = h
 get_longer (y ∷ xs) ys (suc n) x h = get_longer xs ys n x h
@@ -151,7 +152,8 @@ items-snoc : (hs : List Handled) (h : Handled) → items_of (hs ++ h ∷ []) ≡
 items-snoc [] h = refl
 items-snoc (g ∷ hs) h = ap (λ (l : List Submitted). g.submitted ∷ l) (items-snoc hs h)
 
-answers_snoc : (p : ℕ) (ps : List ℕ) (G : List Entry) (hs : List Handled) (h : Handled) → AreAnswers p ps G hs
+-- one more that is answered
+pub answers_snoc : (p : ℕ) (ps : List ℕ) (G : List Entry) (hs : List Handled) (h : Handled) → AreAnswers p ps G hs
     → IsAnswer p ps G h.submitted h.reply → AreAnswers p ps G (hs ++ h ∷ [])
 answers_snoc p ps G [] h a k = (k, tt)
 answers_snoc p ps G (g ∷ hs) h a k = (a.0, answers_snoc p ps G hs h a.1 k)

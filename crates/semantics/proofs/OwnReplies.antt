@@ -18,7 +18,8 @@ pub all_first : (G : List Entry) → first_entries (length G) G ≡ G
 all_first [] = refl
 all_first (e ∷ G) = ap (λ b. cond b (e ∷ G) (first_entries (suc (length G)) G)) (le-leb (suc (length G)) (suc (length G)) (omega arith))
 
-above_lacks : (client serial : ℕ) (G : List Entry) → IsAbove client serial G → LacksSerial client serial G
+-- a serial above all is none of them
+pub above_lacks : (client serial : ℕ) (G : List Entry) → IsAbove client serial G → LacksSerial client serial G
 above_lacks client serial [] h = tt
 above_lacks client serial (Own k n c s ∷ G) h = (λ e f. (let l : n < serial = h.0 e in omega arith), above_lacks client serial G h.1)
 above_lacks client serial (Peer s ∷ G) h = above_lacks client serial G h

@@ -35,6 +35,8 @@ pub record HasReceivedAll (E : Engine) (c : ℕ) (ss : List Stamped) (serial cou
   pub engine : receipt.engine ≡ G
   pub whole : IsWhole E c client bad 0 ss receipt
 
+-- Where a receipt ends without a stop, its client is there, nothing stands before a nonmember, as there is none, and each operation of the
+-- bundle was submitted. The reply is computed from the receipt, so its three parts are those of the receipt.
 pub bundle_received : (E : Engine) (c : ℕ) (ss : List Stamped) (serial count : ℕ)
     → (receive_message E c (Some (Bundle ss))).reply ≡ Received serial count None
     → HasReceivedAll E c ss serial count (receive_message E c (Some (Bundle ss))).engine

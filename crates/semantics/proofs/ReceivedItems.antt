@@ -46,7 +46,8 @@ pub begins_with_peers : (M : List Stamped) (G : List Entry) → BeginsWith (with
 begins_with_peers [] G = ([], refl)
 begins_with_peers (s ∷ M) G = (let rest = begins_with_peers M G in (Peer s ∷ rest.0, ap (λ (F : List Entry). Peer s ∷ F) rest.1))
 
-above_with_peers : (client serial : ℕ) (M : List Stamped) (G : List Entry) → IsAbove client serial G
+-- operations of peers take no serial
+pub above_with_peers : (client serial : ℕ) (M : List Stamped) (G : List Entry) → IsAbove client serial G
     → IsAbove client serial (with_peers M G)
 above_with_peers client serial [] G a = a
 above_with_peers client serial (s ∷ M) G a = above_with_peers client serial M G a

@@ -14,8 +14,9 @@ use Rattle.semantics.proofs.EntryHistories.{entries_legal}
 use Rattle.semantics.proofs.FaultlessFollows.{follows_without_fault}
 use Rattle.semantics.proofs.Waiting.{in_without, rising_without, without_one}
 
-differs_back : (a b : OpId) → is_same_id a b ≡ false → is_same_id b a ≡ false
-differs_back a b h = false_from_ne_true (is_same_id b a) (λ e. true≢false (sym (id_tested a b (sym (ids_from_test b a e))) ∙ h))
+-- a differs from b, and so b from a
+pub turned_ids : (a b : OpId) → is_same_id a b ≡ false → is_same_id b a ≡ false
+turned_ids a b h = false_from_ne_true (is_same_id b a) (λ e. true≢false (sym (id_tested a b (sym (ids_from_test b a e))) ∙ h))
 
 pub taken_running : (r : Replica) (s : Stamped) → IsRunning r → IsAmong s r.waiting → IsRunning (taken r s)
 taken_running r s h m = at_fault (fault_of (stamped_entries r.entries) s) refl
@@ -31,7 +32,7 @@ taken_running r s h m = at_fault (fault_of (stamped_entries r.entries) s) refl
       alone = λ x n. h.alone x (in_without s.id r.waiting x n).0;
       foreign = λ x n. h.foreign x (in_without s.id r.waiting x n).0;
       unapplied = λ x n. or_from (is_same_id s.id x.id) (has_id (operations r) x.id)
-          (differs_back x.id s.id (in_without s.id r.waiting x n).1) (h.unapplied x (in_without s.id r.waiting x n).0);
+          (turned_ids x.id s.id (in_without s.id r.waiting x n).1) (h.unapplied x (in_without s.id r.waiting x n).0);
       rising = rising_without s.id r.waiting h.rising;
     }
     at_fault (Some f) e = record {

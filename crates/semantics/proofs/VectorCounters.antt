@@ -60,7 +60,8 @@ pub at_greatest : (v : Vector) (p : ℕ) → at v p ≤ greatest v
 at_greatest [] p = omega arith
 at_greatest (a ∷ v) p = at_greatest_here (a.replica == p) a.counter (at v p) (greatest v) (at_greatest v p)
 
-max_cases : (a b : ℕ) → (max a b ≡ a) ⊎ (max a b ≡ b)
+-- the greater of two is one of them
+pub max_cases : (a b : ℕ) → (max a b ≡ a) ⊎ (max a b ≡ b)
 max_cases a b = grind arith
 
 -- the greatest counter is 0 or that of a replica

@@ -1,28 +1,24 @@
 -- What a tree answers at a node.
 use Rattle.std.proofs.Common.{◌≡◌, ℕ, zero, suc, ◌+◌, ◌-◌, ◌<◌, ◌≤◌, ◌&&◌, Bool, true, false, cond, List, [], ◌∷◌, ◌++◌, length, get_or}
 use Rattle.std.proofs.Common.{take, map}
-use Rattle.std.proofs.Common.{Option, Some, None, refl, sym, ap, ◌∙◌, append-nil, arith}
+use Rattle.std.proofs.Common.{Some, refl, sym, ap, ◌∙◌, append-nil, arith}
 use Rattle.std.specs.Prelude.{slice_get}
 use Rattle.std.specs.List.{filter}
 use Rattle.std.proofs.lemmas.List.{map-append, take_more}
 use Rattle.std.proofs.lemmas.List.Elements.{filter-append}
+use Rattle.std.proofs.lemmas.Option.{same_Some, none-some}
 use Rattle.semantics.specs.Elements.{Element, Field, Name}
 use Rattle.semantics.specs.Paths.{FieldHop}
 use Rattle.semantics.specs.DocumentAnswer.{is_any}
-use Rattle.columns.proofs.Same.{some_is}
 use Rattle.tree.specs.declared.node.Node.{Node}
 use Rattle.tree.specs.Nodes.{IsTree, context, is_written, links, names_in, next_number, node_in, number, presence_of}
 use Rattle.tree.proofs.Links.{field_there}
 
 -- one more of the items at the front
 pub take_next : {X : Type 0} (xs : List X) (k : ℕ) (x : X) → slice_get xs k ≡ Some x → take (k + 1) xs ≡ take k xs ++ x ∷ []
-take_next [] zero x e = absurd (none_some x e) where
-  none_some : {X : Type 0} (x : X) → ◌≡◌ {A = Option X} None (Some x) → ⊥
-  none_some x e = cc
-take_next [] (suc k) x e = absurd (none_some x e) where
-  none_some : {X : Type 0} (x : X) → ◌≡◌ {A = Option X} None (Some x) → ⊥
-  none_some x e = cc
-take_next (y ∷ xs) zero x e = ap (λ z. z ∷ []) (some_is y x e)
+take_next [] zero x e = absurd (none-some x e)
+take_next [] (suc k) x e = absurd (none-some x e)
+take_next (y ∷ xs) zero x e = ap (λ z. z ∷ []) (same_Some y x e)
 take_next (y ∷ xs) (suc k) x e = ap (λ n. take n (y ∷ xs)) (next_is k) ∙ ap (λ zs. y ∷ zs) (take_next xs k x e) where
   next_is : (k : ℕ) → suc k + 1 ≡ suc (k + 1)
   next_is k = omega arith
@@ -90,6 +86,6 @@ pub field_shows : (ns : List Node) → IsTree ns → (e : Element) (i k j : ℕ)
     ≡ (is_written (slice_get ns (get_or (links ns i).0 k d).1) && is_any ((context ns).presence (Field e (get_or (links ns i).0 k d).0)))
 field_shows ns t e i k j d at h n =
     let f = get_or (links ns i).0 k d in
-    let same : j ≡ f.1 = some_is j f.1 (sym n ∙ ap (λ o. next_number ns o (FieldHop f.0)) at ∙ field_there ns t i k d h) in
+    let same : j ≡ f.1 = same_Some j f.1 (sym n ∙ ap (λ o. next_number ns o (FieldHop f.0)) at ∙ field_there ns t i k d h) in
     ap (λ m. is_written (slice_get ns m) && is_any (presence_of (slice_get ns j))) same
     ∙ ap (λ o. is_written (slice_get ns f.1) && is_any (presence_of (node_in ns o))) (sym n)

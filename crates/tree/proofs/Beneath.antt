@@ -1,8 +1,9 @@
 -- Which elements stand beneath another, and on the way down to it.
-use Rattle.std.proofs.Common.{◌≡◌, ◌⊎◌, ℕ, true, List, [], ◌∷◌, take, drop, Option, Some, None, sym, ap, ◌∙◌, inl, inr}
+use Rattle.std.proofs.Common.{◌≡◌, ◌⊎◌, ℕ, true, List, [], ◌∷◌, take, drop, Some, None, sym, ap, ◌∙◌, inl, inr}
 use Rattle.std.specs.List.{list_any}
 use Rattle.std.proofs.lemmas.Bool.{or_cases}
 use Rattle.std.proofs.lemmas.List.{take-append-drop}
+use Rattle.std.proofs.lemmas.Option.{none-some}
 use Rattle.semantics.specs.Elements.{Element, Doc, is_same, is_under}
 use Rattle.semantics.specs.Paths.{Hop, child, down}
 use Rattle.semantics.proofs.Orders.{same_elements}
@@ -39,11 +40,8 @@ way_lost ns path m z h is none x j p u =
     ∙ down-append Doc (take m path) (drop m path) ∙ ap (λ e. down e (drop m path)) is in
     elim (way_parts (child z h) x (drop m path) (ap (λ e. is_under e x) (sym whole) ∙ u)) [
       | inl v ↦ elim (or_cases (is_same (child z h) x) (is_under z x) (sym (under_step z x h) ∙ v)) [
-        | inl s ↦ absurd (none_some j (sym none ∙ ap (number ns) (same_elements (child z h) x s) ∙ p))
+        | inl s ↦ absurd (none-some j (sym none ∙ ap (number ns) (same_elements (child z h) x s) ∙ p))
         | inr w ↦ w
       ]
-      | inr v ↦ absurd (none_some j (sym (under_none ns (child z h) none x v) ∙ p))
+      | inr v ↦ absurd (none-some j (sym (under_none ns (child z h) none x v) ∙ p))
     ]
-  where
-    none_some : (j : ℕ) → ◌≡◌ {A = Option ℕ} None (Some j) → ⊥
-    none_some j e = cc

@@ -8,12 +8,12 @@ use Rattle.std.specs.Ordering.{eq_by_cmp}
 use Rattle.std.proofs.lemmas.Bool.{or_cases, or_left, or_right, and_from}
 use Rattle.std.proofs.lemmas.List.{drop_more}
 use Rattle.std.proofs.lemmas.List.Folds.{list_any-append}
+use Rattle.std.proofs.lemmas.Option.{same_Some}
 use Rattle.semantics.specs.Ids.{OpId, IdSet, id_cmp}
 use Rattle.semantics.specs.Elements.{Element, Doc, Field, Item, Name, name_cmp, is_same, is_under}
 use Rattle.semantics.specs.Paths.{Hop, FieldHop, ItemHop, child}
 use Rattle.semantics.specs.Context.{Context, without, clear}
 use Rattle.semantics.proofs.Orders.{element_itself, same_elements}
-use Rattle.columns.proofs.Same.{some_is}
 use Rattle.tree.specs.declared.node.Node.{Node}
 use Rattle.tree.specs.Nodes.{Links, links, linked_by, child_number, next_number, number, node_in, node_at, presence_of, register_of}
 use Rattle.tree.specs.Nodes.{context}
@@ -125,7 +125,7 @@ module _ (ns : List Node) (e : Element) (i : ℕ) (at : number ns e ≡ Some i) 
   deeper y k j (h, hp, hc) at_or_under = elim (or_cases (is_same y e) (list_any (is_under y) (beneath e (links ns i))) (at_or_under h hp)) [
     | inl s ↦
         let q : y ≡ e = same_elements y e s in
-        let here : h ≡ i = some_is h i (sym hp ∙ ap (number ns) q ∙ at) in
+        let here : h ≡ i = same_Some h i (sym hp ∙ ap (number ns) q ∙ at) in
         ap (λ z. list_any (is_under (child z k)) (beneath e (links ns i))) q
         ∙ linked_there e (links ns i) k j (ap (λ m. linked_by (links ns m) k) (sym here) ∙ hc)
     | inr w ↦ any_more (is_under y) (is_under (child y k)) (λ z b. under_step y z k ∙ or_right (is_same (child y k) z) _ b)

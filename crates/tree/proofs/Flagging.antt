@@ -1,26 +1,23 @@
 -- A write to the flag of a node's field, and what the flags say of the fields that they pass.
-use Rattle.std.proofs.Common.{◌≡◌, ℕ, ◌+◌, ◌-◌, ◌<◌, ◌≤◌, ◌&&◌, ◌||◌, Bool, true, false, true≢false, cond, List, length, get_or, set, drop}
-use Rattle.std.proofs.Common.{Some, refl, sym, ap, ◌∙◌, subst, arith, inl, inr}
+use Rattle.std.proofs.Common.{◌≡◌, ℕ, ◌-◌, ◌<◌, ◌&&◌, ◌||◌, Bool, true, false, cond, List, get_or, set}
+use Rattle.std.proofs.Common.{Some, refl, sym, ap, ◌∙◌, subst}
 use Rattle.std.specs.Prelude.{slice_get, unwrap_or}
 use Rattle.std.specs.Ordering.{eq_by_cmp}
 use Rattle.std.specs.FinMap.{find, put}
 use Rattle.std.specs.List.{filter}
 use Rattle.std.specs.FinMap.Entries.{find-put}
-use Rattle.std.proofs.lemmas.Bool.{and_parts}
-use Rattle.std.proofs.lemmas.Option.{slice_get-get_or}
 use Rattle.semantics.specs.Elements.{Element, Field, Item, Name, name_cmp, is_same}
 use Rattle.semantics.specs.Paths.{FieldHop}
 use Rattle.semantics.specs.Context.{Context}
 use Rattle.semantics.specs.DocumentAnswer.{is_any}
 use Rattle.semantics.proofs.Orders.{name_total, same_elements}
 use Rattle.tree.specs.declared.node.Node.{Node}
-use Rattle.tree.specs.Nodes.{IsTree, child_number, context, flags_of, empty_below_of, is_flagged, links, links_of, node_at, node_in, number}
-use Rattle.tree.specs.Nodes.{order_of}
+use Rattle.tree.specs.Nodes.{IsTree, child_number, context, empty_below_of, is_flagged, links, links_of, node_at, node_in, number}
 use Rattle.tree.specs.Nodes.{presence_of, visible_of}
 use Rattle.tree.specs.Shown.{AreEmpty, SameButFlags, ShownBut}
 use Rattle.tree.proofs.Shape.{links_each, node_found, node_set, number_child}
 use Rattle.tree.proofs.SameViews.{empty_below_view, visible_view}
-use Rattle.tree.proofs.Showing.{flag_same, flags_context, flags_number, or_parts}
+use Rattle.tree.proofs.Showing.{flags_context, flags_number}
 use Rattle.tree.proofs.Widened.{same_set}
 
 -- the flag of a name, once that of another was put

@@ -4,6 +4,7 @@ use Rattle.std.proofs.Common.{inl}
 use Rattle.std.proofs.Common.{inr}
 use Rattle.std.specs.Prelude.{slice_get, unwrap_or}
 use Rattle.std.specs.FinMap.{find, is_sorted}
+use Rattle.std.proofs.lemmas.Option.{none-some}
 use Rattle.semantics.specs.Ids.{id_cmp}
 use Rattle.semantics.specs.Elements.{Element, Doc, Field, Item, Name, name_cmp}
 use Rattle.semantics.specs.Paths.{Hop, FieldHop, ItemHop}
@@ -34,9 +35,6 @@ pub record Linked (at : ℕ) (key : Hop) (j : ℕ) (ns ms : List Node) : Type 0 
 
 some_one : (x y : ℕ) (o : Option ℕ) → o ≡ Some x → o ≡ Some y → x ≡ y
 some_one x y o p q = cc
-
-none_some : (x : ℕ) (o : Option ℕ) → o ≡ None → o ≡ Some x → ⊥
-none_some x o p q = cc
 
 module _ (at : ℕ) (key : Hop) (j : ℕ) (ns ms : List Node) (l : Linked at key j ns ms) (t : IsTree ns) (above : at < j)
     (o : IsOrphan ns j) where
@@ -116,7 +114,7 @@ module _ (at : ℕ) (key : Hop) (j : ℕ) (ns ms : List Node) (l : Linked at key
   linked_children : (i : ℕ) (k : Hop) (h : ℕ) → child_number ns i k ≡ Some h → child_number ms i k ≡ Some h
   linked_children i k h c = elim (l.children i k) [
     | inl e ↦ e ∙ c
-    | inr (p, q, e) ↦ absurd (none_some h (child_number ns i k) (ap (λ x. child_number ns x k) p ∙ ap (child_number ns at) q ∙ l.absent) c)
+    | inr (p, q, e) ↦ absurd (none-some h (sym (ap (λ x. child_number ns x k) p ∙ ap (child_number ns at) q ∙ l.absent) ∙ c))
   ]
 
 same_room : (room : Option Node → ℕ) (ns : List Node) (at : ℕ) (n m : Node) → slice_get ns at ≡ Some n → room (Some m) ≡ room (Some n)

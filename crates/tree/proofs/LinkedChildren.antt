@@ -10,6 +10,7 @@ use Rattle.std.specs.FinMap.{find, put, is_sorted}
 use Rattle.std.specs.FinMap.Entries.{by_order, find-put}
 use Rattle.std.proofs.lemmas.Bool.{cases_eq}
 use Rattle.std.proofs.lemmas.Cmp.{tied_itself}
+use Rattle.std.proofs.lemmas.Option.{none-some}
 use Rattle.semantics.specs.Ids.{OpId, id_cmp}
 use Rattle.semantics.specs.Elements.{Name, name_cmp}
 use Rattle.semantics.specs.Paths.{Hop, FieldHop, ItemHop}
@@ -23,9 +24,6 @@ use Rattle.tree.proofs.NodeWrites.{set_each}
 use Rattle.tree.proofs.Contexts.{names_same}
 use Rattle.tree.proofs.Widened.{same_set}
 use Rattle.tree.proofs.Linked.{Linked, OnlyLinks}
-
-none_some : {A : Type 0} (x : A) → ◌≡◌ {A = Option A} (Some x) None → ⊥
-none_some x e = cc
 
 -- what a put leaves to be found
 found_put : {K : Type 0} (R : K → K → Ordering) → IsTotalOrder R → ((a b : K) → R a b ≡ Equal → a ≡ b)
@@ -52,7 +50,7 @@ names_unwritten ns n j d (f ∷ fs) p =
     (λ o. cond (is_eq o) (Some f.1) (find name_cmp n fs) ≡ None
     → names_in ns (by_order o ((n, j) ∷ f ∷ fs) ((f.0, j) ∷ fs) (f ∷ put name_cmp n j fs)) ≡ names_in ns (f ∷ fs)) [
       | Less ↦ λ q. ap (λ b. cond b ((n, tt) ∷ names_in ns (f ∷ fs)) (names_in ns (f ∷ fs))) d
-      | Equal ↦ λ q. absurd (none_some f.1 q)
+      | Equal ↦ λ q. absurd (none-some f.1 (sym q))
       | Greater ↦ λ q. ap (λ xs. cond (is_written (slice_get ns f.1)) ((f.0, tt) ∷ xs) xs) (names_unwritten ns n j d fs q)
     ] p
 

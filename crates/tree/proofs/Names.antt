@@ -11,16 +11,16 @@ use Rattle.std.proofs.lemmas.Cmp.{tied_itself}
 use Rattle.std.proofs.lemmas.List.Elements.{All-nil, All-cons, All-head, All-tail}
 use Rattle.std.specs.FinMap.{find, put, is_sorted}
 use Rattle.std.specs.FinMap.Entries.{by_order, below_all}
+use Rattle.std.proofs.lemmas.Option.{same_Some}
 use Rattle.semantics.specs.Elements.{Element, Field, Name, name_cmp, is_same}
 use Rattle.semantics.specs.Paths.{FieldHop}
-use Rattle.semantics.proofs.Orders.{element_itself, same_elements, same_names, name_total}
-use Rattle.columns.proofs.Same.{some_is}
+use Rattle.semantics.proofs.Orders.{element_itself, same_elements, same_names, name_total, Less_from_test}
 use Rattle.tree.specs.declared.node.Node.{Node}
 use Rattle.tree.specs.Nodes.{links_of, links, child_number, number, node_in, node_at, presence_of, register_of, order_of, is_written}
 use Rattle.tree.specs.Nodes.{names_in, context, IsTree}
 use Rattle.tree.specs.Writes.{name_at}
 use Rattle.tree.proofs.ListReads.{get_same, get_other, get_inside}
-use Rattle.tree.proofs.Shape.{next_some, number_links, links_each, node_set, one_element, node_found}
+use Rattle.tree.proofs.Shape.{next_some, number_links, links_each, node_set, one_element, node_found, name_is}
 use Rattle.tree.proofs.Links.{field_there}
 use Rattle.tree.proofs.Contexts.{context_same, picked, itself}
 
@@ -31,16 +31,11 @@ names_other ns j m (f ∷ fs) h =
     (get_other ns j m f.1 (All-head (λ f. f.1 ≢ j) f fs h))
     ∙ ap (λ xs. cond (is_written (slice_get ns f.1)) ((f.0, tt) ∷ xs) xs) (names_other ns j m fs (All-tail (λ f. f.1 ≢ j) f fs h))
 
-less_is : (o : Ordering) → IsTrue (is_lt o) → o ≡ Less
-less_is Less p = refl
-less_is Equal p = cc
-less_is Greater p = cc
-
 above : (x : Name) (fs : List (Name × ℕ)) → IsTrue (below_all name_cmp x fs) → All (λ f. name_cmp x f.0 ≡ Less) fs
 above x [] h = All-nil (λ f. name_cmp x f.0 ≡ Less)
 above x (f ∷ fs) h =
     let parts = and_parts (is_lt (name_cmp x f.0)) (below_all name_cmp x fs) h in
-    All-cons (λ f. name_cmp x f.0 ≡ Less) f fs (less_is _ parts.0) (above x fs parts.1)
+    All-cons (λ f. name_cmp x f.0 ≡ Less) f fs (Less_from_test _ parts.0) (above x fs parts.1)
 
 -- where a name goes among others, by how it compares with the first
 put_by : (n : Name) (f : Name × ℕ) (o : Ordering) (es : List (Name × Unit {0})) → name_cmp n f.0 ≡ o
@@ -106,12 +101,9 @@ module _ (ns : List Node) (j : ℕ) (m : Node) (inside : j < length ns) (written
         | Less ↦ λ o q. let none = absent fs (λ k d h. name_total.trans n f.0 (get_or fs k d).0 o (rest k d h)) in cc
         | Equal ↦ λ o q.
             let less : All (λ g. name_cmp n g.0 ≡ Less) fs = λ k d h. name_total.congr n f.0 (get_or fs k d).0 o ∙ rest k d h in
-            here f fs (some_is f.1 j q) o less (λ k d h e. let t : Equal ≡ Less = sym (others k d h e) ∙ less k d h in cc)
+            here f fs (same_Some f.1 j q) o less (λ k d h e. let t : Equal ≡ Less = sym (others k d h e) ∙ less k d h in cc)
         | Greater ↦ λ o q. later f fs (λ e. let t : Greater ≡ Equal = sym o ∙ mine e in cc) o (names_put fs rising.1 q others)
       ] refl p
-
-key_name : (n m : Name) → FieldHop n ≡ FieldHop m → n ≡ m
-key_name n m e = cc
 
 -- a write that marks the node of a field, and changes nothing else there
 module _ (ns : List Node) (t : IsTree ns) (e : Element) (n : Name) (j : ℕ) (old m : Node) (at : number ns (Field e n) ≡ Some j)
@@ -132,7 +124,7 @@ module _ (ns : List Node) (t : IsTree ns) (e : Element) (n : Name) (j : ℕ) (ol
       (λ k d h same.
       let there : child_number ns i (FieldHop (get_or (links ns i).0 k d).0) ≡ Some j = field_there ns t i k d h ∙ ap Some same in
       ap (name_cmp n)
-      (sym (key_name n (get_or (links ns i).0 k d).0
+      (sym (name_is n (get_or (links ns i).0 k d).0
       (t.one_parent i (FieldHop n) i (FieldHop (get_or (links ns i).0 k d).0) j child there).1))
       ∙ tied_itself name_total n)
 

@@ -1,7 +1,7 @@
 -- What lists show once a new item is linked in, and once an operation is written on the way to its target.
 use Rattle.std.proofs.Common.{◌≡◌, ◌<◌, ◌||◌, ◌&&◌, Bool, true, false, true≢false, cond, List, [], ◌∷◌, Option, Some, None, refl, sym, ap}
 use Rattle.std.proofs.Common.{◌∙◌, inl, inr, subst}
-use Rattle.std.proofs.lemmas.Bool.{or_cases}
+use Rattle.std.proofs.lemmas.Bool.{or_cases, or_parts}
 use Rattle.std.specs.List.{filter}
 use Rattle.semantics.specs.Ids.{OpId, id_cmp, is_same_id, is_smaller_id}
 use Rattle.semantics.specs.Elements.{Element, Doc, Field, Item, Scalar, Tag, AsMap, AsList, is_same, is_under}
@@ -19,10 +19,6 @@ use Rattle.tree.proofs.SameViews.{flagged_view, empty_below_view, visible_view}
 use Rattle.tree.proofs.Clears.{under_itself}
 use Rattle.tree.proofs.Showing.{but_kept, but_more}
 use Rattle.tree.proofs.Writes.{entered_order, marked_presence, order_linked, same_sym}
-
-or_parts : (a b : Bool) → (a || b) ≡ false → (a ≡ false) × (b ≡ false)
-or_parts true b e = absurd (true≢false e)
-or_parts false b e = (refl, e)
 
 tag_far : (k : Tag) (t x : Element) → is_under t x ≡ false → tag_at k t x ≡ None
 tag_far k Doc x h = ap (λ b. cond b (Some k) None) h

@@ -2,6 +2,7 @@
 use Rattle.std.proofs.Common.{◌≡◌, ℕ, List, [], ◌∷◌, Option, Some, None, refl, sym, ap, ◌∙◌, subst, arith}
 use Rattle.std.specs.Prelude.{IsTrue}
 use Rattle.std.specs.FinMap.{is_sorted}
+use Rattle.std.proofs.lemmas.Option.{none-some}
 use Rattle.ids.specs.Members.{AreDistinct}
 use Rattle.semantics.specs.Ids.{id_cmp}
 use Rattle.semantics.specs.Elements.{Field, Item, name_cmp}
@@ -30,9 +31,6 @@ no_nodes = context_same _ _
     (λ x. ap (λ o. names_in [] (links_of o).0) (nothing_there (number [] x)))
     (λ x. ap order_of (nothing_there (number [] x)))
 
-none_some : (j : ℕ) → ◌≡◌ {A = Option ℕ} None (Some j) → ⊥
-none_some j e = cc
-
 module _ (n : Node) (e : IsEmptyNode n) where
   pub root_empty : context (n ∷ []) ≡ empty
   root_empty = sym (context_view [] (n ∷ []) (push_view [] n e)) ∙ no_nodes
@@ -41,8 +39,8 @@ module _ (n : Node) (e : IsEmptyNode n) where
   no_links i = (push_view [] n e).links i
 
   no_child : (i : ℕ) (k : Hop) (j : ℕ) → child_number (n ∷ []) i k ≡ Some j → ⊥
-  no_child i (FieldHop m) j c = none_some j (ap (λ l. linked_by l (FieldHop m)) (no_links i) ∙ c)
-  no_child i (ItemHop a) j c = none_some j (ap (λ l. linked_by l (ItemHop a)) (no_links i) ∙ c)
+  no_child i (FieldHop m) j c = none-some j (ap (λ l. linked_by l (FieldHop m)) (no_links i) ∙ c)
+  no_child i (ItemHop a) j c = none-some j (ap (λ l. linked_by l (ItemHop a)) (no_links i) ∙ c)
 
   root_tree : IsTree (n ∷ [])
   root_tree = record {

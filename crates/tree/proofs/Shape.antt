@@ -58,7 +58,8 @@ no_root ns t o s e =
     let (i, p, q) = next_some ns o s 0 e in
     let r = t.rising i s 0 q in omega arith
 
-name_is : (n m : Name) → FieldHop n ≡ FieldHop m → n ≡ m
+-- hops with one name
+pub name_is : (n m : Name) → FieldHop n ≡ FieldHop m → n ≡ m
 name_is n m e = cc
 
 id_is : (a b : OpId) → ItemHop a ≡ ItemHop b → a ≡ b

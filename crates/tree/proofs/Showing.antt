@@ -5,6 +5,7 @@ use Rattle.std.specs.Prelude.{slice_get}
 use Rattle.std.proofs.Math.Nat.{min-le_left, min-le_right}
 use Rattle.std.specs.List.{filter}
 use Rattle.std.proofs.lemmas.Bool.{false_from_ne_true, or_cases, or_left, or_right}
+use Rattle.std.proofs.lemmas.Option.{none-some}
 use Rattle.semantics.specs.Ids.{OpId, is_same_id}
 use Rattle.semantics.specs.Elements.{Element, Field, Item, Name, is_same, is_under}
 use Rattle.semantics.specs.Context.{Context}
@@ -89,9 +90,6 @@ but_none ns s = (
   λ e. s.flagged e ∙ (λ i. filter (λ a. s.right e a refl i) (order_of (node_at ns e))),
   record { items = λ l a lt. s.empty_below l a refl lt; fields = λ e n low. s.fields e n refl low },
 )
-
-none_some : (j : ℕ) → ◌≡◌ {A = Option ℕ} None (Some j) → ⊥
-none_some j e = cc
 
 -- the flags, once that of the item id of e was set
 abbrev pub flag_at : (Element → OpId → Bool) → Element → OpId → Bool → Element → OpId → Bool
@@ -231,7 +229,7 @@ module _ (ns : List Node) (t : IsTree ns) (i : ℕ) (n m : Node) (g : slice_get 
 
     absent_set : (s : Bool) (l : Element) (a : OpId) (b : Bool) → is_same (Item l a) (Item e id) ≡ b → number ns (Item l a) ≡ None
         → s ≡ false → cond b shown s ≡ false
-    absent_set s l a true q p h = absurd (none_some j (sym p ∙ ap (number ns) (same_elements (Item l a) (Item e id) q) ∙ there))
+    absent_set s l a true q p h = absurd (none-some j (sym p ∙ ap (number ns) (same_elements (Item l a) (Item e id) q) ∙ there))
     absent_set s l a false q p h = h
 
     -- the item whose flag is set lies below the bound no longer, if it is shown
@@ -274,15 +272,11 @@ module _ (ns : List Node) (t : IsTree ns) (i : ℕ) (n m : Node) (g : slice_get 
           ∙ s.fields x k far (same_flagged fields x k ∙ low);
     }
 
-pub or_parts : (a b : Bool) → (a || b) ≡ false → (a ≡ false) × (b ≡ false)
-or_parts true b e = absurd (true≢false e)
-or_parts false b e = (refl, e)
-
 -- where a hop leads to no node, no flag can be wrong there
 pub but_lost : (ns : List Node) (x : Element) (off : Element → Bool) → number ns x ≡ None
     → ShownBut ns (λ y. is_same y x || off y) → ShownBut ns off
 but_lost ns x off none = but_more ns _ off (λ y j p u. elim (or_cases (is_same y x) (off y) u) [
-  | inl e ↦ absurd (none_some j (sym none ∙ ap (number ns) (sym (same_elements y x e)) ∙ p))
+  | inl e ↦ absurd (none-some j (sym none ∙ ap (number ns) (sym (same_elements y x e)) ∙ p))
   | inr o ↦ o
 ])
 

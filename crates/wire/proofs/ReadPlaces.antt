@@ -55,11 +55,6 @@ pub lost : (e : Element) (t : Option TheTag) (x : Entered) (xs : List Entered) (
 lost e t x xs last why (inl eq) = inl (rw (← eq) refl)
 lost e t x xs last why (inr eq) = inr (cc)
 
--- a list of length 0
-pub nothing_left : {X : Type 0} (xs : List X) → length xs ≡ 0 → xs ≡ []
-nothing_left [] h = refl
-nothing_left (x ∷ xs) h = absurd (omega arith)
-
 -- a refusal that is passed on
 pub passed_on : {T : Type 0} (r : Result T Refusal) (why : Refusal) (wanted : Result T Refusal) → IsErrAnd r (λ y. y ≡ why)
     → IsOrNoMemory {T = T} (Err why) wanted → IsOrNoMemory r wanted

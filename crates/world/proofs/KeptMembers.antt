@@ -1,16 +1,14 @@
 -- No step changes who the members are.
-use Rattle.std.proofs.Common.{◌≡◌, ℕ, zero, suc, Bool, true, false, ◌||◌, not, nat_le, nat_lt, List, [], ◌∷◌, length, Option, Some, None}
-use Rattle.std.proofs.Common.{Result, Ok, Err, refl, ap, ◌∙◌, slice_get}
+use Rattle.std.proofs.Common.{◌≡◌, ℕ, zero, suc, Bool, true, false, ◌||◌, not, nat_le, List, [], ◌∷◌, length, Option, Some, None}
+use Rattle.std.proofs.Common.{refl, ap, ◌∙◌, slice_get}
 use Rattle.ids.specs.declared.refusal.Refusal.{Refusal}
-use Rattle.semantics.specs.Operations.{Operation}
 use Rattle.semantics.specs.Stamped.{Stamped}
 use Rattle.semantics.specs.DocumentAnswer.{is_any}
-use Rattle.semantics.specs.Making.{Command, make}
-use Rattle.semantics.specs.LegalAnswer.{Request, OfCommand, OfPeer, Submitted}
-use Rattle.semantics.specs.Replica.{Replica, IsRunning, operations}
+use Rattle.semantics.specs.LegalAnswer.{OfCommand, OfPeer, Submitted}
+use Rattle.semantics.specs.Replica.{Replica}
 use Rattle.semantics.specs.Engine as engine
 use Rattle.semantics.specs.Engine.{Engine, Client, Cell, Given, Message, Hello, Bundle}
-use Rattle.semantics.specs.WriteSteps.{push, after_made, after_request, after_submission, take_oldest, take_submission, take_for, publish}
+use Rattle.semantics.specs.WriteSteps.{push, take_oldest, take_submission, take_for, publish}
 use Rattle.semantics.specs.WriteSteps.{give_oldest}
 use Rattle.semantics.specs.WriteSteps.{give, give_for, handle_all}
 use Rattle.semantics.specs.ReadSteps.{cell_at, poll, poll_cell, see, learn}
@@ -18,9 +16,9 @@ use Rattle.semantics.specs.PeerSteps.{names_members, answer_hello, refusal_in, u
 use Rattle.semantics.specs.PeerSteps.{nonmember_fault, receive_message}
 use Rattle.semantics.specs.World.{WorldAct, Push, Take, Publish, Give, WholeStep, Poll, Ask, Learn, SayHello, AnswerHello, Deliver, Lines}
 use Rattle.semantics.specs.World.{CountDropped, engine_step}
-use Rattle.semantics.proofs.ReceivedItems.{received}
 use Rattle.semantics.proofs.SoundEngines.{IsSound}
 use Rattle.semantics.proofs.SoundTaking.{took}
+use Rattle.semantics.proofs.ArrivedItems.{members_stay}
 use Rattle.world.proofs.SubmittedRequests.{push_keeps}
 
 -- F has the members of E
@@ -29,28 +27,13 @@ HasMembers E F = F.replica.members ≡ E.replica.members
 
 -- ---- writing
 
-made_keeps : (r : Replica) (x : Submitted) (c : Command) (m : Result Operation Refusal) → (after_made r x c m).members ≡ r.members
-made_keeps r x c (Err why) = refl
-made_keeps r x c (Ok o) = refl
-
-request_keeps : (r : Replica) (x : Submitted) (q : Request) → IsRunning r → (after_request r x q).members ≡ r.members
-request_keeps r x (OfCommand c) h = made_keeps r x c (make (operations r) r.own c)
-request_keeps r x (OfPeer s) h = (received r s h).members
-
-item_keeps : (r : Replica) (x : Submitted) → IsRunning r → (after_submission r x).members ≡ r.members
-item_keeps r x h = at_floor (nat_lt (length r.entries) x.floor) refl
-  where
-    at_floor : (b : Bool) → nat_lt (length r.entries) x.floor ≡ b → (after_submission r x).members ≡ r.members
-    at_floor true e = rw e refl
-    at_floor false e = rw e (request_keeps r x x.request h)
-
 take_keeps : (E : Engine) → IsSound E → HasMembers E (take_submission E).engine
 take_keeps E s = at_queue E.queue
   where
     at_test : (x : Submitted) (queue : List Submitted) (b : Bool) → (is_any E.due || nat_le E.batch (length E.handled)) ≡ b
         → HasMembers E (take_oldest E (x ∷ queue)).engine
     at_test x queue true e = rw e refl
-    at_test x queue false e = rw e (item_keeps E.replica x s.running)
+    at_test x queue false e = rw e (members_stay E.replica x s.running)
 
     at_queue : (queue : List Submitted) → HasMembers E (take_oldest E queue).engine
     at_queue [] = refl

@@ -15,7 +15,7 @@ use crate::client::Client;
 use crate::closing::close;
 use crate::opening::{Parts, open, prepare};
 use command::{ReaderToken, Ticket};
-use ids::{Config, ReplicaId};
+use ids::{Config, Refusal, ReplicaId};
 use replica::{Command, Expr, ExprStep as Hop, Key, Question, Reading, Scalar, Val};
 use schedules::{go_on, schedule};
 use std::marker::Brand;

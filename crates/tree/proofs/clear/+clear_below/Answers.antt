@@ -1,9 +1,10 @@
 -- First the fields, then the items, and last the node: clearing those that weren't reached yet gives what clearing all gives.
-use Rattle.std.proofs.Common.{◌≡◌, [], ℕ, ◌+◌, ◌<◌, ◌&&◌, ◌||◌, Bool, true, false, length, Some, refl, sym, ap, ◌∙◌, arith, get_or}
+use Rattle.std.proofs.Common.{◌≡◌, [], ℕ, ◌+◌, ◌<◌, ◌&&◌, ◌||◌, Bool, true, false, length, Some, sym, ap, ◌∙◌, arith, get_or}
 use Rattle.std.proofs.Common.{drop, is_some, min, nat_le, rules, subst, cond, slice_get}
 use Rattle.std.specs.FinMap.{find}
 use Rattle.std.specs.List.{filter}
 use Rattle.std.proofs.lemmas.List.{drop_all}
+use Rattle.std.proofs.lemmas.Bool.{or_parts}
 use Rattle.semantics.specs.Ids.{OpId, id_at, id_cmp}
 use Rattle.semantics.specs.Elements.{Element, Field, Item, Name, is_same}
 use Rattle.semantics.specs.Paths.{FieldHop}
@@ -19,7 +20,7 @@ use Rattle.tree.proofs.Clears.{clear_each, turn_field, turn_item, clear_whole}
 use Rattle.tree.proofs.EmptyBelow.{left_none, none_any, none_before, none_left, past_fields, past_empty, stands_behind, stands_more}
 use Rattle.tree.proofs.EmptyBelow.{stood_before}
 use Rattle.tree.proofs.Nested.{clear_empty, nested_clear}
-use Rattle.tree.proofs.Showing.{but_kept, but_wider, flags_children, flags_context, flags_number, flags_tree, empty_kept, lower, or_parts}
+use Rattle.tree.proofs.Showing.{but_kept, but_wider, flags_children, flags_context, flags_number, flags_tree, empty_kept, lower}
 use Rattle.tree.proofs.clear.+clear_below.Goals as goal
 
 pub returns-then-not-is_present-clause-cleared : goal.returns-then-not-is_present-clause-cleared

@@ -11,8 +11,8 @@ use Rattle.inbox.specs.operation.declared.op.Op.{Op}
 use Rattle.inbox.specs.operation.Alone.{alone_fault_of_op}
 use Rattle.inbox.specs.operation.Ops.{stamped_of}
 use Rattle.inbox.proofs.operation.PassedAlone.{width_alone}
+use Rattle.inbox.proofs.operation.StandingAlone.{alone_member}
 use Rattle.replica.specs.Replicas.{Running, IsReplica, IsNextReady, next_of, replica_of}
-use Rattle.replica.proofs.Received.{member_alone}
 use Rattle.replica.proofs.Draining.{begun, dropping_on, may_follow, has_room, appending_on, renamed, whole_where_none, whole_by_count}
 use Rattle.replica.proofs.replica.Replica.drain.Goals as goal
 
@@ -80,7 +80,7 @@ add-requires-clause-member g c =
     let w = dropping_on c.loop.invariant (running c.self.view_is c.self.invariant) c.next_ready.ensures.dropped in
     let new = c.next_ready.new.self in
     let alone = there (λ op. alone_fault_of_op new.document.table op ≡ None) c.in-Some.is c.in_ok-op.ensures.alone in
-    subst (λ ps. IsTrue (is_member ps c.in-Some.op.id.replica)) (sym w.holds.members) (member_alone new.document.table c.in-Some.op alone)
+    subst (λ ps. IsTrue (is_member ps c.in-Some.op.id.replica)) (sym w.holds.members) (alone_member new.document.table c.in-Some.op alone)
 
 pub add-requires-clause-width : goal.add-requires-clause-width
 add-requires-clause-width g c =

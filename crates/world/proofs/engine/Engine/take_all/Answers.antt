@@ -1,4 +1,5 @@
-use Rattle.std.proofs.Common.{◌≡◌, ◌+◌, ◌-◌, List, [], ◌∷◌, length, map, refl, sym, ap, ◌∙◌, subst, arith, eqb-true}
+use Rattle.std.proofs.Common.{◌≡◌, ◌+◌, ◌-◌, [], length, map, sym, ap, ◌∙◌, subst, arith, eqb-true}
+use Rattle.std.proofs.lemmas.List.{nil_from_length}
 use Rattle.semantics.specs.Engine.{Engine}
 use Rattle.semantics.specs.WriteSteps.{take_for, take_submission}
 use Rattle.replica.specs.operation.Submissions.{submitted_of}
@@ -10,17 +11,13 @@ use Rattle.world.proofs.WholeSteps.{take_next, take_none}
 use Rattle.world.proofs.Results.{on_err}
 use Rattle.world.proofs.engine.Engine.take_all.Goals as goal
 
-none_of : {X : Type 0} (xs : List X) → length xs ≡ 0 → xs ≡ []
-none_of [] e = refl
-none_of (x ∷ xs) e = absurd (omega arith)
-
 pub returns-then-is_empty-clause-engine : goal.returns-then-is_empty-clause-engine
 returns-then-is_empty-clause-engine c =
     let E : Engine = c.loop.self in
     let q = c.self-in-loop.inside.queue in
     let none : length q.items ≡ 0 = (let e = eqb-true _ _ (sym c.is_empty.ensures ∙ c.if-is_empty.true) in omega (arith, e)) in
     let empty : E.queue ≡ [] = ap (λ (F : Engine). F.queue) (sym c.self-in-loop.view_is)
-    ∙ ap (map (submitted_of c.self-in-loop.inside.handler.replica.document.table)) (none_of q.items none) in
+    ∙ ap (map (submitted_of c.self-in-loop.inside.handler.replica.document.table)) (nil_from_length q.items none) in
     sym (take_none (c.args.self.now.batch - c.loop.counter) E empty) ∙ c.loop.invariant.taken
 
 pub returns-in_err-take-clause-stopped : goal.returns-in_err-take-clause-stopped
