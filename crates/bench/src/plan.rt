@@ -5,7 +5,7 @@ ghost use Rattle.ids.specs.declared.refusal.Refusal.TheVariants.{BadConfig, NoMe
 ghost use Rattle.bench.specs.declared.plan.Stop.TheVariants.{Refused as StopRefused};
 ghost use Rattle.bench.specs.Plans.{is_plan};
 
-use ids::Refusal;
+use ids::{MOST_QUEUE, Refusal};
 use std::alloc::AllocError;
 
 /// How many turns a waiting loop may find nothing new, before it gives up.
@@ -35,7 +35,7 @@ impl Plan {
         if !(1..=16).contains(&replicas)
             || !(1..=16).contains(&writers)
             || !(1..=4_096).contains(&ops)
-            || !(1..=65_536).contains(&queue)
+            || !(1..=MOST_QUEUE).contains(&queue)
         {
             return Err(Refusal::BadConfig);
         }

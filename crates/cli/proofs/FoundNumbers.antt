@@ -7,6 +7,7 @@ use Rattle.clap.specs.Matches.{ReadsOne, one_text}
 use Rattle.clap.specs.Words.{Text, rows_of}
 use Rattle.clap.specs.declared.parser.matches.Found.{Found}
 use Rattle.clap.proofs.WalkLemmas.{one_text-rows}
+use Rattle.ids.specs.Configurations.{most_queue}
 use Rattle.bench.specs.Plans.{is_within}
 use Rattle.bench.specs.declared.plan.Plan.{Plan}
 use Rattle.cli.specs.Words.{IsNumber}
@@ -44,11 +45,11 @@ pub short_numbers : (plan : Plan)
     → (plan.replicas < 4294967296) × (plan.writers < 4294967296) × (plan.ops < 4294967296) × (plan.queue < 4294967296)
 short_numbers plan =
     let whole = and_parts (is_within 16 plan.replicas && is_within 16 plan.writers && is_within 4096 plan.ops)
-    (is_within 65536 plan.queue) plan.good in
+    (is_within most_queue plan.queue) plan.good in
     let three = and_parts (is_within 16 plan.replicas && is_within 16 plan.writers) (is_within 4096 plan.ops) whole.0 in
     let two = and_parts (is_within 16 plan.replicas) (is_within 16 plan.writers) three.0 in (
       short 16 plan.replicas two.0 (omega arith),
       short 16 plan.writers two.1 (omega arith),
       short 4096 plan.ops three.1 (omega arith),
-      short 65536 plan.queue whole.1 (omega arith),
+      short most_queue plan.queue whole.1 (omega arith),
     )

@@ -8,6 +8,7 @@ use Rattle.clap.specs.Kinds.{HasKind}
 use Rattle.clap.specs.Simple.{on_top}
 use Rattle.clap.specs.declared.builder.value_parser.ValueParser.TheVariants.{Unsigned}
 use Rattle.clap.specs.declared.error.kind.ErrorKind.TheVariants as kind
+use Rattle.ids.specs.Configurations.{most_queue}
 use Rattle.bench.specs.declared.plan.Plan.{Plan}
 use Rattle.cli.specs.declared.words.BadWords.{BadWords}
 use Rattle.cli.specs.declared.words.BadWords.TheVariants.{Refused, OutOfRange}
@@ -30,7 +31,7 @@ number_rule name most = record (new_rule name) { long = Some name; required = tr
 abbrev pub queue_rule : Rule
 queue_rule = record (new_rule (codes "queue")) {
   long = Some (codes "queue");
-  parser = Some (Unsigned 1 65536);
+  parser = Some (Unsigned 1 most_queue);
   defaults = codes "65536" ∷ [];
 }
 

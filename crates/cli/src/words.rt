@@ -13,6 +13,7 @@ use bench::Plan;
 use clap::builder::ValueParser;
 use clap::error::ErrorKind;
 use clap::{Arg, ArgMatches, Command, Error};
+use ids::MOST_QUEUE;
 use std::alloc::{AllocError, Global};
 use std::io::Write;
 
@@ -158,7 +159,7 @@ fn queue_option<'a>(alloc: Global) -> Arg<'a>
 {
     Arg::new(alloc, "queue")
         .long("queue")
-        .value_parser(ValueParser::unsigned(1, 65_536))
+        .value_parser(ValueParser::unsigned(1, u64::from(MOST_QUEUE)))
         .default_value("65536")
         .help("How many items wait in the queue of each, from 1 to 65,536")
 }

@@ -8,14 +8,14 @@ use Rattle.std.proofs.lemmas.Bool.{cases_Bool, eqb-true, leb-true, and_parts}
 use Rattle.ids.specs.declared.refusal.Refusal.{Refusal}
 use Rattle.ids.specs.declared.refusal.Refusal.TheVariants.{BadConfig, NoMemory}
 use Rattle.ids.specs.Members.{are_distinct, is_member}
-use Rattle.ids.specs.Configurations.{Configuration, are_members, is_from_one_to, is_within_limits}
+use Rattle.ids.specs.Configurations.{Configuration, are_members, is_from_one_to, is_within_limits, most_queue}
 
-pub no_memory_alone : {X : Type 0} (r : Result X Refusal) (n : ℕ) → 0 < n → n ≤ 65536 → (r ≡ Err BadConfig) ↔ ((n ≡ 0) ⊎ (65536 < n))
+pub no_memory_alone : {X : Type 0} (r : Result X Refusal) (n : ℕ) → 0 < n → n ≤ most_queue → (r ≡ Err BadConfig) ↔ ((n ≡ 0) ⊎ (most_queue < n))
     → IfErr r (λ why. (why ≡ BadConfig) ⊎ (why ≡ NoMemory)) → IfErr r (λ why. why ≡ NoMemory)
 no_memory_alone (Ok x) n low high iff e = e
 no_memory_alone (Err why) n low high iff (inl bad) = absurd (past (iff.0 (ap Err bad)))
   where
-    past : (n ≡ 0) ⊎ (65536 < n) → ⊥
+    past : (n ≡ 0) ⊎ (most_queue < n) → ⊥
     past (inl z) = omega (arith, z, low)
     past (inr z) = omega (arith, z, high)
 no_memory_alone (Err why) n low high iff (inr memory) = memory
@@ -43,14 +43,14 @@ pub record HasLimits (c : Configuration) : Type 0 where
   pub own : 1 ≤ c.own
   pub clients : IsFromOneTo 64 c.clients
   pub readers : IsFromOneTo 64 c.readers
-  pub queue : IsFromOneTo 65536 c.queue
+  pub queue : IsFromOneTo most_queue c.queue
   pub batch : IsFromOneTo 256 c.batch
 
 pub limits : (c : Configuration) → is_within_limits c ≡ true → HasLimits c
 limits c h =
     let t = and_parts _ (is_from_one_to 4294967295 c.serials) h in
     let u = and_parts _ (is_from_one_to 256 c.batch) t.0 in
-    let v = and_parts _ (is_from_one_to 65536 c.queue) u.0 in
+    let v = and_parts _ (is_from_one_to most_queue c.queue) u.0 in
     let w = and_parts _ (is_from_one_to 64 c.readers) v.0 in
     let x = and_parts _ (is_from_one_to 64 c.clients) w.0 in
     let y = and_parts (are_members c.members) (is_member c.members c.own) x.0 in
@@ -60,6 +60,6 @@ limits c h =
       own = leb-true 1 c.own (member_above_zero c.members c.own all.1 y.1);
       clients = from_one_to 64 c.clients x.1;
       readers = from_one_to 64 c.readers w.1;
-      queue = from_one_to 65536 c.queue v.1;
+      queue = from_one_to most_queue c.queue v.1;
       batch = from_one_to 256 c.batch u.1;
     }

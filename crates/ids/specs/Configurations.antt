@@ -14,6 +14,10 @@ pub record Configuration : Type 0 where
   pub batch : ℕ
   pub serials : ℕ
 
+-- the greatest capacity of a queue
+abbrev pub most_queue : ℕ
+most_queue = 65536
+
 -- n is from 1 to the limit
 abbrev pub is_from_one_to : ℕ → ℕ → Bool
 is_from_one_to limit n = nat_le 1 n && nat_le n limit
@@ -27,4 +31,4 @@ abbrev pub is_within_limits : Configuration → Bool
 is_within_limits c =
     are_members c.members && is_member c.members c.own
     && is_from_one_to 64 c.clients && is_from_one_to 64 c.readers
-    && is_from_one_to 65536 c.queue && is_from_one_to 256 c.batch && is_from_one_to 4294967295 c.serials
+    && is_from_one_to most_queue c.queue && is_from_one_to 256 c.batch && is_from_one_to 4294967295 c.serials

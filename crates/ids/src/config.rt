@@ -8,6 +8,9 @@ use crate::Refusal;
 use crate::members::{are_members, is_from_one_to};
 use std::marker::Model;
 
+/// The greatest capacity of a queue.
+pub const MOST_QUEUE: u32 = 65_536;
+
 /// The configuration of an engine. Contracts see the members as a list; `check` tests the limits.
 #[derive(Debug, Drop)]
 pub struct Config {
@@ -57,7 +60,7 @@ impl Config {
             && self.members.contains(&self.own)
             && is_from_one_to(64, self.clients)
             && is_from_one_to(64, self.readers)
-            && is_from_one_to(65_536, self.queue)
+            && is_from_one_to(MOST_QUEUE, self.queue)
             && is_from_one_to(256, self.batch)
             && is_from_one_to(4_294_967_295, self.serials);
         if is_within_limits {

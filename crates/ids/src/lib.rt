@@ -8,7 +8,7 @@ mod members;
 mod refusal;
 mod table;
 
-pub use config::Config;
+pub use config::{Config, MOST_QUEUE};
 pub use id::{MOST_COUNTER, OpId, ReplicaId, ids_are_ordered_by_counter};
 pub use refusal::Refusal;
 pub use table::ReplicaTable;
