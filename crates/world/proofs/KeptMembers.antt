@@ -18,7 +18,7 @@ use Rattle.semantics.specs.World.{WorldAct, Push, Take, Publish, Give, WholeStep
 use Rattle.semantics.specs.World.{CountDropped, engine_step}
 use Rattle.semantics.proofs.SoundEngines.{IsSound}
 use Rattle.semantics.proofs.SoundTaking.{took}
-use Rattle.semantics.proofs.ArrivedItems.{members_stay}
+use Rattle.semantics.proofs.ArrivedItems.{members_stay as submission_keeps}
 use Rattle.world.proofs.SubmittedRequests.{push_keeps}
 
 -- F has the members of E
@@ -33,7 +33,7 @@ take_keeps E s = at_queue E.queue
     at_test : (x : Submitted) (queue : List Submitted) (b : Bool) → (is_any E.due || nat_le E.batch (length E.handled)) ≡ b
         → HasMembers E (take_oldest E (x ∷ queue)).engine
     at_test x queue true e = rw e refl
-    at_test x queue false e = rw e (members_stay E.replica x s.running)
+    at_test x queue false e = rw e (submission_keeps E.replica x s.running)
 
     at_queue : (queue : List Submitted) → HasMembers E (take_oldest E queue).engine
     at_queue [] = refl
