@@ -136,7 +136,7 @@ class Build:
 def build():
     crates = crates_of_the_program()
     jobs = min(os.cpu_count() or 1, MOST_JOBS)
-    say(f"proving {len(crates)} crates with {jobs} jobs; from nothing, half an hour on four processors")
+    say(f"proving {len(crates)} crates with {jobs} jobs; from nothing, three quarters of an hour on four processors")
     state = Build(crates, jobs)
     with tempfile.TemporaryDirectory(prefix="jdoc-build-") as room:
         tops = [TOP]

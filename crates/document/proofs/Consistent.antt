@@ -10,7 +10,7 @@ use Rattle.semantics.specs.NamedIds.{vector_of}
 use Rattle.semantics.specs.Tables.{by_table, component, greatest_in}
 use Rattle.semantics.specs.Entries.{Entry, applied, stamped_in, stamped_entries}
 use Rattle.semantics.proofs.AppliedVectors.{at-vector_of, canonical-vector_of, legal_counters, greatest-vector_of, greatest_within}
-use Rattle.semantics.proofs.CanonicalVectors.{same_vectors}
+use Rattle.ids.proofs.CanonicalVectors.{same_vectors}
 use Rattle.semantics.proofs.NamedOperations.{legal}
 use Rattle.semantics.proofs.TableVectors.{at-by_table, canonical-by_table, greatest-by_table}
 use Rattle.semantics.proofs.EntryHistories.{length-applied}

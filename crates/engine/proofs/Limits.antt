@@ -10,7 +10,8 @@ use Rattle.ids.specs.declared.refusal.Refusal.TheVariants.{BadConfig, NoMemory}
 use Rattle.ids.specs.Members.{are_distinct, is_member}
 use Rattle.ids.specs.Configurations.{Configuration, are_members, is_from_one_to, is_within_limits, most_queue}
 
-pub no_memory_alone : {X : Type 0} (r : Result X Refusal) (n : ℕ) → 0 < n → n ≤ most_queue → (r ≡ Err BadConfig) ↔ ((n ≡ 0) ⊎ (most_queue < n))
+pub no_memory_alone : {X : Type 0} (r : Result X Refusal) (n : ℕ) → 0 < n → n ≤ most_queue
+    → (r ≡ Err BadConfig) ↔ ((n ≡ 0) ⊎ (most_queue < n))
     → IfErr r (λ why. (why ≡ BadConfig) ⊎ (why ≡ NoMemory)) → IfErr r (λ why. why ≡ NoMemory)
 no_memory_alone (Ok x) n low high iff e = e
 no_memory_alone (Err why) n low high iff (inl bad) = absurd (past (iff.0 (ap Err bad)))

@@ -2,3 +2,7 @@
 pub mod Rising
 pub mod InOrder
 pub mod Tables
+-- vectors
+pub mod CanonicalVectors
+pub mod RaisedVectors
+pub mod SearchedVectors

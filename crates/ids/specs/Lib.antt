@@ -3,3 +3,6 @@ pub mod Refusals
 pub mod Members
 pub mod Configurations
 pub mod Tables
+pub mod Ids
+pub mod Vectors
+pub mod SameVectors

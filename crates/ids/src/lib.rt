@@ -5,10 +5,12 @@
 mod config;
 mod id;
 mod members;
+mod named_vector;
 mod refusal;
 mod table;
 
 pub use config::{Config, MOST_QUEUE};
 pub use id::{MOST_COUNTER, OpId, ReplicaId, ids_are_ordered_by_counter};
+pub use named_vector::{MOST_NAMED, NamedVector};
 pub use refusal::Refusal;
 pub use table::ReplicaTable;

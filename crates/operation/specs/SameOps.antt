@@ -102,7 +102,8 @@ operation_itself o =
     and_from (is_same_id o.id o.id && pointwise nat_eq o.counters o.counters && is_same_place o.place o.place)
     (is_same_mutation o.mutation o.mutation)
     (and_from (is_same_id o.id o.id && pointwise nat_eq o.counters o.counters) (is_same_place o.place o.place)
-    (and_from (is_same_id o.id o.id) (pointwise nat_eq o.counters o.counters) (id_itself o.id) ((counters_decide o.counters o.counters).1 refl))
+    (and_from (is_same_id o.id o.id) (pointwise nat_eq o.counters o.counters) (id_itself o.id)
+    ((counters_decide o.counters o.counters).1 refl))
     ((place_decides o.place o.place).1 refl))
     (mutation_itself o.mutation)
 

@@ -29,7 +29,8 @@ no_member (q ∷ ps) p h =
     ap (λ b. b || is_member ps p) (ne_eqb q p (λ e. absurd (omega (arith, e, h)))) ∙ rest
 
 strange : (ps : List ℕ) (s : Stamped) → is_of_members ps (nonmember ps s) ≡ false
-strange ps s = and_left (is_member ps s.id.replica && (is_member ps (suc (greatest_in ps)) && true)) (items_of_members ps (element_of s.place))
+strange ps s = and_left (is_member ps s.id.replica && (is_member ps (suc (greatest_in ps)) && true))
+    (items_of_members ps (element_of s.place))
     (and_right (is_member ps s.id.replica) (is_member ps (suc (greatest_in ps)) && true)
     (ap (λ b. b && true) (no_member ps (suc (greatest_in ps)) (omega arith))))
 

@@ -4,9 +4,9 @@ use Rattle.semantics.specs.Operations.{Operation}
 use Rattle.semantics.specs.LegalHistory.{IsAmong, IsLegal, HaveSameOperations, greatest_of}
 use Rattle.semantics.specs.Vectors.{at, greatest, IsCanonical}
 use Rattle.semantics.specs.NamedIds.{greatest_counter, vector_of}
-use Rattle.semantics.proofs.RaisedVectors.{at-raise, canonical_raise, greatest-raise}
+use Rattle.ids.proofs.RaisedVectors.{at-raise, canonical_raise, greatest-raise}
 use Rattle.semantics.proofs.LegalFacts.{greatest_cases, counter_within}
-use Rattle.semantics.proofs.CanonicalVectors.{same_vectors}
+use Rattle.ids.proofs.CanonicalVectors.{same_vectors}
 use Rattle.semantics.proofs.SameCollections.{greatest_same}
 
 -- it names each replica's greatest counter

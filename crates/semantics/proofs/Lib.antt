@@ -22,9 +22,7 @@ pub mod VectorCounters
 pub mod NamedOperations
 pub mod LooseApply
 pub mod SameStamped
-pub mod RaisedVectors
 pub mod TableVectors
-pub mod CanonicalVectors
 pub mod AppliedVectors
 pub mod ColumnComparison
 -- the checks decide

@@ -107,7 +107,8 @@ untouched K o q r other h = record {
     made x (inl f) g = absurd (other (ap (λ (y : Operation). y.id.replica) (sym f) ∙ g))
     made x (inr m) g = h.made x m g
 
--- Whatever the replicas of a world did, one legal history holds what each of them has. A make puts its operation in front of that history, where
+-- Whatever the replicas of a world did, one legal history holds what each of them has. A make puts its operation in front of that
+-- history, where
 -- it may follow, since its maker has all of its own and the history of each other replica only begins further back; what comes is in the
 -- history already, since somebody has it.
 pub one_world : (members : ℕ → List ℕ) (W : Replicas) → IsReached members W

@@ -5,7 +5,7 @@ use Rattle.semantics.specs.Ids.{id_at}
 use Rattle.semantics.specs.Vectors.{at, greatest, raise, IsCanonical}
 use Rattle.semantics.specs.Tables.{component, greatest_in, by_table}
 use Rattle.ids.specs.Members.{is_member, AreDistinct}
-use Rattle.semantics.proofs.RaisedVectors.{at-raise, canonical_raise, greatest-raise}
+use Rattle.ids.proofs.RaisedVectors.{at-raise, canonical_raise, greatest-raise}
 
 at_absent : (ps cs : List ℕ) (p : ℕ) → (is_member ps p ≡ true → ⊥) → at (by_table ps cs) p ≡ 0
 at_absent [] cs p h = refl

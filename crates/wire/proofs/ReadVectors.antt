@@ -6,7 +6,7 @@ use Rattle.ids.specs.Members.{AreDistinct}
 use Rattle.semantics.specs.Ids.{OpId}
 use Rattle.semantics.specs.Vectors.{Vector, at, AreAbove, IsCanonical}
 use Rattle.semantics.specs.Tables.{by_table, component}
-use Rattle.semantics.proofs.CanonicalVectors.{same_vectors}
+use Rattle.ids.proofs.CanonicalVectors.{same_vectors}
 use Rattle.semantics.proofs.TableVectors.{at-by_table, canonical-by_table}
 
 -- a column of zeros names nothing

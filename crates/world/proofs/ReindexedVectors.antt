@@ -10,7 +10,7 @@ use Rattle.ids.proofs.Tables.{all_above}
 use Rattle.semantics.specs.Ids.{OpId}
 use Rattle.semantics.specs.Vectors.{Vector}
 use Rattle.semantics.specs.Tables.{by_table, component}
-use Rattle.semantics.proofs.CanonicalVectors.{same_vectors}
+use Rattle.ids.proofs.CanonicalVectors.{same_vectors}
 use Rattle.semantics.proofs.TableVectors.{at-by_table, canonical-by_table}
 use Rattle.replica.proofs.operation.AloneFaults.{all-by_table, members_all}
 use Rattle.wire.proofs.ReadVectors.{by_table-more}

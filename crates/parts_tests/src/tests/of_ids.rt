@@ -4,3 +4,4 @@ mod config;
 mod id;
 mod refusal;
 mod table;
+mod vectors;

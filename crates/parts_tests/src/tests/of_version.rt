@@ -3,11 +3,11 @@
 ghost use Rattle.std.specs.Prelude.{◌≡◌, ◌<◌, length, IfOk};
 ghost use Rattle.std.specs.List.{All};
 
-use fixtures::vector;
+use fixtures::{Pair, id_of, pair_of, vector};
 use std::alloc::Global;
 use std::process::Abort;
 use std::test::Fail;
-use version::{IdColumns, VersionVector};
+use version::{AppliedVector, IdColumns, VersionVector};
 
 /// The greatest counter, and the one after it.
 fn greatest(vector: &VersionVector) -> (u64, Option<u64>) {
@@ -296,6 +296,55 @@ fn assert_last_kept(rt: &impl Abort, alloc: Global, most: u64) -> Result<(), Fai
 fn columns_of_many_words(rt: HostRuntime) -> Result<(), Fail> {
     for most in [8, 9, 63, 64, 65, 200] {
         assert_last_kept(&rt, rt.alloc(), most)?;
+    }
+    Ok(())
+}
+
+/// A vector that is raised to these ids, one after another, of which there are at most 8.
+fn raised_to(alloc: Global, pairs: &[Pair]) -> Result<AppliedVector, Fail> {
+    let mut vector = AppliedVector::new(alloc);
+    for pair in pairs {
+        let id = id_of(*pair)?;
+        vector.reserve_one()?;
+        if id.counter == 0 || vector.ids().len() >= 8 {
+            return Err("no id of an operation".into());
+        }
+        vector.raise(id);
+    }
+    Ok(vector)
+}
+
+/// Ids that a vector is raised to, its pairs then, and the counter that comes next.
+type Applied = (&'static [Pair], &'static [Pair], u64);
+
+const APPLIED: [Applied; 6] = [
+    (&[], &[], 1),
+    (&[(3, 7)], &[(3, 7)], 4),
+    (&[(3, 7), (1, 9), (2, 5)], &[(2, 5), (3, 7), (1, 9)], 4),
+    (&[(1, 5), (2, 5), (4, 5)], &[(4, 5)], 5),
+    (&[(4, 5), (2, 5), (1, 6)], &[(4, 5), (1, 6)], 5),
+    (
+        &[(1, 2), (1, 3), (1, 1), (2, 3), (5, 1)],
+        &[(5, 1), (1, 2), (2, 3)],
+        6,
+    ),
+];
+
+fn assert_applied(rt: &impl Abort, alloc: Global, row: Applied) -> Result<(), Fail> {
+    let (raised, want, next) = row;
+    let vector = raised_to(alloc, raised)?;
+    assert_eq!(rt; vector.ids().len(), want.len(), "{raised:?}");
+    for (id, pair) in vector.ids().iter().zip(want) {
+        assert_eq!(rt; pair_of(*id), *pair, "{raised:?}");
+    }
+    assert_eq!(rt; vector.successor(), Some(next), "{raised:?}");
+    Ok(())
+}
+
+#[test]
+fn applied_ids_raise_their_replicas(rt: HostRuntime) -> Result<(), Fail> {
+    for row in APPLIED {
+        assert_applied(&rt, rt.alloc(), row)?;
     }
     Ok(())
 }

@@ -1,8 +1,8 @@
 -- Two canonical vectors with the same counters are one.
 use Rattle.std.proofs.Common.{◌≡◌, ◌⊎◌, inl, inr, ℕ, ◌<◌, ◌≤◌, max, ◌==◌, [], ◌∷◌, refl, sym, ap, ◌∙◌, arith}
 use Rattle.std.proofs.lemmas.Bool.{eq-eqb, ne_eqb, cond-true, cond-false}
-use Rattle.semantics.specs.Ids.{OpId}
-use Rattle.semantics.specs.Vectors.{Vector, at, AreAbove, IsCanonical}
+use Rattle.ids.specs.Ids.{OpId}
+use Rattle.ids.specs.Vectors.{Vector, at, AreAbove, IsCanonical}
 
 above_absent : (p : ℕ) (v : Vector) → AreAbove p v → (q : ℕ) → q ≤ p → at v q ≡ 0
 above_absent p [] h q le = refl
@@ -18,7 +18,7 @@ at_below : (a : OpId) (v : Vector) (q : ℕ) → q < a.replica → AreAbove a.re
 at_below a v q le h = cond-false (a.replica == q) _ _ (ne_eqb a.replica q (λ e. absurd (omega arith)))
     ∙ above_absent a.replica v h q (omega arith)
 
-at_later : (a : OpId) (v : Vector) (q : ℕ) → a.replica < q → at (a ∷ v) q ≡ at v q
+pub at_later : (a : OpId) (v : Vector) (q : ℕ) → a.replica < q → at (a ∷ v) q ≡ at v q
 at_later a v q lt = cond-false (a.replica == q) _ _ (ne_eqb a.replica q (λ e. absurd (omega arith)))
 
 order_cases : (m n : ℕ) → (m < n) ⊎ ((m ≡ n) ⊎ (n < m))

@@ -1,9 +1,15 @@
 -- One more id in a vector.
-use Rattle.std.proofs.Common.{◌≡◌, ◌≢◌, ℕ, ◌<◌, ◌≤◌, max, Bool, true, false, cond, ◌==◌, [], ◌∷◌, refl, sym, ap, ◌∙◌, arith, nat_lt}
+use Rattle.std.proofs.Common.{◌≡◌, ◌≢◌, ℕ, zero, suc, ◌<◌, ◌≤◌, max, Bool, true, false, cond, ◌==◌, [], ◌∷◌, length, get_or, set, Result}
+use Rattle.std.proofs.Common.{Ok, Err, refl, sym, ap, ◌∙◌, arith, nat_lt}
+use Rattle.std.specs.List.{insert}
+use Rattle.std.specs.List.Sorted.{IsBinarySearchResult}
+use Rattle.std.specs.Ordering.{nat_cmp}
+use Rattle.std.specs.Result.{MatchResult}
 use Rattle.std.proofs.Math.Nat.{le-max_left}
-use Rattle.std.proofs.lemmas.Bool.{ltb-true, ltb-false, eqb-true, eqb-false}
-use Rattle.semantics.specs.Ids.{OpId, id_at}
-use Rattle.semantics.specs.Vectors.{Vector, at, greatest, raise, AreAbove, IsCanonical}
+use Rattle.std.proofs.lemmas.Bool.{ltb-true, ltb-false, lt-ltb, le-ltb, eqb-true, eqb-false, eq-eqb, ne_eqb}
+use Rattle.ids.specs.Ids.{OpId, id_at}
+use Rattle.ids.specs.Vectors.{Vector, at, greatest, raise, AreAbove, IsCanonical}
+use Rattle.ids.proofs.SearchedVectors.{above_at, searched_place}
 
 max_swap : (b e : Bool) (c d m : ℕ)
     → cond b (max c (cond e (max d m) m)) (cond e (max d m) m) ≡ cond e (max d (cond b (max c m) m)) (cond b (max c m) m)
@@ -86,3 +92,57 @@ canonical_raise a (b ∷ v) n h = at_tests (nat_lt a.replica b.replica) refl (a.
           (lt_where_other b.replica a.replica (ltb-false a.replica b.replica is) (eqb-false a.replica b.replica also)) h.1,
       rest,
     )
+
+-- a raised vector names at most one replica more
+pub length-raise : (a : OpId) (v : Vector) → length (raise a v) ≤ suc (length v)
+length-raise a [] = omega arith
+length-raise a (b ∷ v) = at_tests (nat_lt a.replica b.replica) (a.replica == b.replica) (length-raise a v)
+  where
+    at_tests : (t e : Bool) → length (raise a v) ≤ suc (length v)
+        → length (cond t (a ∷ b ∷ v) (cond e (id_at (max a.counter b.counter) b.replica ∷ v) (b ∷ raise a v))) ≤ suc (suc (length v))
+    at_tests true e rest = omega arith
+    at_tests false true rest = omega arith
+    at_tests false false rest = omega (arith, rest)
+
+-- ---- where it is raised
+
+-- where its replica stands, the greater counter does
+pub raise_there : (a : OpId) (v : Vector) → IsCanonical v → (i : ℕ) (d : OpId) → i < length v → (get_or v i d).replica ≡ a.replica
+    → raise a v ≡ set v i (id_at (max a.counter (get_or v i d).counter) (get_or v i d).replica)
+raise_there a [] h i d l e = absurd (omega arith)
+raise_there a (b ∷ v) h zero d l e =
+    rw (le-ltb a.replica b.replica (omega (arith, e)), eq-eqb a.replica b.replica (sym e)) refl
+raise_there a (b ∷ v) h (suc i) d l e =
+    let above : b.replica < (get_or v i d).replica = above_at b.replica v h.1 i d (omega arith) in
+    rw (le-ltb a.replica b.replica (omega (arith, above, e)), ne_eqb a.replica b.replica (λ s. omega (arith, s, above, e)))
+    (ap (λ w. b ∷ w) (raise_there a v h.2 i d (omega arith) e))
+
+-- where it stands nowhere, the id goes between those below it and those above
+pub raise_between : (a : OpId) (v : Vector) (i : ℕ) → i ≤ length v → ((j : ℕ) (d : OpId) → j < i → (get_or v j d).replica < a.replica)
+    → ((d : OpId) → i < length v → a.replica < (get_or v i d).replica) → raise a v ≡ insert v i a
+raise_between a [] zero l below above = refl
+raise_between a [] (suc i) l below above = absurd (omega arith)
+raise_between a (b ∷ v) zero l below above = rw (lt-ltb a.replica b.replica (above b (omega arith))) refl
+raise_between a (b ∷ v) (suc i) l below above =
+    let first : b.replica < a.replica = below zero b (omega arith) in
+    rw (le-ltb a.replica b.replica (omega (arith, first)), ne_eqb a.replica b.replica (λ s. omega (arith, s, first)))
+    (ap (λ w. b ∷ w) (raise_between a v i (omega arith) (λ j d k. below (suc j) d (omega arith)) (λ d k. above d (omega arith))))
+
+-- so a search by replica says what raising does
+pub raise_searched : (a : OpId) (v : Vector) → IsCanonical v → (r : Result ℕ ℕ)
+    → IsBinarySearchResult (λ (b : OpId). nat_cmp b.replica a.replica) v r
+    → MatchResult r
+    (λ i. i < length v → (d : OpId) → raise a v ≡ set v i (id_at (max a.counter (get_or v i d).counter) (get_or v i d).replica))
+    (λ i. i ≤ length v → raise a v ≡ insert v i a)
+raise_searched a v h (Ok i) found = λ l d. raise_there a v h i d l (searched_place v a.replica h (Ok i) found d)
+raise_searched a v h (Err i) found =
+    let place = searched_place v a.replica h (Err i) found in λ l. raise_between a v i l place.0 place.1
+
+-- the pair with the greater counter in its place
+pub raise_in_place : (a : OpId) (v : Vector) (i : ℕ) (b : OpId) (c : ℕ) → IsCanonical v
+    → IsBinarySearchResult (λ (x : OpId). nat_cmp x.replica a.replica) v (Ok i) → i < length v → b ≡ get_or v i b
+    → c ≡ max a.counter b.counter
+    → set v i (record { counter = c; replica = b.replica }) ≡ raise a v
+raise_in_place a v i b c h found l at most =
+    (λ j. set v i (record { counter = (most ∙ ap (λ (x : OpId). max a.counter x.counter) at) j; replica = (at j).replica }))
+    ∙ sym (raise_searched a v h (Ok i) found l b)
