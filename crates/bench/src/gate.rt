@@ -22,7 +22,7 @@ pub trait Gate {
         client: &mut Client<N>,
         number: u32,
     ) -> Result<bool, Refusal>
-        ensures { client.new ≡ record client.old { seen = client.new.seen; read = client.new.read } };
+        ensures { client.new ≡ record client.old { seen = client.new.seen; read = client.new.read; reads = client.new.reads } };
 }
 
 /// A gate before number 1: it opens once the client sees a value at the key, if there is one. All other numbers pass.
@@ -51,7 +51,7 @@ fn sees_values<N: EngineName>(
     client: &mut Client<N>,
     key: &Key,
 ) -> Result<bool, Refusal>
-    ensures { client.new ≡ record client.old { seen = client.new.seen; read = client.new.read } }
+    ensures { client.new ≡ record client.old { seen = client.new.seen; read = client.new.read; reads = client.new.reads } }
 {
     match client.ask(alloc, &values_at(alloc, key)?)? {
         Reading::Values(values) => Ok(!values.is_empty()),

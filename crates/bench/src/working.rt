@@ -33,7 +33,14 @@ pub fn worker<N: EngineName, R: Wait, G: Gate>(
     ensures requests { (n : ℕ) × (n ≤ ops) × (result ≡ Ok true → n ≡ ops)
         × (requests_by N.table client.new ≡ requests_by N.table client.old ++ assignments key.now n) }
     ensures read { result ≡ Ok true → 0 < ops → Shows client.new.seen key.now (ops - 1) }
-    ensures same { client.new ≡ record client.old { seen = client.new.seen; read = client.new.read; kept = client.new.kept } }
+    ensures same { client.new
+        ≡ record client.old {
+          found_full = client.new.found_full;
+          seen = client.new.seen;
+          read = client.new.read;
+          reads = client.new.reads;
+          kept = client.new.kept;
+        } }
 {
     for number in 0..ops {
         wait_at(gate, alloc, client, number)?;
@@ -53,7 +60,7 @@ fn wait_at<N: EngineName, G: Gate>(
     client: &mut Client<N>,
     number: u32,
 ) -> Result<(), Stop>
-    ensures { client.new ≡ record client.old { seen = client.new.seen; read = client.new.read } }
+    ensures { client.new ≡ record client.old { seen = client.new.seen; read = client.new.read; reads = client.new.reads } }
 {
     for _ in 0..MOST_TURNS {
         if gate.may(alloc, client, number)? {
@@ -74,8 +81,8 @@ fn submit<N: EngineName, R: Wait>(
 ) -> Result<Ticket, Stop>
     ensures requests { MatchResult result
         (λ _. requests_by N.table client.new ≡ requests_by N.table client.old ++ OfCommand (assignment key.now number) ∷ [])
-        (λ _. client.new ≡ client.old) }
-    ensures same { client.new ≡ record client.old { kept = client.new.kept } }
+        (λ _. requests_by N.table client.new ≡ requests_by N.table client.old) }
+    ensures same { client.new ≡ record client.old { found_full = client.new.found_full; kept = client.new.kept } }
 {
     for _ in 0..MOST_TURNS {
         match client.submit(rt, alloc, assign(alloc, key, number)?) {
@@ -118,7 +125,7 @@ fn is_read<N: EngineName>(
     number: u32,
 ) -> Result<bool, Refusal>
     ensures read { result ≡ Ok true → Shows client.new.seen key.now number }
-    ensures same { client.new ≡ record client.old { seen = client.new.seen; read = client.new.read } }
+    ensures same { client.new ≡ record client.old { seen = client.new.seen; read = client.new.read; reads = client.new.reads } }
 {
     match client.ask(alloc, &values_at(alloc, key)?)? {
         Reading::Values(values) => Ok(is_number_alone(values.as_slice(), number)),

@@ -1,7 +1,7 @@
 //! Answers: by its type each is legal for the submission that it names, in the history of its notice.
 
 ghost use Rattle.std.specs.Prelude.{◌≡◌, Some, None, MatchOption};
-ghost use Rattle.semantics.specs.PeerAnswers.{IsAnswer};
+ghost use Rattle.semantics.specs.PeerAnswers.{IsAnswerWith};
 ghost use Rattle.published.specs.operation.Submissions.{reply_of, submitted_of};
 
 use published::{EngineName, Notice, Reply, Shared, Submission};
@@ -15,7 +15,8 @@ pub struct Given<N: EngineName> {
 }
 
 /// What a client submitted and, once it is filled in, what it is answered. Contracts see the submission, the reply and the history; an
-/// answer that isn't legal for its submission can't be made. The submission is shared with the client that waits for the answer.
+/// answer that isn't legal for its submission can't be made, nor a refusal of what stands in that history. The submission is shared with
+/// the client that waits for the answer.
 #[derive(Drop)]
 pub struct Answer<N: EngineName> {
     submission: Shared<Submission>,
@@ -26,7 +27,7 @@ impl<N: EngineName> Model for Answer<N> {
     ghost use Rattle.std.specs.Prelude.{IfSome, option_map};
     ghost use Rattle.std.specs.Coded.{codes};
     ghost use Rattle.semantics.specs.Codes.{coded_element};
-    ghost use Rattle.semantics.specs.PeerAnswers.{IsAnswer};
+    ghost use Rattle.semantics.specs.PeerAnswers.{IsAnswerWith};
     ghost use Rattle.published.specs.operation.Submissions.{reply_of, submitted_of};
     ghost use Rattle.command.specs.Answers.{AnswerCell};
 
@@ -41,12 +42,12 @@ impl<N: EngineName> Model for Answer<N> {
     } };
 
     ghost invariant = { λ a. IfSome a.given
-        (λ g. IsAnswer N.own N.table g.notice (submitted_of N.table a.submission) (reply_of g.reply)) };
+        (λ g. IsAnswerWith N.own N.table g.notice (submitted_of N.table a.submission) (reply_of g.reply)) };
 }
 
 impl<N: EngineName> Answer<N> {
     /// The answer to a submission, not filled in yet.
-    pub fn blank(submission: Shared<Submission>) -> Answer<N>
+    pub(crate) fn blank(submission: Shared<Submission>) -> Answer<N>
         ensures { (result.submission ≡ submission) × (result.given ≡ None) }
     {
         Answer {
@@ -63,8 +64,8 @@ impl<N: EngineName> Answer<N> {
     }
 
     /// Fills in a reply that is legal in the notice's history.
-    pub fn fill(&mut self, reply: Reply, notice: Notice<N>)
-        requires { IsAnswer N.own N.table notice (submitted_of N.table self.old.submission) (reply_of reply) }
+    pub(crate) fn fill(&mut self, reply: Reply, notice: Notice<N>)
+        requires { IsAnswerWith N.own N.table notice (submitted_of N.table self.old.submission) (reply_of reply) }
         ensures { (self.new.submission ≡ self.old.submission) × (self.new.given ≡ Some (record { reply = reply; history = notice })) }
     {
         self.given = Some(Given { reply, notice });
@@ -74,7 +75,7 @@ impl<N: EngineName> Answer<N> {
     pub fn given(&self) -> Option<&Given<N>>
         ensures { MatchOption result (self.now.given ≡ None)
             (λ g. (self.now.given ≡ Some (record { reply = g.now.reply; history = g.now.notice }))
-            × IsAnswer N.own N.table g.now.notice (submitted_of N.table self.now.submission) (reply_of g.now.reply)) }
+            × IsAnswerWith N.own N.table g.now.notice (submitted_of N.table self.now.submission) (reply_of g.now.reply)) }
     {
         self.given.as_ref()
     }

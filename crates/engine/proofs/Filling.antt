@@ -6,7 +6,7 @@ use Rattle.semantics.specs.Entries.{Entry, IsAbove}
 use Rattle.semantics.specs.LegalAnswer.{Submitted}
 use Rattle.semantics.specs.Replica.{IsRunning}
 use Rattle.semantics.specs.Engine.{Handled}
-use Rattle.semantics.specs.PeerAnswers.{IsAnswer}
+use Rattle.semantics.specs.PeerAnswers.{IsAnswerWith}
 use Rattle.semantics.specs.Handling.{Handler, Handles}
 use Rattle.semantics.specs.Batches.{ComeFrom, AreAnswers, IsBatch, items_of}
 use Rattle.semantics.specs.WorldHistory.{of_client}
@@ -85,12 +85,12 @@ answers_front p ps G [] h a = tt
 answers_front p ps G (g ∷ hs) h a = (a.0, answers_front p ps G hs h a.1)
 
 answers_last : (p : ℕ) (ps : List ℕ) (G : List Entry) (hs : List Handled) (h : Handled) → AreAnswers p ps G (hs ++ h ∷ [])
-    → IsAnswer p ps G h.submitted h.reply
+    → IsAnswerWith p ps G h.submitted h.reply
 answers_last p ps G [] h a = a.0
 answers_last p ps G (g ∷ hs) h a = answers_last p ps G hs h a.1
 
 pub answers_pop : (p : ℕ) (ps : List ℕ) (G : List Entry) (whole rest : List Handled) (h : Handled) → whole ≡ rest ++ h ∷ []
-    → AreAnswers p ps G whole → AreAnswers p ps G rest × IsAnswer p ps G h.submitted h.reply
+    → AreAnswers p ps G whole → AreAnswers p ps G rest × IsAnswerWith p ps G h.submitted h.reply
 answers_pop p ps G whole rest h is a =
     let k = subst (λ (l : List Handled). AreAnswers p ps G l) is a in (answers_front p ps G rest h k, answers_last p ps G rest h k)
 

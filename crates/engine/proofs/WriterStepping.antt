@@ -25,6 +25,7 @@ module _ (table : List ℕ) (w m : Writer) (t : IsWriterStep table w m.held m) (
           took = t.took;
           handled = t.handled;
           few = t.few;
+          empty = t.empty;
         },
         (
           s.0,

@@ -4,4 +4,7 @@ pub mod Clients
 -- Handed on from the crates below, for users of this one.
 pub use Rattle.replica.specs.value
 pub use Rattle.replica.specs.operation
+pub use Rattle.replica.specs.oplog
 pub use Rattle.replica.specs.document
+pub use Rattle.command.specs.published
+pub use Rattle.command.specs as command

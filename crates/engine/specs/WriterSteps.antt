@@ -1,6 +1,7 @@
 -- What a step of the writer does.
-use Rattle.std.specs.Prelude.{◌≡◌, ◌<◌, ◌≤◌, ℕ, List, [], ◌++◌, length, map}
+use Rattle.std.specs.Prelude.{◌≡◌, ◌<◌, ◌≤◌, ℕ, false, cond, nat_lt, List, [], ◌++◌, length, map}
 use Rattle.atomic_table.specs.Seated.{TableId}
+use Rattle.ids.specs.Configurations.{Configuration}
 use Rattle.semantics.specs.Entries.{Entry}
 use Rattle.semantics.specs.LegalAnswer.{Submitted}
 use Rattle.semantics.specs.Replica.{IsRunning}
@@ -8,21 +9,39 @@ use Rattle.semantics.specs.Engine.{Handled}
 use Rattle.semantics.specs.Handling.{Handler, Resumes, Runs}
 use Rattle.semantics.specs.Batches.{ComeFrom, AreAnswers, items_of}
 use Rattle.semantics.specs.Publication.{Publication, Holds}
+use Rattle.semantics.specs.World.{opened_engine}
 use Rattle.replica.specs.operation.declared.submission.Submission.{Submission}
 use Rattle.replica.specs.operation.Submissions.{submitted_of}
 use Rattle.command.specs.declared.hand.Hand.{Hand}
+use Rattle.command.specs.Counts.{one_more}
 use Rattle.engine.specs.declared.writer.Step.{Step}
 use Rattle.engine.specs.declared.writer.Step.TheVariants.{Idle, Published, Held}
 
--- a writer: its queue and batch, the replica that it works on, what is published of that, all that it took so far, and what is
--- handled and not answered
+-- a writer: its queue, the number of its clients, its batch, the replica that it works on, what is published of that, all that it
+-- took so far, how often it found
+-- the queue empty, and what is handled and not answered
 pub record Writer : Type 0 where
   pub queue : TableId
+  pub clients : ℕ
   pub batch : ℕ
   pub handler : Handler
   pub published : List Entry
   pub took : List Submission
+  pub found_empty : ℕ
   pub held : List Handled
+
+-- the writer of a new engine, with this queue: its replica is that of an engine that is opened, and nothing was taken or published
+abbrev pub new_writer : Configuration → TableId → Writer
+new_writer config queue = record {
+  queue = queue;
+  clients = config.clients;
+  batch = config.batch;
+  handler = record { replica = (opened_engine config).replica; behind = false };
+  published = [];
+  took = [];
+  found_empty = 0;
+  held = [];
+}
 
 -- what publishes the entries of the engine with this number and these members
 abbrev pub publication_of : ℕ → List ℕ → Publication → Publication
@@ -44,7 +63,7 @@ pub record IsWriter (own : ℕ) (table : List ℕ) (publication : Publication) (
   pub positive : 0 < batch
 
 -- a step that began with nothing held went on with a drain that had ended early, and then took these submissions, at most a batch, which it
--- handled one after another, none skipped
+-- handled one after another, none skipped. It took fewer than a batch only where it found the queue empty
 pub record IsWriterStep (table : List ℕ) (w : Writer) (hs : List Handled) (v : Writer) : Type 0 where
   pub rested : Handler
   pub resumes : Resumes w.handler rested
@@ -53,6 +72,7 @@ pub record IsWriterStep (table : List ℕ) (w : Writer) (hs : List Handled) (v :
   pub took : v.took ≡ w.took ++ items
   pub handled : items_of hs ≡ submitted_in table items
   pub few : length hs ≤ w.batch
+  pub empty : v.found_empty ≡ cond (nat_lt (length hs) w.batch) (one_more w.found_empty) w.found_empty
 
 -- how such a step ends
 abbrev pub Ends : Writer → List Handled → Step → Writer → Type 0

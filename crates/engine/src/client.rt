@@ -1,11 +1,11 @@
 //! Clients: they submit commands and operations of peers, poll for the answers, and ask.
 
 ghost use Rattle.std.specs.Prelude.{◌≡◌, ◌+◌, ◌-◌, ◌<◌, ◌≤◌, ◌⊎◌, ◌++◌, ◌∷◌, ◌↔◌, [], List, length, Option, Some, None, Ok, Err, IfOk};
-ghost use Rattle.std.specs.Prelude.{IfErr, IfSome, MatchBool, MatchResult, slice_get, slice_set};
+ghost use Rattle.std.specs.Prelude.{IfErr, IfSome, MatchBool, MatchOption, MatchResult, option_map, slice_get, slice_set};
 ghost use Rattle.std.specs.Arc.{arc_value};
 ghost use Rattle.crossbeam_queue.specs.Passes.{ruled_capacity, view as pass_view};
 ghost use Rattle.ids.specs.declared.refusal.Refusal.TheVariants.{Foreign, NoMemory, NoReading, QueueFull, SerialEnd};
-ghost use Rattle.semantics.specs.Entries.{IsEntryHistory, applied};
+ghost use Rattle.semantics.specs.Entries.{Entry, IsEntryHistory, applied};
 ghost use Rattle.semantics.specs.WorldHistory.{BeginsWith};
 ghost use Rattle.semantics.specs.Questions.{Question as TheQuestion, Refused};
 ghost use Rattle.semantics.specs.LegalAnswer.{Answered, OfDocument, reading_of};
@@ -13,21 +13,21 @@ ghost use Rattle.semantics.specs.PeerAnswers.{IsAnswer};
 ghost use Rattle.semantics.specs.View.{view};
 ghost use Rattle.replica.specs.document.Documents.{HasWidthOf, asked_of, said_by};
 ghost use Rattle.replica.specs.operation.declared.submission.Submission.{Submission as ASubmission};
+ghost use Rattle.replica.specs.operation.declared.submission.Reply.{Reply as AReply};
 ghost use Rattle.replica.specs.operation.declared.submission.Request.{Request as ARequest};
 ghost use Rattle.replica.specs.operation.declared.submission.Request.TheVariants.{Command as OfCommand, Peer as OfPeer};
 ghost use Rattle.replica.specs.operation.Submissions.{reply_of, submitted_of};
 ghost use Rattle.command.specs.InOrder.{sender_hand};
 ghost use Rattle.command.specs.Answers.{Given};
-ghost use Rattle.engine.specs.Clients.{IsMine, Polls, submissions_by, with_request};
+ghost use Rattle.engine.specs.Clients.{HasNotice, IsAnswered, IsMine, Looks, after_refusal, submissions_by, with_request};
 
 use crate::pending::Pending;
-use command::{Answer, EngineName, Envelope, Notice, ReaderToken, Sender, Taker, Ticket};
+use command::{EngineName, Envelope, Notice, ReaderToken, Sender, Taker, Ticket};
 use ids::{Refusal, ReplicaId, ReplicaTable};
-use once_cell::race::OnceBox;
 use replica::{Command, Op, Question, Reading, Reply, Request, Shared, Submission};
 use std::alloc::{AllocError, Global};
 use std::marker::Model;
-use std::sync::{Arc, Wait};
+use std::sync::Wait;
 
 /// A client of an engine, for one thread at a time. It numbers what it submits from 1 on, and keeps each serial's submission and the
 /// cell of its answer for its whole life. Its token reads as a `ReaderToken` does.
@@ -47,7 +47,7 @@ impl<N: EngineName> Model for Client<N> {
     ghost use Rattle.std.specs.Coded.{codes};
     ghost use Rattle.semantics.specs.Codes.{coded_element};
     ghost use Rattle.crossbeam_queue.specs.Passes.{view as pass_view, ruled_capacity};
-    ghost use Rattle.engine.specs.Clients.{Client};
+    ghost use Rattle.engine.specs.Clients.{AreBy, Client};
 
     ghost Value = { Client };
 
@@ -59,13 +59,16 @@ impl<N: EngineName> Model for Client<N> {
       serials = c.serials;
       queue = c.sender.pass.table_id;
       capacity = ruled_capacity (arc_value c.sender.queue);
+      found_full = c.sender.found_full;
       seen = c.token.seen;
       read = c.token.read;
+      reads = c.token.reads;
       kept = c.kept.items;
     } };
 
     ghost invariant = { λ c. ((pass_view c.sender.pass).from ≡ c.number)
-        × ((pass_view c.sender.pass).put ≡ map (λ k. k.submission) c.kept.items) };
+        × ((pass_view c.sender.pass).put ≡ map (λ k. k.submission) c.kept.items)
+        × AreBy c.number 1 (map (λ k. k.submission) c.kept.items) };
 }
 
 impl<N: EngineName> Client<N> {
@@ -79,7 +82,8 @@ impl<N: EngineName> Client<N> {
     ) -> Client<N>
         requires { ((pass_view sender.pass).from ≡ number) × ((pass_view sender.pass).put ≡ []) }
         ensures { (result.replica ≡ replica) × (result.number ≡ number) × (result.serials ≡ serials) × (result.queue ≡ sender.pass.table_id)
-            × (result.capacity ≡ ruled_capacity (arc_value sender.queue)) × (result.kept ≡ []) × (result.seen ≡ token.seen) }
+            × (result.capacity ≡ ruled_capacity (arc_value sender.queue)) × (result.kept ≡ []) × (result.seen ≡ token.seen)
+            × (result.found_full ≡ sender.found_full) }
     {
         Client {
             replica,
@@ -97,8 +101,8 @@ impl<N: EngineName> Client<N> {
     /// which is kept for good.
     ///
     /// # Errors
-    /// `SerialEnd` if all serials are used, else `NoMemory` if allocation fails, else `QueueFull` if the queue is full, which tests hold. A
-    /// refused call takes no serial; the command is gone with it.
+    /// `SerialEnd` if all serials are used, else `NoMemory` if allocation fails, else `QueueFull` if the queue was full at one moment of
+    /// the call, which `found_full` counts. A refused call takes no serial; the command is gone with it.
     pub fn submit(
         &mut self,
         rt: &impl Wait,
@@ -107,7 +111,8 @@ impl<N: EngineName> Client<N> {
     ) -> Result<Ticket, Refusal>
         ensures ticket { IfOk result
             (λ t. t ≡ record { replica = self.old.replica; client = self.old.number; serial = length self.old.kept + 1 }) }
-        ensures kept { MatchResult result (λ _. self.new ≡ with_request self.old (OfCommand command)) (λ _. self.new ≡ self.old) }
+        ensures kept { MatchResult result (λ _. self.new ≡ with_request self.old (OfCommand command))
+            (λ why. self.new ≡ after_refusal self.old why) }
         ensures end { (result ≡ Err SerialEnd) ↔ (self.old.serials ≤ length self.old.kept) }
         ensures err { IfErr result (λ why. (why ≡ SerialEnd) ⊎ (why ≡ NoMemory) ⊎ (why ≡ QueueFull)) }
     {
@@ -128,7 +133,8 @@ impl<N: EngineName> Client<N> {
     ) -> Result<Ticket, Refusal>
         ensures ticket { IfOk result
             (λ t. t ≡ record { replica = self.old.replica; client = self.old.number; serial = length self.old.kept + 1 }) }
-        ensures kept { MatchResult result (λ _. self.new ≡ with_request self.old (OfPeer op)) (λ _. self.new ≡ self.old) }
+        ensures kept { MatchResult result (λ _. self.new ≡ with_request self.old (OfPeer op))
+            (λ why. self.new ≡ after_refusal self.old why) }
         ensures end { (result ≡ Err SerialEnd) ↔ (self.old.serials ≤ length self.old.kept) }
         ensures err { IfErr result (λ why. (why ≡ SerialEnd) ⊎ (why ≡ NoMemory) ⊎ (why ≡ QueueFull)) }
     {
@@ -163,7 +169,7 @@ impl<N: EngineName> Client<N> {
         requires { serial ≡ length self.old.kept + 1 }
         ensures ticket { IfOk result
             (λ t. t ≡ record { replica = self.old.replica; client = self.old.number; serial = length self.old.kept + 1 }) }
-        ensures kept { MatchResult result (λ _. self.new ≡ with_request self.old request) (λ _. self.new ≡ self.old) }
+        ensures kept { MatchResult result (λ _. self.new ≡ with_request self.old request) (λ why. self.new ≡ after_refusal self.old why) }
         ensures err { IfErr result (λ why. (why ≡ NoMemory) ⊎ (why ≡ QueueFull)) }
     {
         let submission = Submission {
@@ -197,7 +203,8 @@ impl<N: EngineName> Client<N> {
         requires number { self.number ≡ length (pass_view taker.old.pass).known }
         ensures taker { (taker.new.pass.table_id ≡ taker.old.pass.table_id)
             × ((pass_view taker.new.pass).got ≡ (pass_view taker.old.pass).got)
-            × ((pass_view taker.new.pass).known ≡ (pass_view taker.old.pass).known ++ submissions_by self ∷ []) }
+            × ((pass_view taker.new.pass).known ≡ (pass_view taker.old.pass).known ++ submissions_by self ∷ [])
+            × ((pass_view taker.new.pass).made ≡ (pass_view taker.old.pass).made) }
         ensures seen { BeginsWith notice.now self.seen }
     {
         let Client { token, sender, .. } = self;
@@ -210,8 +217,9 @@ impl<N: EngineName> Client<N> {
     }
 
     /// The reply to the ticket's submission once the writer has answered it, else `None`. From then on the client has seen all that was
-    /// published with the answer, and the reply stays the same. A ticket that wasn't answered before `close` stays `None`. Never waits;
-    /// allocates nothing. Linear in the size of what was submitted.
+    /// published with the answer, and the reply stays the same. What a refusal names stands nowhere in that, so it can be submitted
+    /// anew. A ticket that wasn't answered before `close` stays `None`. Never waits; allocates nothing. Linear in the size of what was
+    /// submitted.
     ///
     /// # Errors
     /// `Foreign` if the ticket is of another replica number or another client, or of a serial that wasn't taken.
@@ -221,40 +229,55 @@ impl<N: EngineName> Client<N> {
         ensures grows { BeginsWith self.new.seen self.old.seen }
         ensures same { self.new ≡ record self.old { seen = self.new.seen; kept = self.new.kept } }
         ensures items { submissions_by self.new ≡ submissions_by self.old }
-        ensures polls { IfOk result (λ o. Polls self.old self.new (ticket.now.serial - 1) o) }
+        ensures polls { IfOk result
+            (λ o. (g : Option Given) × Looks self.old self.new (ticket.now.serial - 1) g × (o ≡ option_map (λ x. x.reply) g)) }
+        ensures answered { IfOk result
+            (λ o. IfSome o (λ r. (G : List Entry) × IsAnswered N.own N.table self.new ticket.now r G × BeginsWith self.new.seen G)) }
         ensures legal { IfOk result
             (λ o. IfSome o
             (λ r. (x : ASubmission) × (slice_get (submissions_by self.old) (ticket.now.serial - 1) ≡ Some x)
             × IsAnswer N.own N.table self.new.seen (submitted_of N.table x) (reply_of r))) }
     {
-        if !self.is_mine(ticket) {
-            return Err(Refusal::Foreign);
-        }
-        let kept = &mut self.kept[ticket.serial as usize - 1];
-        let Some((reply, notice)) = kept.look() else {
+        let Some((reply, notice)) = self.look(ticket)? else {
             return Ok(None);
         };
         self.token.learn(&notice);
         Ok(Some(reply))
     }
 
-    /// The notice of the ticket's answer once the writer has answered it, else `None`. Never waits; allocates nothing. Linear in the
-    /// size of what was submitted.
+    /// The notice of the ticket's answer once the writer has answered it, else `None`. It is of what was published with the answer: after a
+    /// `poll` that gave the reply, it is there, and is what that has seen. Never waits; allocates nothing. Linear in the size of what was
+    /// submitted.
     ///
     /// # Errors
     /// `Foreign`, as `poll`.
     pub fn notice_of(&self, ticket: &Ticket) -> Result<Option<&Notice<N>>, Refusal>
         ensures mine { MatchResult result (λ _. IsMine self.now ticket.now) (λ e. (e ≡ Foreign) × (IsMine self.now ticket.now → ⊥)) }
-        ensures legal { IfOk result
-            (λ o. IfSome o
-            (λ n. (x : ASubmission) × (g : Given) × (slice_get (submissions_by self.now) (ticket.now.serial - 1) ≡ Some x)
-            × (n.now ≡ g.history)
-            × IsAnswer N.own N.table g.history (submitted_of N.table x) (reply_of g.reply))) }
+        ensures notice { IfOk result (λ o. HasNotice N.own N.table self.now ticket.now (option_map (λ n. n.now) o)) }
     {
         if !self.is_mine(ticket) {
             return Err(Refusal::Foreign);
         }
         Ok(self.kept[ticket.serial as usize - 1].notice())
+    }
+
+    /// What the ticket's submission was answered, once it was.
+    ///
+    /// # Errors
+    /// `Foreign`, as `poll`.
+    fn look(&mut self, ticket: &Ticket) -> Result<Option<(Reply, Notice<N>)>, Refusal>
+        ensures mine { MatchResult result (λ _. IsMine self.old ticket.now)
+            (λ e. (e ≡ Foreign) × (IsMine self.old ticket.now → ⊥) × (self.new ≡ self.old)) }
+        ensures same { self.new ≡ record self.old { kept = self.new.kept } }
+        ensures items { submissions_by self.new ≡ submissions_by self.old }
+        ensures looks { IfOk result
+            (λ o. Looks self.old self.new (ticket.now.serial - 1) (option_map (λ r. record { reply = r.0; history = r.1 }) o)) }
+        ensures answered { IfOk result (λ o. IfSome o (λ r. IsAnswered N.own N.table self.new ticket.now r.0 r.1)) }
+    {
+        if !self.is_mine(ticket) {
+            return Err(Refusal::Foreign);
+        }
+        Ok(self.kept[ticket.serial as usize - 1].look())
     }
 
     /// The ticket of a serial that this client took, as `submit` and `deliver` return it: what `receive` submitted has serials alone.
@@ -331,7 +354,9 @@ impl<N: EngineName> Client<N> {
             ⊎ ((q : TheQuestion) → asked_of N.table question.now ≡ OfDocument q → view (applied self.new.seen) q ≡ Refused why)) }
         ensures published { MatchResult result (λ _. self.new.read ≡ self.new.seen)
             (λ why. (why ≡ NoMemory) ⊎ (why ≡ NoReading) ⊎ (self.new.read ≡ self.new.seen)) }
-        ensures same { self.new ≡ record self.old { seen = self.new.seen; read = self.new.read } }
+        ensures step { MatchResult result (λ _. self.new.reads ≡ self.old.reads + 1)
+            (λ why. (why ≡ NoMemory) ⊎ (why ≡ NoReading) ⊎ (self.new.reads ≡ self.old.reads + 1)) }
+        ensures same { self.new ≡ record self.old { seen = self.new.seen; read = self.new.read; reads = self.new.reads } }
     {
         self.token.ask(alloc, question)
     }
@@ -349,12 +374,6 @@ fn envelope_for<N: EngineName>(
         (λ r. (r.0.answer.value.submission ≡ submission) × (r.1.submission ≡ submission) × (r.1.known ≡ None)) }
 {
     let submission = Shared::new(alloc, submission)?;
-    let answer = Box::new(alloc, Answer::blank(submission.clone()?))?;
-    let cell = Arc::new(alloc, OnceBox::new(alloc))?;
-    let again = Arc::try_clone(&cell)?;
-    let envelope = Envelope {
-        answer,
-        cell: again,
-    };
+    let (envelope, cell) = Envelope::new(alloc, submission.clone()?)?;
     Ok((envelope, Pending::new(submission, cell)))
 }

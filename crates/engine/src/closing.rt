@@ -1,6 +1,7 @@
 //! Closing an engine.
 
-ghost use Rattle.std.specs.Prelude.{◌≡◌, ◌+◌, ◌++◌, ℕ, List, length, Some, slice_get};
+ghost use Rattle.std.specs.Prelude.{◌≡◌, ◌+◌, ◌<◌, ◌++◌, ℕ, List, length, Some, slice_get};
+ghost use Rattle.std.specs.List.{All};
 ghost use Rattle.semantics.specs.Batches.{AsksFor};
 ghost use Rattle.semantics.specs.Entries.{IsEntryHistory, Own, entry_at};
 ghost use Rattle.semantics.specs.Making.{Command};
@@ -32,10 +33,10 @@ pub struct Final {
 /// that wasn't answered polls `None`, and `submit` and `receive` give tickets until the queue is full, which `left` doesn't count: all of
 /// it for good. So let the threads of clients and readers end before.
 ///
-/// `clients` are the engine's clients 0, 1, 2 and so on, as far as they are still at hand; there may be none. The contract says what
-/// became of all that these submitted, and nothing of the others. Waits for readers that still read. Allocates nothing, copies nothing,
-/// and is linear in what the clients keep. If a client had seen more than is published, this would wait for good. Nothing lets that
-/// happen: each notice is of what was published. But no contract says so yet.
+/// `clients` are the engine's clients 0, 1, 2 and so on, as far as they are still at hand. The contract says what became of all that
+/// these submitted; given all of them, `left` is just what they submitted and wasn't answered. Waits for readers that still read.
+/// Allocates nothing, copies nothing, and is linear in what the clients keep. If a client had seen more than is published, this would
+/// wait for good. Nothing lets that happen: each notice is of what was published. But no contract says so yet.
 pub fn close<N: EngineName>(rt: &impl Wait, writer: Writer<N>, clients: Vec<Client<N>>) -> Final
     requires { AreClients writer.queue 0 clients.items }
     ensures history { (history N.table result.history.items ≡ writer.published) × IsEntryHistory N.own writer.published }
@@ -43,7 +44,8 @@ pub fn close<N: EngineName>(rt: &impl Wait, writer: Writer<N>, clients: Vec<Clie
     ensures own { (k : ℕ) (c : TheClient) → slice_get clients.items k ≡ Some c → (n serial : ℕ) (command : Command) (s : Stamped) →
         entry_at n writer.published ≡ Some (Own k serial command s) → AsksFor (submitted_in N.table (submissions_by c)) serial command }
     ensures taken { (queued : List ASubmission) × (result.left ≡ length writer.held + length queued)
-        × ((k : ℕ) (c : TheClient) → slice_get clients.items k ≡ Some c → of k (writer.took ++ queued) ≡ submissions_by c) }
+        × ((k : ℕ) (c : TheClient) → slice_get clients.items k ≡ Some c → of k (writer.took ++ queued) ≡ submissions_by c)
+        × All (λ x. x.client < writer.clients) (writer.took ++ queued) }
 {
     let Writer {
         publisher,

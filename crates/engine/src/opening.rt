@@ -10,11 +10,14 @@ ghost use Rattle.command.specs.InOrder.{taker_hand};
 ghost use Rattle.ids.specs.declared.refusal.Refusal.TheVariants.{BadConfig, NoMemory, NoReaderPlace};
 ghost use Rattle.ids.specs.Configurations.{are_members, is_within_limits};
 ghost use Rattle.ids.specs.Members.{in_order};
+ghost use Rattle.semantics.specs.World.{opened_engine};
+ghost use Rattle.replica.specs.Replicas.{replica_of};
 ghost use Rattle.engine.specs.Clients.{AreClients, IsNewClient};
+ghost use Rattle.engine.specs.WriterSteps.{new_writer};
 
 use crate::client::Client;
-use crate::writer::{Handled, Writer};
-use command::{EngineName, Opened, Queue, ReaderToken, Taker};
+use crate::writer::Writer;
+use command::{EngineName, Handled, Opened, Queue, ReaderToken, Taker};
 use ids::{Config, Refusal, ReplicaId};
 use replica::{Document, Replica};
 use std::alloc::{AllocError, Global};
@@ -35,6 +38,7 @@ pub struct Parts {
         × (second.table ≡ in_order config.members) },
     pub ghost empty: { (replica.document.entries ≡ []) × (first.entries ≡ [])
         × (second.entries ≡ []) } by { Prim.hlevel (codes, coded_element) },
+    pub ghost new: { replica_of replica ≡ (opened_engine config).replica } by { Prim.hlevel (codes, coded_element) },
 }
 
 /// Makes the parts of an engine with this configuration: an empty replica, and two empty documents for its readers.
@@ -102,9 +106,7 @@ pub fn open<N: EngineName>(
     requires book { parts.opened.seen.book ≡ N.book }
     requires own { parts.config.own ≡ N.own }
     requires table { in_order parts.config.members ≡ N.table }
-    ensures writer { IfOk result
-        (λ r. (r.0.handler.replica.entries ≡ []) × (r.0.published ≡ []) × (r.0.took ≡ []) × (r.0.held ≡ [])
-        × (r.0.batch ≡ parts.config.batch)) }
+    ensures writer { IfOk result (λ r. r.0 ≡ new_writer parts.config r.0.queue) }
     ensures clients { IfOk result
         (λ r. AreClients r.0.queue 0 r.1.items × (length r.1.items ≡ parts.config.clients) × All (IsNewClient parts.config) r.1.items) }
     ensures readers { IfOk result (λ r. (length r.2.items ≡ parts.config.readers) × All (λ s. s.seen ≡ []) r.2.items) }
@@ -146,7 +148,9 @@ fn new_ends<N: EngineName>(
     requires own { own ≡ config.now.own }
     requires tokens { length tokens.old.items ≡ config.now.clients + config.now.readers }
     requires unseen { All (λ s. s.seen ≡ []) tokens.old.items }
-    ensures taker { IfOk result (λ r. ((view r.0.pass).got ≡ []) × ((view r.0.pass).known ≡ [])) }
+    ensures taker { IfOk result
+        (λ r. ((view r.0.pass).got ≡ []) × ((view r.0.pass).known ≡ []) × ((view r.0.pass).made ≡ config.now.clients)
+        × (r.0.found_empty ≡ 0)) }
     ensures held { IfOk result (λ r. (r.1.items ≡ []) × (config.now.batch ≤ vec_capacity r.1)) }
     ensures clients { IfOk result
         (λ r. AreClients r.0.pass.table_id 0 r.2.items × (length r.2.items ≡ config.now.clients) × All (IsNewClient config.now) r.2.items) }
@@ -171,7 +175,8 @@ fn new_ends<N: EngineName>(
 /// The writer's end of an empty queue, whose capacity is within its limits.
 fn new_queue<N: EngineName>(alloc: Global, config: &Config) -> Result<Taker<N>, AllocError>
     requires { is_within_limits config.now ≡ true }
-    ensures empty { IfOk result (λ t. (view t.pass ≡ taker_hand [] 0 []) × (ruled_capacity (arc_value t.queue) ≡ config.now.queue)) }
+    ensures empty { IfOk result
+        (λ t. (view t.pass ≡ taker_hand [] 0 []) × (ruled_capacity (arc_value t.queue) ≡ config.now.queue) × (t.found_empty ≡ 0)) }
 {
     match Queue::new(alloc, config.queue as usize) {
         Ok(taker) => Ok(taker),

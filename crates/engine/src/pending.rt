@@ -2,7 +2,7 @@
 
 ghost use Rattle.std.specs.Prelude.{◌≡◌, Some, None, MatchOption, IfSome};
 ghost use Rattle.replica.specs.operation.Submissions.{reply_of, submitted_of};
-ghost use Rattle.semantics.specs.PeerAnswers.{IsAnswer};
+ghost use Rattle.semantics.specs.PeerAnswers.{IsAnswerWith};
 ghost use Rattle.command.specs.Answers.{Given as TheGiven};
 ghost use Rattle.engine.specs.Clients.{answer_in, answer_of};
 
@@ -18,6 +18,8 @@ pub struct Pending<N: EngineName> {
     submission: Shared<Submission>,
     cell: Arc<OnceBox<Answer<N>>>,
     note: Note<Answer<N>>,
+    /// The notice of the answer, once a look found it.
+    notice: Option<Notice<N>>,
 }
 
 impl<N: EngineName> Model for Pending<N> {
@@ -26,7 +28,7 @@ impl<N: EngineName> Model for Pending<N> {
     ghost use Rattle.std.specs.Coded.{codes};
     ghost use Rattle.semantics.specs.Codes.{coded_element};
     ghost use Rattle.once_cell.specs.Once.{cell_name};
-    ghost use Rattle.engine.specs.Clients.{AwaitedAnswer};
+    ghost use Rattle.engine.specs.Clients.{AwaitedAnswer, IsNoticeOf};
 
     ghost Value = { AwaitedAnswer };
 
@@ -34,7 +36,8 @@ impl<N: EngineName> Model for Pending<N> {
 
     ghost view = { λ k. record { submission = k.submission; known = k.note.known } };
 
-    ghost invariant = { λ k. k.note.cell ≡ cell_name (arc_value k.cell) };
+    ghost invariant = { λ k. (k.note.cell ≡ cell_name (arc_value k.cell))
+        × IsNoticeOf N.own N.table (record { submission = k.submission; known = k.note.known }) k.notice };
 }
 
 impl<N: EngineName> Pending<N> {
@@ -47,6 +50,7 @@ impl<N: EngineName> Pending<N> {
             submission,
             cell,
             note,
+            notice: None,
         }
     }
 
@@ -56,19 +60,24 @@ impl<N: EngineName> Pending<N> {
         ensures known { IfSome self.old.known (λ a. self.new.known ≡ Some a) }
         ensures answer { MatchOption result (answer_of self.new ≡ None)
             (λ r. (answer_of self.new ≡ Some (record { reply = r.0; history = r.1 }))
-            × IsAnswer N.own N.table r.1 (submitted_of N.table self.old.submission) (reply_of r.0)) }
+            × IsAnswerWith N.own N.table r.1 (submitted_of N.table self.old.submission) (reply_of r.0)) }
     {
         let answer = self.cell.get_as(&mut self.note)?;
         let given = given_to(answer, &self.submission)?;
+        self.notice = Some(given.notice.again());
         Some((given.reply, given.notice.again()))
     }
 
-    /// The notice of the answer once it is there. Never waits.
+    /// The notice of the answer once it is there: that which a look found, if one has. Never waits.
     pub fn notice(&self) -> Option<&Notice<N>>
-        ensures { IfSome result
+        ensures { MatchOption result (answer_of self.now ≡ None)
             (λ n. (g : TheGiven) × (n.now ≡ g.history)
-            × IsAnswer N.own N.table g.history (submitted_of N.table self.now.submission) (reply_of g.reply)) }
+            × IsAnswerWith N.own N.table g.history (submitted_of N.table self.now.submission) (reply_of g.reply)
+            × IfSome (answer_of self.now) (λ known. known ≡ g)) }
     {
+        if let Some(notice) = &self.notice {
+            return Some(notice);
+        }
         let given = given_to(self.cell.get()?, &self.submission)?;
         Some(&given.notice)
     }
@@ -81,7 +90,7 @@ fn given_to<'a, N: EngineName>(
 ) -> Option<&'a Given<N>>
     ensures { MatchOption result (answer_in submission.now (Some answer.now) ≡ None)
         (λ g. (answer_in submission.now (Some answer.now) ≡ Some (record { reply = g.now.reply; history = g.now.notice }))
-        × IsAnswer N.own N.table g.now.notice (submitted_of N.table submission.now) (reply_of g.now.reply)) }
+        × IsAnswerWith N.own N.table g.now.notice (submitted_of N.table submission.now) (reply_of g.now.reply)) }
 {
     if !answer.submission().is_same(submission) {
         return None;

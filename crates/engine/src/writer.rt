@@ -1,6 +1,7 @@
 //! The writer: it takes what clients submitted, handles it, publishes, and only then answers.
 
-ghost use Rattle.std.specs.Prelude.{◌≡◌, ◌<◌, ◌≤◌, ◌++◌, [], List, MatchBool, MatchResult, length, map, vec_capacity};
+ghost use Rattle.std.specs.Prelude.{◌≡◌, ◌<◌, ◌≤◌, ◌++◌, [], List, MatchBool, MatchResult, cond, false, length, map, nat_lt, vec_capacity};
+ghost use Rattle.command.specs.Counts.{one_more};
 ghost use Rattle.crossbeam_queue.specs.Passes.{view};
 ghost use Rattle.semantics.specs.Engine.{Handled as TheHandled};
 ghost use Rattle.semantics.specs.Entries.{IsAbove};
@@ -14,8 +15,8 @@ ghost use Rattle.replica.specs.Replicas.{replica_of};
 ghost use Rattle.replica.specs.Handlers.{handler_of};
 ghost use Rattle.engine.specs.WriterSteps.{Ends, IsWriterStep, Shows, publication_of, submitted_in};
 
-use command::{EngineName, Envelope, Notice, Publisher, Taker};
-use replica::{Handler, Replica, Reply};
+use command::{EngineName, Envelope, Handled, Notice, Publisher, Taker};
+use replica::{Handler, Replica};
 use std::alloc::{AllocError, Global};
 use std::marker::Model;
 use std::sync::Wait;
@@ -26,34 +27,15 @@ mod tests;
 /// What a step did.
 #[derive(Clone, Copy, Debug, PartialEq, Eq)]
 pub enum Step {
-    /// Nothing was taken, and there was nothing to publish. After a failed allocation operations of peers that could be applied may still
-    /// wait; the next step tries again.
+    /// The queue was empty at one moment of the step, nothing was taken, and there was nothing to publish. After a failed allocation
+    /// operations of peers that could be applied may still wait; the next step tries again.
     Idle,
-    /// All entries are published, and this many submissions were answered, which may be none.
+    /// All entries are published, and this many submissions were answered, which may be none. If they are fewer than a batch, and none was
+    /// held before, the queue was empty at one moment of the step.
     Published(usize),
     /// Allocation failed in the publish. The batch is held whole, and none of it is answered. Step again: nothing else is handled before,
     /// unless the batch is empty, after a drain alone.
     Held,
-}
-
-/// A submission that was handled, and waits for the publish. Contracts see the submission and its reply.
-#[derive(Drop)]
-pub struct Handled<N: EngineName> {
-    pub envelope: Envelope<N>,
-    pub reply: Reply,
-}
-
-impl<N: EngineName> Model for Handled<N> {
-    ghost use Rattle.std.specs.Coded.{codes};
-    ghost use Rattle.semantics.specs.Codes.{coded_element};
-    ghost use Rattle.semantics.specs.Engine.{Handled};
-    ghost use Rattle.replica.specs.operation.Submissions.{reply_of, submitted_of};
-
-    ghost Value = { Handled };
-
-    ghost coded = { Prim.hlevel (codes, coded_element) };
-
-    ghost view = { λ h. record { submitted = submitted_of N.table h.envelope.answer.value.submission; reply = reply_of h.reply } };
 }
 
 /// The one writer of an engine, which owns the replica. It isn't `Drop`: call `close`.
@@ -80,10 +62,12 @@ impl<N: EngineName> Model for Writer<N> {
 
     ghost view = { λ w. record {
       queue = w.taker.pass.table_id;
+      clients = (view_of w.taker.pass).made;
       batch = w.batch;
       handler = handler_of w.handler;
       published = w.publisher.published;
       took = (view_of w.taker.pass).got;
+      found_empty = w.taker.found_empty;
       held = w.held.items;
     } };
 
@@ -104,8 +88,17 @@ impl<N: EngineName> Writer<N> {
         requires none { (publisher.appended ≡ []) × (replica.document.entries ≡ []) × ((view taker.pass).got ≡ [])
             × ((view taker.pass).known ≡ []) × (held.items ≡ []) }
         requires batch { (0 < batch) × (batch ≤ vec_capacity held) }
-        ensures { (result.queue ≡ taker.pass.table_id) × (result.batch ≡ batch) × (result.handler.replica ≡ replica_of replica)
-            × (result.published ≡ publisher.published) × (result.took ≡ []) × (result.held ≡ []) }
+        ensures { result
+            ≡ record {
+              queue = taker.pass.table_id;
+              clients = (view taker.pass).made;
+              batch = batch;
+              handler = record { replica = replica_of replica; behind = false };
+              published = publisher.published;
+              took = [];
+              found_empty = taker.found_empty;
+              held = [];
+            } }
     {
         let _ = replica.document();
         Writer {
@@ -137,7 +130,8 @@ impl<N: EngineName> Writer<N> {
     /// queue, and waits for readers of the copy that is brought up to date. Applies each new entry three times: to the replica and to both
     /// copies.
     pub fn step(&mut self, rt: &impl Wait, alloc: Global) -> Step
-        ensures same { (self.new.queue ≡ self.old.queue) × (self.new.batch ≡ self.old.batch) × (0 < self.new.batch) }
+        ensures same { (self.new.queue ≡ self.old.queue) × (self.new.clients ≡ self.old.clients) × (self.new.batch ≡ self.old.batch)
+            × (0 < self.new.batch) }
         ensures fresh { length self.old.held ≡ 0
             → (hs : List TheHandled) × IsWriterStep N.table self.old hs self.new × Ends self.old hs result self.new }
         ensures again { 0 < length self.old.held → Shows self.old result self.new }
@@ -152,7 +146,8 @@ impl<N: EngineName> Writer<N> {
     /// A step that begins with nothing held.
     fn turn(&mut self, rt: &impl Wait, alloc: Global) -> Step
         requires { length self.old.held ≡ 0 }
-        ensures same { (self.new.queue ≡ self.old.queue) × (self.new.batch ≡ self.old.batch) × (0 < self.new.batch) }
+        ensures same { (self.new.queue ≡ self.old.queue) × (self.new.clients ≡ self.old.clients) × (self.new.batch ≡ self.old.batch)
+            × (0 < self.new.batch) }
         ensures turn { (hs : List TheHandled) × IsWriterStep N.table self.old hs self.new × Ends self.old hs result self.new }
     {
         self.take_all(rt, alloc);
@@ -165,7 +160,8 @@ impl<N: EngineName> Writer<N> {
     /// Goes on with a drain that ended early, and then handles up to a batch of submissions.
     fn take_all(&mut self, rt: &impl Wait, alloc: Global)
         requires { length self.old.held ≡ 0 }
-        ensures same { (self.new.queue ≡ self.old.queue) × (self.new.batch ≡ self.old.batch) × (self.new.published ≡ self.old.published)
+        ensures same { (self.new.queue ≡ self.old.queue) × (self.new.clients ≡ self.old.clients) × (self.new.batch ≡ self.old.batch)
+            × (self.new.published ≡ self.old.published)
             × (0 < self.new.batch) }
         ensures turn { IsWriterStep N.table self.old self.new.held self.new }
     {
@@ -235,7 +231,7 @@ fn is_all_published<N: EngineName>(publisher: &Publisher<N>, handler: &Handler) 
     publisher.notice().len() >= handler.replica.history_len()
 }
 
-/// Fills an empty batch. Ends early if the queue is found empty.
+/// Fills an empty batch. Ends early exactly where the queue is found empty.
 fn fill<N: EngineName>(
     rt: &impl Wait,
     alloc: Global,
@@ -254,11 +250,14 @@ fn fill<N: EngineName>(
         (handler_of handler.new) }
     ensures took { (items : List ASubmission) × ((view taker.new.pass).got ≡ (view taker.old.pass).got ++ items)
         × (items_of held.new.items ≡ submitted_in N.table items) }
-    ensures taker { (taker.new.pass.table_id ≡ taker.old.pass.table_id) × ((view taker.new.pass).known ≡ (view taker.old.pass).known) }
+    ensures taker { (taker.new.pass.table_id ≡ taker.old.pass.table_id) × ((view taker.new.pass).known ≡ (view taker.old.pass).known)
+        × ((view taker.new.pass).made ≡ (view taker.old.pass).made) }
     ensures holds { Holds (publication_of N.own N.table publisher.new) (replica_of handler.new.replica) }
     ensures published { publisher.new.published ≡ publisher.old.published }
     ensures room { batch ≤ vec_capacity held.new }
     ensures few { length held.new.items ≤ batch }
+    ensures empty { taker.new.found_empty
+        ≡ cond (nat_lt (length held.new.items) batch) (one_more taker.old.found_empty) taker.old.found_empty }
 {
     for _ in 0..batch {
         let Some(envelope) = taker.take(rt) else {
@@ -286,12 +285,12 @@ fn handle_one<N: EngineName>(
     ensures holds { Holds (publication_of N.own N.table publisher.new) (replica_of handler.new.replica) }
     ensures published { publisher.new.published ≡ publisher.old.published }
 {
-    let reply = handler.handle(alloc, publisher, envelope.answer.submission());
-    Handled { envelope, reply }
+    let reply = handler.handle(alloc, publisher, envelope.submission());
+    envelope.replied(reply)
 }
 
-/// Answers the batch, the oldest submission first, with a notice of the published history. The contract says that an answer may be set;
-/// that it stands in its cell is tested.
+/// Answers the batch, the oldest submission first, each with its reply and a notice of the published history. That each answer is set is
+/// tested.
 fn give<N: EngineName>(held: &mut Vec<Handled<N>>, notice: &Notice<N>)
     requires { AreAnswers N.own N.table notice.now held.old.items }
     ensures held { held.new.items ≡ [] }
@@ -299,9 +298,6 @@ fn give<N: EngineName>(held: &mut Vec<Handled<N>>, notice: &Notice<N>)
 {
     held.reverse();
     while let Some(handled) = held.pop() {
-        let Handled { envelope, reply } = handled;
-        let Envelope { mut answer, cell } = envelope;
-        answer.fill(reply, notice.again());
-        let _taken = cell.set(answer);
+        let _told = handled.tell(notice.again());
     }
 }

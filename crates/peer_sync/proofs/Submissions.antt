@@ -33,6 +33,15 @@ kept_count c (o ∷ ops) =
     } ∷ []) in
     omega (arith, more, one)
 
+-- submitting counts no full queue
+full_kept : (c : Client) (ops : List Op) → (all_submitted c ops).found_full ≡ c.found_full
+full_kept c [] = refl
+full_kept c (o ∷ ops) = full_kept (submitted c o) ops
+
+-- a client that differs in that count alone
+but_for_full : (d e : Client) → d ≡ e → d ≡ record e { found_full = d.found_full }
+but_for_full d e is = is ∙ ap (λ n. record e { found_full = n }) (sym (ap (λ (k : Client). k.found_full) is))
+
 -- client d is c after it submitted the first n operations of the text, of which the rest isn't read yet
 pub record HasSubmitted (table : List ℕ) (c : Client) (text : List ℕ) (d : Client) (rest : List ℕ) (n : ℕ) : Type 0 where
   pub ops : List Op
@@ -68,24 +77,29 @@ module _ (table : List ℕ) (c : Client) (text : List ℕ) where
       sym (take_at (map (stamped_of table) h.ops) (readable table rest).operations n (length-map h.ops (stamped_of table) ∙ h.count))
       ∙ ap (λ (r : Readable). take n r.operations) h.read
 
+  -- so far it found the queue full as often as before
+  full_as_before : (d : Client) (rest : List ℕ) (n : ℕ) → HasSubmitted table c text d rest n → d.found_full ≡ c.found_full
+  full_as_before d rest n h = ap (λ (k : Client). k.found_full) h.client ∙ full_kept c h.ops
+
   pub kept_after : (d : Client) (rest : List ℕ) (n : ℕ) → HasSubmitted table c text d rest n → length d.kept ≡ length c.kept + n
   kept_after d rest n h = ap (λ (k : Client). length k.kept) h.client ∙ kept_count c h.ops ∙ ap (λ m. length c.kept + m) h.count
 
   -- a line that is bad
-  stops-bad : (d : Client) (rest line left : List ℕ) (n : ℕ) (why : Refusal) → HasSubmitted table c text d rest n
+  stops-bad : (d e : Client) (rest line left : List ℕ) (n : ℕ) (why : Refusal) → HasSubmitted table c text d rest n
       → IsFirstLine rest line left
-      → op_form table line ≡ Err why → StopsAfter (readable table text) n d why
-  stops-bad d rest line left n why h first form =
+      → op_form table line ≡ Err why → e.found_full ≡ c.found_full → StopsAfter (readable table text) n c.found_full e why
+  stops-bad d e rest line left n why h first form full =
       let all = sym (after-bad table rest line left (map (stamped_of table) h.ops) why first form) ∙ h.read in
       let count = ap (λ (r : Readable). length r.operations) all in
       let mapped = length-map h.ops (stamped_of table) in
-      inr (inl (omega (arith, count, mapped, h.count), sym (ap (λ (r : Readable). r.stopped) all)))
+      inr (inl (omega (arith, count, mapped, h.count), sym (ap (λ (r : Readable). r.stopped) all), full))
 
   -- a line whose operation the client doesn't submit
-  stops-denied : (d : Client) (rest line left : List ℕ) (n : ℕ) (why : Refusal) (op : Op) → HasSubmitted table c text d rest n
+  stops-denied : (d e : Client) (rest line left : List ℕ) (n : ℕ) (why : Refusal) (op : Op) → HasSubmitted table c text d rest n
       → IsFirstLine rest line left
-      → op_form table line ≡ Ok (stamped_of table op) → IsDenied d why → StopsAfter (readable table text) n d why
-  stops-denied d rest line left n why op h first form denied =
+      → op_form table line ≡ Ok (stamped_of table op) → IsDenied c.found_full e why
+      → StopsAfter (readable table text) n c.found_full e why
+  stops-denied d e rest line left n why op h first form denied =
       let all = sym (after-op table rest line left (map (stamped_of table) h.ops) (stamped_of table op) first form) ∙ h.read in
       let count = ap (λ (r : Readable). length r.operations) all in
       let more = length-append (map (stamped_of table) h.ops ++ stamped_of table op ∷ []) (readable table left).operations in
@@ -94,22 +108,31 @@ module _ (table : List ℕ) (c : Client) (text : List ℕ) where
       inr (inr (omega (arith, count, more, one, mapped, h.count), denied))
 
   -- a line that isn't submitted
-  pub stops : (d : Client) (rest line left : List ℕ) (n : ℕ) (why : Refusal) → HasSubmitted table c text d rest n
+  pub stops : (d e : Client) (rest line left : List ℕ) (n : ℕ) (why : Refusal) → HasSubmitted table c text d rest n
       → IsFirstLine rest line left
-      → (why ≡ NoMemory) ⊎ (op_form table line ≡ Err why) ⊎ ((op : Op) × (op_form table line ≡ Ok (stamped_of table op)) × IsDenied d why)
-      → StopsAfter (readable table text) n d why
-  stops d rest line left n why h first (inl memory) = inl memory
-  stops d rest line left n why h first (inr (inl bad)) = stops-bad d rest line left n why h first bad
-  stops d rest line left n why h first (inr (inr denied)) = stops-denied d rest line left n why denied.0 h first denied.1 denied.2
+      → ((why ≡ NoMemory) × (e.found_full ≡ d.found_full)) ⊎ ((op_form table line ≡ Err why) × (e.found_full ≡ d.found_full))
+      ⊎ ((op : Op) × (op_form table line ≡ Ok (stamped_of table op)) × IsDenied d.found_full e why)
+      → StopsAfter (readable table text) n c.found_full e why
+  stops d e rest line left n why h first (inl memory) = inl (memory.0, memory.1 ∙ full_as_before d rest n h)
+  stops d e rest line left n why h first (inr (inl bad)) =
+      stops-bad d e rest line left n why h first bad.0 (bad.1 ∙ full_as_before d rest n h)
+  stops d e rest line left n why h first (inr (inr denied)) =
+      stops-denied d e rest line left n why denied.0 h first denied.1
+      (subst (λ k. IsDenied k e why) (full_as_before d rest n h) denied.2)
 
   -- bytes that no line feed ends
   stops-cut : (d : Client) (rest : List ℕ) (n : ℕ) → HasSubmitted table c text d rest n → HasNoEnd rest → rest ≢ []
-      → StopsAfter (readable table text) n d BadLine
+      → StopsAfter (readable table text) n c.found_full d BadLine
   stops-cut d rest n h whole some =
       let all = sym (after-cut table rest (map (stamped_of table) h.ops) whole some) ∙ h.read in
       let count = ap (λ (r : Readable). length r.operations) all in
       let mapped = length-map h.ops (stamped_of table) in
-      inr (inl (omega (arith, count, mapped, h.count), sym (ap (λ (r : Readable). r.stopped) all)))
+      inr
+      (inl (
+        omega (arith, count, mapped, h.count),
+        sym (ap (λ (r : Readable). r.stopped) all),
+        full_as_before d rest n h,
+      ))
 
   -- no byte is left
   ends : (d : Client) (rest : List ℕ) (n : ℕ) → HasSubmitted table c text d rest n → rest ≡ [] → EndsAfter (readable table text) n
@@ -123,11 +146,12 @@ module _ (table : List ℕ) (c : Client) (text : List ℕ) where
   pub stops-end : (d : Client) (rest left : List ℕ) (n taken later : ℕ) (stop : Option (ℕ × Refusal)) → HasSubmitted table c text d rest n
       → taken ≡ n → HasNoEnd rest → left ≡ rest → later ≡ taken
       → MatchOption stop (left ≡ []) (λ s. (s.0 ≡ later + 1) × (s.1 ≡ BadLine) × (left ≢ []))
-      → MatchOption stop (EndsAfter (readable table text) n) (λ s. (s.0 ≡ n + 1) × StopsAfter (readable table text) n d s.1)
-  stops-end d rest left n taken later None h same whole still count none = ends d rest n h (sym still ∙ none)
+      → MatchOption stop (EndsAfter (readable table text) n × (d.found_full ≡ c.found_full))
+      (λ s. (s.0 ≡ n + 1) × StopsAfter (readable table text) n c.found_full d s.1)
+  stops-end d rest left n taken later None h same whole still count none = (ends d rest n h (sym still ∙ none), full_as_before d rest n h)
   stops-end d rest left n taken later (Some s) h same whole still count cut = (
     omega (arith, cut.0, same, count),
-    subst (λ (why : Refusal). StopsAfter (readable table text) n d why) (sym cut.1)
+    subst (λ (why : Refusal). StopsAfter (readable table text) n c.found_full d why) (sym cut.1)
         (stops-cut d rest n h whole (λ e. cut.2 (still ∙ e))),
   )
 

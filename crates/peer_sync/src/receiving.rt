@@ -33,7 +33,8 @@ pub struct Received {
 ///
 /// The result's stop is a fault of the line itself: `BadLine`, also for bytes after the last line feed, `UnknownReplica`, `TooDeep`,
 /// `KeyTooLong`, `TextTooLong` or `NotWhole`; such a line is refused each time. Or it is a refusal of `Client::deliver`: `QueueFull` (give
-/// what is left once the writer has stepped) or `SerialEnd`; or `NoMemory` if allocation fails (give what is left again). Reads each line
+/// what is left once the writer has stepped), for which the queue was full at one moment of this call, or `SerialEnd`; or `NoMemory` if
+/// allocation fails (give what is left again). Reads each line
 /// whole before it is judged: bound its length. The reply alone says what becomes of each operation.
 pub fn receive<N: EngineName>(
     rt: &impl Wait,
@@ -41,13 +42,16 @@ pub fn receive<N: EngineName>(
     client: &mut Client<N>,
     bundle: &[u8],
 ) -> Received
-    ensures submitted { (ops : List Op) × (length ops ≡ result.submitted) × (client.new ≡ all_submitted client.old ops)
+    ensures submitted { (ops : List Op) × (length ops ≡ result.submitted)
+        × (client.new ≡ record (all_submitted client.old ops) { found_full = client.new.found_full })
         × (map (stamped_of N.table) ops ≡ take result.submitted (readable N.table bundle.now).operations)
         × All (λ o. length o.deps ≡ length N.table) ops }
     ensures first { result.first_serial ≡ cond (result.submitted == 0) 0 (length client.old.kept + 1) }
     ensures serials { (result.submitted ≡ 0) ⊎ (length client.new.kept ≤ client.new.serials) }
-    ensures stopped { MatchOption result.stopped (EndsAfter (readable N.table bundle.now) result.submitted)
-        (λ stop. (stop.0 ≡ result.submitted + 1) × StopsAfter (readable N.table bundle.now) result.submitted client.new stop.1) }
+    ensures stopped { MatchOption result.stopped
+        (EndsAfter (readable N.table bundle.now) result.submitted × (client.new.found_full ≡ client.old.found_full))
+        (λ stop. (stop.0 ≡ result.submitted + 1)
+        × StopsAfter (readable N.table bundle.now) result.submitted client.old.found_full client.new stop.1) }
 {
     let mut lines = Lines::new(bundle);
     let mut received = Received {
@@ -80,7 +84,7 @@ fn cut_stop(lines: &Lines) -> Option<(u64, Refusal)>
 /// Submits the operation on a line.
 ///
 /// # Errors
-/// Those of the line, else those of `Client::deliver`. The client is as before then.
+/// Those of the line, else those of `Client::deliver`. The client is as before then, but that it may have found the queue full.
 fn submit_line<N: EngineName>(
     rt: &impl Wait,
     alloc: Global,
@@ -92,9 +96,10 @@ fn submit_line<N: EngineName>(
         × (client.new ≡ submitted client.old op) × (ticket.serial ≡ length client.old.kept + 1)
         × (length client.new.kept ≤ client.new.serials)) }
     ensures err { IfErr result
-        (λ why. (client.new ≡ client.old)
-        × ((why ≡ NoMemory) ⊎ (op_form N.table line.now ≡ Err why)
-        ⊎ ((op : Op) × (op_form N.table line.now ≡ Ok (stamped_of N.table op)) × IsDenied client.old why))) }
+        (λ why. (client.new ≡ record client.old { found_full = client.new.found_full })
+        × (((why ≡ NoMemory) × (client.new.found_full ≡ client.old.found_full))
+        ⊎ ((op_form N.table line.now ≡ Err why) × (client.new.found_full ≡ client.old.found_full))
+        ⊎ ((op : Op) × (op_form N.table line.now ≡ Ok (stamped_of N.table op)) × IsDenied client.old.found_full client.new why))) }
 {
     let op = read_op(alloc, line, client.table())?;
     client.deliver(rt, alloc, op)

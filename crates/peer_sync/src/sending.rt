@@ -1,7 +1,6 @@
 //! What an engine sends to a peer: its hello, and answers to the hellos of others.
 
-ghost use Rattle.std.specs.Prelude.{◌≡◌, ◌⊎◌, IfOk, IfErr, IsTrue, Ok, Err};
-ghost use Rattle.std.specs.List.{All};
+ghost use Rattle.std.specs.Prelude.{◌≡◌, ◌⊎◌, IfOk, IfErr, Ok, Err};
 ghost use Rattle.ids.specs.declared.refusal.Refusal.TheVariants.{NoMemory, NoReading};
 ghost use Rattle.semantics.specs.Entries.{IsEntryHistory, applied, lacked_of};
 ghost use Rattle.semantics.specs.NamedIds.{vector_of};
@@ -9,7 +8,6 @@ ghost use Rattle.semantics.specs.Vectors.{Vector};
 ghost use Rattle.semantics.specs.WorldHistory.{BeginsWith};
 ghost use Rattle.wire.specs.Bundles.{bundle_form, bundle_text};
 ghost use Rattle.wire.specs.Messages.{hello_form};
-ghost use Rattle.wire.specs.Sent.{CanBeSent, are_counters};
 ghost use Rattle.peer_sync.specs.Sending.{hello_text, without_end};
 
 use engine::{EngineName, ReaderToken};
@@ -17,8 +15,8 @@ use ids::Refusal;
 use std::alloc::Global;
 use wire::{read_vector, write_bundle, write_vector};
 
-/// The line, with its line feed, of the vector of all that the token sees in this read, which it has then seen. Where its counters are
-/// at most 4,611,686,018,427,387,904, as all that an engine makes are, a peer with the same members reads it as that vector.
+/// The line, with its line feed, of the vector of all that the token sees in this read, which it has then seen. A peer with the same
+/// members reads it as that vector.
 ///
 /// # Errors
 /// `NoReading` if the copies gave no reading, `NoMemory` if allocation fails. The token may then have seen more than before, never
@@ -27,22 +25,22 @@ pub fn hello<N: EngineName>(alloc: Global, token: &mut ReaderToken<N>) -> Result
     ensures grows { BeginsWith token.new.seen token.old.seen }
     ensures legal { IsEntryHistory N.own token.new.seen }
     ensures line { IfOk result (λ text. text.items ≡ hello_text token.new.seen) }
-    ensures reads_back { IfOk result
-        (λ text. IsTrue (are_counters (vector_of (applied token.new.seen)))
-        → hello_form N.table (without_end text.items) ≡ Ok (vector_of (applied token.new.seen))) }
+    ensures reads_back { IfOk result (λ text. hello_form N.table (without_end text.items) ≡ Ok (vector_of (applied token.new.seen))) }
     ensures published { IfOk result (λ _. token.new.read ≡ token.new.seen) }
     ensures err { IfErr result (λ why. (why ≡ NoMemory) ⊎ (why ≡ NoReading)) }
 {
     let vector = token.vector()?;
+    // What a token has seen is a history of its engine, so all counters fit a line.
+    prove!(token.seen_len() <= usize::MAX);
     let mut line = write_vector(alloc, &vector, token.table())?;
     line.push(b'\n')?;
     Ok(line)
 }
 
 /// The answer to a hello, which is given with its line feed or without it: the lines, each with its line feed, of the operations that
-/// its vector doesn't cover, the oldest first, of all that the token sees in this one read. The token has then seen that. Where all
-/// names are of members, and all counters as `hello` has them, a peer with the same members reads the same operations. Takes time and
-/// memory in proportion to what is lacked: for the empty vector the whole history as one text.
+/// its vector doesn't cover, the oldest first, of all that the token sees in this one read. The token has then seen that. A peer with the
+/// same members reads the same operations. Takes time and memory in proportion to what is lacked: for the empty vector the whole history
+/// as one text.
 ///
 /// # Errors
 /// First those of the hello: `BadLine` if it is no such line, `UnknownReplica` if it names a replica that isn't a member, as
@@ -59,7 +57,7 @@ pub fn answer<N: EngineName>(
         (λ text. (v : Vector) × (hello_form N.table (without_end hello.now) ≡ Ok v)
         × (text.items ≡ bundle_text (lacked_of token.new.seen v))) }
     ensures reads_back { IfOk result
-        (λ text. (v : Vector) → hello_form N.table (without_end hello.now) ≡ Ok v → All (CanBeSent N.table) (lacked_of token.new.seen v)
+        (λ text. (v : Vector) → hello_form N.table (without_end hello.now) ≡ Ok v
         → bundle_form N.table text.items ≡ Ok (lacked_of token.new.seen v)) }
     ensures published { IfOk result (λ _. token.new.read ≡ token.new.seen) }
     ensures err { IfErr result (λ why. (why ≡ NoMemory) ⊎ (why ≡ NoReading) ⊎ (hello_form N.table (without_end hello.now) ≡ Err why)) }
@@ -70,6 +68,8 @@ pub fn answer<N: EngineName>(
     prove!(token.seen_len() <= usize::MAX);
     let vector = read_vector(alloc, without_end(hello), token.table())?;
     let ops = token.missing(alloc, &vector)?;
+    // It is a history of its engine, so a line can carry each of its operations.
+    prove!(token.seen_len() <= usize::MAX);
     let lines = write_bundle(alloc, ops.as_slice(), token.table())?;
     Ok(lines)
 }

@@ -1,7 +1,9 @@
 -- A step that only adds entries to what is shown keeps the rule of the copies.
-use Rattle.std.proofs.Common.{Option, None, Some, option_to_list, ◌≡◌, ◌≢◌, ℕ, Bool, true, false, cond, List, [], ◌∷◌, ◌++◌, fold, refl}
-use Rattle.std.proofs.Common.{sym, ap, ◌∙◌, subst, ⊎_elim}
+use Rattle.std.proofs.Common.{Option, None, Some, option_to_list, ◌≡◌, ◌≢◌, ℕ, ◌+◌, Bool, true, false, cond, List, [], ◌∷◌, ◌++◌, fold}
+use Rattle.std.proofs.Common.{refl}
+use Rattle.std.proofs.Common.{sym, ap, ◌∙◌, subst, ⊎_elim, arith}
 use Rattle.std.specs.Prelude.{IsTrue, IsFalse, length}
+use Rattle.std.proofs.lemmas.Bool.{leb-false}
 use Rattle.std.proofs.lemmas.List.{append-nil}
 use mathlib.Core.Option.{some}
 use lib.ListN.{get_elem?}
@@ -11,14 +13,16 @@ use Rattle.logbook.specs.Pages.{Book, Named}
 use Rattle.ids.specs.Members.{is_member}
 use Rattle.semantics.specs.Making.{is_full}
 use Rattle.semantics.specs.Entries.{Entry as TheEntry, IsEntryHistory, stamped_in}
+use Rattle.semantics.specs.Limits.{most_entries}
 use Rattle.semantics.specs.WorldHistory.{BeginsWith}
+use Rattle.semantics.proofs.Beginnings.{no_shorter}
 use Rattle.semantics.proofs.GrownEngines.{begins_trans}
 use Rattle.document.specs.operation.declared.command.Entry.{Entry}
 use Rattle.document.specs.operation.Ops.{entry_of, op_in}
 use Rattle.document.specs.oplog.Logs.{AreOfMembers, history}
 use Rattle.document.proofs.oplog.Oldest.{history-more}
 use Rattle.published.specs.declared.seen.View.{View}
-use Rattle.published.specs.Beginnings.{Beginning}
+use Rattle.published.specs.Beginnings.{Beginning, IsHistoryOfEngine}
 use Rattle.document.specs.Lawful.{is_lawful}
 use Rattle.published.specs.Copies.{HoldsOfCopies, Sees, Snapshot, IsSnapshot, Pending, appended_to, applied_to, reader_of, snapshot}
 use Rattle.semantics.specs.Publication.{Publication}
@@ -26,31 +30,47 @@ use Rattle.published.specs.Publishers.{IsPublisher}
 use Rattle.semantics.proofs.EntryBeginnings.{begins_self, history_begun}
 use Rattle.document.proofs.LawfulNext.{lawful_next}
 
+pub no_history : (own : ℕ) (table : List ℕ) → IsHistoryOfEngine own table []
+no_history own table = record { legal = tt; known = tt; few = omega arith }
+
+members_before : (table : List ℕ) (more F : List TheEntry) → AreOfMembers table (more ++ F) → AreOfMembers table F
+members_before table [] F h = h
+members_before table (e ∷ more) F h = members_before table more F h.0
+
+-- a beginning of a history of the engine is one
+engine_begun : (own : ℕ) (table : List ℕ) (G F : List TheEntry) → BeginsWith G F → IsHistoryOfEngine own table G
+    → IsHistoryOfEngine own table F
+engine_begun own table G F b h = record {
+  legal = history_begun own G F b h.legal;
+  known = members_before table b.0 F (subst (AreOfMembers table) b.1 h.known);
+  few = (let l = no_shorter G F b in omega (arith, h.few));
+}
+
 module _ (book : Book) (own : ℕ) (table : List ℕ) where
   -- every history begins with none
   from_none : (G : List TheEntry) → BeginsWith G []
   from_none G = (G, sym (append-nil G))
 
   -- a new token, which has read nothing
-  pub admits : Admits (HoldsOfCopies book own table) (reader_of [])
+  pub admits : Admits (HoldsOfCopies book own table) (reader_of [] 0)
   admits x views h = (
     h.0,
     λ token v at. ⊎_elim (h.1 token v)
-        (λ (e : reader_of [] ≡ v). subst (λ (z : View). BeginsWith x.entries (history table z.read)) e (from_none x.entries))
-        (at_snoc views (reader_of []) v token at),
+        (λ (e : reader_of [] 0 ≡ v). subst (λ (z : View). BeginsWith x.entries (history table z.read)) e (from_none x.entries))
+        (at_snoc views (reader_of [] 0) v token at),
   )
 
   -- new copies
-  pub begins : (x : Snapshot) → x ≡ snapshot book table [] → HoldsOfCopies book own table x (reader_of [] ∷ [])
+  pub begins : (x : Snapshot) → x ≡ snapshot book table [] → HoldsOfCopies book own table x (reader_of [] 0 ∷ [])
   begins x is = (
     (
       is ∙ ap (λ (s : Snapshot). snapshot book table s.log) (sym is),
-      subst (λ (s : Snapshot). IsEntryHistory own (history table s.log))
-          (sym is) tt,
+      subst (λ (s : Snapshot). IsHistoryOfEngine own table (history table s.log))
+          (sym is) (no_history own table),
     ),
     λ token v at. ⊎_elim (λ (e : get_elem? {A = View} [] token ≡ some v). absurd (nothing token v e))
-        (λ (e : reader_of [] ≡ v). subst (λ (z : View). BeginsWith x.entries (history table z.read)) e (from_none x.entries))
-        (at_snoc [] (reader_of []) v token at),
+        (λ (e : reader_of [] 0 ≡ v). subst (λ (z : View). BeginsWith x.entries (history table z.read)) e (from_none x.entries))
+        (at_snoc [] (reader_of [] 0) v token at),
   )
     where
       nothing : (token : ℕ) (v : View) → get_elem? {A = View} [] token ≡ some v → ⊥
@@ -60,20 +80,22 @@ module _ (book : Book) (own : ℕ) (table : List ℕ) where
       → TurnsAt (HoldsOfCopies book own table) token v x y (Sees book own table)
   rises token v x y up is views h at =
       let whole : y.entries ≡ history table y.log = ap (λ (s : Snapshot). s.entries) is.0 in (
-        reader_of y.log,
+        reader_of y.log (v.reads + 1),
         (
           is,
           λ j u e. ⊎_elim
-              (λ (t : (j ≡ token) × (reader_of y.log ≡ u)). subst (λ (z : View). BeginsWith y.entries (history table z.read)) t.1
+              (λ (t : (j ≡ token) × (reader_of y.log (v.reads + 1) ≡ u)). subst
+              (λ (z : View). BeginsWith y.entries (history table z.read)) t.1
               (subst (λ (G : List TheEntry). BeginsWith y.entries G) whole (begins_self y.entries)))
               (λ (t : (j ≢ token) × (get_elem? views j ≡ some u)). begins_trans y.entries x.entries (history table u.read) up (h.1 j u t.1))
-              (at_set views token j (reader_of y.log) u e),
+              (at_set views token j (reader_of y.log (v.reads + 1)) u e),
         ),
         (
           is.0,
           is.1,
           subst (λ (G : List TheEntry). BeginsWith G (history table v.read)) whole
               (begins_trans y.entries x.entries (history table v.read) up (h.1 token v at)),
+          refl,
         ),
       )
 
@@ -99,13 +121,13 @@ fold_sheet book table s ws log all = subst (λ (z : Snapshot). BeginsWith z.entr
 
 -- what a publish shows keeps the rule
 pub shows : (book : Book) (own : ℕ) (table : List ℕ) (token : ℕ) (v : View) (x y : Snapshot) (ws : List Pending) (log : List Entry)
-    → fold applied_to x ws ≡ snapshot book table log → IsEntryHistory own (history table log) → y ≡ fold applied_to x ws
+    → fold applied_to x ws ≡ snapshot book table log → IsHistoryOfEngine own table (history table log) → y ≡ fold applied_to x ws
     → TurnsAt (HoldsOfCopies book own table) token v x y (Sees book own table)
 shows book own table token v x y ws log all legal is =
     let e : y ≡ snapshot book table log = is ∙ all in
     rises book own table token v x y (subst (λ (z : Snapshot). BeginsWith z.entries x.entries) (sym is) (fold_begins x ws)) (
       e ∙ ap (λ (s : Snapshot). snapshot book table s.log) (sym e),
-      subst (λ (s : Snapshot). IsEntryHistory own (history table s.log))
+      subst (λ (s : Snapshot). IsHistoryOfEngine own table (history table s.log))
           (sym e) legal,
     )
 
@@ -119,13 +141,13 @@ module _ (book : Book) (own : ℕ) (table : List ℕ) (s : Snapshot) (ws : List 
   pub appended_begins : BeginsWith (history table all.log) s.entries
   appended_begins = fold_sheet book table s ws all.log h.brought_up
 
-  pub snapshot_legal : IsEntryHistory own (history table s.log)
-  snapshot_legal = subst (IsEntryHistory own) (ap (λ (z : Snapshot). z.entries) h.stands)
-      (history_begun own (history table all.log) s.entries appended_begins h.legal)
+  pub snapshot_legal : IsHistoryOfEngine own table (history table s.log)
+  snapshot_legal = subst (IsHistoryOfEngine own table) (ap (λ (z : Snapshot). z.entries) h.stands)
+      (engine_begun own table (history table all.log) s.entries appended_begins h.all_is)
 
   -- the history of what is shown, wherever it stands
-  pub shown_legal : (log : List Entry) → log ≡ s.log → IsEntryHistory own (history table log)
-  shown_legal log is = subst (λ (l : List Entry). IsEntryHistory own (history table l)) (sym is) snapshot_legal
+  pub shown_legal : (log : List Entry) → log ≡ s.log → IsHistoryOfEngine own table (history table log)
+  shown_legal log is = subst (λ (l : List Entry). IsHistoryOfEngine own table (history table l)) (sym is) snapshot_legal
 
   pub seen_begins : (z : Publication) → record { own = own; members = table; published = s.entries; appended = history table all.log } ≡ z
       → BeginsWith z.appended z.published
@@ -138,8 +160,8 @@ module _ (book : Book) (own : ℕ) (table : List ℕ) (s : Snapshot) (ws : List 
 
   -- all that waits brings what is shown up to an entry history
   pub all_pending : (t : Snapshot) (vs : List Pending) → t ≡ s → vs ≡ ws
-      → (log : List Entry) × (fold applied_to t vs ≡ snapshot book table log) × IsEntryHistory own (history table log)
-  all_pending t vs same moved = let k = pending_moved t vs same moved in (all.log, k.brought_up, k.legal)
+      → (log : List Entry) × (fold applied_to t vs ≡ snapshot book table log) × IsHistoryOfEngine own table (history table log)
+  all_pending t vs same moved = let k = pending_moved t vs same moved in (all.log, k.brought_up, k.all_is)
 
   -- one more entry waits
   pub one_pending : (w : Pending) (after : Beginning) → after.log ≡ all.log ++ w.entry ∷ [] → after.book ≡ all.book → w.log ≡ after.log
@@ -151,7 +173,7 @@ module _ (book : Book) (own : ℕ) (table : List ℕ) (s : Snapshot) (ws : List 
   one_pending w after log name wlog wbook follows room member width t vs m same moved one =
       let longer : history table after.log ≡ entry_of table w.entry ∷ history table all.log = ap (history table) log
       ∙ history-more table all.log w.entry in
-      let lawful = lawful_next own table (history table all.log) w.entry follows room h.members member width in
+      let lawful = lawful_next own table (history table all.log) w.entry follows room h.all_is.known member width in
       let k = pending_moved t vs same moved in
       let becomes : appended_to (snapshot book table all.log) w ≡ snapshot book table after.log =
       λ i. record { table = table; entries = sym longer i; log = wlog i; book = (wbook ∙ name ∙ h.book_is) i } in
@@ -163,8 +185,12 @@ module _ (book : Book) (own : ℕ) (table : List ℕ) (s : Snapshot) (ws : List 
             ∙ ap (λ (z : Snapshot). applied_to z w) k.brought_up
             ∙ ap (λ (b : Bool). cond b (appended_to (snapshot book table all.log) w) (snapshot book table all.log)) lawful
             ∙ becomes;
-        legal = subst (IsEntryHistory own) (sym longer) follows;
-        members = subst (AreOfMembers table) (sym longer) (h.members, member);
+        all_is = subst (IsHistoryOfEngine own table) (sym longer)
+            (record {
+              legal = follows;
+              known = (h.all_is.known, member);
+              few = leb-false most_entries (length (history table all.log)) room;
+            });
         head_is = h.head_is;
         book_is = name ∙ h.book_is;
       }

@@ -1,16 +1,17 @@
 -- The two copies of the document, and their rule: readers are shown a snapshot of the engine's history, which begins with all
 -- that each token has read.
-use Rattle.std.specs.Prelude.{ℕ, ◌≡◌, cond, List, ◌∷◌}
+use Rattle.std.specs.Prelude.{ℕ, ◌≡◌, ◌+◌, cond, List, ◌∷◌}
 use mathlib.Core.Option.{some}
 use lib.ListN.{get_elem?}
 use Rattle.logbook.specs.Pages.{Book}
-use Rattle.semantics.specs.Entries.{Entry as TheEntry, IsEntryHistory}
+use Rattle.semantics.specs.Entries.{Entry as TheEntry}
 use Rattle.semantics.specs.WorldHistory.{BeginsWith}
 use Rattle.document.specs.operation.declared.command.Entry.{Entry}
 use Rattle.document.specs.operation.Ops.{entry_of, op_in}
 use Rattle.document.specs.oplog.Logs.{history}
 use Rattle.document.specs.Lawful.{is_lawful}
 use Rattle.published.specs.declared.seen.View.{View}
+use Rattle.published.specs.Beginnings.{IsHistoryOfEngine}
 
 -- a copy: the table and the entries of its document, and the beginning of the history that it is to stand for
 pub record Snapshot : Type 0 where
@@ -37,21 +38,21 @@ applied_to s w = cond (is_lawful s.table s.entries (op_in w.entry)) (appended_to
 abbrev pub snapshot : Book → List ℕ → List Entry → Snapshot
 snapshot book table log = record { table = table; entries = history table log; log = log; book = book }
 
--- the view of a reader that last read these entries
-abbrev pub reader_of : List Entry → View
-reader_of read = record { read = read }
+-- the view of a reader that last read these entries, and has made so many reads
+abbrev pub reader_of : List Entry → ℕ → View
+reader_of read reads = record { read = read; reads = reads }
 
 module _ (book : Book) (own : ℕ) (table : List ℕ) where
-  -- the copy is a snapshot of an entry history of this engine
+  -- the copy is a snapshot of a history of this engine
   abbrev pub IsSnapshot : Snapshot → Type 0
-  IsSnapshot s = (s ≡ snapshot book table s.log) × IsEntryHistory own (history table s.log)
+  IsSnapshot s = (s ≡ snapshot book table s.log) × IsHistoryOfEngine own table (history table s.log)
 
   -- the rule: what is shown is a snapshot, and begins with all that each token has read
   abbrev pub HoldsOfCopies : Snapshot → List View → Type 0
   HoldsOfCopies shown views = IsSnapshot shown
       × ((token : ℕ) (v : View) → get_elem? views token ≡ some v → BeginsWith shown.entries (history table v.read))
 
-  -- what one step reads: what is shown after it, which begins with what was read before
+  -- what one step reads, which is one read more: what is shown after it, which begins with what was read before
   abbrev pub Sees : View → Snapshot → Snapshot → View → Type 0
-  Sees v before after w = (after ≡ snapshot book table w.read) × IsEntryHistory own (history table w.read)
-      × BeginsWith (history table w.read) (history table v.read)
+  Sees v before after w = (after ≡ snapshot book table w.read) × IsHistoryOfEngine own table (history table w.read)
+      × BeginsWith (history table w.read) (history table v.read) × (w.reads ≡ v.reads + 1)

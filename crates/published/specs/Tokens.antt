@@ -1,18 +1,24 @@
 -- What contracts see of a token. Both histories have the newest entry first.
-use Rattle.std.specs.Prelude.{Option, Some, None, List, []}
+use Rattle.std.specs.Prelude.{ℕ, Option, Some, None, List, []}
 use Rattle.left_right.specs.Sides.{view}
 use Rattle.left_right.specs.declared.reader.Reader.{Reader}
 use Rattle.semantics.specs.Entries.{Entry as TheEntry}
 use Rattle.document.specs.operation.declared.command.Entry.{Entry}
 use Rattle.published.specs.declared.seen.View.{View}
 
--- the history that a token has seen, and the one that was published at the step of its last read
+-- the history that a token has seen, the one that was published at the step of its last read, and how many reads it has made
 pub record TokenState : Type 0 where
   pub seen : List TheEntry
   pub read : List TheEntry
+  pub reads : ℕ
 
 module _ {T P A : Type 0} where
   -- what a reader read last; nothing, where there is no reader
   abbrev pub read_of : Option (Reader T View P A) → List Entry
   read_of None = []
   read_of (Some r) = (view r.place).read
+
+  -- how many reads it has made
+  abbrev pub reads_of : Option (Reader T View P A) → ℕ
+  reads_of None = 0
+  reads_of (Some r) = (view r.place).reads

@@ -3,6 +3,7 @@
 ghost use Rattle.std.specs.Prelude.{◌≡◌, length};
 ghost use Rattle.semantics.specs.Entries.{IsEntryHistory};
 ghost use Rattle.document.specs.oplog.Logs.{history};
+ghost use Rattle.published.specs.Beginnings.{IsHistoryOfEngine};
 
 use crate::book::Point;
 use std::marker::{Brand, Model, PhantomData};
@@ -43,8 +44,9 @@ impl<N: EngineName> Model for Notice<N> {
     ghost use Rattle.std.specs.Prelude.{◌≡◌, List};
     ghost use Rattle.std.specs.Coded.{codes};
     ghost use Rattle.semantics.specs.Codes.{coded_element};
-    ghost use Rattle.semantics.specs.Entries.{Entry as TheEntry, IsEntryHistory};
+    ghost use Rattle.semantics.specs.Entries.{Entry as TheEntry};
     ghost use Rattle.document.specs.oplog.Logs.{history};
+    ghost use Rattle.published.specs.Beginnings.{IsHistoryOfEngine};
 
     ghost Value = { List TheEntry };
 
@@ -52,13 +54,13 @@ impl<N: EngineName> Model for Notice<N> {
 
     ghost view = { λ n. history N.table n.point.log };
 
-    ghost invariant = { λ n. (n.point.book ≡ N.book) × IsEntryHistory N.own (history N.table n.point.log) };
+    ghost invariant = { λ n. (n.point.book ≡ N.book) × IsHistoryOfEngine N.own N.table (history N.table n.point.log) };
 }
 
 impl<N: EngineName> Notice<N> {
     pub(crate) fn of(point: Point) -> Notice<N>
         requires book { point.book ≡ N.book }
-        requires legal { IsEntryHistory N.own (history N.table point.log) }
+        requires legal { IsHistoryOfEngine N.own N.table (history N.table point.log) }
         ensures { result ≡ history N.table point.log }
     {
         Notice {
@@ -70,7 +72,7 @@ impl<N: EngineName> Notice<N> {
     pub(crate) fn point(&self) -> &Point
         ensures book { result.now.book ≡ N.book }
         ensures log { history N.table result.now.log ≡ self.now }
-        ensures legal { IsEntryHistory N.own (history N.table result.now.log) }
+        ensures legal { IsHistoryOfEngine N.own N.table (history N.table result.now.log) }
     {
         &self.point
     }

@@ -11,6 +11,7 @@ ghost use Rattle.semantics.specs.WorldHistory.{BeginsWith};
 ghost use Rattle.document.specs.operation.declared.command.Entry.{Entry as AnEntry};
 ghost use Rattle.document.specs.operation.Ops.{entry_of, op_in};
 ghost use Rattle.document.specs.oplog.Logs.{history};
+ghost use Rattle.published.specs.Beginnings.{IsHistoryOfEngine};
 ghost use Rattle.published.specs.Copies.{applied_to, snapshot};
 
 use crate::book::{Law, Opened, Point};
@@ -172,7 +173,7 @@ fn show_all<N: EngineName>(
 ) -> Result<(), AllocError>
     requires { (log : List AnEntry)
         × (fold applied_to writer.old.desk.shown.value (drop writer.old.behind writer.old.log.items) ≡ snapshot N.book N.table log)
-        × IsEntryHistory N.own (history N.table log) }
+        × IsHistoryOfEngine N.own N.table (history N.table log) }
     ensures { MatchResult result
         (λ _. (writer.new.desk.shown.value ≡ fold applied_to writer.old.desk.shown.value (drop writer.old.behind writer.old.log.items))
         × (drop writer.new.behind writer.new.log.items ≡ []))
@@ -192,7 +193,7 @@ fn show<N: EngineName, R: Wait>(
 )
     requires { (log : List AnEntry)
         × (fold applied_to writer.desk.shown.value (drop writer.behind writer.log.items) ≡ snapshot N.book N.table log)
-        × IsEntryHistory N.own (history N.table log) }
+        × IsHistoryOfEngine N.own N.table (history N.table log) }
     ensures { MatchResult result.1
         (λ _. (result.0.desk.shown.value ≡ fold applied_to writer.desk.shown.value (drop writer.behind writer.log.items))
         × (drop result.0.behind result.0.log.items ≡ []))

@@ -3,7 +3,9 @@
 use document::Entry;
 use std::collections::LinkedList;
 
-/// The history that a token read last, the oldest entry first. It exists in proofs alone: no value of it is made.
+/// The history that a token read last, the oldest entry first, and how many reads it has made. It exists in proofs alone: no value of it
+/// is made.
 pub struct View {
     pub read: LinkedList<Entry>,
+    pub reads: u64,
 }

@@ -1,6 +1,6 @@
 //! Tokens: readers of the published history, which take no lock and never wait.
 
-ghost use Rattle.std.specs.Prelude.{◌≡◌, ◌≤◌, ◌⊎◌, ◌↔◌, length, map, IsTrue, MatchResult, IfOk, IfErr};
+ghost use Rattle.std.specs.Prelude.{◌≡◌, ◌+◌, ◌≤◌, ◌⊎◌, ◌↔◌, length, map, IsTrue, MatchResult, IfOk, IfErr};
 ghost use Rattle.left_right.specs.Sides.{view as view_at};
 ghost use Rattle.ids.specs.declared.refusal.Refusal.TheVariants.{NoMemory, NoReading};
 ghost use Rattle.semantics.specs.Entries.{IsEntryHistory, applied, lacked_of};
@@ -13,6 +13,7 @@ ghost use Rattle.semantics.specs.View.{view};
 ghost use Rattle.document.specs.operation.Ops.{stamped_of};
 ghost use Rattle.document.specs.oplog.Logs.{history};
 ghost use Rattle.document.specs.Documents.{HasWidthOf, asked_of, said_by};
+ghost use Rattle.published.specs.Beginnings.{IsHistoryOfEngine};
 
 use crate::book::Point;
 use crate::copy::Copy;
@@ -36,7 +37,7 @@ impl<N: EngineName> Protocol<Copy, View> for Shown<N> {
 
     ghost holds = { HoldsOfCopies N.book N.own N.table };
 
-    ghost first = { reader_of [] };
+    ghost first = { reader_of [] 0 };
 }
 
 /// What the step of a read or of a publish proves.
@@ -51,7 +52,8 @@ impl<N: EngineName> Outcome<Copy, View> for Sees<N> {
 }
 
 /// A reader of an engine, for one thread at a time. It takes no lock and never waits, and never sees less than before. Contracts see two
-/// histories: the longest that it has read or learnt of, and what was published at the step of its last read.
+/// histories: the longest that it has read or learnt of, and what was published at the step of its last read; and how many such steps it
+/// has made.
 #[derive(Drop)]
 pub struct ReaderToken<N: EngineName> {
     reader: Option<Reader<Copy, View, Shown<N>>>,
@@ -63,17 +65,21 @@ impl<N: EngineName> Model for ReaderToken<N> {
     ghost use Rattle.std.specs.Prelude.{◌≡◌};
     ghost use Rattle.std.specs.Coded.{codes};
     ghost use Rattle.semantics.specs.Codes.{coded_element};
-    ghost use Rattle.semantics.specs.Entries.{IsEntryHistory};
     ghost use Rattle.document.specs.oplog.Logs.{history};
-    ghost use Rattle.published.specs.Tokens.{TokenState, read_of};
+    ghost use Rattle.published.specs.Beginnings.{IsHistoryOfEngine};
+    ghost use Rattle.published.specs.Tokens.{TokenState, read_of, reads_of};
 
     ghost Value = { TokenState };
 
     ghost coded = { Prim.hlevel (codes, coded_element) };
 
-    ghost view = { λ s. record { seen = history N.table s.seen.log; read = history N.table (read_of s.reader) } };
+    ghost view = { λ s. record {
+      seen = history N.table s.seen.log;
+      read = history N.table (read_of s.reader);
+      reads = reads_of s.reader;
+    } };
 
-    ghost invariant = { λ s. (s.seen.book ≡ N.book) × IsEntryHistory N.own (history N.table s.seen.log) × (s.table ≡ N.table) };
+    ghost invariant = { λ s. (s.seen.book ≡ N.book) × IsHistoryOfEngine N.own N.table (history N.table s.seen.log) × (s.table ≡ N.table) };
 }
 
 impl<N: EngineName> ReaderToken<N> {
@@ -84,7 +90,7 @@ impl<N: EngineName> ReaderToken<N> {
     ) -> ReaderToken<N>
         requires table { table ≡ N.table }
         requires book { seen.book ≡ N.book }
-        requires legal { IsEntryHistory N.own (history N.table seen.log) }
+        requires legal { IsHistoryOfEngine N.own N.table (history N.table seen.log) }
         ensures { result.seen ≡ history N.table seen.log }
     {
         ReaderToken {
@@ -105,6 +111,7 @@ impl<N: EngineName> ReaderToken<N> {
     pub fn seen_len(&self) -> usize
         ensures length { result ≡ length self.now.seen }
         ensures legal { IsEntryHistory N.own self.now.seen }
+        ensures engine { IsHistoryOfEngine N.own N.table self.now.seen }
     {
         self.seen.len() as usize
     }
@@ -124,7 +131,7 @@ impl<N: EngineName> ReaderToken<N> {
         ensures grows { BeginsWith self.new.seen self.old.seen }
         ensures learns { BeginsWith self.new.seen notice.now }
         ensures one { (self.new.seen ≡ self.old.seen) ⊎ (self.new.seen ≡ notice.now) }
-        ensures read { self.new.read ≡ self.old.read }
+        ensures read { (self.new.read ≡ self.old.read) × (self.new.reads ≡ self.old.reads) }
     {
         let point = notice.point();
         self.seen.compare(point);
@@ -142,10 +149,11 @@ impl<N: EngineName> ReaderToken<N> {
     #[inline(always)]
     fn enter(&mut self) -> Result<Reading<Copy, View, Shown<N>>, Refusal>
         ensures grows { BeginsWith self.new.seen self.old.seen }
-        ensures legal { IsEntryHistory N.own self.new.seen }
+        ensures legal { IsHistoryOfEngine N.own N.table self.new.seen }
         ensures entries { IfOk result (λ r. r.part.value.entries ≡ self.new.seen) }
         ensures table { IfOk result (λ r. r.part.value.table ≡ N.table) }
         ensures read { IfOk result (λ r. history N.table (view_at r.place).read ≡ self.new.seen) }
+        ensures step { IfOk result (λ r. (view_at r.place).reads ≡ self.old.reads + 1) }
         ensures err { IfErr result (λ why. why ≡ NoReading) }
     {
         let before = self.seen.len();
@@ -210,7 +218,8 @@ impl<N: EngineName> ReaderToken<N> {
         Ok(ops?)
     }
 
-    /// Answers a question from the history that is published at the one step of this read, which the token has then seen. Never waits.
+    /// Answers a question from the history that is published at the one step of this read, which the token has then seen: each call makes a
+    /// step of its own. Never waits.
     /// Costs a walk along the expression, and a copy of what is answered; for items a look at each, tombstones included, of the blocks
     /// in which one is shown. The answer is also that of the operations as a set (`view`). The vector of a question has a counter for
     /// each member.
@@ -235,6 +244,8 @@ impl<N: EngineName> ReaderToken<N> {
             ⊎ ((q : TheQuestion) → asked_of N.table question.now ≡ OfDocument q → view (applied self.new.seen) q ≡ Refused why)) }
         ensures published { MatchResult result (λ _. self.new.read ≡ self.new.seen)
             (λ why. (why ≡ NoMemory) ⊎ (why ≡ NoReading) ⊎ (self.new.read ≡ self.new.seen)) }
+        ensures step { MatchResult result (λ _. self.new.reads ≡ self.old.reads + 1)
+            (λ why. (why ≡ NoMemory) ⊎ (why ≡ NoReading) ⊎ (self.new.reads ≡ self.old.reads + 1)) }
     {
         let reading = self.enter()?;
         let answer = reading.get().document.ask(alloc, question);

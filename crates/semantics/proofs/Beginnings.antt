@@ -3,12 +3,9 @@ use Rattle.std.proofs.Common.{◌≡◌, ℕ, ◌+◌, ◌<◌, ◌≤◌, Bool,
 use Rattle.std.proofs.Common.{subst, arith}
 use Rattle.std.proofs.lemmas.Bool.{ltb-true, ltb-false}
 use Rattle.std.proofs.lemmas.List.{length-append}
-use Rattle.semantics.specs.Making.{Command}
 use Rattle.semantics.specs.Entries.{Entry, Own, Peer, entry_at, first_entries, IsAbove, IsEntryHistory}
-use Rattle.semantics.specs.LegalAnswer.{Request, OfCommand, OfPeer, Submitted, Reply, Made, RefusedAt, KeptAt, KnownAt, IsLegalAnswer}
-use Rattle.semantics.specs.LegalAnswer.{IsLegalPeerAnswer, IsLegalReply}
-use Rattle.semantics.specs.WorldHistory.{BeginsWith, IsNotBelow}
-use Rattle.semantics.proofs.Replies.{first_stay, entry_stays, before, made_stays, refused_stays}
+use Rattle.semantics.specs.WorldHistory.{BeginsWith}
+use Rattle.semantics.proofs.Replies.{first_stay, entry_stays, before}
 
 -- the first entries of a history are those of a beginning of that length
 pub first_of_longer : (m : ℕ) (more F : List Entry) → m ≤ length F → first_entries m (more ++ F) ≡ first_entries m F
@@ -62,37 +59,3 @@ above_more client n m (Peer s ∷ G) l h = above_more client n m G l h
 pub entry_in_longer : (n : ℕ) (more F : List Entry) (e : Entry) → entry_at n F ≡ Some e → entry_at n (more ++ F) ≡ Some e
 entry_in_longer n [] F e h = h
 entry_in_longer n (f ∷ more) F e h = entry_stays n (more ++ F) f e (entry_in_longer n more F e h)
-
--- ---- replies
-
--- the reply is legal and not below the item's floor
-abbrev pub IsGoodReply : ℕ → List Entry → Submitted → Reply → Type 0
-IsGoodReply p G x r = IsLegalReply p G x r × IsNotBelow x.floor r
-
-answer_stays : (p : ℕ) (G : List Entry) (e : Entry) (x : Submitted) (c : Command) (r : Reply) → IsLegalAnswer p G x c r
-    → IsLegalAnswer p (e ∷ G) x c r
-answer_stays p G e x c (Made a n) h = made_stays p G e x c a n h
-answer_stays p G e x c (RefusedAt why m) h = refused_stays p G e x c why m h
-answer_stays p G e x c (KeptAt m) h = h
-answer_stays p G e x c (KnownAt m) h = h
-
-receipt_stays : (G : List Entry) (e : Entry) (r : Reply) → IsLegalPeerAnswer G r → IsLegalPeerAnswer (e ∷ G) r
-receipt_stays G e (Made a n) h = h
-receipt_stays G e (RefusedAt why m) h = (let l : m ≤ length G = h in omega arith)
-receipt_stays G e (KeptAt m) h = (let l : m ≤ length G = h in omega arith)
-receipt_stays G e (KnownAt m) h = (let l : m ≤ length G = h in omega arith)
-
-legal_stays : (p : ℕ) (G : List Entry) (e : Entry) (x : Submitted) (r : Reply) → IsLegalReply p G x r → IsLegalReply p (e ∷ G) x r
-legal_stays p G e x r = of_request x.request refl
-  where
-    of_request : (q : Request) → x.request ≡ q → IsLegalReply p G x r → IsLegalReply p (e ∷ G) x r
-    of_request (OfCommand c) is = rw is (answer_stays p G e x c r)
-    of_request (OfPeer s) is = rw is (receipt_stays G e r)
-
-legal_in_longer : (p : ℕ) (more F : List Entry) (x : Submitted) (r : Reply) → IsLegalReply p F x r → IsLegalReply p (more ++ F) x r
-legal_in_longer p [] F x r h = h
-legal_in_longer p (e ∷ more) F x r h = legal_stays p (more ++ F) e x r (legal_in_longer p more F x r h)
-
--- A good reply stays one as the history grows.
-pub good_in_longer : (p : ℕ) (G F : List Entry) (x : Submitted) (r : Reply) → BeginsWith G F → IsGoodReply p F x r → IsGoodReply p G x r
-good_in_longer p G F x r b h = (subst (λ (K : List Entry). IsLegalReply p K x r) (sym b.1) (legal_in_longer p b.0 F x r h.0), h.1)

@@ -1,5 +1,5 @@
 -- What handling an item keeps, whether an allocation fails or not.
-use Rattle.std.proofs.Common.{◌≡◌, inl, inr, ℕ, ◌<◌, ◌≤◌, Bool, true, false, nat_lt, List, [], ◌∷◌, ◌++◌, length, Option, Some, None}
+use Rattle.std.proofs.Common.{◌≡◌, inl, inr, ℕ, ◌<◌, ◌≤◌, Bool, true, false, nat_lt, List, [], ◌∷◌, ◌++◌, length}
 use Rattle.std.proofs.Common.{Result, Ok, Err, refl, sym, ap, ◌∙◌, subst, arith}
 use Rattle.std.proofs.lemmas.Bool.{ltb-true, ltb-false}
 use Rattle.ids.specs.declared.refusal.Refusal.{Refusal}
@@ -9,22 +9,19 @@ use Rattle.semantics.specs.Stamped.{Stamped}
 use Rattle.semantics.specs.Making.{Command, make}
 use Rattle.semantics.specs.Entries.{Entry, Own, Peer, first_entries, IsAbove}
 use Rattle.semantics.specs.LegalAnswer.{Request, OfCommand, OfPeer, Submitted, Reply, Made, RefusedAt, KeptAt, KnownAt, LacksSerial}
-use Rattle.semantics.specs.LegalAnswer.{IsLegalAnswer}
 use Rattle.semantics.specs.Replica.{Replica, operations, IsRunning}
-use Rattle.semantics.specs.Delivery.{Delivered, Kept, Known, NotKept, answer_after, answer_to, deliver}
+use Rattle.semantics.specs.Delivery.{answer_to, deliver}
 use Rattle.semantics.specs.Drain.{counted, drain_for, receive, with_peers}
 use Rattle.semantics.specs.WriteSteps.{stamp, after_made, reply_made, after_request, reply_requested, after_submission, reply_to}
 use Rattle.semantics.specs.WriteSteps.{reply_delivered}
-use Rattle.semantics.specs.WorldHistory.{BeginsWith}
 use Rattle.semantics.proofs.AppliedVectors.{at-vector_of}
-use Rattle.semantics.proofs.Beginnings.{first_of_longer, no_shorter}
 use Rattle.semantics.proofs.Delivered.{delivered, own_committed}
 use Rattle.semantics.proofs.Drained.{part_drained}
 use Rattle.semantics.proofs.HandledItems.{as_stamped}
 use Rattle.semantics.proofs.OwnReplies.{own_made, own_refused, all_first, above_lacks}
-use Rattle.semantics.proofs.ReceivedItems.{same_own, same_members, same_entries, running_counted}
-use Rattle.semantics.proofs.Replies.{made_stays, refused_stays}
-use Rattle.semantics.specs.PeerAnswers.{answer_with, WasAnswered, IsPeerAnswer, IsAnswer}
+use Rattle.semantics.proofs.PeerReceipts.{receipt}
+use Rattle.semantics.proofs.ReceivedItems.{above_with_peers, same_own, same_members, same_entries, running_counted}
+use Rattle.semantics.specs.PeerAnswers.{IsPeerAnswer, IsAnswer, LacksRefused}
 use Rattle.semantics.specs.Handling.{Handler, DrainsTo, Handles, AreFor, IsAfter}
 
 -- ---- drains
@@ -70,38 +67,27 @@ pub peers_for : (x : Submitted) (M : List Stamped) → AreFor x (with_peers M []
 peers_for x [] = tt
 peers_for x (s ∷ M) = peers_for x M
 
--- ---- answers to deliveries
-
-same_answer : (r : Replica) (s : Stamped) (f : Option Refusal)
-    → answer_after (record { own = r.own; members = r.members; entries = r.entries; waiting = r.waiting; dropped = 0 }) s f
-    ≡ answer_after r s f
-same_answer r s (Some f) = refl
-same_answer r s None = refl
-
-answered : (r : Replica) (s : Stamped) (floor : ℕ) (more G : List Entry) → G ≡ more ++ r.entries → floor ≤ length r.entries
-    → (d : Delivered) → answer_to r s ≡ d → WasAnswered r.own r.members G s floor (length G) d
-answered r s floor more G e l d is = record {
-  k = length r.entries;
-  from = l;
-  to = no_shorter G r.entries (more, e);
-  within = omega arith;
-  waiting = r.waiting;
-  answer = ap (λ (F : List Entry). answer_with r.own r.members F r.waiting s)
-      (ap (first_entries (length r.entries)) e ∙ first_of_longer (length r.entries) more r.entries (omega arith) ∙ all_first r.entries)
-      ∙ same_answer r s _ ∙ is;
-}
-
-receipt : (r : Replica) (x : Submitted) (s : Stamped) (more G : List Entry) → G ≡ more ++ r.entries → x.floor ≤ length r.entries
-    → (d : Delivered) → answer_to r s ≡ d → IsPeerAnswer r.own r.members G x s (reply_delivered (length G) d)
-receipt r x s more G e l Kept is = answered r s x.floor more G e l Kept is
-receipt r x s more G e l Known is = answered r s x.floor more G e l Known is
-receipt r x s more G e l (NotKept why) is = inl (answered r s x.floor more G e l (NotKept why) is)
-
 -- ---- items
 
+-- where all serials of the client are below, what is refused stands nowhere
+lacks_refused : (x : Submitted) (y : Reply) (G : List Entry) → IsAbove x.client x.serial G → LacksRefused G x y
+lacks_refused x (Made a n) G above = tt
+lacks_refused x (RefusedAt e m) G above = above_lacks x.client x.serial G above
+lacks_refused x (KeptAt m) G above = tt
+lacks_refused x (KnownAt m) G above = tt
+
 -- the replica as it was
-unchanged : (r : Replica) (x : Submitted) (y : Reply) → IsRunning r → IsAnswer r.own r.members r.entries x y → IsAfter r x y r
-unchanged r x y h a = record { own = refl; members = refl; more = []; entries = refl; for_it = tt; running = h; answer = a }
+unchanged : (r : Replica) (x : Submitted) (y : Reply) → IsRunning r → IsAbove x.client x.serial r.entries
+    → IsAnswer r.own r.members r.entries x y → IsAfter r x y r
+unchanged r x y h above a = record {
+  own = refl;
+  members = refl;
+  more = [];
+  entries = refl;
+  for_it = tt;
+  running = h;
+  answer = (a, lacks_refused x y r.entries above);
+}
 
 -- a refusal for what isn't a rule
 refused_lacking : (r : Replica) (x : Submitted) (c : Command) → IsAbove x.client x.serial r.entries
@@ -126,15 +112,21 @@ bad_floor r x above below = of_request x.request refl
     of_request (OfPeer s) is = rw is (inr (inr (refl, below, omega arith)))
 
 -- an operation of a peer, after whose delivery a drain made this many turns
-peer_part : (n : ℕ) (r q : Replica) (x : Submitted) (s : Stamped) → IsRunning r → x.floor ≤ length r.entries → x.request ≡ OfPeer s
+peer_part : (n : ℕ) (r q : Replica) (x : Submitted) (s : Stamped) → IsRunning r → IsAbove x.client x.serial r.entries
+    → x.floor ≤ length r.entries → x.request ≡ OfPeer s
     → q ≡ counted (drain_for n (deliver r s))
     → IsAfter r x (reply_delivered (length q.entries) (answer_to r s)) q
-peer_part n r q x s h floor is e =
+peer_part n r q x s h above floor is e =
     let p = delivered_part n r q s h e in
     let entries : q.entries ≡ with_peers p.appended [] ++ r.entries = p.entries ∙ peers_before p.appended r.entries in
     let y : Reply = reply_delivered (length q.entries) (answer_to r s) in
     let here : IsPeerAnswer r.own r.members q.entries x s y = receipt r x s (with_peers p.appended []) q.entries entries floor
     (answer_to r s) refl in
+    let later : IsAbove x.client x.serial q.entries = subst (IsAbove x.client x.serial) (sym p.entries)
+    (above_with_peers x.client x.serial p.appended r.entries above) in
+    let allowed : IsAnswer q.own q.members q.entries x y = rw is
+    (subst (λ k. IsPeerAnswer k q.members q.entries x s y) (sym p.own)
+    (subst (λ ps. IsPeerAnswer r.own ps q.entries x s y) (sym p.members) here)) in
     record {
       own = p.own;
       members = p.members;
@@ -142,15 +134,13 @@ peer_part n r q x s h floor is e =
       entries = entries;
       for_it = peers_for x p.appended;
       running = p.running;
-      answer = rw is
-          (subst (λ k. IsPeerAnswer k q.members q.entries x s y) (sym p.own)
-          (subst (λ ps. IsPeerAnswer r.own ps q.entries x s y) (sym p.members) here));
+      answer = (allowed, lacks_refused x y q.entries later);
     }
 
 made : (r : Replica) (x : Submitted) (c : Command) → x.request ≡ OfCommand c → IsRunning r → IsAbove x.client x.serial r.entries
     → x.floor ≤ length r.entries
     → (m : Result Operation Refusal) → make (operations r) r.own c ≡ m → IsAfter r x (reply_made r m) (after_made r x c m)
-made r x c is h above floor (Err why) e = unchanged r x (RefusedAt why (length r.entries)) h
+made r x c is h above floor (Err why) e = unchanged r x (RefusedAt why (length r.entries)) h above
     (rw is (own_refused r.own r.entries x c why above e, inl floor))
 made r x c is h above floor (Ok o) e = record {
   own = refl;
@@ -160,13 +150,16 @@ made r x c is h above floor (Ok o) e = record {
   for_it = (refl, refl, is, tt);
   running = own_committed r x.client x.serial c (stamp (operations r) o) h (at-vector_of (operations r))
       (e ∙ (λ i. Ok (as_stamped r c o h.history e i))) above;
-  answer = rw is (own_made r.own r.entries x c (stamp (operations r) o), floor);
+  answer = (
+    rw is (own_made r.own r.entries x c (stamp (operations r) o), floor),
+    tt,
+  );
 }
 
 requested : (r : Replica) (x : Submitted) → IsRunning r → IsAbove x.client x.serial r.entries → x.floor ≤ length r.entries
     → (q : Request) → x.request ≡ q → IsAfter r x (reply_requested r q) (after_request r x q)
 requested r x h above floor (OfCommand c) is = made r x c is h above floor (make (operations r) r.own c) refl
-requested r x h above floor (OfPeer s) is = peer_part (length (deliver r s).waiting) r (counted (receive r s)) x s h floor is refl
+requested r x h above floor (OfPeer s) is = peer_part (length (deliver r s).waiting) r (counted (receive r s)) x s h above floor is refl
 
 -- as the rules have it
 whole : (r : Replica) (x : Submitted) → IsRunning r → IsAbove x.client x.serial r.entries
@@ -175,7 +168,7 @@ whole r x h above = by_test (nat_lt (length r.entries) x.floor) refl
   where
     by_test : (b : Bool) → nat_lt (length r.entries) x.floor ≡ b → IsAfter r x (reply_to r x) (after_submission r x)
     by_test true t = rw t
-        (unchanged r x (RefusedAt BadFloor (length r.entries)) h (bad_floor r x above (ltb-true (length r.entries) x.floor t)))
+        (unchanged r x (RefusedAt BadFloor (length r.entries)) h above (bad_floor r x above (ltb-true (length r.entries) x.floor t)))
     by_test false t = rw t (requested r x h above (ltb-false (length r.entries) x.floor t) x.request refl)
 
 -- the same where the reply and the replica have other names
@@ -189,50 +182,7 @@ handled w v x y h above (inl k) = named w.replica v.replica (after_submission w.
     (whole w.replica x h above)
 handled w v x y h above (inr (inl k)) =
     named w.replica v.replica w.replica x y (RefusedAt NoMemory (length w.replica.entries)) k.reply (ap (λ (u : Handler). u.replica) k.same)
-    (unchanged w.replica x (RefusedAt NoMemory (length w.replica.entries)) h (no_memory w.replica x above k.floor))
+    (unchanged w.replica x (RefusedAt NoMemory (length w.replica.entries)) h above (no_memory w.replica x above k.floor))
 handled w v x y h above (inr (inr k)) =
     named w.replica v.replica v.replica x y (reply_delivered (length v.replica.entries) (answer_to w.replica k.stamped)) k.reply refl
-    (peer_part k.replica.0 w.replica v.replica x k.stamped h k.floor k.request k.replica.1)
-
--- ---- answers stay legal
-
-command_stays : (p : ℕ) (more F : List Entry) (x : Submitted) (c : Command) (y : Reply) → IsLegalAnswer p F x c y
-    → IsLegalAnswer p (more ++ F) x c y
-command_stays p [] F x c y a = a
-command_stays p (e ∷ more) F x c y a = one y (command_stays p more F x c y a)
-  where
-    one : (z : Reply) → IsLegalAnswer p (more ++ F) x c z → IsLegalAnswer p (e ∷ more ++ F) x c z
-    one (Made a n) h = made_stays p (more ++ F) e x c a n h
-    one (RefusedAt why m) h = refused_stays p (more ++ F) e x c why m h
-    one (KeptAt m) h = h
-    one (KnownAt m) h = h
-
-was_longer : (p : ℕ) (ps : List ℕ) (more F : List Entry) (s : Stamped) (floor m : ℕ) (d : Delivered) → WasAnswered p ps F s floor m d
-    → WasAnswered p ps (more ++ F) s floor m d
-was_longer p ps more F s floor m d a = record {
-  k = a.k;
-  from = a.from;
-  to = a.to;
-  within = (let l : length F ≤ length (more ++ F) = no_shorter (more ++ F) F (more, refl) in omega (arith, a.within));
-  waiting = a.waiting;
-  answer = ap (λ (G : List Entry). answer_with p ps G a.waiting s) (first_of_longer a.k more F (omega (arith, a.to, a.within))) ∙ a.answer;
-}
-
-receipt_stays : (p : ℕ) (ps : List ℕ) (more F : List Entry) (x : Submitted) (s : Stamped) (y : Reply) → IsPeerAnswer p ps F x s y
-    → IsPeerAnswer p ps (more ++ F) x s y
-receipt_stays p ps more F x s (Made a n) h = h
-receipt_stays p ps more F x s (KeptAt m) h = was_longer p ps more F s x.floor m Kept h
-receipt_stays p ps more F x s (KnownAt m) h = was_longer p ps more F s x.floor m Known h
-receipt_stays p ps more F x s (RefusedAt why m) (inl h) = inl (was_longer p ps more F s x.floor m (NotKept why) h)
-receipt_stays p ps more F x s (RefusedAt why m) (inr (inl h)) = inr
-    (inl (h.0, h.1, (let l : length F ≤ length (more ++ F) = no_shorter (more ++ F) F (more, refl) in omega (arith, h.2))))
-receipt_stays p ps more F x s (RefusedAt why m) (inr (inr h)) = inr
-    (inr (h.0, h.1, (let l : length F ≤ length (more ++ F) = no_shorter (more ++ F) F (more, refl) in omega (arith, h.2))))
-
-pub answer_stays : (p : ℕ) (ps : List ℕ) (G F : List Entry) (x : Submitted) (y : Reply) → BeginsWith G F → IsAnswer p ps F x y
-    → IsAnswer p ps G x y
-answer_stays p ps G F x y b a = subst (λ (K : List Entry). IsAnswer p ps K x y) (sym b.1) (of_request x.request refl a)
-  where
-    of_request : (q : Request) → x.request ≡ q → IsAnswer p ps F x y → IsAnswer p ps (b.0 ++ F) x y
-    of_request (OfCommand c) is = rw is (λ h. (command_stays p b.0 F x c y h.0, h.1))
-    of_request (OfPeer s) is = rw is (receipt_stays p ps b.0 F x s y)
+    (peer_part k.replica.0 w.replica v.replica x k.stamped h above k.floor k.request k.replica.1)

@@ -1,20 +1,22 @@
 -- A batch of handled items, which grows at its end.
-use Rattle.std.proofs.Common.{◌≡◌, ◌==◌, ℕ, zero, suc, ◌+◌, ◌-◌, ◌<◌, Bool, true, false, cond, List, [], ◌∷◌, ◌++◌, length, Some, slice_get}
+use Rattle.std.proofs.Common.{◌≡◌, ◌==◌, ℕ, zero, suc, ◌+◌, ◌-◌, ◌<◌, ◌≤◌, Bool, true, false, cond, List, [], ◌∷◌, ◌++◌, length, Some}
+use Rattle.std.proofs.Common.{slice_get}
 use Rattle.std.proofs.Common.{refl, sym, ap, ◌∙◌, subst, arith, append_assoc, eq-eqb}
-use Rattle.std.proofs.lemmas.List.{append-nil}
+use Rattle.std.proofs.lemmas.List.{append-nil, length-append}
 use Rattle.std.proofs.lemmas.Option.{slice_get_within}
 use Rattle.semantics.specs.Operations.{Delete}
 use Rattle.semantics.specs.Making.{Command}
 use Rattle.semantics.specs.Entries.{Entry, Own, Peer, IsAbove}
-use Rattle.semantics.specs.LegalAnswer.{OfCommand, Submitted}
+use Rattle.semantics.specs.LegalAnswer.{OfCommand, Submitted, Reply, Made, RefusedAt, KeptAt, KnownAt, LacksSerial}
 use Rattle.semantics.specs.Replica.{IsRunning}
 use Rattle.semantics.specs.Drain.{with_peers}
 use Rattle.semantics.specs.Engine.{Handled}
-use Rattle.semantics.specs.WorldHistory.{BeginsWith, of_client}
-use Rattle.semantics.specs.PeerAnswers.{IsAnswer}
+use Rattle.semantics.specs.WorldHistory.{of_client}
+use Rattle.semantics.specs.PeerAnswers.{IsAnswerWith, LacksRefused}
 use Rattle.semantics.specs.Handling.{Handler, DrainsTo, Resumes, ResumesIf, Handles, Runs, AreFor}
-use Rattle.semantics.specs.Batches.{AsksFor, ComeFrom, AreAnswers, items_of, IsBatch, IsResumed}
-use Rattle.semantics.proofs.HandledAnswers.{part_to, peers_before, peers_for, handled, answer_stays}
+use Rattle.semantics.specs.Batches.{AsksFor, ComeFrom, AreAnswers, AreTaken, items_of, IsBatch, IsResumed}
+use Rattle.semantics.proofs.LastingAnswers.{answer_stays}
+use Rattle.semantics.proofs.HandledAnswers.{part_to, peers_before, peers_for, handled}
 
 -- ---- serials
 
@@ -141,6 +143,7 @@ no_batch w took h st = record {
   members = refl;
   running = h;
   come_from = subst (λ (l : List Submitted). ComeFrom l w.replica.entries) (sym (append-nil took)) st;
+  taken = tt;
   answers = tt;
 }
 
@@ -154,14 +157,66 @@ items-snoc (g ∷ hs) h = ap (λ (l : List Submitted). g.submitted ∷ l) (items
 
 -- one more that is answered
 pub answers_snoc : (p : ℕ) (ps : List ℕ) (G : List Entry) (hs : List Handled) (h : Handled) → AreAnswers p ps G hs
-    → IsAnswer p ps G h.submitted h.reply → AreAnswers p ps G (hs ++ h ∷ [])
+    → IsAnswerWith p ps G h.submitted h.reply → AreAnswers p ps G (hs ++ h ∷ [])
 answers_snoc p ps G [] h a k = (k, tt)
 answers_snoc p ps G (g ∷ hs) h a k = (a.0, answers_snoc p ps G hs h a.1 k)
 
-pub answers_stay : (p : ℕ) (ps : List ℕ) (G F : List Entry) (hs : List Handled) → BeginsWith G F → AreAnswers p ps F hs
-    → AreAnswers p ps G hs
-answers_stay p ps G F [] b a = tt
-answers_stay p ps G F (h ∷ hs) b a = (answer_stays p ps G F h.submitted h.reply b a.0, answers_stay p ps G F hs b a.1)
+-- what another submission adds has no entry of this serial
+lacks_more : (x : Submitted) (client serial : ℕ) (more G : List Entry) → AreFor x more → (x.client ≡ client → x.serial ≡ serial → ⊥)
+    → LacksSerial client serial G → LacksSerial client serial (more ++ G)
+lacks_more x client serial [] G a other h = h
+lacks_more x client serial (Own k n c s ∷ more) G a other h = (
+  λ e f. other (sym a.0 ∙ e) (sym a.1 ∙ f),
+  lacks_more x client serial more G a.3 other h,
+)
+lacks_more x client serial (Peer s ∷ more) G a other h = lacks_more x client serial more G a other h
+
+refused_lacks_more : (x z : Submitted) (y : Reply) (more G : List Entry) → AreFor x more
+    → (x.client ≡ z.client → x.serial ≡ z.serial → ⊥) → LacksRefused G z y → LacksRefused (more ++ G) z y
+refused_lacks_more x z (Made a n) more G f other h = tt
+refused_lacks_more x z (RefusedAt e m) more G f other h = lacks_more x z.client z.serial more G f other h
+refused_lacks_more x z (KeptAt m) more G f other h = tt
+refused_lacks_more x z (KnownAt m) more G f other h = tt
+
+-- the answers to what was taken before x stay as x is handled
+answers_stay : (p : ℕ) (ps : List ℕ) (x : Submitted) (took : List Submitted) (more G : List Entry) (hs : List Handled) → AreFor x more
+    → x.serial ≡ length (of_client x.client took) + 1 → AreTaken took hs → AreAnswers p ps G hs → AreAnswers p ps (more ++ G) hs
+answers_stay p ps x took more G [] f number t a = tt
+answers_stay p ps x took more G (h ∷ hs) f number t a = (
+  (
+    answer_stays p ps (more ++ G) G h.submitted h.reply (more, refl) a.0.0,
+    refused_lacks_more x h.submitted h.reply more G f other a.0.1,
+  ),
+  answers_stay p ps x took more G hs f number t.1 a.1,
+)
+  where
+    other : x.client ≡ h.submitted.client → x.serial ≡ h.submitted.serial → ⊥
+    other e same =
+        let below : h.submitted.serial ≤ length (of_client x.client took) =
+        subst (λ c. h.submitted.serial ≤ length (of_client c took)) (sym e) t.0 in
+        omega (arith, number, same, below)
+
+-- what was taken was taken, whatever is taken later
+taken_longer : (took later : List Submitted) (hs : List Handled) → AreTaken took hs → AreTaken (took ++ later) hs
+taken_longer took later [] t = tt
+taken_longer took later (h ∷ hs) t =
+    let l = ap (length {A = Submitted}) (of-append h.submitted.client took later) in
+    let m = length-append (of_client h.submitted.client took) (of_client h.submitted.client later) in
+    (omega (arith, l, m, t.0), taken_longer took later hs t.1)
+
+taken_snoc : (took : List Submitted) (hs : List Handled) (h : Handled) → AreTaken took hs
+    → h.submitted.serial ≤ length (of_client h.submitted.client took) → AreTaken took (hs ++ h ∷ [])
+taken_snoc took [] h t l = (l, tt)
+taken_snoc took (g ∷ hs) h t l = (t.0, taken_snoc took hs h t.1 l)
+
+-- x is the one that its client has come to, once it is taken
+comes_to : (took : List Submitted) (x : Submitted) → x.serial ≡ length (of_client x.client took) + 1
+    → x.serial ≤ length (of_client x.client (took ++ x ∷ []))
+comes_to took x number =
+    let l = ap (length {A = Submitted}) (of-append x.client took (x ∷ [])) in
+    let m = length-append (of_client x.client took) (of_client x.client (x ∷ [])) in
+    let one = ap (length {A = Submitted}) (of_itself x) in
+    omega (arith, l, m, one, number)
 
 pub taken_items : (took : List Submitted) (hs : List Handled) (h : Handled)
     → took ++ items_of (hs ++ h ∷ []) ≡ (took ++ items_of hs) ++ h.submitted ∷ []
@@ -180,13 +235,18 @@ one_more w u v took got hs h b is number k =
     let old : AreAnswers v.replica.own v.replica.members v.replica.entries hs =
     subst (λ p. AreAnswers p v.replica.members v.replica.entries hs) (sym a.own)
     (subst (λ ps. AreAnswers u.replica.own ps v.replica.entries hs) (sym a.members)
-    (answers_stay u.replica.own u.replica.members v.replica.entries u.replica.entries hs (a.more, a.entries) b.answers)) in record {
+    (subst (λ (G : List Entry). AreAnswers u.replica.own u.replica.members G hs) (sym a.entries)
+    (answers_stay u.replica.own u.replica.members x (took ++ items_of hs) a.more u.replica.entries hs a.for_it so b.taken b.answers))) in
+    let all = taken_items took hs h in record {
       runs = runs_snoc w u v hs h b.runs k;
       own = a.own ∙ b.own;
       members = a.members ∙ b.members;
       running = a.running;
-      come_from = subst (λ (l : List Submitted). ComeFrom l v.replica.entries) (sym (taken_items took hs h))
+      come_from = subst (λ (l : List Submitted). ComeFrom l v.replica.entries) (sym all)
           (subst (ComeFrom ((took ++ items_of hs) ++ x ∷ [])) (sym a.entries)
           (come_from_it (took ++ items_of hs) x a.more u.replica.entries so a.for_it b.come_from));
+      taken = subst (λ (l : List Submitted). AreTaken l (hs ++ h ∷ [])) (sym all)
+          (taken_snoc ((took ++ items_of hs) ++ x ∷ []) hs h (taken_longer (took ++ items_of hs) (x ∷ []) hs b.taken)
+          (comes_to (took ++ items_of hs) x so));
       answers = answers_snoc v.replica.own v.replica.members v.replica.entries hs h old a.answer;
     }

@@ -67,6 +67,8 @@ pub mod CompleteExchange
 pub mod SetElements
 pub mod ClientCells
 pub mod Beginnings
+pub mod LastingAnswers
+pub mod PeerReceipts
 pub mod ReceivedItems
 pub mod HandledItems
 pub mod GrownEngines

@@ -7,14 +7,16 @@ use Rattle.semantics.specs.LegalHistory.{IsAmong}
 use Rattle.semantics.specs.Stamped.{Stamped}
 use Rattle.semantics.specs.Making.{Command}
 use Rattle.semantics.specs.Entries.{Entry, Own, Peer, entry_at}
-use Rattle.semantics.specs.LegalAnswer.{OfCommand, Submitted, Reply, Made, RefusedAt, LacksSerial, IsLegalReply}
+use Rattle.semantics.specs.LegalAnswer.{OfCommand, Submitted, Reply, Made, RefusedAt, LacksSerial}
+use Rattle.semantics.specs.PeerAnswers.{IsAnswer}
 use Rattle.semantics.specs.Engine.{Engine, Client, Cell, Given, Handled, published_entries}
 use Rattle.semantics.specs.ReadSteps.{cell_under}
 use Rattle.semantics.specs.Batches.{items_of}
 use Rattle.semantics.specs.WorldHistory.{WasSubmitted, WasGiven, WasReplied}
 use Rattle.semantics.proofs.Replies.{entry_stays}
 use Rattle.semantics.proofs.OwnReplies.{newest_at}
-use Rattle.semantics.proofs.Beginnings.{begins_first, good_in_longer}
+use Rattle.semantics.proofs.Beginnings.{begins_first}
+use Rattle.semantics.proofs.LastingAnswers.{good_in_longer}
 use Rattle.semantics.proofs.MovedTokens.{cell_of}
 use Rattle.semantics.proofs.SoundEngines.{waiting_items, IsInTurn, open_cell, IsSoundCell, IsSound}
 use Rattle.semantics.proofs.ItemsInTurn.{among_cases}
@@ -91,41 +93,43 @@ module _ (E : Engine) (sound : IsSound E) (c serial : ℕ) where
       (a.2 ∙ sym b.2) (a.3 ∙ sym b.3) in
       sym a.4 ∙ ap (λ (h : Handled). h.reply) is ∙ b.4
 
-  sound_cell : (cell : Cell) → cell_under E c serial ≡ Some cell → IsSoundCell E.replica.own E.replica.entries E.published c serial cell
+  sound_cell : (cell : Cell) → cell_under E c serial ≡ Some cell
+      → IsSoundCell E.replica.own E.replica.members E.replica.entries E.published c serial cell
   sound_cell cell w = at_client (slice_get E.clients c) refl
     where
       at_client : (o : Option Client) → slice_get E.clients c ≡ o
-          → IsSoundCell E.replica.own E.replica.entries E.published c serial cell
+          → IsSoundCell E.replica.own E.replica.members E.replica.entries E.published c serial cell
       at_client None e = (let none : None ≡ Some cell = sym (ap (cell_of serial) e) ∙ w in cc)
       at_client (Some k) e = (sound.clients c k e).cells serial cell (sym (ap (cell_of serial) e) ∙ w)
 
   -- what was replied to: it was submitted under that serial, and the reply is legal in the history
   abbrev IsLegallyReplied : Reply → Type 0
   IsLegallyReplied r = (x : Submitted) × WasSubmitted E c serial x × (x.client ≡ c) × (x.serial ≡ serial)
-      × IsLegalReply E.replica.own E.replica.entries x r
+      × IsAnswer E.replica.own E.replica.members E.replica.entries x r
 
   legally_replied : (r : Reply) → WasReplied E c serial r → IsLegallyReplied r
   legally_replied r (inl w) =
       let cell : Cell = w.1.0 in
       let s = sound_cell cell w.1.1 in
-      let good = good_in_longer E.replica.own E.replica.entries (published_entries E) cell.submitted w.0.reply
+      let good = good_in_longer E.replica.own E.replica.members E.replica.entries (published_entries E) cell.submitted w.0.reply
       (begins_first E.published E.replica.entries) (s.given w.0 w.1.2).1 in (
         cell.submitted,
         (cell, w.1.1, refl),
         s.client,
         s.serial,
-        subst (IsLegalReply E.replica.own E.replica.entries cell.submitted) w.2 good.0,
+        subst (IsAnswer E.replica.own E.replica.members E.replica.entries cell.submitted) w.2 good.0,
       )
   legally_replied r (inr w) = (
     w.0.submitted,
     (open_cell w.0.submitted, open_there w.0 w.1 w.2 w.3, refl),
     w.2,
     w.3,
-    subst (IsLegalReply E.replica.own E.replica.entries w.0.submitted) w.4 (legal (among_cases E.due E.handled w.0 w.1)),
+    subst (IsAnswer E.replica.own E.replica.members E.replica.entries w.0.submitted) w.4 (legal (among_cases E.due E.handled w.0 w.1)),
   )
     where
-      legal : (IsAmong w.0 E.due ⊎ IsAmong w.0 E.handled) → IsLegalReply E.replica.own E.replica.entries w.0.submitted w.0.reply
-      legal (inl m) = (good_in_longer E.replica.own E.replica.entries (published_entries E) w.0.submitted w.0.reply
+      legal : (IsAmong w.0 E.due ⊎ IsAmong w.0 E.handled)
+          → IsAnswer E.replica.own E.replica.members E.replica.entries w.0.submitted w.0.reply
+      legal (inl m) = (good_in_longer E.replica.own E.replica.members E.replica.entries (published_entries E) w.0.submitted w.0.reply
           (begins_first E.published E.replica.entries) (sound.due w.0 m)).0
       legal (inr m) = (sound.handled w.0 m).0
 
@@ -136,7 +140,7 @@ module _ (E : Engine) (sound : IsSound E) (c serial : ℕ) where
     entry_submitted m d s e =
         let reply = replied m c serial d s e in
         let x = legally_replied (Made s.id m) reply in
-        let own = made_of E.replica.own E.replica.entries x.0 s.id m x.4 in
+        let own = made_of E.replica.own E.replica.members E.replica.entries x.0 s.id m x.4 in
         let there = own.3 in
         let same : own.0 ≡ d = cc in
         (x.0, x.1, own.2 ∙ ap OfCommand same, reply)

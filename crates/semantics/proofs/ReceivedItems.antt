@@ -1,8 +1,7 @@
--- A delivery with its drain extends the entry history of a replica, and the reply is legal.
+-- A delivery with its drain extends the entry history of a replica.
 use Rattle.std.proofs.Common.{◌≡◌, ℕ, ◌≤◌, List, [], ◌∷◌, length, refl, sym, ap, ◌∙◌, subst, arith}
 use Rattle.semantics.specs.Stamped.{Stamped}
 use Rattle.semantics.specs.Entries.{Entry, Peer, IsAbove}
-use Rattle.semantics.specs.LegalAnswer.{IsLegalPeerAnswer}
 use Rattle.semantics.specs.Replica.{Replica, IsRunning}
 use Rattle.semantics.specs.Delivery.{Delivered, Kept, Known, NotKept, answer_to, kept_by, deliver}
 use Rattle.semantics.specs.Drain.{counted, receive, with_peers, Drains}
@@ -18,7 +17,6 @@ pub record IsReceived (r : Replica) (s : Stamped) : Type 0 where
   pub members : (counted (receive r s)).members ≡ r.members
   pub entries : BeginsWith (counted (receive r s)).entries r.entries
   pub running : IsRunning (counted (receive r s))
-  pub reply : IsLegalPeerAnswer (counted (receive r s)).entries (reply_delivered (length (receive r s).entries) (answer_to r s))
   pub floor : (n : ℕ) → n ≤ length r.entries → IsNotBelow n (reply_delivered (length (receive r s).entries) (answer_to r s))
   -- it has no serial that wasn't there before
   pub above : (client serial : ℕ) → IsAbove client serial r.entries → IsAbove client serial (counted (receive r s)).entries
@@ -57,11 +55,6 @@ running_counted r h = record { history = h.history; alone = h.alone; foreign = h
 
 -- ---- the reply
 
-receipt : (G : List Entry) (d : Delivered) → IsLegalPeerAnswer G (reply_delivered (length G) d)
-receipt G Kept = omega arith
-receipt G Known = omega arith
-receipt G (NotKept why) = omega arith
-
 not_below : (n m : ℕ) (d : Delivered) → n ≤ m → IsNotBelow n (reply_delivered m d)
 not_below n m Kept l = l
 not_below n m Known l = l
@@ -75,7 +68,6 @@ received r s h = record {
   members = all.1.members ∙ same_members r s (answer_to r s);
   entries = begins;
   running = running_counted (receive r s) all.0;
-  reply = receipt (receive r s).entries (answer_to r s);
   floor = λ n l. not_below n (length (receive r s).entries) (answer_to r s)
       (let k : length r.entries ≤ length (receive r s).entries = no_shorter (receive r s).entries r.entries begins in omega (arith, l));
   above = λ client serial a. subst (IsAbove client serial) (sym appended) (above_with_peers client serial all.1.appended r.entries a);

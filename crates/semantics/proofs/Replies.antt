@@ -11,7 +11,7 @@ use Rattle.semantics.specs.Entries.{Entry, Own, Peer, applied, entry_at, first_e
 use Rattle.semantics.specs.LegalAnswer.{Submitted, Made, RefusedAt, IsCause, LacksSerial, IsLegalAnswer, IsLegalReading, Asked, Reading}
 use Rattle.semantics.specs.LegalAnswer.{reading_of}
 
-entry_below : (n : ℕ) (G : List Entry) (e : Entry) → entry_at n G ≡ Some e → n < length G
+pub entry_below : (n : ℕ) (G : List Entry) (e : Entry) → entry_at n G ≡ Some e → n < length G
 entry_below n [] e h = cc
 entry_below n (f ∷ G) e h = at_test (entry_below n G e) (length G == n) refl h
   where

@@ -7,7 +7,7 @@ use Rattle.semantics.specs.LegalAnswer.{Submitted}
 use Rattle.semantics.specs.Engine.{Engine, Client, Cell, Handled, published_entries}
 use Rattle.semantics.specs.ReadSteps.{cell_at, cell_under}
 use Rattle.semantics.proofs.SetElements.{get-set_same, get-set_other, get-set_cases}
-use Rattle.semantics.proofs.Beginnings.{IsGoodReply}
+use Rattle.semantics.proofs.LastingAnswers.{IsGoodReply}
 use Rattle.semantics.proofs.MovedTokens.{with_client, cell_of}
 use Rattle.semantics.proofs.SoundEngines.{waiting_items, IsInTurn, open_cell, IsSoundClient, IsSound}
 
@@ -28,12 +28,12 @@ cell_moved E queue due c k j h d n cell w keeps = at_client (cases_eq d c)
 -- The moved client is sound, and so is all that stands in the queue and is due.
 pub sound_by_client : (E : Engine) (queue : List Submitted) (due : List Handled) (c : ℕ) (k j : Client) → IsSound E
     → slice_get E.clients c ≡ Some k
-    → IsSoundClient E.replica.own E.replica.entries E.published c j
+    → IsSoundClient E.replica.own E.replica.members E.replica.entries E.published c j
     → IsInTurn (waiting_items due E.handled queue)
     → ((x : Submitted) → IsAmong x (waiting_items due E.handled queue)
     → cell_under (with_client E queue due c j) x.client x.serial ≡ Some (open_cell x))
     → ((x : Submitted) → IsAmong x queue → IsAbove x.client x.serial E.replica.entries)
-    → ((h : Handled) → IsAmong h due → IsGoodReply E.replica.own (published_entries E) h.submitted h.reply)
+    → ((h : Handled) → IsAmong h due → IsGoodReply E.replica.own E.replica.members (published_entries E) h.submitted h.reply)
     → IsSound (with_client E queue due c j)
 sound_by_client E queue due c k j s h client turns unanswered queued good = record {
   running = s.running;
@@ -50,7 +50,7 @@ sound_by_client E queue due c k j s h client turns unanswered queued good = reco
   due = good;
 }
   where
-    sound_there : (d : ℕ) (l : Client) → d ≡ c → l ≡ j → IsSoundClient E.replica.own E.replica.entries E.published d l
+    sound_there : (d : ℕ) (l : Client) → d ≡ c → l ≡ j → IsSoundClient E.replica.own E.replica.members E.replica.entries E.published d l
     sound_there d l e f =
-        subst (λ i. IsSoundClient E.replica.own E.replica.entries E.published i l) (sym e)
-        (subst (λ q. IsSoundClient E.replica.own E.replica.entries E.published c q) (sym f) client)
+        subst (λ i. IsSoundClient E.replica.own E.replica.members E.replica.entries E.published i l) (sym e)
+        (subst (λ q. IsSoundClient E.replica.own E.replica.members E.replica.entries E.published c q) (sym f) client)

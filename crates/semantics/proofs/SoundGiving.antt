@@ -10,7 +10,7 @@ use Rattle.semantics.specs.Engine.{Engine, Client, Cell, Given, Handled, publish
 use Rattle.semantics.specs.WriteSteps.{with_answer, give_oldest, give}
 use Rattle.semantics.specs.ReadSteps.{cell_at, cell_under}
 use Rattle.semantics.proofs.ClientCells.{answered_there, answered_elsewhere, length-answered}
-use Rattle.semantics.proofs.Beginnings.{IsGoodReply}
+use Rattle.semantics.proofs.LastingAnswers.{IsGoodReply}
 use Rattle.semantics.proofs.SetElements.{get-set_same}
 use Rattle.semantics.proofs.MovedTokens.{HasMoved, with_client, cell_of, IsStillReplied, grown_by_client}
 use Rattle.semantics.proofs.SoundEngines.{waiting_items, IsInTurn, open_cell, IsSoundCell, IsSoundClient, IsSound, IsLater}
@@ -38,36 +38,37 @@ module _ (E : Engine) (h : Handled) (due : List Handled) (s : IsSound E) (oldest
   was_open : (x : Submitted) → IsAmong x (waiting_items (h ∷ due) E.handled E.queue) → cell_under E x.client x.serial ≡ Some (open_cell x)
   was_open x m = s.unanswered x (subst (λ (d : List Handled). IsAmong x (waiting_items d E.handled E.queue)) (sym oldest) m)
 
-  good : IsGoodReply E.replica.own (published_entries E) item h.reply
+  good : IsGoodReply E.replica.own E.replica.members (published_entries E) item h.reply
   good = s.due h (subst (IsAmong h) (sym oldest) (inl refl))
 
   its_cell : cell_at k.cells item.serial ≡ Some (open_cell item)
   its_cell = sym (ap (cell_of item.serial) there) ∙ was_open item (inl refl)
 
   answered_cell : (n : ℕ) (cell : Cell) → n ≡ item.serial → cell_at answered.cells n ≡ Some cell
-      → IsSoundCell E.replica.own E.replica.entries E.published item.client n cell
+      → IsSoundCell E.replica.own E.replica.members E.replica.entries E.published item.client n cell
   answered_cell n cell e w =
       let was = (s.clients item.client k there).cells item.serial (open_cell item) its_cell in
       let full : Cell = record { submitted = item; answer = Some answer } in
       let set : cell_at answered.cells n ≡ Some full = ap (cell_at answered.cells) e
       ∙ answered_there k item.serial answer (open_cell item) its_cell in
       let is : full ≡ cell = cc in
-      subst (IsSoundCell E.replica.own E.replica.entries E.published item.client n) is (record {
+      subst (IsSoundCell E.replica.own E.replica.members E.replica.entries E.published item.client n) is (record {
         client = was.client;
         serial = was.serial ∙ sym e;
         floor = was.floor;
         given = λ g q.
             let same : answer ≡ g = cc in
-            subst (λ (a : Given). (a.published ≤ E.published) × IsGoodReply E.replica.own (published_entries E) item a.reply) same
+            subst (λ (a : Given). (a.published ≤ E.published)
+            × IsGoodReply E.replica.own E.replica.members (published_entries E) item a.reply) same
             (omega arith, good);
       })
 
   other_cell : (n : ℕ) (cell : Cell) → (n ≡ item.serial → ⊥) → cell_at answered.cells n ≡ Some cell
-      → IsSoundCell E.replica.own E.replica.entries E.published item.client n cell
+      → IsSoundCell E.replica.own E.replica.members E.replica.entries E.published item.client n cell
   other_cell n cell e w = (s.clients item.client k there).cells n cell
       (sym (answered_elsewhere k item.serial n answer (open_cell item) its_cell e) ∙ w)
 
-  sound_answered : IsSoundClient E.replica.own E.replica.entries E.published item.client answered
+  sound_answered : IsSoundClient E.replica.own E.replica.members E.replica.entries E.published item.client answered
   sound_answered = record {
     seen = (s.clients item.client k there).seen;
     above = subst (λ n. IsAbove item.client (suc n) E.replica.entries)

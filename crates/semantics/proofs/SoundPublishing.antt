@@ -7,7 +7,7 @@ use Rattle.semantics.specs.Entries.{Entry}
 use Rattle.semantics.specs.Engine.{Engine, Handled}
 use Rattle.semantics.specs.WriteSteps.{publish}
 use Rattle.semantics.proofs.OwnReplies.{all_first}
-use Rattle.semantics.proofs.Beginnings.{IsGoodReply}
+use Rattle.semantics.proofs.LastingAnswers.{IsGoodReply}
 use Rattle.semantics.proofs.GrownEngines.{with_history, grown_by_history}
 use Rattle.semantics.proofs.SoundEngines.{waiting_items, IsInTurn, IsSound, IsLater}
 use Rattle.semantics.proofs.AmongLists.{among_left}
@@ -24,13 +24,15 @@ publishes E s none = record {
     running = s.running;
     published = omega arith;
     readers = λ i. omega (arith, s.readers i, s.published);
-    clients = λ c k e. client_grows E.replica.own E.replica.entries E.replica.entries (length E.replica.entries) E.published c k
+    clients = λ c k e. client_grows E.replica.own E.replica.members E.replica.entries E.replica.entries
+        (length E.replica.entries) E.published c k
         ([], refl) s.published s.published (s.clients c k e).above (s.clients c k e);
     turns = subst (λ (d : List Handled). IsInTurn (waiting_items d E.handled E.queue)) none s.turns;
     unanswered = λ x m. s.unanswered x (subst (λ (d : List Handled). IsAmong x (waiting_items d E.handled E.queue)) (sym none) m);
     queued = s.queued;
     handled = λ h m. absurd m;
-    due = λ h m. subst (λ (G : List Entry). IsGoodReply E.replica.own G h.submitted h.reply) (sym (all_first E.replica.entries))
+    due = λ h m. subst (λ (G : List Entry). IsGoodReply E.replica.own E.replica.members G h.submitted h.reply)
+        (sym (all_first E.replica.entries))
         (s.handled h m);
   };
   grown = grown_by_history E E.replica E.queue [] E.handled (length E.replica.entries) refl ([], refl) s.published

@@ -28,7 +28,7 @@ client_sees E c k m s h l u = record {
       (λ x n. inl n);
 }
   where
-    seen_more : IsSoundClient E.replica.own E.replica.entries E.published c (record k { seen = m })
+    seen_more : IsSoundClient E.replica.own E.replica.members E.replica.entries E.published c (record k { seen = m })
     seen_more = record { seen = u; above = (s.clients c k h).above; cells = (s.clients c k h).cells }
 
 -- A poll keeps an engine sound.
@@ -41,7 +41,7 @@ polled E c serial s = at_client (slice_get E.clients c) refl
     at_seen k h g l = client_sees E c k (max k.seen g.published) s h (le-max_left k.seen g.published) (max-le (s.clients c k h).seen l)
 
     at_answer : (k : Client) → slice_get E.clients c ≡ Some k → (cell : Cell)
-        → IsSoundCell E.replica.own E.replica.entries E.published c serial cell → (o : Option Given) → cell.answer ≡ o
+        → IsSoundCell E.replica.own E.replica.members E.replica.entries E.published c serial cell → (o : Option Given) → cell.answer ≡ o
         → IsLater E (poll_cell E c k (Some cell)).engine
     at_answer k h cell w None e = rw e (later_refl E s)
     at_answer k h cell w (Some g) e = rw e (at_seen k h g (w.given g e).0)
@@ -120,7 +120,7 @@ learned E t c serial s = at_client (slice_get E.clients c) refl
     at_given g l = seen E t (max (seen_by E t) g.published) s (le-max_left (seen_by E t) g.published) (max-le (seen_within E s t) l)
 
     at_answer : (k : Client) → slice_get E.clients c ≡ Some k → (cell : Cell) → cell_at k.cells serial ≡ Some cell
-        → IsSoundCell E.replica.own E.replica.entries E.published c serial cell
+        → IsSoundCell E.replica.own E.replica.members E.replica.entries E.published c serial cell
         → (o : Option Given) → cell.answer ≡ o → IsLater E (learn E t c serial).engine
     at_answer k e cell f w None q = rw (e, f, q) (later_refl E s)
     at_answer k e cell f w (Some g) q = rw (e, f, q) (at_given g (w.given g q).0)

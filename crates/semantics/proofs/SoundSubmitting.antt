@@ -30,16 +30,16 @@ module _ (E : Engine) (c : ℕ) (k : Client) (request : Request) (s : IsSound E)
   after = with_client E (E.queue ++ item ∷ []) E.due c submitter
 
   new_cell : (n : ℕ) (cell : Cell) → n ≡ suc (length k.cells) → cell ≡ open_cell item
-      → IsSoundCell E.replica.own E.replica.entries E.published c n cell
-  new_cell n cell e f = subst (λ i. IsSoundCell E.replica.own E.replica.entries E.published c i cell) (sym e)
-      (subst (λ q. IsSoundCell E.replica.own E.replica.entries E.published c (suc (length k.cells)) q) (sym f) (record {
+      → IsSoundCell E.replica.own E.replica.members E.replica.entries E.published c n cell
+  new_cell n cell e f = subst (λ i. IsSoundCell E.replica.own E.replica.members E.replica.entries E.published c i cell) (sym e)
+      (subst (λ q. IsSoundCell E.replica.own E.replica.members E.replica.entries E.published c (suc (length k.cells)) q) (sym f) (record {
         client = refl;
         serial = refl;
         floor = (s.clients c k h).seen;
         given = λ g w. absurd (none-some g w);
       }))
 
-  sound_submitter : IsSoundClient E.replica.own E.replica.entries E.published c submitter
+  sound_submitter : IsSoundClient E.replica.own E.replica.members E.replica.entries E.published c submitter
   sound_submitter = record {
     seen = (s.clients c k h).seen;
     above = above_more c (suc (length k.cells)) (suc (length submitter.cells)) E.replica.entries

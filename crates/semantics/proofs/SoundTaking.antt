@@ -11,7 +11,8 @@ use Rattle.semantics.specs.Engine.{Engine, Client, Handled, published_entries}
 use Rattle.semantics.specs.WriteSteps.{after_submission, reply_to, take_oldest, take_submission}
 use Rattle.semantics.specs.ReadSteps.{cell_at, cell_under}
 use Rattle.semantics.proofs.ClientCells.{cell_within}
-use Rattle.semantics.proofs.Beginnings.{no_shorter, IsGoodReply, good_in_longer}
+use Rattle.semantics.proofs.Beginnings.{no_shorter}
+use Rattle.semantics.proofs.LastingAnswers.{IsGoodReply, good_in_longer}
 use Rattle.semantics.proofs.HandledItems.{IsHandled, handled}
 use Rattle.semantics.proofs.GrownEngines.{with_history, grown_by_history}
 use Rattle.semantics.proofs.MovedTokens.{cell_of}
@@ -55,9 +56,14 @@ module _ (E : Engine) (x : Submitted) (queue : List Submitted) (s : IsSound E) (
     as_waiting : waiting_items E.due (E.handled ++ as_handled ∷ []) queue ≡ waiting_items E.due E.handled E.queue
     as_waiting = waiting-taken E.due E.handled queue as_handled ∙ ap (waiting_items E.due E.handled) (sym oldest)
 
-    clients_sound : (c : ℕ) (k : Client) → slice_get E.clients c ≡ Some k → IsSoundClient r.own r.entries E.published c k
-    clients_sound c k e = subst (λ p. IsSoundClient p r.entries E.published c k) (sym h.own)
-        (client_grows E.replica.own r.entries E.replica.entries E.published E.published c k h.entries s.published (omega arith)
+    -- the own number and the members are as before
+    as_before : (P : ℕ → List ℕ → Type 0) → P E.replica.own E.replica.members → P r.own r.members
+    as_before P q = subst (λ p. P p r.members) (sym h.own) (subst (P E.replica.own) (sym h.members) q)
+
+    clients_sound : (c : ℕ) (k : Client) → slice_get E.clients c ≡ Some k → IsSoundClient r.own r.members r.entries E.published c k
+    clients_sound c k e = as_before (λ p ps. IsSoundClient p ps r.entries E.published c k)
+        (client_grows E.replica.own E.replica.members r.entries E.replica.entries E.published E.published c k h.entries s.published
+        (omega arith)
         (h.above c (suc (length k.cells)) (s.clients c k e).above below) (s.clients c k e))
       where
         below : x.client ≡ c → x.serial < suc (length k.cells)
@@ -71,11 +77,11 @@ module _ (E : Engine) (x : Submitted) (queue : List Submitted) (s : IsSound E) (
         (turns_right (map (λ g. g.submitted) E.due) (map (λ g. g.submitted) E.handled ++ x ∷ queue) in_turn)).0 y m
         (sym f))
 
-    all_good : (g : Handled) → IsAmong g (E.handled ++ as_handled ∷ []) → IsGoodReply r.own r.entries g.submitted g.reply
+    all_good : (g : Handled) → IsAmong g (E.handled ++ as_handled ∷ []) → IsGoodReply r.own r.members r.entries g.submitted g.reply
     all_good g m = elim (among_last E.handled as_handled g m) [
-      | inl o ↦ subst (λ p. IsGoodReply p r.entries g.submitted g.reply) (sym h.own)
-          (good_in_longer E.replica.own r.entries E.replica.entries g.submitted g.reply h.entries (s.handled g o))
-      | inr e ↦ subst (λ (f : Handled). IsGoodReply r.own r.entries f.submitted f.reply) (sym e) h.good
+      | inl o ↦ as_before (λ p ps. IsGoodReply p ps r.entries g.submitted g.reply)
+          (good_in_longer E.replica.own E.replica.members r.entries E.replica.entries g.submitted g.reply h.entries (s.handled g o))
+      | inr e ↦ subst (λ (f : Handled). IsGoodReply r.own r.members r.entries f.submitted f.reply) (sym e) h.good
     ]
 
     still : (g : Handled) → IsAmong g (E.due ++ E.handled) → IsAmong g (E.due ++ (E.handled ++ as_handled ∷ []))
@@ -96,8 +102,8 @@ module _ (E : Engine) (x : Submitted) (queue : List Submitted) (s : IsSound E) (
         unanswered = λ y m. s.unanswered y (subst (IsAmong y) as_waiting m);
         queued = later_above;
         handled = all_good;
-        due = λ g m. subst (λ p. IsGoodReply p (published_entries after) g.submitted g.reply) (sym h.own)
-            (good_in_longer E.replica.own (published_entries after) (published_entries E) g.submitted g.reply
+        due = λ g m. as_before (λ p ps. IsGoodReply p ps (published_entries after) g.submitted g.reply)
+            (good_in_longer E.replica.own E.replica.members (published_entries after) (published_entries E) g.submitted g.reply
             (begins_published r.entries E.replica.entries E.published E.published h.entries s.published (omega arith)) (s.due g m));
       };
       grown = grown_by_history E r queue (E.handled ++ as_handled ∷ []) E.due E.published h.own h.entries (omega arith) still;

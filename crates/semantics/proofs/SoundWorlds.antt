@@ -30,8 +30,8 @@ no_readings zero i = omega arith
 no_readings (suc n) zero = omega arith
 no_readings (suc n) (suc i) = no_readings n i
 
-sound_new_client : (p c : ℕ) (k : Client) → k ≡ record { seen = 0; cells = [] } → IsSoundClient p [] 0 c k
-sound_new_client p c k e = subst (IsSoundClient p [] 0 c) (sym e)
+sound_new_client : (p : ℕ) (ps : List ℕ) (c : ℕ) (k : Client) → k ≡ record { seen = 0; cells = [] } → IsSoundClient p ps [] 0 c k
+sound_new_client p ps c k e = subst (IsSoundClient p ps [] 0 c) (sym e)
     (record { seen = omega arith; above = tt; cells = λ n cell w. absurd (none n cell w) })
   where
     none : (n : ℕ) (cell : Cell) → cell_at [] n ≡ Some cell → ⊥
@@ -43,7 +43,8 @@ sound_opened_engine c = record {
   running = record { history = tt; alone = λ s m. absurd m; foreign = λ s m. absurd m; unapplied = λ s m. absurd m; rising = tt };
   published = omega arith;
   readers = no_readings c.readers;
-  clients = λ d k e. sound_new_client c.own d k (copied c.clients (record { seen = 0; cells = [] }) d k e);
+  clients = λ d k e. sound_new_client c.own (opened_engine c).replica.members d k
+      (copied c.clients (record { seen = 0; cells = [] }) d k e);
   turns = tt;
   unanswered = λ x m. absurd m;
   queued = λ x m. absurd m;

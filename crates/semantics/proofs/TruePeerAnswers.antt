@@ -1,4 +1,4 @@
--- What an answer to a delivery says of the operation and of the history.
+-- What an answer to a delivery says of the operation and of the history, and that a history has what a legal answer names.
 use Rattle.std.proofs.Common.{◌≡◌, inl, inr, ℕ, ◌≤◌, Bool, true, false, cond, ◌||◌, ◌==◌, nat_lt, List, [], ◌∷◌, ◌++◌, length, Option, Some}
 use Rattle.std.proofs.Common.{None, refl, sym, ap, ◌∙◌, true≢false, eqb-true}
 use Rattle.std.proofs.lemmas.Bool.{or_right}
@@ -8,13 +8,15 @@ use Rattle.semantics.specs.Ids.{OpId, is_same_id}
 use Rattle.semantics.specs.LegalHistory.{has_id}
 use Rattle.semantics.specs.Stamped.{Stamped}
 use Rattle.semantics.specs.Faults.{alone_fault, fault_of, is_ready}
-use Rattle.semantics.specs.Making.{is_full}
-use Rattle.semantics.specs.Entries.{Entry, applied, first_entries, stamped_entries, stamped_in}
+use Rattle.semantics.specs.Making.{Command, is_full}
+use Rattle.semantics.specs.Entries.{Entry, Own, applied, first_entries, stamped_entries, stamped_in}
+use Rattle.semantics.specs.LegalAnswer.{Request, OfCommand, OfPeer, Submitted, Reply, Made, RefusedAt, KeptAt, KnownAt, IsLegalAnswer}
 use Rattle.semantics.specs.Replica.{Replica, operations}
 use Rattle.semantics.specs.Delivery.{Delivered, Kept, Known, NotKept, is_waiting, kept_unless, room_answer, answer_after, answer_to}
 use Rattle.semantics.specs.WorldHistory.{BeginsWith}
 use Rattle.semantics.proofs.Beginnings.{first_begins_first}
-use Rattle.semantics.specs.PeerAnswers.{WasAnswered, IsTrueOf}
+use Rattle.semantics.proofs.Replies.{entry_below}
+use Rattle.semantics.specs.PeerAnswers.{WasAnswered, IsPeerAnswer, IsAnswer, IsTrueOf, IsWithin}
 
 same_cause : (e f : Refusal) → NotKept f ≡ NotKept e → f ≡ e
 same_cause e f is = cc
@@ -118,3 +120,26 @@ pub kept_as_new : (p : ℕ) (ps : List ℕ) (G : List Entry) (s : Stamped) (floo
 kept_as_new p ps G s floor m a =
     lacks_shorter (first_entries a.k G) (first_entries floor G) s.id (first_begins_first floor a.k G a.from)
     (kept_new (record { own = p; members = ps; entries = first_entries a.k G; waiting = a.waiting; dropped = 0 }) s a.answer)
+
+-- ---- what a legal answer names is there
+
+command_within : (p : ℕ) (G : List Entry) (x : Submitted) (c : Command) (y : Reply) → IsLegalAnswer p G x c y → IsWithin G y
+command_within p G x c (Made a n) h = entry_below n G (Own x.client x.serial c h.0) h.1
+command_within p G x c (RefusedAt e m) h = h.0
+command_within p G x c (KeptAt m) h = absurd h
+command_within p G x c (KnownAt m) h = absurd h
+
+peer_within : (p : ℕ) (ps : List ℕ) (G : List Entry) (x : Submitted) (s : Stamped) (y : Reply) → IsPeerAnswer p ps G x s y → IsWithin G y
+peer_within p ps G x s (Made a n) h = absurd h
+peer_within p ps G x s (KeptAt m) h = h.within
+peer_within p ps G x s (KnownAt m) h = h.within
+peer_within p ps G x s (RefusedAt e m) (inl h) = h.within
+peer_within p ps G x s (RefusedAt e m) (inr (inl h)) = h.2
+peer_within p ps G x s (RefusedAt e m) (inr (inr h)) = h.2
+
+pub answer_within : (p : ℕ) (ps : List ℕ) (G : List Entry) (x : Submitted) (y : Reply) → IsAnswer p ps G x y → IsWithin G y
+answer_within p ps G x y = of_request x.request refl
+  where
+    of_request : (q : Request) → x.request ≡ q → IsAnswer p ps G x y → IsWithin G y
+    of_request (OfCommand c) is = rw is (λ h. command_within p G x c y h.0)
+    of_request (OfPeer s) is = rw is (peer_within p ps G x s y)

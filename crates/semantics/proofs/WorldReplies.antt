@@ -9,7 +9,8 @@ use Rattle.semantics.specs.Stamped.{Stamped}
 use Rattle.semantics.specs.Making.{Command}
 use Rattle.semantics.specs.Entries.{Entry, Own, applied, stamped_entries, entry_at, first_entries}
 use Rattle.semantics.specs.LegalAnswer.{Request, OfCommand, OfPeer, Submitted, Reply, Made, Asked, OfDocument, Reading, Answered}
-use Rattle.semantics.specs.LegalAnswer.{IsLegalAnswer, IsLegalReply, reading_of}
+use Rattle.semantics.specs.LegalAnswer.{IsLegalAnswer, reading_of}
+use Rattle.semantics.specs.PeerAnswers.{IsAnswer}
 use Rattle.semantics.specs.Engine.{Engine, Client, Cell, Given, Replied, Read, published_entries}
 use Rattle.semantics.specs.ReadSteps.{cell_at, poll_cell, poll, ask, seen_by}
 use Rattle.semantics.specs.WorldHistory.{BeginsWith, WasSubmitted, IsNotBelow}
@@ -62,13 +63,13 @@ replied_from E c serial r h = at_client (slice_get E.clients c) refl h
 
 pub poll_legal : (E : Engine) → IsSound E → (c serial : ℕ) (r : Reply) → (poll E c serial).reply ≡ Replied r
     → (x : Submitted) × WasSubmitted E c serial x × (x.client ≡ c) × (x.serial ≡ serial)
-    × IsLegalReply E.replica.own (published_entries E) x r × IsNotBelow x.floor r
+    × IsAnswer E.replica.own E.replica.members (published_entries E) x r × IsNotBelow x.floor r
 poll_legal E s c serial r h =
     let from = replied_from E c serial r h in
-    let sound : IsSoundCell E.replica.own E.replica.entries E.published c serial from.cell =
+    let sound : IsSoundCell E.replica.own E.replica.members E.replica.entries E.published c serial from.cell =
     (s.clients c from.client from.is_client).cells serial from.cell from.is_cell in
     let good = subst
-    (λ (q : Reply). IsLegalReply E.replica.own (published_entries E) from.cell.submitted q
+    (λ (q : Reply). IsAnswer E.replica.own E.replica.members (published_entries E) from.cell.submitted q
     × IsNotBelow from.cell.submitted.floor q) from.is_reply
     (sound.given from.given from.is_given).1 in (
       from.cell.submitted,
@@ -88,13 +89,13 @@ submitted_once E c serial x y h k =
     sym h.2 ∙ ap (λ (cell : Cell). cell.submitted) same ∙ k.2
 
 -- only a command is answered Made
-pub made_of : (p : ℕ) (G : List Entry) (x : Submitted) (a : OpId) (n : ℕ) → IsLegalReply p G x (Made a n)
+pub made_of : (p : ℕ) (ps : List ℕ) (G : List Entry) (x : Submitted) (a : OpId) (n : ℕ) → IsAnswer p ps G x (Made a n)
     → (c : Command) × (s : Stamped) × (x.request ≡ OfCommand c) × (entry_at n G ≡ Some (Own x.client x.serial c s)) × (s.id ≡ a)
-made_of p G x a n h = of_request x.request refl h
+made_of p ps G x a n h = of_request x.request refl h
   where
-    of_request : (q : Request) → x.request ≡ q → IsLegalReply p G x (Made a n)
+    of_request : (q : Request) → x.request ≡ q → IsAnswer p ps G x (Made a n)
         → (c : Command) × (s : Stamped) × (x.request ≡ OfCommand c) × (entry_at n G ≡ Some (Own x.client x.serial c s)) × (s.id ≡ a)
-    of_request (OfCommand c) is w = (let l : IsLegalAnswer p G x c (Made a n) = rw is at w in (c, l.0, is, l.1, l.2))
+    of_request (OfCommand c) is w = (let l = rw is at w in let m : IsLegalAnswer p G x c (Made a n) = l.0 in (c, m.0, is, m.1, m.2))
     of_request (OfPeer s) is w = (let n : ⊥ = rw is at w in absurd n)
 
 pub made_once : (E : Engine) → IsSound E → (c serial : ℕ) (x : Submitted) (a : OpId) (n : ℕ) → WasSubmitted E c serial x
@@ -105,7 +106,7 @@ pub made_once : (E : Engine) → IsSound E → (c serial : ℕ) (x : Submitted) 
 made_once E s c serial x a n w h =
     let p = poll_legal E s c serial (Made a n) h in
     let same : p.0 ≡ x = submitted_once E c serial p.0 x p.1 w in
-    let m = made_of E.replica.own (published_entries E) p.0 a n p.4 in
+    let m = made_of E.replica.own E.replica.members (published_entries E) p.0 a n p.4 in
     let there : entry_at n (published_entries E) ≡ Some (Own c serial m.0 m.1) = m.3 ∙ (λ i. Some (Own (p.2 i) (p.3 i) m.0 m.1)) in
     let rest = begins_first E.published E.replica.entries in
     let there_in_all : entry_at n E.replica.entries ≡ Some (Own c serial m.0 m.1) = ap (entry_at n) rest.1

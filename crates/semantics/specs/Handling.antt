@@ -10,7 +10,7 @@ use Rattle.semantics.specs.Delivery.{answer_to, deliver}
 use Rattle.semantics.specs.Drain.{counted, drain, drain_for}
 use Rattle.semantics.specs.WriteSteps.{after_submission, reply_to, reply_delivered}
 use Rattle.semantics.specs.Engine.{Handled}
-use Rattle.semantics.specs.PeerAnswers.{IsAnswer}
+use Rattle.semantics.specs.PeerAnswers.{IsAnswerWith}
 
 -- a writer's replica, and whether a failed allocation ended its last drain early
 pub record Handler : Type 0 where
@@ -75,7 +75,7 @@ AreFor x [] = ⊤
 AreFor x (Own client serial c s ∷ G) = (client ≡ x.client) × (serial ≡ x.serial) × (x.request ≡ OfCommand c) × AreFor x G
 AreFor x (Peer s ∷ G) = AreFor x G
 
--- t is the replica r after the submission x was handled, and y is a legal answer to it
+-- t is the replica r after the submission x was handled, which may be answered y with a notice of what t has
 pub record IsAfter (r : Replica) (x : Submitted) (y : Reply) (t : Replica) : Type 0 where
   pub own : t.own ≡ r.own
   pub members : t.members ≡ r.members
@@ -83,7 +83,7 @@ pub record IsAfter (r : Replica) (x : Submitted) (y : Reply) (t : Replica) : Typ
   pub entries : t.entries ≡ more ++ r.entries
   pub for_it : AreFor x more
   pub running : IsRunning t
-  pub answer : IsAnswer t.own t.members t.entries x y
+  pub answer : IsAnswerWith t.own t.members t.entries x y
 
 -- the refusal isn't one of the rules: an allocation failed, or the floor is above the history
 abbrev pub is_outside_rules : Refusal → Bool

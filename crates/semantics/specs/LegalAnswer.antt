@@ -48,21 +48,6 @@ IsLegalAnswer p G x c (RefusedAt e m) = (m ≤ length G) × IsCause p G x c m e 
 IsLegalAnswer p G x c (KeptAt m) = ⊥
 IsLegalAnswer p G x c (KnownAt m) = ⊥
 
--- the reply to an operation that a peer sent: nothing was made, and the history had the length that is named
-abbrev pub IsLegalPeerAnswer : List Entry → Reply → Type 0
-IsLegalPeerAnswer G (Made a n) = ⊥
-IsLegalPeerAnswer G (RefusedAt e m) = m ≤ length G
-IsLegalPeerAnswer G (KeptAt m) = m ≤ length G
-IsLegalPeerAnswer G (KnownAt m) = m ≤ length G
-
--- the reply that it allows to what was submitted
-abbrev pub IsLegalReply : ℕ → List Entry → Submitted → Reply → Type 0
-IsLegalReply p G x r = of_request x.request
-  where
-    of_request : Request → Type 0
-    of_request (OfCommand c) = IsLegalAnswer p G x c r
-    of_request (OfPeer s) = IsLegalPeerAnswer G r
-
 -- a question to the document, or for the operations that a vector doesn't name
 pub data Asked : Type 0 where
   OfDocument : Question → Asked

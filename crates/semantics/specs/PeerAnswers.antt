@@ -1,5 +1,5 @@
 -- The answers that a history allows to what was submitted; a delivery's answer is true of some beginning of it.
-use Rattle.std.specs.Prelude.{◌≡◌, ◌⊎◌, ℕ, ◌<◌, ◌≤◌, true, false, List, length, Some}
+use Rattle.std.specs.Prelude.{◌≡◌, ◌⊎◌, ℕ, ◌<◌, ◌≤◌, ⊤, true, false, List, length, Some}
 use Rattle.ids.specs.declared.refusal.Refusal.{Refusal}
 use Rattle.ids.specs.declared.refusal.Refusal.TheVariants.{NoMemory, BadFloor, HistoryFull, InboxFull, OwnName}
 use Rattle.semantics.specs.Stamped.{Stamped}
@@ -8,6 +8,7 @@ use Rattle.semantics.specs.Faults.{alone_fault, fault_of}
 use Rattle.semantics.specs.Making.{is_full}
 use Rattle.semantics.specs.Entries.{Entry, applied, first_entries, stamped_entries}
 use Rattle.semantics.specs.LegalAnswer.{Request, OfCommand, OfPeer, Submitted, Reply, Made, RefusedAt, KeptAt, KnownAt, IsLegalAnswer}
+use Rattle.semantics.specs.LegalAnswer.{LacksSerial}
 use Rattle.semantics.specs.Delivery.{Delivered, Kept, Known, NotKept, answer_to}
 use Rattle.semantics.specs.WorldHistory.{IsNotBelow}
 
@@ -46,6 +47,24 @@ IsAnswer p ps G x y = of_request x.request
     of_request : Request → Type 0
     of_request (OfCommand c) = IsLegalAnswer p G x c y × IsFromFloor x.floor y
     of_request (OfPeer s) = IsPeerAnswer p ps G x s y
+
+-- what was refused stands nowhere in G, neither before the length that is named nor after it
+abbrev pub LacksRefused : List Entry → Submitted → Reply → Type 0
+LacksRefused G x (RefusedAt e m) = LacksSerial x.client x.serial G
+LacksRefused G x (Made a n) = ⊤
+LacksRefused G x (KeptAt m) = ⊤
+LacksRefused G x (KnownAt m) = ⊤
+
+-- x may be answered y with a notice of G: the reply is one that G allows, and what it refuses stands nowhere in G
+abbrev pub IsAnswerWith : (own : ℕ) (members : List ℕ) → List Entry → Submitted → Reply → Type 0
+IsAnswerWith p ps G x y = IsAnswer p ps G x y × LacksRefused G x y
+
+-- G has the position, or the length, that a reply names
+abbrev pub IsWithin : List Entry → Reply → Type 0
+IsWithin G (Made a n) = n < length G
+IsWithin G (RefusedAt e m) = m ≤ length G
+IsWithin G (KeptAt m) = m ≤ length G
+IsWithin G (KnownAt m) = m ≤ length G
 
 -- the refusal is true of the operation and of these entries of replica p, or it is InboxFull, of which nothing is said
 abbrev pub IsTrueOf : (own : ℕ) (members : List ℕ) → List Entry → Stamped → Refusal → Type 0

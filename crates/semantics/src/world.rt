@@ -13,7 +13,8 @@ ghost use Rattle.semantics.specs.Stamped.{Stamped};
 ghost use Rattle.semantics.specs.Making.{Command};
 ghost use Rattle.semantics.specs.Entries.{IsEntryHistory, Own, applied, entry_at, first_entries, stamped_entries};
 ghost use Rattle.semantics.specs.LegalAnswer.{Request, OfCommand, OfPeer, Submitted, Reply, Made, RefusedAt, Asked, OfDocument, Reading};
-ghost use Rattle.semantics.specs.LegalAnswer.{Answered, LacksSerial, IsLegalReply, reading_of};
+ghost use Rattle.semantics.specs.LegalAnswer.{Answered, LacksSerial, reading_of};
+ghost use Rattle.semantics.specs.PeerAnswers.{IsAnswer};
 ghost use Rattle.semantics.specs.Engine.{Engine, Client, Given, Message, Hello, Bundle, Ticket, Replied, Read, SentBundle, Received};
 ghost use Rattle.semantics.specs.Engine.{published_entries};
 ghost use Rattle.semantics.specs.WriteSteps.{next_submission, push};
@@ -59,12 +60,13 @@ pub fn no_submission_vanishes()
         (c : ℕ) → HasAllSubmitted E c }
 {}
 
-/// Each reply to a poll is a legal answer, in the published history, to what was submitted under that serial, and not below its floor.
+/// Each reply to a poll is a legal answer, in the published history, to what was submitted under that serial, and not below its floor. Of
+/// what a delivery's refusal is true, `deliveries_are_answered_truly` says.
 pub fn polls_reply_legally()
     ensures { (cs : List Configuration) (steps : List WorldStep) (e : ℕ) (E : Engine) → IsEngineAfter cs steps e E →
         (c serial : ℕ) (r : Reply) → (poll E c serial).reply ≡ Replied r →
         (x : Submitted) × WasSubmitted E c serial x × (x.client ≡ c) × (x.serial ≡ serial)
-        × IsLegalReply E.replica.own (published_entries E) x r × IsNotBelow x.floor r }
+        × IsAnswer E.replica.own E.replica.members (published_entries E) x r × IsNotBelow x.floor r }
 {}
 
 /// A command that was answered Made stands in the history at the position that the answer names, as submitted, and nowhere else.

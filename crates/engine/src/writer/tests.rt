@@ -16,7 +16,7 @@ use crate::closing::close;
 use crate::opening::{Parts, open, prepare};
 use command::{ReaderToken, Ticket};
 use ids::{Config, Refusal, ReplicaId};
-use replica::{Command, Expr, ExprStep as Hop, Key, Question, Reading, Scalar, Val};
+use replica::{Command, Expr, ExprStep as Hop, Key, Question, Reading, Reply, Scalar, Val};
 use schedules::{go_on, schedule};
 use std::marker::Brand;
 use std::process::Abort;

@@ -7,13 +7,12 @@ ghost use Rattle.command.specs.InOrder.{sender_hand};
 use command::*;
 use cursor::Expr;
 use ids::Refusal;
-use once_cell::race::OnceBox;
 use operation::{Command, Request, Shared, Submission};
 use published::EngineName;
 use std::alloc::Global;
 use std::marker::Brand;
 use std::process::Abort;
-use std::sync::{Arc, Wait};
+use std::sync::Wait;
 use std::test::Fail;
 use std::thread::{Threads, join, yield_now};
 
@@ -48,7 +47,7 @@ fn fill_and_empty<N: EngineName, R: Wait + Abort>(
     let Err((why, back)) = sender.send(rt, envelope(alloc, 2)?) else {
         return Err(Fail::from("the queue has one slot"));
     };
-    assert!(rt; why == Refusal::QueueFull && back.answer.submission().serial == 2);
+    assert!(rt; why == Refusal::QueueFull && back.submission().serial == 2);
     assert!(rt; serial_taken(rt, taker) == Some(1));
     assert!(rt; sender.send(rt, back).is_ok());
     assert!(rt; serial_taken(rt, taker) == Some(2));
@@ -126,7 +125,7 @@ fn take_all<N: EngineName, R: Wait>(rt: &R, taker: &mut Taker<N>, count: u64) ->
 /// Takes the submission at the front, and returns its serial.
 fn serial_taken<N: EngineName, R: Wait>(rt: &R, taker: &mut Taker<N>) -> Option<u64> {
     let submission = taker.take(rt)?;
-    Some(submission.answer.submission().serial)
+    Some(submission.submission().serial)
 }
 
 /// A submission of client 0 with this serial, which asks for a delete at the root.
@@ -141,8 +140,6 @@ fn envelope<N: EngineName>(alloc: Global, serial: u64) -> Result<Envelope<N>, Re
         floor: 0,
         request: Request::Command(command),
     };
-    Ok(Envelope {
-        answer: Box::new(alloc, Answer::blank(Shared::new(alloc, submission)?))?,
-        cell: Arc::new(alloc, OnceBox::new(alloc))?,
-    })
+    let (envelope, _cell) = Envelope::new(alloc, Shared::new(alloc, submission)?)?;
+    Ok(envelope)
 }

@@ -7,5 +7,12 @@ abbrev pub invariant-loop-number : goal.invariant-loop-number
 invariant-loop-number g l = record {
   requests : requests_by g.N.EngineName.table l.client ≡ requests_by g.N.EngineName.table l.fn.client ++ assignments l.fn.key l.number;
   read : 0 < l.number → Shows l.client.seen l.fn.key (l.number - 1);
-  same : l.client ≡ record l.fn.client { seen = l.client.seen; read = l.client.read; kept = l.client.kept };
+  same : l.client
+      ≡ record l.fn.client {
+        found_full = l.client.found_full;
+        seen = l.client.seen;
+        read = l.client.read;
+        reads = l.client.reads;
+        kept = l.client.kept;
+      };
 }

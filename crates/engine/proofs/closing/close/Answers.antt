@@ -1,5 +1,6 @@
 -- The clients end one after another; what they had sent and what is left in the queue is all that each submitted.
-use Rattle.std.proofs.Common.{◌≡◌, ◌++◌, ℕ, List, Some, length, sym, ap, ◌∙◌, subst, arith, refl, rules}
+use Rattle.std.proofs.Common.{◌≡◌, ◌<◌, ◌++◌, ℕ, List, Some, length, sym, ap, ◌∙◌, subst, arith, refl, rules}
+use Rattle.std.specs.List.{All}
 use Rattle.crossbeam_queue.specs.Passes.{view}
 use Rattle.semantics.specs.Entries.{Entry, Own, entry_at, IsEntryHistory}
 use Rattle.replica.specs.oplog.Logs.{history}
@@ -30,6 +31,7 @@ loop-client-init g c =
           (search rules) c.writer.invariant.none_ended,
       refl,
       refl,
+      refl,
     )
 
 pub loop-client-preserved : goal.loop-client-preserved
@@ -40,6 +42,7 @@ loop-client-preserved g c = (
       c.end.ensures.taker.2 c.end.ensures.seen c.notice-notice.ensures.published,
   c.end.ensures.taker.1 ∙ c.loop-client.invariant.3,
   c.end.ensures.taker.0 ∙ c.loop-client.invariant.4,
+  c.end.ensures.taker.3 ∙ c.loop-client.invariant.5,
 )
 
 pub returns-clause-seen : goal.returns-clause-seen
@@ -51,12 +54,16 @@ returns-clause-taken g c =
     let q = c.rest.ensures.whole in
     let got : (view c.loop-client.taker.pass).got ≡ c.args.writer.took = c.loop-client.invariant.3
     ∙ ap (λ (w : Writer). w.took) c.writer.view_is in
+    let made : (view c.loop-client.taker.pass).made ≡ c.args.writer.clients = c.loop-client.invariant.5
+    ∙ ap (λ (w : Writer). w.clients) c.writer.view_is in
     let held : c.len-2.result ≡ length c.writer.inside.held.items = search rules in
     let same : length c.writer.inside.held.items ≡ length c.args.writer.held = ap (λ (w : Writer). length w.held) c.writer.view_is in (
       q.0,
       omega (arith, held, same, q.1),
       λ k d at. ap (λ (l : List Submission). of k (l ++ q.0)) (sym got)
           ∙ q.2 k (submissions_by d) (known_at _ _ _ _ _ _ c.loop-client.invariant.2 (search rules) k d at),
+      subst (λ (l : List Submission). All (λ (x : Submission). x.client < c.args.writer.clients) (l ++ q.0)) got
+          (subst (λ n. All (λ (x : Submission). x.client < n) ((view c.loop-client.taker.pass).got ++ q.0)) made q.3),
     )
 
 pub returns-clause-own : goal.returns-clause-own

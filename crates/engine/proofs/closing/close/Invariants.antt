@@ -11,3 +11,4 @@ invariant-loop-client g l =
     (view l.taker.pass).known l.initial.taker.pass.table_id l.publisher.published
     × ((view l.taker.pass).got ≡ (view l.initial.taker.pass).got)
     × (l.taker.pass.table_id ≡ l.initial.taker.pass.table_id)
+    × ((view l.taker.pass).made ≡ (view l.initial.taker.pass).made)

@@ -17,6 +17,7 @@ loop-number-preserved g c =
       replica = search rules;
       serials = search rules;
       capacity = search rules;
+      found_full = search rules;
       seen = c.new.ensures.6 ∙ unseen.1;
       kept = search rules;
     } in
@@ -24,6 +25,7 @@ loop-number-preserved g c =
       got = c.sender.ensures.same.1 ∙ before.got;
       known = c.sender.ensures.same.2 ∙ before.known;
       made = search rules;
+      found_empty = c.sender.ensures.same.3 ∙ before.found_empty;
       capacity = c.sender.ensures.capacity ∙ before.capacity;
       are = clients_snoc c.sender.new.self.pass.table_id 0 c.loop-number.number c.loop-number.clients.items c.push_reserved.new.self.items
           client pushed

@@ -11,6 +11,7 @@ invariant-loop-number g l = record {
   got : (view l.taker.pass).got ≡ [];
   known : (view l.taker.pass).known ≡ [];
   made : (view l.taker.pass).made ≡ l.number;
+  found_empty : l.taker.found_empty ≡ 0;
   capacity : ruled_capacity (arc_value l.taker.queue) ≡ l.fn.config.queue;
   are : AreClients l.taker.pass.table_id 0 l.clients.items;
   count : length l.clients.items ≡ l.number;

@@ -1,6 +1,5 @@
 use Rattle.std.proofs.Common.{◌≡◌, rules, sym, ap, subst, arith}
 use Rattle.std.specs.Prelude.{IfErr}
-use Rattle.ids.specs.declared.refusal.Refusal.{Refusal}
 use Rattle.ids.specs.declared.refusal.Refusal.TheVariants.{NoMemory}
 use Rattle.ids.specs.Configurations.{Configuration}
 use Rattle.engine.proofs.Limits.{limits, no_memory_alone}

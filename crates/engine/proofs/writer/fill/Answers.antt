@@ -17,9 +17,14 @@ loop-preserved g c = record {
       c.in-Some.envelope.answer.value.submission c.in-Some.ensures.taken.1 c.handle_one-handled.result
       (handler_of c.handle_one-handled.new.handler) (view c.take.new.self.pass).got c.push_reserved.new.self.items
       c.in-Some.ensures.taken.0 c.push_reserved.ensures.items c.handle_one-handled.ensures.submission c.handle_one-handled.ensures.handled;
-  taker = (c.in-Some.ensures.same.0 ∙ c.loop.invariant.taker.0, c.in-Some.ensures.same.1 ∙ c.loop.invariant.taker.1);
+  taker = (
+    c.in-Some.ensures.same.0 ∙ c.loop.invariant.taker.0,
+    c.in-Some.ensures.same.1 ∙ c.loop.invariant.taker.1,
+    c.in-Some.ensures.same.2 ∙ c.loop.invariant.taker.2,
+  );
   holds = c.handle_one-handled.ensures.holds;
   published = c.handle_one-handled.ensures.published ∙ c.loop.invariant.published;
   room = search rules;
   count = search rules;
+  empty = c.in-Some.ensures.empty ∙ c.loop.invariant.empty;
 }

@@ -1,8 +1,6 @@
 use Rattle.std.proofs.Common.{◌≡◌, ℕ, ◌+◌, ◌==◌, cond, length, inr, sym, ap, ◌∙◌, subst, arith}
 use Rattle.engine.specs.Clients.{Client}
-use Rattle.wire.specs.Bundles.{readable}
 use Rattle.peer_sync.specs.declared.receiving.Received.{Received}
-use Rattle.peer_sync.specs.Receiving.{StopsAfter}
 use Rattle.peer_sync.proofs.Submissions.{HasSubmitted, first_serial-next, kept_after, stops, stops-end, submitted-more}
 use Rattle.peer_sync.proofs.receiving.receive.Goals as goal
 
@@ -39,9 +37,8 @@ returns-in-Err-clause-stopped g c =
     let text = c.args.bundle.now in
     let n : ℕ = c.loop-line.received.submitted in (
       omega (arith, c.in-Some.ensures.number.0, c.loop-line.invariant.taken),
-      subst (λ (k : Client). StopsAfter (readable table text) n k c.in-Err.why) (sym c.in-Err.ensures.err.0)
-          (stops table before text c.loop-line.client c.loop-line.lines.rest.now c.in-Some.line.text.now c.take_line.new.self.rest.now n
-          c.in-Err.why c.loop-line.invariant.sent c.in-Some.ensures.line c.in-Err.ensures.err.1),
+      stops table before text c.loop-line.client c.submit_line.new.client c.loop-line.lines.rest.now c.in-Some.line.text.now
+          c.take_line.new.self.rest.now n c.in-Err.why c.loop-line.invariant.sent c.in-Some.ensures.line c.in-Err.ensures.err.1,
     )
 
 pub returns-clause-stopped : goal.returns-clause-stopped

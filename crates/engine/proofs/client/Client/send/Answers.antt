@@ -1,9 +1,9 @@
-use Rattle.std.proofs.Common.{◌≡◌, None, length, ap, ◌∙◌, rules}
+use Rattle.std.proofs.Common.{◌≡◌, List, None, length, ◌+◌, ap, sym, ◌∙◌, rules}
 use Rattle.std.specs.Arc.{arc_value}
-use Rattle.crossbeam_queue.specs.Passes.{ruled_capacity}
+use Rattle.crossbeam_queue.specs.Passes.{ruled_capacity, view as pass_view}
 use Rattle.replica.specs.operation.declared.submission.Submission.{Submission}
-use Rattle.engine.specs.Clients.{Client}
-use Rattle.engine.proofs.Sending.{next_submission, as_next, keeps_next, sent_one}
+use Rattle.engine.specs.Clients.{AwaitedAnswer, Client}
+use Rattle.engine.proofs.Sending.{next_submission, as_next, keeps_next, sent_more, sent_one}
 use Rattle.engine.proofs.client.Client.send.Goals as goal
 
 pub returns-in-Ok-send-clause-kept : goal.returns-in-Ok-send-clause-kept
@@ -19,5 +19,16 @@ returns-in-Ok-send-clause-kept g c =
     (ap (λ (z : Client). z.replica) c.self.view_is)
     (ap (λ (z : Client). z.number) c.self.view_is) (ap (λ (z : Client). z.serials) c.self.view_is)
     (c.send.ensures.same.0 ∙ ap (λ (z : Client). z.queue) c.self.view_is) (room ∙ ap (λ (z : Client). z.capacity) c.self.view_is)
+    (c.in-Ok-send.ensures.full ∙ ap (λ (z : Client). z.found_full) c.self.view_is)
     (ap (λ (z : Client). z.seen) c.self.view_is) (ap (λ (z : Client). z.read) c.self.view_is)
-    c.push_reserved.ensures.items (c.reserve.ensures.items ∙ ap (λ (z : Client). z.kept) c.self.view_is) kept
+    (ap (λ (z : Client). z.reads) c.self.view_is)
+    c.push_reserved.ensures.items (◌∙◌ {A = List AwaitedAnswer} c.reserve.ensures.items (ap (λ (z : Client). z.kept) c.self.view_is)) kept
+
+pub invariant_of-self-in-Ok-send : goal.invariant_of-self-in-Ok-send
+invariant_of-self-in-Ok-send g c =
+    let is = c.in-Ok.ensures.submission in
+    let more = sent_more c.self.inside.number (pass_view c.self.inside.sender.pass).put _ c.self.inside.kept.items
+    c.reserve.new.self.items _ c.in-Ok.kept _ c.self.invariant.1 c.self.invariant.2 c.reserve.ensures.items c.push_reserved.ensures.items
+    (is.1 ∙ sym is.0) c.in-Ok-send.ensures.sent (ap (λ (z : Submission). z.client) is.0)
+    (ap (λ (z : Submission). z.serial) is.0 ∙ c.requires ∙ ap (λ (z : Client). length z.kept + 1) (sym c.self.view_is)) in
+    (c.in-Ok-send.ensures.same.1 ∙ c.self.invariant.0, more.0, more.1)

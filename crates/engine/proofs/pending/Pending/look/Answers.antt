@@ -1,6 +1,6 @@
 use Rattle.std.proofs.Common.{◌≡◌, Some, List, refl, sym, ap, ◌∙◌, subst}
 use Rattle.semantics.specs.Entries.{Entry}
-use Rattle.semantics.specs.PeerAnswers.{IsAnswer}
+use Rattle.semantics.specs.PeerAnswers.{IsAnswerWith}
 use Rattle.replica.specs.operation.declared.submission.Submission.{Submission}
 use Rattle.replica.specs.operation.Submissions.{reply_of, submitted_of}
 use Rattle.engine.specs.Clients.{AwaitedAnswer, answer_in}
@@ -17,8 +17,8 @@ returns-clause-answer g c =
       answer_found _ c.in_ok-answer.answer.now c.self.inside.submission c.in_ok-answer.ensures.value.0 refl
           ∙ ap (λ (x : Submission). answer_in x (Some c.in_ok-answer.answer.now)) (sym c.deref-2.ensures)
           ∙ c.in_ok-given.ensures.0
-          ∙ ap (λ (G : List Entry). Some (record { reply = reply; history = G })) (sym c.again.ensures),
-      subst (λ (x : Submission). IsAnswer own table c.again.result (submitted_of table x) (reply_of reply)) here
-          (subst (λ (G : List Entry). IsAnswer own table G (submitted_of table submission) (reply_of reply)) (sym c.again.ensures)
+          ∙ ap (λ (G : List Entry). Some (record { reply = reply; history = G })) (sym c.again-2.ensures),
+      subst (λ (x : Submission). IsAnswerWith own table c.again-2.result (submitted_of table x) (reply_of reply)) here
+          (subst (λ (G : List Entry). IsAnswerWith own table G (submitted_of table submission) (reply_of reply)) (sym c.again-2.ensures)
           c.in_ok-given.ensures.1),
     )
