@@ -42,7 +42,7 @@ impl<N: EngineName> Model for Answer<N> {
     } };
 
     ghost invariant = { λ a. IfSome a.given
-        (λ g. IsAnswerWith N.own N.table g.notice (submitted_of N.table a.submission) (reply_of g.reply)) };
+        (λ g. IsAnswerWith N.own N.table g.notice (submitted_of a.submission) (reply_of g.reply)) };
 }
 
 impl<N: EngineName> Answer<N> {
@@ -65,7 +65,7 @@ impl<N: EngineName> Answer<N> {
 
     /// Fills in a reply that is legal in the notice's history.
     pub(crate) fn fill(&mut self, reply: Reply, notice: Notice<N>)
-        requires { IsAnswerWith N.own N.table notice (submitted_of N.table self.old.submission) (reply_of reply) }
+        requires { IsAnswerWith N.own N.table notice (submitted_of self.old.submission) (reply_of reply) }
         ensures { (self.new.submission ≡ self.old.submission) × (self.new.given ≡ Some (record { reply = reply; history = notice })) }
     {
         self.given = Some(Given { reply, notice });
@@ -75,7 +75,7 @@ impl<N: EngineName> Answer<N> {
     pub fn given(&self) -> Option<&Given<N>>
         ensures { MatchOption result (self.now.given ≡ None)
             (λ g. (self.now.given ≡ Some (record { reply = g.now.reply; history = g.now.notice }))
-            × IsAnswerWith N.own N.table g.now.notice (submitted_of N.table self.now.submission) (reply_of g.now.reply)) }
+            × IsAnswerWith N.own N.table g.now.notice (submitted_of self.now.submission) (reply_of g.now.reply)) }
     {
         self.given.as_ref()
     }

@@ -51,7 +51,7 @@ impl<N: EngineName> Envelope<N> {
 
     /// The submission with the reply to it, once it is handled.
     pub fn replied(self, reply: Reply) -> Handled<N>
-        ensures { (result.submitted ≡ submitted_of N.table self.answer.value.submission) × (result.reply ≡ reply_of reply) }
+        ensures { (result.submitted ≡ submitted_of self.answer.value.submission) × (result.reply ≡ reply_of reply) }
     {
         Handled {
             envelope: self,
@@ -78,7 +78,7 @@ impl<N: EngineName> Model for Handled<N> {
 
     ghost coded = { Prim.hlevel (codes, coded_element) };
 
-    ghost view = { λ h. record { submitted = submitted_of N.table h.envelope.answer.value.submission; reply = reply_of h.reply } };
+    ghost view = { λ h. record { submitted = submitted_of h.envelope.answer.value.submission; reply = reply_of h.reply } };
 }
 
 impl<N: EngineName> Handled<N> {

@@ -1,35 +1,23 @@
 -- A vector that names all that was applied: each counter is that of an operation, and each operation's vector is at most this.
-use Rattle.std.proofs.Common.{◌≡◌, ℕ, ◌≤◌, Bool, true, false, not, ◌&&◌, ◌||◌, ◌==◌, List, [], ◌∷◌, refl, sym, ap, ◌∙◌, arith}
-use Rattle.std.proofs.Common.{true≢false, inl, inr}
-use Rattle.std.specs.Cmp.Lexicographic.{pointwise}
+use Rattle.std.proofs.Common.{◌≡◌, ℕ, ◌≤◌, Bool, true, false, not, ◌&&◌, ◌||◌, ◌==◌, List, [], ◌∷◌, refl, ap, ◌∙◌, arith}
+use Rattle.std.proofs.Common.{inl, inr}
 use Rattle.std.specs.List.{list_any}
-use Rattle.std.proofs.lemmas.Bool.{and_left, and_parts, and_right, cases_eq, eq-eqb, eqb-true, not_from_true}
-use Rattle.ids.specs.Members.{AreDistinct}
+use Rattle.std.proofs.lemmas.Bool.{and_left, and_right, cases_eq, eq-eqb, not_from_true}
 use Rattle.semantics.specs.Ids.{id_at}
 use Rattle.semantics.specs.Operations.{Operation}
 use Rattle.semantics.specs.LegalHistory.{IsAmong, has_id}
 use Rattle.semantics.specs.Vectors.{Vector, at, is_at_most}
-use Rattle.semantics.specs.NamedIds.{NamesAll, greatest_counter}
-use Rattle.semantics.specs.Tables.{by_table, component}
+use Rattle.semantics.specs.NamedIds.{NamesAll, greatest_counter, vector_of}
 use Rattle.semantics.specs.Stamped.{Stamped, IsLegalStamped, operations_of}
 use Rattle.semantics.specs.Faults.{is_of_nobody, is_open}
+use Rattle.semantics.proofs.AppliedVectors.{at-vector_of}
 use Rattle.semantics.proofs.EntryHistories.{all_named}
 use Rattle.semantics.proofs.NamedOperations.{meaning_of, vector_counts_id}
-use Rattle.semantics.proofs.TableVectors.{at-by_table}
 use Rattle.semantics.proofs.VectorCounters.{at_most-from, none-from}
 
-pub same_counters : (cs ds : List ℕ) → pointwise (λ a b. a == b) cs ds ≡ true → cs ≡ ds
-same_counters [] [] e = refl
-same_counters [] (d ∷ ds) e = absurd (true≢false (sym e))
-same_counters (c ∷ cs) [] e = absurd (true≢false (sym e))
-same_counters (c ∷ cs) (d ∷ ds) e =
-    let both = and_parts (c == d) (pointwise (λ a b. a == b) cs ds) e in
-    λ k. eqb-true c d both.0 k ∷ same_counters cs ds both.1 k
-
--- the counters of all that was applied name all of it
-pub columns_name_all : (H : List Operation) (ps cs ds : List ℕ) → AreDistinct ps → ((p : ℕ) → component ps ds p ≡ greatest_counter H p)
-    → cs ≡ ds → NamesAll H (by_table ps cs)
-columns_name_all H ps cs ds distinct all same p = at-by_table ps cs distinct p ∙ ap (λ es. component ps es p) same ∙ all p
+-- the vector of all that was applied names all of it
+pub applied_names_all : (H : List Operation) (v : Vector) → v ≡ vector_of H → NamesAll H v
+applied_names_all H v same p = ap (λ w. at w p) same ∙ at-vector_of H p
 
 pub none_unknown : (H : List Operation) (v : Vector) → NamesAll H v → list_any (λ a. is_of_nobody H v a.replica) v ≡ false
 none_unknown H v all = none-from (is_of_nobody H v) v (λ p. elim (cases_eq (at v p) 0) [

@@ -1,75 +1,67 @@
--- What a document holds at first and after one more entry, and what its column is.
-use Rattle.std.proofs.Common.{◌≡◌, ℕ, ◌≤◌, max, cond, ◌==◌, true, List, [], ◌∷◌, length, replicate, Bool, false, Option, Some, None, refl}
-use Rattle.std.proofs.Common.{sym, ap, ◌∙◌, subst, arith}
-use Rattle.std.proofs.lemmas.List.{length-replicate}
-use Rattle.ids.specs.Members.{AreDistinct}
+-- What a document holds at first and after one more entry, and what its vector is.
+use Rattle.std.proofs.Common.{◌≡◌, ℕ, ◌≤◌, true, List, [], ◌∷◌, length, Bool, false, Option, Some, None, refl, sym, ap, ◌∙◌, subst, arith}
+use Rattle.std.specs.Prelude.{IsFalse, IsTrue}
+use Rattle.ids.specs.Members.{AreDistinct, is_member}
+use Rattle.ids.specs.Vectors.{IsNamed, most_named, names_only}
+use Rattle.ids.proofs.FewNamed.{few_named}
 use Rattle.semantics.specs.Ids.{OpId}
-use Rattle.semantics.specs.LegalHistory.{greatest_of}
-use Rattle.semantics.specs.Vectors.{greatest}
-use Rattle.semantics.specs.NamedIds.{vector_of}
-use Rattle.semantics.specs.Tables.{by_table, component, greatest_in}
-use Rattle.semantics.specs.Entries.{Entry, applied, stamped_in, stamped_entries}
-use Rattle.semantics.proofs.AppliedVectors.{at-vector_of, canonical-vector_of, legal_counters, greatest-vector_of, greatest_within}
-use Rattle.ids.proofs.CanonicalVectors.{same_vectors}
-use Rattle.semantics.proofs.NamedOperations.{legal}
-use Rattle.semantics.proofs.TableVectors.{at-by_table, canonical-by_table, greatest-by_table}
-use Rattle.semantics.proofs.EntryHistories.{length-applied}
-use Rattle.std.specs.Prelude.{IsFalse}
 use Rattle.semantics.specs.Elements.{Element}
 use Rattle.semantics.specs.Operations.{slot_of}
-use Rattle.semantics.specs.LegalHistory.{has_id}
+use Rattle.semantics.specs.LegalHistory.{greatest_of, has_id}
+use Rattle.semantics.specs.Vectors.{Vector, IsCanonical, greatest, raise}
+use Rattle.semantics.specs.NamedIds.{vector_of}
 use Rattle.semantics.specs.Context.{apply, doc, empty, has_item}
 use Rattle.semantics.specs.Stamped.{Stamped, MayFollow, loose_operation, operation_after}
+use Rattle.semantics.specs.Entries.{Entry, applied, stamped_in, stamped_entries}
 use Rattle.semantics.specs.Questions.{Question}
 use Rattle.semantics.specs.DocumentAnswer.{document_answer}
 use Rattle.semantics.specs.View.{view}
+use Rattle.semantics.proofs.AppliedVectors.{canonical-vector_of, legal_counters, greatest-vector_of, greatest_within}
 use Rattle.semantics.proofs.DocumentIsView.{document_is_view}
+use Rattle.semantics.proofs.EntryHistories.{length-applied}
 use Rattle.semantics.proofs.LegalFacts.{among_from}
 use Rattle.semantics.proofs.LooseApply.{apply_loose}
+use Rattle.semantics.proofs.NamedOperations.{legal}
 use Rattle.semantics.proofs.PlacedItems.{item_among, prev_there}
 use Rattle.tree.specs.Trees.{FitsIn, IsPlaced, Planted, document}
+use Rattle.oplog.proofs.KnownMembers.{names_applied, names_known}
 use Rattle.document.specs.Documents.{IsConsistent, MayFollowEntries}
-use Rattle.oplog.proofs.version.TableColumns.{component-zeros}
 
-pub kept_first : (table : List ℕ) (n : ℕ) (t : Planted) → AreDistinct table → n ≡ length table → t.table ≡ table → document t ≡ empty
-    → IsConsistent table (replicate n 0) [] t
-kept_first table n t distinct width fits content = record {
+pub kept_first : (table : List ℕ) (v : Vector) (t : Planted) → AreDistinct table → length table ≤ most_named → v ≡ []
+    → t.table ≡ table → document t ≡ empty → IsConsistent table v [] t
+kept_first table v t distinct few none fits content = record {
   distinct = distinct;
-  width = length-replicate n 0 ∙ width;
-  greatest = λ p. component-zeros table n p;
+  few = few;
+  members = tt;
+  vector = none;
   legal = tt;
   fits = fits;
   content = content;
 }
 
--- the column after its replica's counter was raised to that of the entry, and the tree after its operation was applied
-pub kept_next : (table column next : List ℕ) (G : List Entry) (e : Entry) (a : OpId) (t u : Planted) → (stamped_in e).id ≡ a
-    → IsConsistent table column G t
+-- the vector after it was raised to the entry's id, and the tree after its operation was applied
+pub kept_next : (table : List ℕ) (v next : Vector) (G : List Entry) (e : Entry) (a : OpId) (t u : Planted) → (stamped_in e).id ≡ a
+    → IsConsistent table v G t
     → MayFollowEntries G e
+    → IsTrue (is_member table (stamped_in e).id.replica)
     → u.table ≡ t.table
     → document u ≡ apply (document t) (loose_operation (stamped_in e))
-    → length next ≡ length column
-    → ((p : ℕ) → component table next p ≡ cond (a.replica == p) (max a.counter (component table column p)) (component table column p))
+    → next ≡ raise a v
     → IsConsistent table next (e ∷ G) u
-kept_next table column next G e a t u same h may kept applied_to width raised = record {
+kept_next table v next G e a t u same h may member kept applied_to raised = record {
   distinct = h.distinct;
-  width = width ∙ h.width;
-  greatest = λ p.
-      raised p
-      ∙ ap (λ n. cond (a.replica == p) (max a.counter n) n) (h.greatest p)
-      ∙ ap
-      (λ (b : OpId). cond (b.replica == p) (max b.counter (greatest_of (λ c. c.replica == p) (applied G)))
-      (greatest_of (λ c. c.replica == p) (applied G)))
-      (sym same);
+  few = h.few;
+  members = (h.members, member);
+  vector = raised ∙ ap (λ b. raise b v) (sym same) ∙ ap (raise (stamped_in e).id) h.vector;
   legal = (h.legal, may);
   fits = kept ∙ h.fits;
   content = applied_to ∙ ap (λ C. apply C (loose_operation (stamped_in e))) h.content ∙ sym (apply_loose (applied G) (stamped_in e));
 }
 
 -- an operation that may follow fits into the tree
-pub fits : (table column : List ℕ) (G : List Entry) (t : Planted) (s : Stamped) → IsConsistent table column G t → MayFollow (applied G) s
+pub fits : (table : List ℕ) (v : Vector) (G : List Entry) (t : Planted) (s : Stamped) → IsConsistent table v G t → MayFollow (applied G) s
     → IsPlaced (document t) s
-fits table column G t s h may = subst (λ C. FitsIn C s.id (slot_of s.mutation s.place)) (sym h.content)
+fits table v G t s h may = subst (λ C. FitsIn C s.id (slot_of s.mutation s.place)) (sym h.content)
     (by (slot_of s.mutation s.place) refl) where
       by : (o : Option (Element × Option OpId)) → slot_of s.mutation s.place ≡ o → FitsIn (doc (applied G)) s.id o
       by None is = tt
@@ -84,24 +76,27 @@ fits table column G t s h may = subst (λ C. FitsIn C s.id (slot_of s.mutation s
           fresh false is among = is
           fresh true is among = let x = among_from (applied G) s.id (among is) in absurd (may.follows.new_id x.0 x.1 x.2)
 
-module _ (table column : List ℕ) (G : List Entry) (t : Planted) (h : IsConsistent table column G t) where
-  pub column_is_vector : by_table table column ≡ vector_of (applied G)
-  column_is_vector =
-      same_vectors (by_table table column) (vector_of (applied G)) (canonical-by_table table column)
-      (canonical-vector_of (applied G) (legal_counters (applied G) (legal (stamped_entries G) h.legal)))
-      (λ p. at-by_table table column h.distinct p ∙ h.greatest p ∙ sym (at-vector_of (applied G) p))
+module _ (table : List ℕ) (v : Vector) (G : List Entry) (t : Planted) (h : IsConsistent table v G t) where
+  pub is_named : IsNamed v
+  is_named =
+      let l = legal (stamped_entries G) h.legal in
+      let canonical = canonical-vector_of (applied G) (legal_counters (applied G) l) in
+      let few = few_named table (vector_of (applied G)) canonical (names_applied table G h.members l) in
+      subst IsNamed (sym h.vector) (record { canonical = canonical; few = omega (arith, few, h.few) })
 
-  pub greatest_of_column : greatest_in column ≡ greatest_of (λ a. true) (applied G)
-  greatest_of_column =
-      sym (greatest-by_table table column (omega (arith, h.width)))
-      ∙ ap greatest column_is_vector
-      ∙ greatest-vector_of (applied G)
+  pub greatest_applied : greatest v ≡ greatest_of (λ a. true) (applied G)
+  greatest_applied = ap greatest h.vector ∙ greatest-vector_of (applied G)
 
-  pub column_within : greatest_in column ≤ length G
-  column_within =
+  pub within_length : greatest v ≤ length G
+  within_length =
       let n = greatest_within (applied G) (legal (stamped_entries G) h.legal) in
       let w = length-applied G in
-      omega (arith, greatest_of_column, n, w)
+      omega (arith, greatest_applied, n, w)
+
+  -- the replicas that an operation names which may follow
+  pub names_known_there : (s : Stamped) → IsCanonical s.vector → MayFollow (applied G) s → names_only t.table s.vector ≡ true
+  names_known_there s canonical may = ap (λ ps. names_only ps s.vector) h.fits
+      ∙ names_known table G s.vector h.members canonical may.attained
 
   pub answer_is_view : (q : Question) → document_answer (applied G) q ≡ view (applied G) q
   answer_is_view q = document_is_view (applied G) (legal (stamped_entries G) h.legal) q

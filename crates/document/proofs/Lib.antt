@@ -1,7 +1,7 @@
 -- Lemmas on documents.
 pub mod Consistent
 pub mod MissingOps
-pub mod NamedOfColumns
+pub mod AmongNamed
 pub mod PositionsOfIds
 pub mod ReceivedFaults
 pub mod AllApplied

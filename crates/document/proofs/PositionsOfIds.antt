@@ -37,24 +37,24 @@ one_more e G a = by (position_of a G) refl
 
 -- the newest entry, or one before it
 opens_first : (e : Entry) (G : List Entry) (v : Vector) (a : OpId) → is_same_id (stamped_in e).id a ≡ true
-    → opens (e ∷ G) v (Some a) ≡ not (is_at_most (stamped_in e).vector v)
+    → opens (e ∷ G) v a ≡ not (is_at_most (stamped_in e).vector v)
 opens_first e G v a same =
     ap (λ b. is_beyond v (entry_there (cond b (Some (length G)) (position_of a G)) (e ∷ G))) same
     ∙ ap (λ b. is_beyond v (cond b (Some e) (entry_at (length G) G))) (eq-eqb (length G) (length G) refl)
 
 opens_later : (e : Entry) (G : List Entry) (v : Vector) (a : OpId) → is_same_id (stamped_in e).id a ≡ false
-    → opens (e ∷ G) v (Some a) ≡ opens G v (Some a)
+    → opens (e ∷ G) v a ≡ opens G v a
 opens_later e G v a other =
     ap (λ b. is_beyond v (entry_there (cond b (Some (length G)) (position_of a G)) (e ∷ G))) other
     ∙ ap (is_beyond v) (one_more e G a)
 
 -- where an operation that the vector names opens it, it is open
-pub opened : (G : List Entry) (v : Vector) (a : OpId) → a.counter ≡ at v a.replica → opens G v (Some a) ≡ true
+pub opened : (G : List Entry) (v : Vector) (a : OpId) → a.counter ≡ at v a.replica → opens G v a ≡ true
     → is_open (stamped_entries G) v ≡ true
 opened [] v a named h = absurd (true≢false (sym h))
 opened (e ∷ G) v a named h = by (is_same_id (stamped_in e).id a) refl (opened G v a named)
   where
-    by : (b : Bool) → is_same_id (stamped_in e).id a ≡ b → (opens G v (Some a) ≡ true → is_open (stamped_entries G) v ≡ true)
+    by : (b : Bool) → is_same_id (stamped_in e).id a ≡ b → (opens G v a ≡ true → is_open (stamped_entries G) v ≡ true)
         → is_open (stamped_entries (e ∷ G)) v ≡ true
     by true same rest =
         or_left (((stamped_in e).id.counter == at v (stamped_in e).id.replica) && not (is_at_most (stamped_in e).vector v))
@@ -70,7 +70,7 @@ opened (e ∷ G) v a named h = by (is_same_id (stamped_in e).id a) refl (opened 
 
 -- where none that it names does, it isn't
 pub not_opened : (G : List Entry) (v : Vector) → IsLegalStamped (stamped_entries G)
-    → ((a : OpId) → a.counter ≢ 0 → a.counter ≡ at v a.replica → opens G v (Some a) ≡ false) → is_open (stamped_entries G) v ≡ false
+    → ((a : OpId) → a.counter ≢ 0 → a.counter ≡ at v a.replica → opens G v a ≡ false) → is_open (stamped_entries G) v ≡ false
 not_opened [] v l none = refl
 not_opened (e ∷ G) v l none =
     or_from (((stamped_in e).id.counter == at v (stamped_in e).id.replica) && not (is_at_most (stamped_in e).vector v))
@@ -95,10 +95,10 @@ not_opened (e ∷ G) v l none =
     unplaced a None none' = refl
     unplaced a (Some n) none' = absurd (true≢false none')
 
-    before : (a : OpId) → a.counter ≢ 0 → a.counter ≡ at v a.replica → opens G v (Some a) ≡ false
+    before : (a : OpId) → a.counter ≢ 0 → a.counter ≡ at v a.replica → opens G v a ≡ false
     before a n named = by (is_same_id (stamped_in e).id a) refl
       where
-        by : (b : Bool) → is_same_id (stamped_in e).id a ≡ b → opens G v (Some a) ≡ false
+        by : (b : Bool) → is_same_id (stamped_in e).id a ≡ b → opens G v a ≡ false
         by true same = unplaced a (position_of a G)
             (placed G a ∙ ap (has_id (applied G)) (sym (ids_from_test (stamped_in e).id a same)) ∙ fresh (follows_named l.1))
         by false other = sym (opens_later e G v a other) ∙ none a n named

@@ -1,9 +1,10 @@
 -- What contracts see of a document, of questions and of readings.
-use Rattle.std.specs.Prelude.{◌≡◌, ℕ, ◌<◌, ⊤, List, map, reverse, length}
+use Rattle.std.specs.Prelude.{◌≡◌, ℕ, ◌<◌, ◌≤◌, List, map, reverse, length}
 use Rattle.ids.specs.Members.{AreDistinct}
+use Rattle.ids.specs.Vectors.{most_named}
 use Rattle.semantics.specs.Context.{doc}
-use Rattle.semantics.specs.NamedIds.{greatest_counter}
-use Rattle.semantics.specs.Tables.{by_table, component}
+use Rattle.semantics.specs.NamedIds.{vector_of}
+use Rattle.semantics.specs.Vectors.{Vector as TheVector}
 use Rattle.semantics.specs.Stamped.{Stamped, IsLegalStamped, MayFollow}
 use Rattle.semantics.specs.Entries.{Entry as TheEntry, applied, stamped_in, stamped_entries}
 use Rattle.semantics.specs.Questions.{Values as AskValues, Keys as AskKeys, Items as AskItems, Conflicts as AskConflicts, AppliedVector}
@@ -12,6 +13,7 @@ use Rattle.semantics.specs.LegalAnswer.{Asked, OfDocument, Missing as AskMissing
 use Rattle.oplog.specs.value.Values.{scalar_of}
 use Rattle.oplog.specs.cursor.Steps.{tag_of}
 use Rattle.oplog.specs.operation.Ops.{stamped_of}
+use Rattle.oplog.specs.Logs.{AreOfMembers}
 use Rattle.tree.specs.Trees.{Planted, IsReserved, document}
 use Rattle.document.specs.declared.question.Question.{Question}
 use Rattle.document.specs.declared.question.Question.TheVariants.{Values, Keys, Items, Conflicts, Missing, Vector}
@@ -34,38 +36,31 @@ pub record HasRoomFor (contents : Contents) (s : Stamped) : Type 0 where
 abbrev pub MayFollowEntries : List TheEntry → TheEntry → Type 0
 MayFollowEntries G e = MayFollow (applied G) (stamped_in e)
 
--- what is asked, where the counters of a vector are indexed by a table
-abbrev pub asked_of : List ℕ → Question → Asked
-asked_of table (Values e) = OfDocument (AskValues e)
-asked_of table (Keys e) = OfDocument (AskKeys e)
-asked_of table (Items e) = OfDocument (AskItems e)
-asked_of table (Conflicts e) = OfDocument (AskConflicts e)
-asked_of table (Missing v) = AskMissing (by_table table v)
-asked_of table Vector = OfDocument AppliedVector
-
--- a vector that is asked about has a counter for each replica of the table
-abbrev pub HasWidthOf : List ℕ → Question → Type 0
-HasWidthOf table (Values e) = ⊤
-HasWidthOf table (Keys e) = ⊤
-HasWidthOf table (Items e) = ⊤
-HasWidthOf table (Conflicts e) = ⊤
-HasWidthOf table (Missing v) = length v ≡ length table
-HasWidthOf table Vector = ⊤
+-- what is asked
+abbrev pub asked_of : Question → Asked
+asked_of (Values e) = OfDocument (AskValues e)
+asked_of (Keys e) = OfDocument (AskKeys e)
+asked_of (Items e) = OfDocument (AskItems e)
+asked_of (Conflicts e) = OfDocument (AskConflicts e)
+asked_of (Missing v) = AskMissing v
+asked_of Vector = OfDocument AppliedVector
 
 -- what a reading says; it has missing operations with the oldest first
-abbrev pub said_by : List ℕ → Reading → TheReading
-said_by table (reading.Values pairs) = Answered (ValuesAre (map (λ p. (p.0, scalar_of p.1)) pairs.items))
-said_by table (reading.Keys keys) = Answered (KeysAre keys.items)
-said_by table (reading.Items ids) = Answered (ItemsAre ids.items)
-said_by table (reading.Conflicts pairs) = Answered (ConflictsAre (map (λ p. (p.0, tag_of p.1)) pairs.items))
-said_by table (reading.Missing ops) = MissingAre (reverse (map (stamped_of table) ops.items))
-said_by table (reading.Vector v) = Answered (VectorIs (by_table table v))
+abbrev pub said_by : Reading → TheReading
+said_by (reading.Values pairs) = Answered (ValuesAre (map (λ p. (p.0, scalar_of p.1)) pairs.items))
+said_by (reading.Keys keys) = Answered (KeysAre keys.items)
+said_by (reading.Items ids) = Answered (ItemsAre ids.items)
+said_by (reading.Conflicts pairs) = Answered (ConflictsAre (map (λ p. (p.0, tag_of p.1)) pairs.items))
+said_by (reading.Missing ops) = MissingAre (reverse (map stamped_of ops.items))
+said_by (reading.Vector v) = Answered (VectorIs v)
 
--- the column has the greatest counter of each replica in a legal history, and the tree holds the history's document
-pub record IsConsistent (table column : List ℕ) (G : List TheEntry) (t : Planted) : Type 0 where
+-- the history is legal and of replicas of the table, of which there are few; the vector names all that was applied; and the tree holds
+-- the history's document
+pub record IsConsistent (table : List ℕ) (v : TheVector) (G : List TheEntry) (t : Planted) : Type 0 where
   pub distinct : AreDistinct table
-  pub width : length column ≡ length table
-  pub greatest : (p : ℕ) → component table column p ≡ greatest_counter (applied G) p
+  pub few : length table ≤ most_named
+  pub members : AreOfMembers table G
+  pub vector : v ≡ vector_of (applied G)
   pub legal : IsLegalStamped (stamped_entries G)
   pub fits : t.table ≡ table
   pub content : document t ≡ doc (applied G)

@@ -8,5 +8,5 @@ use Rattle.oplog.specs.operation.Ops.{stamped_of}
 
 -- no test of a received operation finds a fault of it after these entries
 abbrev pub is_lawful : List ℕ → List TheEntry → Op → Bool
-is_lawful table G o = is_none (alone_fault_of_op table o) && is_ready (applied G) (stamped_of table o)
-    && is_none (fault_of (stamped_entries G) (stamped_of table o))
+is_lawful table G o = is_none (alone_fault_of_op table o) && is_ready (applied G) (stamped_of o)
+    && is_none (fault_of (stamped_entries G) (stamped_of o))

@@ -7,3 +7,4 @@ pub use Rattle.oplog.specs.value
 pub use Rattle.oplog.specs.cursor
 pub use Rattle.oplog.specs.operation
 pub use Rattle.oplog.specs as oplog
+pub use Rattle.oplog.specs.version

@@ -1,21 +1,18 @@
 //! The answers to questions.
 
-ghost use Rattle.std.specs.Prelude.{◌≡◌, ◌⊎◌, ◌++◌, [], Ok, length, map, option_map, reverse, IfOk, IfErr, OnOk};
+ghost use Rattle.std.specs.Prelude.{◌≡◌, ◌⊎◌, ◌++◌, [], Ok, map, option_map, reverse, IfOk, IfErr, OnOk};
 ghost use Rattle.std.specs.List.{All, cons_option};
+ghost use Rattle.ids.specs.Vectors.{IsNamed};
 ghost use Rattle.ids.specs.declared.refusal.Refusal.TheVariants.{NoMemory};
-ghost use Rattle.semantics.specs.Tables.{by_table};
-ghost use Rattle.semantics.specs.Elements.{At, Element};
 ghost use Rattle.semantics.specs.Entries.{entry_at, missing, stamped_in, stamped_entries};
-ghost use Rattle.semantics.specs.DocumentAnswer.{visible_items};
-ghost use Rattle.semantics.specs.Questions.{answer_at, resolve, Answer, Refused};
+ghost use Rattle.semantics.specs.Questions.{Refused};
 ghost use Rattle.semantics.specs.LegalAnswer.{reading_of, Answered};
 ghost use Rattle.oplog.specs.operation.Ops.{stamped_of};
-ghost use Rattle.tree.specs.Trees.{document};
-ghost use Rattle.document.specs.Documents.{HasWidthOf, IsConsistent, asked_of, said_by};
+ghost use Rattle.document.specs.Documents.{IsConsistent, asked_of, said_by};
 
 use crate::question::{Question, Reading};
-use ids::Refusal;
-use oplog::{Log, Op, Shared, VersionVector};
+use ids::{MOST_NAMED, NamedVector, Refusal};
+use oplog::{AppliedVector, Log, Op, Shared};
 use std::alloc::{AllocError, Global};
 use tree::Tree;
 
@@ -23,15 +20,14 @@ use tree::Tree;
 pub fn answer(
     alloc: Global,
     log: &Log,
-    applied: &VersionVector,
+    applied: &AppliedVector,
     tree: &Tree,
     question: &Question,
 ) -> Result<Reading, Refusal>
-    requires kept { IsConsistent log.now.table applied.now log.now.entries tree.now }
-    requires fits { HasWidthOf log.now.table question.now }
-    ensures answer { IfOk result (λ r. said_by log.now.table r ≡ reading_of log.now.entries (asked_of log.now.table question.now)) }
+    requires { IsConsistent log.now.table applied.now.ids log.now.entries tree.now }
+    ensures answer { IfOk result (λ r. said_by r ≡ reading_of log.now.entries (asked_of question.now)) }
     ensures err { IfErr result
-        (λ why. (why ≡ NoMemory) ⊎ (reading_of log.now.entries (asked_of log.now.table question.now) ≡ Answered (Refused why))) }
+        (λ why. (why ≡ NoMemory) ⊎ (reading_of log.now.entries (asked_of question.now) ≡ Answered (Refused why))) }
 {
     match question {
         Question::Values(expression) => Ok(Reading::Values(tree.values(alloc, expression)?)),
@@ -41,7 +37,7 @@ pub fn answer(
             alloc, expression,
         )?)),
         Question::Missing(vector) => Ok(Reading::Missing(missing(alloc, log, vector)?)),
-        Question::Vector => Ok(Reading::Vector(applied.clone()?)),
+        Question::Vector => Ok(Reading::Vector(NamedVector::of(alloc, applied.ids())?)),
     }
 }
 
@@ -49,13 +45,12 @@ pub fn answer(
 pub fn missing(
     alloc: Global,
     log: &Log,
-    vector: &VersionVector,
+    vector: &NamedVector,
 ) -> Result<Vec<Shared<Op>>, AllocError>
-    requires { length vector.now ≡ length log.now.table }
     ensures ok { IfOk result
-        (λ ops. reverse (map (stamped_of log.now.table) ops.items)
-        ≡ missing (by_table log.now.table vector.now) (stamped_entries log.now.entries)) }
-    ensures width { IfOk result (λ ops. All (λ o. length o.deps ≡ length log.now.table) ops.items) }
+        (λ ops. reverse (map stamped_of ops.items)
+        ≡ missing vector.now (stamped_entries log.now.entries)) }
+    ensures named { IfOk result (λ ops. All (λ o. IsNamed o.deps) ops.items) }
 {
     let positions = log.missing(alloc, vector)?;
     let mut ops = Vec::with_capacity(alloc, positions.len())?;
@@ -67,13 +62,13 @@ pub fn missing(
 
 /// Appends the operation at a position, if there is one.
 fn push_op(ops: &mut Vec<Shared<Op>>, log: &Log, position: usize) -> Result<(), AllocError>
-    ensures op { OnOk result (map (stamped_of log.now.table) ops.new.items
-        ≡ map (stamped_of log.now.table) ops.old.items ++ cons_option (option_map stamped_in (entry_at position log.now.entries)) []) }
-    ensures width { OnOk result (All (λ o. length o.deps ≡ length log.now.table) ops.old.items
-        → All (λ o. length o.deps ≡ length log.now.table) ops.new.items) }
+    ensures op { OnOk result (map stamped_of ops.new.items
+        ≡ map stamped_of ops.old.items ++ cons_option (option_map stamped_in (entry_at position log.now.entries)) []) }
+    ensures named { OnOk result (All (λ o. IsNamed o.deps) ops.old.items → All (λ o. IsNamed o.deps) ops.new.items) }
 {
     if let Some(entry) = log.get(position) {
         let op = entry.op().clone()?;
+        prove!(op.deps.ids().len() <= MOST_NAMED);
         ops.push(op)?;
     }
     Ok(())

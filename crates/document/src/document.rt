@@ -6,8 +6,9 @@ ghost use Rattle.std.specs.List.{All};
 ghost use Rattle.ids.specs.declared.refusal.Refusal.TheVariants.{NoMemory, BadConfig};
 ghost use Rattle.ids.specs.Members.{in_order, is_member};
 ghost use Rattle.ids.specs.Configurations.{are_members};
+ghost use Rattle.ids.specs.Vectors.{IsNamed};
 ghost use Rattle.semantics.specs.NamedIds.{vector_of};
-ghost use Rattle.semantics.specs.Tables.{by_table, greatest_in};
+ghost use Rattle.semantics.specs.Vectors.{greatest};
 ghost use Rattle.semantics.specs.LegalHistory.{greatest_of, has_id};
 ghost use Rattle.semantics.specs.Stamped.{MayFollow};
 ghost use Rattle.semantics.specs.Faults.{fault_of, is_ready};
@@ -18,14 +19,14 @@ ghost use Rattle.semantics.specs.Questions.{resolve, Question as TheQuestion, Re
 ghost use Rattle.semantics.specs.LegalAnswer.{reading_of, Answered, OfDocument};
 ghost use Rattle.semantics.specs.View.{view};
 ghost use Rattle.oplog.specs.operation.Alone.{alone_fault_of_op};
-ghost use Rattle.oplog.specs.operation.Ops.{entry_of, op_in, stamped_of};
+ghost use Rattle.oplog.specs.operation.Ops.{entry_of, stamped_of};
 ghost use Rattle.oplog.specs.Logs.{history};
 
 use crate::answer::{answer, missing};
 use crate::check::check;
 use crate::question::{Question, Reading};
-use ids::{OpId, Refusal, ReplicaTable};
-use oplog::{Entry, Expr, Log, Op, Place, Shared, VersionVector};
+use ids::{MOST_NAMED, NamedVector, OpId, Refusal, ReplicaTable};
+use oplog::{AppliedVector, Entry, Expr, Log, Op, Place, Shared};
 use std::alloc::{AllocError, Global};
 use std::marker::Model;
 use tree::Tree;
@@ -34,11 +35,12 @@ use tree::Tree;
 #[derive(Debug, Drop)]
 pub struct Document {
     log: Log,
-    applied: VersionVector,
+    applied: AppliedVector,
     tree: Tree,
 }
 
 impl Model for Document {
+    ghost use Rattle.std.specs.Prelude.{min};
     ghost use Rattle.std.specs.Coded.{codes};
     ghost use Rattle.semantics.specs.Codes.{coded_element};
     ghost use Rattle.document.specs.Documents.{Contents, IsConsistent};
@@ -47,13 +49,18 @@ impl Model for Document {
 
     ghost coded = { Prim.hlevel (codes, coded_element) };
 
-    ghost view = { λ d. record { table = d.log.table; entries = d.log.entries; room = d.log.room; tree = d.tree } };
+    ghost view = { λ d. record {
+      table = d.log.table;
+      entries = d.log.entries;
+      room = min d.log.room d.applied.room;
+      tree = d.tree;
+    } };
 
-    ghost invariant = { λ d. IsConsistent d.log.table d.applied d.log.entries d.tree };
+    ghost invariant = { λ d. IsConsistent d.log.table d.applied.ids d.log.entries d.tree };
 }
 
 impl Document {
-    ghost use Rattle.document.specs.Documents.{HasRoomFor, HasWidthOf, MayFollowEntries, asked_of, said_by};
+    ghost use Rattle.document.specs.Documents.{HasRoomFor, MayFollowEntries, asked_of, said_by};
 
     /// A document with an empty history, of a replica with these members.
     ///
@@ -66,16 +73,16 @@ impl Document {
         ensures other { IfErr result (λ why. (why ≡ BadConfig) ⊎ (why ≡ NoMemory)) }
     {
         let table = ReplicaTable::new(alloc, members)?;
-        let applied = VersionVector::zero(alloc, table.len())?;
+        prove!(table.len() <= MOST_NAMED);
         let tree = Tree::new(alloc, &table)?;
         Ok(Document {
             log: Log::new(alloc, table)?,
-            applied,
+            applied: AppliedVector::new(alloc),
             tree,
         })
     }
 
-    /// The members that each vector is indexed by.
+    /// The members.
     pub fn table(&self) -> &ReplicaTable
         ensures { result.now ≡ self.now.table }
     {
@@ -89,12 +96,12 @@ impl Document {
         self.log.len()
     }
 
-    /// The vector of all that was applied: the greatest counter of each replica, indexed by the table.
-    pub fn applied(&self) -> &VersionVector
-        ensures width { length result.now ≡ length self.now.table }
-        ensures all { by_table self.now.table result.now ≡ vector_of (applied self.now.entries) }
-        ensures greatest { greatest_in result.now ≡ greatest_of (λ a. true) (applied self.now.entries) }
-        ensures few { greatest_in result.now ≤ length self.now.entries }
+    /// The vector of all that was applied: the greatest counter of each replica.
+    pub fn applied(&self) -> &AppliedVector
+        ensures all { result.now.ids ≡ vector_of (applied self.now.entries) }
+        ensures named { IsNamed result.now.ids }
+        ensures greatest { greatest result.now.ids ≡ greatest_of (λ a. true) (applied self.now.entries) }
+        ensures few { greatest result.now.ids ≤ length self.now.entries }
     {
         &self.applied
     }
@@ -106,12 +113,11 @@ impl Document {
         self.log.find(id).is_some()
     }
 
-    /// Whether the operation is causally ready: its vector is at most what was applied. Compares eight counters at once.
+    /// Whether the operation is causally ready: its vector is at most what was applied. Walks both once.
     pub fn ready(&self, op: &Op) -> bool
-        requires width { length op.now.deps ≡ length self.now.table }
-        ensures { result ≡ is_ready (applied self.now.entries) (stamped_of self.now.table op.now) }
+        ensures { result ≡ is_ready (applied self.now.entries) (stamped_of op.now) }
     {
-        op.deps.le(&self.applied)
+        op.deps.is_at_most(self.applied.ids())
     }
 
     /// Tests a causally ready operation against the history. One that passed `check_alone` for this table may follow the
@@ -123,11 +129,10 @@ impl Document {
     /// counter of its vector that is above 0 is that of no applied operation; `NotClosed` where an operation that its vector names
     /// has a vector that isn't at most this; `BadPlace` where an item of its place was not inserted into that very list.
     pub fn check(&self, op: &Op) -> Result<(), Refusal>
-        requires width { length op.now.deps ≡ length self.now.table }
-        ensures fault { let fault = fault_of (stamped_entries self.now.entries) (stamped_of self.now.table op.now) in
+        ensures fault { let fault = fault_of (stamped_entries self.now.entries) (stamped_of op.now) in
             MatchResult result (λ _. fault ≡ None) (λ why. fault ≡ Some why) }
         ensures lawful { alone_fault_of_op self.now.table op.now ≡ None
-            → IsOk result ↔ MayFollow (applied self.now.entries) (stamped_of self.now.table op.now) }
+            → IsOk result ↔ MayFollow (applied self.now.entries) (stamped_of op.now) }
     {
         check(&self.log, &self.applied, &self.tree, op)
     }
@@ -152,28 +157,26 @@ impl Document {
     pub fn reserve(&mut self, alloc: Global, op: &Op) -> Result<(), AllocError>
         ensures table { self.new.table ≡ self.old.table }
         ensures entries { self.new.entries ≡ self.old.entries }
-        ensures room { OnOk result (HasRoomFor self.new (stamped_of self.new.table op.now)) }
+        ensures room { OnOk result (HasRoomFor self.new (stamped_of op.now)) }
     {
         self.log.reserve_one()?;
+        self.applied.reserve_one()?;
         self.tree.reserve(alloc, op)
     }
 
-    /// Appends an entry for which there is room, and whose vector is indexed by the table. Allocates nothing.
+    /// Appends an entry for which there is room. Allocates nothing.
     pub fn commit(&mut self, entry: Entry)
-        requires room { HasRoomFor self.old (stamped_in (entry_of self.old.table entry)) }
-        requires lawful { MayFollowEntries self.old.entries (entry_of self.old.table entry) }
-        requires member { IsTrue (is_member self.old.table (stamped_in (entry_of self.old.table entry)).id.replica) }
-        requires width { length (op_in entry).deps ≡ length self.old.table }
+        requires room { HasRoomFor self.old (stamped_in (entry_of entry)) }
+        requires lawful { MayFollowEntries self.old.entries (entry_of entry) }
+        requires member { IsTrue (is_member self.old.table (stamped_in (entry_of entry)).id.replica) }
         ensures table { self.new.table ≡ self.old.table }
-        ensures entries { self.new.entries ≡ entry_of self.old.table entry ∷ self.old.entries }
+        ensures entries { self.new.entries ≡ entry_of entry ∷ self.old.entries }
     {
-        let op = entry.op();
+        let op: &Op = entry.op();
         let id = op.id;
-        let Some(index) = self.log.table().index_of(id.replica) else {
-            unreachable!()
-        };
+        prove!(op.deps.ids().len() <= MOST_NAMED);
         self.tree.apply(op);
-        self.applied.raise(index, id.counter);
+        self.applied.raise(id);
         self.log.push(entry);
     }
 
@@ -185,16 +188,15 @@ impl Document {
     /// The refusal of the expression: those of `resolve`, and `AtHead` where it leads to a head. The history and the view of its
     /// operations refuse alike. Or `NoMemory` if allocation fails.
     pub fn ask(&self, alloc: Global, question: &Question) -> Result<Reading, Refusal>
-        requires { HasWidthOf self.now.table question.now }
-        ensures answer { IfOk result (λ r. said_by self.now.table r ≡ reading_of self.now.entries (asked_of self.now.table question.now)) }
+        ensures answer { IfOk result (λ r. said_by r ≡ reading_of self.now.entries (asked_of question.now)) }
         ensures view { IfOk result
-            (λ r. (q : TheQuestion) → asked_of self.now.table question.now ≡ OfDocument q
-            → said_by self.now.table r ≡ Answered (view (applied self.now.entries) q)) }
+            (λ r. (q : TheQuestion) → asked_of question.now ≡ OfDocument q
+            → said_by r ≡ Answered (view (applied self.now.entries) q)) }
         ensures err { IfErr result
-            (λ why. (why ≡ NoMemory) ⊎ (reading_of self.now.entries (asked_of self.now.table question.now) ≡ Answered (Refused why))) }
+            (λ why. (why ≡ NoMemory) ⊎ (reading_of self.now.entries (asked_of question.now) ≡ Answered (Refused why))) }
         ensures view_refuses { IfErr result
             (λ why. (why ≡ NoMemory)
-            ⊎ ((q : TheQuestion) → asked_of self.now.table question.now ≡ OfDocument q
+            ⊎ ((q : TheQuestion) → asked_of question.now ≡ OfDocument q
             → view (applied self.now.entries) q ≡ Refused why)) }
     {
         answer(alloc, &self.log, &self.applied, &self.tree, question)
@@ -207,20 +209,19 @@ impl Document {
     pub fn missing(
         &self,
         alloc: Global,
-        vector: &VersionVector,
+        vector: &NamedVector,
     ) -> Result<Vec<Shared<Op>>, AllocError>
-        requires { length vector.now ≡ length self.now.table }
         ensures ops { IfOk result
-            (λ ops. reverse (map (stamped_of self.now.table) ops.items)
-            ≡ missing (by_table self.now.table vector.now) (stamped_entries self.now.entries)) }
-        ensures width { IfOk result (λ ops. All (λ o. length o.deps ≡ length self.now.table) ops.items) }
+            (λ ops. reverse (map stamped_of ops.items)
+            ≡ missing vector.now (stamped_entries self.now.entries)) }
+        ensures named { IfOk result (λ ops. All (λ o. IsNamed o.deps) ops.items) }
     {
         missing(alloc, &self.log, vector)
     }
 
     /// The entries, the oldest first. Allocates nothing.
     pub fn into_entries(self) -> Vec<Entry>
-        ensures { history self.table result.items ≡ self.entries }
+        ensures { history result.items ≡ self.entries }
     {
         self.log.into_entries()
     }

@@ -11,6 +11,7 @@ pub use question::{Question, Reading};
 
 // Handed on from the crates below, for users of this one.
 pub use oplog::{
-    Command, Delivered, Entry, Expr, ExprStep, Key, Misplaced, Numbers, Op, Place, Publish, Reply,
-    Request, Scalar, Shared, Submission, Tag, Text, Val, VersionVector, check_alone, names_members,
+    AppliedVector, Command, Delivered, Entry, Expr, ExprStep, Key, Misplaced, NamedVector, Numbers,
+    Op, Place, Publish, Reply, Request, Scalar, Shared, Submission, Tag, Text, Val, VersionVector,
+    check_alone, names_members, names_only,
 };

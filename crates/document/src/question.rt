@@ -1,7 +1,7 @@
 //! Questions to a document, and its answers.
 
-use ids::OpId;
-use oplog::{Expr, Key, Op, Scalar, Shared, Tag, VersionVector};
+use ids::{NamedVector, OpId};
+use oplog::{Expr, Key, Op, Scalar, Shared, Tag};
 
 /// A question to a document. Where nothing stands, or something of another type, the answer is empty. `peer_sync` asks the last two.
 #[derive(Debug, Drop)]
@@ -14,13 +14,13 @@ pub enum Question {
     Items(Expr),
     /// For the ids of the live writes at the element and beneath it, each with what it is there.
     Conflicts(Expr),
-    /// For the operations that the vector doesn't cover. The vector is indexed by the document's table.
-    Missing(VersionVector),
+    /// For the operations that the vector doesn't cover.
+    Missing(NamedVector),
     /// For the vector of all that was applied.
     Vector,
 }
 
-/// The answer to a question. Vectors are indexed by the document's table.
+/// The answer to a question.
 #[derive(Debug, Drop)]
 pub enum Reading {
     /// The values with the ids of the operations that wrote them, rising by id. To show a single one take the last: replicas with the
@@ -35,5 +35,5 @@ pub enum Reading {
     /// The operations, the oldest first.
     Missing(Vec<Shared<Op>>),
     /// For each replica the greatest counter that was applied.
-    Vector(VersionVector),
+    Vector(NamedVector),
 }

@@ -7,7 +7,7 @@ mod refused_memory;
 use cursor::{Place, Tag};
 use document::Document;
 use fixtures::{Pair, id_of};
-use ids::{Refusal, ReplicaId};
+use ids::{NamedVector, Refusal, ReplicaId};
 use operation::{Mutation, Op, Shared};
 use playing::Does::{Assign, Insert};
 use playing::Hop::{Field, Head, Item};
@@ -23,7 +23,7 @@ use value::Val;
 fn first_op(alloc: Global, document: &Document) -> Result<Shared<Op>, Fail> {
     let op = Op {
         id: id_of((1, 1))?,
-        deps: document.applied().clone()?,
+        deps: NamedVector::of(alloc, document.applied().ids())?,
         place: Place::doc(alloc),
         mutation: Mutation::Assign(Val::EmptyMap),
     };
@@ -37,8 +37,8 @@ fn new_documents_are_empty(rt: HostRuntime) -> Result<(), Fail> {
     assert_eq!(rt; document.table().at(1), ReplicaId::new(2));
     let applied = document.applied();
     assert_eq!(rt;
-        (applied.greatest(), applied.width(), document.len()),
-        (0, 2, 0)
+        (applied.greatest(), applied.ids().len(), document.len()),
+        (0, 0, 0)
     );
     assert_eq!(rt; document.into_entries().len(), 0);
     Ok(())

@@ -44,7 +44,7 @@ given_by o = option_map (λ r. record { reply = r.0; history = r.1 }) o
 abbrev pub Finds : (own : ℕ) (members : List ℕ) → Submission → AwaitedAnswer → Option (Reply × List Entry) → Type 0
 Finds own table x after o = MatchOption o (answer_of after ≡ None)
     (λ r. (answer_of after ≡ Some (record { reply = r.0; history = r.1 }))
-    × IsAnswerWith own table r.1 (submitted_of table x) (reply_of r.0))
+    × IsAnswerWith own table r.1 (submitted_of x) (reply_of r.0))
 
 is_given : (own : ℕ) (table : List ℕ) (x : Submission) (after : AwaitedAnswer) (o : Option (Reply × List Entry)) → Finds own table x after o
     → given_by o ≡ answer_of after
@@ -108,8 +108,8 @@ answered own table c d t kept k after (Some r) mine by at now same a =
       client = ap (λ (x : Submission). x.client) same ∙ whose.0 ∙ sym mine.1;
       serial = ap (λ (x : Submission). x.serial) same ∙ serial;
       given = a.0;
-      answer = subst (λ (x : Submission). IsAnswerWith own table r.1 (submitted_of table x) (reply_of r.0)) (sym same) a.1;
-      within = answer_within own table r.1 (submitted_of table k.submission) (reply_of r.0) a.1.0;
+      answer = subst (λ (x : Submission). IsAnswerWith own table r.1 (submitted_of x) (reply_of r.0)) (sym same) a.1;
+      within = answer_within own table r.1 (submitted_of k.submission) (reply_of r.0) a.1.0;
     }
 
 -- a look and an answer concern what is kept, and nothing else of a client
@@ -158,25 +158,25 @@ reply_of_answered own table c d t o r G H is same h b = (
 pub legal_reply : (own : ℕ) (table : List ℕ) (c d : Client) (t : Ticket) (o : Option (Reply × List Entry)) (r : Reply) (G H : List Entry)
     → o ≡ Some (r, G) → submissions_by d ≡ submissions_by c → IfSome o (λ x. IsAnswered own table d t x.0 x.1) → BeginsWith H G
     → (x : Submission) × (slice_get (submissions_by c) (t.serial - 1) ≡ Some x)
-    × IsAnswer own table H (submitted_of table x) (reply_of r)
+    × IsAnswer own table H (submitted_of x) (reply_of r)
 legal_reply own table c d t o r G H is same h b =
     let a : IsAnswered own table d t r G =
     subst (λ (p : Option (Reply × List Entry)). IfSome p (λ x. IsAnswered own table d t x.0 x.1)) is h in (
       a.kept.submission,
       ap (λ (l : List Submission). slice_get l (t.serial - 1)) (sym same) ∙ item_at d.kept (t.serial - 1) a.kept a.at,
-      answer_stays own table H G (submitted_of table a.kept.submission) (reply_of r) b a.answer.0,
+      answer_stays own table H G (submitted_of a.kept.submission) (reply_of r) b a.answer.0,
     )
 
 -- a notice of what is kept is one of the ticket's answer
 pub noticed : {B : Type 0} (now : B → List Entry) (own : ℕ) (table : List ℕ) (c : Client) (t : Ticket) (k : AwaitedAnswer) (o : Option B)
     → slice_get c.kept (t.serial - 1) ≡ Some k
     → MatchOption o (answer_of k ≡ None)
-    (λ n. (g : Given) × (now n ≡ g.history) × IsAnswerWith own table g.history (submitted_of table k.submission) (reply_of g.reply)
+    (λ n. (g : Given) × (now n ≡ g.history) × IsAnswerWith own table g.history (submitted_of k.submission) (reply_of g.reply)
     × IfSome (answer_of k) (λ known. known ≡ g))
     → HasNotice own table c t (option_map now o)
 noticed now own table c t k None at h = record { kept = k; at = at; of_answer = h }
 noticed now own table c t k (Some n) at h =
-    let s : Submitted = submitted_of table k.submission in
+    let s : Submitted = submitted_of k.submission in
     let answer : IsAnswerWith own table (now n) s (reply_of h.0.reply) = subst (λ G. IsAnswerWith own table G s (reply_of h.0.reply))
     (sym h.1) h.2 in
     record { kept = k; at = at; of_answer = (h.0, h.1, answer, answer_within own table (now n) s (reply_of h.0.reply) answer.0, h.3) }
@@ -192,6 +192,6 @@ answer_inside a x same = ap (λ b. cond b a.given None) same
 
 -- an answer that is legal for the same submission, in the same history
 pub legal_for : (own : ℕ) (table : List ℕ) (G H : List Entry) (x y : Submission) (r : TheReply) → G ≡ H → is_same_submission x y ≡ true
-    → IsAnswerWith own table G (submitted_of table x) r → IsAnswerWith own table H (submitted_of table y) r
-legal_for own table G H x y r e same h = subst (λ (F : List Entry). IsAnswerWith own table F (submitted_of table y) r) e
-    (subst (λ (z : Submitted). IsAnswerWith own table G z r) (one_submission x y same table) h)
+    → IsAnswerWith own table G (submitted_of x) r → IsAnswerWith own table H (submitted_of y) r
+legal_for own table G H x y r e same h = subst (λ (F : List Entry). IsAnswerWith own table F (submitted_of y) r) e
+    (subst (λ (z : Submitted). IsAnswerWith own table G z r) (one_submission x y same) h)

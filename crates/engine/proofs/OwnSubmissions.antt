@@ -16,14 +16,14 @@ use Rattle.command.specs.InOrder.{of}
 use Rattle.engine.specs.WriterSteps.{submitted_in}
 
 -- what one client submitted, in its order
-submitted_of_client : (table : List ℕ) (c : ℕ) (xs : List Submission) → of_client c (submitted_in table xs) ≡ submitted_in table (of c xs)
-submitted_of_client table c [] = refl
-submitted_of_client table c (x ∷ xs) = by (x.client == c) (submitted_of_client table c xs)
+submitted_of_client : (c : ℕ) (xs : List Submission) → of_client c (submitted_in xs) ≡ submitted_in (of c xs)
+submitted_of_client c [] = refl
+submitted_of_client c (x ∷ xs) = by (x.client == c) (submitted_of_client c xs)
   where
-    by : (b : Bool) → of_client c (submitted_in table xs) ≡ submitted_in table (of c xs)
-        → cond b (submitted_of table x ∷ of_client c (submitted_in table xs)) (of_client c (submitted_in table xs))
-        ≡ submitted_in table (cond b (x ∷ of c xs) (of c xs))
-    by true e = ap (λ (l : List Submitted). submitted_of table x ∷ l) e
+    by : (b : Bool) → of_client c (submitted_in xs) ≡ submitted_in (of c xs)
+        → cond b (submitted_of x ∷ of_client c (submitted_in xs)) (of_client c (submitted_in xs))
+        ≡ submitted_in (cond b (x ∷ of c xs) (of c xs))
+    by true e = ap (λ (l : List Submitted). submitted_of x ∷ l) e
     by false e = e
 
 -- an own entry of the history is of a command that was taken
@@ -45,21 +45,21 @@ asked_at took (e ∷ G) n k serial c s h at = by (length G == n) (λ is. asked_a
     by false rest is = rest is
 
 -- what was taken of the client, and what is still queued, is all that it submitted
-pub own_submitted : (table : List ℕ) (took queued mine : List Submission) (P A : List Entry) (n k serial : ℕ) (c : Command) (s : Stamped)
-    → ComeFrom (submitted_in table took) A → BeginsWith A P → of k (took ++ queued) ≡ mine
-    → entry_at n P ≡ Some (Own k serial c s) → AsksFor (submitted_in table mine) serial c
-own_submitted table took queued mine P A n k serial c s from begins all at =
-    let asked = asked_at (submitted_in table took) A n k serial c s from
+pub own_submitted : (took queued mine : List Submission) (P A : List Entry) (n k serial : ℕ) (c : Command) (s : Stamped)
+    → ComeFrom (submitted_in took) A → BeginsWith A P → of k (took ++ queued) ≡ mine
+    → entry_at n P ≡ Some (Own k serial c s) → AsksFor (submitted_in mine) serial c
+own_submitted took queued mine P A n k serial c s from begins all at =
+    let asked = asked_at (submitted_in took) A n k serial c s from
     (subst (λ (G : List Entry). entry_at n G ≡ Some (Own k serial c s)) (sym begins.1)
     (entry_in_longer n begins.0 P (Own k serial c s) at)) in
-    let whole : of_client k (submitted_in table took) ++ of_client k (submitted_in table queued) ≡ submitted_in table mine =
-    sym (of-append k (submitted_in table took) (submitted_in table queued))
-    ∙ ap (of_client k) (sym (map-append (submitted_of table) took queued)) ∙ submitted_of_client table k (took ++ queued)
-    ∙ ap (submitted_in table) all in
+    let whole : of_client k (submitted_in took) ++ of_client k (submitted_in queued) ≡ submitted_in mine =
+    sym (of-append k (submitted_in took) (submitted_in queued))
+    ∙ ap (of_client k) (sym (map-append submitted_of took queued)) ∙ submitted_of_client k (took ++ queued)
+    ∙ ap submitted_in all in
     subst (λ (l : List Submitted). AsksFor l serial c) whole (
       asked.0,
       asked.1,
-      get_longer (of_client k (submitted_in table took)) (of_client k (submitted_in table queued))
+      get_longer (of_client k (submitted_in took)) (of_client k (submitted_in queued))
           (serial - 1) asked.0 asked.2,
       asked.3,
     )

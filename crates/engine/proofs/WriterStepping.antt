@@ -1,21 +1,21 @@
 -- What a step leaves, once all is published.
-use Rattle.std.proofs.Common.{◌≡◌, ◌<◌, ℕ, List, [], length, refl, sym, ap, subst, arith}
+use Rattle.std.proofs.Common.{◌≡◌, ◌<◌, List, [], length, refl, sym, ap, subst, arith}
 use Rattle.semantics.specs.Entries.{Entry}
 use Rattle.semantics.specs.Engine.{Handled}
 use Rattle.engine.specs.WriterSteps.{Writer, IsWriterStep, Ends, Shows}
 use Rattle.engine.specs.declared.writer.Step.{Step}
 use Rattle.engine.specs.declared.writer.Step.TheVariants.{Idle, Published, Held}
 
-module _ (table : List ℕ) (w m : Writer) (t : IsWriterStep table w m.held m) (published : m.published ≡ w.published) where
+module _ (w m : Writer) (t : IsWriterStep w m.held m) (published : m.published ≡ w.published) where
   -- nothing was done that is to be shown
-  pub idle : m.held ≡ [] → m.published ≡ m.handler.replica.entries → (hs : List Handled) × IsWriterStep table w hs m × Ends w hs Idle m
+  pub idle : m.held ≡ [] → m.published ≡ m.handler.replica.entries → (hs : List Handled) × IsWriterStep w hs m × Ends w hs Idle m
   idle none whole = (m.held, t, (none, none, published, whole))
 
   pub shown : (length m.held ≡ 0 → length m.published < length m.handler.replica.entries) → (r : Step) (v : Writer) → Shows m r v
-      → (hs : List Handled) × IsWriterStep table w hs v × Ends w hs r v
+      → (hs : List Handled) × IsWriterStep w hs v × Ends w hs r v
   shown more Idle v s = absurd s
   shown more (Published n) v s =
-      subst (λ (u : Writer). (hs : List Handled) × IsWriterStep table w hs u × Ends w hs (Published n) u) (sym s.1) (
+      subst (λ (u : Writer). (hs : List Handled) × IsWriterStep w hs u × Ends w hs (Published n) u) (sym s.1) (
         m.held,
         record {
           rested = t.rested;
@@ -35,5 +35,5 @@ module _ (table : List ℕ) (w m : Writer) (t : IsWriterStep table w m.held m) (
         ),
       )
   shown more Held v s =
-      subst (λ (u : Writer). (hs : List Handled) × IsWriterStep table w hs u × Ends w hs Held u) (sym s)
+      subst (λ (u : Writer). (hs : List Handled) × IsWriterStep w hs u × Ends w hs Held u) (sym s)
       (m.held, t, (refl, published, more))

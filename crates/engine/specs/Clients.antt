@@ -71,7 +71,7 @@ answer_of k = answer_in k.submission k.known
 abbrev pub IsNoticeOf : (own : ℕ) (members : List ℕ) → AwaitedAnswer → Option (List Entry) → Type 0
 IsNoticeOf own ps k None = answer_of k ≡ None
 IsNoticeOf own ps k (Some G) = (r : Reply) × (answer_of k ≡ Some (record { reply = r; history = G }))
-    × IsAnswerWith own ps G (submitted_of ps k.submission) (reply_of r)
+    × IsAnswerWith own ps G (submitted_of k.submission) (reply_of r)
 
 -- the ticket is one that this client was given
 abbrev pub IsMine : Client → Ticket → Type 0
@@ -95,7 +95,7 @@ pub record IsAnswered (own : ℕ) (members : List ℕ) (c : Client) (t : Ticket)
   pub client : kept.submission.client ≡ t.client
   pub serial : kept.submission.serial ≡ t.serial
   pub given : answer_of kept ≡ Some (record { reply = r; history = G })
-  pub answer : IsAnswerWith own members G (submitted_of members kept.submission) (reply_of r)
+  pub answer : IsAnswerWith own members G (submitted_of kept.submission) (reply_of r)
   pub within : IsWithin G (reply_of r)
 
 -- a notice of the answer to the ticket's submission, if one is there: G allows the reply, and has the position or the length that it
@@ -104,7 +104,7 @@ pub record HasNotice (own : ℕ) (members : List ℕ) (c : Client) (t : Ticket) 
   pub kept : AwaitedAnswer
   pub at : slice_get c.kept (t.serial - 1) ≡ Some kept
   pub of_answer : MatchOption notice (answer_of kept ≡ None)
-      (λ G. (g : Given) × (G ≡ g.history) × IsAnswerWith own members G (submitted_of members kept.submission) (reply_of g.reply)
+      (λ G. (g : Given) × (G ≡ g.history) × IsAnswerWith own members G (submitted_of kept.submission) (reply_of g.reply)
       × IsWithin G (reply_of g.reply) × IfSome (answer_of kept) (λ known. known ≡ g))
 
 -- a client of a new engine with this configuration: it has seen and submitted nothing, and never found the queue full

@@ -48,15 +48,15 @@ abbrev pub publication_of : ℕ → List ℕ → Publication → Publication
 publication_of own table p = record p { own = own; members = table }
 
 -- what was submitted, one by one
-abbrev pub submitted_in : List ℕ → List Submission → List Submitted
-submitted_in table items = map (submitted_of table) items
+abbrev pub submitted_in : List Submission → List Submitted
+submitted_in items = map submitted_of items
 
 -- what holds of a writer between its calls
 pub record IsWriter (own : ℕ) (table : List ℕ) (publication : Publication) (handler : Handler) (hand : Hand) (held : List Handled)
     (batch room : ℕ) : Type 0 where
   pub holds : Holds (publication_of own table publication) handler.replica
   pub running : IsRunning handler.replica
-  pub come_from : ComeFrom (submitted_in table hand.got) handler.replica.entries
+  pub come_from : ComeFrom (submitted_in hand.got) handler.replica.entries
   pub answers : AreAnswers own table handler.replica.entries held
   pub none_ended : hand.known ≡ []
   pub fits : batch ≤ room
@@ -64,13 +64,13 @@ pub record IsWriter (own : ℕ) (table : List ℕ) (publication : Publication) (
 
 -- a step that began with nothing held went on with a drain that had ended early, and then took these submissions, at most a batch, which it
 -- handled one after another, none skipped. It took fewer than a batch only where it found the queue empty
-pub record IsWriterStep (table : List ℕ) (w : Writer) (hs : List Handled) (v : Writer) : Type 0 where
+pub record IsWriterStep (w : Writer) (hs : List Handled) (v : Writer) : Type 0 where
   pub rested : Handler
   pub resumes : Resumes w.handler rested
   pub runs : Runs rested hs v.handler
   pub items : List Submission
   pub took : v.took ≡ w.took ++ items
-  pub handled : items_of hs ≡ submitted_in table items
+  pub handled : items_of hs ≡ submitted_in items
   pub few : length hs ≤ w.batch
   pub empty : v.found_empty ≡ cond (nat_lt (length hs) w.batch) (one_more w.found_empty) w.found_empty
 

@@ -1,7 +1,7 @@
 //! Clients: they submit commands and operations of peers, poll for the answers, and ask.
 
 ghost use Rattle.std.specs.Prelude.{◌≡◌, ◌+◌, ◌-◌, ◌<◌, ◌≤◌, ◌⊎◌, ◌++◌, ◌∷◌, ◌↔◌, [], List, length, Option, Some, None, Ok, Err, IfOk};
-ghost use Rattle.std.specs.Prelude.{IfErr, IfSome, MatchBool, MatchOption, MatchResult, option_map, slice_get, slice_set};
+ghost use Rattle.std.specs.Prelude.{IfErr, IfSome, MatchBool, MatchResult, option_map, slice_get};
 ghost use Rattle.std.specs.Arc.{arc_value};
 ghost use Rattle.crossbeam_queue.specs.Passes.{ruled_capacity, view as pass_view};
 ghost use Rattle.ids.specs.declared.refusal.Refusal.TheVariants.{Foreign, NoMemory, NoReading, QueueFull, SerialEnd};
@@ -11,13 +11,10 @@ ghost use Rattle.semantics.specs.Questions.{Question as TheQuestion, Refused};
 ghost use Rattle.semantics.specs.LegalAnswer.{Answered, OfDocument, reading_of};
 ghost use Rattle.semantics.specs.PeerAnswers.{IsAnswer};
 ghost use Rattle.semantics.specs.View.{view};
-ghost use Rattle.replica.specs.document.Documents.{HasWidthOf, asked_of, said_by};
+ghost use Rattle.replica.specs.document.Documents.{asked_of, said_by};
 ghost use Rattle.replica.specs.operation.declared.submission.Submission.{Submission as ASubmission};
-ghost use Rattle.replica.specs.operation.declared.submission.Reply.{Reply as AReply};
-ghost use Rattle.replica.specs.operation.declared.submission.Request.{Request as ARequest};
 ghost use Rattle.replica.specs.operation.declared.submission.Request.TheVariants.{Command as OfCommand, Peer as OfPeer};
 ghost use Rattle.replica.specs.operation.Submissions.{reply_of, submitted_of};
-ghost use Rattle.command.specs.InOrder.{sender_hand};
 ghost use Rattle.command.specs.Answers.{Given};
 ghost use Rattle.engine.specs.Clients.{HasNotice, IsAnswered, IsMine, Looks, after_refusal, submissions_by, with_request};
 
@@ -236,7 +233,7 @@ impl<N: EngineName> Client<N> {
         ensures legal { IfOk result
             (λ o. IfSome o
             (λ r. (x : ASubmission) × (slice_get (submissions_by self.old) (ticket.now.serial - 1) ≡ Some x)
-            × IsAnswer N.own N.table self.new.seen (submitted_of N.table x) (reply_of r))) }
+            × IsAnswer N.own N.table self.new.seen (submitted_of x) (reply_of r))) }
     {
         let Some((reply, notice)) = self.look(ticket)? else {
             return Ok(None);
@@ -339,19 +336,18 @@ impl<N: EngineName> Client<N> {
     /// # Errors
     /// As a `ReaderToken`'s.
     pub fn ask(&mut self, alloc: Global, question: &Question) -> Result<Reading, Refusal>
-        requires { HasWidthOf N.table question.now }
         ensures grows { BeginsWith self.new.seen self.old.seen }
         ensures legal { IsEntryHistory N.own self.new.seen }
-        ensures answer { IfOk result (λ r. said_by N.table r ≡ reading_of self.new.seen (asked_of N.table question.now)) }
+        ensures answer { IfOk result (λ r. said_by r ≡ reading_of self.new.seen (asked_of question.now)) }
         ensures view { IfOk result
-            (λ r. (q : TheQuestion) → asked_of N.table question.now ≡ OfDocument q
-            → said_by N.table r ≡ Answered (view (applied self.new.seen) q)) }
+            (λ r. (q : TheQuestion) → asked_of question.now ≡ OfDocument q
+            → said_by r ≡ Answered (view (applied self.new.seen) q)) }
         ensures err { IfErr result
             (λ why. (why ≡ NoMemory) ⊎ (why ≡ NoReading)
-            ⊎ (reading_of self.new.seen (asked_of N.table question.now) ≡ Answered (Refused why))) }
+            ⊎ (reading_of self.new.seen (asked_of question.now) ≡ Answered (Refused why))) }
         ensures view_refuses { IfErr result
             (λ why. (why ≡ NoMemory) ⊎ (why ≡ NoReading)
-            ⊎ ((q : TheQuestion) → asked_of N.table question.now ≡ OfDocument q → view (applied self.new.seen) q ≡ Refused why)) }
+            ⊎ ((q : TheQuestion) → asked_of question.now ≡ OfDocument q → view (applied self.new.seen) q ≡ Refused why)) }
         ensures published { MatchResult result (λ _. self.new.read ≡ self.new.seen)
             (λ why. (why ≡ NoMemory) ⊎ (why ≡ NoReading) ⊎ (self.new.read ≡ self.new.seen)) }
         ensures step { MatchResult result (λ _. self.new.reads ≡ self.old.reads + 1)

@@ -39,10 +39,10 @@ pub struct Final {
 /// wait for good. Nothing lets that happen: each notice is of what was published. But no contract says so yet.
 pub fn close<N: EngineName>(rt: &impl Wait, writer: Writer<N>, clients: Vec<Client<N>>) -> Final
     requires { AreClients writer.queue 0 clients.items }
-    ensures history { (history N.table result.history.items ≡ writer.published) × IsEntryHistory N.own writer.published }
+    ensures history { (history result.history.items ≡ writer.published) × IsEntryHistory N.own writer.published }
     ensures seen { (k : ℕ) (c : TheClient) → slice_get clients.items k ≡ Some c → BeginsWith writer.published c.seen }
     ensures own { (k : ℕ) (c : TheClient) → slice_get clients.items k ≡ Some c → (n serial : ℕ) (command : Command) (s : Stamped) →
-        entry_at n writer.published ≡ Some (Own k serial command s) → AsksFor (submitted_in N.table (submissions_by c)) serial command }
+        entry_at n writer.published ≡ Some (Own k serial command s) → AsksFor (submitted_in (submissions_by c)) serial command }
     ensures taken { (queued : List ASubmission) × (result.left ≡ length writer.held + length queued)
         × ((k : ℕ) (c : TheClient) → slice_get clients.items k ≡ Some c → of k (writer.took ++ queued) ≡ submissions_by c)
         × All (λ x. x.client < writer.clients) (writer.took ++ queued) }

@@ -26,4 +26,4 @@ pub use replica::{
 };
 
 // Handed on from the crates below, for users of this one.
-pub use replica::{Op, Shared, VersionVector};
+pub use replica::{NamedVector, Op, Shared};

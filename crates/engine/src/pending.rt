@@ -60,7 +60,7 @@ impl<N: EngineName> Pending<N> {
         ensures known { IfSome self.old.known (λ a. self.new.known ≡ Some a) }
         ensures answer { MatchOption result (answer_of self.new ≡ None)
             (λ r. (answer_of self.new ≡ Some (record { reply = r.0; history = r.1 }))
-            × IsAnswerWith N.own N.table r.1 (submitted_of N.table self.old.submission) (reply_of r.0)) }
+            × IsAnswerWith N.own N.table r.1 (submitted_of self.old.submission) (reply_of r.0)) }
     {
         let answer = self.cell.get_as(&mut self.note)?;
         let given = given_to(answer, &self.submission)?;
@@ -72,7 +72,7 @@ impl<N: EngineName> Pending<N> {
     pub fn notice(&self) -> Option<&Notice<N>>
         ensures { MatchOption result (answer_of self.now ≡ None)
             (λ n. (g : TheGiven) × (n.now ≡ g.history)
-            × IsAnswerWith N.own N.table g.history (submitted_of N.table self.now.submission) (reply_of g.reply)
+            × IsAnswerWith N.own N.table g.history (submitted_of self.now.submission) (reply_of g.reply)
             × IfSome (answer_of self.now) (λ known. known ≡ g)) }
     {
         if let Some(notice) = &self.notice {
@@ -90,7 +90,7 @@ fn given_to<'a, N: EngineName>(
 ) -> Option<&'a Given<N>>
     ensures { MatchOption result (answer_in submission.now (Some answer.now) ≡ None)
         (λ g. (answer_in submission.now (Some answer.now) ≡ Some (record { reply = g.now.reply; history = g.now.notice }))
-        × IsAnswerWith N.own N.table g.now.notice (submitted_of N.table submission.now) (reply_of g.now.reply)) }
+        × IsAnswerWith N.own N.table g.now.notice (submitted_of submission.now) (reply_of g.now.reply)) }
 {
     if !answer.submission().is_same(submission) {
         return None;

@@ -1,6 +1,6 @@
 //! The writer: it takes what clients submitted, handles it, publishes, and only then answers.
 
-ghost use Rattle.std.specs.Prelude.{◌≡◌, ◌<◌, ◌≤◌, ◌++◌, [], List, MatchBool, MatchResult, cond, false, length, map, nat_lt, vec_capacity};
+ghost use Rattle.std.specs.Prelude.{◌≡◌, ◌<◌, ◌≤◌, ◌++◌, [], List, MatchBool, MatchResult, cond, false, length, nat_lt, vec_capacity};
 ghost use Rattle.command.specs.Counts.{one_more};
 ghost use Rattle.crossbeam_queue.specs.Passes.{view};
 ghost use Rattle.semantics.specs.Engine.{Handled as TheHandled};
@@ -133,7 +133,7 @@ impl<N: EngineName> Writer<N> {
         ensures same { (self.new.queue ≡ self.old.queue) × (self.new.clients ≡ self.old.clients) × (self.new.batch ≡ self.old.batch)
             × (0 < self.new.batch) }
         ensures fresh { length self.old.held ≡ 0
-            → (hs : List TheHandled) × IsWriterStep N.table self.old hs self.new × Ends self.old hs result self.new }
+            → (hs : List TheHandled) × IsWriterStep self.old hs self.new × Ends self.old hs result self.new }
         ensures again { 0 < length self.old.held → Shows self.old result self.new }
     {
         if self.held.is_empty() {
@@ -148,7 +148,7 @@ impl<N: EngineName> Writer<N> {
         requires { length self.old.held ≡ 0 }
         ensures same { (self.new.queue ≡ self.old.queue) × (self.new.clients ≡ self.old.clients) × (self.new.batch ≡ self.old.batch)
             × (0 < self.new.batch) }
-        ensures turn { (hs : List TheHandled) × IsWriterStep N.table self.old hs self.new × Ends self.old hs result self.new }
+        ensures turn { (hs : List TheHandled) × IsWriterStep self.old hs self.new × Ends self.old hs result self.new }
     {
         self.take_all(rt, alloc);
         if self.is_done() {
@@ -163,7 +163,7 @@ impl<N: EngineName> Writer<N> {
         ensures same { (self.new.queue ≡ self.old.queue) × (self.new.clients ≡ self.old.clients) × (self.new.batch ≡ self.old.batch)
             × (self.new.published ≡ self.old.published)
             × (0 < self.new.batch) }
-        ensures turn { IsWriterStep N.table self.old self.new.held self.new }
+        ensures turn { IsWriterStep self.old self.new.held self.new }
     {
         self.handler.resume(alloc, &mut self.publisher);
         fill(
@@ -245,11 +245,11 @@ fn fill<N: EngineName>(
     requires room { batch ≤ vec_capacity held.old }
     requires holds { Holds (publication_of N.own N.table publisher.old) (replica_of handler.old.replica) }
     requires running { IsRunning (replica_of handler.old.replica) }
-    requires come_from { ComeFrom (submitted_in N.table (view taker.old.pass).got) handler.old.replica.document.entries }
-    ensures batch { IsBatch (handler_of handler.old) (submitted_in N.table (view taker.old.pass).got) held.new.items
+    requires come_from { ComeFrom (submitted_in (view taker.old.pass).got) handler.old.replica.document.entries }
+    ensures batch { IsBatch (handler_of handler.old) (submitted_in (view taker.old.pass).got) held.new.items
         (handler_of handler.new) }
     ensures took { (items : List ASubmission) × ((view taker.new.pass).got ≡ (view taker.old.pass).got ++ items)
-        × (items_of held.new.items ≡ submitted_in N.table items) }
+        × (items_of held.new.items ≡ submitted_in items) }
     ensures taker { (taker.new.pass.table_id ≡ taker.old.pass.table_id) × ((view taker.new.pass).known ≡ (view taker.old.pass).known)
         × ((view taker.new.pass).made ≡ (view taker.old.pass).made) }
     ensures holds { Holds (publication_of N.own N.table publisher.new) (replica_of handler.new.replica) }
@@ -279,8 +279,8 @@ fn handle_one<N: EngineName>(
     requires running { IsRunning (replica_of handler.old.replica) }
     requires above { IsAbove envelope.answer.value.submission.client envelope.answer.value.submission.serial
         handler.old.replica.document.entries }
-    ensures submission { result.submitted ≡ submitted_of N.table envelope.answer.value.submission }
-    ensures handled { Handles (handler_of handler.old) (submitted_of N.table envelope.answer.value.submission) result.reply
+    ensures submission { result.submitted ≡ submitted_of envelope.answer.value.submission }
+    ensures handled { Handles (handler_of handler.old) (submitted_of envelope.answer.value.submission) result.reply
         (handler_of handler.new) }
     ensures holds { Holds (publication_of N.own N.table publisher.new) (replica_of handler.new.replica) }
     ensures published { publisher.new.published ≡ publisher.old.published }

@@ -6,3 +6,4 @@ pub mod Tables
 pub mod CanonicalVectors
 pub mod RaisedVectors
 pub mod SearchedVectors
+pub mod FewNamed

@@ -123,3 +123,13 @@ named_behind v a h below counted room = record {
   canonical = canonical_behind v a h.canonical below counted;
   few = omega (arith, length-append v (a ∷ []), room);
 }
+
+-- what is below a number is below a greater one
+pub below_more : (p q : ℕ) (v : Vector) → AreBelow p v → p ≤ q → AreBelow q v
+below_more p q [] h le = tt
+below_more p q (a ∷ v) h le = (omega (arith, le, h.0), below_more p q v h.1 le)
+
+-- and so is one more behind
+pub below_behind : (p : ℕ) (v : Vector) (a : OpId) → AreBelow p v → a.replica < p → AreBelow p (v ++ a ∷ [])
+below_behind p [] a h l = (l, tt)
+below_behind p (b ∷ v) a h l = (h.0, below_behind p v a h.1 l)

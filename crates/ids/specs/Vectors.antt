@@ -2,6 +2,7 @@
 use Rattle.std.specs.Prelude.{◌≢◌, ℕ, ◌<◌, ◌≤◌, max, Bool, cond, ◌==◌, nat_le, nat_lt, ⊤, List, [], ◌∷◌, length}
 use Rattle.std.specs.List.{list_all}
 use Rattle.ids.specs.Ids.{OpId, IdSet, id_at}
+use Rattle.ids.specs.Members.{is_member}
 
 -- the ids that are named, as a rule at most one of each replica
 abbrev pub Vector : Type 0
@@ -31,6 +32,10 @@ raise a [] = a ∷ []
 raise a (b ∷ v) =
     cond (nat_lt a.replica b.replica) (a ∷ b ∷ v)
     (cond (a.replica == b.replica) (id_at (max a.counter b.counter) b.replica ∷ v) (b ∷ raise a v))
+
+-- each replica that is named is one of these
+abbrev pub names_only : List ℕ → Vector → Bool
+names_only ps v = list_all (λ a. is_member ps a.replica) v
 
 -- each replica of the vector is below p
 abbrev pub AreBelow : ℕ → Vector → Type 0

@@ -1,6 +1,6 @@
 //! Version vectors that name their replicas.
 
-ghost use Rattle.std.specs.Prelude.{◌≡◌, ◌<◌, ◌≤◌, ◌∷◌, ◌++◌, [], ℕ, length, nat_lt, MatchResult, IfOk, slice_index_or};
+ghost use Rattle.std.specs.Prelude.{◌≡◌, ◌<◌, ◌≤◌, ◌∷◌, ◌++◌, [], ℕ, length, MatchResult, IfOk, slice_index_or};
 ghost use Rattle.std.specs.Cmp;
 ghost use Rattle.std.specs.Cmp.Lexicographic.{pointwise};
 ghost use Rattle.ids.specs.Ids.{is_same_id};
@@ -80,10 +80,7 @@ impl NamedVector {
     pub fn at(&self, replica: ReplicaId) -> u64
         ensures { result ≡ at self.now replica }
     {
-        match self.ids.binary_search_by_key(&replica, |id| id.replica) {
-            Ok(index) => self.ids[index].counter,
-            Err(_) => 0,
-        }
+        counter_of(self.ids.as_slice(), replica)
     }
 
     /// Whether the vector covers an id: its counter is at most the one that is named of its replica. Binary search.
@@ -117,6 +114,29 @@ impl NamedVector {
             }
         }
         true
+    }
+}
+
+/// The counter that these pairs name of a replica, 0 if none does. Binary search.
+pub fn counter_of(ids: &[OpId], replica: ReplicaId) -> u64
+    requires { IsCanonical ids.now }
+    ensures { result ≡ at ids.now replica }
+{
+    match ids.binary_search_by_key(&replica, |id| id.replica) {
+        Ok(index) => ids[index].counter,
+        Err(_) => 0,
+    }
+}
+
+/// The counter that these pairs name of a replica, 0 if none does. Looks at this position first, where the pair stands if as many
+/// replicas are named below it; else binary search.
+pub fn counter_near(ids: &[OpId], position: usize, replica: ReplicaId) -> u64
+    requires { IsCanonical ids.now }
+    ensures { result ≡ at ids.now replica }
+{
+    match ids.get(position) {
+        Some(id) if id.replica == replica => id.counter,
+        _ => counter_of(ids, replica),
     }
 }
 

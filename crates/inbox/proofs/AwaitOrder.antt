@@ -1,7 +1,7 @@
 -- The order of what waiting operations wait for.
 use Rattle.std.proofs.Common.{◌≡◌, ◌≤◌, ◌⊎◌, inl, inr, ℕ, Bool, true, false, cond, ◌==◌, ◌||◌, ◌&&◌, List}
 use Rattle.std.proofs.Common.{[], ◌∷◌, refl, sym, ap, subst, ◌∙◌, arith}
-use Rattle.std.proofs.Common.{true≢false, nat_lt, nat_cmp}
+use Rattle.std.proofs.Common.{◌≢◌, not, true≢false, nat_lt, nat_cmp}
 use Rattle.std.specs.declared.cmp.Ordering.{Ordering}
 use Rattle.std.specs.declared.cmp.Ordering.TheVariants.{Less, Equal, Greater}
 use Rattle.std.specs.Ordering.{is_eq, is_gt, is_le, ordering_then}
@@ -13,32 +13,36 @@ use Rattle.std.specs.List.{AllByRecursion}
 use Rattle.std.specs.List.Sorted.{IsStrictlySortedBy}
 use Rattle.std.proofs.lemmas.List.Kept.{IsStrictlySortedBy-filter}
 use Rattle.std.proofs.lemmas.Cmp.{nat_cmp_total, tied_itself}
-use Rattle.std.proofs.lemmas.Bool.{ltb-true, eqb-true}
+use Rattle.std.proofs.lemmas.Bool.{eq-eqb, ltb-true, eqb-true}
 use Rattle.std.proofs.lemmas.Bool.Decides.{nat_tests}
 use Rattle.semantics.specs.LegalHistory.{IsAmong}
 use Rattle.inbox.specs.declared.awaited.Awaited.{Awaited}
 use Rattle.inbox.specs.Awaiting.{await_cmp}
 
 -- what an order of two numbers says of them
-index_rises : (x y : ℕ) (r : Ordering) → is_gt (ordering_then (nat_cmp x y) r) ≡ false → x ≤ y
-index_rises x y r h = at_tests (nat_lt x y) (x == y) refl refl h
+number_rises : (x y : ℕ) (r : Ordering) → is_gt (ordering_then (nat_cmp x y) r) ≡ false → x ≤ y
+number_rises x y r h = at_tests (nat_lt x y) (x == y) refl refl h
   where
     at_tests : (b c : Bool) → nat_lt x y ≡ b → (x == y) ≡ c → is_gt (ordering_then (cond b Less (cond c Equal Greater)) r) ≡ false → x ≤ y
     at_tests true c e f k = (let lt = ltb-true x y e in omega arith)
     at_tests false true e f k = (let eq = eqb-true x y f in omega arith)
     at_tests false false e f k = absurd (true≢false k)
 
-pub rises : (a b : Awaited) → is_gt (await_cmp a b) ≡ false → a.index ≤ b.index
-rises a b h = index_rises a.index b.index (ordering_then (nat_cmp a.counter b.counter) (nat_cmp a.key b.key)) h
+pub rises : (a b : Awaited) → is_gt (await_cmp a b) ≡ false → a.replica ≤ b.replica
+rises a b h = number_rises a.replica b.replica (ordering_then (nat_cmp a.counter b.counter) (nat_cmp a.key b.key)) h
 
--- the first that may wait at an index
+-- numbers that a test tells apart
+pub apart : (x y : ℕ) → true ≡ not (x == y) → x ≢ y
+apart x y h same = true≢false (h ∙ ap not (eq-eqb x y same))
+
+-- the first that may wait for a replica
 abbrev pub first_at : ℕ → Awaited
-first_at i = record { index = i; counter = 0; key = 0 }
+first_at i = record { replica = i; counter = 0; key = 0 }
 
-pub from_first : (i : ℕ) (q : Awaited) → i ≤ q.index → is_gt (await_cmp (first_at i) q) ≡ false
+pub from_first : (i : ℕ) (q : Awaited) → i ≤ q.replica → is_gt (await_cmp (first_at i) q) ≡ false
 from_first i q h = grind (arith, nat_tests)
 
--- ---- those from an index on
+-- ---- those from a replica on
 
 same_number : (x y : ℕ) → is_eq (nat_cmp x y) ≡ true → x ≡ y
 same_number x y h = at_tests (nat_lt x y) (x == y) refl h
@@ -58,12 +62,12 @@ itself a = grind (arith, nat_tests)
 
 pub same_await : (a b : Awaited) → is_eq (await_cmp a b) ≡ true → a ≡ b
 same_await a b h =
-    let one = both_same (nat_cmp a.index b.index) (ordering_then (nat_cmp a.counter b.counter) (nat_cmp a.key b.key)) h in
+    let one = both_same (nat_cmp a.replica b.replica) (ordering_then (nat_cmp a.counter b.counter) (nat_cmp a.key b.key)) h in
     let two = both_same (nat_cmp a.counter b.counter) (nat_cmp a.key b.key) one.1 in
-    let index : a.index ≡ b.index = same_number a.index b.index one.0 in
+    let replica : a.replica ≡ b.replica = same_number a.replica b.replica one.0 in
     let counter : a.counter ≡ b.counter = same_number a.counter b.counter two.0 in
     let key : a.key ≡ b.key = same_number a.key b.key two.1 in
-    λ i. record { index = index i; counter = counter i; key = key i }
+    λ i. record { replica = replica i; counter = counter i; key = key i }
 
 among_filter : (p : Awaited → Bool) (q : Awaited) (ks : List Awaited) → list_any (λ k. is_eq (await_cmp q k)) ks ≡ true → p q ≡ true
     → IsAmong q (filter p ks)
@@ -99,16 +103,16 @@ gt_from Less h = refl
 gt_from Equal h = refl
 gt_from Greater h = absurd (true≢false (sym h))
 
--- all from an index on, in their order
+-- all from a replica on, in their order
 module _ (awaits : BTreeSet Awaited) (r : List Awaited) (i : ℕ)
     (is : r ≡ keys_between await_cmp (Included (first_at i)) Unbounded awaits) where
-  pub all_from : (q : Awaited) → contains await_cmp awaits q ≡ true → i ≤ q.index → IsAmong q r
+  pub all_from : (q : Awaited) → contains await_cmp awaits q ≡ true → i ≤ q.replica → IsAmong q r
   all_from q held from =
       rw is (among_filter (range_contains await_cmp (Included (first_at i)) Unbounded) q awaits.keys held
       (let low = le_from (await_cmp (first_at i) q) (from_first i q from) in ap (λ b. b && true) low))
 
   -- and no others
-  pub none_before : (q : Awaited) → IsAmong q r → i ≤ q.index
+  pub none_before : (q : Awaited) → IsAmong q r → i ≤ q.replica
   none_before q m =
       rises (first_at i) q
       (gt_from (await_cmp (first_at i) q)
@@ -156,14 +160,15 @@ module _ (r rest : List Awaited) (next : Awaited) (is : r ≡ next ∷ rest) (ri
   pub next_or_left : (q : Awaited) → IsAmong q r → (q ≡ next) ⊎ IsAmong q rest
   next_or_left q m = subst (IsAmong q) is m
 
--- at one index counters rise
-pub counter_rises : (a b : Awaited) → is_gt (await_cmp a b) ≡ false → a.index ≡ b.index → a.counter ≤ b.counter
+-- of one replica counters rise
+pub counter_rises : (a b : Awaited) → is_gt (await_cmp a b) ≡ false → a.replica ≡ b.replica → a.counter ≤ b.counter
 counter_rises a b h same =
-    index_rises a.counter b.counter (nat_cmp a.key b.key)
-    (sym (ap is_gt (past_equal (nat_cmp a.index b.index) (ordering_then (nat_cmp a.counter b.counter) (nat_cmp a.key b.key)) equal)) ∙ h)
+    number_rises a.counter b.counter (nat_cmp a.key b.key)
+    (sym (ap is_gt (past_equal (nat_cmp a.replica b.replica) (ordering_then (nat_cmp a.counter b.counter) (nat_cmp a.key b.key)) equal))
+    ∙ h)
   where
-    equal : is_eq (nat_cmp a.index b.index) ≡ true
-    equal = ap (λ i. is_eq (nat_cmp a.index i)) (sym same) ∙ ap is_eq (tied_itself nat_cmp_total a.index)
+    equal : is_eq (nat_cmp a.replica b.replica) ≡ true
+    equal = ap (λ i. is_eq (nat_cmp a.replica i)) (sym same) ∙ ap is_eq (tied_itself nat_cmp_total a.replica)
 
     past_equal : (o r : Ordering) → is_eq o ≡ true → ordering_then o r ≡ r
     past_equal Less r e = absurd (true≢false (sym e))

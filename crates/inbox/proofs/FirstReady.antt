@@ -29,14 +29,14 @@ below_found a b n (e ∷ es) h f = at_test (below_found a b n es parts.1) (is_sa
     at_test rest true same g = ap (is_smaller_id a) (ids_from_test b e.0 same) ∙ parts.0
     at_test rest false differs g = rest g
 
-module _ (H : List Operation) (table : List ℕ) (s : Slab Op) where
+module _ (H : List Operation) (s : Slab Op) where
   -- it is ready, where each id has its operation
   pub first_is_ready : (es : List (OpId × ℕ)) → is_sorted id_cmp es ≡ true
       → ((a : OpId) (k : ℕ) → find id_cmp a es ≡ Some k → (o : Op) × (get s k ≡ Some o) × (o.id ≡ a))
-      → IsReadyAt H table s (first_of H table s es)
+      → IsReadyAt H s (first_of H s es)
   first_is_ready [] sorted stands = tt
   first_is_ready (e ∷ es) sorted stands =
-      at_test (first_is_ready es parts.1 (λ a k f. stands a k (later a k f))) (is_ready_at H table s e.1) refl
+      at_test (first_is_ready es parts.1 (λ a k f. stands a k (later a k f))) (is_ready_at H s e.1) refl
     where
       parts : (below_all id_cmp e.0 es ≡ true) × (is_sorted id_cmp es ≡ true)
       parts = and_parts (below_all id_cmp e.0 es) (is_sorted id_cmp es) sorted
@@ -52,17 +52,17 @@ module _ (H : List Operation) (table : List ℕ) (s : Slab Op) where
           (sym (below_found e.0 a k es parts.0 f) ∙ ap (is_smaller_id e.0) (ids_from_test a e.0 same) ∙ not_itself e.0)))
           ∙ f
 
-      at_test : IsReadyAt H table s (first_of H table s es) → (b : Bool) → is_ready_at H table s e.1 ≡ b
-          → IsReadyAt H table s (cond b (Some e) (first_of H table s es))
-      at_test rest true r = (here.0, here.1, here.2, sym (ap (is_ready_if H table) here.1) ∙ r)
+      at_test : IsReadyAt H s (first_of H s es) → (b : Bool) → is_ready_at H s e.1 ≡ b
+          → IsReadyAt H s (cond b (Some e) (first_of H s es))
+      at_test rest true r = (here.0, here.1, here.2, sym (ap (is_ready_if H) here.1) ∙ r)
       at_test rest false r = rest
 
   -- none of them that is ready is smaller
   pub first_is_least : (es : List (OpId × ℕ)) → is_sorted id_cmp es ≡ true → (k : ℕ) (o : Op) → get s k ≡ Some o
-      → find id_cmp o.id es ≡ Some k → is_ready H (stamped_of table o) ≡ true → IsMet (first_of H table s es) o.id
+      → find id_cmp o.id es ≡ Some k → is_ready H (stamped_of o) ≡ true → IsMet (first_of H s es) o.id
   first_is_least [] sorted k o stands f ready = absurd (let no : ⊥ = cc in no)
   first_is_least (e ∷ es) sorted k o stands f ready =
-      at_test (λ g. first_is_least es parts.1 k o stands g ready) (is_ready_at H table s e.1) refl
+      at_test (λ g. first_is_least es parts.1 k o stands g ready) (is_ready_at H s e.1) refl
     where
       parts : (below_all id_cmp e.0 es ≡ true) × (is_sorted id_cmp es ≡ true)
       parts = and_parts (below_all id_cmp e.0 es) (is_sorted id_cmp es) sorted
@@ -72,40 +72,40 @@ module _ (H : List Operation) (table : List ℕ) (s : Slab Op) where
       at_head true same g = ap (is_smaller_id o.id) (sym (ids_from_test o.id e.0 same)) ∙ not_itself o.id
       at_head false differs g = not_back e.0 o.id (below_found e.0 o.id k es parts.0 g)
 
-      behind : (find id_cmp o.id es ≡ Some k → IsMet (first_of H table s es) o.id) → is_ready_at H table s e.1 ≡ false → (t : Bool)
-          → is_same_id o.id e.0 ≡ t → cond t (Some e.1) (find id_cmp o.id es) ≡ Some k → IsMet (first_of H table s es) o.id
+      behind : (find id_cmp o.id es ≡ Some k → IsMet (first_of H s es) o.id) → is_ready_at H s e.1 ≡ false → (t : Bool)
+          → is_same_id o.id e.0 ≡ t → cond t (Some e.1) (find id_cmp o.id es) ≡ Some k → IsMet (first_of H s es) o.id
       behind rest r true same g =
           let one : e.1 ≡ k = cc in
           absurd
-          (true≢false (sym ready ∙ sym (ap (is_ready_if H table) stands) ∙ ap (is_ready_at H table s) (sym one) ∙ r))
+          (true≢false (sym ready ∙ sym (ap (is_ready_if H) stands) ∙ ap (is_ready_at H s) (sym one) ∙ r))
       behind rest r false differs g = rest g
 
-      at_test : (find id_cmp o.id es ≡ Some k → IsMet (first_of H table s es) o.id) → (b : Bool) → is_ready_at H table s e.1 ≡ b
-          → IsMet (cond b (Some e) (first_of H table s es)) o.id
+      at_test : (find id_cmp o.id es ≡ Some k → IsMet (first_of H s es) o.id) → (b : Bool) → is_ready_at H s e.1 ≡ b
+          → IsMet (cond b (Some e) (first_of H s es)) o.id
       at_test rest true r = at_head (is_same_id o.id e.0) refl f
       at_test rest false r = behind rest r (is_same_id o.id e.0) refl f
 
   -- what is left from a position on begins with what stands there
   next_of : (es : List (OpId × ℕ)) (i : ℕ) (e : OpId × ℕ) → slice_get es i ≡ Some e
-      → first_of H table s (drop i es)
-      ≡ cond (is_ready_at H table s e.1) (Some e) (first_of H table s (drop (i + 1) es))
+      → first_of H s (drop i es)
+      ≡ cond (is_ready_at H s e.1) (Some e) (first_of H s (drop (i + 1) es))
   next_of [] i e there = absurd (let no : ⊥ = cc in no)
   next_of (x ∷ es) zero e there =
       let same : x ≡ e = cc in
-      ap (λ (y : OpId × ℕ). cond (is_ready_at H table s y.1) (Some y) (first_of H table s es)) same
+      ap (λ (y : OpId × ℕ). cond (is_ready_at H s y.1) (Some y) (first_of H s es)) same
   next_of (x ∷ es) (suc i) e there =
       next_of es i e there
-      ∙ ap (λ n. cond (is_ready_at H table s e.1) (Some e) (first_of H table s (drop n (x ∷ es)))) (later i)
+      ∙ ap (λ n. cond (is_ready_at H s e.1) (Some e) (first_of H s (drop n (x ∷ es)))) (later i)
     where
       later : (n : ℕ) → suc (n + 1) ≡ suc n + 1
       later n = omega arith
 
-  pub next_is_ready : (es : List (OpId × ℕ)) (i : ℕ) (e : OpId × ℕ) → slice_get es i ≡ Some e → is_ready_at H table s e.1 ≡ true
-      → first_of H table s (drop i es) ≡ Some e
+  pub next_is_ready : (es : List (OpId × ℕ)) (i : ℕ) (e : OpId × ℕ) → slice_get es i ≡ Some e → is_ready_at H s e.1 ≡ true
+      → first_of H s (drop i es) ≡ Some e
   next_is_ready es i e there ready =
-      next_of es i e there ∙ ap (λ b. cond b (Some e) (first_of H table s (drop (i + 1) es))) ready
+      next_of es i e there ∙ ap (λ b. cond b (Some e) (first_of H s (drop (i + 1) es))) ready
 
-  pub next_is_not : (es : List (OpId × ℕ)) (i : ℕ) (e : OpId × ℕ) → slice_get es i ≡ Some e → is_ready_at H table s e.1 ≡ false
-      → first_of H table s (drop i es) ≡ first_of H table s (drop (i + 1) es)
+  pub next_is_not : (es : List (OpId × ℕ)) (i : ℕ) (e : OpId × ℕ) → slice_get es i ≡ Some e → is_ready_at H s e.1 ≡ false
+      → first_of H s (drop i es) ≡ first_of H s (drop (i + 1) es)
   next_is_not es i e there not_ready =
-      next_of es i e there ∙ ap (λ b. cond b (Some e) (first_of H table s (drop (i + 1) es))) not_ready
+      next_of es i e there ∙ ap (λ b. cond b (Some e) (first_of H s (drop (i + 1) es))) not_ready

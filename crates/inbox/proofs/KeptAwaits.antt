@@ -1,19 +1,21 @@
 -- What waiting operations wait for, after each change of the slab, the keys and what is awaited.
-use Rattle.std.proofs.Common.{◌≡◌, ◌≢◌, ◌<◌, ◌⊎◌, inl, inr, ℕ, Bool, true, false, not, cond, List, length}
+use Rattle.std.proofs.Common.{◌≡◌, ◌≢◌, ◌<◌, ◌⊎◌, inl, inr, ℕ, Bool, true, false, not, cond, List, slice_get}
 use Rattle.std.proofs.Common.{Option, Some, None, is_some, refl, sym, ap, subst, ◌∙◌}
-use Rattle.std.proofs.Common.{true≢false, is_eq}
-use Rattle.std.proofs.lemmas.Bool.{cases_eq, false_from_ne_true}
+use Rattle.std.proofs.Common.{true≢false, is_eq, ◌==◌, max, arith}
+use Rattle.std.proofs.lemmas.Bool.{cases_eq, eqb-true, false_from_ne_true}
 use Rattle.std.specs.BTreeSet.{BTreeSet, contains}
 use Rattle.std.specs.BTreeSet as sorted
 use Rattle.std.specs.FinMap.{find, put}
 use Rattle.std.specs.FinMap.Entries.{find-put, find-where_key}
 use Rattle.semantics.specs.Ids.{OpId, id_cmp, is_same_id}
+use Rattle.semantics.specs.Vectors.{Vector, at, raise}
+use Rattle.ids.proofs.RaisedVectors.{at-raise}
 use Rattle.semantics.proofs.Orders.{id_total, ids_from_test, id_tested}
 use Rattle.document.specs.operation.declared.op.Op.{Op}
 use Rattle.slab.specs.Slab.{Slab, get, Updates}
 use Rattle.inbox.specs.declared.awaited.Awaited.{Awaited}
 use Rattle.inbox.specs.declared.waits.Waits.{Waits}
-use Rattle.inbox.specs.Awaiting.{await_cmp, awaited_at, seen_at, AreAwaiting, AreOnly, AreSingle, AreUnseen, IsAwaiting}
+use Rattle.inbox.specs.Awaiting.{await_cmp, awaited_by, seen_at, AreAwaiting, AreOnly, AreSingle, AreUnseen, IsAwaiting}
 use Rattle.inbox.specs.Awaiting.{IsEntered, IsEnteredAt}
 use Rattle.inbox.specs.Awaiting.{IsEnteredReady, IsForgotten, IsUnblocked, SameWaits}
 use Rattle.inbox.proofs.AwaitOrder.{same_await, itself}
@@ -31,8 +33,9 @@ pub still_awaits : (awaits new : BTreeSet Awaited) (k : ℕ) (o : Op)
     → IsAwaiting new k o
 still_awaits awaits new k o stays it = record {
   index = it.index;
-  within = it.within;
-  held = stays (awaited_at o.deps it.index k) refl it.held;
+  id = it.id;
+  there = it.there;
+  held = stays (awaited_by it.id k) refl it.held;
 }
 
 -- where each key holds what it held, and the same is awaited
@@ -57,7 +60,7 @@ same_awaiting s t es fs w v is same waits h = record {
         none = λ q held. it.none q (sym (waits.awaits q) ∙ held);
       };
   unseen = λ q held.
-      subst (λ seen. seen_at seen q.index < q.counter) (sym waits.seen) (h.unseen q (sym (waits.awaits q) ∙ held));
+      subst (λ seen. seen_at seen q.replica < q.counter) (sym waits.seen) (h.unseen q (sym (waits.awaits q) ∙ held));
 }
 
 -- where the same is awaited and may be ready, and more was seen
@@ -74,6 +77,20 @@ seen_awaiting s es w v awaits ready unseen h = record {
       subst (λ x. IsUnblocked s x a k) (sym awaits) (h.ready a k (sym (ap (λ r. find id_cmp a r.entries) ready) ∙ may));
   unseen = unseen h.unseen;
 }
+
+-- where more was seen of a replica, and nothing waits for that
+pub seen_more : (w v : Waits) (a : OpId) → v.awaits ≡ w.awaits → v.seen.ids ≡ raise a w.seen.ids
+    → ((q : Awaited) → contains await_cmp w.awaits q ≡ true → q.replica ≡ a.replica → a.counter < q.counter) → AreUnseen w → AreUnseen v
+seen_more w v a same more passed unseen q held =
+    let there = sym (ap (λ x. contains await_cmp x q) same) ∙ held in
+    subst (λ n. n < q.counter) (sym (ap (λ u. at u q.replica) more ∙ at-raise a w.seen.ids q.replica))
+    (at_test (a.replica == q.replica) refl (unseen q there) (passed q there))
+  where
+    at_test : (b : Bool) → (a.replica == q.replica) ≡ b → at w.seen.ids q.replica < q.counter
+        → (q.replica ≡ a.replica → a.counter < q.counter)
+        → cond b (max a.counter (at w.seen.ids q.replica)) (at w.seen.ids q.replica) < q.counter
+    at_test true e below above = (let m = above (sym (eqb-true a.replica q.replica e)) in omega (arith, below, m))
+    at_test false e below above = below
 
 pub no_change : (w : Waits) → SameWaits w w
 no_change w = record { awaits = λ q. refl; ready = refl; seen = refl }
@@ -127,7 +144,7 @@ module _ (awaits new : BTreeSet Awaited) (q : Awaited) (w : sorted.Updates await
       at_test false differs e = inr e
 
 -- what is put at a key where nothing was, and is entered
-module _ (applied : List ℕ) (s t : Slab Op) (es fs : List (OpId × ℕ)) (w v : Waits) (k : ℕ) (p : Op)
+module _ (applied : Vector) (s t : Slab Op) (es fs : List (OpId × ℕ)) (w v : Waits) (k : ℕ) (p : Op)
     (is : fs ≡ put id_cmp p.id k es) (none : find id_cmp p.id es ≡ None) (vacant : get s k ≡ None) (u : Updates s t k (Some p))
     (h : AreAwaiting s es w) where
   -- nothing was awaited at its key
@@ -158,9 +175,9 @@ module _ (applied : List ℕ) (s t : Slab Op) (es fs : List (OpId × ℕ)) (w v 
     each = λ n o stands. elim (put_or_stood n o stands) [
       | inl here ↦ inl (record {
         index = e.index;
-        within = subst (λ (x : Op). e.index < length x.deps) (sym here.1) e.ahead.within;
-        held = ap (λ q. contains await_cmp v.awaits q) (λ j. awaited_at (here.1 j).deps e.index (here.0 j))
-            ∙ is_awaited w.awaits v.awaits q e.awaits;
+        id = e.ahead.id;
+        there = subst (λ (x : Op). slice_get x.deps e.index ≡ Some e.ahead.id) (sym here.1) e.ahead.there;
+        held = ap (λ n. contains await_cmp v.awaits (awaited_by e.ahead.id n)) here.0 ∙ is_awaited w.awaits v.awaits q e.awaits;
       })
       | inr old ↦ elim (h.each n o old) [
         | inl it ↦ inl (still_awaits w.awaits v.awaits n o (λ x at held. stays w.awaits v.awaits q e.awaits x held) it)
@@ -195,15 +212,15 @@ module _ (applied : List ℕ) (s t : Slab Op) (es fs : List (OpId × ℕ)) (w v 
           ];
         };
     unseen = λ x held.
-        subst (λ seen. seen_at seen x.index < x.counter) (sym e.seen)
+        subst (λ seen. seen_at seen x.replica < x.counter) (sym e.seen)
         (elim (was_or_new w.awaits v.awaits q e.awaits x held) [
-          | inl now ↦ subst (λ (y : Awaited). seen_at w.seen y.index < y.counter) now e.ahead.unseen
+          | inl now ↦ subst (λ (y : Awaited). seen_at w.seen y.replica < y.counter) now e.ahead.unseen
           | inr old ↦ h.unseen x old
         ]);
   }
     where
       q : Awaited
-      q = awaited_at p.deps e.index k
+      q = awaited_by e.ahead.id k
 
   put_ready : IsEnteredReady w v k p → AreAwaiting t fs v
   put_ready e = record {
@@ -237,7 +254,7 @@ module _ (applied : List ℕ) (s t : Slab Op) (es fs : List (OpId × ℕ)) (w v 
             none = λ x held. it.none x (was x held);
           }
     ];
-    unseen = λ x held. subst (λ seen. seen_at seen x.index < x.counter) (sym e.seen) (h.unseen x (was x held));
+    unseen = λ x held. subst (λ seen. seen_at seen x.replica < x.counter) (sym e.seen) (h.unseen x (was x held));
   }
     where
       was : (x : Awaited) → contains await_cmp v.awaits x ≡ true → contains await_cmp w.awaits x ≡ true
@@ -385,5 +402,5 @@ module _ (s t : Slab Op) (es fs : List (OpId × ℕ)) (w v : Waits) (a : OpId) (
           id = it.id;
           none = λ q held. it.none q (was q held);
         };
-    unseen = λ q held. subst (λ seen. seen_at seen q.index < q.counter) (sym f.seen) (h.unseen q (was q held));
+    unseen = λ q held. subst (λ seen. seen_at seen q.replica < q.counter) (sym f.seen) (h.unseen q (was q held));
   }

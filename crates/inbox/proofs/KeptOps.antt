@@ -3,6 +3,7 @@ use Rattle.std.proofs.Common.{◌≡◌, ◌⊎◌, false, ℕ, List, Some, None
 use Rattle.std.specs.FinMap.{find, put}
 use Rattle.semantics.specs.Ids.{OpId, id_cmp}
 use Rattle.semantics.specs.LegalHistory.{IsAmong}
+use Rattle.semantics.specs.Vectors.{Vector}
 use Rattle.semantics.specs.Replica.{IsRising}
 use Rattle.semantics.specs.Delivery.{is_waiting, put_waiting}
 use Rattle.semantics.specs.Drain.{without_waiting}
@@ -52,21 +53,21 @@ reserved s t room es fs ops w grown is are h =
 -- what is kept where an operation was put
 pub record IsWith (p : Op) (ops : List Op) (t : Slab Op) (fs : List (OpId × ℕ)) (w : Waits) : Type 0 where
   pub stored : IsStored t fs w
-  pub put : (table : List ℕ) → waiting_in table (ops_at t fs) ≡ put_waiting (stamped_of table p) (waiting_in table ops)
+  pub put : waiting_in (ops_at t fs) ≡ put_waiting (stamped_of p) (waiting_in ops)
   pub among : (o : Op) → IsAmong o (ops_at t fs) → (o ≡ p) ⊎ IsAmong o ops
 
 -- at a key that held none, where it is entered
-pub put_in : (s t : Slab Op) (es fs : List (OpId × ℕ)) (ops : List Op) (k : ℕ) (p : Op) (w v : Waits) (applied table : List ℕ)
+pub put_in : (s t : Slab Op) (es fs : List (OpId × ℕ)) (ops : List Op) (k : ℕ) (p : Op) (w v : Waits) (applied : Vector)
     → ops_at s es ≡ ops → fs ≡ put id_cmp p.id k es → get s k ≡ None → Updates s t k (Some p)
-    → is_waiting (waiting_in table ops) p.id ≡ false → IsEntered applied w v k p → IsStored s es w → IsWith p ops t fs v
-put_in s t es fs ops k p w v applied table are is vacant u absent_now entered h = record {
+    → is_waiting (waiting_in ops) p.id ≡ false → IsEntered applied w v k p → IsStored s es w → IsWith p ops t fs v
+put_in s t es fs ops k p w v applied are is vacant u absent_now entered h = record {
   stored = record {
     at_keys = rw is (put-at_keys s t es k p vacant u none h.at_keys);
-    rising = λ table.
-        subst IsRising (sym (put_now table))
-        (rising_put (stamped_of table p) (waiting_in table ops)
-        (ap (λ os. is_waiting (waiting_in table os) p.id) (sym are) ∙ waiting-found table s es p.id h.at_keys ∙ ap is_some none)
-        (subst AreRising are h.rising table));
+    rising =
+        subst IsRising (sym put_now)
+        (rising_put (stamped_of p) (waiting_in ops)
+        (ap (λ os. is_waiting (waiting_in os) p.id) (sym are) ∙ waiting-found s es p.id h.at_keys ∙ ap is_some none)
+        (subst AreRising are h.rising));
     awaiting = put_awaiting applied s t es fs w v k p is none vacant u h.awaiting entered;
   };
   put = put_now;
@@ -74,13 +75,13 @@ put_in s t es fs ops k p w v applied table are is vacant u absent_now entered h 
 }
   where
     none : find id_cmp p.id es ≡ None
-    none = absent table s es p.id h.at_keys (ap (λ os. is_waiting (waiting_in table os) p.id) are ∙ absent_now)
+    none = absent s es p.id h.at_keys (ap (λ os. is_waiting (waiting_in os) p.id) are ∙ absent_now)
 
     with_it : ops_at t fs ≡ put_op p ops
     with_it = ap (ops_at t) is ∙ put-ops_at s t es k p vacant u none h.at_keys ∙ ap (put_op p) are
 
-    put_now : (table : List ℕ) → waiting_in table (ops_at t fs) ≡ put_waiting (stamped_of table p) (waiting_in table ops)
-    put_now table = ap (waiting_in table) with_it ∙ waiting-put table p ops
+    put_now : waiting_in (ops_at t fs) ≡ put_waiting (stamped_of p) (waiting_in ops)
+    put_now = ap waiting_in with_it ∙ waiting-put p ops
 
     among : (o : Op) → IsAmong o (ops_at t fs) → (o ≡ p) ⊎ IsAmong o ops
     among o m = in_put p ops o (subst (IsAmong o) with_it m)
@@ -88,7 +89,7 @@ put_in s t es fs ops k p w v applied table are is vacant u absent_now entered h 
 -- what is kept where the operation with an id was taken out
 pub record IsWithout (a : OpId) (ops : List Op) (t : Slab Op) (fs : List (OpId × ℕ)) (w : Waits) : Type 0 where
   pub stored : IsStored t fs w
-  pub left : (table : List ℕ) → waiting_in table (ops_at t fs) ≡ without_waiting a (waiting_in table ops)
+  pub left : waiting_in (ops_at t fs) ≡ without_waiting a (waiting_in ops)
   pub among : (o : Op) → IsAmong o (ops_at t fs) → IsAmong o ops
 
 -- where no key is that of the id, or only the key at which the operation stood changed
@@ -97,7 +98,7 @@ module _ (s t : Slab Op) (es fs : List (OpId × ℕ)) (ops : List Op) (a : OpId)
   left_out w v keeps awaiting h = record {
     stored = record {
       at_keys = rw is (left-at_keys s t es a keeps h.at_keys);
-      rising = λ table. subst IsRising (sym (left table)) (rising_without a (waiting_in table ops) (subst AreRising are h.rising table));
+      rising = subst IsRising (sym left) (rising_without a (waiting_in ops) (subst AreRising are h.rising));
       awaiting = awaiting;
     };
     left = left;
@@ -107,8 +108,8 @@ module _ (s t : Slab Op) (es fs : List (OpId × ℕ)) (ops : List Op) (a : OpId)
       without : ops_at t fs ≡ ops_without a ops
       without = ap (ops_at t) is ∙ left-ops_at s t es a keeps h.at_keys ∙ ap (ops_without a) are
 
-      left : (table : List ℕ) → waiting_in table (ops_at t fs) ≡ without_waiting a (waiting_in table ops)
-      left table = ap (waiting_in table) without ∙ waiting-without table a ops
+      left : waiting_in (ops_at t fs) ≡ without_waiting a (waiting_in ops)
+      left = ap waiting_in without ∙ waiting-without a ops
 
       among : (o : Op) → IsAmong o (ops_at t fs) → IsAmong o ops
       among o m = in_without a ops o (subst (IsAmong o) without m)

@@ -51,18 +51,18 @@ either_found true k b x h = refl
 either_found false k b x h = h
 
 -- an id waits where the map has a key of it
-pub waiting-found : (table : List ℕ) (s : Slab Op) (es : List (OpId × ℕ)) (a : OpId) → AreAtKeys s es
-    → is_waiting (waiting_in table (ops_at s es)) a ≡ is_some (find id_cmp a es)
-waiting-found table s [] a h = refl
-waiting-found table s (e ∷ es) a h =
-    ap (λ ops. is_waiting (waiting_in table ops) a) (ops_at-first s e es h.0.0 h.0.1)
-    ∙ ap (λ b. b || is_waiting (waiting_in table (ops_at s es)) a) (ap (λ b. is_same_id b a) h.0.2 ∙ same_back e.0 a)
-    ∙ either_found (is_same_id a e.0) e.1 _ (find id_cmp a es) (waiting-found table s es a h.1)
+pub waiting-found : (s : Slab Op) (es : List (OpId × ℕ)) (a : OpId) → AreAtKeys s es
+    → is_waiting (waiting_in (ops_at s es)) a ≡ is_some (find id_cmp a es)
+waiting-found s [] a h = refl
+waiting-found s (e ∷ es) a h =
+    ap (λ ops. is_waiting (waiting_in ops) a) (ops_at-first s e es h.0.0 h.0.1)
+    ∙ ap (λ b. b || is_waiting (waiting_in (ops_at s es)) a) (ap (λ b. is_same_id b a) h.0.2 ∙ same_back e.0 a)
+    ∙ either_found (is_same_id a e.0) e.1 _ (find id_cmp a es) (waiting-found s es a h.1)
 
 -- an id that doesn't wait has no key
-pub absent : (table : List ℕ) (s : Slab Op) (es : List (OpId × ℕ)) (a : OpId) → AreAtKeys s es
-    → is_waiting (waiting_in table (ops_at s es)) a ≡ false → find id_cmp a es ≡ None
-absent table s es a h n = no_some (find id_cmp a es) (sym (waiting-found table s es a h) ∙ n)
+pub absent : (s : Slab Op) (es : List (OpId × ℕ)) (a : OpId) → AreAtKeys s es
+    → is_waiting (waiting_in (ops_at s es)) a ≡ false → find id_cmp a es ≡ None
+absent s es a h n = no_some (find id_cmp a es) (sym (waiting-found s es a h) ∙ n)
   where
     no_some : (o : Option ℕ) → is_some o ≡ false → o ≡ None
     no_some None e = refl
@@ -102,11 +102,11 @@ module _ (s : Slab Op) (es : List (OpId × ℕ)) (ops : List Op) (a : OpId) (h :
   found k at_key = subst (λ os. IsFound s os a k) are (found_at s es a k h at_key)
 
   -- an id with no key doesn't wait
-  pub not_found : {X : Type 0} (r : Option X) (table : List ℕ) → find id_cmp a es ≡ None
-      → IfNone r (is_waiting (waiting_in table ops) a ≡ false)
-  not_found None table none =
-      ap (λ os. is_waiting (waiting_in table os) a) (sym are) ∙ waiting-found table s es a h ∙ ap is_some none
-  not_found (Some x) table none = tt
+  pub not_found : {X : Type 0} (r : Option X) → find id_cmp a es ≡ None
+      → IfNone r (is_waiting (waiting_in ops) a ≡ false)
+  not_found None none =
+      ap (λ os. is_waiting (waiting_in os) a) (sym are) ∙ waiting-found s es a h ∙ ap is_some none
+  not_found (Some x) none = tt
 
 -- what is looked up is a reference to it
 pub some_of : (P : Op → Type 0) (r : Option (Bor Op)) (o : Op) → option_copied r ≡ Some o → P o → IfSome r (λ x. P x.now)
@@ -156,17 +156,17 @@ left-ops_at s t (e ∷ es) a keeps h =
     at_test rest true same = rest
     at_test rest false differs = λ i. cons_option ((keeps e.1 h.0.0 h.0.1 (ap (is_same_id a) h.0.2 ∙ differs) ∙ h.0.1) i) (rest i)
 
-map_cond : (table : List ℕ) (b : Bool) (o : Op) (ops : List Op)
-    → waiting_in table (cond b (o ∷ ops) ops) ≡ cond b (stamped_of table o ∷ waiting_in table ops) (waiting_in table ops)
-map_cond table true o ops = refl
-map_cond table false o ops = refl
+map_cond : (b : Bool) (o : Op) (ops : List Op)
+    → waiting_in (cond b (o ∷ ops) ops) ≡ cond b (stamped_of o ∷ waiting_in ops) (waiting_in ops)
+map_cond true o ops = refl
+map_cond false o ops = refl
 
-pub waiting-without : (table : List ℕ) (a : OpId) (ops : List Op)
-    → waiting_in table (ops_without a ops) ≡ without_waiting a (waiting_in table ops)
-waiting-without table a [] = refl
-waiting-without table a (o ∷ ops) =
-    map_cond table (not (is_same_id o.id a)) o (ops_without a ops)
-    ∙ ap (λ W. cond (not (is_same_id o.id a)) (stamped_of table o ∷ W) W) (waiting-without table a ops)
+pub waiting-without : (a : OpId) (ops : List Op)
+    → waiting_in (ops_without a ops) ≡ without_waiting a (waiting_in ops)
+waiting-without a [] = refl
+waiting-without a (o ∷ ops) =
+    map_cond (not (is_same_id o.id a)) o (ops_without a ops)
+    ∙ ap (λ W. cond (not (is_same_id o.id a)) (stamped_of o ∷ W) W) (waiting-without a ops)
 
 pub in_without : (a : OpId) (ops : List Op) (o : Op) → IsAmong o (ops_without a ops) → IsAmong o ops
 in_without a [] o m = m
@@ -237,19 +237,19 @@ put-ops_at s t (e ∷ es) k p vacant u none h =
     at_order rest Equal r n = cc
     at_order rest Greater r n = ops_at-first t e (put id_cmp p.id k es) h.0.0 here ∙ ap (λ ops. h.0.0 ∷ ops) (rest n)
 
-map_put : (table : List ℕ) (b : Bool) (p o : Op) (ops put : List Op)
-    → waiting_in table (cond b (p ∷ o ∷ ops) (o ∷ put))
-    ≡ cond b (stamped_of table p ∷ stamped_of table o ∷ waiting_in table ops) (stamped_of table o ∷ waiting_in table put)
-map_put table true p o ops put = refl
-map_put table false p o ops put = refl
+map_put : (b : Bool) (p o : Op) (ops put : List Op)
+    → waiting_in (cond b (p ∷ o ∷ ops) (o ∷ put))
+    ≡ cond b (stamped_of p ∷ stamped_of o ∷ waiting_in ops) (stamped_of o ∷ waiting_in put)
+map_put true p o ops put = refl
+map_put false p o ops put = refl
 
-pub waiting-put : (table : List ℕ) (p : Op) (ops : List Op)
-    → waiting_in table (put_op p ops) ≡ put_waiting (stamped_of table p) (waiting_in table ops)
-waiting-put table p [] = refl
-waiting-put table p (o ∷ ops) =
-    map_put table (is_smaller_id p.id o.id) p o ops (put_op p ops)
-    ∙ ap (λ W. cond (is_smaller_id p.id o.id) (stamped_of table p ∷ stamped_of table o ∷ waiting_in table ops) (stamped_of table o ∷ W))
-    (waiting-put table p ops)
+pub waiting-put : (p : Op) (ops : List Op)
+    → waiting_in (put_op p ops) ≡ put_waiting (stamped_of p) (waiting_in ops)
+waiting-put p [] = refl
+waiting-put p (o ∷ ops) =
+    map_put (is_smaller_id p.id o.id) p o ops (put_op p ops)
+    ∙ ap (λ W. cond (is_smaller_id p.id o.id) (stamped_of p ∷ stamped_of o ∷ waiting_in ops) (stamped_of o ∷ W))
+    (waiting-put p ops)
 
 pub in_put : (p : Op) (ops : List Op) (o : Op) → IsAmong o (put_op p ops) → (o ≡ p) ⊎ IsAmong o ops
 in_put p [] o (inl e) = inl e

@@ -1,25 +1,26 @@
 -- What waiting operations wait for, once one of them moved on.
-use Rattle.std.proofs.Common.{◌≡◌, ◌≢◌, ◌<◌, ◌≤◌, inl, inr, ℕ, Bool, true, false, cond, List, length}
-use Rattle.std.proofs.Common.{Option, Some, None, refl, sym, ap, subst, ◌∙◌, arith, slice_index}
+use Rattle.std.proofs.Common.{◌≡◌, ◌≢◌, ◌<◌, ◌≤◌, inl, inr, ℕ, Bool, true, false, cond, List, slice_get}
+use Rattle.std.proofs.Common.{Option, Some, None, refl, sym, ap, subst, ◌∙◌, arith}
 use Rattle.std.proofs.Common.{true≢false, is_eq}
 use Rattle.std.proofs.lemmas.Bool.{cases_eq, false_from_ne_true}
 use Rattle.std.specs.BTreeSet.{contains}
 use Rattle.std.specs.BTreeSet as sorted
 use Rattle.std.specs.FinMap.{find, put}
 use Rattle.semantics.specs.Ids.{OpId, id_cmp}
+use Rattle.semantics.specs.Vectors.{Vector, at}
 use Rattle.document.specs.operation.declared.op.Op.{Op}
 use Rattle.slab.specs.Slab.{Slab, get}
 use Rattle.inbox.specs.declared.awaited.Awaited.{Awaited}
 use Rattle.inbox.specs.declared.waits.Waits.{Waits}
-use Rattle.inbox.specs.Awaiting.{await_cmp, awaited_at, seen_at, AreAwaiting}
+use Rattle.inbox.specs.Awaiting.{await_cmp, awaited_by, seen_at, AreAwaiting}
 use Rattle.inbox.specs.Awaiting.{IsEntered, IsEnteredAt}
 use Rattle.inbox.specs.Awaiting.{IsEnteredReady}
 use Rattle.inbox.proofs.AwaitOrder.{same_await, itself}
 use Rattle.inbox.proofs.KeptAwaits.{is_awaited, put_here, put_keys, put_or_had, same_some, some_differs, stays, still_awaits, was_or_new}
 
 -- o, which stands at the key of h, is entered anew, and h, whose counter is applied, is awaited no more
-module _ (applied : List ℕ) (s : Slab Op) (es : List (OpId × ℕ)) (w v u : Waits) (h : Awaited) (o : Op) (here : get s h.key ≡ Some o)
-    (was : contains await_cmp w.awaits h ≡ true) (met : h.counter ≤ slice_index applied h.index)
+module _ (applied : Vector) (s : Slab Op) (es : List (OpId × ℕ)) (w v u : Waits) (h : Awaited) (o : Op) (here : get s h.key ≡ Some o)
+    (was : contains await_cmp w.awaits h ≡ true) (met : h.counter ≤ at applied h.replica)
     (out : sorted.Updates await_cmp v.awaits u.awaits h false) (same_ready : u.ready ≡ v.ready) (same_seen : u.seen ≡ v.seen)
     (awaiting : AreAwaiting s es w) where
   -- what is left is not h
@@ -55,13 +56,14 @@ module _ (applied : List ℕ) (s : Slab Op) (es : List (OpId × ℕ)) (w v u : W
   moved_at e = record {
     by_id = awaiting.by_id;
     each = λ n p stands. elim (cases_eq n h.key) [
-      | inl at ↦
-          let one = same_op n p stands at in
+      | inl same ↦
+          let one = same_op n p stands same in
           inl (record {
             index = e.index;
-            within = subst (λ (x : Op). e.index < length x.deps) (sym one) e.ahead.within;
-            held = ap (λ x. contains await_cmp u.awaits x) (λ j. awaited_at (one j).deps e.index (at j))
-                ∙ kept q (λ same. passed (sym same)) (is_awaited w.awaits v.awaits q e.awaits);
+            id = e.ahead.id;
+            there = subst (λ (x : Op). slice_get x.deps e.index ≡ Some e.ahead.id) (sym one) e.ahead.there;
+            held = ap (λ n. contains await_cmp u.awaits (awaited_by e.ahead.id n)) same
+                ∙ kept q (λ is. passed (sym is)) (is_awaited w.awaits v.awaits q e.awaits);
           })
       | inr apart ↦ elim (awaiting.each n p stands) [
         | inl it ↦ inl (still_awaits w.awaits u.awaits n p
@@ -99,15 +101,15 @@ module _ (applied : List ℕ) (s : Slab Op) (es : List (OpId × ℕ)) (w v u : W
           ];
         };
     unseen = λ x held.
-        subst (λ seen. seen_at seen x.index < x.counter) (sym (same_seen ∙ e.seen))
+        subst (λ seen. seen_at seen x.replica < x.counter) (sym (same_seen ∙ e.seen))
         (elim (was_or_new w.awaits v.awaits q e.awaits x (left x held).0) [
-          | inl now ↦ subst (λ (y : Awaited). seen_at w.seen y.index < y.counter) now e.ahead.unseen
+          | inl now ↦ subst (λ (y : Awaited). seen_at w.seen y.replica < y.counter) now e.ahead.unseen
           | inr old ↦ awaiting.unseen x old
         ]);
   }
     where
       q : Awaited
-      q = awaited_at o.deps e.index h.key
+      q = awaited_by e.ahead.id h.key
 
       ready_is : u.ready.entries ≡ w.ready.entries
       ready_is = ap (λ r. r.entries) same_ready ∙ e.ready
@@ -116,10 +118,9 @@ module _ (applied : List ℕ) (s : Slab Op) (es : List (OpId × ℕ)) (w v u : W
       passed : q ≢ h
       passed same =
           let above = e.ahead.above in
-          let counter : slice_index o.deps e.index ≡ h.counter = ap (λ (y : Awaited). y.counter) same in
-          let index : slice_index applied e.index ≡ slice_index applied h.index
-          = ap (λ (y : Awaited). slice_index applied y.index) same in
-          absurd (omega (arith, met, above, counter, index))
+          let counter : e.ahead.id.counter ≡ h.counter = ap (λ (y : Awaited). y.counter) same in
+          let replica : at applied e.ahead.id.replica ≡ at applied h.replica = ap (λ (y : Awaited). at applied y.replica) same in
+          absurd (omega (arith, met, above, counter, replica))
 
   moved_ready : IsEnteredReady w v h.key o → AreAwaiting s es u
   moved_ready e = record {
@@ -151,7 +152,7 @@ module _ (applied : List ℕ) (s : Slab Op) (es : List (OpId × ℕ)) (w v u : W
           record { op = it.op; stands = it.stands; id = it.id; none = λ x held. it.none x (was_there x held) }
     ];
     unseen = λ x held.
-        subst (λ seen. seen_at seen x.index < x.counter) (sym (same_seen ∙ e.seen)) (awaiting.unseen x (was_there x held));
+        subst (λ seen. seen_at seen x.replica < x.counter) (sym (same_seen ∙ e.seen)) (awaiting.unseen x (was_there x held));
   }
     where
       ready_is : u.ready.entries ≡ put id_cmp o.id h.key w.ready.entries

@@ -22,32 +22,28 @@ use Rattle.inbox.specs.Awaiting.{AreAwaiting}
 abbrev pub StandAlone : List ℕ → List Op → Type 0
 StandAlone table ops = (o : Op) → IsAmong o ops → alone_fault_of_op table o ≡ None
 
--- the vector of each is as wide as the table
-abbrev pub AreAsWide : List ℕ → List Op → Type 0
-AreAsWide table ops = (o : Op) → IsAmong o ops → length o.deps ≡ length table
-
 -- the answer to a delivery
 abbrev pub delivered_of : Delivered → delivery.Delivered
 delivered_of Known = delivery.Known
 delivered_of Kept = delivery.Kept
 
--- operations as those that wait in the definitions, where their vectors are indexed by this table
-abbrev pub waiting_in : List ℕ → List Op → List Stamped
-waiting_in table ops = map (stamped_of table) ops
+-- operations as those that wait in the definitions
+abbrev pub waiting_in : List Op → List Stamped
+waiting_in ops = map stamped_of ops
 
 -- by rising id, so each id once
 abbrev pub AreRising : List Op → Type 0
-AreRising ops = (table : List ℕ) → IsRising (waiting_in table ops)
+AreRising ops = IsRising (waiting_in ops)
 
 -- o is one of these and ready after H, and no ready one of these has a smaller id
-pub record IsLeastReady (H : List Operation) (table : List ℕ) (ops : List Op) (o : Op) : Type 0 where
+pub record IsLeastReady (H : List Operation) (ops : List Op) (o : Op) : Type 0 where
   pub waits : IsAmong o ops
-  pub ready : is_ready H (stamped_of table o) ≡ true
-  pub least : (p : Op) → IsAmong p ops → is_ready H (stamped_of table p) ≡ true → is_smaller_id p.id o.id ≡ false
+  pub ready : is_ready H (stamped_of o) ≡ true
+  pub least : (p : Op) → IsAmong p ops → is_ready H (stamped_of p) ≡ true → is_smaller_id p.id o.id ≡ false
 
 -- none of these is ready after H
-abbrev pub AreNotReady : List Operation → List ℕ → List Op → Type 0
-AreNotReady H table ops = (o : Op) → IsAmong o ops → is_ready H (stamped_of table o) ≡ false
+abbrev pub AreNotReady : List Operation → List Op → Type 0
+AreNotReady H ops = (o : Op) → IsAmong o ops → is_ready H (stamped_of o) ≡ false
 
 -- the answer to what is put where these wait
 abbrev pub answer_to_put : Bool → List Stamped → Stamped → delivery.Delivered

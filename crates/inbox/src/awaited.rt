@@ -1,14 +1,16 @@
 //! Waiting operations, and the counters that they wait for.
 
-ghost use Rattle.std.specs.Prelude.{◌≡◌, ◌≢◌, ◌<◌, ◌≤◌, ℕ, length, true, false, IsTrue, IsFalse, IfSome, IfNone, option_copied};
-ghost use Rattle.std.specs.Prelude.{slice_index};
+ghost use Rattle.std.specs.Prelude.{◌≡◌, ◌≢◌, ◌<◌, ◌≤◌, length, true, false, IsTrue, IsFalse, IfSome, IfNone, Some, option_copied};
+ghost use Rattle.std.specs.Prelude.{slice_get};
 ghost use Rattle.std.specs.BTreeSet.{contains};
 ghost use Rattle.slab.specs.Slab.{SameValues, get};
-ghost use Rattle.inbox.specs.Awaiting.{await_cmp, awaited_at, seen_at, AreSingle, IsAhead, IsAwaiting};
+ghost use Rattle.semantics.specs.Ids.{OpId as TheId};
+ghost use Rattle.semantics.specs.Vectors.{IsCanonical};
+ghost use Rattle.inbox.specs.Awaiting.{await_cmp, awaited_by, AreSingle, IsAhead, IsAwaiting};
 ghost use Rattle.inbox.specs.declared.awaited.Awaited.{Awaited as AnAwaited};
 
-use document::{Op, Shared, VersionVector};
-use ids::ReplicaTable;
+use document::{AppliedVector, Op, Shared};
+use ids::{OpId, ReplicaId, counter_near};
 use slab::Slab;
 use std::alloc::Global;
 use std::collections::BTreeSet;
@@ -18,8 +20,8 @@ use std::marker::Model;
 #[derive(Debug, Drop)]
 pub struct Waiting {
     op: Shared<Op>,
-    /// The index of the counter of its vector that it waits for. Only a hint: where the operation is entered is searched for anyway.
-    index: usize,
+    /// The position in its vector of the counter that it waits for. Only a hint: where the operation is entered is searched for anyway.
+    position: usize,
 }
 
 impl Model for Waiting {
@@ -35,11 +37,11 @@ impl Model for Waiting {
 }
 
 impl Waiting {
-    /// An operation that waits for the counter at this index of its vector.
-    pub fn new(op: Shared<Op>, index: usize) -> Waiting
+    /// An operation that waits for the counter at this position of its vector.
+    pub fn new(op: Shared<Op>, position: usize) -> Waiting
         ensures { result ≡ op }
     {
-        Waiting { op, index }
+        Waiting { op, position }
     }
 
     /// The operation.
@@ -56,11 +58,11 @@ impl Waiting {
         self.op
     }
 
-    /// Notes that it waits for the counter at another index.
-    fn set_index(&mut self, index: usize)
+    /// Notes that it waits for the counter at another position.
+    fn set_position(&mut self, position: usize)
         ensures { self.new ≡ self.old }
     {
-        self.index = index;
+        self.position = position;
     }
 }
 
@@ -71,68 +73,65 @@ pub fn op_at(ops: &Slab<Waiting>, key: usize) -> Option<&Shared<Op>>
     ops.get(key).map(Waiting::op)
 }
 
-/// Notes that what stands at a key of the slab waits for the counter at another index of its vector.
-pub fn set_index(ops: &mut Slab<Waiting>, key: usize, index: usize)
+/// Notes that what stands at a key of the slab waits for the counter at another position of its vector.
+pub fn set_position(ops: &mut Slab<Waiting>, key: usize, position: usize)
     ensures { SameValues ops.old ops.new }
 {
     if let Some(waiting) = ops.get_mut(key) {
-        waiting.set_index(index);
+        waiting.set_position(position);
     }
 }
 
-/// A counter of an operation's vector: until that much is applied of the replica at this index, the operation isn't ready. Rises
-/// by index, then by counter.
+/// A counter of an operation's vector: until that much is applied of the replica, the operation isn't ready. Rises by replica, then by
+/// counter.
 #[derive(Clone, Copy, Debug, PartialEq, Eq, PartialOrd, Ord)]
 pub struct Awaited {
-    pub index: usize,
+    pub replica: ReplicaId,
     pub counter: u64,
     /// The slab's key of the operation.
     pub key: usize,
 }
 
-/// How much was seen of the replica at an index: 0 where nothing was.
-pub fn seen_at(seen: &Option<VersionVector>, index: usize) -> u64
-    ensures { result ≡ seen_at seen.now index }
+/// The counter that an id names, as what the operation at this key waits for.
+pub fn awaited_by(id: OpId, key: usize) -> Awaited
+    ensures { result ≡ awaited_by id key }
 {
-    match seen {
-        Some(seen) if index < seen.width() => seen.get(index),
-        _ => 0,
+    Awaited {
+        replica: id.replica,
+        counter: id.counter,
+        key,
     }
 }
 
-/// Returns the index of a counter of the operation's vector that is neither applied nor seen, if there is one. That of its own replica
+/// Returns the position of a counter of the operation's vector that is neither applied nor seen, if there is one. That of its own replica
 /// comes first: each operation of an honest replica names the one before it, so of all that wait at most one doesn't wait for that.
-pub fn awaited_index(
-    op: &Op,
-    table: &ReplicaTable,
-    applied: &VersionVector,
-    seen: &Option<VersionVector>,
-) -> Option<usize>
-    requires width { length op.now.deps ≡ length table.now }
-    requires applied { length applied.now ≡ length table.now }
+pub fn awaited_position(op: &Op, applied: &[OpId], seen: &AppliedVector) -> Option<usize>
+    requires { IsCanonical applied.now }
     ensures { IfSome result (λ i. IsAhead applied.now seen.now op.now i) }
 {
-    if let Some(own) = table.index_of(op.id.replica) {
+    let ids = op.deps.ids();
+    if let Ok(own) = ids.binary_search_by_key(&op.id.replica, |id| id.replica) {
         if is_ahead(op, own, applied, seen) {
             return Some(own);
         }
     }
-    for index in 0..applied.width() {
-        if is_ahead(op, index, applied, seen) {
-            return Some(index);
+    for position in 0..ids.len() {
+        if is_ahead(op, position, applied, seen) {
+            return Some(position);
         }
     }
     None
 }
 
-/// Whether the counter at an index of the operation's vector is neither applied nor seen.
-fn is_ahead(op: &Op, index: usize, applied: &VersionVector, seen: &Option<VersionVector>) -> bool
-    requires within { index < length op.now.deps }
-    requires applied { length applied.now ≡ length op.now.deps }
-    ensures { IsTrue result → IsAhead applied.now seen.now op.now index }
+/// Whether the counter at a position of the operation's vector is neither applied nor seen.
+fn is_ahead(op: &Op, position: usize, applied: &[OpId], seen: &AppliedVector) -> bool
+    requires within { position < length op.now.deps }
+    requires canonical { IsCanonical applied.now }
+    ensures { IsTrue result → IsAhead applied.now seen.now op.now position }
 {
-    let counter = op.deps.get(index);
-    counter > applied.get(index) && counter > seen_at(seen, index)
+    let id = op.deps.ids()[position];
+    id.counter > counter_near(applied, position, id.replica)
+        && id.counter > counter_near(seen.ids(), position, id.replica)
 }
 
 /// Whether no counter is awaited.
@@ -142,49 +141,43 @@ pub fn awaits_nothing(awaits: &BTreeSet<Awaited>) -> bool
     awaits.is_empty()
 }
 
-/// The first that waits for a counter of the replica at this index which is applied, if there is one. One search.
-pub fn first_met(
-    awaits: &BTreeSet<Awaited>,
-    applied: &VersionVector,
-    index: usize,
-) -> Option<Awaited>
-    requires { index < length applied.now }
+/// The first that waits for a counter of this id's replica which is at most the id's, if there is one. One search.
+pub fn first_met(awaits: &BTreeSet<Awaited>, id: &OpId) -> Option<Awaited>
     ensures some { IfSome result
-        (λ q. (contains await_cmp awaits.now q ≡ true) × (q.index ≡ index) × (q.counter ≤ slice_index applied.now index)) }
+        (λ q. (contains await_cmp awaits.now q ≡ true) × (q.replica ≡ id.now.replica) × (q.counter ≤ id.now.counter)) }
     ensures none { IfNone result
-        ((q : AnAwaited) → contains await_cmp awaits.now q ≡ true → q.index ≡ index → slice_index applied.now index < q.counter) }
+        ((q : AnAwaited) → contains await_cmp awaits.now q ≡ true → q.replica ≡ id.now.replica → id.now.counter < q.counter) }
 {
     let first = Awaited {
-        index,
+        replica: id.replica,
         counter: 0,
         key: 0,
     };
     let awaited = awaits.range(first..).next()?;
-    if awaited.index == index && awaited.counter <= applied.get(index) {
-        Some(*awaited)
-    } else {
-        None
+    if awaited.replica != id.replica {
+        return None;
     }
+    if awaited.counter > id.counter {
+        return None;
+    }
+    Some(*awaited)
 }
 
-/// Removes the counter at an index of the operation's vector, where that is what the operation at this key waits for. Returns whether
+/// Removes the counter at a position of the operation's vector, where that is what the operation at this key waits for. Returns whether
 /// it is. One search.
-fn forget_at(awaits: &mut BTreeSet<Awaited>, op: &Op, index: usize, key: usize) -> bool
-    requires within { index < length op.now.deps }
+fn forget_at(awaits: &mut BTreeSet<Awaited>, op: &Op, position: usize, key: usize) -> bool
+    requires within { position < length op.now.deps }
     requires single { AreSingle awaits.old }
-    ensures found { result ≡ contains await_cmp awaits.old (awaited_at op.now.deps index key) }
+    ensures found { (a : TheId) → slice_get op.now.deps position ≡ Some a → result ≡ contains await_cmp awaits.old (awaited_by a key) }
     ensures kept { (q : AnAwaited) → q.key ≢ key → contains await_cmp awaits.new q ≡ contains await_cmp awaits.old q }
     ensures gone { IsTrue result → (q : AnAwaited) → contains await_cmp awaits.new q ≡ true → q.key ≢ key }
     ensures same { IsFalse result → (q : AnAwaited) → contains await_cmp awaits.new q ≡ contains await_cmp awaits.old q }
 {
-    awaits.remove(&Awaited {
-        index,
-        counter: op.deps.get(index),
-        key,
-    })
+    let id = op.deps.ids()[position];
+    awaits.remove(&awaited_by(id, key))
 }
 
-/// Removes what an operation waits for, which stood at this key. One search, where that is the counter at its index; else one for each
+/// Removes what an operation waits for, which stood at this key. One search, where that is the counter at its position; else one for each
 /// counter of its vector.
 pub fn forget(awaits: &mut BTreeSet<Awaited>, waiting: &Waiting, key: usize)
     requires held { IsAwaiting awaits.old key waiting.now }
@@ -192,13 +185,14 @@ pub fn forget(awaits: &mut BTreeSet<Awaited>, waiting: &Waiting, key: usize)
     ensures kept { (q : AnAwaited) → q.key ≢ key → contains await_cmp awaits.new q ≡ contains await_cmp awaits.old q }
     ensures gone { (q : AnAwaited) → contains await_cmp awaits.new q ≡ true → q.key ≢ key }
 {
-    let op = &waiting.op;
-    let hint = waiting.index;
-    if hint < op.deps.width() && forget_at(awaits, op, hint, key) {
+    let op: &Op = &waiting.op;
+    let count = op.deps.ids().len();
+    let hint = waiting.position;
+    if hint < count && forget_at(awaits, op, hint, key) {
         return;
     }
-    for index in 0..op.deps.width() {
-        if forget_at(awaits, op, index, key) {
+    for position in 0..count {
+        if forget_at(awaits, op, position, key) {
             return;
         }
     }

@@ -1,6 +1,6 @@
 //! The inbox: a causal delivery buffer.
 
-ghost use Rattle.std.specs.Prelude.{◌≡◌, ◌≢◌, ◌⊎◌, ℕ, List, [], Some, Ok, not, length, option_map, IfNone, IfSome, MatchResult, false};
+ghost use Rattle.std.specs.Prelude.{◌≡◌, ◌≢◌, ◌⊎◌, List, [], Some, Ok, not, length, option_map, IfNone, IfSome, MatchResult, false};
 ghost use Rattle.ids.specs.declared.refusal.Refusal.TheVariants.{NoMemory};
 ghost use Rattle.semantics.specs.LegalHistory.{IsAmong};
 ghost use Rattle.semantics.specs.Entries.{applied};
@@ -10,7 +10,7 @@ ghost use Rattle.semantics.specs.Drain.{first_ready, without_waiting};
 ghost use Rattle.document.specs.operation.declared.op.Op.{Op as AnOp};
 ghost use Rattle.document.specs.operation.declared.command.Delivered.TheVariants.{Kept};
 ghost use Rattle.document.specs.operation.Ops.{stamped_of};
-ghost use Rattle.inbox.specs.Inboxes.{answer_to_put, delivered_of, waiting_in, AreAsWide, AreNotReady, AreRising, IsLeastReady};
+ghost use Rattle.inbox.specs.Inboxes.{answer_to_put, delivered_of, waiting_in, AreNotReady, AreRising, IsLeastReady};
 
 use crate::awaited::{Waiting, op_at};
 use crate::smallest::smallest;
@@ -72,7 +72,7 @@ impl Inbox {
 
     /// Whether an operation with this id waits. Binary search.
     pub fn contains(&self, id: OpId) -> bool
-        ensures { (table : List ℕ) → result ≡ is_waiting (waiting_in table self.now) id }
+        ensures { result ≡ is_waiting (waiting_in self.now) id }
     {
         self.keys.get(&id).is_some()
     }
@@ -80,7 +80,7 @@ impl Inbox {
     /// The operation with this id, if it waits. Binary search.
     pub fn get(&self, id: OpId) -> Option<&Shared<Op>>
         ensures some { IfSome result (λ o. (o.now.id ≡ id) × IsAmong o.now self.now) }
-        ensures none { (table : List ℕ) → IfNone result (is_waiting (waiting_in table self.now) id ≡ false) }
+        ensures none { IfNone result (is_waiting (waiting_in self.now) id ≡ false) }
     {
         let key = self.keys.get(&id)?;
         op_at(&self.ops, key)
@@ -104,13 +104,11 @@ impl Inbox {
     /// # Errors
     /// `InboxFull` if no more may wait, else `NoMemory` if allocation fails. What waited stays, and the operation is dropped.
     pub fn put(&mut self, op: Shared<Op>, document: &Document) -> Result<Delivered, Refusal>
-        requires width { length op.deps ≡ length document.now.table }
-        ensures answer { let table = document.now.table in
-            let answer = answer_to_put (is_ready (applied document.now.entries) (stamped_of table op)) (waiting_in table self.old)
-            (stamped_of table op) in
+        ensures answer { let answer = answer_to_put (is_ready (applied document.now.entries) (stamped_of op)) (waiting_in self.old)
+            (stamped_of op) in
             MatchResult result (λ d. delivered_of d ≡ answer) (λ why. ((why ≡ NoMemory) × (answer ≡ ToBeKept)) ⊎ (answer ≡ NotKept why)) }
-        ensures kept { (table : List ℕ) → result ≡ Ok Kept
-            → waiting_in table self.new ≡ put_waiting (stamped_of table op) (waiting_in table self.old) }
+        ensures kept { result ≡ Ok Kept
+            → waiting_in self.new ≡ put_waiting (stamped_of op) (waiting_in self.old) }
         ensures among { (o : AnOp) → IsAmong o self.new → (o ≡ op) ⊎ IsAmong o self.old }
         ensures same { result ≢ Ok Kept → self.new ≡ self.old }
     {
@@ -123,11 +121,9 @@ impl Inbox {
         self.keys.reserve_one()?;
         self.ops.reserve(1)?;
         let key = self.ops.vacant_key();
-        let index = self
-            .waits
-            .enter(&op, key, document.table(), document.applied())?;
+        let position = self.waits.enter(&op, key, document.applied().ids())?;
         let id = op.id;
-        let key = self.ops.insert_reserved(Waiting::new(op, index));
+        let key = self.ops.insert_reserved(Waiting::new(op, position));
         self.keys.put(id, key);
         Ok(Delivered::Kept)
     }
@@ -137,23 +133,19 @@ impl Inbox {
     /// searches for each operation that moves: over its life at most once for each replica that it names. Where allocation fails it
     /// ends early, and the next call goes on.
     pub fn advance(&mut self, document: &Document)
-        requires width { AreAsWide document.now.table self.old }
         ensures same { self.new ≡ self.old }
     {
-        self.waits
-            .advance(&mut self.ops, document.table(), document.applied());
+        self.waits.advance(&mut self.ops, document.applied().ids());
     }
 
     /// The smallest operation that is causally ready, if there is one. Looks at those that may be ready, up to the first that is,
     /// and, where a counter is awaited, at each counter of what is applied. Where some of these `advance` hasn't seen yet, also a search
     /// for each of them, and a look at each operation that waits for one.
     pub fn smallest_ready(&self, document: &Document) -> Option<&Shared<Op>>
-        requires width { AreAsWide document.now.table self.now }
-        ensures some { IfSome result (λ o. IsLeastReady (applied document.now.entries) document.now.table self.now o.now) }
-        ensures none { IfNone result (AreNotReady (applied document.now.entries) document.now.table self.now) }
-        ensures first { option_map
-            (λ o. stamped_of document.now.table o.now) result
-            ≡ first_ready (applied document.now.entries) (waiting_in document.now.table self.now) }
+        ensures some { IfSome result (λ o. IsLeastReady (applied document.now.entries) self.now o.now) }
+        ensures none { IfNone result (AreNotReady (applied document.now.entries) self.now) }
+        ensures first { option_map (λ o. stamped_of o.now) result
+            ≡ first_ready (applied document.now.entries) (waiting_in self.now) }
     {
         let least = smallest(&self.ops, &self.waits, document)?;
         op_at(&self.ops, least.1)
@@ -162,8 +154,8 @@ impl Inbox {
     /// Takes an operation out. A binary search, and one in a set; moves the keys of greater ids.
     pub fn take(&mut self, id: OpId) -> Option<Shared<Op>>
         ensures some { IfSome result (λ o. (o.id ≡ id) × IsAmong o self.old) }
-        ensures none { (table : List ℕ) → IfNone result (is_waiting (waiting_in table self.old) id ≡ false) }
-        ensures left { (table : List ℕ) → waiting_in table self.new ≡ without_waiting id (waiting_in table self.old) }
+        ensures none { IfNone result (is_waiting (waiting_in self.old) id ≡ false) }
+        ensures left { waiting_in self.new ≡ without_waiting id (waiting_in self.old) }
         ensures among { (o : AnOp) → IsAmong o self.new → IsAmong o self.old }
     {
         let key = self.keys.remove(&id)?;

@@ -1,49 +1,48 @@
 //! The search for the smallest operation that is ready.
 
-ghost use Rattle.std.specs.Prelude.{◌≡◌, ◌≤◌, ◌<◌, ℕ, List, Some, length, true, IsTrue};
+ghost use Rattle.std.specs.Prelude.{◌≡◌, ℕ, List, Some, true, IsTrue};
 ghost use Rattle.std.specs.BTreeSet.{contains};
-ghost use Rattle.ids.specs.Members.{AreDistinct};
 ghost use Rattle.std.specs.FinMap.{is_sorted};
 ghost use Rattle.semantics.specs.Ids.{OpId as TheId, id_cmp};
 ghost use Rattle.semantics.specs.Entries.{applied};
+ghost use Rattle.semantics.specs.NamedIds.{greatest_counter};
 ghost use Rattle.inbox.specs.declared.awaited.Awaited.{Awaited as AnAwaited};
 ghost use Rattle.document.specs.operation.declared.op.Op.{Op as AnOp};
 ghost use Rattle.slab.specs.Slab.{get};
 ghost use Rattle.semantics.specs.Faults.{is_ready};
 ghost use Rattle.document.specs.operation.Ops.{stamped_of};
-ghost use Rattle.inbox.specs.Awaiting.{await_cmp, first_of, is_above, is_ready_at, AreAwaiting, AreThisWide, AreUnseen, IsMet, IsPassed};
-ghost use Rattle.inbox.specs.Awaiting.{IsReadyAt, IsSettled};
+ghost use Rattle.inbox.specs.Awaiting.{await_cmp, first_of, is_above, is_ready_at, AreAwaiting, AreUnseen, IsMet, IsPassed, IsReadyAt};
+ghost use Rattle.inbox.specs.Awaiting.{IsSettled};
 
-use crate::awaited::{Awaited, Waiting, awaits_nothing, op_at, seen_at};
+use crate::awaited::{Awaited, Waiting, awaits_nothing, op_at};
 use crate::waits::Waits;
 use document::{Document, Numbers, Op};
-use ids::OpId;
+use ids::{OpId, counter_near};
 use slab::Slab;
 use std::alloc::Global;
 
 /// Returns the smallest operation that is ready, as its id and its key in the slab, if there is one. Looks at those that may be ready,
 /// up to the first that is, and at those that wait for a counter which was applied and not seen yet.
 pub fn smallest(ops: &Slab<Waiting>, waits: &Waits, document: &Document) -> Option<(OpId, usize)>
-    requires wide { AreThisWide (length document.now.table) ops.now }
-    requires there { (es : List (TheId × ℕ)) × AreAwaiting ops.now es waits.now }
-    ensures ready { IsReadyAt (applied document.now.entries) document.now.table ops.now result }
+    requires { (es : List (TheId × ℕ)) × AreAwaiting ops.now es waits.now }
+    ensures ready { IsReadyAt (applied document.now.entries) ops.now result }
     ensures met { (k : ℕ) (o : AnOp) → get ops.now k ≡ Some o
-        → is_ready (applied document.now.entries) (stamped_of document.now.table o) ≡ true → IsMet result o.id }
+        → is_ready (applied document.now.entries) (stamped_of o) ≡ true → IsMet result o.id }
 {
     let mut least = first_ready(ops, &waits.ready, document);
     if awaits_nothing(&waits.awaits) {
         return least;
     }
-    for index in 0..document.table().len() {
-        least = smallest_at(ops, waits, document, index, least);
+    let applied = document.applied().ids();
+    for position in 0..applied.len() {
+        least = smallest_of(ops, waits, document, applied[position], position, least);
     }
     least
 }
 
 /// Returns the first entry whose operation is ready, if there is one: the smallest of these.
 fn first_ready(ops: &Slab<Waiting>, ready: &Numbers, document: &Document) -> Option<(OpId, usize)>
-    requires { AreThisWide (length document.now.table) ops.now }
-    ensures first { result ≡ first_of (applied document.now.entries) document.now.table ops.now ready.now.entries }
+    ensures first { result ≡ first_of (applied document.now.entries) ops.now ready.now.entries }
     ensures rising { IsTrue (is_sorted id_cmp ready.now.entries) }
 {
     for position in 0..ready.len() {
@@ -57,8 +56,7 @@ fn first_ready(ops: &Slab<Waiting>, ready: &Numbers, document: &Document) -> Opt
 
 /// Whether an operation stands at this key, and is ready.
 fn is_ready_at(ops: &Slab<Waiting>, document: &Document, key: usize) -> bool
-    requires { AreThisWide (length document.now.table) ops.now }
-    ensures { result ≡ is_ready_at (applied document.now.entries) document.now.table ops.now key }
+    ensures { result ≡ is_ready_at (applied document.now.entries) ops.now key }
 {
     match op_at(ops, key) {
         Some(op) => document.ready(op),
@@ -66,40 +64,38 @@ fn is_ready_at(ops: &Slab<Waiting>, document: &Document, key: usize) -> bool
     }
 }
 
-/// Looks at the operations that wait for counters of the replica at this index which were applied and not seen yet. Returns the smaller
-/// one of the smallest before and the smallest of these that is ready.
-fn smallest_at(
+/// Looks at the operations that wait for counters of this id's replica, of which so much is applied, that weren't seen yet. What was seen
+/// of it is likely to stand at `position`. Returns the smaller one of the smallest before and the smallest of these that is ready.
+fn smallest_of(
     ops: &Slab<Waiting>,
     waits: &Waits,
     document: &Document,
-    index: usize,
+    id: OpId,
+    position: usize,
     before: Option<(OpId, usize)>,
 ) -> Option<(OpId, usize)>
-    requires distinct { AreDistinct document.now.table }
-    requires wide { AreThisWide (length document.now.table) ops.now }
+    requires applied { greatest_counter (applied document.now.entries) id.replica ≡ id.counter }
     requires unseen { AreUnseen waits.now }
-    requires ready { IsReadyAt (applied document.now.entries) document.now.table ops.now before }
-    requires index { index < length document.now.table }
-    ensures ready { IsReadyAt (applied document.now.entries) document.now.table ops.now result }
+    requires ready { IsReadyAt (applied document.now.entries) ops.now before }
+    ensures ready { IsReadyAt (applied document.now.entries) ops.now result }
     ensures met { (a : TheId) → IsMet before a → IsMet result a }
-    ensures passed { (q : AnAwaited) → contains await_cmp waits.now.awaits q ≡ true → q.index ≡ index
-        → IsPassed (applied document.now.entries) document.now.table ops.now result q }
+    ensures passed { (q : AnAwaited) → contains await_cmp waits.now.awaits q ≡ true → q.replica ≡ id.replica
+        → IsPassed (applied document.now.entries) ops.now result q }
 {
-    let counter = document.applied().get(index);
-    if counter <= seen_at(&waits.seen, index) {
+    if id.counter <= counter_near(waits.seen.ids(), position, id.replica) {
         return before;
     }
     let first = Awaited {
-        index,
+        replica: id.replica,
         counter: 0,
         key: 0,
     };
     let mut least = before;
     for awaited in waits.awaits.range(first..) {
-        if awaited.index > index {
+        if awaited.replica != id.replica {
             return least;
         }
-        if awaited.counter > counter {
+        if awaited.counter > id.counter {
             return least;
         }
         least = smaller(ops, document, least, awaited.key);
@@ -114,11 +110,10 @@ fn smaller(
     before: Option<(OpId, usize)>,
     key: usize,
 ) -> Option<(OpId, usize)>
-    requires width { AreThisWide (length document.now.table) ops.now }
-    requires ready { IsReadyAt (applied document.now.entries) document.now.table ops.now before }
-    ensures ready { IsReadyAt (applied document.now.entries) document.now.table ops.now result }
+    requires { IsReadyAt (applied document.now.entries) ops.now before }
+    ensures ready { IsReadyAt (applied document.now.entries) ops.now result }
     ensures met { (a : TheId) → IsMet before a → IsMet result a }
-    ensures settled { IsSettled (applied document.now.entries) document.now.table ops.now result key }
+    ensures settled { IsSettled (applied document.now.entries) ops.now result key }
 {
     let Some(op) = op_at(ops, key) else {
         return before;

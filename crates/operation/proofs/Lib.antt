@@ -1,7 +1,6 @@
 -- Places by their keys, and the faults of an operation alone.
 pub mod PlaceKeys
 pub mod AloneFaults
-pub mod PassedAlone
 pub mod StandingAlone
 pub mod SameSubmissions
 -- Handed on from the crates below, for users of this one.

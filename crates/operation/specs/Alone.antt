@@ -1,17 +1,16 @@
 -- What can be seen of an operation with no history at hand.
-use Rattle.std.specs.Prelude.{ℕ, Bool, true, nat_eq, if◌then◌else◌, List, length, Option, Some}
+use Rattle.std.specs.Prelude.{ℕ, Bool, true, List, Option}
 use Rattle.ids.specs.Members.{is_member}
 use Rattle.ids.specs.declared.refusal.Refusal.{Refusal}
-use Rattle.ids.specs.declared.refusal.Refusal.TheVariants.{UnknownReplica}
 use Rattle.semantics.specs.Vectors.{Vector, covers}
 use Rattle.semantics.specs.Paths.{Hop, FieldHop, ItemHop}
 use Rattle.semantics.specs.Faults.{alone_fault}
 use Rattle.operation.specs.declared.op.Op.{Op}
 use Rattle.operation.specs.Ops.{stamped_of}
 
--- the first fault of an operation alone; one whose vector has another width than the table names unknown replicas
+-- the first fault of an operation alone
 abbrev pub alone_fault_of_op : List ℕ → Op → Option Refusal
-alone_fault_of_op table o = if nat_eq (length o.deps) (length table) then alone_fault table (stamped_of table o) else Some UnknownReplica
+alone_fault_of_op table o = alone_fault table (stamped_of o)
 
 -- the key is a field's, or that of a member's item
 abbrev pub key_of_member : List ℕ → Hop → Bool

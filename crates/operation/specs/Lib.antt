@@ -7,3 +7,4 @@ pub mod SameSubmissions
 -- Handed on from the crates below, for users of this one.
 pub use Rattle.cursor.specs.value
 pub use Rattle.cursor.specs as cursor
+pub use Rattle.version.specs as version

@@ -1,9 +1,7 @@
 -- Commands, operations and entries of the program as those of the definitions.
-use Rattle.std.specs.Prelude.{ℕ, List}
 use Rattle.semantics.specs.Operations.{Misplaced as WhyMisplaced, Mutation as TheMutation, Assign as Assigning, Insert as Inserting}
 use Rattle.semantics.specs.Operations.{Delete as Deleting}
 use Rattle.semantics.specs.Operations as operations
-use Rattle.semantics.specs.Tables.{by_table}
 use Rattle.semantics.specs.Stamped.{Stamped}
 use Rattle.semantics.specs.Making.{Command as TheCommand}
 use Rattle.semantics.specs.Entries.{Entry as TheEntry, Own as TheOwn, Peer as ThePeer}
@@ -35,9 +33,9 @@ command_of (command.Assign e v) = record { expression = e; mutation = Assigning 
 command_of (command.InsertAfter e v) = record { expression = e; mutation = Inserting (value_of v) }
 command_of (command.Delete e) = record { expression = e; mutation = Deleting }
 
--- an operation with its vector, where its counters are indexed by a table
-abbrev pub stamped_of : List ℕ → Op → Stamped
-stamped_of table o = record { id = o.id; vector = by_table table o.deps; place = o.place; mutation = mutation_of o.mutation }
+-- an operation
+abbrev pub stamped_of : Op → Stamped
+stamped_of o = record { id = o.id; vector = o.deps; place = o.place; mutation = mutation_of o.mutation }
 
 -- the operation of an entry
 abbrev pub op_in : Entry → Op
@@ -45,6 +43,6 @@ op_in (Own client serial c o) = o
 op_in (Peer o) = o
 
 -- an entry
-abbrev pub entry_of : List ℕ → Entry → TheEntry
-entry_of table (Own client serial c o) = TheOwn client serial (command_of c) (stamped_of table o)
-entry_of table (Peer o) = ThePeer (stamped_of table o)
+abbrev pub entry_of : Entry → TheEntry
+entry_of (Own client serial c o) = TheOwn client serial (command_of c) (stamped_of o)
+entry_of (Peer o) = ThePeer (stamped_of o)

@@ -1,20 +1,19 @@
 -- When two operations or two commands are one, and that these tests are equalities.
-use Rattle.std.specs.Prelude.{◌≡◌, ◌&&◌, ℕ, Bool, true, false, List, nat_eq}
+use Rattle.std.specs.Prelude.{◌≡◌, ◌&&◌, Bool, true, false}
 use Rattle.std.proofs.Common.{refl, sym, ap, true≢false}
 use Rattle.std.specs.Bool.{Decides}
-use Rattle.std.specs.Cmp.{IsEquivalence, decided, unsigned_Decides}
+use Rattle.std.specs.Cmp.{IsEquivalence, decided}
 use Rattle.std.specs.Cmp.Lexicographic.{pointwise}
 use Rattle.std.proofs.lemmas.Slice.Eq.{slice_eq-Decides}
 use Rattle.std.proofs.lemmas.Bool.{and_parts, and_from}
-use Rattle.semantics.specs.Ids.{OpId, is_same_id}
-use Rattle.semantics.specs.Elements.{Place}
+use Rattle.semantics.specs.Ids.{is_same_id}
+use Rattle.semantics.specs.Vectors.{Vector}
 use Rattle.semantics.specs.Operations.{Mutation, Assign, Insert, Delete}
+use Rattle.semantics.specs.Stamped.{Stamped}
 use Rattle.semantics.specs.Making.{Command}
-use Rattle.semantics.proofs.Orders.{id_itself, ids_from_test}
+use Rattle.semantics.proofs.Orders.{id_itself, id_tested, ids_from_test}
 use Rattle.cursor.specs.value.SameValues.{is_same_value, value_decides}
 use Rattle.cursor.specs.SamePlaces.{expression_decides, is_same_place, is_same_step, place_decides}
-use Rattle.operation.specs.declared.op.Op.{Op}
-use Rattle.operation.specs.Ops.{mutation_of}
 
 -- m and n are one mutation
 abbrev pub is_same_mutation : Mutation → Mutation → Bool
@@ -27,20 +26,9 @@ is_same_mutation _ _ = false
 abbrev pub is_same_command : Command → Command → Bool
 is_same_command c d = pointwise is_same_step c.expression d.expression && is_same_mutation c.mutation d.mutation
 
--- an operation with the counters of its vector, whatever the table is that indexes them
-pub record Counted : Type 0 where
-  pub id : OpId
-  pub counters : List ℕ
-  pub place : Place
-  pub mutation : Mutation
-
--- an operation in memory, as one with counters
-abbrev pub counted_of : Op → Counted
-counted_of o = record { id = o.id; counters = o.deps; place = o.place; mutation = mutation_of o.mutation }
-
 -- o and p are one operation
-abbrev pub is_same_operation : Counted → Counted → Bool
-is_same_operation o p = is_same_id o.id p.id && pointwise nat_eq o.counters p.counters && is_same_place o.place p.place
+abbrev pub is_same_operation : Stamped → Stamped → Bool
+is_same_operation o p = is_same_id o.id p.id && pointwise is_same_id o.vector p.vector && is_same_place o.place p.place
     && is_same_mutation o.mutation p.mutation
 
 mutation_itself : (m : Mutation) → is_same_mutation m m ≡ true
@@ -82,32 +70,32 @@ command_decides c d = (same_commands c d, λ is. rw (← is) (command_itself c))
 pub same_command_equiv : IsEquivalence is_same_command
 same_command_equiv = decided is_same_command command_decides
 
-counters_decide : (xs ys : List ℕ) → Decides (pointwise nat_eq xs ys) (xs ≡ ys)
-counters_decide xs ys = slice_eq-Decides unsigned_Decides xs ys (pointwise nat_eq xs ys) refl
+pub vectors_decide : (v w : Vector) → Decides (pointwise is_same_id v w) (v ≡ w)
+vectors_decide v w = slice_eq-Decides (λ a b. (ids_from_test a b, id_tested a b)) v w (pointwise is_same_id v w) refl
 
-same_operations : (o p : Counted) → is_same_operation o p ≡ true → o ≡ p
+same_operations : (o p : Stamped) → is_same_operation o p ≡ true → o ≡ p
 same_operations o p h =
-    let t = and_parts (is_same_id o.id p.id && pointwise nat_eq o.counters p.counters && is_same_place o.place p.place)
+    let t = and_parts (is_same_id o.id p.id && pointwise is_same_id o.vector p.vector && is_same_place o.place p.place)
     (is_same_mutation o.mutation p.mutation) h in
-    let u = and_parts (is_same_id o.id p.id && pointwise nat_eq o.counters p.counters) (is_same_place o.place p.place) t.0 in
-    let v = and_parts (is_same_id o.id p.id) (pointwise nat_eq o.counters p.counters) u.0 in
+    let u = and_parts (is_same_id o.id p.id && pointwise is_same_id o.vector p.vector) (is_same_place o.place p.place) t.0 in
+    let v = and_parts (is_same_id o.id p.id) (pointwise is_same_id o.vector p.vector) u.0 in
     let a = ids_from_test o.id p.id v.0 in
-    let c = (counters_decide o.counters p.counters).0 v.1 in
+    let c = (vectors_decide o.vector p.vector).0 v.1 in
     let q = (place_decides o.place p.place).0 u.1 in
     let m = same_mutations o.mutation p.mutation t.1 in
-    λ i. record { id = a i; counters = c i; place = q i; mutation = m i }
+    λ i. record { id = a i; vector = c i; place = q i; mutation = m i }
 
-operation_itself : (o : Counted) → is_same_operation o o ≡ true
+operation_itself : (o : Stamped) → is_same_operation o o ≡ true
 operation_itself o =
-    and_from (is_same_id o.id o.id && pointwise nat_eq o.counters o.counters && is_same_place o.place o.place)
+    and_from (is_same_id o.id o.id && pointwise is_same_id o.vector o.vector && is_same_place o.place o.place)
     (is_same_mutation o.mutation o.mutation)
-    (and_from (is_same_id o.id o.id && pointwise nat_eq o.counters o.counters) (is_same_place o.place o.place)
-    (and_from (is_same_id o.id o.id) (pointwise nat_eq o.counters o.counters) (id_itself o.id)
-    ((counters_decide o.counters o.counters).1 refl))
+    (and_from (is_same_id o.id o.id && pointwise is_same_id o.vector o.vector) (is_same_place o.place o.place)
+    (and_from (is_same_id o.id o.id) (pointwise is_same_id o.vector o.vector) (id_itself o.id)
+    ((vectors_decide o.vector o.vector).1 refl))
     ((place_decides o.place o.place).1 refl))
     (mutation_itself o.mutation)
 
-pub operation_decides : (o p : Counted) → Decides (is_same_operation o p) (o ≡ p)
+pub operation_decides : (o p : Stamped) → Decides (is_same_operation o p) (o ≡ p)
 operation_decides o p = (same_operations o p, λ is. rw (← is) (operation_itself o))
 
 pub same_operation_equiv : IsEquivalence is_same_operation

@@ -108,12 +108,11 @@ pub enum Entry {
 impl Entry {
     ghost use Rattle.operation.specs.Ops.{entry_of, op_in, stamped_of};
     ghost use Rattle.semantics.specs.Entries.{stamped_in};
-    ghost use Rattle.std.specs.Prelude.{ℕ, List};
 
     /// The operation, whoever made it.
     pub fn op(&self) -> &Shared<Op>
         ensures op { result.now ≡ op_in self.now }
-        ensures stamped { (table : List ℕ) → stamped_of table result.now ≡ stamped_in (entry_of table self.now) }
+        ensures stamped { stamped_of result.now ≡ stamped_in (entry_of self.now) }
     {
         match self {
             Entry::Own { op, .. } | Entry::Peer(op) => op,

@@ -8,7 +8,7 @@ mod op;
 mod shared;
 mod submission;
 
-pub use alone::{check_alone, names_members};
+pub use alone::{check_alone, names_members, names_only};
 pub use command::{Command, Delivered, Entry};
 pub use misplaced::Misplaced;
 pub use op::{Mutation, Op};
@@ -19,4 +19,5 @@ pub use submission::{Reply, Request, Submission};
 pub use cursor::{
     Expr, Hop, Key, MOST_KEY_BYTES, MOST_KEYS, Place, Scalar, Step as ExprStep, Tag, Text, Val,
 };
-pub use version::VersionVector;
+pub use ids::NamedVector;
+pub use version::{AppliedVector, VersionVector};

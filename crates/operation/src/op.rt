@@ -2,13 +2,12 @@
 
 ghost use Rattle.std.specs.Prelude.{◌≡◌};
 ghost use Rattle.std.specs.Cmp;
-ghost use Rattle.operation.specs.SameOps.{counted_of, is_same_mutation, is_same_operation, same_mutation_equiv, same_operation_equiv};
-ghost use Rattle.operation.specs.Ops.{mutation_of};
+ghost use Rattle.operation.specs.SameOps.{is_same_mutation, is_same_operation, same_mutation_equiv, same_operation_equiv};
+ghost use Rattle.operation.specs.Ops.{mutation_of, stamped_of};
 
 use cursor::{Place, Val};
-use ids::OpId;
+use ids::{NamedVector, OpId};
 use std::alloc::AllocError;
-use version::VersionVector;
 
 /// What an operation does at its place.
 #[derive(Debug, Drop)]
@@ -56,8 +55,8 @@ impl Eq for Mutation {
 #[derive(Debug, Drop)]
 pub struct Op {
     pub id: OpId,
-    /// The vector of all that its replica had applied, indexed by the table. (`vector` of the definitions' `Stamped`.)
-    pub deps: VersionVector,
+    /// The vector of all that its replica had applied. (`vector` of the definitions' `Stamped`.)
+    pub deps: NamedVector,
     pub place: Place,
     pub mutation: Mutation,
 }
@@ -76,9 +75,9 @@ impl Clone for Op {
 }
 
 impl PartialEq for Op {
-    ghost eq = { λ o p. is_same_operation (counted_of o) (counted_of p) };
+    ghost eq = { λ o p. is_same_operation (stamped_of o) (stamped_of p) };
 
-    ghost laws = { Cmp.partial_equiv_from_equiv (Cmp.on_equiv counted_of same_operation_equiv) };
+    ghost laws = { Cmp.partial_equiv_from_equiv (Cmp.on_equiv stamped_of same_operation_equiv) };
 
     fn eq(&self, other: &Op) -> bool {
         self.id == other.id
@@ -89,5 +88,5 @@ impl PartialEq for Op {
 }
 
 impl Eq for Op {
-    ghost laws = { Cmp.on_equiv counted_of same_operation_equiv };
+    ghost laws = { Cmp.on_equiv stamped_of same_operation_equiv };
 }

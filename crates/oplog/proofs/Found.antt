@@ -1,10 +1,8 @@
 -- What a list gives at an index.
-use Rattle.std.proofs.Common.{◌≡◌, sym, ap, ◌∙◌, subst, ℕ, List, length, get_or, Option, Some, None, slice_get}
+use Rattle.std.proofs.Common.{◌≡◌, sym, ap, ◌∙◌, ℕ, List, length, get_or, Option, Some, None, slice_get}
 use Rattle.std.specs.Prelude.{IfSome, is_some, nat_lt}
 use Rattle.std.specs.Option.{option_map}
-use Rattle.std.specs.List.{All}
 use Rattle.std.proofs.lemmas.Bool.{ltb-true, ltb-false}
-use Rattle.std.proofs.lemmas.List.Elements.{All-get_or}
 use Rattle.std.proofs.lemmas.Option.{slice_get-get_or, slice_get_past}
 
 -- what was got of a list at an index
@@ -13,9 +11,3 @@ pub got : {R A B : Type 0} (now : R → A) (f : A → B) (xs : List A) (p : ℕ)
 got now f xs p (Some r) inside reads = ap (λ a. Some (f a)) reads
     ∙ ap (option_map f) (sym (slice_get-get_or xs p (now r) (ltb-true p (length xs) (sym inside))))
 got now f xs p None outside reads = ap (option_map f) (sym (slice_get_past xs p (ltb-false p (length xs) (sym outside))))
-
--- what holds of each element holds of what was got
-pub got-All : {R A : Type 0} (now : R → A) (P : A → Type 0) (xs : List A) (p : ℕ) (o : Option R) → is_some o ≡ nat_lt p (length xs)
-    → IfSome o (λ r. now r ≡ get_or xs p (now r)) → All P xs → IfSome o (λ r. P (now r))
-got-All now P xs p (Some r) inside reads all = subst P (sym reads) (All-get_or P xs p (now r) (ltb-true p (length xs) (sym inside)) all)
-got-All now P xs p None outside reads all = tt

@@ -16,11 +16,8 @@ use Rattle.ids.specs.declared.id.OpId.{OpId}
 use Rattle.ids.specs.Members.{AreDistinct, is_member}
 use Rattle.semantics.specs.Ids.{id_cmp}
 use Rattle.semantics.specs.Vectors.{Vector, at, covers}
-use Rattle.semantics.specs.Tables.{by_table}
 use Rattle.semantics.specs.Stamped.{Stamped}
 use Rattle.semantics.specs.Entries.{Entry as TheEntry, entry_at, missing, stamped_in, stamped_entries}
-use Rattle.semantics.proofs.TableVectors.{at-by_table}
-use Rattle.operation.proofs.version.TableColumns.{component-get}
 use Rattle.columns.specs.Numbered.{Numbered}
 use Rattle.oplog.specs.Logs.{AreOfMembers, HaveOwnIds, missing_positions, numbers_above, numbers_of, position_of, positions_by}
 use Rattle.oplog.proofs.Positions.{all_others, positions_by-find, positions_by-other, positions_by-own}
@@ -28,20 +25,6 @@ use Rattle.ids.proofs.Rising.{AreTo, Rises, count, count-append, count-permutati
 
 above-not : (x c : ℕ) → nat_lt x c ≡ not (nat_le c x)
 above-not x c = grind (arith, nat_tests)
-
--- a column is what a function gives of each replica of the table
-by_indices : (f : ℕ → ℕ) (ps cs : List ℕ) → length cs ≡ length ps → ((i : ℕ) → i < length ps → f (get_or ps i 0) ≡ get_or cs i 0)
-    → map f ps ≡ cs
-by_indices f [] [] long at_index = refl
-by_indices f [] (c ∷ cs) long at_index = absurd (omega arith)
-by_indices f (p ∷ ps) [] long at_index = absurd (omega arith)
-by_indices f (p ∷ ps)
-    (c ∷ cs) long at_index = (λ t. at_index 0 (omega arith) t ∷ by_indices f ps cs (omega arith) (λ i lt. at_index (suc i) (omega arith)) t)
-
--- counters that are indexed by a table are those that their vector names
-pub counters-are : (ps cs : List ℕ) → AreDistinct ps → length cs ≡ length ps → map (at (by_table ps cs)) ps ≡ cs
-counters-are ps cs distinct long = by_indices (at (by_table ps cs)) ps cs long
-    (λ i lt. at-by_table ps cs distinct (get_or ps i 0) ∙ component-get ps cs i distinct lt long)
 
 -- the numbers of the ids above a counter
 abbrev pub above : ℕ → List (OpId × ℕ) → List ℕ
@@ -182,14 +165,11 @@ missing-rises v (x ∷ G) = at_test (covers v (stamped_in x).id) (missing_positi
     at_test false xs rises to = rises-last (length G) xs rises to
 
 -- the positions above the counters, sorted, are those that are missing
-pub sorted-missing : (ps cs : List ℕ) (G : List TheEntry) (xs : List ℕ) → AreDistinct ps → length cs ≡ length ps → AreOfMembers ps G
-    → HaveOwnIds G
-    → IsPermutation (numbers_above cs (map (λ p. positions_by p G) ps)) xs → IsSorted nat_cmp xs → xs ≡ missing_positions (by_table ps cs) G
-sorted-missing ps cs G xs distinct long members own moved sorted =
-    let v = by_table ps cs in
+pub sorted-missing : (ps : List ℕ) (v : Vector) (G : List TheEntry) (xs : List ℕ) → AreDistinct ps → AreOfMembers ps G → HaveOwnIds G
+    → IsPermutation (numbers_above (map (at v) ps) (map (λ p. positions_by p G) ps)) xs → IsSorted nat_cmp xs → xs ≡ missing_positions v G
+sorted-missing ps v G xs distinct members own moved sorted =
     same_rising xs (missing_positions v G) (rises-sorted xs sorted) (missing-rises v G)
-    (λ n. count-permutation n (numbers_above cs (map (λ p. positions_by p G) ps)) xs moved
-    ∙ ap (λ ds. count n (numbers_above ds (map (λ p. positions_by p G) ps))) (sym (counters-are ps cs distinct long))
+    (λ n. count-permutation n (numbers_above (map (at v) ps) (map (λ p. positions_by p G) ps)) xs moved
     ∙ count-missing n v G ps distinct members own)
 
 -- what reads the positions of a history reads at the missing ones what is missing

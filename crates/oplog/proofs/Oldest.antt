@@ -37,27 +37,27 @@ entry_at-reverse (e ∷ G) n =
     ∙ ap (λ l. slice_get l n) (sym (reverse-append (e ∷ []) G))
 
 -- the entry at a position of a history
-pub entry_at-history : (table : List ℕ) (entries : List Entry) (n : ℕ)
-    → entry_at n (history table entries) ≡ option_map (entry_of table) (slice_get entries n)
-entry_at-history table entries n =
-    entry_at-reverse (history table entries) n
-    ∙ ap (λ l. slice_get l n) (reverse-twice (map (entry_of table) entries))
-    ∙ slice_get-map (entry_of table) entries n
+pub entry_at-history : (entries : List Entry) (n : ℕ)
+    → entry_at n (history entries) ≡ option_map entry_of (slice_get entries n)
+entry_at-history entries n =
+    entry_at-reverse (history entries) n
+    ∙ ap (λ l. slice_get l n) (reverse-twice (map entry_of entries))
+    ∙ slice_get-map entry_of entries n
 
 -- one more entry is the newest
-pub history-more : (table : List ℕ) (entries : List Entry) (e : Entry)
-    → history table (entries ++ e ∷ []) ≡ entry_of table e ∷ history table entries
-history-more table entries e = ap reverse (map-append (entry_of table) entries (e ∷ []))
-    ∙ reverse-append (map (entry_of table) entries) (entry_of table e ∷ [])
+pub history-more : (entries : List Entry) (e : Entry)
+    → history (entries ++ e ∷ []) ≡ entry_of e ∷ history entries
+history-more entries e = ap reverse (map-append entry_of entries (e ∷ []))
+    ∙ reverse-append (map entry_of entries) (entry_of e ∷ [])
 
-pub history-length : (table : List ℕ) (entries : List Entry) → length (history table entries) ≡ length entries
-history-length table entries = length-reverse (map (entry_of table) entries) ∙ length-map entries (entry_of table)
+pub history-length : (entries : List Entry) → length (history entries) ≡ length entries
+history-length entries = length-reverse (map entry_of entries) ∙ length-map entries entry_of
 
 -- the id of an entry's operation
 abbrev pub id_in : Entry → OpId
 id_in (Own client serial command op) = op.id
 id_in (Peer op) = op.id
 
-pub same-id : (table : List ℕ) (e : Entry) → (stamped_in (entry_of table e)).id ≡ id_in e
-same-id table (Own client serial command op) = refl
-same-id table (Peer op) = refl
+pub same-id : (e : Entry) → (stamped_in (entry_of e)).id ≡ id_in e
+same-id (Own client serial command op) = refl
+same-id (Peer op) = refl

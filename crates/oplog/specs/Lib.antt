@@ -4,3 +4,4 @@ pub mod Logs
 pub use Rattle.operation.specs.value
 pub use Rattle.operation.specs.cursor
 pub use Rattle.operation.specs as operation
+pub use Rattle.operation.specs.version

@@ -1,7 +1,7 @@
 -- The entries of a history, with the table of their replicas.
 use Rattle.std.specs.Prelude.{◌≡◌, ℕ, min, nat_lt, ◌==◌, if◌then◌else◌, ⊤, IsTrue, List, [], ◌∷◌, ◌++◌, map, reverse, length, Option, Some}
 use Rattle.std.specs.Prelude.{None}
-use Rattle.std.specs.List.{All, filter}
+use Rattle.std.specs.List.{filter}
 use Rattle.std.specs.FinMap.{put}
 use Rattle.ids.specs.declared.id.OpId.{OpId}
 use Rattle.ids.specs.Members.{AreDistinct, is_member}
@@ -10,7 +10,7 @@ use Rattle.semantics.specs.Vectors.{Vector, covers}
 use Rattle.semantics.specs.Entries.{Entry as TheEntry, stamped_in}
 use Rattle.operation.specs.declared.command.Entry.{Entry}
 use Rattle.columns.specs.Numbered.{Numbered}
-use Rattle.operation.specs.Ops.{entry_of, op_in}
+use Rattle.operation.specs.Ops.{entry_of}
 
 -- a log: the table, the entries with the newest first, and for how many more there is room
 pub record Logged : Type 0 where
@@ -19,8 +19,8 @@ pub record Logged : Type 0 where
   pub room : ℕ
 
 -- the entries of a list that begins with the oldest
-abbrev pub history : List ℕ → List Entry → List TheEntry
-history table entries = reverse (map (entry_of table) entries)
+abbrev pub history : List Entry → List TheEntry
+history entries = reverse (map entry_of entries)
 
 -- the position of the operation with this id, where the oldest is at 0; the newest where there are several
 abbrev pub position_of : OpId → List TheEntry → Option ℕ
@@ -47,14 +47,12 @@ abbrev pub AreOfMembers : List ℕ → List TheEntry → Type 0
 AreOfMembers table [] = ⊤
 AreOfMembers table (e ∷ G) = AreOfMembers table G × IsTrue (is_member table (stamped_in e).id.replica)
 
--- for each replica of the table the positions of its operations; the operations are of these replicas, and have ids of their own;
--- each vector has the table's width
+-- for each replica of the table the positions of its operations; the operations are of these replicas, and have ids of their own
 pub record IsIndexed (table : List ℕ) (positions : List (Numbered OpId)) (entries : List Entry) : Type 0 where
   pub distinct : AreDistinct table
-  pub positions_are : numbers_of positions ≡ map (λ p. positions_by p (history table entries)) table
-  pub members : AreOfMembers table (history table entries)
-  pub own_ids : HaveOwnIds (history table entries)
-  pub wide : All (λ e. length (op_in e).deps ≡ length table) entries
+  pub positions_are : numbers_of positions ≡ map (λ p. positions_by p (history entries)) table
+  pub members : AreOfMembers table (history entries)
+  pub own_ids : HaveOwnIds (history entries)
 
 -- the numbers of the ids above the counter beside each of these maps, one map after the other
 abbrev pub numbers_above : List ℕ → List (List (OpId × ℕ)) → List ℕ

@@ -1,22 +1,21 @@
 //! A list of entries, and for each replica of a table the positions of its operations.
 
 ghost use Rattle.std.specs.Prelude.{◌≡◌, ◌≤◌, ◌<◌, ◌+◌, ◌++◌, ◌∷◌, [], IsTrue, ℕ, List, Some, false, nat_lt, option_map, map, replicate};
-ghost use Rattle.std.specs.Prelude.{reverse, set, length, IfOk, IfSome, OnOk, slice_index_or};
+ghost use Rattle.std.specs.Prelude.{reverse, set, length, IfOk, OnOk, slice_index_or};
 ghost use Rattle.std.specs.List.{filter};
 ghost use Rattle.std.specs.FinMap.{put};
 ghost use Rattle.ids.specs.Members.{AreDistinct, is_member};
 ghost use Rattle.semantics.specs.Ids.{id_cmp};
-ghost use Rattle.semantics.specs.Tables.{by_table};
-ghost use Rattle.semantics.specs.Vectors.{Vector};
+ghost use Rattle.semantics.specs.Vectors.{Vector, at};
 ghost use Rattle.semantics.specs.LegalHistory.{has_id};
 ghost use Rattle.semantics.specs.Stamped.{MayFollow, Stamped};
 ghost use Rattle.semantics.specs.Entries.{Entry as TheEntry, applied, entry_at, missing, stamped_in, stamped_entries};
-ghost use Rattle.operation.specs.Ops.{entry_of, op_in};
+ghost use Rattle.operation.specs.Ops.{entry_of};
 ghost use Rattle.oplog.specs.Logs.{history, least_room, missing_positions, numbers_above, numbers_of, position_of};
 
 use columns::Numbers;
-use ids::{OpId, ReplicaTable};
-use operation::{Entry, VersionVector};
+use ids::{NamedVector, OpId, ReplicaTable, counter_near};
+use operation::Entry;
 use std::alloc::{AllocError, Global};
 use std::marker::Model;
 
@@ -42,7 +41,7 @@ impl Model for Log {
 
     ghost view = { λ l. record {
       table = l.table;
-      entries = history l.table l.entries.items;
+      entries = history l.entries.items;
       room = least_room (vec_capacity l.entries - vec_len l.entries) l.positions.items;
     } };
 
@@ -67,7 +66,7 @@ impl Log {
         })
     }
 
-    /// The members that each vector is indexed by.
+    /// The members.
     pub fn table(&self) -> &ReplicaTable
         ensures { result.now ≡ self.now.table }
     {
@@ -83,8 +82,7 @@ impl Log {
 
     /// The entry at this position, where the oldest is at 0, or `None` past the end.
     pub fn get(&self, position: usize) -> Option<&Entry>
-        ensures entry { option_map (λ e. entry_of self.now.table e.now) result ≡ entry_at position self.now.entries }
-        ensures width { IfSome result (λ e. length (op_in e.now).deps ≡ length self.now.table) }
+        ensures { option_map (λ e. entry_of e.now) result ≡ entry_at position self.now.entries }
     {
         self.entries.get(position)
     }
@@ -102,11 +100,10 @@ impl Log {
     ///
     /// # Errors
     /// `AllocError` if allocation fails.
-    pub fn missing(&self, alloc: Global, vector: &VersionVector) -> Result<Vec<usize>, AllocError>
-        requires { length vector.now ≡ length self.now.table }
-        ensures { IfOk result (λ positions. positions.items ≡ missing_positions (by_table self.now.table vector.now) self.now.entries) }
+    pub fn missing(&self, alloc: Global, vector: &NamedVector) -> Result<Vec<usize>, AllocError>
+        ensures { IfOk result (λ positions. positions.items ≡ missing_positions vector.now self.now.entries) }
     {
-        let mut positions = positions_above(alloc, &self.positions, vector)?;
+        let mut positions = positions_above(alloc, &self.table, &self.positions, vector)?;
         positions.sort_unstable();
         Ok(positions)
     }
@@ -128,15 +125,14 @@ impl Log {
     /// Appends an entry, for which there is room. Allocates nothing. Moves the positions of its replica's greater ids, of which a
     /// legal history has none.
     ///
-    /// Its id must be new, as that of an operation that may follow is (`what_may_follow_is_new`). That its replica is a member and
-    /// that its vector is as wide as the table is nothing that a history knows.
+    /// Its id must be new, as that of an operation that may follow is (`what_may_follow_is_new`). That its replica is a member is nothing
+    /// that a history knows.
     pub fn push(&mut self, entry: Entry)
         requires room { 0 < self.old.room }
-        requires width { length (op_in entry).deps ≡ length self.old.table }
-        requires member { IsTrue (is_member self.old.table (stamped_in (entry_of self.old.table entry)).id.replica) }
-        requires new { has_id (applied self.old.entries) (stamped_in (entry_of self.old.table entry)).id ≡ false }
+        requires member { IsTrue (is_member self.old.table (stamped_in (entry_of entry)).id.replica) }
+        requires new { has_id (applied self.old.entries) (stamped_in (entry_of entry)).id ≡ false }
         ensures table { self.new.table ≡ self.old.table }
-        ensures entries { self.new.entries ≡ entry_of self.old.table entry ∷ self.old.entries }
+        ensures entries { self.new.entries ≡ entry_of entry ∷ self.old.entries }
         ensures room { self.old.room ≤ self.new.room + 1 }
     {
         let OpId { counter, replica } = entry.op().id;
@@ -151,7 +147,7 @@ impl Log {
 
     /// The entries, the oldest first. Allocates nothing.
     pub fn into_entries(self) -> Vec<Entry>
-        ensures { history self.table result.items ≡ self.entries }
+        ensures { history result.items ≡ self.entries }
     {
         self.entries
     }
@@ -196,15 +192,20 @@ fn put_position(positions: &mut Vec<Numbers>, index: usize, id: OpId, position: 
 /// The positions of the ids that the vector doesn't cover, replica by replica.
 fn positions_above(
     alloc: Global,
+    table: &ReplicaTable,
     positions: &[Numbers],
-    vector: &VersionVector,
+    vector: &NamedVector,
 ) -> Result<Vec<usize>, AllocError>
-    requires { length vector.now ≡ length positions.now }
-    ensures { IfOk result (λ v. v.items ≡ numbers_above vector.now (numbers_of positions.now)) }
+    requires { length positions.now ≡ length table.now }
+    ensures { IfOk result (λ v. v.items ≡ numbers_above (map (at vector.now) table.now) (numbers_of positions.now)) }
 {
     let mut above = Vec::new(alloc);
     for (index, numbers) in positions.iter().enumerate() {
-        push_numbers(&mut above, numbers, vector.get(index))?;
+        let Some(replica) = table.at(index) else {
+            unreachable!()
+        };
+        let counter = counter_near(vector.ids(), index, replica);
+        push_numbers(&mut above, numbers, counter)?;
     }
     Ok(above)
 }

@@ -1,6 +1,6 @@
 //! Where the entries of a history go, to be published.
 
-ghost use Rattle.std.specs.Prelude.{◌≡◌, ◌∷◌, length, IsTrue, IsFalse, OnErr, OnOk};
+ghost use Rattle.std.specs.Prelude.{◌≡◌, ◌∷◌, IsTrue, IsFalse, OnErr, OnOk};
 ghost use Rattle.ids.specs.Members.{is_member};
 ghost use Rattle.semantics.specs.Making.{is_full};
 ghost use Rattle.semantics.specs.Entries.{IsEntryHistory};
@@ -22,11 +22,10 @@ pub trait Publish {
     /// `AllocError` if allocation fails. Nothing has changed then.
     fn add(&mut self, entry: Entry) -> Result<(), AllocError>
         requires lawful { IsEntryHistory (publication self.old).own
-            (entry_of (publication self.old).members entry ∷ (publication self.old).appended) }
+            (entry_of entry ∷ (publication self.old).appended) }
         requires room { IsFalse (is_full (publication self.old).appended) }
         requires member { IsTrue (is_member (publication self.old).members (op_in entry).id.replica) }
-        requires width { length (op_in entry).deps ≡ length (publication self.old).members }
         ensures added { OnOk result
-            (publication self.new ≡ with_entry (publication self.old) (entry_of (publication self.old).members entry)) }
+            (publication self.new ≡ with_entry (publication self.old) (entry_of entry)) }
         ensures same { OnErr result (publication self.new ≡ publication self.old) };
 }

@@ -1,9 +1,7 @@
 -- What a client has submitted of a text, and why it stops.
 use Rattle.std.proofs.Common.{◌≡◌, ◌≢◌, ◌⊎◌, inl, inr, ℕ, zero, suc, ◌+◌, ◌==◌, cond, Option, Some, None, MatchOption, Ok, Err, List, []}
 use Rattle.std.proofs.Common.{◌∷◌, ◌++◌, length, map, take, false, refl, sym, ap, ◌∙◌, subst, arith, add-one}
-use Rattle.std.specs.List.{All}
 use Rattle.std.proofs.lemmas.List.{length-append, length-map, map-append, take_at}
-use Rattle.std.proofs.lemmas.List.Elements.{All-push}
 use Rattle.ids.specs.declared.refusal.Refusal.{Refusal}
 use Rattle.ids.specs.declared.refusal.Refusal.TheVariants.{BadLine, NoMemory}
 use Rattle.semantics.specs.Stamped.{Stamped}
@@ -47,34 +45,32 @@ pub record HasSubmitted (table : List ℕ) (c : Client) (text : List ℕ) (d : C
   pub ops : List Op
   pub count : length ops ≡ n
   pub client : d ≡ all_submitted c ops
-  pub read : after (map (stamped_of table) ops) (readable table rest) ≡ readable table text
-  pub wide : All (λ (o : Op). length o.deps ≡ length table) ops
+  pub read : after (map stamped_of ops) (readable table rest) ≡ readable table text
 
 module _ (table : List ℕ) (c : Client) (text : List ℕ) where
   pub submitted-none : HasSubmitted table c text c text 0
-  submitted-none = record { ops = []; count = refl; client = refl; read = refl; wide = λ k d lt. absurd (omega (arith, lt)) }
+  submitted-none = record { ops = []; count = refl; client = refl; read = refl }
 
   -- the next line is an operation, which is submitted
   pub submitted-more : (d e : Client) (rest line left : List ℕ) (n : ℕ) (op : Op) → HasSubmitted table c text d rest n
       → IsFirstLine rest line left
-      → op_form table line ≡ Ok (stamped_of table op) → length op.deps ≡ length table → e ≡ submitted d op
+      → op_form table line ≡ Ok (stamped_of op) → e ≡ submitted d op
       → HasSubmitted table c text e left (n + 1)
-  submitted-more d e rest line left n op h first form wide is = record {
+  submitted-more d e rest line left n op h first form is = record {
     ops = h.ops ++ op ∷ [];
     count = (let l = length-append h.ops (op ∷ []) in omega (arith, l, h.count));
     client = is ∙ ap (λ (k : Client). submitted k op) h.client ∙ sym (all_submitted-last c h.ops op);
     read =
-        ap (λ (ss : List Stamped). after ss (readable table left)) (map-append (stamped_of table) h.ops (op ∷ []))
-        ∙ sym (after-op table rest line left (map (stamped_of table) h.ops) (stamped_of table op) first form)
+        ap (λ (ss : List Stamped). after ss (readable table left)) (map-append stamped_of h.ops (op ∷ []))
+        ∙ sym (after-op table rest line left (map stamped_of h.ops) (stamped_of op) first form)
         ∙ h.read;
-    wide = All-push (λ (o : Op). length o.deps ≡ length table) h.ops op h.wide wide;
   }
 
   -- what was submitted are the first operations of the text
   pub first_operations : (d : Client) (rest : List ℕ) (n : ℕ) (h : HasSubmitted table c text d rest n)
-      → map (stamped_of table) h.ops ≡ take n (readable table text).operations
+      → map stamped_of h.ops ≡ take n (readable table text).operations
   first_operations d rest n h =
-      sym (take_at (map (stamped_of table) h.ops) (readable table rest).operations n (length-map h.ops (stamped_of table) ∙ h.count))
+      sym (take_at (map stamped_of h.ops) (readable table rest).operations n (length-map h.ops stamped_of ∙ h.count))
       ∙ ap (λ (r : Readable). take n r.operations) h.read
 
   -- so far it found the queue full as often as before
@@ -89,29 +85,29 @@ module _ (table : List ℕ) (c : Client) (text : List ℕ) where
       → IsFirstLine rest line left
       → op_form table line ≡ Err why → e.found_full ≡ c.found_full → StopsAfter (readable table text) n c.found_full e why
   stops-bad d e rest line left n why h first form full =
-      let all = sym (after-bad table rest line left (map (stamped_of table) h.ops) why first form) ∙ h.read in
+      let all = sym (after-bad table rest line left (map stamped_of h.ops) why first form) ∙ h.read in
       let count = ap (λ (r : Readable). length r.operations) all in
-      let mapped = length-map h.ops (stamped_of table) in
+      let mapped = length-map h.ops stamped_of in
       inr (inl (omega (arith, count, mapped, h.count), sym (ap (λ (r : Readable). r.stopped) all), full))
 
   -- a line whose operation the client doesn't submit
   stops-denied : (d e : Client) (rest line left : List ℕ) (n : ℕ) (why : Refusal) (op : Op) → HasSubmitted table c text d rest n
       → IsFirstLine rest line left
-      → op_form table line ≡ Ok (stamped_of table op) → IsDenied c.found_full e why
+      → op_form table line ≡ Ok (stamped_of op) → IsDenied c.found_full e why
       → StopsAfter (readable table text) n c.found_full e why
   stops-denied d e rest line left n why op h first form denied =
-      let all = sym (after-op table rest line left (map (stamped_of table) h.ops) (stamped_of table op) first form) ∙ h.read in
+      let all = sym (after-op table rest line left (map stamped_of h.ops) (stamped_of op) first form) ∙ h.read in
       let count = ap (λ (r : Readable). length r.operations) all in
-      let more = length-append (map (stamped_of table) h.ops ++ stamped_of table op ∷ []) (readable table left).operations in
-      let one = length-append (map (stamped_of table) h.ops) (stamped_of table op ∷ []) in
-      let mapped = length-map h.ops (stamped_of table) in
+      let more = length-append (map stamped_of h.ops ++ stamped_of op ∷ []) (readable table left).operations in
+      let one = length-append (map stamped_of h.ops) (stamped_of op ∷ []) in
+      let mapped = length-map h.ops stamped_of in
       inr (inr (omega (arith, count, more, one, mapped, h.count), denied))
 
   -- a line that isn't submitted
   pub stops : (d e : Client) (rest line left : List ℕ) (n : ℕ) (why : Refusal) → HasSubmitted table c text d rest n
       → IsFirstLine rest line left
       → ((why ≡ NoMemory) × (e.found_full ≡ d.found_full)) ⊎ ((op_form table line ≡ Err why) × (e.found_full ≡ d.found_full))
-      ⊎ ((op : Op) × (op_form table line ≡ Ok (stamped_of table op)) × IsDenied d.found_full e why)
+      ⊎ ((op : Op) × (op_form table line ≡ Ok (stamped_of op)) × IsDenied d.found_full e why)
       → StopsAfter (readable table text) n c.found_full e why
   stops d e rest line left n why h first (inl memory) = inl (memory.0, memory.1 ∙ full_as_before d rest n h)
   stops d e rest line left n why h first (inr (inl bad)) =
@@ -124,9 +120,9 @@ module _ (table : List ℕ) (c : Client) (text : List ℕ) where
   stops-cut : (d : Client) (rest : List ℕ) (n : ℕ) → HasSubmitted table c text d rest n → HasNoEnd rest → rest ≢ []
       → StopsAfter (readable table text) n c.found_full d BadLine
   stops-cut d rest n h whole some =
-      let all = sym (after-cut table rest (map (stamped_of table) h.ops) whole some) ∙ h.read in
+      let all = sym (after-cut table rest (map stamped_of h.ops) whole some) ∙ h.read in
       let count = ap (λ (r : Readable). length r.operations) all in
-      let mapped = length-map h.ops (stamped_of table) in
+      let mapped = length-map h.ops stamped_of in
       inr
       (inl (
         omega (arith, count, mapped, h.count),
@@ -137,9 +133,9 @@ module _ (table : List ℕ) (c : Client) (text : List ℕ) where
   -- no byte is left
   ends : (d : Client) (rest : List ℕ) (n : ℕ) → HasSubmitted table c text d rest n → rest ≡ [] → EndsAfter (readable table text) n
   ends d rest n h none =
-      let all = sym (after-none table rest (map (stamped_of table) h.ops) none) ∙ h.read in
+      let all = sym (after-none table rest (map stamped_of h.ops) none) ∙ h.read in
       let count = ap (λ (r : Readable). length r.operations) all in
-      let mapped = length-map h.ops (stamped_of table) in
+      let mapped = length-map h.ops stamped_of in
       (omega (arith, count, mapped, h.count), sym (ap (λ (r : Readable). r.stopped) all))
 
   -- the end of the lines: all was read, or bytes are left that no line feed ends

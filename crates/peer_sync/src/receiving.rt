@@ -2,7 +2,6 @@
 
 ghost use Rattle.std.specs.Prelude.{◌≡◌, ◌≢◌, ◌⊎◌, ◌+◌, ◌<◌, ◌≤◌, ◌^◌, ◌==◌, cond, [], List, Ok, Err, IfOk, IfErr, MatchOption, length};
 ghost use Rattle.std.specs.Prelude.{map, take};
-ghost use Rattle.std.specs.List.{All};
 ghost use Rattle.ids.specs.declared.refusal.Refusal.TheVariants.{BadLine, NoMemory};
 ghost use Rattle.engine.specs.operation.declared.op.Op.{Op};
 ghost use Rattle.engine.specs.operation.Ops.{stamped_of};
@@ -44,8 +43,7 @@ pub fn receive<N: EngineName>(
 ) -> Received
     ensures submitted { (ops : List Op) × (length ops ≡ result.submitted)
         × (client.new ≡ record (all_submitted client.old ops) { found_full = client.new.found_full })
-        × (map (stamped_of N.table) ops ≡ take result.submitted (readable N.table bundle.now).operations)
-        × All (λ o. length o.deps ≡ length N.table) ops }
+        × (map stamped_of ops ≡ take result.submitted (readable N.table bundle.now).operations) }
     ensures first { result.first_serial ≡ cond (result.submitted == 0) 0 (length client.old.kept + 1) }
     ensures serials { (result.submitted ≡ 0) ⊎ (length client.new.kept ≤ client.new.serials) }
     ensures stopped { MatchOption result.stopped
@@ -92,14 +90,14 @@ fn submit_line<N: EngineName>(
     line: &[u8],
 ) -> Result<Ticket, Refusal>
     ensures ok { IfOk result
-        (λ ticket. (op : Op) × (op_form N.table line.now ≡ Ok (stamped_of N.table op)) × (length op.deps ≡ length N.table)
+        (λ ticket. (op : Op) × (op_form N.table line.now ≡ Ok (stamped_of op))
         × (client.new ≡ submitted client.old op) × (ticket.serial ≡ length client.old.kept + 1)
         × (length client.new.kept ≤ client.new.serials)) }
     ensures err { IfErr result
         (λ why. (client.new ≡ record client.old { found_full = client.new.found_full })
         × (((why ≡ NoMemory) × (client.new.found_full ≡ client.old.found_full))
         ⊎ ((op_form N.table line.now ≡ Err why) × (client.new.found_full ≡ client.old.found_full))
-        ⊎ ((op : Op) × (op_form N.table line.now ≡ Ok (stamped_of N.table op)) × IsDenied client.old.found_full client.new why))) }
+        ⊎ ((op : Op) × (op_form N.table line.now ≡ Ok (stamped_of op)) × IsDenied client.old.found_full client.new why))) }
 {
     let op = read_op(alloc, line, client.table())?;
     client.deliver(rt, alloc, op)

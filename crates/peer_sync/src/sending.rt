@@ -29,10 +29,10 @@ pub fn hello<N: EngineName>(alloc: Global, token: &mut ReaderToken<N>) -> Result
     ensures published { IfOk result (λ _. token.new.read ≡ token.new.seen) }
     ensures err { IfErr result (λ why. (why ≡ NoMemory) ⊎ (why ≡ NoReading)) }
 {
-    let vector = token.vector()?;
+    let vector = token.vector(alloc)?;
     // What a token has seen is a history of its engine, so all counters fit a line.
     prove!(token.seen_len() <= usize::MAX);
-    let mut line = write_vector(alloc, &vector, token.table())?;
+    let mut line = write_vector(alloc, &vector)?;
     line.push(b'\n')?;
     Ok(line)
 }
@@ -70,7 +70,7 @@ pub fn answer<N: EngineName>(
     let ops = token.missing(alloc, &vector)?;
     // It is a history of its engine, so a line can carry each of its operations.
     prove!(token.seen_len() <= usize::MAX);
-    let lines = write_bundle(alloc, ops.as_slice(), token.table())?;
+    let lines = write_bundle(alloc, ops.as_slice())?;
     Ok(lines)
 }
 

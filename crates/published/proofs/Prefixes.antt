@@ -1,5 +1,5 @@
 -- Prefixes of one list, and the histories that they stand for.
-use Rattle.std.proofs.Common.{◌≡◌, ℕ, ◌≤◌, List, [], ◌∷◌, ◌++◌, length, refl, sym, subst, arith}
+use Rattle.std.proofs.Common.{◌≡◌, ◌≤◌, List, [], ◌∷◌, length, refl, sym, subst, arith}
 use mathlib.Core.List.{IsPrefix}
 use Rattle.semantics.specs.Entries.{Entry as TheEntry}
 use Rattle.semantics.specs.WorldHistory.{BeginsWith}
@@ -26,8 +26,8 @@ prefix_whole (x ∷ xs) (y ∷ ys) p le =
     let rest = prefix_whole xs ys (p.0, cc (p.1)) (omega arith) in cc (p.1, rest)
 
 -- what was seen, and what has become longer
-pub grown : (table : List ℕ) (xs ys zs : List Entry) (G : List TheEntry) → IsPrefix xs ys → zs ≡ ys → history table xs ≡ G
-    → BeginsWith (history table zs) G
-grown table xs ys zs G p same is =
-    subst (λ (F : List TheEntry). BeginsWith (history table zs) F) is
-    (subst (λ (l : List Entry). BeginsWith (history table l) (history table xs)) (sym same) (begins_of table xs ys p))
+pub grown : (xs ys zs : List Entry) (G : List TheEntry) → IsPrefix xs ys → zs ≡ ys → history xs ≡ G
+    → BeginsWith (history zs) G
+grown xs ys zs G p same is =
+    subst (λ (F : List TheEntry). BeginsWith (history zs) F) is
+    (subst (λ (l : List Entry). BeginsWith (history l) (history xs)) (sym same) (begins_of xs ys p))

@@ -18,6 +18,7 @@ use Rattle.semantics.specs.WorldHistory.{BeginsWith}
 use Rattle.semantics.proofs.Beginnings.{no_shorter}
 use Rattle.semantics.proofs.GrownEngines.{begins_trans}
 use Rattle.document.specs.operation.declared.command.Entry.{Entry}
+use Rattle.semantics.specs.Vectors.{IsCanonical}
 use Rattle.document.specs.operation.Ops.{entry_of, op_in}
 use Rattle.document.specs.oplog.Logs.{AreOfMembers, history}
 use Rattle.document.proofs.oplog.Oldest.{history-more}
@@ -56,7 +57,7 @@ module _ (book : Book) (own : ℕ) (table : List ℕ) where
   admits x views h = (
     h.0,
     λ token v at. ⊎_elim (h.1 token v)
-        (λ (e : reader_of [] 0 ≡ v). subst (λ (z : View). BeginsWith x.entries (history table z.read)) e (from_none x.entries))
+        (λ (e : reader_of [] 0 ≡ v). subst (λ (z : View). BeginsWith x.entries (history z.read)) e (from_none x.entries))
         (at_snoc views (reader_of [] 0) v token at),
   )
 
@@ -65,11 +66,11 @@ module _ (book : Book) (own : ℕ) (table : List ℕ) where
   begins x is = (
     (
       is ∙ ap (λ (s : Snapshot). snapshot book table s.log) (sym is),
-      subst (λ (s : Snapshot). IsHistoryOfEngine own table (history table s.log))
+      subst (λ (s : Snapshot). IsHistoryOfEngine own table (history s.log))
           (sym is) (no_history own table),
     ),
     λ token v at. ⊎_elim (λ (e : get_elem? {A = View} [] token ≡ some v). absurd (nothing token v e))
-        (λ (e : reader_of [] 0 ≡ v). subst (λ (z : View). BeginsWith x.entries (history table z.read)) e (from_none x.entries))
+        (λ (e : reader_of [] 0 ≡ v). subst (λ (z : View). BeginsWith x.entries (history z.read)) e (from_none x.entries))
         (at_snoc [] (reader_of [] 0) v token at),
   )
     where
@@ -79,22 +80,22 @@ module _ (book : Book) (own : ℕ) (table : List ℕ) where
   pub rises : (token : ℕ) (v : View) (x y : Snapshot) → BeginsWith y.entries x.entries → IsSnapshot book own table y
       → TurnsAt (HoldsOfCopies book own table) token v x y (Sees book own table)
   rises token v x y up is views h at =
-      let whole : y.entries ≡ history table y.log = ap (λ (s : Snapshot). s.entries) is.0 in (
+      let whole : y.entries ≡ history y.log = ap (λ (s : Snapshot). s.entries) is.0 in (
         reader_of y.log (v.reads + 1),
         (
           is,
           λ j u e. ⊎_elim
               (λ (t : (j ≡ token) × (reader_of y.log (v.reads + 1) ≡ u)). subst
-              (λ (z : View). BeginsWith y.entries (history table z.read)) t.1
+              (λ (z : View). BeginsWith y.entries (history z.read)) t.1
               (subst (λ (G : List TheEntry). BeginsWith y.entries G) whole (begins_self y.entries)))
-              (λ (t : (j ≢ token) × (get_elem? views j ≡ some u)). begins_trans y.entries x.entries (history table u.read) up (h.1 j u t.1))
+              (λ (t : (j ≢ token) × (get_elem? views j ≡ some u)). begins_trans y.entries x.entries (history u.read) up (h.1 j u t.1))
               (at_set views token j (reader_of y.log (v.reads + 1)) u e),
         ),
         (
           is.0,
           is.1,
-          subst (λ (G : List TheEntry). BeginsWith G (history table v.read)) whole
-              (begins_trans y.entries x.entries (history table v.read) up (h.1 token v at)),
+          subst (λ (G : List TheEntry). BeginsWith G (history v.read)) whole
+              (begins_trans y.entries x.entries (history v.read) up (h.1 token v at)),
           refl,
         ),
       )
@@ -107,7 +108,7 @@ taken_begins : (s : Snapshot) (w : Pending) → BeginsWith (applied_to s w).entr
 taken_begins s w = by (is_lawful s.table s.entries (op_in w.entry))
   where
     by : (b : Bool) → BeginsWith (cond b (appended_to s w) s).entries s.entries
-    by true = (entry_of s.table w.entry ∷ [], refl)
+    by true = (entry_of w.entry ∷ [], refl)
     by false = begins_self s.entries
 
 pub fold_begins : (s : Snapshot) (ws : List Pending) → BeginsWith (fold applied_to s ws).entries s.entries
@@ -116,18 +117,18 @@ fold_begins s (w ∷ ws) = begins_trans (fold applied_to (applied_to s w) ws).en
     (fold_begins (applied_to s w) ws) (taken_begins s w)
 
 fold_sheet : (book : Book) (table : List ℕ) (s : Snapshot) (ws : List Pending) (log : List Entry)
-    → fold applied_to s ws ≡ snapshot book table log → BeginsWith (history table log) s.entries
+    → fold applied_to s ws ≡ snapshot book table log → BeginsWith (history log) s.entries
 fold_sheet book table s ws log all = subst (λ (z : Snapshot). BeginsWith z.entries s.entries) all (fold_begins s ws)
 
 -- what a publish shows keeps the rule
 pub shows : (book : Book) (own : ℕ) (table : List ℕ) (token : ℕ) (v : View) (x y : Snapshot) (ws : List Pending) (log : List Entry)
-    → fold applied_to x ws ≡ snapshot book table log → IsHistoryOfEngine own table (history table log) → y ≡ fold applied_to x ws
+    → fold applied_to x ws ≡ snapshot book table log → IsHistoryOfEngine own table (history log) → y ≡ fold applied_to x ws
     → TurnsAt (HoldsOfCopies book own table) token v x y (Sees book own table)
 shows book own table token v x y ws log all legal is =
     let e : y ≡ snapshot book table log = is ∙ all in
     rises book own table token v x y (subst (λ (z : Snapshot). BeginsWith z.entries x.entries) (sym is) (fold_begins x ws)) (
       e ∙ ap (λ (s : Snapshot). snapshot book table s.log) (sym e),
-      subst (λ (s : Snapshot). IsHistoryOfEngine own table (history table s.log))
+      subst (λ (s : Snapshot). IsHistoryOfEngine own table (history s.log))
           (sym e) legal,
     )
 
@@ -138,18 +139,18 @@ fold-snoc s (x ∷ ws) w = fold-snoc (applied_to s x) ws w
 module _ (book : Book) (own : ℕ) (table : List ℕ) (s : Snapshot) (ws : List Pending) (head : Named) (all : Beginning)
     (h : IsPublisher book own table s ws head all) where
   -- all that was appended begins with what is published
-  pub appended_begins : BeginsWith (history table all.log) s.entries
+  pub appended_begins : BeginsWith (history all.log) s.entries
   appended_begins = fold_sheet book table s ws all.log h.brought_up
 
-  pub snapshot_legal : IsHistoryOfEngine own table (history table s.log)
+  pub snapshot_legal : IsHistoryOfEngine own table (history s.log)
   snapshot_legal = subst (IsHistoryOfEngine own table) (ap (λ (z : Snapshot). z.entries) h.stands)
-      (engine_begun own table (history table all.log) s.entries appended_begins h.all_is)
+      (engine_begun own table (history all.log) s.entries appended_begins h.all_is)
 
   -- the history of what is shown, wherever it stands
-  pub shown_legal : (log : List Entry) → log ≡ s.log → IsHistoryOfEngine own table (history table log)
-  shown_legal log is = subst (λ (l : List Entry). IsHistoryOfEngine own table (history table l)) (sym is) snapshot_legal
+  pub shown_legal : (log : List Entry) → log ≡ s.log → IsHistoryOfEngine own table (history log)
+  shown_legal log is = subst (λ (l : List Entry). IsHistoryOfEngine own table (history l)) (sym is) snapshot_legal
 
-  pub seen_begins : (z : Publication) → record { own = own; members = table; published = s.entries; appended = history table all.log } ≡ z
+  pub seen_begins : (z : Publication) → record { own = own; members = table; published = s.entries; appended = history all.log } ≡ z
       → BeginsWith z.appended z.published
   seen_begins z is = subst (λ (z : Publication). BeginsWith z.appended z.published) is appended_begins
 
@@ -160,20 +161,20 @@ module _ (book : Book) (own : ℕ) (table : List ℕ) (s : Snapshot) (ws : List 
 
   -- all that waits brings what is shown up to an entry history
   pub all_pending : (t : Snapshot) (vs : List Pending) → t ≡ s → vs ≡ ws
-      → (log : List Entry) × (fold applied_to t vs ≡ snapshot book table log) × IsHistoryOfEngine own table (history table log)
+      → (log : List Entry) × (fold applied_to t vs ≡ snapshot book table log) × IsHistoryOfEngine own table (history log)
   all_pending t vs same moved = let k = pending_moved t vs same moved in (all.log, k.brought_up, k.all_is)
 
   -- one more entry waits
   pub one_pending : (w : Pending) (after : Beginning) → after.log ≡ all.log ++ w.entry ∷ [] → after.book ≡ all.book → w.log ≡ after.log
       → w.book ≡ after.book
-      → IsEntryHistory own (entry_of table w.entry ∷ history table all.log) → IsFalse (is_full (history table all.log))
-      → IsTrue (is_member table (stamped_in (entry_of table w.entry)).id.replica) → length (op_in w.entry).deps ≡ length table
+      → IsEntryHistory own (entry_of w.entry ∷ history all.log) → IsFalse (is_full (history all.log))
+      → IsTrue (is_member table (stamped_in (entry_of w.entry)).id.replica) → IsCanonical (op_in w.entry).deps
       → (t : Snapshot) (vs : List Pending) (m : Option Pending) → t ≡ s → vs ≡ ws → m ≡ Some w
       → IsPublisher book own table t (vs ++ option_to_list m) head after
-  one_pending w after log name wlog wbook follows room member width t vs m same moved one =
-      let longer : history table after.log ≡ entry_of table w.entry ∷ history table all.log = ap (history table) log
-      ∙ history-more table all.log w.entry in
-      let lawful = lawful_next own table (history table all.log) w.entry follows room h.all_is.known member width in
+  one_pending w after log name wlog wbook follows room member canonical t vs m same moved one =
+      let longer : history after.log ≡ entry_of w.entry ∷ history all.log = ap history log
+      ∙ history-more all.log w.entry in
+      let lawful = lawful_next own table (history all.log) w.entry follows room h.all_is.known member canonical in
       let k = pending_moved t vs same moved in
       let becomes : appended_to (snapshot book table all.log) w ≡ snapshot book table after.log =
       λ i. record { table = table; entries = sym longer i; log = wlog i; book = (wbook ∙ name ∙ h.book_is) i } in
@@ -189,7 +190,7 @@ module _ (book : Book) (own : ℕ) (table : List ℕ) (s : Snapshot) (ws : List 
             (record {
               legal = follows;
               known = (h.all_is.known, member);
-              few = leb-false most_entries (length (history table all.log)) room;
+              few = leb-false most_entries (length (history all.log)) room;
             });
         head_is = h.head_is;
         book_is = name ∙ h.book_is;

@@ -28,7 +28,7 @@ pub record Pending : Type 0 where
 
 -- the copy with one more entry; its history is then the one that comes with the entry
 abbrev pub appended_to : Snapshot → Pending → Snapshot
-appended_to s w = record { table = s.table; entries = entry_of s.table w.entry ∷ s.entries; log = w.log; book = w.book }
+appended_to s w = record { table = s.table; entries = entry_of w.entry ∷ s.entries; log = w.log; book = w.book }
 
 -- an entry is absorbed where it is lawful, and else left out
 abbrev pub applied_to : Snapshot → Pending → Snapshot
@@ -36,7 +36,7 @@ applied_to s w = cond (is_lawful s.table s.entries (op_in w.entry)) (appended_to
 
 -- the copy of these entries of the history, the oldest first
 abbrev pub snapshot : Book → List ℕ → List Entry → Snapshot
-snapshot book table log = record { table = table; entries = history table log; log = log; book = book }
+snapshot book table log = record { table = table; entries = history log; log = log; book = book }
 
 -- the view of a reader that last read these entries, and has made so many reads
 abbrev pub reader_of : List Entry → ℕ → View
@@ -45,14 +45,14 @@ reader_of read reads = record { read = read; reads = reads }
 module _ (book : Book) (own : ℕ) (table : List ℕ) where
   -- the copy is a snapshot of a history of this engine
   abbrev pub IsSnapshot : Snapshot → Type 0
-  IsSnapshot s = (s ≡ snapshot book table s.log) × IsHistoryOfEngine own table (history table s.log)
+  IsSnapshot s = (s ≡ snapshot book table s.log) × IsHistoryOfEngine own table (history s.log)
 
   -- the rule: what is shown is a snapshot, and begins with all that each token has read
   abbrev pub HoldsOfCopies : Snapshot → List View → Type 0
   HoldsOfCopies shown views = IsSnapshot shown
-      × ((token : ℕ) (v : View) → get_elem? views token ≡ some v → BeginsWith shown.entries (history table v.read))
+      × ((token : ℕ) (v : View) → get_elem? views token ≡ some v → BeginsWith shown.entries (history v.read))
 
   -- what one step reads, which is one read more: what is shown after it, which begins with what was read before
   abbrev pub Sees : View → Snapshot → Snapshot → View → Type 0
-  Sees v before after w = (after ≡ snapshot book table w.read) × IsHistoryOfEngine own table (history table w.read)
-      × BeginsWith (history table w.read) (history table v.read) × (w.reads ≡ v.reads + 1)
+  Sees v before after w = (after ≡ snapshot book table w.read) × IsHistoryOfEngine own table (history w.read)
+      × BeginsWith (history w.read) (history v.read) × (w.reads ≡ v.reads + 1)

@@ -12,6 +12,6 @@ pub record IsPublisher (book : Book) (own : ℕ) (table : List ℕ) (shown : Sna
     (all : Beginning) : Type 0 where
   pub stands : shown ≡ snapshot book table shown.log
   pub brought_up : fold applied_to shown pending ≡ snapshot book table all.log
-  pub all_is : IsHistoryOfEngine own table (history table all.log)
+  pub all_is : IsHistoryOfEngine own table (history all.log)
   pub head_is : head ≡ head_of book
   pub book_is : all.book ≡ book

@@ -1,6 +1,6 @@
 //! What each of the two copies holds, and how an entry gets there.
 
-ghost use Rattle.std.specs.Prelude.{◌≡◌, ◌∷◌, true, IsTrue, MatchResult, is_none, length};
+ghost use Rattle.std.specs.Prelude.{◌≡◌, ◌∷◌, IsTrue, MatchResult, is_none};
 ghost use Rattle.ids.specs.Members.{is_member};
 ghost use Rattle.semantics.specs.Faults.{StandsAlone};
 ghost use Rattle.semantics.specs.Stamped.{MayFollow};
@@ -96,9 +96,8 @@ impl Absorb<Pending> for Copy {
 /// calls it with whatever was appended. The publisher's invariant shows that each entry passes.
 fn is_lawful(document: &Document, op: &Op) -> bool
     ensures tests { result ≡ is_lawful document.now.table document.now.entries op.now }
-    ensures lawful { IsTrue result → MayFollow (applied document.now.entries) (stamped_of document.now.table op.now) }
+    ensures lawful { IsTrue result → MayFollow (applied document.now.entries) (stamped_of op.now) }
     ensures member { IsTrue result → IsTrue (is_member document.now.table op.now.id.replica) }
-    ensures width { IsTrue result → length op.now.deps ≡ length document.now.table }
 {
     stands_alone(document, op) && document.ready(op) && document.check(op).is_ok()
 }
@@ -106,9 +105,8 @@ fn is_lawful(document: &Document, op: &Op) -> bool
 /// Whether the operation passes the tests that need no history.
 fn stands_alone(document: &Document, op: &Op) -> bool
     ensures tests { result ≡ is_none (alone_fault_of_op document.now.table op.now) }
-    ensures alone { IsTrue result → StandsAlone (stamped_of document.now.table op.now) }
+    ensures alone { IsTrue result → StandsAlone (stamped_of op.now) }
     ensures member { IsTrue result → IsTrue (is_member document.now.table op.now.id.replica) }
-    ensures width { IsTrue result → length op.now.deps ≡ length document.now.table }
 {
     check_alone(op, document.table()).is_ok()
 }
@@ -118,11 +116,10 @@ fn stands_alone(document: &Document, op: &Op) -> bool
 /// # Errors
 /// The entry comes back if allocation fails, and the document is as before.
 fn append(alloc: Global, document: &mut Document, entry: Entry) -> Result<(), Entry>
-    requires lawful { MayFollow (applied document.old.entries) (stamped_of document.old.table (op_in entry)) }
+    requires lawful { MayFollow (applied document.old.entries) (stamped_of (op_in entry)) }
     requires member { IsTrue (is_member document.old.table (op_in entry).id.replica) }
-    requires width { length (op_in entry).deps ≡ length document.old.table }
     ensures table { document.new.table ≡ document.old.table }
-    ensures entries { MatchResult result (λ _. document.new.entries ≡ entry_of document.old.table entry ∷ document.old.entries)
+    ensures entries { MatchResult result (λ _. document.new.entries ≡ entry_of entry ∷ document.old.entries)
         (λ e. (e ≡ entry) × (document.new.entries ≡ document.old.entries)) }
 {
     if document.reserve(alloc, entry.op()).is_err() {

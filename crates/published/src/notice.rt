@@ -52,16 +52,16 @@ impl<N: EngineName> Model for Notice<N> {
 
     ghost coded = { Prim.hlevel (codes, coded_element) };
 
-    ghost view = { λ n. history N.table n.point.log };
+    ghost view = { λ n. history n.point.log };
 
-    ghost invariant = { λ n. (n.point.book ≡ N.book) × IsHistoryOfEngine N.own N.table (history N.table n.point.log) };
+    ghost invariant = { λ n. (n.point.book ≡ N.book) × IsHistoryOfEngine N.own N.table (history n.point.log) };
 }
 
 impl<N: EngineName> Notice<N> {
     pub(crate) fn of(point: Point) -> Notice<N>
         requires book { point.book ≡ N.book }
-        requires legal { IsHistoryOfEngine N.own N.table (history N.table point.log) }
-        ensures { result ≡ history N.table point.log }
+        requires legal { IsHistoryOfEngine N.own N.table (history point.log) }
+        ensures { result ≡ history point.log }
     {
         Notice {
             point,
@@ -71,8 +71,8 @@ impl<N: EngineName> Notice<N> {
 
     pub(crate) fn point(&self) -> &Point
         ensures book { result.now.book ≡ N.book }
-        ensures log { history N.table result.now.log ≡ self.now }
-        ensures legal { IsHistoryOfEngine N.own N.table (history N.table result.now.log) }
+        ensures log { history result.now.log ≡ self.now }
+        ensures legal { IsHistoryOfEngine N.own N.table (history result.now.log) }
     {
         &self.point
     }

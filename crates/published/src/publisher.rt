@@ -9,7 +9,7 @@ ghost use Rattle.semantics.specs.Making.{is_full};
 ghost use Rattle.semantics.specs.Entries.{IsEntryHistory, stamped_in};
 ghost use Rattle.semantics.specs.WorldHistory.{BeginsWith};
 ghost use Rattle.document.specs.operation.declared.command.Entry.{Entry as AnEntry};
-ghost use Rattle.document.specs.operation.Ops.{entry_of, op_in};
+ghost use Rattle.document.specs.operation.Ops.{entry_of};
 ghost use Rattle.document.specs.oplog.Logs.{history};
 ghost use Rattle.published.specs.Beginnings.{IsHistoryOfEngine};
 ghost use Rattle.published.specs.Copies.{applied_to, snapshot};
@@ -21,7 +21,7 @@ use crate::seen::View;
 use crate::token::{ReaderToken, Sees, Shown};
 use core::mem::replace_with;
 use document::{Document, Entry};
-use ids::{Refusal, ReplicaTable};
+use ids::{MOST_NAMED, Refusal, ReplicaTable};
 use left_right::writer::Writer;
 use logbook::Word;
 use std::alloc::{AllocError, Global};
@@ -53,7 +53,7 @@ impl<N: EngineName> Model for Publisher<N> {
       own = N.own;
       members = N.table;
       published = p.writer.desk.shown.value.entries;
-      appended = history N.table p.all.log;
+      appended = history p.all.log;
     } };
 
     ghost invariant = { λ p. IsPublisher N.book N.own N.table p.writer.desk.shown.value (drop p.writer.behind p.writer.log.items
@@ -173,7 +173,7 @@ fn show_all<N: EngineName>(
 ) -> Result<(), AllocError>
     requires { (log : List AnEntry)
         × (fold applied_to writer.old.desk.shown.value (drop writer.old.behind writer.old.log.items) ≡ snapshot N.book N.table log)
-        × IsHistoryOfEngine N.own N.table (history N.table log) }
+        × IsHistoryOfEngine N.own N.table (history log) }
     ensures { MatchResult result
         (λ _. (writer.new.desk.shown.value ≡ fold applied_to writer.old.desk.shown.value (drop writer.old.behind writer.old.log.items))
         × (drop writer.new.behind writer.new.log.items ≡ []))
@@ -193,7 +193,7 @@ fn show<N: EngineName, R: Wait>(
 )
     requires { (log : List AnEntry)
         × (fold applied_to writer.desk.shown.value (drop writer.behind writer.log.items) ≡ snapshot N.book N.table log)
-        × IsHistoryOfEngine N.own N.table (history N.table log) }
+        × IsHistoryOfEngine N.own N.table (history log) }
     ensures { MatchResult result.1
         (λ _. (result.0.desk.shown.value ≡ fold applied_to writer.desk.shown.value (drop writer.behind writer.log.items))
         × (drop result.0.behind result.0.log.items ≡ []))
@@ -223,17 +223,18 @@ impl<N: EngineName> Publisher<N> {
     /// `AllocError` if allocation fails, or if the history were longer than the publisher knows, which only its own appends make it.
     /// Nothing was appended then, and the entry is dropped.
     pub fn append(&mut self, entry: Entry) -> Result<(), AllocError>
-        requires follows { IsEntryHistory N.own (entry_of N.table entry ∷ self.old.appended) }
+        requires follows { IsEntryHistory N.own (entry_of entry ∷ self.old.appended) }
         requires room { IsFalse (is_full self.old.appended) }
-        requires member { IsTrue (is_member N.table (stamped_in (entry_of N.table entry)).id.replica) }
-        requires width { length (op_in entry).deps ≡ length N.table }
+        requires member { IsTrue (is_member N.table (stamped_in (entry_of entry)).id.replica) }
         ensures published { self.new.published ≡ self.old.published }
-        ensures appended { MatchResult result (λ _. self.new.appended ≡ entry_of N.table entry ∷ self.old.appended)
+        ensures appended { MatchResult result (λ _. self.new.appended ≡ entry_of entry ∷ self.old.appended)
             (λ _. self.new.appended ≡ self.old.appended) }
     {
         if !flush::<N>(&mut self.writer, &mut self.next) {
             return Err(AllocError);
         }
+        // Each vector is canonical, so what may follow the history passes the tests of the copies.
+        prove!(entry.op().deps.ids().len() <= MOST_NAMED);
         let mut after = self.all.again();
         // Never: only this publisher extends the history. No contract of the logbook says so.
         if !after.extend(&self.head, &entry) {

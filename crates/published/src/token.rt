@@ -1,18 +1,19 @@
 //! Tokens: readers of the published history, which take no lock and never wait.
 
 ghost use Rattle.std.specs.Prelude.{◌≡◌, ◌+◌, ◌≤◌, ◌⊎◌, ◌↔◌, length, map, IsTrue, MatchResult, IfOk, IfErr};
+ghost use Rattle.std.specs.List.{All};
 ghost use Rattle.left_right.specs.Sides.{view as view_at};
 ghost use Rattle.ids.specs.declared.refusal.Refusal.TheVariants.{NoMemory, NoReading};
+ghost use Rattle.ids.specs.Vectors.{IsNamed};
 ghost use Rattle.semantics.specs.Entries.{IsEntryHistory, applied, lacked_of};
 ghost use Rattle.semantics.specs.NamedIds.{vector_of};
-ghost use Rattle.semantics.specs.Tables.{by_table};
 ghost use Rattle.semantics.specs.WorldHistory.{BeginsWith};
 ghost use Rattle.semantics.specs.Questions.{Question as TheQuestion, Refused};
 ghost use Rattle.semantics.specs.LegalAnswer.{Answered, OfDocument, reading_of};
 ghost use Rattle.semantics.specs.View.{view};
 ghost use Rattle.document.specs.operation.Ops.{stamped_of};
 ghost use Rattle.document.specs.oplog.Logs.{history};
-ghost use Rattle.document.specs.Documents.{HasWidthOf, asked_of, said_by};
+ghost use Rattle.document.specs.Documents.{asked_of, said_by};
 ghost use Rattle.published.specs.Beginnings.{IsHistoryOfEngine};
 
 use crate::book::Point;
@@ -20,10 +21,10 @@ use crate::copy::Copy;
 use crate::notice::{EngineName, Notice};
 use crate::seen::View;
 use crossbeam_utils::rule::{Outcome, Protocol};
-use document::{Op, Question, Reading as Answer, Shared, VersionVector};
+use document::{NamedVector, Op, Question, Reading as Answer, Shared};
 use ids::{Refusal, ReplicaTable};
 use left_right::reader::{Reader, Reading};
-use std::alloc::{AllocError, Global};
+use std::alloc::Global;
 use std::marker::{Model, PhantomData};
 
 /// The rule of the copies.
@@ -74,12 +75,12 @@ impl<N: EngineName> Model for ReaderToken<N> {
     ghost coded = { Prim.hlevel (codes, coded_element) };
 
     ghost view = { λ s. record {
-      seen = history N.table s.seen.log;
-      read = history N.table (read_of s.reader);
+      seen = history s.seen.log;
+      read = history (read_of s.reader);
       reads = reads_of s.reader;
     } };
 
-    ghost invariant = { λ s. (s.seen.book ≡ N.book) × IsHistoryOfEngine N.own N.table (history N.table s.seen.log) × (s.table ≡ N.table) };
+    ghost invariant = { λ s. (s.seen.book ≡ N.book) × IsHistoryOfEngine N.own N.table (history s.seen.log) × (s.table ≡ N.table) };
 }
 
 impl<N: EngineName> ReaderToken<N> {
@@ -90,8 +91,8 @@ impl<N: EngineName> ReaderToken<N> {
     ) -> ReaderToken<N>
         requires table { table ≡ N.table }
         requires book { seen.book ≡ N.book }
-        requires legal { IsHistoryOfEngine N.own N.table (history N.table seen.log) }
-        ensures { result.seen ≡ history N.table seen.log }
+        requires legal { IsHistoryOfEngine N.own N.table (history seen.log) }
+        ensures { result.seen ≡ history seen.log }
     {
         ReaderToken {
             reader: Some(reader),
@@ -100,7 +101,7 @@ impl<N: EngineName> ReaderToken<N> {
         }
     }
 
-    /// The table of the engine's members, which indexes the vectors of its questions and readings.
+    /// The table of the engine's members.
     pub fn table(&self) -> &ReplicaTable
         ensures { result.now ≡ N.table }
     {
@@ -152,7 +153,7 @@ impl<N: EngineName> ReaderToken<N> {
         ensures legal { IsHistoryOfEngine N.own N.table self.new.seen }
         ensures entries { IfOk result (λ r. r.part.value.entries ≡ self.new.seen) }
         ensures table { IfOk result (λ r. r.part.value.table ≡ N.table) }
-        ensures read { IfOk result (λ r. history N.table (view_at r.place).read ≡ self.new.seen) }
+        ensures read { IfOk result (λ r. history (view_at r.place).read ≡ self.new.seen) }
         ensures step { IfOk result (λ r. (view_at r.place).reads ≡ self.old.reads + 1) }
         ensures err { IfErr result (λ why. why ≡ NoReading) }
     {
@@ -177,20 +178,20 @@ impl<N: EngineName> ReaderToken<N> {
         Ok(reading)
     }
 
-    /// The vector of all that is published at the one step of this read, which the token has then seen. Never waits. Copies a counter
-    /// for each member.
+    /// The vector of all that is published at the one step of this read, which the token has then seen. Never waits. Copies a pair for
+    /// each replica of which something was applied.
     ///
     /// # Errors
     /// `NoReading` as in `ask`, `NoMemory` if allocation fails. The token may have seen more then, never less.
-    pub fn vector(&mut self) -> Result<VersionVector, Refusal>
+    pub fn vector(&mut self, alloc: Global) -> Result<NamedVector, Refusal>
         ensures grows { BeginsWith self.new.seen self.old.seen }
         ensures legal { IsEntryHistory N.own self.new.seen }
-        ensures vector { IfOk result (λ v. by_table N.table v ≡ vector_of (applied self.new.seen)) }
+        ensures vector { IfOk result (λ v. v ≡ vector_of (applied self.new.seen)) }
         ensures published { IfOk result (λ _. self.new.read ≡ self.new.seen) }
         ensures err { IfErr result (λ why. (why ≡ NoMemory) ⊎ (why ≡ NoReading)) }
     {
         let reading = self.enter()?;
-        let vector: Result<VersionVector, AllocError> = reading.get().document.applied().clone();
+        let vector = NamedVector::of(alloc, reading.get().document.applied().ids());
         self.reader = Some(reading.leave());
         Ok(vector?)
     }
@@ -203,12 +204,12 @@ impl<N: EngineName> ReaderToken<N> {
     pub fn missing(
         &mut self,
         alloc: Global,
-        vector: &VersionVector,
+        vector: &NamedVector,
     ) -> Result<Vec<Shared<Op>>, Refusal>
-        requires { length vector.now ≡ length N.table }
         ensures grows { BeginsWith self.new.seen self.old.seen }
         ensures legal { IsEntryHistory N.own self.new.seen }
-        ensures ops { IfOk result (λ ops. map (stamped_of N.table) ops.items ≡ lacked_of self.new.seen (by_table N.table vector.now)) }
+        ensures ops { IfOk result (λ ops. map stamped_of ops.items ≡ lacked_of self.new.seen vector.now) }
+        ensures named { IfOk result (λ ops. All (λ o. IsNamed o.deps) ops.items) }
         ensures published { IfOk result (λ _. self.new.read ≡ self.new.seen) }
         ensures err { IfErr result (λ why. (why ≡ NoMemory) ⊎ (why ≡ NoReading)) }
     {
@@ -221,27 +222,25 @@ impl<N: EngineName> ReaderToken<N> {
     /// Answers a question from the history that is published at the one step of this read, which the token has then seen: each call makes a
     /// step of its own. Never waits.
     /// Costs a walk along the expression, and a copy of what is answered; for items a look at each, tombstones included, of the blocks
-    /// in which one is shown. The answer is also that of the operations as a set (`view`). The vector of a question has a counter for
-    /// each member.
+    /// in which one is shown. The answer is also that of the operations as a set (`view`).
     ///
     /// # Errors
     /// `AtHead` for a step from a head, or where the expression ends at one; `PastEnd`; `TooDeep`: these are answers at that step too.
     /// `NoMemory` if allocation fails. `NoReading` if the copies gave no reading that begins with all that the token has seen, which is
     /// always so once the engine is closed. After the last two the token may have seen more, never less.
     pub fn ask(&mut self, alloc: Global, question: &Question) -> Result<Answer, Refusal>
-        requires { HasWidthOf N.table question.now }
         ensures grows { BeginsWith self.new.seen self.old.seen }
         ensures legal { IsEntryHistory N.own self.new.seen }
-        ensures answer { IfOk result (λ r. said_by N.table r ≡ reading_of self.new.seen (asked_of N.table question.now)) }
+        ensures answer { IfOk result (λ r. said_by r ≡ reading_of self.new.seen (asked_of question.now)) }
         ensures view { IfOk result
-            (λ r. (q : TheQuestion) → asked_of N.table question.now ≡ OfDocument q
-            → said_by N.table r ≡ Answered (view (applied self.new.seen) q)) }
+            (λ r. (q : TheQuestion) → asked_of question.now ≡ OfDocument q
+            → said_by r ≡ Answered (view (applied self.new.seen) q)) }
         ensures err { IfErr result
             (λ why. (why ≡ NoMemory) ⊎ (why ≡ NoReading)
-            ⊎ (reading_of self.new.seen (asked_of N.table question.now) ≡ Answered (Refused why))) }
+            ⊎ (reading_of self.new.seen (asked_of question.now) ≡ Answered (Refused why))) }
         ensures view_refuses { IfErr result
             (λ why. (why ≡ NoMemory) ⊎ (why ≡ NoReading)
-            ⊎ ((q : TheQuestion) → asked_of N.table question.now ≡ OfDocument q → view (applied self.new.seen) q ≡ Refused why)) }
+            ⊎ ((q : TheQuestion) → asked_of question.now ≡ OfDocument q → view (applied self.new.seen) q ≡ Refused why)) }
         ensures published { MatchResult result (λ _. self.new.read ≡ self.new.seen)
             (λ why. (why ≡ NoMemory) ⊎ (why ≡ NoReading) ⊎ (self.new.read ≡ self.new.seen)) }
         ensures step { MatchResult result (λ _. self.new.reads ≡ self.old.reads + 1)

@@ -1,7 +1,6 @@
 //! A publisher and its tokens: what is asked before and after a publish, and what is learnt.
 
-ghost use Rattle.std.specs.Prelude.{◌≡◌, ◌≢◌, ◌∷◌, ℕ, List, [], None, IsTrue, IfOk, OnOk, length};
-ghost use Rattle.document.specs.Documents.{HasWidthOf};
+ghost use Rattle.std.specs.Prelude.{◌≡◌, ◌≢◌, ◌∷◌, [], None, IsTrue, IfOk, OnOk};
 ghost use Rattle.ids.specs.Members.{in_order, is_member};
 ghost use Rattle.semantics.specs.Entries.{IsEntryHistory, applied};
 ghost use Rattle.semantics.specs.Stamped.{MayFollow};
@@ -13,7 +12,7 @@ mod of_command;
 use cursor::{Expr, Step};
 use document::{Document, Question, Reading};
 use fixtures::{field, id_of};
-use ids::Refusal;
+use ids::{NamedVector, Refusal};
 use operation::{Entry, Mutation, Op, Shared, check_alone};
 use published::*;
 use std::alloc::Global;
@@ -273,9 +272,7 @@ fn write_two<N: EngineName, R: Abort>(
 }
 
 /// Asks for the values at the key `a`.
-fn question(alloc: Global) -> Result<Question, Refusal>
-    ensures { IfOk result (λ q. (table : List ℕ) → HasWidthOf table q) }
-{
+fn question(alloc: Global) -> Result<Question, Refusal> {
     let key = Key::new(alloc, "a")?;
     let mut steps = Vec::new(alloc);
     steps.push(Step::Get(key))?;
@@ -338,7 +335,7 @@ fn assign(
     let place = field(alloc, "a")?;
     let op = Op {
         id,
-        deps: document.applied().clone()?,
+        deps: NamedVector::of(alloc, document.applied().ids())?,
         place,
         mutation: Mutation::Assign(Val::Scalar(Scalar::Whole(number))),
     };
@@ -349,16 +346,14 @@ fn assign(
 fn stands_alone(document: &Document, op: &Op) -> bool
     ensures alone { IsTrue result → alone_fault_of_op document.now.table op.now ≡ None }
     ensures member { IsTrue result → IsTrue (is_member document.now.table op.now.id.replica) }
-    ensures width { IsTrue result → length op.now.deps ≡ length document.now.table }
 {
     check_alone(op, document.table()).is_ok()
 }
 
 /// The fault of an operation of a peer that is ready and has none alone.
 fn check(rt: &impl Abort, document: &Document, op: &Op) -> Result<(), Refusal>
-    ensures lawful { OnOk result (MayFollow (applied document.now.entries) (stamped_of document.now.table op.now)) }
+    ensures lawful { OnOk result (MayFollow (applied document.now.entries) (stamped_of op.now)) }
     ensures member { IsTrue (is_member document.now.table op.now.id.replica) }
-    ensures width { length op.now.deps ≡ length document.now.table }
     ensures peer { op.now.id.replica ≢ 9 }
 {
     assert!(rt; op.id.replica.number() != 9);

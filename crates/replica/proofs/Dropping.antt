@@ -57,21 +57,21 @@ reserved r q d k table entries = record {
       own = q.own;
       members = table i;
       entries = entries i;
-      waiting = waiting_in (table i) q.waiting;
+      waiting = waiting_in q.waiting;
       dropped = q.dropped;
     }
 
 module _ (r q : Running) (d : IsDropping r q) (a : OpId) (t : IsDropped q.document q.waiting a)
-    (ws : List Op) (count : ℕ) (left : waiting_in q.document.table ws ≡ without_waiting a (waiting_in q.document.table q.waiting))
+    (ws : List Op) (count : ℕ) (left : waiting_in ws ≡ without_waiting a (waiting_in q.waiting))
     (among : (o : Op) → IsAmong o ws → IsAmong o q.waiting)
     (counts : count ≡ min (suc q.dropped) 18446744073709551615) where
   abbrev s : Stamped
   s = t.next
 
-  without : waiting_in q.document.table ws ≡ without_waiting s.id (waiting_in q.document.table q.waiting)
-  without = left ∙ ap (λ b. without_waiting b (waiting_in q.document.table q.waiting)) (sym t.id)
+  without : waiting_in ws ≡ without_waiting s.id (waiting_in q.waiting)
+  without = left ∙ ap (λ b. without_waiting b (waiting_in q.waiting)) (sym t.id)
 
-  waits : IsAmong s (waiting_in q.document.table q.waiting)
+  waits : IsAmong s (waiting_in q.waiting)
   waits = next_among q s d.good t.is_next
 
   after_turn : replica_of (record q { waiting = ws; dropped = count }) ≡ counted (drain_for 1 (replica_of q))
@@ -98,8 +98,8 @@ module _ (r q : Running) (d : IsDropping r q) (a : OpId) (t : IsDropped q.docume
   -- and one fewer waits
   pub fewer : length ws < length q.waiting
   fewer =
-      let one = without_one s (waiting_in q.document.table q.waiting) d.good.running.rising waits in
+      let one = without_one s (waiting_in q.waiting) d.good.running.rising waits in
       let new = ap length without in
-      let now = length-map ws (stamped_of q.document.table) in
-      let was = length-map q.waiting (stamped_of q.document.table) in
+      let now = length-map ws stamped_of in
+      let was = length-map q.waiting stamped_of in
       omega (arith, one, new, now, was)

@@ -12,7 +12,6 @@ use Rattle.inbox.specs.operation.declared.command.Delivered.{Delivered}
 use Rattle.inbox.specs.operation.declared.command.Delivered.TheVariants as answer
 use Rattle.inbox.specs.operation.Alone.{alone_fault_of_op}
 use Rattle.inbox.specs.operation.Ops.{stamped_of}
-use Rattle.inbox.proofs.operation.PassedAlone.{alone}
 use Rattle.inbox.specs.Inboxes.{waiting_in}
 use Rattle.replica.specs.Replicas.{Running, IsReplica, replica_of}
 
@@ -29,10 +28,10 @@ passed r s none unapplied unknown new =
 -- a replica after an operation that passed all tests was put, or not
 pub after_put : (r : Running) (o : Op) (next : List Op) (result : Result Delivered Refusal) → IsReplica r
     → alone_fault_of_op r.document.table o ≡ None → has_id (operations (replica_of r)) o.id ≡ false
-    → is_waiting (waiting_in r.document.table r.waiting) o.id ≡ false
-    → answer_to_new (replica_of r) (stamped_of r.document.table o) ≡ IsKept
+    → is_waiting (waiting_in r.waiting) o.id ≡ false
+    → answer_to_new (replica_of r) (stamped_of o) ≡ IsKept
     → (result ≡ Ok answer.Kept
-    → waiting_in r.document.table next ≡ put_waiting (stamped_of r.document.table o) (waiting_in r.document.table r.waiting))
+    → waiting_in next ≡ put_waiting (stamped_of o) (waiting_in r.waiting))
     → ((p : Op) → IsAmong p next → (p ≡ o) ⊎ IsAmong p r.waiting)
     → (result ≢ Ok answer.Kept → next ≡ r.waiting)
     → IsReplica (record r { waiting = next })
@@ -46,10 +45,10 @@ after_put r o next result h none unapplied unknown new put among same = by resul
 
     by : (k : Result Delivered Refusal) → result ≡ k → IsReplica (record r { waiting = next })
     by (Ok answer.Kept) e =
-        let s : Stamped = stamped_of table o in
+        let s : Stamped = stamped_of o in
         let is : replica_of (record r { waiting = next }) ≡ deliver (replica_of r) s =
         (λ i. record { own = r.own; members = table; entries = r.document.entries; waiting = put e i; dropped = r.dropped })
-        ∙ sym (passed (replica_of r) s (alone table o none) unapplied unknown new) in
+        ∙ sym (passed (replica_of r) s none unapplied unknown new) in
         record {
           running = subst IsRunning (sym is) (delivered (replica_of r) s h.running);
           member = h.member;

@@ -1,5 +1,5 @@
 -- What leaves the inbox of a replica, and what the replica holds then.
-use Rattle.std.proofs.Common.{◌≡◌, ◌∷◌, inl, inr, ℕ, true, List, [], Some, sym, ap, ◌∙◌, subst, true≢false}
+use Rattle.std.proofs.Common.{◌≡◌, ◌∷◌, inl, inr, true, List, [], Some, sym, ap, ◌∙◌, subst, true≢false}
 use Rattle.ids.specs.Members.{is_member}
 use Rattle.semantics.specs.Ids.{OpId, is_smaller_id}
 use Rattle.semantics.specs.LegalHistory.{IsAmong}
@@ -35,8 +35,8 @@ waits_once (x ∷ W) s t h (inr m) (inr n) e = waits_once W s t h.1 m n e
 
 -- the next one is among what waits
 pub next_among : (r : Running) (s : Stamped) → IsReplica r → next_of (replica_of r) ≡ Some s
-    → IsAmong s (waiting_in r.document.table r.waiting)
-next_among r s h next = (ready_first (operations (replica_of r)) (waiting_in r.document.table r.waiting) h.running.rising s
+    → IsAmong s (waiting_in r.waiting)
+next_among r s h next = (ready_first (operations (replica_of r)) (waiting_in r.waiting) h.running.rising s
     (next_some (replica_of r) s next).1).0
 
 -- what stood alone still does where others left
@@ -54,44 +54,44 @@ module _ (r q : Running) (h : IsReplica r) (is : r ≡ q) (a : OpId) (n : (s : S
   here : IsNextReady r n.0
   here = subst (λ r. IsNextReady r n.0) (sym is) n.2
 
-  among : IsAmong n.0 (waiting_in r.document.table r.waiting)
+  among : IsAmong n.0 (waiting_in r.waiting)
   among = next_among r n.0 h here.next
 
   -- it waits
-  pub next_waits : is_waiting (waiting_in r.document.table r.waiting) a ≡ true
-  next_waits = subst (λ a. is_waiting (waiting_in r.document.table r.waiting) a ≡ true) n.1
-      (waiting_under (waiting_in r.document.table r.waiting) n.0 among)
+  pub next_waits : is_waiting (waiting_in r.waiting) a ≡ true
+  next_waits = subst (λ a. is_waiting (waiting_in r.waiting) a ≡ true) n.1
+      (waiting_under (waiting_in r.waiting) n.0 among)
 
   -- what has its id is that
-  pub has_its_id : (o : Op) → (o.id ≡ a) × IsAmong o r.waiting → stamped_of r.document.table o ≡ n.0
-  has_its_id o got = waits_once (waiting_in r.document.table r.waiting) (stamped_of r.document.table o) n.0 h.running.rising
-      (among_stamped r.document.table r.waiting o got.1) among (got.0 ∙ sym n.1)
+  pub has_its_id : (o : Op) → (o.id ≡ a) × IsAmong o r.waiting → stamped_of o ≡ n.0
+  has_its_id o got = waits_once (waiting_in r.waiting) (stamped_of o) n.0 h.running.rising
+      (among_stamped r.waiting o got.1) among (got.0 ∙ sym n.1)
 
   -- there is room for it
-  pub next_room : (o : Op) → (o.id ≡ a) × IsAmong o r.waiting → HasRoomFor r.document (stamped_of r.document.table o)
+  pub next_room : (o : Op) → (o.id ≡ a) × IsAmong o r.waiting → HasRoomFor r.document (stamped_of o)
   next_room o got = subst (HasRoomFor r.document) (sym (has_its_id o got)) here.room
 
   -- it may follow
   pub next_may_follow : (o : Op) → (o.id ≡ a) × IsAmong o r.waiting
-      → MayFollow (applied r.document.entries) (stamped_of r.document.table o)
+      → MayFollow (applied r.document.entries) (stamped_of o)
   next_may_follow o got = subst (MayFollow (applied r.document.entries)) (sym (has_its_id o got))
       (follows_without_fault (stamped_entries r.document.entries) n.0 (entries_legal r.own r.document.entries h.running.history)
       (h.running.alone n.0 among) here.faultless)
 
   -- where it was taken and appended, one turn was made
   pub appended : (o : Op) → (o.id ≡ a) × IsAmong o r.waiting → (d : Contents) (ws : List Op)
-      → ((table : List ℕ) → waiting_in table ws ≡ without_waiting a (waiting_in table r.waiting))
+      → waiting_in ws ≡ without_waiting a (waiting_in r.waiting)
       → ((o : Op) → IsAmong o ws → IsAmong o r.waiting) → d.table ≡ r.document.table
-      → d.entries ≡ Peer (stamped_of r.document.table o) ∷ r.document.entries → IsTurned q (record r { document = d; waiting = ws })
+      → d.entries ≡ Peer (stamped_of o) ∷ r.document.entries → IsTurned q (record r { document = d; waiting = ws })
   appended o got d ws left kept table entries =
       record { after = turned ∙ ap (λ (r : Running). drain_for 1 (replica_of r)) is; good = good }
     where
       turned : replica_of (record r { document = d; waiting = ws }) ≡ drain_for 1 (replica_of r)
       turned =
-          (λ i. record { own = r.own; members = table i; entries = entries i; waiting = waiting_in (table i) ws; dropped = r.dropped })
+          (λ i. record { own = r.own; members = table i; entries = entries i; waiting = waiting_in ws; dropped = r.dropped })
           ∙ (λ i. record (replica_of r) {
             entries = Peer (has_its_id o got i) ∷ r.document.entries;
-            waiting = (left r.document.table ∙ ap (λ a. without_waiting a (waiting_in r.document.table r.waiting)) (sym n.1)) i;
+            waiting = (left ∙ ap (λ a. without_waiting a (waiting_in r.waiting)) (sym n.1)) i;
           })
           ∙ sym (appending (replica_of r) n.0 here.next here.faultless)
 

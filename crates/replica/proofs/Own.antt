@@ -1,5 +1,5 @@
 -- What a replica makes of a command, as what publishes its entries takes it.
-use Rattle.std.proofs.Common.{◌≡◌, ℕ, Bool, true, false, cond, nat_le, length, List, [], ◌∷◌, Result, Ok, Err, refl, sym, ap, ◌∙◌, subst}
+use Rattle.std.proofs.Common.{◌≡◌, ℕ, Bool, true, false, cond, nat_le, List, [], ◌∷◌, Result, Ok, Err, refl, sym, ap, ◌∙◌, subst}
 use Rattle.ids.specs.declared.refusal.Refusal.{Refusal}
 use Rattle.ids.specs.declared.refusal.Refusal.TheVariants.{HistoryFull}
 use Rattle.semantics.specs.Operations.{Operation}
@@ -31,25 +31,24 @@ own_history p client serial c G s h above made =
 
 -- an entry of a clone of the command can be appended next
 pub made_of : (r : Running) (client serial : ℕ) (c d : ACommand) (o : Op) → d ≡ c
-    → IsMade r.document.entries r.own (command_of c) (stamped_of r.document.table o) → length o.deps ≡ length r.document.table
-    → HasRoomFor r.document (stamped_of r.document.table o) → IsAbove client serial r.document.entries
+    → IsMade r.document.entries r.own (command_of c) (stamped_of o)
+    → HasRoomFor r.document (stamped_of o) → IsAbove client serial r.document.entries
     → IsNextOwn r (entry.Own client serial d o)
-made_of r client serial c d o is made width room above = record {
-  made = subst (λ (x : ACommand). IsMade r.document.entries r.own (command_of x) (stamped_of r.document.table o)) (sym is) made;
-  width = width;
+made_of r client serial c d o is made room above = record {
+  made = subst (λ (x : ACommand). IsMade r.document.entries r.own (command_of x) (stamped_of o)) (sym is) made;
   room = room;
   above = above;
 }
 
 -- what publishes the entries of r holds just those
 module _ (h : Publication) (r : Running) (k : Holds h (replica_of r)) where
-  pub lawful : IsRunning (replica_of r) → (e : AnEntry) → IsNextOwn r e → IsEntryHistory h.own (entry_of h.members e ∷ h.appended)
+  pub lawful : IsRunning (replica_of r) → (e : AnEntry) → IsNextOwn r e → IsEntryHistory h.own (entry_of e ∷ h.appended)
   lawful running (entry.Own client serial c o) n =
       let base = own_history r.own client serial (command_of c) r.document.entries
-      (stamped_of r.document.table o) running.history n.above n.made in
-      subst (λ p. IsEntryHistory p (Own client serial (command_of c) (stamped_of h.members o) ∷ h.appended)) (sym k.own)
-      (subst (λ ps. IsEntryHistory r.own (Own client serial (command_of c) (stamped_of ps o) ∷ h.appended)) (sym k.members)
-      (subst (λ G. IsEntryHistory r.own (Own client serial (command_of c) (stamped_of r.document.table o) ∷ G)) (sym k.appended) base))
+      (stamped_of o) running.history n.above n.made in
+      subst (λ p. IsEntryHistory p (Own client serial (command_of c) (stamped_of o) ∷ h.appended)) (sym k.own)
+      (subst (λ ps. IsEntryHistory r.own (Own client serial (command_of c) (stamped_of o) ∷ h.appended)) (sym k.members)
+      (subst (λ G. IsEntryHistory r.own (Own client serial (command_of c) (stamped_of o) ∷ G)) (sym k.appended) base))
   lawful running (entry.Peer o) n = absurd n
 
   pub room : (e : AnEntry) → IsNextOwn r e → is_full h.appended ≡ false

@@ -1,5 +1,5 @@
 -- What a replica appends of its own.
-use Rattle.std.proofs.Common.{◌≡◌, ℕ, [], ◌∷◌, length, List, Ok, sym, ap, ◌∙◌, subst}
+use Rattle.std.proofs.Common.{◌≡◌, ℕ, [], ◌∷◌, List, Ok, sym, ap, ◌∙◌, subst}
 use Rattle.std.specs.Prelude.{IsTrue}
 use Rattle.ids.specs.Members.{is_member}
 use Rattle.semantics.specs.NamedIds.{NamesAll}
@@ -15,7 +15,7 @@ use Rattle.semantics.proofs.MadeLawful.{made_lawful}
 use Rattle.semantics.proofs.HandledItems.{as_stamped}
 use Rattle.inbox.specs.operation.declared.command.Entry.{Entry as AnEntry}
 use Rattle.inbox.specs.operation.declared.command.Entry.TheVariants as entry
-use Rattle.inbox.specs.operation.Ops.{command_of, entry_of, op_in, stamped_of}
+use Rattle.inbox.specs.operation.Ops.{command_of, entry_of, stamped_of}
 use Rattle.inbox.specs.document.Documents.{Contents, HasRoomFor}
 use Rattle.replica.specs.Replicas.{Running, IsMade, IsNextOwn, IsReplica, replica_of}
 use Rattle.inbox.specs.Inboxes.{waiting_in}
@@ -50,7 +50,7 @@ own_appended r d client serial c s h made above table entries =
       own = r.own;
       members = table i;
       entries = entries i;
-      waiting = waiting_in (table i) r.waiting;
+      waiting = waiting_in r.waiting;
       dropped = r.dropped;
     } in
     record {
@@ -62,29 +62,25 @@ own_appended r d client serial c s h made above table entries =
 
 -- the next own entry of a replica
 module _ (r : Running) where
-  pub own_room : (e : AnEntry) → IsNextOwn r e → HasRoomFor r.document (stamped_in (entry_of r.document.table e))
+  pub own_room : (e : AnEntry) → IsNextOwn r e → HasRoomFor r.document (stamped_in (entry_of e))
   own_room (entry.Own client serial c o) n = n.room
   own_room (entry.Peer o) n = absurd n
 
-  pub own_width : (e : AnEntry) → IsNextOwn r e → length (op_in e).deps ≡ length r.document.table
-  own_width (entry.Own client serial c o) n = n.width
-  own_width (entry.Peer o) n = absurd n
-
   pub own_follows : IsReplica r → (e : AnEntry) → IsNextOwn r e
-      → MayFollow (applied r.document.entries) (stamped_in (entry_of r.document.table e))
+      → MayFollow (applied r.document.entries) (stamped_in (entry_of e))
   own_follows h (entry.Own client serial c o) n =
-      may_append r.own client serial (command_of c) r.document.entries (stamped_of r.document.table o) h.running.history n.above n.made
+      may_append r.own client serial (command_of c) r.document.entries (stamped_of o) h.running.history n.above n.made
   own_follows h (entry.Peer o) n = absurd n
 
   pub own_member : IsReplica r → (e : AnEntry) → IsNextOwn r e
-      → IsTrue (is_member r.document.table (stamped_in (entry_of r.document.table e)).id.replica)
+      → IsTrue (is_member r.document.table (stamped_in (entry_of e)).id.replica)
   own_member h (entry.Own client serial c o) n = subst (λ q. IsTrue (is_member r.document.table q))
-      (sym (made_by r.own client serial (command_of c) r.document.entries (stamped_of r.document.table o) h.running.history n.above n.made))
+      (sym (made_by r.own client serial (command_of c) r.document.entries (stamped_of o) h.running.history n.above n.made))
       h.member
   own_member h (entry.Peer o) n = absurd n
 
   pub own_next : IsReplica r → (e : AnEntry) → IsNextOwn r e → (d : Contents) → d.table ≡ r.document.table
-      → d.entries ≡ entry_of r.document.table e ∷ r.document.entries → IsReplica (record r { document = d })
+      → d.entries ≡ entry_of e ∷ r.document.entries → IsReplica (record r { document = d })
   own_next h (entry.Own client serial c o) n d table entries =
-      own_appended r d client serial (command_of c) (stamped_of r.document.table o) h n.made n.above table entries
+      own_appended r d client serial (command_of c) (stamped_of o) h n.made n.above table entries
   own_next h (entry.Peer o) n d table entries = absurd n

@@ -1,5 +1,5 @@
 -- A replica as contracts see it, and when it can append.
-use Rattle.std.specs.Prelude.{◌≡◌, ◌≤◌, ℕ, cond, length, IsTrue, List, Ok, Option, Some, None}
+use Rattle.std.specs.Prelude.{◌≡◌, ◌≤◌, ℕ, cond, IsTrue, List, Ok, Option, Some, None}
 use Rattle.ids.specs.Members.{is_member}
 use Rattle.semantics.specs.Operations.{Operation}
 use Rattle.semantics.specs.Stamped.{Stamped}
@@ -7,14 +7,12 @@ use Rattle.semantics.specs.Faults.{fault_of}
 use Rattle.semantics.specs.Making.{Command as TheCommand, is_full, make}
 use Rattle.semantics.specs.Entries.{Entry as TheEntry, IsAbove, applied, stamped_entries}
 use Rattle.semantics.specs.Replica.{Replica as TheReplica, IsRunning, operations}
-use Rattle.semantics.specs.Delivery.{Delivered, answer_after}
 use Rattle.semantics.specs.Drain.{first_ready}
 use Rattle.semantics.specs.WriteSteps.{stamp}
 use Rattle.inbox.specs.operation.declared.op.Op.{Op}
 use Rattle.inbox.specs.operation.declared.command.Command.{Command}
 use Rattle.inbox.specs.operation.declared.command.Entry.{Entry}
 use Rattle.inbox.specs.operation.declared.command.Entry.TheVariants.{Own, Peer}
-use Rattle.inbox.specs.operation.Alone.{alone_fault_of_op}
 use Rattle.inbox.specs.document.Documents.{HasRoomFor, Contents}
 use Rattle.inbox.specs.operation.Ops.{command_of, stamped_of}
 use Rattle.inbox.specs.Inboxes.{StandAlone, waiting_in}
@@ -32,7 +30,7 @@ replica_of r = record {
   own = r.own;
   members = r.document.table;
   entries = r.document.entries;
-  waiting = waiting_in r.document.table r.waiting;
+  waiting = waiting_in r.waiting;
   dropped = r.dropped;
 }
 
@@ -50,9 +48,8 @@ IsMade G p command s = (o : Operation) × (make (applied G) p command ≡ Ok o) 
 
 -- this command of an own client and its operation can be appended next, with no memory taken
 pub record IsNextMade (r : Running) (client serial : ℕ) (c : Command) (o : Op) : Type 0 where
-  pub made : IsMade r.document.entries r.own (command_of c) (stamped_of r.document.table o)
-  pub width : length o.deps ≡ length r.document.table
-  pub room : HasRoomFor r.document (stamped_of r.document.table o)
+  pub made : IsMade r.document.entries r.own (command_of c) (stamped_of o)
+  pub room : HasRoomFor r.document (stamped_of o)
   pub above : IsAbove client serial r.document.entries
 
 -- the entry is such a one
@@ -69,10 +66,6 @@ pub record IsNextReady (r : Running) (s : Stamped) : Type 0 where
   pub next : next_of (replica_of r) ≡ Some s
   pub faultless : fault_of (stamped_entries r.document.entries) s ≡ None
   pub room : HasRoomFor r.document s
-
--- the answer to an operation in the replica; one whose vector has another width than the table names unknown replicas
-abbrev pub answer_to_op : TheReplica → Op → Delivered
-answer_to_op r o = answer_after r (stamped_of r.members o) (alone_fault_of_op r.members o)
 
 -- the replica of these parts
 abbrev pub replica_with : ℕ → Contents → List Op → TheReplica

@@ -13,7 +13,7 @@ ghost use Rattle.inbox.specs.document.Documents.{HasRoomFor};
 ghost use Rattle.replica.specs.Replicas.{IsMade, replica_of};
 ghost use Rattle.semantics.specs.Handling.{Handles, Resumes};
 ghost use Rattle.semantics.specs.Publication.{Holds};
-ghost use Rattle.inbox.specs.operation.Submissions.{reply_of, received_of, submitted_of};
+ghost use Rattle.inbox.specs.operation.Submissions.{reply_of, submitted_of};
 ghost use Rattle.replica.specs.Handlers.{outcome_of, handler_of};
 
 use crate::replica::Replica;
@@ -66,7 +66,7 @@ impl Handler {
         requires holds { Holds (P.publication publisher.old) (replica_of self.old.replica) }
         requires running { IsRunning (replica_of self.old.replica) }
         requires above { IsAbove submission.now.client submission.now.serial self.old.replica.document.entries }
-        ensures handled { Handles (handler_of self.old) (submitted_of self.old.replica.document.table submission.now) (reply_of result)
+        ensures handled { Handles (handler_of self.old) (submitted_of submission.now) (reply_of result)
             (handler_of self.new) }
         ensures holds { Holds (P.publication publisher.new) (replica_of self.new.replica) }
         ensures published { (P.publication publisher.new).published ≡ (P.publication publisher.old).published }
@@ -122,7 +122,7 @@ impl Handler {
     /// Delivers a peer's operation, and drains the inbox.
     fn receive<P: Publish>(&mut self, alloc: Global, publisher: &mut P, op: &Shared<Op>) -> Reply
         requires holds { Holds (P.publication publisher.old) (replica_of self.old.replica) }
-        ensures handled { (x : Submitted) → x.request ≡ OfPeer (received_of self.old.replica.document.table op.now)
+        ensures handled { (x : Submitted) → x.request ≡ OfPeer (stamped_of op.now)
             → x.floor ≤ length self.old.replica.document.entries →
             Handles (handler_of self.old) x (reply_of result) (handler_of self.new) }
         ensures holds { Holds (P.publication publisher.new) (replica_of self.new.replica) }
@@ -142,7 +142,7 @@ impl Handler {
 /// # Errors
 /// The refusal that the rules have, or `NoMemory` if allocation fails; then nothing has changed.
 fn deliver(replica: &mut Replica, op: &Shared<Op>) -> Result<Delivered, Refusal>
-    ensures delivered { let s = received_of replica.old.document.table op.now in
+    ensures delivered { let s = stamped_of op.now in
         result ≢ Err NoMemory
         → (answer_to (replica_of replica.old) s ≡ outcome_of result) × (replica_of replica.new ≡ deliver (replica_of replica.old) s) }
     ensures same { result ≡ Err NoMemory → replica_of replica.new ≡ replica_of replica.old }
@@ -177,12 +177,11 @@ fn append_own<P: Publish>(
     requires running { IsRunning (replica_of replica.old) }
     requires above { IsAbove client serial replica.old.document.entries }
     requires made { IsMade replica.old.document.entries replica.old.own (command_of command.now)
-        (stamped_of replica.old.document.table op) }
-    requires width { length op.deps ≡ length replica.old.document.table }
+        (stamped_of op) }
     requires member { IsTrue (is_member replica.old.document.table op.id.replica) }
-    requires room { HasRoomFor replica.old.document (stamped_of replica.old.document.table op) }
+    requires room { HasRoomFor replica.old.document (stamped_of op) }
     ensures replica { OnOk result (replica_of replica.new
-        ≡ commit_own (replica_of replica.old) client serial (command_of command.now) (stamped_of replica.old.document.table op)) }
+        ≡ commit_own (replica_of replica.old) client serial (command_of command.now) (stamped_of op)) }
     ensures same { OnErr result (replica_of replica.new ≡ replica_of replica.old) }
     ensures holds { Holds (P.publication publisher.new) (replica_of replica.new) }
     ensures published { (P.publication publisher.new).published ≡ (P.publication publisher.old).published }

@@ -11,6 +11,7 @@ pub use replica::Replica;
 
 // Handed on from the crates below, for users of this one.
 pub use inbox::{
-    Command, Delivered, Document, Entry, Expr, ExprStep, Key, Op, Publish, Question, Reading,
-    Reply, Request, Scalar, Shared, Submission, Tag, Text, Val, VersionVector, names_members,
+    AppliedVector, Command, Delivered, Document, Entry, Expr, ExprStep, Key, NamedVector, Op,
+    Publish, Question, Reading, Reply, Request, Scalar, Shared, Submission, Tag, Text, Val,
+    VersionVector, names_members, names_only,
 };

@@ -1,6 +1,6 @@
 //! The operation that a replica makes of a command.
 
-ghost use Rattle.std.specs.Prelude.{◌≡◌, ◌⊎◌, length, IfOk, IfErr, MatchResult, Ok, Err};
+ghost use Rattle.std.specs.Prelude.{◌≡◌, ◌⊎◌, IfOk, IfErr, MatchResult, Ok, Err};
 ghost use Rattle.ids.specs.declared.refusal.Refusal.TheVariants.{NoMemory};
 ghost use Rattle.semantics.specs.Operations.{misplaced};
 ghost use Rattle.semantics.specs.Entries.{applied};
@@ -8,7 +8,7 @@ ghost use Rattle.semantics.specs.Making.{is_full, make, place_unless};
 ghost use Rattle.inbox.specs.operation.Ops.{command_of, stamped_of};
 ghost use Rattle.replica.specs.Replicas.{IsMade};
 
-use ids::{OpId, Refusal, ReplicaId};
+use ids::{NamedVector, OpId, Refusal, ReplicaId};
 use inbox::{Command, Document, Misplaced, Op, Place};
 use std::alloc::Global;
 
@@ -33,8 +33,7 @@ pub fn make(
     document: &Document,
     command: &Command,
 ) -> Result<Op, Refusal>
-    ensures made { IfOk result (λ op. IsMade document.now.entries own (command_of command.now) (stamped_of document.now.table op)) }
-    ensures width { IfOk result (λ op. length op.deps ≡ length document.now.table) }
+    ensures made { IfOk result (λ op. IsMade document.now.entries own (command_of command.now) (stamped_of op)) }
     ensures err { IfErr result (λ why. (why ≡ NoMemory) ⊎ (make (applied document.now.entries) own (command_of command.now) ≡ Err why)) }
 {
     if is_full(document) {
@@ -44,7 +43,7 @@ pub fn make(
     check_place(command, &place)?;
     let applied = document.applied();
     let counter = applied.greatest() + 1;
-    let deps = applied.clone()?;
+    let deps = NamedVector::of(alloc, applied.ids())?;
     let mutation = command.mutation()?;
     Ok(Op {
         id: OpId {

@@ -1,16 +1,15 @@
 //! A replica: its own operations, those of peers, and what can be asked of it.
 
-ghost use Rattle.std.specs.Prelude.{◌≡◌, ◌⊎◌, ◌↔◌, ◌&&◌, ◌∷◌, ℕ, [], true, false, Ok, Err, Some, None, IsTrue, IsFalse, length, option_map};
+ghost use Rattle.std.specs.Prelude.{◌≡◌, ◌⊎◌, ◌↔◌, ◌&&◌, ◌∷◌, ℕ, [], Ok, Err, Some, None, IsTrue, IsFalse, length, option_map};
 ghost use Rattle.std.specs.Prelude.{IfOk, IfErr, IfSome, MatchResult, OnErr, OnOk};
 ghost use Rattle.ids.specs.declared.refusal.Refusal.TheVariants.{NoMemory, BadConfig};
 ghost use Rattle.ids.specs.Members.{in_order, is_member};
 ghost use Rattle.ids.specs.Configurations.{are_members};
 ghost use Rattle.semantics.specs.Stamped.{Stamped};
-ghost use Rattle.semantics.specs.Entries.{IsAbove, applied, stamped_entries};
-ghost use Rattle.semantics.specs.Faults.{fault_of};
+ghost use Rattle.semantics.specs.Entries.{IsAbove, applied};
 ghost use Rattle.semantics.specs.Making.{make};
 ghost use Rattle.semantics.specs.Replica.{IsRunning, commit_own};
-ghost use Rattle.semantics.specs.Delivery.{Kept as ToBeKept, NotKept, deliver};
+ghost use Rattle.semantics.specs.Delivery.{Kept as ToBeKept, NotKept, answer_to, deliver};
 ghost use Rattle.semantics.specs.Drain.{counted, IsDrained, drain, drain_for};
 ghost use Rattle.semantics.specs.Publication.{Holds};
 ghost use Rattle.inbox.specs.operation.Alone.{alone_fault_of_op};
@@ -51,7 +50,7 @@ impl Model for Replica {
 }
 
 impl Replica {
-    ghost use Rattle.replica.specs.Replicas.{IsMade, IsNextOwn, IsNextReady, answer_to_op, next_of, replica_of};
+    ghost use Rattle.replica.specs.Replicas.{IsMade, IsNextOwn, IsNextReady, next_of, replica_of};
 
     /// A replica with this number among these members, and with an empty history.
     ///
@@ -104,10 +103,9 @@ impl Replica {
     pub fn make(&mut self, alloc: Global, command: &Command) -> Result<Shared<Op>, Refusal>
         ensures same { replica_of self.new ≡ replica_of self.old }
         ensures made { IfOk result
-            (λ op. IsMade self.old.document.entries self.old.own (command_of command.now) (stamped_of self.old.document.table op)) }
-        ensures width { IfOk result (λ op. length op.deps ≡ length self.old.document.table) }
+            (λ op. IsMade self.old.document.entries self.old.own (command_of command.now) (stamped_of op)) }
         ensures member { IfOk result (λ op. IsTrue (is_member self.old.document.table op.id.replica)) }
-        ensures room { IfOk result (λ op. HasRoomFor self.new.document (stamped_of self.new.document.table op)) }
+        ensures room { IfOk result (λ op. HasRoomFor self.new.document (stamped_of op)) }
         ensures err { IfErr result
             (λ why. (why ≡ NoMemory) ⊎ (make (applied self.old.document.entries) self.old.own (command_of command.now) ≡ Err why)) }
     {
@@ -125,12 +123,11 @@ impl Replica {
         command: Shared<Command>,
         op: Shared<Op>,
     )
-        requires made { IsMade self.old.document.entries self.old.own (command_of command) (stamped_of self.old.document.table op) }
-        requires width { length op.deps ≡ length self.old.document.table }
-        requires room { HasRoomFor self.old.document (stamped_of self.old.document.table op) }
+        requires made { IsMade self.old.document.entries self.old.own (command_of command) (stamped_of op) }
+        requires room { HasRoomFor self.old.document (stamped_of op) }
         requires above { IsAbove client serial self.old.document.entries }
         ensures { replica_of self.new
-            ≡ commit_own (replica_of self.old) client serial (command_of command) (stamped_of self.old.document.table op) }
+            ≡ commit_own (replica_of self.old) client serial (command_of command) (stamped_of op) }
     {
         self.commit_made(Entry::Own {
             client,
@@ -144,7 +141,7 @@ impl Replica {
     pub(crate) fn commit_made(&mut self, entry: Entry)
         requires { IsNextOwn self.old entry }
         ensures { replica_of self.new
-            ≡ record (replica_of self.old) { entries = entry_of self.old.document.table entry ∷ self.old.document.entries } }
+            ≡ record (replica_of self.old) { entries = entry_of entry ∷ self.old.document.entries } }
     {
         self.document.commit(entry);
     }
@@ -161,10 +158,10 @@ impl Replica {
     /// `NoMemory` if allocation fails.
     pub fn deliver(&mut self, op: Shared<Op>) -> Result<Delivered, Refusal>
         ensures answer { MatchResult result
-            (λ d. answer_to_op (replica_of self.old) op ≡ delivered_of d)
-            (λ why. ((why ≡ NoMemory) × (answer_to_op (replica_of self.old) op ≡ ToBeKept))
-            ⊎ (answer_to_op (replica_of self.old) op ≡ NotKept why)) }
-        ensures delivered { OnOk result (replica_of self.new ≡ deliver (replica_of self.old) (stamped_of self.old.document.table op)) }
+            (λ d. answer_to (replica_of self.old) (stamped_of op) ≡ delivered_of d)
+            (λ why. ((why ≡ NoMemory) × (answer_to (replica_of self.old) (stamped_of op) ≡ ToBeKept))
+            ⊎ (answer_to (replica_of self.old) (stamped_of op) ≡ NotKept why)) }
+        ensures delivered { OnOk result (replica_of self.new ≡ deliver (replica_of self.old) (stamped_of op)) }
         ensures same { OnErr result (replica_of self.new ≡ replica_of self.old) }
     {
         check_alone(&op, self.document.table())?;
@@ -184,9 +181,9 @@ impl Replica {
     pub fn next_ready(&mut self, alloc: Global) -> Result<Option<Shared<Op>>, AllocError>
         ensures dropped { (n : ℕ) × (replica_of self.new ≡ counted (drain_for n (replica_of self.old)))
             × (self.new.document.entries ≡ self.old.document.entries) }
-        ensures next { IfOk result (λ o. option_map (stamped_of self.new.document.table) o ≡ next_of (replica_of self.new)) }
+        ensures next { IfOk result (λ o. option_map stamped_of o ≡ next_of (replica_of self.new)) }
         ensures alone { IfOk result (λ o. IfSome o (λ op. alone_fault_of_op self.new.document.table op ≡ None)) }
-        ensures ready { IfOk result (λ o. IfSome o (λ op. IsNextReady self.new (stamped_of self.new.document.table op))) }
+        ensures ready { IfOk result (λ o. IfSome o (λ op. IsNextReady self.new (stamped_of op))) }
     {
         let Some(id) = self.prepare(alloc)? else {
             return Ok(None);
@@ -262,7 +259,7 @@ impl Replica {
 
     /// The entries of the history, the oldest first. Allocates nothing. What waits is dropped.
     pub fn into_entries(self) -> Vec<Entry>
-        ensures { history self.document.table result.items ≡ self.document.entries }
+        ensures { history result.items ≡ self.document.entries }
     {
         self.document.into_entries()
     }

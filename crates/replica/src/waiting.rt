@@ -1,6 +1,6 @@
 //! The tests of an operation that is to wait, and of the next one that leaves the inbox.
 
-ghost use Rattle.std.specs.Prelude.{◌≡◌, Some, None, length, IfOk, MatchResult};
+ghost use Rattle.std.specs.Prelude.{◌≡◌, Some, None, IfOk, MatchResult};
 ghost use Rattle.semantics.specs.Entries.{stamped_entries};
 ghost use Rattle.semantics.specs.Faults.{fault_of};
 ghost use Rattle.semantics.specs.Delivery.{Kept as IsKept, NotKept, answer_to_new};
@@ -21,8 +21,7 @@ pub fn check_wanted(
     inbox: &Inbox,
     op: &Op,
 ) -> Result<(), Refusal>
-    requires { length op.now.deps ≡ length document.now.table }
-    ensures { let answer = answer_to_new (replica_with own document.now inbox.now) (stamped_of document.now.table op.now) in
+    ensures { let answer = answer_to_new (replica_with own document.now inbox.now) (stamped_of op.now) in
         MatchResult result (λ _. answer ≡ IsKept) (λ why. answer ≡ NotKept why) }
 {
     if op.id.replica == own {
@@ -43,8 +42,7 @@ pub fn check_wanted(
 
 /// The one test of a ready operation, when it is delivered and when it leaves.
 fn check_ready(document: &Document, op: &Op) -> Result<(), Refusal>
-    requires { length op.now.deps ≡ length document.now.table }
-    ensures { let fault = fault_of (stamped_entries document.now.entries) (stamped_of document.now.table op.now) in
+    ensures { let fault = fault_of (stamped_entries document.now.entries) (stamped_of op.now) in
         MatchResult result (λ _. fault ≡ None) (λ why. fault ≡ Some why) }
 {
     document.check(op)

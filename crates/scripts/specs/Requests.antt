@@ -1,5 +1,5 @@
 -- What a COMMAND and a QUESTION of a script are.
-use Rattle.std.specs.Prelude.{ℕ, List, [], codes, Option, Some, None, Result, Ok, Err, if◌then◌else◌}
+use Rattle.std.specs.Prelude.{ℕ, List, codes, Option, Some, None, Result, Ok, Err, if◌then◌else◌}
 use Rattle.std.specs.Str.{bytes_eq}
 use Rattle.ids.specs.declared.refusal.Refusal.{Refusal}
 use Rattle.ids.specs.declared.refusal.Refusal.TheVariants.{BadLine}
@@ -39,11 +39,6 @@ abbrev pub command_form : Data → Result Command Refusal
 command_form d = and_then command_of (phrase_form d)
 
 -- ---- questions
-
--- the table, which is empty where there is none
-abbrev pub table_in : Option (List ℕ) → List ℕ
-table_in None = []
-table_in (Some table) = table
 
 -- an expression for what is asked about
 abbrev pub asking_of : (List Step → Question) → Items → Result Asked Refusal

@@ -1,8 +1,8 @@
 //! A script's steps whose parts are numbers alone.
 
-ghost use Rattle.std.specs.Prelude.{List, ℕ, IfOk};
+ghost use Rattle.std.specs.Prelude.{List, ℕ};
 ghost use Rattle.serde_json.specs.View.{items_view};
-ghost use Rattle.world.specs.Worlds.{StepHasWidthIn, step_in as step_meant};
+ghost use Rattle.world.specs.Worlds.{step_in as step_meant};
 ghost use Rattle.world.specs.wire.Forms.{IsRead};
 ghost use Rattle.scripts.specs.NumberedSteps.{engine_step_of, message_step_of, numbered_step_of};
 
@@ -13,8 +13,7 @@ use world::{WorldAct, WorldStep};
 
 /// The step of this word with these parts.
 pub fn numbered_step_in(word: &str, parts: &[Value]) -> Result<WorldStep, Refusal>
-    ensures read { (tables : List (List ℕ)) → IsRead (step_meant tables) result (numbered_step_of (word.now, items_view parts.now)) }
-    ensures width { (tables : List (List ℕ)) → IfOk result (StepHasWidthIn tables) }
+    ensures { (tables : List (List ℕ)) → IsRead (step_meant tables) result (numbered_step_of (word.now, items_view parts.now)) }
 {
     match word {
         "poll" => {
@@ -41,8 +40,7 @@ pub fn numbered_step_in(word: &str, parts: &[Value]) -> Result<WorldStep, Refusa
 
 /// A step that names a message.
 fn message_step_in(word: &str, parts: &[Value]) -> Result<WorldStep, Refusal>
-    ensures read { (tables : List (List ℕ)) → IsRead (step_meant tables) result (message_step_of (word.now, items_view parts.now)) }
-    ensures width { (tables : List (List ℕ)) → IfOk result (StepHasWidthIn tables) }
+    ensures { (tables : List (List ℕ)) → IsRead (step_meant tables) result (message_step_of (word.now, items_view parts.now)) }
 {
     match word {
         "hello" => {
@@ -74,8 +72,7 @@ fn message_step_in(word: &str, parts: &[Value]) -> Result<WorldStep, Refusal>
 
 /// A step that names an engine alone.
 fn engine_step_in(word: &str, parts: &[Value]) -> Result<WorldStep, Refusal>
-    ensures read { (tables : List (List ℕ)) → IsRead (step_meant tables) result (engine_step_of (word.now, items_view parts.now)) }
-    ensures width { (tables : List (List ℕ)) → IfOk result (StepHasWidthIn tables) }
+    ensures { (tables : List (List ℕ)) → IsRead (step_meant tables) result (engine_step_of (word.now, items_view parts.now)) }
 {
     match word {
         "take" => Ok(WorldStep {

@@ -12,31 +12,26 @@ ghost use Rattle.world.specs.wire.Vectors.{count};
 ghost use Rattle.world.specs.wire.Writing.{IsWritten, tokens_of};
 ghost use Rattle.scripts.specs.Replies.{conflict_json, reading_json, row_json, tag_name};
 
-use ids::{OpId, ReplicaTable};
+use ids::OpId;
 use json::Writer;
 use std::alloc::AllocError;
 use world::{Key, Op, Reading, Scalar, Shared, Tag, put_id, put_op, put_scalar, put_vector};
 
 /// Writes the reply to a question of a token that has seen this many entries.
-pub fn put_reading(
-    out: &mut Writer,
-    seen: u64,
-    table: &ReplicaTable,
-    reading: &Reading,
-) -> Result<(), AllocError>
-    ensures { OnOk result (IsWritten (tokens_of (reading_json seen (said_by table.now reading.now))) out.old out.new) }
+pub fn put_reading(out: &mut Writer, seen: u64, reading: &Reading) -> Result<(), AllocError>
+    ensures { OnOk result (IsWritten (tokens_of (reading_json seen (said_by reading.now))) out.old out.new) }
 {
     out.begin_array()?;
     out.string("reading")?;
     out.u64(seen)?;
-    put_answer(out, table, reading)?;
+    put_answer(out, reading)?;
     out.end_array()
 }
 
 /// Writes what stands in the reply behind the number of entries.
-fn put_answer(out: &mut Writer, table: &ReplicaTable, reading: &Reading) -> Result<(), AllocError>
+fn put_answer(out: &mut Writer, reading: &Reading) -> Result<(), AllocError>
     ensures { OnOk result ((answer : Data)
-        × ((seen : ℕ) → reading_json seen (said_by table.now reading.now) ≡ phrase (codes "reading") (count seen ∷ answer ∷ []))
+        × ((seen : ℕ) → reading_json seen (said_by reading.now) ≡ phrase (codes "reading") (count seen ∷ answer ∷ []))
         × IsWritten (tokens_of answer) out.old out.new) }
 {
     match reading {
@@ -44,8 +39,8 @@ fn put_answer(out: &mut Writer, table: &ReplicaTable, reading: &Reading) -> Resu
         Reading::Keys(keys) => put_keys(out, keys),
         Reading::Items(items) => put_items(out, items),
         Reading::Conflicts(pairs) => put_conflicts(out, pairs),
-        Reading::Missing(ops) => put_ops(out, table, ops),
-        Reading::Vector(vector) => put_vector(out, table, vector),
+        Reading::Missing(ops) => put_ops(out, ops),
+        Reading::Vector(vector) => put_vector(out, vector.ids()),
     }
 }
 
@@ -122,13 +117,13 @@ fn name_of(tag: Tag) -> &'static str
 }
 
 /// Writes the operations in their order.
-fn put_ops(out: &mut Writer, table: &ReplicaTable, ops: &[Shared<Op>]) -> Result<(), AllocError>
+fn put_ops(out: &mut Writer, ops: &[Shared<Op>]) -> Result<(), AllocError>
     ensures { OnOk result
-        (IsWritten (tokens_of (array (items_of (map (λ o. operation_json (stamped_of table.now o)) ops.now)))) out.old out.new) }
+        (IsWritten (tokens_of (array (items_of (map (λ o. operation_json (stamped_of o)) ops.now)))) out.old out.new) }
 {
     out.begin_array()?;
     for op in ops {
-        put_op(out, op, table)?;
+        put_op(out, op)?;
     }
     out.end_array()
 }

@@ -1,9 +1,8 @@
 //! The replies to steps, as lines of JSON.
 
-ghost use Rattle.std.specs.Prelude.{◌≡◌, ◌∷◌, ◌++◌, [], Some, map, IfOk, OnOk, IsUtf8, codes, string_bytes};
+ghost use Rattle.std.specs.Prelude.{◌≡◌, ◌∷◌, ◌++◌, [], Some, map, IfOk, OnOk, IsUtf8, string_bytes};
 ghost use Rattle.semantics.specs.Engine.{SentHello, Denied};
 ghost use Rattle.semantics.specs.LegalAnswer.{Made, RefusedAt};
-ghost use Rattle.semantics.specs.Tables.{by_table};
 ghost use Rattle.serde_json.specs.Data.{string};
 ghost use Rattle.serde_json.specs.Written.{compact_text};
 ghost use Rattle.world.specs.operation.Submissions.{reply_of};
@@ -14,10 +13,10 @@ ghost use Rattle.world.specs.wire.Writing.{IsWritten, tokens_of};
 ghost use Rattle.scripts.specs.Replies.{received_json, refusal_name, reply_json, reply_text, step_reply_json};
 
 use crate::readings::put_reading;
-use ids::{OpId, Refusal, ReplicaTable};
+use ids::{OpId, Refusal};
 use json::Writer;
 use std::alloc::{AllocError, Global};
-use world::{LINE_END, Reply, VersionVector, WorldReply, put_id, put_vector};
+use world::{LINE_END, NamedVector, Reply, WorldReply, put_id, put_vector};
 
 /// The replies, one a line.
 pub fn reply_lines(alloc: Global, replies: &[WorldReply]) -> Result<String, AllocError>
@@ -56,18 +55,10 @@ fn put_reply(alloc: Global, out: &mut Writer, reply: &WorldReply) -> Result<(), 
         WorldReply::Idle => put_word(out, "idle"),
         WorldReply::Unanswered => put_word(out, "none"),
         WorldReply::Replied(reply) => put_request_reply(alloc, out, *reply),
-        WorldReply::Read {
-            seen,
-            table,
-            reading,
-        } => put_reading(out, *seen, table, reading),
+        WorldReply::Read { seen, reading } => put_reading(out, *seen, reading),
         WorldReply::NotRead { seen, why } => put_refused(alloc, out, *why, *seen),
         WorldReply::Seen(entries) => put_one(out, "seen", *entries),
-        WorldReply::Hello {
-            message,
-            table,
-            vector,
-        } => put_hello(out, *message, table, vector),
+        WorldReply::Hello { message, vector } => put_hello(out, *message, vector),
         WorldReply::Bundle {
             message,
             operations,
@@ -157,19 +148,13 @@ fn put_refused(alloc: Global, out: &mut Writer, why: Refusal, length: u64) -> Re
 }
 
 /// Writes the number of a message that a vector is sent by, and the vector.
-fn put_hello(
-    out: &mut Writer,
-    message: u64,
-    table: &ReplicaTable,
-    vector: &VersionVector,
-) -> Result<(), AllocError>
-    ensures { OnOk result
-        (IsWritten (tokens_of (step_reply_json (SentHello message (by_table table.now vector.now)))) out.old out.new) }
+fn put_hello(out: &mut Writer, message: u64, vector: &NamedVector) -> Result<(), AllocError>
+    ensures { OnOk result (IsWritten (tokens_of (step_reply_json (SentHello message vector.now))) out.old out.new) }
 {
     out.begin_array()?;
     out.string("message")?;
     out.u64(message)?;
-    put_vector(out, table, vector)?;
+    put_vector(out, vector.ids())?;
     out.end_array()
 }
 

@@ -1,7 +1,7 @@
 //! Commands and questions in a script.
 #![tactic(auto, using(crate::proofs::WrongLengths::request_lengths))]
 
-ghost use Rattle.std.specs.Prelude.{◌≡◌, ℕ, List, Option, Ok, IfOk, length, option_map};
+ghost use Rattle.std.specs.Prelude.{◌≡◌, ℕ, List, Option, Ok, option_map};
 ghost use Rattle.serde_json.specs.View.{view, items_view};
 ghost use Rattle.semantics.specs.Elements.{Value as TheValue};
 ghost use Rattle.semantics.specs.Operations.{Mutation as TheMutation};
@@ -9,13 +9,12 @@ ghost use Rattle.semantics.specs.Questions.{AppliedVector, Step, Question as The
 ghost use Rattle.semantics.specs.LegalAnswer.{Asked, OfDocument};
 ghost use Rattle.semantics.specs.Making.{Command as TheCommand};
 ghost use Rattle.semantics.specs.World.{Push, Ask, step_by};
-ghost use Rattle.semantics.specs.Tables.{by_table};
 ghost use Rattle.world.specs.value.Values.{value_of};
 ghost use Rattle.world.specs.operation.Ops.{command_of};
-ghost use Rattle.world.specs.document.Documents.{HasWidthOf, asked_of};
+ghost use Rattle.world.specs.document.Documents.{asked_of};
 ghost use Rattle.world.specs.wire.Forms.{IsRead, and_then, json_form};
 ghost use Rattle.scripts.specs.Requests.{applied_of, asking_of, command_form, delete_of, missing_of, question_form, script_vector};
-ghost use Rattle.scripts.specs.Requests.{table_in, writing_of};
+ghost use Rattle.scripts.specs.Requests.{writing_of};
 ghost use Rattle.scripts.specs.Steps.{step_form};
 ghost use Rattle.scripts.specs.Written.{ask_json, command_json, push_json, question_json};
 
@@ -23,7 +22,7 @@ use crate::expressions::expression_in;
 use ids::{Refusal, ReplicaTable};
 use serde_json::Value;
 use std::alloc::Global;
-use world::{Command, Expr, Question, Val, VersionVector, phrase_in, vector_in};
+use world::{Command, Expr, NamedVector, Question, Val, phrase_in, vector_in};
 
 pub fn command_in(alloc: Global, value: &Value) -> Result<Command, Refusal>
     ensures { IsRead command_of result (command_form (view value.now)) }
@@ -70,9 +69,7 @@ pub fn question_in(
     table: Option<&ReplicaTable>,
     value: &Value,
 ) -> Result<Question, Refusal>
-    ensures read { IsRead (asked_of (table_in (option_map (λ t. t.now) table.entry))) result (question_form (option_map
-        (λ t. t.now) table.entry) (view value.now)) }
-    ensures width { IfOk result (HasWidthOf (table_in (option_map (λ t. t.now) table.entry))) }
+    ensures { IsRead asked_of result (question_form (option_map (λ t. t.now) table.entry) (view value.now)) }
 {
     let (word, parts) = phrase_in(value)?;
     match word {
@@ -104,9 +101,7 @@ fn missing_in(
     table: Option<&ReplicaTable>,
     parts: &[Value],
 ) -> Result<Question, Refusal>
-    ensures read { IsRead (asked_of (table_in (option_map (λ t. t.now) table.entry))) result (missing_of (option_map
-        (λ t. t.now) table.entry) (items_view parts.now)) }
-    ensures width { IfOk result (HasWidthOf (table_in (option_map (λ t. t.now) table.entry))) }
+    ensures { IsRead asked_of result (missing_of (option_map (λ t. t.now) table.entry) (items_view parts.now)) }
 {
     let Some(table) = table else {
         return Err(Refusal::BadLine);
@@ -122,9 +117,8 @@ fn script_vector_in(
     alloc: Global,
     table: &ReplicaTable,
     value: &Value,
-) -> Result<VersionVector, Refusal>
-    ensures read { IsRead (by_table table.now) result (script_vector table.now (view value.now)) }
-    ensures width { IfOk result (λ v. length v ≡ length table.now) }
+) -> Result<NamedVector, Refusal>
+    ensures { IsRead (λ v. v) result (script_vector table.now (view value.now)) }
 {
     match vector_in(alloc, table, value) {
         Ok(vector) => Ok(vector),

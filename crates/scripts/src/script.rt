@@ -1,10 +1,10 @@
 //! A whole script: a world and the steps to run in it.
 
 ghost use Rattle.std.specs.Prelude.{◌≡◌, List, map, Ok, IfErr, IfOk, MatchResult, true};
-ghost use Rattle.std.specs.List.{All, list_all};
+ghost use Rattle.std.specs.List.{list_all};
 ghost use Rattle.ids.specs.Configurations.{Configuration, is_within_limits};
 ghost use Rattle.semantics.specs.World.{opened};
-ghost use Rattle.world.specs.Worlds.{StepHasWidthIn, step_in, tables_of, world_of};
+ghost use Rattle.world.specs.Worlds.{step_in, tables_of, world_of};
 ghost use Rattle.scripts.specs.Engines.{if_within_limits};
 ghost use Rattle.scripts.specs.Errors.{IsErrorOf};
 ghost use Rattle.scripts.specs.Steps.{tables_for};
@@ -35,7 +35,6 @@ pub fn read_script(alloc: Global, bytes: &[u8]) -> Result<Script, ScriptError>
     ensures ok { IfOk result
         (λ s. (gs : List Configuration) × (script_form bytes.now ≡ Ok (gs, map (step_in (tables_of s.world.engines)) s.steps.items))
         × (world_of s.world ≡ opened gs)) }
-    ensures width { IfOk result (λ s. All (StepHasWidthIn (tables_of s.world.engines)) s.steps.items) }
     ensures err { IfErr result (IsErrorOf (script_form bytes.now)) }
 {
     let mut lines = Lines::new(bytes);
@@ -54,7 +53,6 @@ fn open(alloc: Global, engines: &[Config], lines: &mut Lines<'_>) -> Result<Scri
     ensures world { IfOk result (λ s. world_of s.world ≡ opened engines.now) }
     ensures steps { IfOk result
         (λ s. steps_left engines.now lines.old.taken lines.old.rest.now ≡ Ok (map (step_in (tables_of s.world.engines)) s.steps.items)) }
-    ensures width { IfOk result (λ s. All (StepHasWidthIn (tables_of s.world.engines)) s.steps.items) }
     ensures err { IfErr result (IsErrorOf (unless_bad
         (λ gs. steps_left gs lines.old.taken lines.old.rest.now) (on_line 1 (if_within_limits engines.now)))) }
 {
@@ -76,7 +74,6 @@ fn with_steps(
         (λ s. steps_left engines.now lines.old.taken lines.old.rest.now
         ≡ Ok (map (step_in (tables_of world.engines)) s.steps.items))
         (IsErrorOf (steps_left engines.now lines.old.taken lines.old.rest.now)) }
-    ensures width { IfOk result (λ s. All (StepHasWidthIn (tables_of world.engines)) s.steps.items) }
 {
     let steps = read_steps(alloc, lines, engines, &world)?;
     Ok(Script { world, steps })
@@ -90,11 +87,10 @@ fn read_steps(
     world: &World,
 ) -> Result<Vec<WorldStep>, ScriptError>
     requires { tables_of world.now.engines ≡ tables_for engines.now }
-    ensures steps { MatchResult result
+    ensures { MatchResult result
         (λ v. steps_left engines.now lines.old.taken lines.old.rest.now
         ≡ Ok (map (step_in (tables_of world.now.engines)) v.items))
         (IsErrorOf (steps_left engines.now lines.old.taken lines.old.rest.now)) }
-    ensures width { IfOk result (λ v. All (StepHasWidthIn (tables_of world.now.engines)) v.items) }
 {
     let mut steps = Vec::new(alloc);
     while let Some(line) = lines.take_line() {

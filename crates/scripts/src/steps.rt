@@ -1,9 +1,9 @@
 //! A script's steps, one a line.
 #![tactic(auto, using(crate::proofs::WrongLengths::step_lengths))]
 
-ghost use Rattle.std.specs.Prelude.{◌≡◌, ℕ, List, IfOk};
+ghost use Rattle.std.specs.Prelude.{◌≡◌, ℕ, List};
 ghost use Rattle.serde_json.specs.View.{view, items_view};
-ghost use Rattle.world.specs.Worlds.{StepHasWidthIn, step_in as step_meant, tables_of};
+ghost use Rattle.world.specs.Worlds.{step_in as step_meant, tables_of};
 ghost use Rattle.world.specs.wire.Forms.{IsRead};
 ghost use Rattle.scripts.specs.Steps.{ask_of, line_of, push_of, step_form, step_line, tables_for};
 
@@ -24,8 +24,7 @@ pub fn read_step(
     world: &World,
 ) -> Result<WorldStep, Refusal>
     requires { tables_of world.now.engines ≡ tables_for engines.now }
-    ensures read { IsRead (step_meant (tables_of world.now.engines)) result (step_line engines.now text.now) }
-    ensures width { IfOk result (StepHasWidthIn (tables_of world.now.engines)) }
+    ensures { IsRead (step_meant (tables_of world.now.engines)) result (step_line engines.now text.now) }
 {
     let value = json_of(alloc, text)?;
     let step = step_in(alloc, &value, world)?;
@@ -36,8 +35,7 @@ pub fn read_step(
 }
 
 fn step_in(alloc: Global, value: &Value, world: &World) -> Result<WorldStep, Refusal>
-    ensures read { IsRead (step_meant (tables_of world.now.engines)) result (step_form (tables_of world.now.engines) (view value.now)) }
-    ensures width { IfOk result (StepHasWidthIn (tables_of world.now.engines)) }
+    ensures { IsRead (step_meant (tables_of world.now.engines)) result (step_form (tables_of world.now.engines) (view value.now)) }
 {
     let (word, parts) = phrase_in(value)?;
     match word {
@@ -50,8 +48,7 @@ fn step_in(alloc: Global, value: &Value, world: &World) -> Result<WorldStep, Ref
 
 /// An engine, a client of it, and a command.
 fn push_in(alloc: Global, parts: &[Value]) -> Result<WorldStep, Refusal>
-    ensures read { (tables : List (List ℕ)) → IsRead (step_meant tables) result (push_of (items_view parts.now)) }
-    ensures width { (tables : List (List ℕ)) → IfOk result (StepHasWidthIn tables) }
+    ensures { (tables : List (List ℕ)) → IsRead (step_meant tables) result (push_of (items_view parts.now)) }
 {
     let [engine, client, command] = parts else {
         return Err(Refusal::BadLine);
@@ -67,8 +64,7 @@ fn push_in(alloc: Global, parts: &[Value]) -> Result<WorldStep, Refusal>
 
 /// An engine, a token of it, and a question.
 fn ask_in(alloc: Global, parts: &[Value], world: &World) -> Result<WorldStep, Refusal>
-    ensures read { IsRead (step_meant (tables_of world.now.engines)) result (ask_of (tables_of world.now.engines) (items_view parts.now)) }
-    ensures width { IfOk result (StepHasWidthIn (tables_of world.now.engines)) }
+    ensures { IsRead (step_meant (tables_of world.now.engines)) result (ask_of (tables_of world.now.engines) (items_view parts.now)) }
 {
     let [engine, token, question] = parts else {
         return Err(Refusal::BadLine);
@@ -84,8 +80,7 @@ fn ask_in(alloc: Global, parts: &[Value], world: &World) -> Result<WorldStep, Re
 
 /// An engine, a client of it, and a text of lines.
 fn line_in(alloc: Global, parts: &[Value]) -> Result<WorldStep, Refusal>
-    ensures read { (tables : List (List ℕ)) → IsRead (step_meant tables) result (line_of tables (items_view parts.now)) }
-    ensures width { (tables : List (List ℕ)) → IfOk result (StepHasWidthIn tables) }
+    ensures { (tables : List (List ℕ)) → IsRead (step_meant tables) result (line_of tables (items_view parts.now)) }
 {
     let [engine, client, text] = parts else {
         return Err(Refusal::BadLine);

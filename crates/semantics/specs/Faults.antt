@@ -4,6 +4,7 @@ use Rattle.std.specs.List.{list_all, list_any}
 use Rattle.semantics.specs.Ids.{OpId, id_at, is_same_id}
 use Rattle.semantics.specs.Elements.{Element, Doc, Field, Item}
 use Rattle.semantics.specs.Operations.{Operation, Misplaced, OutsideList, OnHead, element_of, inserted_after, misplaced}
+use Rattle.ids.specs.Vectors.{names_only}
 use Rattle.ids.specs.declared.refusal.Refusal.{Refusal}
 use Rattle.ids.specs.declared.refusal.Refusal.TheVariants.{NotInList, UnknownReplica, BadCounter, BrokenChain, NamesNothing, NotClosed}
 use Rattle.ids.specs.declared.refusal.Refusal.TheVariants.{BadPlace}
@@ -34,8 +35,7 @@ items_of_members ps (Item l a) = is_member ps a.replica && items_of_members ps l
 
 -- s names only members, in its id, its vector and its place
 abbrev pub is_of_members : List ℕ → Stamped → Bool
-is_of_members ps s = is_member ps s.id.replica && list_all (λ a. is_member ps a.replica) s.vector
-    && items_of_members ps (element_of s.place)
+is_of_members ps s = is_member ps s.id.replica && names_only ps s.vector && items_of_members ps (element_of s.place)
 
 -- the counter is 1 plus the greatest, and isn't past the last one
 abbrev pub is_next_counter : (greatest counter : ℕ) → Bool

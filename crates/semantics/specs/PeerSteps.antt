@@ -1,7 +1,7 @@
 -- The steps of one engine by which it says what it has, sends what a peer lacks, and receives what a peer sent.
 use Rattle.std.specs.Prelude.{ℕ, suc, cond, ◌==◌, Bool, List, [], ◌∷◌, length, Option, Some, None, option_map, slice_get}
 use Rattle.std.specs.List.{list_all}
-use Rattle.ids.specs.Members.{is_member}
+use Rattle.ids.specs.Vectors.{names_only}
 use Rattle.ids.specs.declared.refusal.Refusal.{Refusal}
 use Rattle.ids.specs.declared.refusal.Refusal.TheVariants.{UnknownReplica}
 use Rattle.semantics.specs.Vectors.{Vector}
@@ -27,7 +27,7 @@ lacked e v = lacked_of (published_entries e) v
 
 -- each replica of the vector is a member
 abbrev pub names_members : Engine → Vector → Bool
-names_members e v = list_all (λ a. is_member e.replica.members a.replica) v
+names_members e v = names_only e.replica.members v
 
 -- a token says hello, in message k; it then has seen all that is published
 abbrev pub say_hello : Engine → (token message : ℕ) → Outcome

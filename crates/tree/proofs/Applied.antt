@@ -36,48 +36,48 @@ delete_at_element (At e) f = refl
 delete_at_element (HeadOf l) f = cc
 
 -- an operation, and a stamp that is made of it
-module _ (o : Op) (s : Stamp) (same_id : s.id ≡ o.id) (same_vector : s.vector.now ≡ o.deps)
+module _ (o : Op) (s : Stamp) (same_id : s.id ≡ o.id) (same_vector : by_table s.table.now s.vector.now ≡ o.deps)
     (formed : IsFormed (mutation_of o.mutation) o.place) (C D : Context) where
   pub delete_applied : o.mutation ≡ mutation.Delete → (path : List Hop) → path ≡ hops_from_root (element_of o.place)
-      → D ≡ clear C (end_of path) (deps_of s) → D ≡ apply C (loose_operation (stamped_of s.table.now o))
+      → D ≡ clear C (end_of path) (deps_of s) → D ≡ apply C (loose_operation (stamped_of o))
   delete_applied m path q done =
       let place : At (element_of o.place) ≡ o.place = delete_at_element o.place (subst (λ c. IsFormed (mutation_of c) o.place) m formed) in
-      done ∙ (λ i. clear C (end_is o.place path q i) (covers (by_table s.table.now (same_vector i))))
-      ∙ delete_is C o.id (covers (by_table s.table.now o.deps)) (element_of o.place)
+      done ∙ (λ i. clear C (end_is o.place path q i) (covers (same_vector i)))
+      ∙ delete_is C o.id (covers o.deps) (element_of o.place)
       ∙ (λ i. apply C
-      (record { id = o.id; deps = covers (by_table s.table.now o.deps); place = place i; mutation = mutation_of (sym m i) }))
+      (record { id = o.id; deps = covers o.deps; place = place i; mutation = mutation_of (sym m i) }))
 
   pub assign_applied : (v : Val) → o.mutation ≡ mutation.Assign v → (path : List Hop) → path ≡ hops_from_root (element_of o.place)
       → (k : Tag) → k ≡ tag_of (meaning_of v) → (r : Option TheScalar) → r ≡ scalar_in (Some (meaning_of v))
-      → D ≡ assigned C s.id (deps_of s) (end_of path) k r → D ≡ apply C (loose_operation (stamped_of s.table.now o))
+      → D ≡ assigned C s.id (deps_of s) (end_of path) k r → D ≡ apply C (loose_operation (stamped_of o))
   assign_applied v m path q k tag r scalar done =
       let place : At (element_of o.place)
       ≡ o.place = at_element (meaning_of v) o.place (subst (λ c. IsFormed (mutation_of c) o.place) m formed) in
-      done ∙ (λ i. assigned C (same_id i) (covers (by_table s.table.now (same_vector i))) (end_is o.place path q i) (tag i) (scalar i))
-      ∙ assign_is C o.id (covers (by_table s.table.now o.deps)) (element_of o.place) (meaning_of v)
+      done ∙ (λ i. assigned C (same_id i) (covers (same_vector i)) (end_is o.place path q i) (tag i) (scalar i))
+      ∙ assign_is C o.id (covers o.deps) (element_of o.place) (meaning_of v)
       ∙ (λ i. apply C
-      (record { id = o.id; deps = covers (by_table s.table.now o.deps); place = place i; mutation = mutation_of (sym m i) }))
+      (record { id = o.id; deps = covers o.deps; place = place i; mutation = mutation_of (sym m i) }))
 
   pub insert_applied : (v : Val) → o.mutation ≡ mutation.Insert v → (k : Tag) → k ≡ tag_of (meaning_of v) → (r : Option TheScalar)
       → r ≡ scalar_in (Some (meaning_of v))
       → ((l : Element) (p : Option OpId) → slot_of (Insert EmptyMap) o.place ≡ Some (l, p)
       → D ≡ assigned (linked C l p s.id) s.id (deps_of s) (Item l s.id) k r)
-      → D ≡ apply C (loose_operation (stamped_of s.table.now o))
+      → D ≡ apply C (loose_operation (stamped_of o))
   insert_applied v m k tag r scalar done =
       let (l, p, slot, place) = formed_slot (meaning_of v) o.place (subst (λ c. IsFormed (mutation_of c) o.place) m formed) in
       done l p slot
-      ∙ (λ i. assigned (linked C l p (same_id i)) (same_id i) (covers (by_table s.table.now (same_vector i))) (Item l (same_id i)) (tag i)
+      ∙ (λ i. assigned (linked C l p (same_id i)) (same_id i) (covers (same_vector i)) (Item l (same_id i)) (tag i)
       (scalar i))
-      ∙ insert_is C o.id (covers (by_table s.table.now o.deps)) l p (meaning_of v)
+      ∙ insert_is C o.id (covers o.deps) l p (meaning_of v)
       ∙ (λ i. apply C
-      (record { id = o.id; deps = covers (by_table s.table.now o.deps); place = place i; mutation = mutation_of (sym m i) }))
+      (record { id = o.id; deps = covers o.deps; place = place i; mutation = mutation_of (sym m i) }))
 
 some_mapped : {X Y : Type 0} (f : X → Y) (o : Option X) → IsSome o → IsSome (option_map f o)
 some_mapped f None h = h
 some_mapped f (Some x) h = refl
 
 -- what is there where the operation is reserved
-module _ (o : Op) (t : Planted) (reserved : IsReserved t (stamped_of t.table o)) (v : Val) where
+module _ (o : Op) (t : Planted) (reserved : IsReserved t (stamped_of o)) (v : Val) where
   pub assign_reserved : o.mutation ≡ mutation.Assign v → RoomToWrite t (element_of o.place) (Some (meaning_of v))
   assign_reserved m = subst
       (λ c. RoomToWrite t (target_in (slot_of (mutation_of c) o.place) o.id o.place) (value_of (mutation_of c))) m reserved.write
@@ -95,7 +95,7 @@ module _ (o : Op) (t : Planted) (reserved : IsReserved t (stamped_of t.table o))
   pub register_reserved : (e : Element) → RoomToWrite t e (Some (meaning_of v)) → IsSome t.scalar → 0 < register_room (node_at t.nodes e)
   register_reserved e write some = write.2 (subst IsSome write.1 (some_mapped scalar_of t.scalar some))
 
-  pub can_insert : (a : OpId) → a ≡ o.id → o.mutation ≡ mutation.Insert v → IsPlaced (context t.nodes) (stamped_of t.table o)
+  pub can_insert : (a : OpId) → a ≡ o.id → o.mutation ≡ mutation.Insert v → IsPlaced (context t.nodes) (stamped_of o)
       → (l : Element) (p : Option OpId) → slot_of (Insert EmptyMap) o.place ≡ Some (l, p) → CanInsert t.nodes l p a t.scalar
   can_insert a same m placed l p q =
       let write = insert_reserved m l p q in

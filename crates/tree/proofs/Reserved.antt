@@ -20,7 +20,7 @@ pub write_ready : (o : Op) (table : List ℕ) (ns : List Node) (s : Option Scala
     → value_of (mutation_of o.mutation) ≡ Some v → slot_of (mutation_of o.mutation) o.place ≡ slot
     → RoomTo ns (target_in slot o.id o.place) → 0 < register_room (node_at ns (target_in slot o.id o.place))
     → option_map scalar_of s ≡ scalar_in (Some v) → RoomToLink ns slot
-    → IsReserved (record { table = table; nodes = ns; scalar = s }) (stamped_of table o)
+    → IsReserved (record { table = table; nodes = ns; scalar = s }) (stamped_of o)
 write_ready o table ns s v slot value there room register scalar link =
     let t : Planted = record { table = table; nodes = ns; scalar = s } in
     record {
@@ -34,7 +34,7 @@ pub place_ready : (o : Op) (table : List ℕ) (ns : List Node) (s : Option Scala
     → value_of (mutation_of o.mutation) ≡ Some v → slot_of (mutation_of o.mutation) o.place ≡ None
     → path ≡ hops_from_root (element_of o.place)
     → RoomTo ns (end_of path) → 0 < register_room (node_at ns (end_of path)) → option_map scalar_of s ≡ scalar_in (Some v)
-    → IsReserved (record { table = table; nodes = ns; scalar = s }) (stamped_of table o)
+    → IsReserved (record { table = table; nodes = ns; scalar = s }) (stamped_of o)
 place_ready o table ns s v path value there way room register scalar =
     let end : end_of path ≡ element_of o.place = end_is o.place path way in
     write_ready o table ns s v None value there (subst (RoomTo ns) end room)

@@ -1,5 +1,5 @@
 -- One empty node is the tree of the empty document.
-use Rattle.std.proofs.Common.{◌≡◌, ℕ, List, [], ◌∷◌, Option, Some, None, refl, sym, ap, ◌∙◌, subst, arith}
+use Rattle.std.proofs.Common.{◌≡◌, ℕ, List, [], ◌∷◌, length, Option, Some, None, refl, sym, ap, ◌∙◌, subst, arith}
 use Rattle.std.specs.Prelude.{IsTrue}
 use Rattle.std.specs.FinMap.{is_sorted}
 use Rattle.std.proofs.lemmas.Option.{none-some}
@@ -51,9 +51,9 @@ module _ (n : Node) (e : IsEmptyNode n) where
     sorted_ids = λ i. subst (λ (l : Links). IsTrue (is_sorted id_cmp l.1)) (no_links i) refl;
   }
 
-  pub root_planted : (table : List ℕ) (s : Option Scalar) → AreDistinct table
-      → IsPlanted (record { table = table; nodes = n ∷ []; scalar = s })
-  root_planted table s d = record {
+  pub root_planted : (table column : List ℕ) (s : Option Scalar) → AreDistinct table → length column ≡ length table
+      → IsPlanted (record { table = table; nodes = n ∷ []; scalar = s }) column
+  root_planted table column s d wide = record {
     distinct = d;
     tree = root_tree;
     nested = subst IsNested (sym root_empty) nested_empty;
@@ -63,4 +63,5 @@ module _ (n : Node) (e : IsEmptyNode n) where
       fields = λ x k low. ap (λ C. is_any (C.presence (Field x k))) root_empty;
     };
     indexed = push_each (λ o i. IsIndexedNode table o) n (λ i h. empty_indexed table n e) [] (λ i. tt);
+    wide = wide;
   }

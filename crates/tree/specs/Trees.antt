@@ -1,5 +1,5 @@
 -- A tree as contracts see it, and what an operation needs of it.
-use Rattle.std.specs.Prelude.{◌≡◌, ℕ, ◌<◌, Bool, true, ◌&&◌, IsTrue, IsFalse, List, Option, Some, None, IsSome, option_map, map}
+use Rattle.std.specs.Prelude.{◌≡◌, ℕ, ◌<◌, Bool, true, ◌&&◌, IsTrue, IsFalse, List, Option, Some, None, IsSome, length, option_map, map}
 use Rattle.ids.specs.Members.{AreDistinct}
 use Rattle.semantics.specs.Ids.{OpId}
 use Rattle.semantics.specs.Elements.{Element, Doc, Field, Item, Value}
@@ -29,14 +29,15 @@ document t = context t.nodes
 
 -- the numbers of the table differ, the nodes are a tree, what stands beneath an element stands at it too, lists show their visible
 -- items, nothing stands at items below their list's bound nor at fields whose flag is lowered, and each id's index is its
--- replica's in the table
-pub record IsPlanted (t : Planted) : Type 0 where
+-- replica's in the table; a column for what an operation depends on has the table's width
+pub record IsPlanted (t : Planted) (column : List ℕ) : Type 0 where
   pub distinct : AreDistinct t.table
   pub tree : IsTree t.nodes
   pub nested : IsNested (context t.nodes)
   pub shown : AreShown t.nodes
   pub empty : AreEmpty t.nodes
   pub indexed : AreIndexedNodes t.table t.nodes
+  pub wide : length column ≡ length t.table
 
 -- the element that s writes at
 abbrev pub target_of : Stamped → Element

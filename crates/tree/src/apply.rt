@@ -6,6 +6,7 @@ ghost use Rattle.semantics.specs.Elements.{Element, Item, EmptyMap, is_under};
 ghost use Rattle.semantics.specs.LegalHistory.{IsFormed};
 ghost use Rattle.semantics.specs.Operations.{Insert, slot_of, target_in};
 ghost use Rattle.semantics.specs.Context.{apply};
+ghost use Rattle.semantics.specs.Tables.{by_table};
 ghost use Rattle.semantics.specs.Stamped.{loose_operation};
 ghost use Rattle.operation.specs.value.Values.{scalar_of};
 ghost use Rattle.operation.specs.cursor.Steps.{tag_of};
@@ -28,22 +29,22 @@ use operation::{Mutation, Op, Place, Scalar, Tag};
 pub fn apply(nodes: &mut [Node], op: &Op, stamp: &Stamp, scalar: Option<Scalar>)
     requires stamp { IsStamp stamp.now }
     requires id { stamp.now.id ≡ op.now.id }
-    requires vector { stamp.now.vector.now ≡ op.now.deps }
+    requires vector { by_table stamp.now.table.now stamp.now.vector.now ≡ op.now.deps }
     requires tree { IsTree nodes.old }
     requires indexed { AreIndexedNodes stamp.now.table.now nodes.old }
     requires nested { IsNested (context nodes.old) }
     requires shown { AreShown nodes.old }
     requires empty { AreEmpty nodes.old }
     requires reserved { IsReserved (record { table = stamp.now.table.now; nodes = nodes.old; scalar = scalar })
-        (stamped_of stamp.now.table.now op.now) }
-    requires placed { IsPlaced (context nodes.old) (stamped_of stamp.now.table.now op.now) }
+        (stamped_of op.now) }
+    requires placed { IsPlaced (context nodes.old) (stamped_of op.now) }
     requires formed { IsFormed (mutation_of op.now.mutation) op.now.place }
     ensures tree { IsTree nodes.new }
     ensures nested { IsNested (context nodes.new) }
     ensures indexed { AreIndexedNodes stamp.now.table.now nodes.new }
     ensures shown { AreShown nodes.new }
     ensures empty { AreEmpty nodes.new }
-    ensures applied { context nodes.new ≡ apply (context nodes.old) (loose_operation (stamped_of stamp.now.table.now op.now)) }
+    ensures applied { context nodes.new ≡ apply (context nodes.old) (loose_operation (stamped_of op.now)) }
 {
     run(nodes, op, stamp, scalar);
     show(nodes, op);
@@ -54,21 +55,21 @@ pub fn apply(nodes: &mut [Node], op: &Op, stamp: &Stamp, scalar: Option<Scalar>)
 fn run(nodes: &mut [Node], op: &Op, stamp: &Stamp, scalar: Option<Scalar>)
     requires stamp { IsStamp stamp.now }
     requires id { stamp.now.id ≡ op.now.id }
-    requires vector { stamp.now.vector.now ≡ op.now.deps }
+    requires vector { by_table stamp.now.table.now stamp.now.vector.now ≡ op.now.deps }
     requires tree { IsTree nodes.old }
     requires indexed { AreIndexedNodes stamp.now.table.now nodes.old }
     requires nested { IsNested (context nodes.old) }
     requires empty { AreEmpty nodes.old }
     requires reserved { IsReserved (record { table = stamp.now.table.now; nodes = nodes.old; scalar = scalar })
-        (stamped_of stamp.now.table.now op.now) }
-    requires placed { IsPlaced (context nodes.old) (stamped_of stamp.now.table.now op.now) }
+        (stamped_of op.now) }
+    requires placed { IsPlaced (context nodes.old) (stamped_of op.now) }
     requires formed { IsFormed (mutation_of op.now.mutation) op.now.place }
     ensures tree { IsTree nodes.new }
     ensures indexed { AreIndexedNodes stamp.now.table.now nodes.new }
     ensures shown { AreShown nodes.old
         → ShownBut nodes.new
         (is_under (target_in (slot_of (mutation_of op.now.mutation) op.now.place) op.now.id op.now.place)) }
-    ensures applied { context nodes.new ≡ apply (context nodes.old) (loose_operation (stamped_of stamp.now.table.now op.now)) }
+    ensures applied { context nodes.new ≡ apply (context nodes.old) (loose_operation (stamped_of op.now)) }
 {
     match &op.mutation {
         Mutation::Assign(value) => assign(nodes, op.place.hops(), stamp, Tag::of(value), scalar),

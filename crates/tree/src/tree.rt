@@ -1,8 +1,9 @@
-//! A tree: the nodes, with the table of replicas that vectors are indexed by.
+//! A tree: the nodes, with the table of the replicas that stand in them.
 
-ghost use Rattle.std.specs.Prelude.{◌≡◌, ◌⊎◌, IsTrue, IfOk, IfErr, OnOk, Ok, Err, length};
+ghost use Rattle.std.specs.Prelude.{◌≡◌, ◌⊎◌, IsTrue, IfOk, IfErr, OnOk, Ok, Err};
 ghost use Rattle.ids.specs.declared.refusal.Refusal.TheVariants.{NoMemory};
 ghost use Rattle.ids.specs.Members.{is_member};
+ghost use Rattle.ids.specs.Vectors.{names_only};
 ghost use Rattle.semantics.specs.LegalHistory.{IsFormed};
 ghost use Rattle.semantics.specs.Operations.{element_of};
 ghost use Rattle.semantics.specs.Context.{apply, empty};
@@ -12,7 +13,7 @@ ghost use Rattle.semantics.specs.Questions.{resolve, Answer, ConflictsAre, Items
 ghost use Rattle.semantics.specs.DocumentAnswer.{visible_items, visible_names};
 ghost use Rattle.operation.specs.Ops.{mutation_of, stamped_of};
 ghost use Rattle.tree.specs.Answers.{IsAnswer};
-ghost use Rattle.tree.specs.Nodes.{context, tagged, valued};
+ghost use Rattle.tree.specs.Nodes.{tagged, valued};
 ghost use Rattle.tree.specs.Trees.{IsPlaced, IsReserved, Planted, document, items_stand};
 
 use crate::answer::{conflicts, items, keys, values};
@@ -23,7 +24,7 @@ use crate::reserve::reserve_operation;
 use crate::resolve::resolve;
 use crate::stamp::Stamp;
 use ids::{OpId, Refusal, ReplicaTable};
-use operation::{Expr, Key, Op, Place, Scalar, Tag};
+use operation::{Expr, Key, Op, Place, Scalar, Tag, VersionVector};
 use std::alloc::{AllocError, Global};
 use std::marker::Model;
 
@@ -34,6 +35,8 @@ pub struct Tree {
     pub(crate) nodes: Vec<Node>,
     /// The scalar that the next operation writes into a register, copied by `reserve`.
     scalar: Option<Scalar>,
+    /// What the operation that is being applied depends on, indexed by the table.
+    covered: VersionVector,
 }
 
 impl Model for Tree {
@@ -43,7 +46,7 @@ impl Model for Tree {
 
     ghost view = { λ t. record { table = t.table; nodes = t.nodes.items; scalar = t.scalar } };
 
-    ghost invariant = { λ t. IsPlanted (record { table = t.table; nodes = t.nodes.items; scalar = t.scalar }) };
+    ghost invariant = { λ t. IsPlanted (record { table = t.table; nodes = t.nodes.items; scalar = t.scalar }) t.covered };
 }
 
 impl Tree {
@@ -56,12 +59,14 @@ impl Tree {
         ensures empty { IfOk result (λ t. document t ≡ empty) }
     {
         let table = table.clone()?;
+        let covered = VersionVector::zero(alloc, table.len())?;
         let mut nodes = Vec::new(alloc);
         nodes.push(Node::new(alloc))?;
         Ok(Tree {
             table,
             nodes,
             scalar: None,
+            covered,
         })
     }
 
@@ -73,7 +78,7 @@ impl Tree {
     pub fn reserve(&mut self, alloc: Global, op: &Op) -> Result<(), AllocError>
         ensures table { self.new.table ≡ self.old.table }
         ensures same { document self.new ≡ document self.old }
-        ensures reserved { OnOk result (IsReserved self.new (stamped_of self.new.table op.now)) }
+        ensures reserved { OnOk result (IsReserved self.new (stamped_of op.now)) }
     {
         let scalar = reserve_operation(&mut self.nodes, op, alloc)?;
         self.scalar = scalar;
@@ -83,21 +88,22 @@ impl Tree {
     /// Applies an operation that was reserved. Allocates nothing. Beneath an assign's or a delete's element it visits each node at
     /// which something stands, and of the children of those the fields whose flags are raised, and the items from the first on that
     /// stood after the list was last cleared, or that was written to since. It writes at each element of the path, and then sets the
-    /// flags of the fields there, and whether the lists show the items there.
+    /// flags of the fields there, and whether the lists show the items there. The replicas that the operation names are all in the table.
     pub fn apply(&mut self, op: &Op)
-        requires reserved { IsReserved self.old (stamped_of self.old.table op.now) }
-        requires placed { IsPlaced (document self.old) (stamped_of self.old.table op.now) }
+        requires reserved { IsReserved self.old (stamped_of op.now) }
+        requires placed { IsPlaced (document self.old) (stamped_of op.now) }
         requires formed { IsFormed (mutation_of op.now.mutation) op.now.place }
         requires member { IsTrue (is_member self.old.table op.now.id.replica) }
-        requires width { length op.now.deps ≡ length self.old.table }
+        requires known { IsTrue (names_only self.old.table op.now.deps) }
         ensures table { self.new.table ≡ self.old.table }
-        ensures applied { document self.new ≡ apply (document self.old) (loose_operation (stamped_of self.old.table op.now)) }
+        ensures applied { document self.new ≡ apply (document self.old) (loose_operation (stamped_of op.now)) }
     {
         let scalar = self.scalar.take();
+        self.covered.name(&self.table, op.deps.ids());
         let stamp = Stamp {
             table: &self.table,
             id: op.id,
-            vector: &op.deps,
+            vector: &self.covered,
         };
         apply(&mut self.nodes, op, &stamp, scalar);
     }

@@ -1,11 +1,10 @@
 //! The vector of all that was applied, which grows.
 
-ghost use Rattle.std.specs.Prelude.{◌≡◌, ◌<◌, ◌≤◌, ◌+◌, [], length, OnOk};
+ghost use Rattle.std.specs.Prelude.{◌≡◌, ◌<◌, ◌≤◌, ◌+◌, [], OnOk};
 ghost use Rattle.semantics.specs.Vectors.{greatest, raise};
-ghost use Rattle.ids.specs.Vectors.{IsNamed, most_named};
-ghost use Rattle.version.specs.Columns.{counter_after};
+ghost use Rattle.ids.specs.Vectors.{IsCanonical};
 
-use ids::{MOST_COUNTER, OpId};
+use ids::OpId;
 use std::alloc::{AllocError, Global};
 use std::marker::Model;
 
@@ -18,14 +17,14 @@ pub struct AppliedVector {
 
 impl Model for AppliedVector {
     ghost use Rattle.std.specs.Prelude.{◌-◌, vec_capacity, vec_len};
-    ghost use Rattle.ids.specs.Vectors.{IsNamed};
+    ghost use Rattle.ids.specs.Vectors.{IsCanonical};
     ghost use Rattle.version.specs.Applied.{Growing};
 
     ghost Value = { Growing };
 
     ghost view = { λ v. record { ids = v.ids.items; room = vec_capacity v.ids - vec_len v.ids } };
 
-    ghost invariant = { λ v. IsNamed v.ids.items };
+    ghost invariant = { λ v. IsCanonical v.ids.items };
 }
 
 impl AppliedVector {
@@ -41,18 +40,20 @@ impl AppliedVector {
     /// The pairs, each as the id of its replica with its counter.
     pub fn ids(&self) -> &[OpId]
         ensures ids { result.now ≡ self.now.ids }
-        ensures named { IsNamed self.now.ids }
+        ensures canonical { IsCanonical self.now.ids }
     {
         self.ids.as_slice()
     }
 
-    /// The counter of an operation that depends on all that was applied: 1 plus the greatest. `None` past the greatest counter that an
-    /// operation may have. Looks at each pair.
-    pub fn successor(&self) -> Option<u64>
-        ensures { result ≡ counter_after (greatest self.now.ids) }
+    /// The greatest counter, 0 where nothing is named. Looks at each.
+    pub fn greatest(&self) -> u64
+        ensures { result ≡ greatest self.now.ids }
     {
-        let greatest = greatest_counter(&self.ids);
-        (greatest < MOST_COUNTER).then(|| greatest + 1)
+        let mut most = 0;
+        for id in &self.ids {
+            most = id.counter.max(most);
+        }
+        most
     }
 
     /// Makes room for one more replica.
@@ -72,7 +73,6 @@ impl AppliedVector {
     pub fn raise(&mut self, id: OpId)
         requires counted { 0 < id.counter }
         requires room { 0 < self.old.room }
-        requires few { length (raise id self.old.ids) ≤ most_named }
         ensures ids { self.new.ids ≡ raise id self.old.ids }
         ensures room { self.old.room ≤ self.new.room + 1 }
     {
@@ -91,15 +91,4 @@ impl AppliedVector {
             }
         }
     }
-}
-
-/// The greatest counter, 0 where there is none.
-fn greatest_counter(ids: &[OpId]) -> u64
-    ensures { result ≡ greatest ids.now }
-{
-    let mut most = 0;
-    for id in ids {
-        most = id.counter.max(most);
-    }
-    most
 }

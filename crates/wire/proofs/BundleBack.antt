@@ -42,9 +42,9 @@ bundle_form-bundle table ss h =
     ∙ ap Ok (append-nil ss)
 
 -- where the operation can be sent, its line is read as that operation
-pub record IsBackIfSent (table : List ℕ) (s : Stamped) : Type 0 where
-  pub back : CanBeSent table s → op_form table (op_line s) ≡ Ok s
+pub record IsBackIfSent (s : Stamped) : Type 0 where
+  pub back : (table : List ℕ) → CanBeSent table s → op_form table (op_line s) ≡ Ok s
 
-pub sent_bundle_back : (table : List ℕ) (ss : List Stamped) → All (CanBeSent table) ss → All (IsBackIfSent table) ss
+pub sent_bundle_back : (table : List ℕ) (ss : List Stamped) → All (CanBeSent table) ss → All IsBackIfSent ss
     → bundle_form table (bundle_text ss) ≡ Ok ss
-sent_bundle_back table ss sent h = bundle_form-bundle table ss (λ k d lt. (h k d lt).back (sent k d lt))
+sent_bundle_back table ss sent h = bundle_form-bundle table ss (λ k d lt. (h k d lt).back table (sent k d lt))

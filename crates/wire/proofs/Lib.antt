@@ -1,5 +1,3 @@
-pub mod ReadVectors
-pub mod ListedVectors
 pub mod WrongLengths
 pub mod ReadPlaces
 pub mod CutLines

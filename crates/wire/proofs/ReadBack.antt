@@ -1,14 +1,15 @@
 -- What is written of an operation is read as that operation.
-use Rattle.std.proofs.Common.{◌≡◌, ◌≤◌, ◌&&◌, ℕ, suc, true, false, nat_le, sym, List, [], ◌∷◌, ◌++◌, length, map, Option, Some, None, Ok}
+use Rattle.std.proofs.Common.{◌≡◌, ◌≤◌, ◌&&◌, ℕ, suc, true, false, nat_le, nat_lt, sym, List, [], ◌∷◌, ◌++◌, length, map, Option, Some}
+use Rattle.std.proofs.Common.{None, Ok}
 use Rattle.std.proofs.Common.{refl, ap, ◌∙◌, arith}
 use Rattle.std.specs.Prelude.{codes, pos, negsuc}
 use Rattle.std.specs.List.{list_all}
 use Rattle.std.proofs.lemmas.Bool.{and_parts, leb-true, lt-ltb, le-ltb}
 use Rattle.std.proofs.lemmas.List.{length-append}
 use Rattle.ids.specs.Members.{is_member}
+use Rattle.ids.specs.Vectors.{IsNamed, names_only}
 use Rattle.semantics.specs.Ids.{OpId}
 use Rattle.semantics.specs.Faults.{items_of_members}
-use Rattle.semantics.specs.Tables.{by_table}
 use Rattle.semantics.specs.Elements.{Element, Doc, Field, Item, Place, At, HeadOf, Tag, AsMap, AsList, Value, Plain, EmptyMap, EmptyList}
 use Rattle.semantics.specs.Elements.{Null, Boolean, Whole, Text, depth}
 use Rattle.semantics.specs.Operations.{Mutation, Assign, Insert, Delete, element_of}
@@ -16,22 +17,20 @@ use Rattle.semantics.specs.Paths.{Hop, FieldHop, ItemHop, child, down, hops_from
 use Rattle.semantics.specs.Stamped.{Stamped}
 use Rattle.semantics.specs.Vectors.{AreAbove, IsCanonical, Vector}
 use Rattle.semantics.proofs.ElementPaths.{down-hops_from_root}
-use Rattle.semantics.proofs.TableVectors.{canonical-by_table}
 use Rattle.operation.specs.declared.op.Op.{Op}
 use Rattle.operation.specs.Alone.{key_of_member}
 use Rattle.operation.specs.Ops.{mutation_of, stamped_of}
-use Rattle.operation.proofs.AloneFaults.{all-by_table, members_all}
 use Rattle.operation.proofs.PlaceKeys.{items_of_members-keys}
 use Rattle.serde_json.specs.Data.{Data}
 use Rattle.serde_json.specs.View.{items_of}
 use Rattle.operation.specs.cursor.Places.{LastKey, DocKey, FieldName, ItemId, HeadKey, depth_of}
 use Rattle.operation.specs.value.Forms.{IsWithinLimits, json_of, value_form}
-use Rattle.wire.specs.Forms.{and_then, phrase_form}
+use Rattle.wire.specs.Forms.{and_then, count_parts, phrase_form}
 use Rattle.wire.specs.Members.{member_form}
 use Rattle.wire.specs.Messages.{hello_json, hello_of}
 use Rattle.wire.specs.Operations.{entered_json, id_json, key_json, last_from, last_json, mutation_json, operation_json, parts_from}
 use Rattle.wire.specs.Operations.{path_json, phrase, root_json}
-use Rattle.wire.specs.Places.{Entered, count_parts, element_at, entered_of, is_list_head, key_form, parts_of, place_below, place_form}
+use Rattle.wire.specs.Places.{Entered, element_at, entered_of, is_list_head, key_form, parts_of, place_below, place_form}
 use Rattle.wire.specs.Reading.{mutation_form, operation_form}
 use Rattle.wire.specs.Sent.{AreReplicaNumbers, AreSentKeys, AreTypedKeys, CanBeSent, IsSent, IsSentId, IsSentKey, IsSentMutation}
 use Rattle.wire.specs.Sent.{IsReplicaNumber, IsSentVector, IsTypedPlace, are_counters, is_counter, key_counted}
@@ -45,6 +44,13 @@ id_back table a h = rw (h.0, h.1, h.2) refl
 pairs_back : (table : List ℕ) (p : ℕ) (v : Vector) → IsSentVector table p v → pairs_above table p (items_of (map pair_json v)) ≡ Ok v
 pairs_back table p [] h = refl
 pairs_back table p (a ∷ v) h = rw (h.1.0, h.1.1, lt-ltb p a.replica h.0, h.1.2, pairs_back table a.replica v h.2) refl
+
+count_pairs : (v : Vector) → count_parts (items_of (map pair_json v)) ≡ length v
+count_pairs [] = refl
+count_pairs (a ∷ v) = ap suc (count_pairs v)
+
+few_pairs : (v : Vector) → length v ≤ 256 → nat_lt 256 (count_parts (items_of (map pair_json v))) ≡ false
+few_pairs v few = le-ltb 256 (count_parts (items_of (map pair_json v))) (omega (arith, count_pairs v, few))
 
 -- ---- places
 
@@ -172,14 +178,16 @@ pub operation_back : (table : List ℕ) (s : Stamped) → IsSent table s → ope
 operation_back table s h =
     rw (
       id_back table s.id h.id,
+      few_pairs s.vector h.few_pairs,
       pairs_back table 0 s.vector h.vector,
       place_back table s.place h.keys h.few,
       mutation_back s.mutation
           h.mutation,
     ) refl
 
-pub hello_back : (table : List ℕ) (v : Vector) → IsSentVector table 0 v → and_then (hello_of table) (phrase_form (hello_json v)) ≡ Ok v
-hello_back table v h = rw (pairs_back table 0 v h) refl
+pub hello_back : (table : List ℕ) (v : Vector) → IsSentVector table 0 v → length v ≤ 256
+    → and_then (hello_of table) (phrase_form (hello_json v)) ≡ Ok v
+hello_back table v h few = rw (few_pairs v few, pairs_back table 0 v h) refl
 
 -- ---- what types keep, beside what a caller answers for
 
@@ -197,12 +205,10 @@ above_zero (a ∷ v) h =
     let some = and_parts (nat_le 1 a.replica) (nat_le a.replica 4294967295) h.0 in
     let above : 1 ≤ a.replica = leb-true 1 a.replica some.0 in (omega (arith, above), above_zero v h.1)
 
--- the vector of a column, where its counters are those of the wire
-pub sent_column : (table column : List ℕ) → AreReplicaNumbers (by_table table column) → are_counters (by_table table column) ≡ true
-    → IsSentVector table 0 (by_table table column)
-sent_column table column typed counters =
-    sent_vector table 0 (by_table table column) (canonical-by_table table column) (above_zero (by_table table column) typed) typed
-    (all-by_table (is_member table) table column (members_all table)) counters
+-- a vector of members, where its counters are those of the wire
+pub sent_named : (table : List ℕ) (v : Vector) → IsCanonical v → AreReplicaNumbers v → names_only table v ≡ true → are_counters v ≡ true
+    → IsSentVector table 0 v
+sent_named table v canonical typed members counters = sent_vector table 0 v canonical (above_zero v typed) typed members counters
 
 sent_keys : (table : List ℕ) (ks : List Hop) → AreTypedKeys ks → list_all (key_of_member table) ks ≡ true → list_all key_counted ks ≡ true
     → AreSentKeys table ks
@@ -214,16 +220,17 @@ sent_keys table (ItemHop a ∷ ks) typed members counters =
     ((n.0, typed.0, m.0), sent_keys table ks typed.1 m.1 n.1)
 
 -- what its types keep, and what a caller answers for, is all that a line wants
-pub typed_sent : (table : List ℕ) (o : Op) → IsReplicaNumber o.id.replica → AreReplicaNumbers (by_table table o.deps) → IsTypedPlace o.place
-    → IsSentMutation (mutation_of o.mutation) → CanBeSent table (stamped_of table o) → IsSent table (stamped_of table o)
-typed_sent table o own_typed vector_typed place_typed within sent =
-    let s : Stamped = stamped_of table o in
+pub typed_sent : (table : List ℕ) (o : Op) → IsNamed o.deps → IsReplicaNumber o.id.replica → AreReplicaNumbers o.deps
+    → IsTypedPlace o.place → IsSentMutation (mutation_of o.mutation) → CanBeSent table (stamped_of o) → IsSent table (stamped_of o)
+typed_sent table o named own_typed vector_typed place_typed within sent =
+    let s : Stamped = stamped_of o in
     let parts = and_parts (is_member table s.id.replica && list_all (λ (a : OpId). is_member table a.replica) s.vector)
     (items_of_members table (element_of s.place)) sent.members in
     let own = and_parts (is_member table s.id.replica) (list_all (λ (a : OpId). is_member table a.replica) s.vector) parts.0 in
     record {
       id = (sent.id, own_typed, own.0);
-      vector = sent_column table o.deps vector_typed sent.vector;
+      vector = sent_named table o.deps named.canonical vector_typed own.1 sent.vector;
+      few_pairs = named.few;
       keys = sent_keys table (hops_from_root (element_of s.place)) place_typed.keys
           (sym (items_of_members-keys table (element_of s.place)) ∙ parts.1) sent.items;
       few = place_typed.few;

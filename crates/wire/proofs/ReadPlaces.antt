@@ -17,12 +17,12 @@ use Rattle.operation.specs.cursor.Steps.{hop_of}
 use Rattle.operation.specs.cursor.Places.{LastKey, place_from}
 use Rattle.operation.proofs.cursor.RootPaths.{depth-hops}
 use Rattle.wire.specs.Parts.{entered_as, keys_ahead}
-use Rattle.wire.specs.Places.{Entered, count_parts, element_at, is_list_head, parts_of, path_of, place_below}
-use Rattle.wire.specs.Forms.{IsOrNoMemory}
+use Rattle.wire.specs.Places.{Entered, element_at, is_list_head, parts_of, path_of, place_below}
+use Rattle.wire.specs.Forms.{IsOrNoMemory, count_parts}
 
 -- ---- paths
 
-count_parts-items_view : (vs : List Value) → count_parts (items_view vs) ≡ length vs
+pub count_parts-items_view : (vs : List Value) → count_parts (items_view vs) ≡ length vs
 count_parts-items_view [] = refl
 count_parts-items_view (v ∷ vs) = ap suc (count_parts-items_view vs)
 

@@ -1,5 +1,5 @@
 -- The line of an operation or of a vector that can be sent is read as that operation or vector, where its texts are UTF-8.
-use Rattle.std.proofs.Common.{◌≡◌, ◌≤◌, ◌<◌, ◌^◌, ℕ, IsUtf8, nat_le, List, [], ◌∷◌, ◌++◌, map, Ok, true, ap, ◌∙◌, arith}
+use Rattle.std.proofs.Common.{◌≡◌, ◌≤◌, ◌<◌, ◌^◌, ℕ, IsUtf8, nat_le, List, [], ◌∷◌, ◌++◌, length, map, Ok, true, ap, ◌∙◌, arith}
 use Rattle.std.specs.Prelude.{codes, pos, negsuc}
 use Rattle.std.proofs.lemmas.Bool.{and_parts, leb-true}
 use Rattle.ids.specs.Configurations.{is_from_one_to}
@@ -106,11 +106,11 @@ op_form-op_line table s sent utf8 =
     ap (and_then (operation_form table)) (json_form-read (op_line s) d utf8 (read-compact_text d (operation table s sent) shallow))
     ∙ operation_back table s sent
 
-pub hello_form-vector_line : (table : List ℕ) (v : Vector) → IsSentVector table 0 v → IsUtf8 (vector_line v)
+pub hello_form-vector_line : (table : List ℕ) (v : Vector) → IsSentVector table 0 v → length v ≤ 256 → IsUtf8 (vector_line v)
     → hello_form table (vector_line v) ≡ Ok v
-hello_form-vector_line table v sent utf8 =
+hello_form-vector_line table v sent few utf8 =
     let d = hello_json v in
     let whole : HasWhole (hello_json v) = (tt, (pairs table 0 v sent, tt)) in
     let shallow : depth (hello_json v) ≤ 127 = omega (arith, depth-hello_json v) in
     ap (λ r. and_then (hello_of table) (and_then phrase_form r)) (json_form-read (vector_line v) d utf8 (read-compact_text d whole shallow))
-    ∙ hello_back table v sent
+    ∙ hello_back table v sent few

@@ -23,16 +23,16 @@ use Rattle.serde_json.specs.View.{items_of}
 use Rattle.operation.specs.cursor.Places.{LastKey, DocKey, FieldName, ItemId, HeadKey}
 use Rattle.operation.proofs.cursor.RootPaths.{hops_from_root-down}
 use Rattle.operation.specs.value.Forms.{json_of, value_form}
-use Rattle.wire.specs.Forms.{and_then, list_form, number_form, phrase_form, phrase_of, text_form, with_parts}
+use Rattle.wire.specs.Forms.{and_then, count_parts, list_form, number_form, phrase_form, phrase_of, text_form, with_parts}
 use Rattle.wire.specs.Members.{counter_form, id_of, limited_form, member_form, member_of, replica_form}
 use Rattle.wire.specs.Messages.{hello_json, hello_of, only_vector}
 use Rattle.wire.specs.Operations.{head_json, id_json, last_from, last_json, mutation_json, operation_json, parts_from, path_json, phrase}
 use Rattle.wire.specs.Operations.{root_json}
-use Rattle.wire.specs.Places.{Entered, count_parts, element_at, entered_of, key_form, numbered_key, only_key, path_form, path_of, parts_of}
+use Rattle.wire.specs.Places.{Entered, element_at, entered_of, key_form, numbered_key, only_key, path_form, path_of, parts_of}
 use Rattle.wire.specs.Places.{place_at_last, place_below, place_form, tag_form}
 use Rattle.wire.specs.Reading.{Fields, fields_form, fields_of, five_parts, mutation_form, mutation_of, nothing_more, only_value}
 use Rattle.wire.specs.Reading.{operation_form, parts_after}
-use Rattle.wire.specs.Vectors.{count, next_of, pair_form, pair_json, pair_of, pairs_above, vector_form, vector_json}
+use Rattle.wire.specs.Vectors.{count, next_of, pair_form, pair_json, pair_of, pairs_above, vector_form, vector_json, pairs_of}
 use Rattle.wire.proofs.NormalNumbers.{AreNormal, IsNormal}
 
 -- ---- what an answer was made of
@@ -153,7 +153,11 @@ pairs_in table p (item d ds) v h =
 
 pub vector_in : (table : List ℕ) (d : Data) (v : Vector) → vector_form table d ≡ Ok v → d ≡ vector_json v
 vector_in table d v h =
-    let xs = made_of (pairs_above table 0) (list_form d) v h in list_in d xs.0 xs.1 ∙ ap array (pairs_in table 0 xs.0 v xs.2)
+    let xs = made_of (pairs_of table) (list_form d) v h in list_in d xs.0 xs.1 ∙ ap array (few xs.0 (nat_lt 256 (count_parts xs.0)) xs.2)
+  where
+    few : (xs : Items) (t : Bool) → cond t (Err BadLine) (pairs_above table 0 xs) ≡ Ok v → xs ≡ items_of (map pair_json v)
+    few xs true e = absurd (cc)
+    few xs false e = pairs_in table 0 xs v e
 
 pub hello_in : (table : List ℕ) (d : Data) (v : Vector) → and_then (hello_of table) (phrase_form d) ≡ Ok v → d ≡ hello_json v
 hello_in table d v h =

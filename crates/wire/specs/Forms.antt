@@ -1,5 +1,5 @@
 -- What a line of a script and its parts are, as JSON. A part of another form is `BadLine`.
-use Rattle.std.specs.Prelude.{◌≡◌, ◌⊎◌, ℕ, List, option_and_then, Result, MatchResult, Ok, Err, if◌then◌else◌}
+use Rattle.std.specs.Prelude.{◌≡◌, ◌⊎◌, ℕ, suc, List, option_and_then, Result, MatchResult, Ok, Err, if◌then◌else◌}
 use Rattle.std.specs.Option.{ok_or}
 use Rattle.std.specs.Str.{is_utf8}
 use Rattle.ids.specs.declared.refusal.Refusal.{Refusal}
@@ -36,6 +36,11 @@ text_form d = ok_or (as_str d) BadLine
 -- an array, as its parts
 abbrev pub list_form : Data → Result Items Refusal
 list_form d = ok_or (as_array d) BadLine
+
+-- how many parts there are
+abbrev pub count_parts : Items → ℕ
+count_parts no_items = 0
+count_parts (item part parts) = suc (count_parts parts)
 
 -- a word, and the parts after it
 abbrev pub with_parts : Items → List ℕ → Result (List ℕ × Items) Refusal

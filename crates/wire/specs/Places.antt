@@ -1,5 +1,5 @@
 -- What a PATH and a KEY are in JSON, and which place they are.
-use Rattle.std.specs.Prelude.{ℕ, suc, Bool, true, false, ◌==◌, nat_lt, List, [], ◌∷◌, length, codes, Option, Some, None, Result, Ok, Err}
+use Rattle.std.specs.Prelude.{ℕ, Bool, true, false, ◌==◌, nat_lt, List, [], ◌∷◌, length, codes, Option, Some, None, Result, Ok, Err}
 use Rattle.std.specs.Prelude.{if◌then◌else◌}
 use Rattle.std.specs.Option.{option_map_or}
 use Rattle.std.specs.Str.{bytes_eq}
@@ -10,7 +10,7 @@ use Rattle.semantics.specs.Elements.{Element, Doc, Field, Item, Place, At, HeadO
 use Rattle.serde_json.specs.Data.{Data, Items, no_items, item}
 use Rattle.serde_json.specs.Find.{as_array, as_str}
 use Rattle.operation.specs.cursor.Places.{LastKey, DocKey, FieldName, ItemId, HeadKey}
-use Rattle.wire.specs.Forms.{and_then, list_form, number_form, phrase_form}
+use Rattle.wire.specs.Forms.{and_then, count_parts, list_form, number_form, phrase_form}
 use Rattle.wire.specs.Members.{id_of, member_of}
 
 -- ---- keys
@@ -56,11 +56,6 @@ abbrev pub parts_of : List ℕ → Items → Result (List Entered) Refusal
 parts_of table no_items = Ok []
 parts_of table (item part parts) = and_then
     (λ x. and_then (λ xs. Ok (x ∷ xs)) (parts_of table parts)) (and_then (entered_of table) (phrase_form part))
-
--- how many parts there are
-abbrev pub count_parts : Items → ℕ
-count_parts no_items = 0
-count_parts (item part parts) = suc (count_parts parts)
 
 -- at most 32 parts
 abbrev pub path_of : List ℕ → Items → Result (List Entered) Refusal

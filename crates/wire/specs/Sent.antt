@@ -3,6 +3,7 @@ use Rattle.std.specs.Prelude.{ℕ, ◌<◌, ◌≤◌, ⊤, IsTrue, Bool, true, 
 use Rattle.std.specs.List.{list_all}
 use Rattle.ids.specs.Configurations.{is_from_one_to}
 use Rattle.ids.specs.Members.{is_member}
+use Rattle.ids.specs.Vectors.{most_named}
 use Rattle.semantics.specs.Limits.{most_counter, most_key_bytes, most_keys, most_replica}
 use Rattle.semantics.specs.Ids.{OpId}
 use Rattle.semantics.specs.Elements.{Place}
@@ -44,6 +45,7 @@ IsSentMutation Delete = ⊤
 pub record IsSent (table : List ℕ) (s : Stamped) : Type 0 where
   pub id : IsSentId table s.id
   pub vector : IsSentVector table 0 s.vector
+  pub few_pairs : length s.vector ≤ most_named
   pub keys : AreSentKeys table (hops_from_root (element_of s.place))
   pub few : depth_of s.place ≤ most_keys
   pub mutation : IsSentMutation s.mutation

@@ -3,10 +3,11 @@ use Rattle.std.specs.Prelude.{ℕ, nat_lt, if◌then◌else◌, List, [], ◌∷
 use Rattle.ids.specs.declared.refusal.Refusal.{Refusal}
 use Rattle.ids.specs.declared.refusal.Refusal.TheVariants.{BadLine}
 use Rattle.semantics.specs.Ids.{OpId, id_at}
+use Rattle.ids.specs.Vectors.{most_named}
 use Rattle.semantics.specs.Vectors.{Vector}
 use Rattle.serde_json.specs.Data.{Data, Items, no_items, item, number, array, unsigned}
 use Rattle.serde_json.specs.View.{items_of}
-use Rattle.wire.specs.Forms.{and_then, list_form}
+use Rattle.wire.specs.Forms.{and_then, count_parts, list_form}
 use Rattle.wire.specs.Members.{counter_form, member_of, replica_form}
 
 -- ---- reading
@@ -31,9 +32,13 @@ pairs_above table p no_items = Ok []
 pairs_above table p (item pair pairs) =
     and_then (λ a. and_then (λ v. Ok (a ∷ v)) (pairs_above table a.replica pairs)) (and_then (next_of table p) (pair_form pair))
 
--- a list of pairs whose replicas rise and are of the table
+-- at most 256 pairs, whose replicas rise and are of the table
+abbrev pub pairs_of : List ℕ → Items → Result Vector Refusal
+pairs_of table pairs = if nat_lt most_named (count_parts pairs) then Err BadLine else pairs_above table 0 pairs
+
+-- a list of such pairs
 abbrev pub vector_form : List ℕ → Data → Result Vector Refusal
-vector_form table d = and_then (pairs_above table 0) (list_form d)
+vector_form table d = and_then (pairs_of table) (list_form d)
 
 -- ---- writing
 

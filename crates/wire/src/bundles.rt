@@ -25,22 +25,18 @@ use std::alloc::{AllocError, Global};
 ///
 /// # Errors
 /// `AllocError` if allocation fails.
-pub fn write_bundle(
-    alloc: Global,
-    ops: &[Shared<Op>],
-    table: &ReplicaTable,
-) -> Result<Vec<u8>, AllocError>
-    ensures text { IfOk result (λ text. text.items ≡ bundle_text (map (stamped_of table.now) ops.now)) }
+pub fn write_bundle(alloc: Global, ops: &[Shared<Op>]) -> Result<Vec<u8>, AllocError>
+    ensures text { IfOk result (λ text. text.items ≡ bundle_text (map stamped_of ops.now)) }
     ensures reads_back { IfOk result
-        (λ text. All (λ o. CanBeSent table.now (stamped_of table.now o)) ops.now
-        → bundle_form table.now text.items ≡ Ok (map (stamped_of table.now) ops.now)) }
+        (λ text. (table : List ℕ) → All (λ o. CanBeSent table (stamped_of o)) ops.now
+        → bundle_form table text.items ≡ Ok (map stamped_of ops.now)) }
 {
     let mut text = Vec::new(alloc);
     // A line is written apart, and copied: the writer clears the room that its text has left, which for a long text is much.
     let mut line = Vec::new(alloc);
     for op in ops {
         line.clear();
-        line = with_line(line, op, table)?;
+        line = with_line(line, op)?;
         text.extend_from_slice(line.as_slice())?;
         text.push(LINE_END)?;
     }
@@ -56,16 +52,15 @@ pub struct LinesRead {
     pub stopped: Option<Refusal>,
 }
 
-/// The operations of a text as far as it can be read, their vectors as wide as the table.
+/// The operations of a text as far as it can be read.
 ///
 /// Reading stops at the first bad line, with the refusal of `read_op`; bytes after the last line feed are a bad line, `BadLine`. It
 /// also stops with `NoMemory` if allocation fails: what was read until then is kept.
 pub fn read_lines(alloc: Global, text: &[u8], table: &ReplicaTable) -> LinesRead
     ensures read { (result.stopped ≡ Some NoMemory)
-        ⊎ ((map (stamped_of table.now) result.ops.items ≡ (readable table.now text.now).operations)
+        ⊎ ((map stamped_of result.ops.items ≡ (readable table.now text.now).operations)
         × (result.stopped ≡ (readable table.now text.now).stopped)) }
-    ensures first { map (stamped_of table.now) result.ops.items ≡ take (length result.ops.items) (readable table.now text.now).operations }
-    ensures width { All (λ o. length o.deps ≡ length table.now) result.ops.items }
+    ensures first { map stamped_of result.ops.items ≡ take (length result.ops.items) (readable table.now text.now).operations }
 {
     let mut lines = Lines::new(text);
     let mut ops = Vec::new(alloc);
@@ -94,7 +89,7 @@ pub fn read_lines(alloc: Global, text: &[u8], table: &ReplicaTable) -> LinesRead
     LinesRead { ops, stopped }
 }
 
-/// The operations of a bundle, in order, their vectors as wide as the table.
+/// The operations of a bundle, in order.
 ///
 /// # Errors
 /// The number of the first bad line, from 1, with the refusal of `read_op`; bytes after the last line feed are a bad line,
@@ -104,9 +99,8 @@ pub fn read_bundle(
     text: &[u8],
     table: &ReplicaTable,
 ) -> Result<Vec<Shared<Op>>, (u64, Refusal)>
-    ensures read { MatchResult result
-        (λ ops. bundle_form table.now text.now ≡ Ok (map (stamped_of table.now) ops.items)) (IsBadOf (bundle_form table.now text.now)) }
-    ensures width { IfOk result (λ ops. All (λ o. length o.deps ≡ length table.now) ops.items) }
+    ensures { MatchResult result
+        (λ ops. bundle_form table.now text.now ≡ Ok (map stamped_of ops.items)) (IsBadOf (bundle_form table.now text.now)) }
 {
     let LinesRead { ops, stopped } = read_lines(alloc, text, table);
     match stopped {

@@ -4,42 +4,39 @@
 //! operation that this leads to is written again, and only where that gives the very same bytes is it the line's. So what is read
 //! rests on the writer alone: where a step of `Scan` goes wrong, the line is read as any other JSON.
 
-ghost use Rattle.std.specs.Prelude.{◌≡◌, ◌&&◌, nat_le, Ok, IfSome, length, map};
+ghost use Rattle.std.specs.Prelude.{◌≡◌, ◌&&◌, Ok, IfSome, map};
 ghost use Rattle.std.specs.Bool.{OnTrue};
 ghost use Rattle.std.specs.List.{list_all};
-ghost use Rattle.semantics.specs.Limits.{most_counter};
 ghost use Rattle.semantics.specs.Operations.{element_of};
 ghost use Rattle.semantics.specs.Paths.{hops_from_root};
-ghost use Rattle.semantics.specs.Tables.{greatest_in};
 ghost use Rattle.operation.specs.Ops.{stamped_of};
 ghost use Rattle.wire.specs.Reading.{op_form};
-ghost use Rattle.wire.specs.Sent.{CanBeSent, is_counter, key_counted};
+ghost use Rattle.wire.specs.Sent.{CanBeSent, are_counters, is_counter, key_counted};
 ghost use Rattle.operation.specs.cursor.Steps.{hop_of};
 
 use crate::scan::Scan;
 use crate::writing::with_line;
-use ids::{MOST_COUNTER, ReplicaTable};
+use ids::{MOST_COUNTER, OpId, ReplicaTable};
 use operation::{Hop, Op, names_members};
 use std::alloc::Global;
 
 /// How much more room the writer asks for than the line has bytes.
 const ROOM_AHEAD: usize = 8;
 
-/// No line without an escape is longer: it has at most 64 pairs of 33 bytes, 33 keys of 265, and a text of 4,096. Longer ones are left to
+/// No line without an escape is longer: it has at most 256 pairs of 33 bytes, 33 keys of 265, and a text of 4,096. Longer ones are left to
 /// the JSON reader, before anything is asked for.
-const LONGEST: usize = 1 << 14;
+const LONGEST: usize = 1 << 15;
 
 /// The operation on a line in the form in which it is written, or `None` where it has another form, a character that is escaped by its
 /// number or the least whole number, where it is longer than `LONGEST`, or where memory is refused. Time is proportional to the length of
 /// the line at most.
 pub(crate) fn read_canonical(alloc: Global, text: &[u8], table: &ReplicaTable) -> Option<Op>
-    ensures read { IfSome result (λ o. op_form table.now text.now ≡ Ok (stamped_of table.now o)) }
-    ensures width { IfSome result (λ o. length o.deps ≡ length table.now) }
+    ensures { IfSome result (λ o. op_form table.now text.now ≡ Ok (stamped_of o)) }
 {
     if text.len() > LONGEST {
         return None;
     }
-    let op = Scan::new(text).op(alloc, table)?;
+    let op = Scan::new(text).op(alloc)?;
     if !writes_back_as(alloc, text, &op, table) {
         return None;
     }
@@ -48,7 +45,7 @@ pub(crate) fn read_canonical(alloc: Global, text: &[u8], table: &ReplicaTable) -
 
 /// Whether the text is the line of the operation, which can be sent.
 fn writes_back_as(alloc: Global, text: &[u8], op: &Op, table: &ReplicaTable) -> bool
-    ensures { OnTrue result (op_form table.now text.now ≡ Ok (stamped_of table.now op.now)) }
+    ensures { OnTrue result (op_form table.now text.now ≡ Ok (stamped_of op.now)) }
 {
     if !can_be_sent(op, table) {
         return false;
@@ -56,7 +53,7 @@ fn writes_back_as(alloc: Global, text: &[u8], op: &Op, table: &ReplicaTable) -> 
     let Ok(room) = Vec::with_capacity(alloc, text.len() + ROOM_AHEAD) else {
         return false;
     };
-    match with_line(room, op, table) {
+    match with_line(room, op) {
         Ok(line) => line.as_slice() == text,
         Err(_) => false,
     }
@@ -64,17 +61,24 @@ fn writes_back_as(alloc: Global, text: &[u8], op: &Op, table: &ReplicaTable) -> 
 
 /// Whether the names are of members, and the counters those of the wire.
 fn can_be_sent(op: &Op, table: &ReplicaTable) -> bool
-    ensures { OnTrue result (CanBeSent table.now (stamped_of table.now op.now)) }
+    ensures { OnTrue result (CanBeSent table.now (stamped_of op.now)) }
 {
     names_members(op, table) && is_counted(op)
 }
 
-/// Whether the counters of the id, the vector and the items of the place are those of the wire; one of the vector may be 0.
+/// Whether the counters of the id, the vector and the items of the place are those of the wire.
 fn is_counted(op: &Op) -> bool
-    ensures { result ≡ (is_counter op.now.id.counter && nat_le (greatest_in op.now.deps) most_counter
+    ensures { result ≡ (is_counter op.now.id.counter && are_counters op.now.deps
         && list_all key_counted (hops_from_root (element_of op.now.place))) }
 {
-    is_counter(op.id.counter) && op.deps.greatest() <= MOST_COUNTER && are_counted(op.place.hops())
+    is_counter(op.id.counter) && are_counters(op.deps.ids()) && are_counted(op.place.hops())
+}
+
+/// Whether the counter of each id is one of the wire.
+fn are_counters(ids: &[OpId]) -> bool
+    ensures { result ≡ are_counters ids.now }
+{
+    ids.iter().all(|id| is_counter(id.counter))
 }
 
 /// Whether the counter of each item is one of the wire.

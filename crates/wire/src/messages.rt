@@ -1,9 +1,9 @@
 //! Messages: an operation or a vector, each as the text of one line without its line feed.
 #![tactic(auto, using(crate::proofs::WrongLengths::wrong_lengths))]
 
-ghost use Rattle.std.specs.Prelude.{◌≡◌, ℕ, List, Ok, OnOk, IfOk, IsTrue, IsUtf8, length};
-ghost use Rattle.semantics.specs.Tables.{by_table};
-ghost use Rattle.serde_json.specs.View.{view, items_view};
+ghost use Rattle.std.specs.Prelude.{◌≡◌, ℕ, List, Ok, OnOk, IfOk, IsTrue, IsUtf8};
+ghost use Rattle.ids.specs.Vectors.{IsNamed, names_only};
+ghost use Rattle.serde_json.specs.View.{items_view};
 ghost use Rattle.operation.specs.Ops.{stamped_of};
 ghost use Rattle.wire.specs.Forms.{IsRead, json_form};
 ghost use Rattle.wire.specs.Messages.{hello_form, hello_json, only_vector, op_line, vector_line};
@@ -19,66 +19,60 @@ use crate::forms::{json_of, phrase_in};
 use crate::reading::operation_in;
 use crate::vectors::vector_in;
 use crate::writing::{put_vector, with_line};
-use ids::{Refusal, ReplicaTable};
+use ids::{NamedVector, Refusal, ReplicaTable};
 use json::Writer;
-use operation::{Op, Shared, VersionVector};
+use operation::{Op, Shared};
 use serde_json::Value;
 use std::alloc::{AllocError, Global};
 
 /// Room for a line of usual length.
 const LINE_BYTES: usize = 128;
 
-/// The line of an operation, whose vector is indexed by the table. Where its names are of members, and its counters those of the
-/// wire, `read_op` reads it as the same operation.
+/// The line of an operation. Where its names are of members, and its counters those of the wire, `read_op` reads it as the same
+/// operation.
 ///
 /// # Errors
 /// `AllocError` if allocation fails.
-pub fn write_op(alloc: Global, op: &Op, table: &ReplicaTable) -> Result<Vec<u8>, AllocError>
-    ensures line { IfOk result (λ text. text.items ≡ op_line (stamped_of table.now op.now)) }
+pub fn write_op(alloc: Global, op: &Op) -> Result<Vec<u8>, AllocError>
+    ensures line { IfOk result (λ text. text.items ≡ op_line (stamped_of op.now)) }
     ensures reads_back { IfOk result
-        (λ text. CanBeSent table.now (stamped_of table.now op.now) → op_form table.now text.items ≡ Ok (stamped_of table.now op.now)) }
+        (λ text. (table : List ℕ) → CanBeSent table (stamped_of op.now) → op_form table text.items ≡ Ok (stamped_of op.now)) }
 {
-    with_line(Vec::with_capacity(alloc, LINE_BYTES)?, op, table)
+    with_line(Vec::with_capacity(alloc, LINE_BYTES)?, op)
 }
 
-/// The line of a vector indexed by the table, a hello. Where its counters are those of the wire, `read_vector` reads it as the same vector.
+/// The line of a vector, a hello. Where it names members alone, and its counters are those of the wire, `read_vector` reads it as the
+/// same vector.
 ///
 /// # Errors
 /// `AllocError` if allocation fails.
-pub fn write_vector(
-    alloc: Global,
-    vector: &VersionVector,
-    table: &ReplicaTable,
-) -> Result<Vec<u8>, AllocError>
-    ensures line { IfOk result (λ text. text.items ≡ vector_line (by_table table.now vector.now)) }
+pub fn write_vector(alloc: Global, vector: &NamedVector) -> Result<Vec<u8>, AllocError>
+    ensures line { IfOk result (λ text. text.items ≡ vector_line vector.now) }
     ensures reads_back { IfOk result
-        (λ text. IsTrue (are_counters (by_table table.now vector.now))
-        → hello_form table.now text.items ≡ Ok (by_table table.now vector.now)) }
+        (λ text. (table : List ℕ) → IsTrue (names_only table vector.now) → IsTrue (are_counters vector.now)
+        → hello_form table text.items ≡ Ok vector.now) }
 {
     let mut out = Writer::new(Vec::with_capacity(alloc, LINE_BYTES)?);
-    put_hello(&mut out, table, vector)?;
+    put_hello(&mut out, vector)?;
     Ok(out.into_inner())
 }
 
 /// Writes a vector after its word.
-fn put_hello(
-    out: &mut Writer,
-    table: &ReplicaTable,
-    vector: &VersionVector,
-) -> Result<(), AllocError>
-    ensures json { OnOk result (IsWritten (tokens_of (hello_json (by_table table.now vector.now))) out.old out.new) }
-    ensures typed { OnOk result (AreReplicaNumbers (by_table table.now vector.now)) }
+fn put_hello(out: &mut Writer, vector: &NamedVector) -> Result<(), AllocError>
+    ensures json { OnOk result (IsWritten (tokens_of (hello_json vector.now)) out.old out.new) }
+    ensures typed { OnOk result (AreReplicaNumbers vector.now) }
+    ensures named { OnOk result (IsNamed vector.now) }
 {
     out.begin_array()?;
     out.string("hello")?;
-    put_vector(out, table, vector)?;
+    put_vector(out, vector.ids())?;
     out.end_array()
 }
 
-/// The operation on a line, its vector as wide as the table.
+/// The operation on a line.
 ///
 /// A line as `write_op` writes it is read at once, unless a character in it is escaped by its number, it has the least whole number, or
-/// it is longer than 16 KB. Any other is parsed as JSON as a whole before its parts are looked at. Time and memory are proportional to
+/// it is longer than 32 KB. Any other is parsed as JSON as a whole before its parts are looked at. Time and memory are proportional to
 /// its length: whoever takes lines from others bounds their length first. JSON nested deeper than 127 lists and objects is refused.
 ///
 /// # Errors
@@ -87,8 +81,7 @@ fn put_hello(
 /// isn't a member is `UnknownReplica`; a path of more than 32 parts is `TooDeep`, a key of more than 256 bytes `KeyTooLong`, a text
 /// of more than 4,096 bytes `TextTooLong`, and a number as a value that isn't whole `NotWhole`. `NoMemory` if allocation fails.
 pub fn read_op(alloc: Global, text: &[u8], table: &ReplicaTable) -> Result<Shared<Op>, Refusal>
-    ensures read { IsRead (stamped_of table.now) result (op_form table.now text.now) }
-    ensures width { IfOk result (λ o. length o.deps ≡ length table.now) }
+    ensures { IsRead stamped_of result (op_form table.now text.now) }
 {
     let op = op_in(alloc, text, table)?;
     Ok(Shared::new(alloc, op)?)
@@ -96,8 +89,7 @@ pub fn read_op(alloc: Global, text: &[u8], table: &ReplicaTable) -> Result<Share
 
 /// The operation on a line: at once where the line is as it would be written, else as that of any JSON.
 fn op_in(alloc: Global, text: &[u8], table: &ReplicaTable) -> Result<Op, Refusal>
-    ensures read { IsRead (stamped_of table.now) result (op_form table.now text.now) }
-    ensures width { IfOk result (λ o. length o.deps ≡ length table.now) }
+    ensures { IsRead stamped_of result (op_form table.now text.now) }
 {
     if let Some(op) = read_canonical(alloc, text, table) {
         return Ok(op);
@@ -109,16 +101,11 @@ fn op_in(alloc: Global, text: &[u8], table: &ReplicaTable) -> Result<Op, Refusal
 /// The vector on a line.
 ///
 /// # Errors
-/// The first of these: `BadLine` if the text is no JSON or not a hello; then the first fault of the vector from the
-/// left, `BadLine` where a pair has another form or doesn't rise, `UnknownReplica` where its replica isn't a member.
+/// The first of these: `BadLine` if the text is no JSON or not a hello, or has more than 256 pairs; then the first fault of the vector from
+/// the left, `BadLine` where a pair has another form or doesn't rise, `UnknownReplica` where its replica isn't a member.
 /// `NoMemory` if allocation fails.
-pub fn read_vector(
-    alloc: Global,
-    text: &[u8],
-    table: &ReplicaTable,
-) -> Result<VersionVector, Refusal>
-    ensures read { IsRead (by_table table.now) result (hello_form table.now text.now) }
-    ensures width { IfOk result (λ v. length v ≡ length table.now) }
+pub fn read_vector(alloc: Global, text: &[u8], table: &ReplicaTable) -> Result<NamedVector, Refusal>
+    ensures { IsRead (λ v. v) result (hello_form table.now text.now) }
 {
     let value = json_of(alloc, text)?;
     let (word, parts) = phrase_in(&value)?;
@@ -133,9 +120,8 @@ fn only_vector_in(
     alloc: Global,
     table: &ReplicaTable,
     parts: &[Value],
-) -> Result<VersionVector, Refusal>
-    ensures read { IsRead (by_table table.now) result (only_vector table.now (items_view parts.now)) }
-    ensures width { IfOk result (λ v. length v ≡ length table.now) }
+) -> Result<NamedVector, Refusal>
+    ensures { IsRead (λ v. v) result (only_vector table.now (items_view parts.now)) }
 {
     let [vector] = parts else {
         return Err(Refusal::BadLine);

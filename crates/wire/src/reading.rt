@@ -1,10 +1,9 @@
 //! Operations, as they are read: first their fields unread, and then each field by a method of its own.
 #![tactic(auto, using(crate::proofs::WrongLengths::wrong_lengths))]
 
-ghost use Rattle.std.specs.Prelude.{◌≡◌, IfOk, MatchResult, Ok, Err, length};
+ghost use Rattle.std.specs.Prelude.{◌≡◌, MatchResult, Ok, Err};
 ghost use Rattle.serde_json.specs.View.{view, items_view};
 ghost use Rattle.semantics.specs.Operations.{Delete};
-ghost use Rattle.semantics.specs.Tables.{by_table};
 ghost use Rattle.operation.specs.value.Values.{value_of};
 ghost use Rattle.operation.specs.Ops.{mutation_of, stamped_of};
 ghost use Rattle.wire.specs.Forms.{IsRead, IsOrNoMemory};
@@ -18,8 +17,8 @@ use crate::forms::phrase_in;
 use crate::members::member_in;
 use crate::places::place_in;
 use crate::vectors::vector_in;
-use ids::{OpId, Refusal, ReplicaTable};
-use operation::{Mutation, Op, Place, Val, VersionVector};
+use ids::{NamedVector, OpId, Refusal, ReplicaTable};
+use operation::{Mutation, Op, Place, Val};
 use serde_json::Value;
 use std::alloc::Global;
 
@@ -29,8 +28,7 @@ pub(crate) fn operation_in(
     table: &ReplicaTable,
     value: &Value,
 ) -> Result<Op, Refusal>
-    ensures read { IsRead (stamped_of table.now) result (operation_form table.now (view value.now)) }
-    ensures width { IfOk result (λ o. length o.deps ≡ length table.now) }
+    ensures { IsRead stamped_of result (operation_form table.now (view value.now)) }
 {
     let fields = OperationFields::of(value)?;
     let id = fields.id(table)?;
@@ -91,9 +89,8 @@ impl<'a> OperationFields<'a> {
         member_in(table, self.id)
     }
 
-    fn vector(&self, alloc: Global, table: &ReplicaTable) -> Result<VersionVector, Refusal>
-        ensures read { IsRead (by_table table.now) result (vector_form table.now (view self.now.vector.now)) }
-        ensures width { IfOk result (λ v. length v ≡ length table.now) }
+    fn vector(&self, alloc: Global, table: &ReplicaTable) -> Result<NamedVector, Refusal>
+        ensures { IsRead (λ v. v) result (vector_form table.now (view self.now.vector.now)) }
     {
         vector_in(alloc, table, self.vector)
     }

@@ -1,14 +1,12 @@
 //! The bytes of a line, taken apart in the one form in which an operation is written.
 //!
 //! Nothing is asked of what these methods find, since it is written again and compared: commas, tags and the end of a line are passed
-//! without much care. Each takes a number of steps that its part of the line bounds, or the table's width, and none calls itself.
-
-ghost use Rattle.std.specs.Prelude.{◌≡◌, ◌<◌, IfSome, length};
+//! without much care. Each takes a number of steps that its part of the line bounds, and none calls itself.
 
 use crate::escapes::{closed_at, unescaped};
-use ids::{OpId, ReplicaId, ReplicaTable};
+use ids::{MOST_NAMED, NamedVector, OpId, ReplicaId};
 use memchr::memchr;
-use operation::{Hop, Key, MOST_KEYS, Mutation, Op, Place, Scalar, Val, VersionVector};
+use operation::{Hop, Key, MOST_KEYS, Mutation, Op, Place, Scalar, Val};
 use std::alloc::Global;
 
 /// The most digits that a number of 64 bits has.
@@ -31,13 +29,11 @@ impl<'a> Scan<'a> {
         }
     }
 
-    /// The operation, with a vector as wide as the table. `None` where the line has another form, or where memory is refused.
-    pub(crate) fn op(&mut self, alloc: Global, table: &ReplicaTable) -> Option<Op>
-        ensures { IfSome result (λ o. length o.deps ≡ length table.now) }
-    {
+    /// The operation. `None` where the line has another form, or where memory is refused.
+    pub(crate) fn op(&mut self, alloc: Global) -> Option<Op> {
         self.bytes(b"[\"op\",")?;
         let id = self.id()?;
-        let deps = self.vector(alloc, table)?;
+        let deps = self.vector(alloc)?;
         let place = self.place(alloc)?;
         let mutation = self.mutation(alloc)?;
         Some(Op {
@@ -55,30 +51,25 @@ impl<'a> Scan<'a> {
     }
 
     /// The vector, after its comma.
-    fn vector(&mut self, alloc: Global, table: &ReplicaTable) -> Option<VersionVector>
-        ensures { IfSome result (λ v. length v ≡ length table.now) }
-    {
-        let mut vector = VersionVector::zero(alloc, table.len()).ok()?;
-        self.pairs(table, &mut vector)?;
-        Some(vector)
-    }
-
-    /// Raises the vector by each pair of a replica and its counter. There is at most one for each member.
-    fn pairs(&mut self, table: &ReplicaTable, vector: &mut VersionVector) -> Option<()>
-        requires { length vector.old ≡ length table.now }
-        ensures { length vector.new ≡ length vector.old }
-    {
+    fn vector(&mut self, alloc: Global) -> Option<NamedVector> {
+        let mut vector = NamedVector::new(alloc);
         self.bytes(b",[")?;
-        for hint in 0..table.len() {
+        let mut last = 0;
+        for _ in 0..MOST_NAMED {
             if self.peek()? == b']' {
                 break;
             }
             let id = self.pair()?;
-            let index = index_with_hint(table, hint, id.replica)?;
-            vector.raise(index, id.counter);
+            let replica = id.replica.number();
+            if replica <= last || id.counter == 0 {
+                return None;
+            }
+            vector.push(id).ok()?;
+            last = replica;
             self.takes(b',');
         }
-        self.byte(b']')
+        self.byte(b']')?;
+        Some(vector)
     }
 
     /// Replica and counter.
@@ -275,14 +266,4 @@ impl<'a> Scan<'a> {
 fn id_of(counter: u64, replica: u64) -> Option<OpId> {
     let replica = ReplicaId::new(u32::try_from(replica).ok()?)?;
     Some(OpId { counter, replica })
-}
-
-/// The index of a replica. Tries `hint` first, which is right when every earlier member has a pair.
-fn index_with_hint(table: &ReplicaTable, hint: usize, replica: ReplicaId) -> Option<usize>
-    ensures { IfSome result (λ index. index < length table.now) }
-{
-    if table.at(hint) == Some(replica) {
-        return Some(hint);
-    }
-    table.index_of(replica)
 }

@@ -2,39 +2,37 @@
 #![tactic(auto, using(crate::proofs::WrongLengths::wrong_lengths))]
 
 ghost use Rattle.std.specs.Prelude.{◌≡◌, ◌≤◌, IfOk, length};
-ghost use Rattle.semantics.specs.Tables.{by_table};
+ghost use Rattle.ids.specs.Vectors.{most_named};
 ghost use Rattle.serde_json.specs.View.{view, items_view};
 ghost use Rattle.wire.specs.Forms.{IsRead};
 ghost use Rattle.wire.specs.Vectors.{pair_form, pairs_above, vector_form};
 
 use crate::forms::list_in;
 use crate::members::{counter_in, replica_in};
-use ids::{OpId, Refusal, ReplicaTable};
-use operation::VersionVector;
+use ids::{MOST_NAMED, NamedVector, OpId, Refusal, ReplicaTable};
 use serde_json::Value;
 use std::alloc::Global;
 
 /// A vector whose replicas are members, and rise.
 ///
 /// # Errors
-/// At the first pair from the left that has one: `BadLine` where its form is wrong or it doesn't rise, `UnknownReplica` where its
-/// replica isn't a member.
-pub fn vector_in(
-    alloc: Global,
-    table: &ReplicaTable,
-    value: &Value,
-) -> Result<VersionVector, Refusal>
-    ensures read { IsRead (by_table table.now) result (vector_form table.now (view value.now)) }
-    ensures width { IfOk result (λ v. length v ≡ length table.now) }
+/// `BadLine` if it is no list, or has more than 256 pairs; then at the first pair from the left that has one: `BadLine` where its form is
+/// wrong or it doesn't rise, `UnknownReplica` where its replica isn't a member. `NoMemory` if allocation fails.
+pub fn vector_in(alloc: Global, table: &ReplicaTable, value: &Value) -> Result<NamedVector, Refusal>
+    ensures { IsRead (λ v. v) result (vector_form table.now (view value.now)) }
 {
-    pairs_in(alloc, table, list_in(value)?)
+    let pairs = list_in(value)?;
+    if pairs.len() > MOST_NAMED {
+        return Err(Refusal::BadLine);
+    }
+    pairs_in(alloc, table, pairs)
 }
 
-fn pairs_in(alloc: Global, table: &ReplicaTable, pairs: &[Value]) -> Result<VersionVector, Refusal>
-    ensures read { IsRead (by_table table.now) result (pairs_above table.now 0 (items_view pairs.now)) }
-    ensures width { IfOk result (λ v. length v ≡ length table.now) }
+fn pairs_in(alloc: Global, table: &ReplicaTable, pairs: &[Value]) -> Result<NamedVector, Refusal>
+    requires { length pairs.now ≤ most_named }
+    ensures { IsRead (λ v. v) result (pairs_above table.now 0 (items_view pairs.now)) }
 {
-    let mut vector = VersionVector::zero(alloc, table.len())?;
+    let mut vector = NamedVector::new(alloc);
     let mut last = 0;
     for pair in pairs {
         let id = pair_in(pair)?;
@@ -42,10 +40,10 @@ fn pairs_in(alloc: Global, table: &ReplicaTable, pairs: &[Value]) -> Result<Vers
         if replica <= last {
             return Err(Refusal::BadLine);
         }
-        let Some(index) = table.index_of(id.replica) else {
+        if table.index_of(id.replica).is_none() {
             return Err(Refusal::UnknownReplica);
-        };
-        vector.raise(index, id.counter);
+        }
+        vector.push(id)?;
         last = replica;
     }
     Ok(vector)

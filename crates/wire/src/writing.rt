@@ -1,9 +1,8 @@
 //! Operations, their ids, vectors and values, as they are written: token by token into a text, with no JSON value in between.
 
-ghost use Rattle.std.specs.Prelude.{◌≡◌, ◌++◌, ◌∷◌, [], List, map, IfOk, Ok, OnOk};
+ghost use Rattle.std.specs.Prelude.{◌≡◌, ◌++◌, ◌∷◌, [], ℕ, List, map, IfOk, Ok, OnOk};
 ghost use Rattle.serde_json.specs.Data.{Data};
 ghost use Rattle.semantics.specs.Elements.{Plain};
-ghost use Rattle.semantics.specs.Tables.{by_table};
 ghost use Rattle.operation.specs.cursor.Steps.{hop_of};
 ghost use Rattle.operation.specs.value.Forms.{IsWithinLimits, json_of, scalar_json};
 ghost use Rattle.operation.specs.value.Values.{scalar_of, value_of};
@@ -17,9 +16,9 @@ ghost use Rattle.wire.specs.Sent.{IsTypedPlace};
 ghost use Rattle.wire.specs.Vectors.{pair_json, vector_json};
 ghost use Rattle.wire.specs.Writing.{IsWritten, key_before, key_of, tokens_of, tokens_of_all};
 
-use ids::{OpId, ReplicaTable};
+use ids::OpId;
 use json::Writer;
-use operation::{Hop, MOST_KEY_BYTES, MOST_KEYS, Mutation, Op, Place, Scalar, Val, VersionVector};
+use operation::{Hop, MOST_KEY_BYTES, MOST_KEYS, Mutation, Op, Place, Scalar, Val};
 use std::alloc::AllocError;
 
 /// The text with the line of the operation after what it holds. Where the operation can be sent, its line is read as it. Memory is
@@ -27,30 +26,29 @@ use std::alloc::AllocError;
 ///
 /// # Errors
 /// `AllocError` if allocation fails.
-pub(crate) fn with_line(text: Vec<u8>, op: &Op, table: &ReplicaTable) -> Result<Vec<u8>, AllocError>
-    ensures line { IfOk result (λ t. t.items ≡ text.items ++ op_line (stamped_of table.now op.now)) }
+pub(crate) fn with_line(text: Vec<u8>, op: &Op) -> Result<Vec<u8>, AllocError>
+    ensures line { IfOk result (λ t. t.items ≡ text.items ++ op_line (stamped_of op.now)) }
     ensures reads_back { OnOk result
-        (CanBeSent table.now (stamped_of table.now op.now)
-        → op_form table.now (op_line (stamped_of table.now op.now)) ≡ Ok (stamped_of table.now op.now)) }
+        ((table : List ℕ) → CanBeSent table (stamped_of op.now) → op_form table (op_line (stamped_of op.now)) ≡ Ok (stamped_of op.now)) }
 {
     let mut out = Writer::new(text);
-    put_op(&mut out, op, table)?;
+    put_op(&mut out, op)?;
     Ok(out.into_inner())
 }
 
-/// Writes an operation, whose vector is indexed by the table.
+/// Writes an operation.
 ///
 /// # Errors
 /// `AllocError` if allocation fails.
-pub fn put_op(out: &mut Writer, op: &Op, table: &ReplicaTable) -> Result<(), AllocError>
-    ensures json { OnOk result (IsWritten (tokens_of (operation_json (stamped_of table.now op.now))) out.old out.new) }
-    ensures sent { OnOk result (CanBeSent table.now (stamped_of table.now op.now) → IsSent table.now (stamped_of table.now op.now)) }
+pub fn put_op(out: &mut Writer, op: &Op) -> Result<(), AllocError>
+    ensures json { OnOk result (IsWritten (tokens_of (operation_json (stamped_of op.now))) out.old out.new) }
+    ensures sent { OnOk result ((table : List ℕ) → CanBeSent table (stamped_of op.now) → IsSent table (stamped_of op.now)) }
 {
     prove!(op.id.replica.number() >= 1);
     out.begin_array()?;
     out.string("op")?;
     put_id(out, op.id)?;
-    put_vector(out, table, &op.deps)?;
+    put_vector(out, op.deps.ids())?;
     put_place(out, &op.place)?;
     put_mutation(out, &op.mutation)?;
     out.end_array()
@@ -80,27 +78,17 @@ fn put_pair(out: &mut Writer, id: OpId) -> Result<(), AllocError>
     out.end_array()
 }
 
-/// Writes a pair for each counter above 0 of a vector indexed by the table.
+/// Writes a pair for each of these ids.
 ///
 /// # Errors
 /// `AllocError` if allocation fails.
-pub fn put_vector(
-    out: &mut Writer,
-    table: &ReplicaTable,
-    vector: &VersionVector,
-) -> Result<(), AllocError>
-    ensures json { OnOk result (IsWritten (tokens_of (vector_json (by_table table.now vector.now))) out.old out.new) }
-    ensures typed { OnOk result (AreReplicaNumbers (by_table table.now vector.now)) }
+pub fn put_vector(out: &mut Writer, ids: &[OpId]) -> Result<(), AllocError>
+    ensures json { OnOk result (IsWritten (tokens_of (vector_json ids.now)) out.old out.new) }
+    ensures typed { OnOk result (AreReplicaNumbers ids.now) }
 {
     out.begin_array()?;
-    let count = table.len().min(vector.width());
-    for index in 0..count {
-        let counter = vector.get(index);
-        if counter > 0 {
-            if let Some(replica) = table.at(index) {
-                put_pair(out, OpId { counter, replica })?;
-            }
-        }
+    for id in ids {
+        put_pair(out, *id)?;
     }
     out.end_array()
 }

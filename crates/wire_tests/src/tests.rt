@@ -6,7 +6,7 @@ mod operations;
 mod vectors;
 
 use cursor::Place;
-use fixtures::{field, id_of, vector};
+use fixtures::{field, id_of};
 use ids::Refusal;
 use operation::{Mutation, Op, Shared};
 use std::alloc::{AllocError, Global};
@@ -119,4 +119,17 @@ type Around<'a> = (&'a str, &'a str);
 /// The line with this part.
 fn with_part(alloc: Global, around: Around, part: &str) -> Result<String, AllocError> {
     joined(alloc, &[around.0, part, around.1])
+}
+
+/// How many pairs, and why no vector of them is read with the table 1, 2 or 1, 2, 9: of more than 256 none is looked at.
+const MANY_PAIRS: [(u32, Refusal); 2] = [(256, Refusal::UnknownReplica), (257, Refusal::BadLine)];
+
+/// As many pairs, of the replicas 1, 2 and so on.
+fn pairs(alloc: Global, count: u32) -> Result<String, AllocError> {
+    let mut pairs = String::new(alloc);
+    for replica in 1..=count {
+        let comma = if replica > 1 { "," } else { "" };
+        pairs.push_str(format!(in alloc; "{comma}[{replica},1]")?.as_str())?;
+    }
+    format!(in alloc; "[{pairs}]")
 }

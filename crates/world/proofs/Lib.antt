@@ -9,7 +9,6 @@ pub mod TakenRequests
 pub mod AnsweredHellos
 pub mod KeptMembers
 pub mod TurnedWorlds
-pub mod ReindexedVectors
 pub mod BeforeNonmembers
 pub mod ReachedWorlds
 pub mod DrawnWaiting

@@ -21,38 +21,36 @@ use Rattle.replica.specs.document.Documents.{Contents, MayFollowEntries}
 use Rattle.world.specs.Publishers.{CanPublish, PublishesMore, appended_of}
 
 -- what is pending first is the next to be published
-pub oldest_next : (table : List ℕ) (e : Entry) (left : List Entry) (G : List TheEntry)
-    → history table (e ∷ left) ++ G ≡ history table left ++ entry_of table e ∷ G
-oldest_next table e left G =
-    ap (λ (F : List TheEntry). F ++ G) (reverse-append (entry_of table e ∷ []) (map (entry_of table) left))
-    ∙ append_assoc (history table left) (entry_of table e ∷ []) G
+pub oldest_next : (e : Entry) (left : List Entry) (G : List TheEntry)
+    → history (e ∷ left) ++ G ≡ history left ++ entry_of e ∷ G
+oldest_next e left G =
+    ap (λ (F : List TheEntry). F ++ G) (reverse-append (entry_of e ∷ []) (map entry_of left))
+    ∙ append_assoc (history left) (entry_of e ∷ []) G
 
 legal_begun : (more G : List TheEntry) → IsLegalStamped (stamped_entries (more ++ G)) → IsLegalStamped (stamped_entries G)
 legal_begun [] G h = h
 legal_begun (e ∷ more) G h = legal_begun more G h.0
 
 module _ (d : Contents) (e : Entry) (left : List Entry) (h : CanPublish d (e ∷ left)) where
-  longer_legal : IsLegalStamped (stamped_entries (history d.table left ++ entry_of d.table e ∷ d.entries))
-  longer_legal = subst (λ (G : List TheEntry). IsLegalStamped (stamped_entries G)) (oldest_next d.table e left d.entries) h.legal
+  longer_legal : IsLegalStamped (stamped_entries (history left ++ entry_of e ∷ d.entries))
+  longer_legal = subst (λ (G : List TheEntry). IsLegalStamped (stamped_entries G)) (oldest_next e left d.entries) h.legal
 
-  pub oldest_follows : MayFollowEntries d.entries (entry_of d.table e)
-  oldest_follows = (legal_begun (history d.table left) (entry_of d.table e ∷ d.entries) longer_legal).1
+  pub oldest_follows : MayFollowEntries d.entries (entry_of e)
+  oldest_follows = (legal_begun (history left) (entry_of e ∷ d.entries) longer_legal).1
 
   -- it is published
-  pub one_published : (k : Contents) → k.table ≡ d.table → k.entries ≡ entry_of d.table e ∷ d.entries → PublishesMore d (e ∷ left) k left
+  pub one_published : (k : Contents) → k.table ≡ d.table → k.entries ≡ entry_of e ∷ d.entries → PublishesMore d (e ∷ left) k left
   one_published k table entries =
       let appended : appended_of k left
-      ≡ history d.table left ++ entry_of d.table e ∷ d.entries = λ i. history (table i) left ++ entries i in
+      ≡ history left ++ entry_of e ∷ d.entries = λ i. history left ++ entries i in
       record {
         table = table;
-        appended = appended ∙ sym (oldest_next d.table e left d.entries);
-        more = (entry_of d.table e ∷ [], entries);
+        appended = appended ∙ sym (oldest_next e left d.entries);
+        more = (entry_of e ∷ [], entries);
         publisher = record {
           legal = subst (λ (G : List TheEntry). IsLegalStamped (stamped_entries G)) (sym appended) longer_legal;
           members = subst (λ (ps : List ℕ). All (λ (f : Entry). IsTrue (is_member ps (op_in f).id.replica)) left) (sym table)
               (All-tail (λ (f : Entry). IsTrue (is_member d.table (op_in f).id.replica)) e left h.members);
-          wide = subst (λ (ps : List ℕ). All (λ (f : Entry). length (op_in f).deps ≡ length ps) left) (sym table)
-              (All-tail (λ (f : Entry). length (op_in f).deps ≡ length d.table) e left h.wide);
         };
       }
 
@@ -60,7 +58,7 @@ module _ (d : Contents) (e : Entry) (left : List Entry) (h : CanPublish d (e ∷
 pub none_published : (d k : Contents) (pending left : List Entry) → CanPublish d pending → k.table ≡ d.table → k.entries ≡ d.entries
     → left ≡ pending → PublishesMore d pending k left
 none_published d k pending left h table entries same =
-    let appended : appended_of k left ≡ appended_of d pending = λ i. history (table i) (same i) ++ entries i in
+    let appended : appended_of k left ≡ appended_of d pending = λ i. history (same i) ++ entries i in
     record {
       table = table;
       appended = appended;
@@ -69,8 +67,6 @@ none_published d k pending left h table entries same =
         legal = subst (λ (G : List TheEntry). IsLegalStamped (stamped_entries G)) (sym appended) h.legal;
         members = subst (λ (ps : List ℕ). All (λ (f : Entry). IsTrue (is_member ps (op_in f).id.replica)) left) (sym table)
             (subst (All (λ (f : Entry). IsTrue (is_member d.table (op_in f).id.replica))) (sym same) h.members);
-        wide = subst (λ (ps : List ℕ). All (λ (f : Entry). length (op_in f).deps ≡ length ps) left) (sym table)
-            (subst (All (λ (f : Entry). length (op_in f).deps ≡ length d.table)) (sym same) h.wide);
       };
     }
 
@@ -85,31 +81,27 @@ published_on d k m pending left last f g = record {
 
 -- one more entry is appended
 pub one_appended : (own : ℕ) (d : Contents) (pending : List Entry) (e : Entry) → CanPublish d pending
-    → IsEntryHistory own (entry_of d.table e ∷ appended_of d pending) → IsTrue (is_member d.table (op_in e).id.replica)
-    → length (op_in e).deps ≡ length d.table
-    → (appended_of d (pending ++ e ∷ []) ≡ entry_of d.table e ∷ appended_of d pending) × CanPublish d (pending ++ e ∷ [])
-one_appended own d pending e h lawful member width =
+    → IsEntryHistory own (entry_of e ∷ appended_of d pending) → IsTrue (is_member d.table (op_in e).id.replica)
+    → (appended_of d (pending ++ e ∷ []) ≡ entry_of e ∷ appended_of d pending) × CanPublish d (pending ++ e ∷ [])
+one_appended own d pending e h lawful member =
     let appended : appended_of d (pending ++ e ∷ [])
-    ≡ entry_of d.table e ∷ appended_of d pending = ap (λ (G : List TheEntry). G ++ d.entries) (history-more d.table pending e) in (
+    ≡ entry_of e ∷ appended_of d pending = ap (λ (G : List TheEntry). G ++ d.entries) (history-more pending e) in (
       appended,
       record {
         legal = subst (λ (G : List TheEntry). IsLegalStamped (stamped_entries G)) (sym appended)
-            (entries_legal own (entry_of d.table e ∷ appended_of d pending) lawful);
+            (entries_legal own (entry_of e ∷ appended_of d pending) lawful);
         members = All-push (λ (f : Entry). IsTrue (is_member d.table (op_in f).id.replica)) pending e h.members member;
-        wide = All-push (λ (f : Entry). length (op_in f).deps ≡ length d.table) pending e h.wide width;
       },
     )
 
 pub added : (own : ℕ) (d : Contents) (pending : List Entry) (e : Entry) → CanPublish d pending → (z : Publication)
     → record { own = own; members = d.table; published = d.entries; appended = appended_of d pending } ≡ z
-    → IsEntryHistory z.own (entry_of z.members e ∷ z.appended) → IsTrue (is_member z.members (op_in e).id.replica)
-    → length (op_in e).deps ≡ length z.members
+    → IsEntryHistory z.own (entry_of e ∷ z.appended) → IsTrue (is_member z.members (op_in e).id.replica)
     → (all : List Entry) → all ≡ pending ++ e ∷ [] → CanPublish d all
-added own d pending e h z is lawful member width all more =
+added own d pending e h z is lawful member all more =
     subst (CanPublish d) (sym more) (one_appended own d pending e h
-    (subst (λ (p : Publication). IsEntryHistory p.own (entry_of p.members e ∷ p.appended)) (sym is) lawful)
-    (subst (λ (p : Publication). IsTrue (is_member p.members (op_in e).id.replica)) (sym is) member)
-    (subst (λ (p : Publication). length (op_in e).deps ≡ length p.members) (sym is) width)).1
+    (subst (λ (p : Publication). IsEntryHistory p.own (entry_of e ∷ p.appended)) (sym is) lawful)
+    (subst (λ (p : Publication). IsTrue (is_member p.members (op_in e).id.replica)) (sym is) member)).1
 
 -- what is published of a history are its first entries
 pub published_first : (p : Publication) (G : List TheEntry) → BeginsWith p.appended p.published → p.appended ≡ G

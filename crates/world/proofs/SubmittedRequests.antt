@@ -1,6 +1,6 @@
 -- What a request leaves, whether it is taken or refused.
-use Rattle.std.proofs.Common.{◌≡◌, ℕ, zero, suc, ◌<◌, Bool, true, false, cond, nat_le, List, [], ◌∷◌, length, Option, Some, None, refl, ap}
-use Rattle.std.proofs.Common.{eq-eqb, arith, slice_get}
+use Rattle.std.proofs.Common.{◌≡◌, ℕ, zero, suc, ◌<◌, Bool, true, false, nat_le, List, [], ◌∷◌, length, Option, Some, None, refl}
+use Rattle.std.proofs.Common.{arith, slice_get}
 use Rattle.std.proofs.lemmas.List.{length-set}
 use Rattle.ids.specs.declared.refusal.Refusal.{Refusal}
 use Rattle.semantics.specs.Stamped.{Stamped}
@@ -8,14 +8,6 @@ use Rattle.semantics.specs.LegalAnswer.{Request, OfPeer}
 use Rattle.semantics.specs.Engine.{Engine, Client, Ticket, Denied}
 use Rattle.semantics.specs.WriteSteps.{next_submission, with_cell, submit, push}
 use Rattle.semantics.specs.PeerSteps.{as_received, receive_lines, submit_all}
-use Rattle.replica.specs.operation.declared.op.Op.{Op}
-use Rattle.replica.specs.operation.Ops.{stamped_of}
-use Rattle.replica.specs.operation.Submissions.{received_of, nonmember}
-
--- an operation whose vector has the table's width is received as it is
-pub received_wide : (table : List ℕ) (o : Op) → length o.deps ≡ length table → received_of table o ≡ stamped_of table o
-received_wide table o width = ap (λ b. cond b (stamped_of table o) (nonmember table (stamped_of table o)))
-    (eq-eqb (length o.deps) (length table) width)
 
 -- what stands at an index within the list
 pub found : {X : Type 0} (xs : List X) (i : ℕ) → i < length xs → (x : X) × (slice_get xs i ≡ Some x)

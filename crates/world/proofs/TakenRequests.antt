@@ -23,7 +23,7 @@ pub client_there : (e : Inside) (A : Engine) (at : ℕ) → the_view e ≡ A →
     → (k : Client) × (slice_get A.clients at ≡ Some k)
 client_there e A at is lt =
     let long = ap (λ (F : Engine). length F.clients) is in
-    found A.clients at (omega (arith, long, lt, length-map e.clients.items (client_of e.handler.replica.document.table)))
+    found A.clients at (omega (arith, long, lt, length-map e.clients.items client_of))
 
 -- and what it receives
 pub receives : (e : Inside) (A : Engine) (at : ℕ) (ss : List Stamped) (bad : Option Refusal) → the_view e ≡ A
@@ -34,9 +34,9 @@ receives e A at ss bad is lt =
 
 -- the client that the code reads is that of the definitions
 pub stands : (e : Inside) (A : Engine) (at : ℕ) (k : AnyClient) → the_view e ≡ A → at < length A.clients → k ≡ get_or e.clients.items at k
-    → slice_get (map (client_of e.handler.replica.document.table) e.clients.items) at ≡ Some (client_of e.handler.replica.document.table k)
+    → slice_get (map client_of e.clients.items) at ≡ Some (client_of k)
 stands e A at k is there read =
-    let client = client_of e.handler.replica.document.table in
+    let client = client_of in
     let long = ap (λ (F : Engine). length F.clients) is in
     read_mapped client e.clients.items at k (omega (arith, there, long, length-map e.clients.items client)) read
 
@@ -51,36 +51,33 @@ full f xs n l = le-leb n (length (map f xs)) (omega (arith, l, length-map xs f))
 -- a request of the client k, as the engine takes it
 module _ (e : Inside) (A : Engine) (at : ℕ) (q : Request) (k : AnyClient) (is : the_view e ≡ A) (there : at < length A.clients)
     (read : k ≡ get_or e.clients.items at k) where
-  abbrev table : List ℕ
-  table = e.handler.replica.document.table
-
-  turn : {T : Type 0} (f : Outcome → T) (t : Outcome) → push (the_view e) at (request_of table q) ≡ t
-      → f (push A at (request_of A.replica.members q)) ≡ f t
-  turn f t pushed = sym (ap (λ (F : Engine). f (push F at (request_of F.replica.members q))) is) ∙ ap f pushed
+  turn : {T : Type 0} (f : Outcome → T) (t : Outcome) → push (the_view e) at (request_of q) ≡ t
+      → f (push A at (request_of q)) ≡ f t
+  turn f t pushed = sym (ap (λ (F : Engine). f (push F at (request_of q))) is) ∙ ap f pushed
 
   -- no serial is left for it
-  pub serials_end : e.serials ≤ length k.cells.items → (push A at (request_of A.replica.members q)).reply ≡ Denied SerialEnd
-  serials_end l = turn (λ t. t.reply) _ (push-last (the_view e) at (request_of table q) (client_of table k) (stands e A at k is there read)
-      (full (cell_of table) k.cells.items e.serials l))
+  pub serials_end : e.serials ≤ length k.cells.items → (push A at (request_of q)).reply ≡ Denied SerialEnd
+  serials_end l = turn (λ t. t.reply) _ (push-last (the_view e) at (request_of q) (client_of k) (stands e A at k is there read)
+      (full cell_of k.cells.items e.serials l))
 
   -- the queue has no room for it
   pub queue_full : length k.cells.items < e.serials → e.capacity ≤ length e.queue.items
-      → (push A at (request_of A.replica.members q)).reply ≡ Denied QueueFull
-  queue_full serials l = turn (λ t. t.reply) _ (push-full (the_view e) at (request_of table q) (client_of table k)
+      → (push A at (request_of q)).reply ≡ Denied QueueFull
+  queue_full serials l = turn (λ t. t.reply) _ (push-full (the_view e) at (request_of q) (client_of k)
       (stands e A at k is there read)
-      (below (cell_of table) k.cells.items e.serials serials) (full (submitted_of table) e.queue.items e.capacity l))
+      (below cell_of k.cells.items e.serials serials) (full submitted_of e.queue.items e.capacity l))
 
   -- it is queued and kept
   pub queued : length k.cells.items < e.serials → length e.queue.items < e.capacity
-      → push A at (request_of A.replica.members q)
+      → push A at (request_of q)
       ≡ record {
         engine = record (the_view e) {
-          queue = map (submitted_of table) e.queue.items ++ next_submission at (client_of table k) (request_of table q) ∷ [];
-          clients = slice_set (map (client_of table) e.clients.items) at
-              (with_cell (client_of table k) (next_submission at (client_of table k) (request_of table q)));
+          queue = map submitted_of e.queue.items ++ next_submission at (client_of k) (request_of q) ∷ [];
+          clients = slice_set (map client_of e.clients.items) at
+              (with_cell (client_of k) (next_submission at (client_of k) (request_of q)));
         };
-        reply = Ticket (suc (length (client_of table k).cells));
+        reply = Ticket (suc (length (client_of k).cells));
       }
-  queued serials capacity = turn (λ t. t) _ (push-there (the_view e) at (request_of table q) (client_of table k)
+  queued serials capacity = turn (λ t. t) _ (push-there (the_view e) at (request_of q) (client_of k)
       (stands e A at k is there read)
-      (below (cell_of table) k.cells.items e.serials serials) (below (submitted_of table) e.queue.items e.capacity capacity))
+      (below cell_of k.cells.items e.serials serials) (below submitted_of e.queue.items e.capacity capacity))

@@ -1,12 +1,11 @@
 -- Steps, replies, clients and messages of the program as those of the definitions.
-use Rattle.std.specs.Prelude.{ℕ, ⊤, List}
+use Rattle.std.specs.Prelude.{ℕ, List}
 use Rattle.semantics.specs.Questions.{Refused as NotAnswered}
-use Rattle.semantics.specs.Tables.{by_table}
 use Rattle.semantics.specs.LegalAnswer.{Answered}
 use Rattle.semantics.specs.Engine as engine
 use Rattle.semantics.specs.World as world
 use Rattle.replica.specs.operation.Ops.{command_of}
-use Rattle.replica.specs.document.Documents.{HasWidthOf, asked_of, said_by}
+use Rattle.replica.specs.document.Documents.{asked_of, said_by}
 use Rattle.replica.specs.operation.Submissions.{reply_of}
 use Rattle.wire.specs.Bundles.{readable}
 use Rattle.world.specs.declared.step.WorldStep.{WorldStep}
@@ -23,7 +22,7 @@ act_of table act.Publish = world.Publish
 act_of table act.Give = world.Give
 act_of table act.WholeStep = world.WholeStep
 act_of table (act.Poll c serial) = world.Poll c serial
-act_of table (act.Ask t q) = world.Ask t (asked_of table q)
+act_of table (act.Ask t q) = world.Ask t (asked_of q)
 act_of table (act.Learn t c serial) = world.Learn t c serial
 act_of table (act.SayHello t) = world.SayHello t
 act_of table (act.AnswerHello t k) = world.AnswerHello t k
@@ -35,11 +34,6 @@ act_of table act.Dropped = world.CountDropped
 abbrev pub step_of : List ℕ → WorldStep → world.WorldStep
 step_of table s = record { engine = s.engine; act = act_of table s.act }
 
--- a vector that the act asks about has a counter for each replica of the table
-abbrev pub ActHasWidthOf : List ℕ → WorldAct → Type 0
-ActHasWidthOf table (act.Ask t q) = HasWidthOf table q
-ActHasWidthOf table _ = ⊤
-
 -- what a step replies
 abbrev pub step_reply_of : WorldReply → engine.StepReply
 step_reply_of (said.Ticket serial) = engine.Ticket serial
@@ -50,10 +44,10 @@ step_reply_of (said.Gave c serial) = engine.Gave c serial
 step_reply_of said.Idle = engine.Idle
 step_reply_of said.Unanswered = engine.Unanswered
 step_reply_of (said.Replied r) = engine.Replied (reply_of r)
-step_reply_of (said.Read n table reading) = engine.Read n (said_by table reading)
+step_reply_of (said.Read n reading) = engine.Read n (said_by reading)
 step_reply_of (said.NotRead n why) = engine.Read n (Answered (NotAnswered why))
 step_reply_of (said.Seen n) = engine.Seen n
-step_reply_of (said.Hello k table vector) = engine.SentHello k (by_table table vector)
+step_reply_of (said.Hello k vector) = engine.SentHello k vector
 step_reply_of (said.Bundle k n) = engine.SentBundle k n
 step_reply_of said.NoMessage = engine.NoMessage
 step_reply_of (said.Received first n stopped) = engine.Received first n stopped

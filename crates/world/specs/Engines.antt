@@ -1,4 +1,4 @@
--- The parts of an engine of the program as those of the definitions, where its replicas have a table.
+-- The parts of an engine of the program as those of the definitions.
 use Rattle.std.specs.Prelude.{◌+◌, ℕ, ⊤, Bool, true, false, List, map, Option, Some, None, option_map}
 use Rattle.ids.specs.Configurations.{Configuration}
 use Rattle.ids.specs.declared.refusal.Refusal.{Refusal}
@@ -8,7 +8,6 @@ use Rattle.semantics.specs.Engine as engine
 use Rattle.semantics.specs.Engine.{Engine}
 use Rattle.semantics.specs.World.{WorldStep}
 use Rattle.semantics.specs.WorldHistory.{IsEngineAfter}
-use Rattle.semantics.specs.Tables.{by_table}
 use Rattle.replica.specs.operation.Ops.{stamped_of}
 use Rattle.replica.specs.operation.Submissions.{reply_of, submitted_of}
 use Rattle.world.specs.declared.engine.Handled.{Handled}
@@ -19,25 +18,25 @@ use Rattle.world.specs.declared.message.Message.{Message}
 use Rattle.world.specs.declared.message.Message.TheVariants as message
 
 -- a submission that was handled
-abbrev pub handled_of : List ℕ → Handled → engine.Handled
-handled_of table h = record { submitted = submitted_of table h.submission; reply = reply_of h.reply }
+abbrev pub handled_of : Handled → engine.Handled
+handled_of h = record { submitted = submitted_of h.submission; reply = reply_of h.reply }
 
 -- an answer that was set
 abbrev pub given_of : Given → engine.Given
 given_of g = record { reply = reply_of g.reply; published = g.published }
 
 -- what was submitted under a serial, with its answer
-abbrev pub cell_of : List ℕ → Cell → engine.Cell
-cell_of table cell = record { submitted = submitted_of table cell.submission; answer = option_map given_of cell.answer }
+abbrev pub cell_of : Cell → engine.Cell
+cell_of cell = record { submitted = submitted_of cell.submission; answer = option_map given_of cell.answer }
 
 -- a client
-abbrev pub client_of : List ℕ → Client → engine.Client
-client_of table k = record { seen = k.seen; cells = map (cell_of table) k.cells.items }
+abbrev pub client_of : Client → engine.Client
+client_of k = record { seen = k.seen; cells = map cell_of k.cells.items }
 
--- a message, whose vectors are indexed by the table of its sender
+-- a message
 abbrev pub message_of : Message → engine.Message
-message_of (message.Hello h) = engine.Hello (by_table h.table h.vector)
-message_of (message.Bundle b) = engine.Bundle (map (stamped_of b.table) b.ops.items)
+message_of (message.Hello v) = engine.Hello v
+message_of (message.Bundle ops) = engine.Bundle (map stamped_of ops.items)
 
 -- the reply to a request that was refused so, or else taken under the serial
 abbrev pub taken_or_denied : ℕ → Option Refusal → engine.StepReply

@@ -1,5 +1,5 @@
 -- What a publisher has published, and what it will.
-use Rattle.std.specs.Prelude.{◌≡◌, ◌++◌, List, IsTrue, length}
+use Rattle.std.specs.Prelude.{◌≡◌, ◌++◌, List, IsTrue}
 use Rattle.std.specs.List.{All}
 use Rattle.ids.specs.Members.{is_member}
 use Rattle.semantics.specs.Stamped.{IsLegalStamped}
@@ -12,14 +12,12 @@ use Rattle.replica.specs.document.Documents.{Contents}
 
 -- all that was appended: what is published, and then the pending entries, which begin with the oldest
 abbrev pub appended_of : Contents → List Entry → List TheEntry
-appended_of published pending = history published.table pending ++ published.entries
+appended_of published pending = history pending ++ published.entries
 
--- each pending entry may be published in its turn: what was appended is a legal history, and the operations are of members, with
--- vectors of the table's width
+-- each pending entry may be published in its turn: what was appended is a legal history, and the operations are of members
 pub record CanPublish (published : Contents) (pending : List Entry) : Type 0 where
   pub legal : IsLegalStamped (stamped_entries (appended_of published pending))
   pub members : All (λ e. IsTrue (is_member published.table (op_in e).id.replica)) pending
-  pub wide : All (λ e. length (op_in e).deps ≡ length published.table) pending
 
 -- some pending entries were published, so that these are left
 pub record PublishesMore (published : Contents) (pending : List Entry) (after : Contents) (left : List Entry) : Type 0 where

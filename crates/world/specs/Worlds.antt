@@ -1,12 +1,12 @@
 -- What contracts see of a world of the program.
-use Rattle.std.specs.Prelude.{◌≡◌, ◌≢◌, ℕ, ◌+◌, ◌≤◌, Bool, true, ⊤, List, [], ◌∷◌, map, take, length, Option, Some, None, slice_get}
+use Rattle.std.specs.Prelude.{◌≡◌, ◌≢◌, ℕ, ◌+◌, ◌≤◌, Bool, true, ⊤, List, [], map, take, length, Option, Some, None, slice_get}
 use Rattle.std.specs.Prelude.{slice_index_or, slice_set}
 use Rattle.std.specs.List.{list_all}
 use Rattle.ids.specs.Configurations.{Configuration, is_within_limits}
 use Rattle.semantics.specs.Engine.{Engine, Message}
 use Rattle.semantics.specs.World.{World, WorldStep as TheStep, opened, world_after}
 use Rattle.world.specs.declared.step.WorldStep.{WorldStep}
-use Rattle.world.specs.Acts.{ActHasWidthOf, step_of}
+use Rattle.world.specs.Acts.{step_of}
 use Rattle.world.specs.Parts.{IsBetween, IsInPart}
 
 -- the engines, the messages, how many steps were done, and whether an allocation failed
@@ -35,10 +35,6 @@ table_at tables e = slice_index_or tables e []
 -- a step of engines with these tables
 abbrev pub step_in : List (List ℕ) → WorldStep → TheStep
 step_in tables s = step_of (table_at tables s.engine) s
-
--- a vector that the step asks about is indexed by the table of its engine
-abbrev pub StepHasWidthIn : List (List ℕ) → WorldStep → Type 0
-StepHasWidthIn tables s = ActHasWidthOf (table_at tables s.engine) s.act
 
 -- steps lead to the world from a new one, whose configurations are within the limits
 pub record IsReachedWorld (W : World) : Type 0 where

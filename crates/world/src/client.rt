@@ -1,6 +1,6 @@
 //! What an engine keeps for a client: a cell for each serial, and how much the client's token has seen.
 
-ghost use Rattle.std.specs.Prelude.{◌≡◌, ◌+◌, ◌<◌, ◌^◌, ℕ, List, option_map, vec_len, OnErr, OnOk};
+ghost use Rattle.std.specs.Prelude.{◌≡◌, ◌+◌, ◌<◌, ◌^◌, option_map, vec_len, OnErr, OnOk};
 ghost use Rattle.semantics.specs.WriteSteps.{next_submission, with_cell, with_answer};
 ghost use Rattle.semantics.specs.ReadSteps.{cell_at};
 
@@ -34,7 +34,7 @@ impl Client {
 
     /// The cell of a serial; none has the serial 0.
     pub fn cell(&self, serial: u64) -> Option<&Cell>
-        ensures { (table : List ℕ) → option_map (λ c. cell_of table c.now) result ≡ cell_at (client_of table self.now).cells serial }
+        ensures { option_map (λ c. cell_of c.now) result ≡ cell_at (client_of self.now).cells serial }
     {
         if serial == 0 {
             return None;
@@ -46,8 +46,7 @@ impl Client {
     /// seen as the floor.
     pub fn next_submission(&self, client: usize, request: Request) -> Submission
         requires { vec_len self.now.cells + 1 < 2 ^ 64 }
-        ensures submission { (table : List ℕ)
-            → submitted_of table result ≡ next_submission client (client_of table self.now) (request_of table request) }
+        ensures submission { submitted_of result ≡ next_submission client (client_of self.now) (request_of request) }
         ensures request { result.request ≡ request }
     {
         Submission {
@@ -63,9 +62,8 @@ impl Client {
     /// # Errors
     /// `AllocError` if allocation fails. Nothing is kept then.
     pub fn keep(&mut self, submission: Submission) -> Result<(), AllocError>
-        ensures client { OnOk result ((table : List ℕ)
-            → client_of table self.new ≡ with_cell (client_of table self.old) (submitted_of table submission)) }
-        ensures unchanged { OnErr result ((table : List ℕ) → client_of table self.new ≡ client_of table self.old) }
+        ensures client { OnOk result (client_of self.new ≡ with_cell (client_of self.old) (submitted_of submission)) }
+        ensures unchanged { OnErr result (client_of self.new ≡ client_of self.old) }
     {
         self.cells.push(Cell {
             submission,
@@ -76,7 +74,7 @@ impl Client {
 
     /// Sets the answer in the cell of a serial.
     pub fn answer(&mut self, serial: u64, given: Given)
-        ensures { (table : List ℕ) → client_of table self.new ≡ with_answer (client_of table self.old) serial (given_of given) }
+        ensures { client_of self.new ≡ with_answer (client_of self.old) serial (given_of given) }
     {
         let index = serial.saturating_sub(1) as usize;
         if index < self.cells.len() {

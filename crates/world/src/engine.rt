@@ -1,12 +1,12 @@
 //! One engine on one thread: its clients submit to a queue, its writer takes from it in batches, and tokens read what is published.
 
-ghost use Rattle.std.specs.Prelude.{◌≡◌, OnOk, OnErr, IfOk, true, map, [], length, replicate, List, ℕ, ◌++◌};
+ghost use Rattle.std.specs.Prelude.{◌≡◌, OnOk, OnErr, IfOk, true, map, [], length, replicate, ◌++◌};
 ghost use Rattle.ids.specs.Configurations.{is_within_limits};
 ghost use Rattle.semantics.specs.World.{engine_step, opened_engine, sent_by};
 ghost use Rattle.semantics.specs.Publication.{Holds};
 ghost use Rattle.replica.specs.Replicas.{replica_of};
 ghost use Rattle.world.specs.Engines.{IsReachedEngine, client_of, message_of};
-ghost use Rattle.world.specs.Acts.{ActHasWidthOf, act_of, step_reply_of};
+ghost use Rattle.world.specs.Acts.{act_of, step_reply_of};
 ghost use Rattle.world.specs.Parts.{IsInPart};
 
 mod peers;
@@ -67,11 +67,11 @@ impl Model for Engine {
       batch = e.batch;
       serials = e.serials;
       replica = replica_of e.handler.replica;
-      queue = map (submitted_of e.handler.replica.document.table) e.queue.items;
-      handled = map (handled_of e.handler.replica.document.table) e.handled.items;
-      due = map (handled_of e.handler.replica.document.table) e.due.items;
+      queue = map submitted_of e.queue.items;
+      handled = map handled_of e.handled.items;
+      due = map handled_of e.due.items;
       published = length e.publisher.published;
-      clients = map (client_of e.handler.replica.document.table) e.clients.items;
+      clients = map client_of e.clients.items;
       readers = e.readers.items;
     } };
 
@@ -120,8 +120,7 @@ impl Engine {
         messages: &mut Vec<Message>,
         act: &WorldAct,
     ) -> Result<WorldReply, AllocError>
-        requires reached { IsReachedEngine self.old }
-        requires width { ActHasWidthOf self.old.replica.members act.now }
+        requires { IsReachedEngine self.old }
         ensures engine { OnOk result (self.new
             ≡ (engine_step (map message_of messages.old.items) (act_of self.old.replica.members act.now) self.old).engine) }
         ensures reply { IfOk result
@@ -147,7 +146,7 @@ impl Engine {
                 client,
                 serial,
             } => Ok(self.learn(*token, *client, *serial)),
-            WorldAct::SayHello { token } => self.hello(messages, *token),
+            WorldAct::SayHello { token } => self.hello(alloc, messages, *token),
             WorldAct::AnswerHello { token, message } => self.bundle(
                 alloc, messages, *token, *message,
             ),
@@ -190,7 +189,7 @@ fn new_readers(alloc: Global, count: usize) -> Result<Vec<usize>, AllocError>
 /// New clients, which have seen and submitted nothing.
 fn new_clients(alloc: Global, count: usize) -> Result<Vec<Client>, AllocError>
     ensures clients { IfOk result
-        (λ v. (table : List ℕ) → map (client_of table) v.items ≡ replicate count (record { seen = 0; cells = [] })) }
+        (λ v. map client_of v.items ≡ replicate count (record { seen = 0; cells = [] })) }
 {
     let mut clients = Vec::with_capacity(alloc, count)?;
     for _ in 0..count {

@@ -3,8 +3,8 @@
 
 mod client;
 mod engine;
+mod members;
 mod message;
-mod naming;
 mod publisher;
 mod step;
 mod world;
@@ -15,7 +15,7 @@ pub use world::World;
 
 // Handed on from the crates below, for users of this one.
 pub use replica::{
-    Command, Expr, ExprStep, Key, Op, Question, Reading, Scalar, Shared, Tag, Val, VersionVector,
+    Command, Expr, ExprStep, Key, NamedVector, Op, Question, Reading, Scalar, Shared, Tag, Val,
 };
 pub use wire::{
     LINE_END, Lines, json_of, list_in, number_in, phrase_in, put_id, put_op, put_scalar,

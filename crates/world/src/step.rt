@@ -1,7 +1,7 @@
 //! The steps of a world and what they reply.
 
-use ids::{Refusal, ReplicaTable};
-use replica::{Command, Question, Reading, Reply, Shared, VersionVector};
+use ids::Refusal;
+use replica::{Command, NamedVector, Question, Reading, Reply, Shared};
 
 /// A step of a world: what the engine with this number does. Engines are numbered from 0.
 #[derive(Debug, Drop)]
@@ -32,7 +32,7 @@ pub enum WorldAct {
         client: usize,
         serial: u64,
     },
-    /// A token asks. A vector in the question is indexed by the table of the engine.
+    /// A token asks.
     Ask {
         token: usize,
         question: Question,
@@ -52,7 +52,7 @@ pub enum WorldAct {
         token: usize,
         message: usize,
     },
-    /// A client receives a copy of a bundle.
+    /// A client receives a bundle.
     Deliver {
         client: usize,
         message: usize,
@@ -88,10 +88,9 @@ pub enum WorldReply {
     Unanswered,
     /// The answer to what was submitted.
     Replied(Reply),
-    /// How many entries the token has seen, and what they answer, with the table that indexes its vectors.
+    /// How many entries the token has seen, and what they answer.
     Read {
         seen: u64,
-        table: ReplicaTable,
         reading: Reading,
     },
     /// How many entries the token has seen, and why they give no answer: the expression is refused.
@@ -101,11 +100,10 @@ pub enum WorldReply {
     },
     /// The token has seen this many entries.
     Seen(u64),
-    /// A hello was sent under this number, with this vector, indexed by the table of the engine.
+    /// A hello was sent under this number, with this vector.
     Hello {
         message: u64,
-        table: ReplicaTable,
-        vector: VersionVector,
+        vector: NamedVector,
     },
     /// A bundle of this many operations was sent under this number.
     Bundle {

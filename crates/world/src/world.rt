@@ -1,14 +1,14 @@
 //! Engines on one thread and the messages between them, as a list of steps moves them.
 
-ghost use Rattle.std.specs.Prelude.{◌≡◌, ◌≢◌, ◌+◌, ℕ, ◌↔◌, ◌⊎◌, OnOk, OnErr, IfOk, IfErr, Err, IsFalse, true, false, min, map, option_map};
-ghost use Rattle.std.specs.Prelude.{slice_get, length, List, alloc_error};
-ghost use Rattle.std.specs.List.{All, list_all};
+ghost use Rattle.std.specs.Prelude.{◌≡◌, ◌+◌, ℕ, ◌↔◌, ◌⊎◌, OnOk, OnErr, IfOk, IfErr, Err, IsFalse, true, false, min, map, option_map};
+ghost use Rattle.std.specs.Prelude.{slice_get, length, alloc_error};
+ghost use Rattle.std.specs.List.{list_all};
 ghost use Rattle.ids.specs.declared.refusal.Refusal.TheVariants.{NoMemory, BadConfig};
 ghost use Rattle.ids.specs.Configurations.{is_within_limits};
 ghost use Rattle.semantics.specs.World.{opened, opened_engine, world_step, world_after, replies_of};
 ghost use Rattle.world.specs.Engines.{message_of};
 ghost use Rattle.world.specs.Acts.{step_reply_of};
-ghost use Rattle.world.specs.Worlds.{StepHasWidthIn, IsReachedWorld, MovesInPart, StopsInStep, step_in, tables_of, world, world_of};
+ghost use Rattle.world.specs.Worlds.{IsReachedWorld, MovesInPart, StopsInStep, step_in, tables_of, world, world_of};
 
 use crate::engine::Engine;
 use crate::message::Message;
@@ -88,7 +88,6 @@ impl World {
     /// `AllocError` if allocation fails, and at each call after that. `steps_done` steps were done whole; the next one may be done
     /// in part, by its engine alone, which is then between what it was and what the whole step makes of it.
     pub fn run(&mut self, alloc: Global, steps: &[WorldStep]) -> Result<Vec<WorldReply>, AllocError>
-        requires { All (StepHasWidthIn (tables_of self.old.engines)) steps.now }
         ensures replies { IfOk result
             (λ rs. map step_reply_of rs.items ≡ replies_of (world_of self.old) (map (step_in (tables_of self.old.engines)) steps.now)) }
         ensures world { OnOk result (world_of self.new
@@ -160,7 +159,6 @@ fn run_all(
 ) -> Result<Vec<WorldReply>, AllocError>
     requires reached { IsReachedWorld (world engines.old.items (map message_of messages.old.items)) }
     requires none { whole.old ≡ 0 }
-    requires width { All (StepHasWidthIn (tables_of engines.old.items)) steps.now }
     ensures replies { IfOk result
         (λ rs. map step_reply_of rs.items
         ≡ replies_of (world engines.old.items (map message_of messages.old.items))
@@ -190,8 +188,7 @@ fn turn(
     messages: &mut Vec<Message>,
     step: &WorldStep,
 ) -> Result<WorldReply, AllocError>
-    requires reached { IsReachedWorld (world engines.old.items (map message_of messages.old.items)) }
-    requires width { StepHasWidthIn (tables_of engines.old.items) step.now }
+    requires { IsReachedWorld (world engines.old.items (map message_of messages.old.items)) }
     ensures world { OnOk result (world engines.new.items (map message_of messages.new.items)
         ≡ (world_step (world engines.old.items (map message_of messages.old.items))
         (step_in (tables_of engines.old.items) step.now)).world) }

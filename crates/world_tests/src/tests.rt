@@ -1,11 +1,5 @@
 //! What worlds reply, by examples.
 
-ghost use Rattle.std.specs.Prelude.{ℕ, List, IfOk, IfSome};
-ghost use Rattle.std.specs.List.{All};
-ghost use Rattle.document.specs.Documents.{HasWidthOf};
-ghost use Rattle.world.specs.Acts.{ActHasWidthOf};
-ghost use Rattle.world.specs.Worlds.{StepHasWidthIn, tables_of};
-
 mod documents;
 mod lives;
 mod peers;
@@ -15,7 +9,7 @@ mod shown;
 
 use cursor::{Expr, Step as PathStep};
 use document::{Question, Reading};
-use fixtures::vector;
+use fixtures::counted;
 use ids::{Config, Refusal};
 use operation::{Command, Shared};
 use shown::is_shown;
@@ -163,9 +157,7 @@ fn command(alloc: Global, act: Act) -> Result<Option<(usize, Command)>, Refusal>
 }
 
 /// The question of a token, if the act is one.
-fn question(alloc: Global, act: Act) -> Result<Option<(usize, Question)>, Refusal>
-    ensures { IfOk result (λ o. IfSome o (λ p. (table : List ℕ) → HasWidthOf table p.1)) }
-{
+fn question(alloc: Global, act: Act) -> Result<Option<(usize, Question)>, Refusal> {
     Ok(match act {
         Ask(token, key) => Some((token, Question::Values(at(alloc, &[AtKey(key)])?))),
         Values(token, path) => Some((token, Question::Values(at(alloc, path)?))),
@@ -178,9 +170,7 @@ fn question(alloc: Global, act: Act) -> Result<Option<(usize, Question)>, Refusa
 }
 
 /// An act that is a phase of the writer, a poll, or of peers.
-fn other_act(alloc: Global, act: Act) -> Result<Option<WorldAct>, Refusal>
-    ensures { IfOk result (λ o. IfSome o (λ a. (table : List ℕ) → ActHasWidthOf table a)) }
-{
+fn other_act(alloc: Global, act: Act) -> Result<Option<WorldAct>, Refusal> {
     Ok(Some(match act {
         Take => WorldAct::Take,
         Publish => WorldAct::Publish,
@@ -203,9 +193,7 @@ fn other_act(alloc: Global, act: Act) -> Result<Option<WorldAct>, Refusal>
     }))
 }
 
-fn act_of(alloc: Global, act: Act) -> Result<WorldAct, Refusal>
-    ensures { (table : List ℕ) → IfOk result (ActHasWidthOf table) }
-{
+fn act_of(alloc: Global, act: Act) -> Result<WorldAct, Refusal> {
     if let Some(other) = other_act(alloc, act)? {
         return Ok(other);
     }
@@ -219,17 +207,13 @@ fn act_of(alloc: Global, act: Act) -> Result<WorldAct, Refusal>
     Ok(WorldAct::WholeStep)
 }
 
-fn step(alloc: Global, engine: usize, act: Act) -> Result<WorldStep, Refusal>
-    ensures { (tables : List (List ℕ)) → IfOk result (StepHasWidthIn tables) }
-{
+fn step(alloc: Global, engine: usize, act: Act) -> Result<WorldStep, Refusal> {
     let act = act_of(alloc, act)?;
     Ok(WorldStep { engine, act })
 }
 
 /// The steps of these acts of an engine.
-fn steps(alloc: Global, engine: usize, acts: &[Act]) -> Result<Vec<WorldStep>, Refusal>
-    ensures { (tables : List (List ℕ)) → IfOk result (λ v. All (StepHasWidthIn tables) v.items) }
-{
+fn steps(alloc: Global, engine: usize, acts: &[Act]) -> Result<Vec<WorldStep>, Refusal> {
     let mut steps = Vec::new(alloc);
     for act in acts {
         steps.push(step(alloc, engine, *act)?)?;
@@ -238,22 +222,8 @@ fn steps(alloc: Global, engine: usize, acts: &[Act]) -> Result<Vec<WorldStep>, R
 }
 
 /// A token asks for what a vector of these counters lacks.
-fn missing_step(
-    alloc: Global,
-    world: &World,
-    token: usize,
-    counters: &[u64],
-) -> Result<WorldStep, Refusal>
-    ensures { IfOk result (StepHasWidthIn (tables_of world.now.engines)) }
-{
-    let Some(table) = world.table(0) else {
-        return Err(Refusal::NoReading);
-    };
-    let vector = vector(alloc, counters)?;
-    if vector.width() != table.len() {
-        return Err(Refusal::BadConfig);
-    }
-    let question = Question::Missing(vector);
+fn missing_step(alloc: Global, token: usize, counters: &[u64]) -> Result<WorldStep, Refusal> {
+    let question = Question::Missing(counted(alloc, counters)?);
     Ok(WorldStep {
         engine: 0,
         act: WorldAct::Ask { token, question },
@@ -264,9 +234,7 @@ fn missing_step(
 type Row<'a> = (Act<'a>, &'a str);
 
 /// The steps of the acts of these rows.
-fn row_steps(alloc: Global, engine: usize, rows: &[Row]) -> Result<Vec<WorldStep>, Refusal>
-    ensures { (tables : List (List ℕ)) → IfOk result (λ v. All (StepHasWidthIn tables) v.items) }
-{
+fn row_steps(alloc: Global, engine: usize, rows: &[Row]) -> Result<Vec<WorldStep>, Refusal> {
     let mut acts = Vec::new(alloc);
     for (act, _) in rows {
         acts.push(*act)?;

@@ -1,8 +1,5 @@
 //! What is done with both engines.
 
-ghost use Rattle.std.specs.Prelude.{List, ℕ, IfOk};
-ghost use Rattle.document.specs.Documents.{HasWidthOf};
-
 use super::dice::Dice;
 use cursor::{Expr, Place, Step as Hop};
 use document::Question;
@@ -57,7 +54,7 @@ pub enum Kind {
     Vector,
 }
 
-/// A question without a vector, which any engine may be asked.
+/// A question to the document.
 #[derive(Debug, Drop)]
 pub struct Probe {
     pub kind: Kind,
@@ -65,9 +62,7 @@ pub struct Probe {
 }
 
 impl Probe {
-    pub fn question(&self) -> Result<Question, Refusal>
-        ensures { IfOk result (λ q. (table : List ℕ) → HasWidthOf table q) }
-    {
+    pub fn question(&self) -> Result<Question, Refusal> {
         let place = self.place.clone()?;
         Ok(match self.kind {
             Kind::Values => Question::Values(place),

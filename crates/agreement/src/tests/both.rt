@@ -2,8 +2,6 @@
 
 ghost use Rattle.std.specs.Prelude.{◌≡◌};
 ghost use Rattle.ids.specs.Members.{in_order};
-ghost use Rattle.world.specs.Acts.{ActHasWidthOf};
-ghost use Rattle.world.specs.Worlds.{table_at, tables_of};
 
 use super::acts::{Act, CLIENTS, Probe, REPLICAS};
 use super::peers::send_the_same;
@@ -11,7 +9,7 @@ use document::Reading;
 use engine::{
     Client, EngineName, Notice, Parts, ReaderToken, Step, Ticket, Writer, close, open, prepare,
 };
-use ids::{Config, Refusal, ReplicaId, ReplicaTable};
+use ids::{Config, Refusal, ReplicaId};
 use operation::{Command, Op, Reply, Shared};
 use std::alloc::{AllocError, Global};
 use std::marker::Brand;
@@ -127,9 +125,7 @@ fn is_same<N: EngineName, R: Wait>(
 }
 
 /// What the world's engine replies to an act.
-pub fn reply(alloc: Global, world: &mut World, act: WorldAct) -> Result<WorldReply, Fail>
-    requires { ActHasWidthOf (table_at (tables_of world.old.engines) 0) act }
-{
+pub fn reply(alloc: Global, world: &mut World, act: WorldAct) -> Result<WorldReply, Fail> {
     let step = WorldStep { engine: 0, act };
     let mut replies = world.run(alloc, &[step])?;
     Ok(replies.pop().ok_or("no reply")?)
@@ -191,7 +187,7 @@ fn deliver<N: EngineName, R: Wait>(
     let ticket = delivered(rt, alloc, engine, client, op)?;
     let act = WorldAct::Line {
         client,
-        text: line_of(alloc, world, op)?,
+        text: line_of(alloc, op)?,
     };
     let told = reply(alloc, world, act)?;
     Ok(is_same_receipt(&told, &ticket))
@@ -225,13 +221,8 @@ fn is_same_receipt(told: &WorldReply, ticket: &Result<Ticket, Refusal>) -> bool 
     }
 }
 
-fn line_of(alloc: Global, world: &World, op: &Op) -> Result<Vec<u8>, Fail> {
-    let table = world.table(0).ok_or("no engine")?;
-    Ok(line_in_table(alloc, table, op)?)
-}
-
-fn line_in_table(alloc: Global, table: &ReplicaTable, op: &Op) -> Result<Vec<u8>, AllocError> {
-    let mut text = write_op(alloc, op, table)?;
+fn line_of(alloc: Global, op: &Op) -> Result<Vec<u8>, AllocError> {
+    let mut text = write_op(alloc, op)?;
     text.push(b'\n')?;
     Ok(text)
 }

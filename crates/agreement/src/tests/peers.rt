@@ -4,11 +4,10 @@ use super::acts::CLIENTS;
 use super::both::reply;
 use document::{Question, Reading};
 use engine::{EngineName, ReaderToken};
-use ids::ReplicaTable;
+use ids::NamedVector;
 use peer_sync::{answer, hello};
 use std::alloc::{AllocError, Global};
 use std::test::Fail;
-use version::VersionVector;
 use wire::{read_vector, write_bundle, write_vector};
 use world::{World, WorldAct, WorldReply};
 
@@ -39,17 +38,13 @@ fn world_hello(alloc: Global, world: &mut World) -> Result<Vec<u8>, Fail> {
         token: CLIENTS as usize,
     };
     match reply(alloc, world, act)? {
-        WorldReply::Hello { table, vector, .. } => Ok(line_of(alloc, &vector, &table)?),
+        WorldReply::Hello { vector, .. } => Ok(line_of(alloc, &vector)?),
         _ => Err("no hello".into()),
     }
 }
 
-fn line_of(
-    alloc: Global,
-    vector: &VersionVector,
-    table: &ReplicaTable,
-) -> Result<Vec<u8>, AllocError> {
-    let mut line = write_vector(alloc, vector, table)?;
+fn line_of(alloc: Global, vector: &NamedVector) -> Result<Vec<u8>, AllocError> {
+    let mut line = write_vector(alloc, vector)?;
     line.push(b'\n')?;
     Ok(line)
 }
@@ -62,15 +57,15 @@ fn world_answer(alloc: Global, world: &mut World, hello: &[u8]) -> Result<Vec<u8
         question: Question::Missing(vector),
     };
     match reply(alloc, world, act)? {
-        WorldReply::Read { table, reading, .. } => bundle_of(alloc, &reading, &table),
+        WorldReply::Read { reading, .. } => bundle_of(alloc, &reading),
         _ => Err("no answer".into()),
     }
 }
 
 /// The lines of the operations that were read.
-fn bundle_of(alloc: Global, reading: &Reading, table: &ReplicaTable) -> Result<Vec<u8>, Fail> {
+fn bundle_of(alloc: Global, reading: &Reading) -> Result<Vec<u8>, Fail> {
     match reading {
-        Reading::Missing(ops) => Ok(write_bundle(alloc, ops.as_slice(), table)?),
+        Reading::Missing(ops) => Ok(write_bundle(alloc, ops.as_slice())?),
         _ => Err("no operations".into()),
     }
 }

@@ -3,24 +3,23 @@
 //! A call whose allocation is refused leaves the document as it was, and is made once more. So such a test passes whichever single
 //! allocation is refused; with none refused, nothing is called again.
 
-ghost use Rattle.std.specs.Prelude.{◌≡◌, None, IsTrue, IfOk, OnOk, length};
+ghost use Rattle.std.specs.Prelude.{◌≡◌, None, IsTrue, OnOk};
 ghost use Rattle.ids.specs.Members.{is_member};
 ghost use Rattle.semantics.specs.Entries.{applied};
 ghost use Rattle.semantics.specs.Stamped.{MayFollow};
 ghost use Rattle.operation.specs.Alone.{alone_fault_of_op};
 ghost use Rattle.operation.specs.Ops.{stamped_of};
-ghost use Rattle.document.specs.Documents.{HasRoomFor, HasWidthOf};
+ghost use Rattle.document.specs.Documents.{HasRoomFor};
 
 use cursor::{Expr, Place, Tag};
 use document::{Document, Question, Reading};
-use fixtures::{Pair, id_of, pair_of, vector};
+use fixtures::{Pair, counted, id_of, pair_of};
 use ids::{OpId, Refusal};
 use operation::{Entry, Mutation, Op, Shared, check_alone};
 use std::alloc::{AllocError, Global};
 use std::process::Abort;
 use std::test::Fail;
 use value::{Key, Scalar, Val};
-use version::VersionVector;
 
 /// One step of the way from the root to a place.
 #[derive(Clone, Copy)]
@@ -69,7 +68,7 @@ pub enum Turn<'a> {
     Take(Sent<'a>),
     /// The fault of an operation that is ready and has none alone.
     Check(Sent<'a>, Result<(), Refusal>),
-    /// An operation whose vector is as wide as the table, and that isn't ready.
+    /// An operation that isn't ready.
     Waits(Sent<'a>),
     /// Whether one with this id was applied.
     Has(Pair, bool),
@@ -146,16 +145,14 @@ fn op(alloc: Global, sent: Sent) -> Result<Shared<Op>, Refusal> {
 fn stands_alone(document: &Document, op: &Op) -> bool
     ensures alone { IsTrue result → alone_fault_of_op document.now.table op.now ≡ None }
     ensures member { IsTrue result → IsTrue (is_member document.now.table op.now.id.replica) }
-    ensures width { IsTrue result → length op.now.deps ≡ length document.now.table }
 {
     check_alone(op, document.table()).is_ok()
 }
 
 /// The fault of an operation that is ready and has none alone.
 fn check(rt: &impl Abort, document: &Document, op: &Op) -> Result<(), Refusal>
-    ensures lawful { OnOk result (MayFollow (applied document.now.entries) (stamped_of document.now.table op.now)) }
+    ensures lawful { OnOk result (MayFollow (applied document.now.entries) (stamped_of op.now)) }
     ensures member { IsTrue (is_member document.now.table op.now.id.replica) }
-    ensures width { length op.now.deps ≡ length document.now.table }
 {
     assert!(rt; stands_alone(document, op));
     assert!(rt; document.ready(op));
@@ -171,7 +168,7 @@ fn reserve(
 ) -> Result<(), AllocError>
     ensures table { document.new.table ≡ document.old.table }
     ensures entries { document.new.entries ≡ document.old.entries }
-    ensures room { OnOk result (HasRoomFor document.new (stamped_of document.new.table op.now)) }
+    ensures room { OnOk result (HasRoomFor document.new (stamped_of op.now)) }
 {
     let before = (document.len(), document.applied().greatest());
     if document.reserve(alloc, op).is_ok() {
@@ -209,11 +206,6 @@ fn assert_check(
     Ok(())
 }
 
-/// Whether an operation has a vector as wide as the table, and isn't ready.
-fn waits(document: &Document, op: &Op) -> bool {
-    op.deps.width() == document.table().len() && !document.ready(op)
-}
-
 /// The step of a row.
 fn step_of(alloc: Global, step: Step) -> Result<cursor::Step, Refusal> {
     match step {
@@ -232,34 +224,21 @@ fn expr(alloc: Global, path: &[Step]) -> Result<Expr, Refusal> {
     Ok(Expr::new(steps))
 }
 
-/// The vector of these counters, as wide as the document's table.
-fn beside(alloc: Global, document: &Document, counters: [u64; 3]) -> Result<VersionVector, Refusal>
-    ensures { IfOk result (λ v. length v ≡ length document.now.table) }
-{
-    let vector = vector(alloc, &counters)?;
-    if vector.width() != document.table().len() {
-        return Err(Refusal::BadConfig);
-    }
-    Ok(vector)
-}
-
 /// The question of a turn that asks one. The others are never asked.
-fn question(alloc: Global, document: &Document, turn: Turn) -> Result<Question, Refusal>
-    ensures { IfOk result (λ q. HasWidthOf document.now.table q) }
-{
+fn question(alloc: Global, turn: Turn) -> Result<Question, Refusal> {
     Ok(match turn {
         Turn::Values(path, _) => Question::Values(expr(alloc, path)?),
         Turn::Keys(path, _) => Question::Keys(expr(alloc, path)?),
         Turn::Items(path, _) => Question::Items(expr(alloc, path)?),
         Turn::Conflicts(path, _) => Question::Conflicts(expr(alloc, path)?),
-        Turn::Missing(counters, _) => Question::Missing(beside(alloc, document, counters)?),
+        Turn::Missing(counters, _) => Question::Missing(counted(alloc, &counters)?),
         _ => Question::Vector,
     })
 }
 
 /// What the document answers, or `NoMemory` if an allocation is refused.
 fn try_ask(alloc: Global, document: &Document, turn: Turn) -> Result<Reading, Refusal> {
-    let question = question(alloc, document, turn)?;
+    let question = question(alloc, turn)?;
     document.ask(alloc, &question)
 }
 
@@ -361,7 +340,7 @@ fn try_missing(
     document: &Document,
     counters: [u64; 3],
 ) -> Result<Vec<Shared<Op>>, Refusal> {
-    let vector = beside(alloc, document, counters)?;
+    let vector = counted(alloc, &counters)?;
     Ok(document.missing(alloc, &vector)?)
 }
 
@@ -403,7 +382,7 @@ fn take_turn(
         Turn::Check(sent, wanted) => assert_check(rt, alloc, document, sent, wanted),
         Turn::Waits(sent) => {
             let op = op(alloc, sent)?;
-            assert!(rt; waits(document, &op));
+            assert!(rt; !document.ready(&op));
             Ok(())
         }
         Turn::Has(pair, wanted) => {

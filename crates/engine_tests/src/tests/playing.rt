@@ -2,7 +2,6 @@
 
 ghost use Rattle.std.specs.Prelude.{◌≡◌};
 ghost use Rattle.ids.specs.Members.{in_order};
-ghost use Rattle.document.specs.Documents.{HasWidthOf};
 
 use super::*;
 use cursor::Expr;
@@ -269,9 +268,7 @@ fn ask<N: EngineName>(
     stage: &mut Stage<N>,
     token: Token,
     question: &Question,
-) -> Result<Reading, Fail>
-    requires { HasWidthOf N.table question.now }
-{
+) -> Result<Reading, Fail> {
     match token {
         Token::Reader => Ok(stage.reader.ask(alloc, question)?),
         Token::Client(number) => {

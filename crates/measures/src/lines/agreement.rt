@@ -33,16 +33,16 @@ pub fn compare(rt: &impl Print, alloc: Global, samples: &[Sample]) -> io::Result
 /// # Errors
 /// `AllocError` if allocation fails.
 fn is_read_back(alloc: Global, ops: &[Shared<Op>], table: &ReplicaTable) -> Result<bool, AllocError>
-    ensures sent { All (λ o. CanBeSent table.now (stamped_of table.now o)) ops.now → IfOk result IsTrue }
+    ensures sent { All (λ o. CanBeSent table.now (stamped_of o)) ops.now → IfOk result IsTrue }
     ensures same { IfOk result
         (λ same. IsTrue same
-        → (again : List Stamped) × (bundle_form table.now (bundle_text (map (stamped_of table.now) ops.now)) ≡ Ok again)
-        × (bundle_text again ≡ bundle_text (map (stamped_of table.now) ops.now))) }
+        → (again : List Stamped) × (bundle_form table.now (bundle_text (map stamped_of ops.now)) ≡ Ok again)
+        × (bundle_text again ≡ bundle_text (map stamped_of ops.now))) }
 {
-    let text = write_bundle(alloc, ops, table)?;
+    let text = write_bundle(alloc, ops)?;
     match read_bundle(alloc, text.as_slice(), table) {
         Ok(again) => {
-            let rewritten = write_bundle(alloc, again.as_slice(), table)?;
+            let rewritten = write_bundle(alloc, again.as_slice())?;
             Ok(rewritten.as_slice() == text.as_slice())
         }
         Err((_, Refusal::NoMemory)) => Err(AllocError),

@@ -4,8 +4,7 @@ ghost use Rattle.std.specs.Prelude.{◌≡◌, length, IfOk};
 
 use ids::{Refusal, ReplicaTable};
 use operation::{Op, Shared};
-use std::alloc::{AllocError, Global};
-use version::VersionVector;
+use std::alloc::Global;
 use wire::read_op;
 
 /// Operations with their table of replicas.
@@ -24,9 +23,6 @@ const SHOPPING: [&str; 5] = [
     r#"["op",[4,1],[[1,3]],[["m",0],["l","shopping"]],1,["i","cheese"]]"#,
     r#"["op",[5,1],[[1,4]],[["m",0],["l","shopping"]],[3,1],["i","milk"]]"#,
 ];
-
-/// An operation that comes after a thousand others.
-const INSERT: &str = r#"["op",[1001,1],[],[["m",0],["l","shopping"]],1,["i","eggs"]]"#;
 
 /// The most members that a table may have.
 const MEMBERS: u32 = 64;
@@ -60,38 +56,26 @@ fn shopping_list(alloc: Global) -> Result<Sample, Refusal>
     })
 }
 
-/// An operation whose vector names each of 64 members.
+/// An operation whose vector names a thousand operations of each of 64 members.
 fn insert_after_all(alloc: Global) -> Result<Sample, Refusal>
     ensures { IfOk result (λ s. length s.ops.items ≡ 1) }
 {
     let mut members = Vec::new(alloc);
-    for number in 0..MEMBERS {
-        members.push(number + 1)?;
+    let mut pairs = String::new(alloc);
+    for number in 1..=MEMBERS {
+        members.push(number)?;
+        let comma = if number > 1 { "," } else { "" };
+        pairs.push_str(format!(in alloc; "{comma}[{number},1000]")?.as_str())?;
     }
     let table = ReplicaTable::new(alloc, members.as_slice())?;
-    let insert = read_op(alloc, INSERT.as_bytes(), &table)?;
-    let op = Op {
-        id: insert.id,
-        deps: after_all(alloc, table.len())?,
-        place: insert.place.clone()?,
-        mutation: insert.mutation.clone()?,
-    };
+    let line = format!(in alloc;
+        r#"["op",[1001,1],[{pairs}],[["m",0],["l","shopping"]],1,["i","eggs"]]"#
+    )?;
     let mut ops = Vec::new(alloc);
-    ops.push(Shared::new(alloc, op)?)?;
+    ops.push(read_op(alloc, line.as_bytes(), &table)?)?;
     Ok(Sample {
         name: "an insert beside 64 members",
         table,
         ops,
     })
-}
-
-/// The vector of a thousand operations of each replica.
-fn after_all(alloc: Global, width: usize) -> Result<VersionVector, AllocError>
-    ensures { IfOk result (λ v. length v ≡ width) }
-{
-    let mut deps = VersionVector::zero(alloc, width)?;
-    for index in 0..width {
-        deps.raise(index, 1000);
-    }
-    Ok(deps)
 }

@@ -55,7 +55,7 @@ fn a_second(count: u64, nanos: u64) -> u64
 fn lines_of(alloc: Global, sample: &Sample) -> Result<Vec<Vec<u8>>, Refusal> {
     let mut lines = Vec::new(alloc);
     for op in &sample.ops {
-        lines.push(write_op(alloc, op, &sample.table)?)?;
+        lines.push(write_op(alloc, op)?)?;
     }
     Ok(lines)
 }
@@ -65,7 +65,7 @@ fn write_often(alloc: Global, sample: &Sample) -> Result<u64, Refusal> {
     let mut bytes = 0_u64;
     for _ in 0..TURNS {
         for op in &sample.ops {
-            let line = write_op(alloc, op, &sample.table)?;
+            let line = write_op(alloc, op)?;
             bytes = bytes.saturating_add(line.len() as u64);
         }
     }

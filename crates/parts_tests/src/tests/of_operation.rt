@@ -3,7 +3,7 @@
 use At::{Field, HeadOfField, ItemOfField, Root};
 use Does::{Assign, Delete, Insert};
 use cursor::{Expr, Place, Step};
-use fixtures::{Pair, id_of, vector};
+use fixtures::{Pair, counted, id_of};
 use ids::{Refusal, ReplicaTable};
 use operation::{Command, Entry, Mutation, Op, Shared, check_alone};
 use std::alloc::Global;
@@ -65,7 +65,7 @@ fn mutation(does: Does) -> Mutation {
 
 fn op(alloc: Global, pair: Pair, counters: &[u64], at: At, does: Does) -> Result<Op, Refusal> {
     let id = id_of(pair)?;
-    let deps = vector(alloc, counters)?;
+    let deps = counted(alloc, counters)?;
     let place = place(alloc, at)?;
     Ok(Op {
         id,
@@ -100,7 +100,7 @@ const COUNTERS: &[Row] = &[
     ),
 ];
 
-/// Operations of a replica that isn't a member, or with a vector of other members.
+/// Operations that name a replica which isn't a member: by their id, their vector or an item of their place.
 const MEMBERS: &[Row] = &[
     (
         (1, 4),
@@ -109,10 +109,9 @@ const MEMBERS: &[Row] = &[
         Delete,
         Err(Refusal::UnknownReplica),
     ),
-    ((1, 1), &[0, 0], Field, Delete, Err(Refusal::UnknownReplica)),
     (
-        (1, 1),
-        &[0, 0, 0, 0],
+        (2, 1),
+        &[0, 0, 0, 1],
         Field,
         Delete,
         Err(Refusal::UnknownReplica),

@@ -1,12 +1,12 @@
 //! The tests of `oplog`: the entries of a log, and the positions of what a vector lacks.
 
-ghost use Rattle.std.specs.Prelude.{◌≡◌, false, IsTrue, length};
+ghost use Rattle.std.specs.Prelude.{◌≡◌, false, IsTrue};
 ghost use Rattle.ids.specs.Members.{is_member};
 ghost use Rattle.semantics.specs.LegalHistory.{has_id};
 ghost use Rattle.semantics.specs.Entries.{applied};
 
 use cursor::{Expr, Place};
-use fixtures::{Pair, id_of, pair_of, vector};
+use fixtures::{Pair, counted, id_of, pair_of};
 use ids::{OpId, Refusal, ReplicaTable};
 use operation::{Command, Entry, Mutation, Op, Shared};
 use oplog::Log;
@@ -56,15 +56,12 @@ fn has(log: &Log, id: OpId) -> bool
     log.find(id).is_some()
 }
 
-/// Whether the operation is a member's, has a vector as wide as the table, and wasn't applied.
+/// Whether the operation is a member's and wasn't applied.
 fn fits(log: &Log, op: &Op) -> bool
-    ensures width { IsTrue result → length op.now.deps ≡ length log.now.table }
     ensures member { IsTrue result → IsTrue (is_member log.now.table op.now.id.replica) }
     ensures new { IsTrue result → has_id (applied log.now.entries) op.now.id ≡ false }
 {
-    op.deps.width() == log.table().len()
-        && log.table().index_of(op.id.replica).is_some()
-        && !has(log, op.id)
+    log.table().index_of(op.id.replica).is_some() && !has(log, op.id)
 }
 
 /// Appends an entry whose operation fits.
@@ -78,14 +75,8 @@ fn append(log: &mut Log, entry: Entry) -> Result<(), Fail> {
 }
 
 /// The positions of what a vector of these counters lacks.
-fn missing(
-    rt: &impl Abort,
-    alloc: Global,
-    log: &Log,
-    counters: &[u64; 3],
-) -> Result<Vec<usize>, Fail> {
-    let vector = vector(alloc, counters)?;
-    assert_eq!(rt; vector.width(), log.table().len());
+fn missing(alloc: Global, log: &Log, counters: &[u64; 3]) -> Result<Vec<usize>, Fail> {
+    let vector = counted(alloc, counters)?;
     Ok(log.missing(alloc, &vector)?)
 }
 
@@ -206,7 +197,7 @@ type Lacking<'a> = ([u64; 3], &'a [usize]);
 /// Asserts what a vector lacks.
 fn assert_missing(rt: &impl Abort, alloc: Global, log: &Log, row: &Lacking) -> Result<(), Fail> {
     let (counters, want) = *row;
-    let missing = missing(rt, alloc, log, &counters)?;
+    let missing = missing(alloc, log, &counters)?;
     assert_eq!(rt; missing.as_slice(), want, "beyond {counters:?}");
     Ok(())
 }

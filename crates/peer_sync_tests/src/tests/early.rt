@@ -1,6 +1,6 @@
 //! Operations that come before what they depend on.
 
-use fixtures::{field, id_of, vector};
+use fixtures::{counted, field, id_of};
 use ids::Refusal;
 use operation::{Mutation, Op, Shared};
 use std::alloc::Global;
@@ -9,7 +9,7 @@ use std::alloc::Global;
 pub fn early_op(alloc: Global, counter: u64) -> Result<Shared<Op>, Refusal> {
     let op = Op {
         id: id_of((counter, 2))?,
-        deps: vector(alloc, &[0, 0, counter.saturating_sub(1)])?,
+        deps: counted(alloc, &[0, 0, counter.saturating_sub(1)])?,
         place: field(alloc, "a")?,
         mutation: Mutation::Delete,
     };

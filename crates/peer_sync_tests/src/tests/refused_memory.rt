@@ -437,7 +437,7 @@ fn assert_shown<N: EngineName>(
     want: Shown,
 ) -> Result<(), Refusal> {
     let place = again(refused, || expr(alloc, path))?;
-    let question = question(reader, place, want);
+    let question = question(place, want);
     let reading = match reader.ask(alloc, &question) {
         Err(Refusal::NoMemory) => {
             refused.note();

@@ -1,8 +1,5 @@
 //! What a reader is shown in a test: questions as rows, and their answers.
 
-ghost use Rattle.std.specs.Prelude.{◌≡◌, IfOk};
-ghost use Rattle.document.specs.Documents.{HasWidthOf};
-
 use cursor::{Expr, Step, Tag};
 use document::{Question, Reading};
 use engine::{EngineName, ReaderToken};
@@ -59,9 +56,7 @@ fn step(alloc: Global, to: To) -> Result<Step, Refusal> {
 }
 
 /// The question for what is to be shown.
-pub fn question<N: EngineName>(reader: &ReaderToken<N>, expr: Expr, want: Shown) -> Question
-    ensures { HasWidthOf N.table result }
-{
+pub fn question(expr: Expr, want: Shown) -> Question {
     match want {
         Shown::Values(_) => Question::Values(expr),
         Shown::NoValues(_) => Question::Values(expr),
@@ -139,7 +134,7 @@ pub fn assert_shown<N: EngineName>(
     path: &[To],
     want: Shown,
 ) -> Result<(), Fail> {
-    let question = question(reader, expr(alloc, path)?, want);
+    let question = question(expr(alloc, path)?, want);
     let answer = reader.ask(alloc, &question);
     assert!(rt; is_wanted(&answer, want), "{answer:?}");
     Ok(())

@@ -134,11 +134,7 @@ fn counters_are_tested_before_names(rt: HostRuntime) -> Result<(), Fail> {
 #[test]
 fn replicas_are_members(rt: HostRuntime) -> Result<(), Fail> {
     const TURNS: &[Turn<'static>] = &[
-        Turn::Deliver((1, 2), &[0, 0], Writes::Delete, UNKNOWN),
-        Turn::Drain(0, 0),
-        Turn::Deliver((1, 2), &[0, 0, 0, 0], Writes::Delete, UNKNOWN),
-        Turn::Drain(0, 0),
-        Turn::Deliver((1, 2), &[], Writes::Delete, UNKNOWN),
+        Turn::Deliver((2, 2), &[0, 0, 0, 1], Writes::Delete, UNKNOWN),
         Turn::Drain(0, 0),
         Turn::Deliver((1, 4), &[0, 0, 0], Writes::Delete, UNKNOWN),
         Turn::Drain(0, 0),

@@ -10,7 +10,7 @@ use super::recorder::{Before, Recorder};
 use super::*;
 use cursor::{Expr, Place, Step};
 use document::{Question, Reading};
-use fixtures::{Pair, field, id_of, pair_of, vector};
+use fixtures::{Pair, field, id_of, pair_of};
 use ids::Refusal;
 use operation::{Command, Mutation, Op, Shared};
 use std::alloc::Global;

@@ -57,7 +57,7 @@ impl<B: Before> Publish for Recorder<B> {
       own = B.own;
       members = B.members;
       published = [];
-      appended = history B.members p.entries.items ++ B.entries;
+      appended = history p.entries.items ++ B.entries;
     } };
 
     fn add(&mut self, entry: Entry) -> Result<(), AllocError> {

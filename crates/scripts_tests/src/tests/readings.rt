@@ -5,20 +5,16 @@ use super::replies::prints_line;
 use cursor::Tag;
 use document::Reading;
 use fixtures::{Pair, id_of};
-use ids::{Refusal, ReplicaTable};
+use ids::Refusal;
 use std::alloc::Global;
 use std::process::Abort;
 use std::test::Fail;
 use value::{Key, Scalar, Text};
 use world::WorldReply;
 
-/// Asserts how a reading after 7 entries, with the table 1, 2, 9, is printed.
+/// Asserts how a reading after 7 entries is printed.
 fn is_printed(rt: &impl Abort, alloc: Global, reading: Reading, answer: &str) -> Result<(), Fail> {
-    let reply = WorldReply::Read {
-        seen: 7,
-        table: ReplicaTable::new(alloc, &[9, 1, 2])?,
-        reading,
-    };
+    let reply = WorldReply::Read { seen: 7, reading };
     let line = format!(in alloc; r#"["reading",7,{answer}]"#)?;
     prints_line(rt, alloc, &[reply], line.as_str())
 }

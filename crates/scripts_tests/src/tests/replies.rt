@@ -1,8 +1,8 @@
 //! Every reply as it is printed.
 
 use document::Reading;
-use fixtures::{Pair, id_of, vector};
-use ids::{Refusal, ReplicaTable};
+use fixtures::{Pair, id_of, named};
+use ids::Refusal;
 use scripts::reply_lines;
 use std::alloc::Global;
 use std::process::Abort;
@@ -189,20 +189,20 @@ fn what_peers_sent(rt: HostRuntime) -> Result<(), Fail> {
     are_printed(&rt, rt.alloc(), ROWS)
 }
 
-/// A hello's number and the counters of its vector, with the table 1, 2, 9, and how it is printed.
-type Hello<'a> = (u64, [u64; 3], &'a str);
+/// A hello's number and the pairs of its vector, and how it is printed.
+type Hello<'a> = (u64, &'a [Pair], &'a str);
 
 /// No counter, and the greatest of the replicas 1 and 9.
 const HELLOS: &[Hello] = &[
     (
         0,
-        [0, 0, 0],
+        &[],
         r#"["message",0,[]]
 "#,
     ),
     (
         2,
-        [6, 0, 4611686018427387904],
+        &[(6, 1), (4611686018427387904, 9)],
         r#"["message",2,[[1,6],[9,4611686018427387904]]]
 "#,
     ),
@@ -210,13 +210,9 @@ const HELLOS: &[Hello] = &[
 
 /// Asserts how the hello is printed.
 fn is_told(rt: &impl Abort, alloc: Global, hello: &Hello) -> Result<(), Fail> {
-    let (message, counters, text) = *hello;
-    let vector = vector(alloc, &counters)?;
-    let reply = WorldReply::Hello {
-        message,
-        table: ReplicaTable::new(alloc, &[9, 1, 2])?,
-        vector,
-    };
+    let (message, pairs, text) = *hello;
+    let vector = named(alloc, pairs)?;
+    let reply = WorldReply::Hello { message, vector };
     prints(rt, alloc, &[reply], text)
 }
 
@@ -250,11 +246,7 @@ const READ: &[Read] = &[
 fn is_read(rt: &impl Abort, alloc: Global, read: &Read) -> Result<(), Fail> {
     let (seen, pairs, text) = *read;
     let reading = items_of(alloc, pairs)?;
-    let reply = WorldReply::Read {
-        seen,
-        table: ReplicaTable::new(alloc, &[1])?,
-        reading,
-    };
+    let reply = WorldReply::Read { seen, reading };
     prints(rt, alloc, &[reply], text)
 }
 

@@ -1,7 +1,8 @@
 //! Reserves and applies an operation after testing what the contracts require of it.
 
-ghost use Rattle.std.specs.Prelude.{◌≡◌, IsTrue, length};
+ghost use Rattle.std.specs.Prelude.{IsTrue};
 ghost use Rattle.ids.specs.Members.{is_member};
+ghost use Rattle.ids.specs.Vectors.{names_only};
 ghost use Rattle.semantics.specs.LegalHistory.{IsFormed};
 ghost use Rattle.semantics.specs.Operations.{slot_of};
 ghost use Rattle.operation.specs.Ops.{mutation_of, stamped_of};
@@ -12,7 +13,7 @@ use crate::insert::slot_of;
 use crate::node::{Node, node_at};
 use crate::tree::Tree;
 use crate::walk::walk;
-use operation::{Mutation, Op};
+use operation::{Mutation, Op, names_only};
 use std::alloc::Global;
 use std::process::Abort;
 use std::test::Fail;
@@ -27,15 +28,15 @@ pub fn play(rt: &impl Abort, alloc: Global, tree: &mut Tree, op: &Op) -> Result<
 
 /// Whether the operation has the right form, names members only, and its place is in the document.
 fn may_apply(tree: &Tree, op: &Op) -> bool
-    ensures placed { IsTrue result → IsPlaced (document tree.now) (stamped_of tree.now.table op.now) }
+    ensures placed { IsTrue result → IsPlaced (document tree.now) (stamped_of op.now) }
     ensures formed { IsTrue result → IsFormed (mutation_of op.now.mutation) op.now.place }
     ensures member { IsTrue result → IsTrue (is_member tree.now.table op.now.id.replica) }
-    ensures width { IsTrue result → length op.now.deps ≡ length tree.now.table }
+    ensures known { IsTrue result → IsTrue (names_only tree.now.table op.now.deps) }
 {
     is_formed(op)
         && fits(&tree.nodes, op)
         && tree.table.index_of(op.id.replica).is_some()
-        && op.deps.width() == tree.table.len()
+        && names_only(op.deps.ids(), &tree.table)
 }
 
 /// Whether an insert stands at a head or an item, and anything else at an element.

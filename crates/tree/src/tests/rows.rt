@@ -1,7 +1,9 @@
 //! Operations and places as they are written in a table of turns.
 
-use ids::{OpId, Refusal, ReplicaId};
-use operation::{Key, Mutation, Op, Place, Scalar, Text, Val, VersionVector};
+ghost use Rattle.std.specs.Prelude.{◌≡◌, IfOk};
+
+use ids::{NamedVector, OpId, Refusal, ReplicaId};
+use operation::{Key, Mutation, Op, Place, Scalar, Text, Val};
 use std::alloc::Global;
 use std::test::Fail;
 
@@ -36,7 +38,9 @@ pub enum Does<'a> {
 }
 
 /// The id with this counter and replica.
-fn id_of(pair: Pair) -> Result<OpId, Refusal> {
+fn id_of(pair: Pair) -> Result<OpId, Refusal>
+    ensures { IfOk result (λ id. (id.counter ≡ pair.0) × (id.replica ≡ pair.1)) }
+{
     let (counter, replica) = pair;
     let replica = ReplicaId::new(replica).ok_or(Refusal::UnknownReplica)?;
     Ok(OpId { counter, replica })
@@ -107,11 +111,16 @@ fn mutation(alloc: Global, does: Does) -> Result<Mutation, Refusal> {
     }
 }
 
-/// The vector of two counters.
-fn vector(alloc: Global, counters: [u64; 2]) -> Result<VersionVector, Refusal> {
-    let mut vector = VersionVector::zero(alloc, 2)?;
-    vector.raise(0, counters[0]);
-    vector.raise(1, counters[1]);
+/// The vector of the counters of the replicas 1 and 2, where 0 names nothing.
+fn vector(alloc: Global, counters: [u64; 2]) -> Result<NamedVector, Refusal> {
+    let [first, second] = counters;
+    let mut vector = NamedVector::new(alloc);
+    if first > 0 {
+        vector.push(id_of((first, 1))?)?;
+    }
+    if second > 0 {
+        vector.push(id_of((second, 2))?)?;
+    }
     Ok(vector)
 }
 

@@ -30,8 +30,7 @@ fn are_written(
     ops: &[Shared<Op>],
     want: &str,
 ) -> Result<(), Refusal> {
-    let table = table(alloc)?;
-    let text = write_bundle(alloc, ops, &table)?;
+    let text = write_bundle(alloc, ops)?;
     assert_eq!(rt; text.as_slice(), want.as_bytes());
     Ok(())
 }

@@ -1,6 +1,6 @@
 //! Lines of operations.
 
-use super::{Around, LINES, joined, list_of_five, with_part};
+use super::{Around, LINES, MANY_PAIRS, joined, list_of_five, pairs, with_part};
 use ids::{Refusal, ReplicaTable};
 use operation::{Op, check_alone};
 use std::alloc::{AllocError, Global};
@@ -9,33 +9,27 @@ use std::test::Fail;
 use wire::{read_op, write_op};
 
 /// Asserts that the operation is written as this line.
-fn is_written(
-    rt: &impl Abort,
-    alloc: Global,
-    op: &Op,
-    table: &ReplicaTable,
-    line: &str,
-) -> Result<(), Refusal> {
-    let written = write_op(alloc, op, table)?;
+fn is_written(rt: &impl Abort, alloc: Global, op: &Op, line: &str) -> Result<(), Refusal> {
+    let written = write_op(alloc, op)?;
     assert_eq!(rt; written.as_slice(), line.as_bytes());
     Ok(())
 }
 
-/// Asserts that both operations have the same parts; the first one's vector has two counters.
+/// Asserts that both operations have the same parts.
 fn are_same(rt: &impl Abort, again: &Op, op: &Op, line: &str) {
     assert_eq!(rt; again.id, op.id, "{line}");
     assert_eq!(rt; again.place, op.place, "{line}");
     assert_eq!(rt; again.mutation, op.mutation, "{line}");
-    assert_eq!(rt; again.deps.width(), 2, "{line}");
+    assert_eq!(rt; again.deps, op.deps, "{line}");
 }
 
 /// Asserts that this is the operation's line, and that it is read back as the operation.
 fn has_line(rt: &impl Abort, alloc: Global, op: &Op, line: &str) -> Result<(), Refusal> {
     let table = ReplicaTable::new(alloc, &[1, 2])?;
-    is_written(rt, alloc, op, &table, line)?;
+    is_written(rt, alloc, op, line)?;
     let again = read_op(alloc, line.as_bytes(), &table)?;
     are_same(rt, &again, op, line);
-    is_written(rt, alloc, &again, &table, line)
+    is_written(rt, alloc, &again, line)
 }
 
 #[test]
@@ -62,6 +56,19 @@ fn read(alloc: Global, line: &[u8]) -> Result<Pair, Refusal> {
 /// Asserts what is read from the line.
 fn is_read(rt: &impl Abort, alloc: Global, line: &str, want: Result<Pair, Refusal>) {
     assert_eq!(rt; read(alloc, line.as_bytes()), want, "{line}");
+}
+
+#[test]
+fn operations_of_many_pairs(rt: HostRuntime) -> Result<(), Fail> {
+    for (count, why) in MANY_PAIRS {
+        let pairs = pairs(rt.alloc(), count)?;
+        let line = joined(
+            rt.alloc(),
+            &[r#"["op",[2,1],"#, pairs.as_str(), r#",[],0,["a",{}]]"#],
+        )?;
+        is_read(&rt, rt.alloc(), line.as_str(), Err(why));
+    }
+    Ok(())
 }
 
 /// A line, and what is read from it.

@@ -1,6 +1,6 @@
 //! Lines of vectors.
 
-use super::{Around, joined, with_part};
+use super::{Around, MANY_PAIRS, joined, pairs, with_part};
 use ids::{Refusal, ReplicaTable};
 use std::alloc::{AllocError, Global};
 use std::process::Abort;
@@ -11,7 +11,7 @@ use wire::{read_vector, write_vector};
 fn rewritten(alloc: Global, line: &str) -> Result<Vec<u8>, Refusal> {
     let table = ReplicaTable::new(alloc, &[9, 1, 2])?;
     let vector = read_vector(alloc, line.as_bytes(), &table)?;
-    Ok(write_vector(alloc, &vector, &table)?)
+    Ok(write_vector(alloc, &vector)?)
 }
 
 /// Asserts that the vector of this line is written as that text.
@@ -120,6 +120,16 @@ fn vectors_without_form(rt: HostRuntime) -> Result<(), Fail> {
     ];
     for pairs in VECTORS {
         are_refused(&rt, rt.alloc(), pairs, Refusal::BadLine)?;
+    }
+    Ok(())
+}
+
+/// Of more than 256 pairs the first isn't looked at; else the third is of no member.
+#[test]
+fn vectors_of_many_pairs(rt: HostRuntime) -> Result<(), Fail> {
+    for (count, why) in MANY_PAIRS {
+        let pairs = pairs(rt.alloc(), count)?;
+        are_refused(&rt, rt.alloc(), pairs.as_str(), why)?;
     }
     Ok(())
 }

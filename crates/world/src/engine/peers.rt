@@ -2,10 +2,8 @@
 
 ghost use Rattle.std.specs.Prelude.{◌≡◌, ◌≢◌, ◌⊎◌, ◌++◌, ◌∷◌, [], ◌+◌, ◌<◌, ◌≤◌, ◌^◌, ◌==◌, cond, true, false, OnOk, OnErr, IfOk, IfNone};
 ghost use Rattle.std.specs.Prelude.{IfSome, MatchResult, Option, Some, map, length, slice_get};
-ghost use Rattle.std.specs.List.{All};
 ghost use Rattle.ids.specs.declared.refusal.Refusal.TheVariants.{NoMemory, UnknownReplica};
 ghost use Rattle.ids.specs.declared.refusal.Refusal.{Refusal as TheRefusal};
-ghost use Rattle.semantics.specs.Tables.{by_table};
 ghost use Rattle.semantics.specs.Engine.{Hello as HelloOf};
 ghost use Rattle.semantics.specs.WriteSteps.{push};
 ghost use Rattle.semantics.specs.PeerSteps.{answer_hello, answer_sent, lacked, names_members, published_vector, receive_lines};
@@ -17,11 +15,11 @@ ghost use Rattle.world.specs.Parts.{IsBetween};
 ghost use Rattle.world.specs.Acts.{step_reply_of};
 
 use crate::engine::Engine;
-use crate::message::{Message, NamedOps, NamedVector};
-use crate::naming::{reindexed_ops, reindexed_vector};
+use crate::members::before_nonmember;
+use crate::message::Message;
 use crate::step::WorldReply;
 use ids::Refusal;
-use replica::{Op, Request, Shared};
+use replica::{NamedVector, Op, Request, Shared, names_only};
 use std::alloc::{AllocError, Global};
 use wire::{LinesRead, read_lines};
 
@@ -32,6 +30,7 @@ impl Engine {
     /// `AllocError` if allocation fails.
     pub fn hello(
         &mut self,
+        alloc: Global,
         messages: &mut Vec<Message>,
         token: usize,
     ) -> Result<WorldReply, AllocError>
@@ -43,18 +42,10 @@ impl Engine {
         ensures unchanged { OnErr result (self.new ≡ self.old) }
     {
         let message = messages.len() as u64;
-        let table = self.shown().table().clone()?;
-        let vector = self.shown().applied().clone()?;
-        messages.push(Message::Hello(NamedVector {
-            table: table.clone()?,
-            vector: vector.clone()?,
-        }))?;
+        let vector = NamedVector::of(alloc, self.shown().applied().ids())?;
+        messages.push(Message::Hello(vector.clone()?))?;
         self.see_published(token);
-        Ok(WorldReply::Hello {
-            message,
-            table,
-            vector,
-        })
+        Ok(WorldReply::Hello { message, vector })
     }
 
     /// A token answers a hello with a bundle of what the sender lacks. Shares those operations.
@@ -89,7 +80,7 @@ impl Engine {
             Err(_) => return Err(AllocError),
         };
         let message = messages.len() as u64;
-        let operations = bundle.ops.len() as u64;
+        let operations = bundle.len() as u64;
         messages.push(Message::Bundle(bundle))?;
         self.see_published(token);
         Ok(WorldReply::Bundle {
@@ -102,20 +93,18 @@ impl Engine {
     ///
     /// # Errors
     /// `UnknownReplica` if it names a replica that isn't a member, `NoMemory` if allocation fails.
-    fn lacked(&self, alloc: Global, hello: &NamedVector) -> Result<NamedOps, Refusal>
+    fn lacked(&self, alloc: Global, hello: &NamedVector) -> Result<Vec<Shared<Op>>, Refusal>
         ensures { MatchResult result
-            (λ b. (map (stamped_of b.table) b.ops.items ≡ lacked self.now (by_table hello.now.table hello.now.vector))
-            × (names_members self.now (by_table hello.now.table hello.now.vector) ≡ true))
-            (λ why. (why ≡ NoMemory)
-            ⊎ ((why ≡ UnknownReplica) × (names_members self.now (by_table hello.now.table hello.now.vector) ≡ false))) }
+            (λ ops. (map stamped_of ops.items ≡ lacked self.now hello.now) × (names_members self.now hello.now ≡ true))
+            (λ why. (why ≡ NoMemory) ⊎ ((why ≡ UnknownReplica) × (names_members self.now hello.now ≡ false))) }
     {
-        let table = self.shown().table().clone()?;
-        let vector = reindexed_vector(alloc, &hello.table, &hello.vector, &table)?;
-        let ops = self.shown().missing(alloc, &vector)?;
-        Ok(NamedOps { table, ops })
+        if !names_only(hello.ids(), self.shown().table()) {
+            return Err(Refusal::UnknownReplica);
+        }
+        Ok(self.shown().missing(alloc, hello)?)
     }
 
-    /// A client receives a copy of a bundle, and submits its operations.
+    /// A client receives a bundle, and submits its operations, which the message and the history share.
     ///
     /// # Errors
     /// `AllocError` if allocation fails.
@@ -137,7 +126,7 @@ impl Engine {
         let Some(Message::Bundle(bundle)) = messages.get(message) else {
             return Ok(WorldReply::NoMessage);
         };
-        let read = reindexed_ops(alloc, bundle, self.shown().table());
+        let read = before_nonmember(alloc, bundle, self.shown().table());
         self.receive(client, read)
     }
 
@@ -174,17 +163,16 @@ impl Engine {
     /// `AllocError` if allocation fails, here or when the operations were read.
     fn receive(&mut self, client: usize, read: LinesRead) -> Result<WorldReply, AllocError>
         requires reached { IsReachedEngine self.old }
-        requires wide { All (λ o. length o.deps ≡ length self.old.replica.members) read.ops.items }
         ensures engine { OnOk result (self.new
-            ≡ (receive_lines self.old client (map (stamped_of self.old.replica.members) read.ops.items) read.stopped).engine) }
+            ≡ (receive_lines self.old client (map stamped_of read.ops.items) read.stopped).engine) }
         ensures reply { IfOk result
             (λ r. step_reply_of r
-            ≡ (receive_lines self.old client (map (stamped_of self.old.replica.members) read.ops.items) read.stopped).reply) }
+            ≡ (receive_lines self.old client (map stamped_of read.ops.items) read.stopped).reply) }
         ensures read { OnOk result (read.stopped ≢ Some NoMemory) }
         ensures stopped { OnErr result ((self.new ≡ self.old)
             ⊎ ((read.stopped ≢ Some NoMemory)
             × IsBetween self.old self.new
-            (receive_lines self.old client (map (stamped_of self.old.replica.members) read.ops.items) read.stopped).engine)) }
+            (receive_lines self.old client (map stamped_of read.ops.items) read.stopped).engine)) }
     {
         let LinesRead { ops, stopped } = read;
         if stopped == Some(Refusal::NoMemory) {
@@ -215,13 +203,12 @@ impl Engine {
     ) -> Result<(u64, Option<Refusal>), AllocError>
         requires reached { IsReachedEngine self.old }
         requires there { client < length self.old.clients }
-        requires wide { All (λ o. length o.deps ≡ length self.old.replica.members) ops.items }
         ensures few { IfOk result (λ p. p.0 ≤ length ops.items) }
         ensures submitted { IfOk result
-            (λ p. (bad : Option TheRefusal) → submit_all client bad 0 self.old (map (stamped_of self.old.replica.members) ops.items)
+            (λ p. (bad : Option TheRefusal) → submit_all client bad 0 self.old (map stamped_of ops.items)
             ≡ record { engine = self.new; submitted = p.0; stopped = stop_after p.0 (first_of p.1 bad) }) }
         ensures stopped { OnErr result ((bad : Option TheRefusal)
-            → IsBetween self.old self.new (submit_all client bad 0 self.old (map (stamped_of self.old.replica.members) ops.items)).engine) }
+            → IsBetween self.old self.new (submit_all client bad 0 self.old (map stamped_of ops.items)).engine) }
     {
         let mut submitted = 0;
         for op in ops {
@@ -237,7 +224,7 @@ impl Engine {
 /// The hello of this number, if it is one.
 fn hello_at(messages: &[Message], number: usize) -> Option<&NamedVector>
     ensures some { IfSome result
-        (λ h. slice_get (map message_of messages.now) number ≡ Some (HelloOf (by_table h.now.table h.now.vector))) }
+        (λ h. slice_get (map message_of messages.now) number ≡ Some (HelloOf h.now)) }
     ensures none { IfNone result (IsNoHello (slice_get (map message_of messages.now) number)) }
 {
     match messages.get(number) {

@@ -1,10 +1,10 @@
 //! What tokens of an engine read: answers to submissions, and to questions. What a token reads, it has seen.
 
-ghost use Rattle.std.specs.Prelude.{◌≡◌, OnErr, OnOk, IfOk, map, length, option_map, option_and_then, List, ℕ};
+ghost use Rattle.std.specs.Prelude.{◌≡◌, OnErr, OnOk, IfOk, map, length, option_map, option_and_then};
 ghost use Rattle.semantics.specs.Engine.{Engine as TheEngine, Read, published_entries};
 ghost use Rattle.semantics.specs.LegalAnswer.{reading_of};
 ghost use Rattle.semantics.specs.ReadSteps.{ask, cell_under, learn, poll, see, seen_by};
-ghost use Rattle.replica.specs.document.Documents.{HasWidthOf, asked_of};
+ghost use Rattle.replica.specs.document.Documents.{asked_of};
 ghost use Rattle.world.specs.Engines.{client_of, given_of};
 ghost use Rattle.world.specs.Acts.{step_reply_of};
 
@@ -58,9 +58,8 @@ impl Engine {
         token: usize,
         question: &Question,
     ) -> Result<WorldReply, AllocError>
-        requires { HasWidthOf self.old.replica.members question.now }
-        ensures engine { OnOk result (self.new ≡ (ask self.old token (asked_of self.old.replica.members question.now)).engine) }
-        ensures reply { IfOk result (λ r. step_reply_of r ≡ (ask self.old token (asked_of self.old.replica.members question.now)).reply) }
+        ensures engine { OnOk result (self.new ≡ (ask self.old token (asked_of question.now)).engine) }
+        ensures reply { IfOk result (λ r. step_reply_of r ≡ (ask self.old token (asked_of question.now)).reply) }
         ensures unchanged { OnErr result (self.new ≡ self.old) }
     {
         let reply = self.read(alloc, question)?;
@@ -73,18 +72,13 @@ impl Engine {
     /// # Errors
     /// `AllocError` if allocation fails.
     fn read(&self, alloc: Global, question: &Question) -> Result<WorldReply, AllocError>
-        requires { HasWidthOf self.now.replica.members question.now }
         ensures reply { IfOk result
             (λ r. step_reply_of r
-            ≡ Read self.now.published (reading_of (published_entries self.now) (asked_of self.now.replica.members question.now))) }
+            ≡ Read self.now.published (reading_of (published_entries self.now) (asked_of question.now))) }
     {
         let seen = self.shown().len() as u64;
         match self.shown().ask(alloc, question) {
-            Ok(reading) => Ok(WorldReply::Read {
-                seen,
-                table: self.shown().table().clone()?,
-                reading,
-            }),
+            Ok(reading) => Ok(WorldReply::Read { seen, reading }),
             Err(Refusal::NoMemory) => Err(AllocError),
             Err(why) => Ok(WorldReply::NotRead { seen, why }),
         }
@@ -110,7 +104,7 @@ impl Engine {
 
 /// The answer to a client's serial once it is set.
 fn answer_under(clients: &[Client], client: usize, serial: u64) -> Option<Given>
-    ensures { (table : List ℕ) (E : TheEngine) → E.clients ≡ map (client_of table) clients.now →
+    ensures { (E : TheEngine) → E.clients ≡ map client_of clients.now →
         option_map given_of result ≡ option_and_then (λ cell. cell.answer) (cell_under E client serial) }
 {
     clients.get(client)?.cell(serial)?.answer
@@ -118,7 +112,7 @@ fn answer_under(clients: &[Client], client: usize, serial: u64) -> Option<Given>
 
 /// How many entries a token has seen; the tokens are the clients', then the readers'.
 fn seen_by(clients: &[Client], readers: &[usize], token: usize) -> usize
-    ensures { (table : List ℕ) (E : TheEngine) → E.clients ≡ map (client_of table) clients.now → E.readers ≡ readers.now
+    ensures { (E : TheEngine) → E.clients ≡ map client_of clients.now → E.readers ≡ readers.now
         → result ≡ seen_by E token }
 {
     if token < clients.len() {
@@ -132,8 +126,8 @@ fn seen_by(clients: &[Client], readers: &[usize], token: usize) -> usize
 
 /// Notes that a token has seen this many entries.
 fn see(clients: &mut Vec<Client>, readers: &mut Vec<usize>, token: usize, seen: usize)
-    ensures { (table : List ℕ) (E : TheEngine) → E.clients ≡ map (client_of table) clients.old.items → E.readers ≡ readers.old.items →
-        see E token seen ≡ record E { clients = map (client_of table) clients.new.items; readers = readers.new.items } }
+    ensures { (E : TheEngine) → E.clients ≡ map client_of clients.old.items → E.readers ≡ readers.old.items →
+        see E token seen ≡ record E { clients = map client_of clients.new.items; readers = readers.new.items } }
 {
     if token < clients.len() {
         let k = &mut clients[token];

@@ -1,6 +1,6 @@
 //! What clients of an engine submit to its queue.
 
-ghost use Rattle.std.specs.Prelude.{◌≡◌, ◌++◌, ◌∷◌, [], ◌+◌, ◌<◌, ℕ, List, OnOk, OnErr, IfOk, Option, Some, length, slice_get};
+ghost use Rattle.std.specs.Prelude.{◌≡◌, ◌++◌, ◌∷◌, [], ◌+◌, ◌<◌, OnOk, OnErr, IfOk, Option, Some, length, slice_get};
 ghost use Rattle.semantics.specs.LegalAnswer.{OfCommand};
 ghost use Rattle.semantics.specs.Engine.{Client as TheClient};
 ghost use Rattle.semantics.specs.WriteSteps.{push, with_cell};
@@ -59,10 +59,10 @@ impl Engine {
         request: Request,
     ) -> Result<Option<Refusal>, AllocError>
         requires there { client < length self.old.clients }
-        ensures engine { OnOk result (self.new ≡ (push self.old client (request_of self.old.replica.members request)).engine) }
+        ensures engine { OnOk result (self.new ≡ (push self.old client (request_of request)).engine) }
         ensures reply { IfOk result
             (λ w. (k : TheClient) → slice_get self.old.clients client ≡ Some k
-            → (push self.old client (request_of self.old.replica.members request)).reply ≡ taken_or_denied (length k.cells + 1) w) }
+            → (push self.old client (request_of request)).reply ≡ taken_or_denied (length k.cells + 1) w) }
         ensures unchanged { OnErr result (self.new ≡ self.old) }
     {
         let k = &self.clients[client];
@@ -90,9 +90,9 @@ fn enqueue(
 ) -> Result<(), AllocError>
     ensures queue { OnOk result (queue.new.items ≡ queue.old.items ++ submission ∷ []) }
     ensures client { OnOk result
-        ((table : List ℕ) → client_of table k.new ≡ with_cell (client_of table k.old) (submitted_of table submission)) }
+        (client_of k.new ≡ with_cell (client_of k.old) (submitted_of submission)) }
     ensures unqueued { OnErr result (queue.new.items ≡ queue.old.items) }
-    ensures unchanged { OnErr result ((table : List ℕ) → client_of table k.new ≡ client_of table k.old) }
+    ensures unchanged { OnErr result (client_of k.new ≡ client_of k.old) }
 {
     let kept = submission.clone()?;
     queue.reserve(1)?;

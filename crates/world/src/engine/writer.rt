@@ -1,6 +1,6 @@
 //! The writer of an engine: it takes what clients submitted and handles it, publishes, and sets the answers.
 
-ghost use Rattle.std.specs.Prelude.{◌≡◌, ◌<◌, OnErr, OnOk, IfOk, map, length, List, ℕ};
+ghost use Rattle.std.specs.Prelude.{◌≡◌, ◌<◌, OnErr, OnOk, IfOk, map, ℕ};
 ghost use Rattle.semantics.specs.Entries.{IsAbove};
 ghost use Rattle.semantics.specs.Replica.{IsRunning};
 ghost use Rattle.semantics.specs.Publication.{Holds};
@@ -146,14 +146,13 @@ fn handle(
     requires running { IsRunning (replica_of handler.old.replica) }
     requires above { IsAbove submission.now.client submission.now.serial handler.old.replica.document.entries }
     ensures replica { OnOk result (replica_of handler.new.replica
-        ≡ after_submission (replica_of handler.old.replica) (submitted_of handler.old.replica.document.table submission.now)) }
+        ≡ after_submission (replica_of handler.old.replica) (submitted_of submission.now)) }
     ensures reply { IfOk result
-        (λ r. reply_of r ≡ reply_to (replica_of handler.old.replica) (submitted_of handler.old.replica.document.table submission.now)) }
-    ensures table { handler.new.replica.document.table ≡ handler.old.replica.document.table }
+        (λ r. reply_of r ≡ reply_to (replica_of handler.old.replica) (submitted_of submission.now)) }
     ensures holds { Holds publisher.new (replica_of handler.new.replica) }
     ensures published { publisher.new.published ≡ publisher.old.published }
     ensures stopped { OnErr result
-        (IsHandledInPart (replica_of handler.old.replica) (submitted_of handler.old.replica.document.table submission.now)
+        (IsHandledInPart (replica_of handler.old.replica) (submitted_of submission.now)
         (replica_of handler.new.replica)) }
 {
     let reply = handler.handle(alloc, publisher, submission);
@@ -172,8 +171,8 @@ fn is_no_memory(reply: &Reply) -> bool
 
 /// Sets the answer to a client's serial.
 fn give_to(clients: &mut Vec<Client>, client: usize, serial: u64, given: Given)
-    ensures { (table : List ℕ)
-        → map (client_of table) clients.new.items ≡ give_to (map (client_of table) clients.old.items) client serial (given_of given) }
+    ensures { map client_of clients.new.items
+        ≡ give_to (map client_of clients.old.items) client serial (given_of given) }
 {
     if client < clients.len() {
         let client = &mut clients[client];

@@ -62,7 +62,7 @@ fn each_question_is_answered(rt: HostRuntime) -> Result<(), Fail> {
             Conflicts(1, &[]),
             "Read 5: 1@1 Map 2@1 Map 3@1 Map 4@1 Map 5@1 Map",
         ),
-        (Vector(1), "Read 5: 5 0"),
+        (Vector(1), "Read 5: 5@1"),
     ];
     shop_replies(&rt, rt.alloc(), ROWS)
 }
@@ -79,7 +79,7 @@ fn deleted_items_are_not_counted(rt: HostRuntime) -> Result<(), Fail> {
         (Step, "Published(1)"),
         (Keys(1, &[]), "Read 7:"),
         (Items(1, AT_LIST), "Read 7:"),
-        (Vector(1), "Read 7: 7 0"),
+        (Vector(1), "Read 7: 7@1"),
     ];
     shop_replies(&rt, rt.alloc(), ROWS)
 }
@@ -131,7 +131,7 @@ fn refused_commands_leave_the_history(rt: HostRuntime) -> Result<(), Fail> {
             (*act, "Ticket(6)"),
             (Step, "Published(1)"),
             (Poll(0, 6), *answer),
-            (Vector(0), "Read 5: 5 0"),
+            (Vector(0), "Read 5: 5@1"),
         ];
         shop_replies(&rt, rt.alloc(), &rows)?;
     }
@@ -173,7 +173,7 @@ fn reads_missing(
     counters: &[u64],
     want: &str,
 ) -> Result<(), Fail> {
-    let step = missing_step(alloc, world, 1, counters)?;
+    let step = missing_step(alloc, 1, counters)?;
     let replies = world.run(alloc, &[step])?;
     are_shown(rt, alloc, 0, &replies, &[(Vector(1), want)])
 }

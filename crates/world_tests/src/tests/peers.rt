@@ -38,14 +38,14 @@ fn two_reply(rt: &impl Abort, alloc: Global, rows: &[Talk]) -> Result<(), Fail> 
 #[test]
 fn a_hello_says_what_is_published(rt: HostRuntime) -> Result<(), Fail> {
     const ROWS: &[Talk] = &[
-        (0, Hello(2), "Hello 0: 0 0"),
+        (0, Hello(2), "Hello 0:"),
         (0, Push(0, "a", 1), "Ticket(1)"),
-        (0, Hello(2), "Hello 1: 0 0"),
+        (0, Hello(2), "Hello 1:"),
         (0, Take, "Took"),
-        (0, Hello(2), "Hello 2: 0 0"),
+        (0, Hello(2), "Hello 2:"),
         (0, Publish, "Published(1)"),
-        (0, Hello(2), "Hello 3: 1 0"),
-        (1, Hello(2), "Hello 4: 0 0"),
+        (0, Hello(2), "Hello 3: 1@1"),
+        (1, Hello(2), "Hello 4:"),
     ];
     two_reply(&rt, rt.alloc(), ROWS)
 }
@@ -58,7 +58,7 @@ fn who_speaks_has_seen_all(rt: HostRuntime) -> Result<(), Fail> {
         (0, Push(0, "a", 2), "Ticket(2)"),
         (0, Step, "Published(1)"),
         (0, Learn(2, 0, 1), "Seen(1)"),
-        (0, Hello(2), "Hello 0: 2 0"),
+        (0, Hello(2), "Hello 0: 2@1"),
         (0, Learn(2, 0, 1), "Seen(2)"),
         (0, Learn(1, 0, 1), "Seen(1)"),
         (0, Bundle(1, 0), "Bundle 1 of 0"),
@@ -109,7 +109,7 @@ fn a_bundle_is_what_a_hello_lacks(rt: HostRuntime) -> Result<(), Fail> {
         (0, Step, "Published(2)"),
         (0, Push(0, "c", 3), "Ticket(3)"),
         (0, Take, "Took"),
-        (1, Hello(2), "Hello 0: 0 0"),
+        (1, Hello(2), "Hello 0:"),
         (0, Bundle(2, 0), "Bundle 1 of 2"),
         (1, Deliver(0, 1), "Received 2 from 1"),
         (1, Poll(0, 1), "Unanswered"),
@@ -117,7 +117,7 @@ fn a_bundle_is_what_a_hello_lacks(rt: HostRuntime) -> Result<(), Fail> {
         (1, Poll(0, 1), "Replied(Kept(1))"),
         (1, Poll(0, 2), "Replied(Kept(2))"),
         (1, Ask(2, "b"), "Read 2: 2@1 wrote 2"),
-        (1, Hello(2), "Hello 2: 2 0"),
+        (1, Hello(2), "Hello 2: 2@1"),
         (0, Step, "Published(1)"),
         (0, Bundle(2, 2), "Bundle 3 of 1"),
     ];
@@ -131,9 +131,9 @@ fn each_has_what_the_other_wrote(rt: HostRuntime) -> Result<(), Fail> {
         (0, Step, "Published(1)"),
         (1, Push(0, "a", 2), "Ticket(1)"),
         (1, Step, "Published(1)"),
-        (0, Hello(0), "Hello 0: 1 0"),
+        (0, Hello(0), "Hello 0: 1@1"),
         (1, Bundle(0, 0), "Bundle 1 of 1"),
-        (1, Hello(0), "Hello 2: 0 1"),
+        (1, Hello(0), "Hello 2: 1@2"),
         (0, Bundle(0, 2), "Bundle 3 of 1"),
         (0, Deliver(1, 1), "Received 1 from 1"),
         (1, Deliver(0, 3), "Received 1 from 2"),
@@ -141,7 +141,7 @@ fn each_has_what_the_other_wrote(rt: HostRuntime) -> Result<(), Fail> {
         (1, Step, "Published(1)"),
         (0, Ask(2, "a"), "Read 2: 1@1 wrote 1 1@2 wrote 2"),
         (1, Ask(2, "a"), "Read 2: 1@1 wrote 1 1@2 wrote 2"),
-        (0, Hello(0), "Hello 4: 1 1"),
+        (0, Hello(0), "Hello 4: 1@1 1@2"),
         (1, Bundle(0, 4), "Bundle 5 of 0"),
         (0, Deliver(1, 5), "Received 0 from 0"),
     ];
@@ -154,7 +154,7 @@ fn a_bundle_may_come_again(rt: HostRuntime) -> Result<(), Fail> {
         (0, Push(0, "a", 1), "Ticket(1)"),
         (0, Push(0, "b", 2), "Ticket(2)"),
         (0, Step, "Published(2)"),
-        (1, Hello(2), "Hello 0: 0 0"),
+        (1, Hello(2), "Hello 0:"),
         (0, Bundle(2, 0), "Bundle 1 of 2"),
         (1, Deliver(0, 1), "Received 2 from 1"),
         (1, Deliver(0, 1), "Received 2 from 3"),
@@ -176,7 +176,7 @@ fn bundles_answer_hellos(rt: HostRuntime) -> Result<(), Fail> {
     const ROWS: &[Talk] = &[
         (0, Deliver(0, 0), "NoMessage"),
         (0, Bundle(0, 0), "NoMessage"),
-        (1, Hello(0), "Hello 0: 0 0"),
+        (1, Hello(0), "Hello 0:"),
         (0, Deliver(0, 0), "NoMessage"),
         (0, Deliver(2, 0), "NoMessage"),
         (0, Bundle(0, 1), "NoMessage"),
@@ -185,7 +185,7 @@ fn bundles_answer_hellos(rt: HostRuntime) -> Result<(), Fail> {
         (0, Deliver(2, 1), "Idle"),
         (2, Deliver(0, 1), "Idle"),
         (2, Hello(0), "Idle"),
-        (1, Hello(0), "Hello 2: 0 0"),
+        (1, Hello(0), "Hello 2:"),
     ];
     two_reply(&rt, rt.alloc(), ROWS)
 }
@@ -193,11 +193,11 @@ fn bundles_answer_hellos(rt: HostRuntime) -> Result<(), Fail> {
 #[test]
 fn hellos_of_nonmembers(rt: HostRuntime) -> Result<(), Fail> {
     const ROWS: &[Talk] = &[
-        (1, Hello(2), "Hello 0: 0 0"),
+        (1, Hello(2), "Hello 0:"),
         (0, Bundle(2, 0), "Bundle 1 of 0"),
         (1, Push(0, "a", 1), "Ticket(1)"),
         (1, Step, "Published(1)"),
-        (1, Hello(2), "Hello 2: 0 1"),
+        (1, Hello(2), "Hello 2: 1@3"),
         (0, Push(0, "a", 1), "Ticket(1)"),
         (0, Step, "Published(1)"),
         (0, Push(0, "a", 2), "Ticket(2)"),
@@ -235,12 +235,12 @@ fn bundles_of_nonmembers(rt: HostRuntime) -> Result<(), Fail> {
         (1, Push(0, "b", 2), "Ticket(2)"),
         (1, Step, "Published(2)"),
         (1, Poll(0, 2), "Made 2@3 at 1"),
-        (0, Hello(0), "Hello 0: 0 0"),
+        (0, Hello(0), "Hello 0:"),
         (1, Bundle(0, 0), "Bundle 1 of 2"),
         (0, Deliver(0, 1), "Received 1 from 1, E13 at 2"),
         (0, Step, "Published(1)"),
         (0, Poll(0, 1), "Replied(Kept(1))"),
-        (0, Hello(0), "Hello 2: 0 1"),
+        (0, Hello(0), "Hello 2: 1@2"),
         (1, Bundle(0, 2), "Bundle 3 of 1"),
         (0, Deliver(0, 3), "Received 0 from 0, E13 at 1"),
         (0, Push(0, "a", 1), "Ticket(2)"),

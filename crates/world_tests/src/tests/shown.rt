@@ -3,7 +3,6 @@
 use super::*;
 use std::alloc::AllocError;
 use std::fmt::Write;
-use version::VersionVector;
 
 /// A text as tests write it, in quotation marks.
 fn quoted(alloc: Global, text: &str) -> Result<String, AllocError> {
@@ -54,8 +53,8 @@ fn reading_shown(alloc: Global, reading: &Reading) -> Result<String, Fail> {
             }
         }
         Reading::Vector(vector) => {
-            let counters = vector_shown(alloc, vector)?;
-            write!(text, "{counters}")?;
+            let pairs = vector_shown(alloc, vector)?;
+            write!(text, "{pairs}")?;
         }
     }
     Ok(text)
@@ -76,12 +75,11 @@ fn receipt_shown(
     }
 }
 
-/// The vector as tests write it, a counter for each member.
-fn vector_shown(alloc: Global, vector: &VersionVector) -> Result<String, Fail> {
+/// The vector as tests write it, a pair as `2@1`.
+fn vector_shown(alloc: Global, vector: &NamedVector) -> Result<String, Fail> {
     let mut text = String::new(alloc);
-    for index in 0..vector.width() {
-        let counter = vector.get(index);
-        write!(text, " {counter}")?;
+    for id in vector.ids() {
+        write!(text, " {id}")?;
     }
     Ok(text)
 }
@@ -92,8 +90,8 @@ fn read_shown(alloc: Global, seen: u64, reading: &Reading) -> Result<String, Fai
     Ok(format!(in alloc; "Read {seen}:{text}")?)
 }
 
-/// A hello as tests write it: `Hello 0: 1 0`.
-fn hello_shown(alloc: Global, message: u64, vector: &VersionVector) -> Result<String, Fail> {
+/// A hello as tests write it: `Hello 0: 1@1`.
+fn hello_shown(alloc: Global, message: u64, vector: &NamedVector) -> Result<String, Fail> {
     let text = vector_shown(alloc, vector)?;
     Ok(format!(in alloc; "Hello {message}:{text}")?)
 }
@@ -123,12 +121,8 @@ fn other_shown(alloc: Global, reply: &WorldReply) -> Result<String, AllocError> 
 fn shown(alloc: Global, reply: &WorldReply) -> Result<String, Fail> {
     match reply {
         WorldReply::Replied(reply) => Ok(answer_shown(alloc, reply)?),
-        WorldReply::Read { seen, reading, .. } => read_shown(alloc, *seen, reading),
-        WorldReply::Hello {
-            message,
-            vector,
-            ..
-        } => hello_shown(alloc, *message, vector),
+        WorldReply::Read { seen, reading } => read_shown(alloc, *seen, reading),
+        WorldReply::Hello { message, vector } => hello_shown(alloc, *message, vector),
         WorldReply::Received {
             first,
             submitted,

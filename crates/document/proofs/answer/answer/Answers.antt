@@ -1,15 +1,16 @@
-use Rattle.std.proofs.Common.{sym, ap, ◌∙◌}
-use Rattle.semantics.specs.Tables.{by_table}
+use Rattle.std.proofs.Common.{sym, ap, subst, ◌∙◌}
+use Rattle.ids.specs.Vectors.{IsNamed}
 use Rattle.semantics.specs.Questions.{VectorIs}
 use Rattle.semantics.specs.LegalAnswer.{Answered, reading_of}
 use Rattle.document.specs.Documents.{asked_of}
-use Rattle.document.proofs.Consistent.{column_is_vector}
+use Rattle.document.proofs.Consistent.{is_named}
 use Rattle.document.proofs.answer.answer.Goals as goal
 
-pub returns-in_ok-clone-in-Vector-clause-answer : goal.returns-in_ok-clone-in-Vector-clause-answer
-returns-in_ok-clone-in-Vector-clause-answer c =
-    let table = c.args.log.now.table in
+pub of-requires : goal.of-requires
+of-requires c = subst IsNamed (sym c.ids.ensures.ids) (is_named _ _ _ _ c.requires)
+
+pub returns-in_ok-of-in-Vector-clause-answer : goal.returns-in_ok-of-in-Vector-clause-answer
+returns-in_ok-of-in-Vector-clause-answer c =
     let G = c.args.log.now.entries in
-    ap (λ v. Answered (VectorIs (by_table table v))) c.in_ok-clone-in-Vector.ensures.cases
-    ∙ ap (λ v. Answered (VectorIs v)) (column_is_vector table c.args.applied.now G c.args.tree.now c.requires.kept)
-    ∙ ap (λ q. reading_of G (asked_of table q)) (sym c.in-Vector.is)
+    ap (λ v. Answered (VectorIs v)) (c.in_ok-of-in-Vector.ensures ∙ c.ids.ensures.ids ∙ c.requires.vector)
+    ∙ ap (λ q. reading_of G (asked_of q)) (sym c.in-Vector.is)

@@ -1,5 +1,6 @@
-use Rattle.std.proofs.Common.{◌≡◌, ◌++◌, drop, length, map}
+use Rattle.std.proofs.Common.{◌≡◌, ◌++◌, drop, map}
 use Rattle.std.specs.List.{All}
+use Rattle.ids.specs.Vectors.{IsNamed}
 use Rattle.oplog.specs.operation.declared.op.Op.{Op}
 use Rattle.oplog.specs.operation.Ops.{stamped_of}
 use Rattle.document.proofs.MissingOps.{found}
@@ -7,7 +8,7 @@ use Rattle.document.proofs.answer.missing.Given as goal
 
 abbrev pub invariant-loop-position : goal.invariant-loop-position
 invariant-loop-position l = record {
-  found : map (stamped_of l.log.table) l.ops.items ++ found l.log.entries (drop l.position-index l.position-items)
+  found : map stamped_of l.ops.items ++ found l.log.entries (drop l.position-index l.position-items)
       ≡ found l.log.entries l.position-items;
-  wide : All (λ (o : Op). length o.deps ≡ length l.log.table) l.ops.items;
+  named : All (λ (o : Op). IsNamed o.deps) l.ops.items;
 }

@@ -76,7 +76,7 @@ returns-clause-own g c k d at n serial command s there =
     let all : of k ((view c.writer.inside.taker.pass).got ++ q.0)
     ≡ submissions_by d = ap (λ (l : List Submission). of k (l ++ q.0)) (sym c.loop-client.invariant.3)
     ∙ q.2 k (submissions_by d) (known_at _ _ _ _ _ _ c.loop-client.invariant.2 (search rules) k d at) in
-    own_submitted table (view c.writer.inside.taker.pass).got q.0
+    own_submitted (view c.writer.inside.taker.pass).got q.0
     (submissions_by d) P c.writer.inside.handler.replica.document.entries n k serial command s c.writer.invariant.come_from begins all
     (subst (λ (G : List Entry). entry_at n G ≡ Some (Own k serial command s))
     (sym (ap (λ (w : Writer). w.published) c.writer.view_is)) there)
@@ -85,8 +85,8 @@ pub returns-clause-history : goal.returns-clause-history
 returns-clause-history g c =
     let own = g.N.EngineName.own in
     let published : c.writer.inside.publisher.published ≡ c.args.writer.published = ap (λ (w : Writer). w.published) c.writer.view_is in
-    let entries : history g.N.EngineName.table c.into_entries.result.items ≡ c.writer.inside.publisher.published =
-    subst (λ (t : List ℕ). history t c.into_entries.result.items ≡ c.writer.inside.publisher.published) c.end-document.ensures.document.0
+    let entries : history c.into_entries.result.items ≡ c.writer.inside.publisher.published =
+    subst (λ (t : List ℕ). history c.into_entries.result.items ≡ c.writer.inside.publisher.published) c.end-document.ensures.document.0
     (c.into_entries.ensures ∙ c.end-document.ensures.document.1) in (
       entries ∙ published,
       subst (λ (G : List Entry). IsEntryHistory own G)

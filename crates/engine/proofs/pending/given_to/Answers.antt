@@ -20,10 +20,10 @@ returns g c =
     elim c.given.result as
     (λ o. MatchOption o (a.given ≡ None)
     (λ y. (a.given ≡ Some (record { reply = y.now.reply; history = y.now.notice }))
-    × IsAnswerWith own table y.now.notice (submitted_of table a.submission) (reply_of y.now.reply))
+    × IsAnswerWith own table y.now.notice (submitted_of a.submission) (reply_of y.now.reply))
     → MatchOption o (answer_in x (Some a) ≡ None)
     (λ y. (answer_in x (Some a) ≡ Some (record { reply = y.now.reply; history = y.now.notice }))
-    × IsAnswerWith own table y.now.notice (submitted_of table x) (reply_of y.now.reply))) [
+    × IsAnswerWith own table y.now.notice (submitted_of x) (reply_of y.now.reply))) [
       | Some y ↦ λ h. (
         answer_inside a x same
             ∙ h.0,

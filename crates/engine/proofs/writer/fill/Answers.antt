@@ -6,13 +6,13 @@ use Rattle.engine.proofs.writer.fill.Goals as goal
 
 pub handle_one-handled-requires-clause-above : goal.handle_one-handled-requires-clause-above
 handle_one-handled-requires-clause-above g c =
-    is_above g.N.EngineName.table (handler_of c.args.handler.now) (view c.args.taker.now.pass).got c.loop.held.items
+    is_above (handler_of c.args.handler.now) (view c.args.taker.now.pass).got c.loop.held.items
     (handler_of c.loop.handler) (view c.loop.taker.pass).got c.loop.invariant.filling
     c.in-Some.envelope.answer.value.submission c.in-Some.ensures.taken.1
 
 pub loop-preserved : goal.loop-preserved
 loop-preserved g c = record {
-  filling = filling_next g.N.EngineName.table (handler_of c.args.handler.now) (view c.args.taker.now.pass).got c.loop.held.items
+  filling = filling_next (handler_of c.args.handler.now) (view c.args.taker.now.pass).got c.loop.held.items
       (handler_of c.loop.handler) (view c.loop.taker.pass).got c.loop.invariant.filling
       c.in-Some.envelope.answer.value.submission c.in-Some.ensures.taken.1 c.handle_one-handled.result
       (handler_of c.handle_one-handled.new.handler) (view c.take.new.self.pass).got c.push_reserved.new.self.items

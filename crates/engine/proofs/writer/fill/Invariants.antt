@@ -9,7 +9,7 @@ use Rattle.engine.proofs.writer.fill.Given as goal
 
 abbrev pub invariant-loop : goal.invariant-loop
 invariant-loop g l = record {
-  filling : IsFilling g.N.EngineName.table (handler_of l.fn.handler) (view l.fn.taker.pass).got l.held.items (handler_of l.handler)
+  filling : IsFilling (handler_of l.fn.handler) (view l.fn.taker.pass).got l.held.items (handler_of l.handler)
       (view l.taker.pass).got;
   taker : (l.taker.pass.table_id ≡ l.fn.taker.pass.table_id) × ((view l.taker.pass).known ≡ (view l.fn.taker.pass).known)
       × ((view l.taker.pass).made ≡ (view l.fn.taker.pass).made);

@@ -1,4 +1,4 @@
-use Rattle.std.proofs.Common.{rules, ◌≡◌, ◌∙◌, Some, None, refl, sym, ap, length, true, false}
+use Rattle.std.proofs.Common.{◌≡◌, ◌∙◌, Some, None, refl, sym, ap, true, false}
 use Rattle.std.specs.Prelude.{option_map}
 use Rattle.semantics.specs.Operations as operations
 use Rattle.semantics.specs.Operations.{misplaced}
@@ -8,33 +8,29 @@ use Rattle.operation.proofs.alone.check_alone.Goals as goal
 
 pub returns-then-not-has_counter : goal.returns-then-not-has_counter
 returns-then-not-has_counter c =
-    let width : length c.args.op.now.deps ≡ length c.args.table.now = search rules in
-    fault-alone c.args.table.now c.args.op.now width true false _ _
+    fault-alone c.args.table.now c.args.op.now true false _ _
     (sym c.names_members.ensures ∙ c.if-not-names_members.false)
     (sym c.has_counter.ensures ∙ c.if-not-has_counter.true) refl refl
 
 pub returns-in-Some-OutsideList : goal.returns-in-Some-OutsideList
 returns-in-Some-OutsideList c =
-    let width : length c.args.op.now.deps ≡ length c.args.table.now = search rules in
     let why : misplaced (mutation_of c.args.op.now.mutation) c.args.op.now.place ≡ Some operations.OutsideList =
     sym c.misplaced_at.ensures ∙ ap (option_map misplaced_of) (c.in-Some-OutsideList.is ∙ ap Some c.in-Some-OutsideList.field-0-is) in
-    fault-alone c.args.table.now c.args.op.now width true true (Some operations.OutsideList) _
+    fault-alone c.args.table.now c.args.op.now true true (Some operations.OutsideList) _
     (sym c.names_members.ensures ∙ c.if-not-names_members.false)
     (sym c.has_counter.ensures ∙ c.if-not-has_counter.false) why refl
 
 pub returns-in-Some-OnHead : goal.returns-in-Some-OnHead
 returns-in-Some-OnHead c =
-    let width : length c.args.op.now.deps ≡ length c.args.table.now = search rules in
     let why : misplaced (mutation_of c.args.op.now.mutation) c.args.op.now.place ≡ Some operations.OnHead =
     sym c.misplaced_at.ensures ∙ ap (option_map misplaced_of) (c.in-Some-OnHead.is ∙ ap Some c.in-Some-OnHead.field-0-is) in
-    fault-alone c.args.table.now c.args.op.now width true true (Some operations.OnHead) _
+    fault-alone c.args.table.now c.args.op.now true true (Some operations.OnHead) _
     (sym c.names_members.ensures ∙ c.if-not-names_members.false)
     (sym c.has_counter.ensures ∙ c.if-not-has_counter.false) why refl
 
 pub returns-then-not-covers_items : goal.returns-then-not-covers_items
 returns-then-not-covers_items c =
-    let width : length c.args.op.now.deps ≡ length c.args.table.now = search rules in
-    fault-alone c.args.table.now c.args.op.now width true true None false
+    fault-alone c.args.table.now c.args.op.now true true None false
     (sym c.names_members.ensures ∙ c.if-not-names_members.false)
     (sym c.has_counter.ensures ∙ c.if-not-has_counter.false)
     (sym c.misplaced_at.ensures ∙ ap (option_map misplaced_of) c.in-None.is)
@@ -42,8 +38,7 @@ returns-then-not-covers_items c =
 
 pub returns : goal.returns
 returns c =
-    let width : length c.args.op.now.deps ≡ length c.args.table.now = search rules in
-    fault-alone c.args.table.now c.args.op.now width true true None true
+    fault-alone c.args.table.now c.args.op.now true true None true
     (sym c.names_members.ensures ∙ c.if-not-names_members.false)
     (sym c.has_counter.ensures ∙ c.if-not-has_counter.false)
     (sym c.misplaced_at.ensures ∙ ap (option_map misplaced_of) c.in-None.is)

@@ -4,7 +4,6 @@ use Rattle.std.proofs.lemmas.List.Folds.{list_all-map}
 use Rattle.std.proofs.lemmas.Iterator.{YieldsList-from_slice}
 use Rattle.std.proofs.lemmas.Iterator.Search.{all_from_yields_List}
 use Rattle.semantics.specs.Operations.{element_of}
-use Rattle.semantics.specs.Tables.{by_table}
 use Rattle.cursor.specs.Steps.{hop_of}
 use Rattle.operation.specs.Alone.{key_covered}
 use Rattle.operation.proofs.PlaceKeys.{items_covered-keys}
@@ -12,7 +11,7 @@ use Rattle.operation.proofs.alone.covers_items.Goals as goal
 
 pub returns : goal.returns
 returns c =
-    let v = by_table c.args.table.now c.args.vector.now in
+    let v = c.args.vector.now in
     let all : c.all.result ≡ list_all (λ h. key_covered v (hop_of h)) c.hops.result.now =
     all_from_yields_List (λ h. key_covered v (hop_of h)) _ _ c.all.result c.all.ensures.ran (YieldsList-from_slice c.hops.result.now cc)
     (λ x b q k. search (rules, tests)) in

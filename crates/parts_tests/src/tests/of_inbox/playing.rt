@@ -1,7 +1,6 @@
 //! What is done with an inbox in a test, as a table of turns, and what plays it.
 
-ghost use Rattle.std.specs.Prelude.{◌<◌, ℕ, List};
-ghost use Rattle.inbox.specs.Inboxes.{AreAsWide};
+ghost use Rattle.std.specs.Prelude.{◌<◌};
 
 use super::*;
 use cursor::Place;
@@ -51,21 +50,6 @@ fn op(
     fixtures::op(alloc, pair, &counters, Place::doc(alloc), mutation)
 }
 
-/// Puts an operation, whose vector is as wide as the table.
-fn put(
-    inbox: &mut Inbox,
-    op: Shared<Op>,
-    document: &Document,
-) -> Result<Result<Delivered, Refusal>, Fail>
-    requires { AreAsWide document.now.table inbox.old }
-    ensures { AreAsWide document.now.table inbox.new }
-{
-    if op.deps.width() != document.table().len() {
-        return Err("another width".into());
-    }
-    Ok(inbox.put(op, document))
-}
-
 /// Puts an operation, and asserts the answer.
 fn answers(
     rt: &impl Abort,
@@ -73,20 +57,14 @@ fn answers(
     op: Shared<Op>,
     document: &Document,
     want: Result<Delivered, Refusal>,
-) -> Result<(), Fail>
-    requires { AreAsWide document.now.table inbox.old }
-    ensures { AreAsWide document.now.table inbox.new }
-{
+) {
     let id = op.id;
-    let answer = put(inbox, op, document)?;
+    let answer = inbox.put(op, document);
     assert_eq!(rt; answer, want, "to {id:?}");
-    Ok(())
 }
 
 /// The id of the smallest ready one.
-fn smallest(inbox: &Inbox, document: &Document) -> Option<Pair>
-    requires { AreAsWide document.now.table inbox.now }
-{
+fn smallest(inbox: &Inbox, document: &Document) -> Option<Pair> {
     let op = inbox.smallest_ready(document)?;
     Some(pair_of(op.id))
 }
@@ -100,9 +78,7 @@ fn written(op: &Op) -> (Pair, Writes) {
 }
 
 /// Takes the operation with this id, and returns its id and what it writes.
-fn take(inbox: &mut Inbox, id: OpId) -> Option<(Pair, Writes)>
-    ensures { (table : List ℕ) → AreAsWide table inbox.old → AreAsWide table inbox.new }
-{
+fn take(inbox: &mut Inbox, id: OpId) -> Option<(Pair, Writes)> {
     let taken = inbox.take(id)?;
     Some(written(&taken))
 }
@@ -112,9 +88,7 @@ fn beside(pair: Pair, writes: Option<Writes>) -> Option<(Pair, Writes)> {
 }
 
 /// Takes the operation with this id, and asserts what it writes.
-fn takes(rt: &impl Abort, inbox: &mut Inbox, pair: Pair, want: Option<Writes>) -> Result<(), Fail>
-    ensures { (table : List ℕ) → AreAsWide table inbox.old → AreAsWide table inbox.new }
-{
+fn takes(rt: &impl Abort, inbox: &mut Inbox, pair: Pair, want: Option<Writes>) -> Result<(), Fail> {
     let id = id_of(pair)?;
     assert_eq!(rt; take(inbox, id), beside(pair, want));
     Ok(())
@@ -134,14 +108,11 @@ fn take_turn(
     inbox: &mut Inbox,
     document: &Document,
     turn: Turn,
-) -> Result<(), Fail>
-    requires { AreAsWide document.now.table inbox.old }
-    ensures { AreAsWide document.now.table inbox.new }
-{
+) -> Result<(), Fail> {
     match turn {
         Turn::Put(pair, counters, writes, want) => {
             let op = op(alloc, pair, counters, writes)?;
-            answers(rt, inbox, op, document, want)?;
+            answers(rt, inbox, op, document, want);
         }
         Turn::Smallest(want) => assert_eq!(rt; smallest(inbox, document), want),
         Turn::Take(pair, want) => takes(rt, inbox, pair, want)?,
@@ -159,10 +130,7 @@ fn play(
     inbox: &mut Inbox,
     document: &Document,
     turns: &[Turn],
-) -> Result<(), Fail>
-    requires { AreAsWide document.now.table inbox.old }
-    ensures { AreAsWide document.now.table inbox.new }
-{
+) -> Result<(), Fail> {
     for next in turns {
         take_turn(rt, alloc, inbox, document, *next)?;
     }
@@ -177,13 +145,11 @@ fn fill(
     document: &Document,
     stuck: u64,
 ) -> Result<(), Fail>
-    requires few { stuck < 10000 }
-    requires alone { AreAsWide document.now.table inbox.old }
-    ensures { AreAsWide document.now.table inbox.new }
+    requires { stuck < 10000 }
 {
     for index in 0..stuck {
         let op = op(alloc, (index + 2, 2), [0, 0, index + 1], Writes::Map)?;
-        answers(rt, inbox, op, document, KEPT)?;
+        answers(rt, inbox, op, document, KEPT);
     }
     Ok(())
 }
@@ -198,8 +164,7 @@ fn fill_and_play(
     first: &[Turn],
     second: &[Turn],
 ) -> Result<(), Fail>
-    requires few { stuck < 10000 }
-    requires alone { AreAsWide document.now.table inbox.old }
+    requires { stuck < 10000 }
 {
     fill(rt, alloc, inbox, document, stuck)?;
     play(rt, alloc, inbox, document, first)?;

@@ -18,16 +18,16 @@ loop-line-preserved g c =
     ≡ cond (n == 0) c.in-Ok.ticket.serial c.loop-line.received.first_serial = ap (λ (r : Received). r.first_serial) c.count.ensures in
     let kept : length d.kept
     ≡ length before.kept + n = kept_after table before text d c.loop-line.lines.rest.now n c.loop-line.invariant.sent in
-    let serial : c.in-Ok.ticket.serial ≡ length before.kept + n + 1 = omega (arith, ok.4, kept) in
+    let serial : c.in-Ok.ticket.serial ≡ length before.kept + n + 1 = omega (arith, ok.3, kept) in
     record {
       taken = omega (arith, c.in-Some.ensures.number.0, c.in-Some.ensures.number.1, c.loop-line.invariant.taken, counted);
       sent = subst (λ m. HasSubmitted table before text e c.take_line.new.self.rest.now m) (sym counted)
           (submitted-more table before text d e c.loop-line.lines.rest.now c.in-Some.line.text.now c.take_line.new.self.rest.now n ok.0
-          c.loop-line.invariant.sent c.in-Some.ensures.line ok.1 ok.2 ok.3);
+          c.loop-line.invariant.sent c.in-Some.ensures.line ok.1 ok.2);
       first = first
           ∙ first_serial-next n c.count.new.self.submitted c.in-Ok.ticket.serial c.loop-line.received.first_serial
           (length before.kept) c.loop-line.invariant.first serial counted;
-      serials = inr ok.5;
+      serials = inr ok.4;
     }
 
 pub returns-in-Err-clause-stopped : goal.returns-in-Err-clause-stopped

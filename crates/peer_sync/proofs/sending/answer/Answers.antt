@@ -1,6 +1,5 @@
 use Rattle.std.proofs.Common.{◌≡◌, map, ap, ◌∙◌}
 use Rattle.semantics.specs.Entries.{lacked_of}
-use Rattle.semantics.specs.Tables.{by_table}
 use Rattle.peer_sync.specs.Sending.{without_end}
 use Rattle.engine.specs.operation.Ops.{stamped_of}
 use Rattle.peer_sync.proofs.SentBack.{answer_back, same_vector}
@@ -10,12 +9,12 @@ use Rattle.peer_sync.proofs.sending.answer.Goals as goal
 pub returns-clause-reads_back : goal.returns-clause-reads_back
 returns-clause-reads_back g c v form =
     let table = g.N.EngineName.table in
-    let named : by_table table c.in_ok-vector.vector ≡ v =
+    let named : c.in_ok-vector.vector ≡ v =
     same_vector table c.table.result.now c.in_ok-vector.vector v
-    (without_end c.args.hello.now) c.without_end.result.now c.table.ensures c.without_end.ensures c.in_ok-vector.ensures.read form in
-    let lacked : map (stamped_of table) c.in_ok-ops.ops.items ≡ lacked_of c.missing.new.self.seen v =
+    (without_end c.args.hello.now) c.without_end.result.now c.table.ensures c.without_end.ensures c.in_ok-vector.ensures form in
+    let lacked : map stamped_of c.in_ok-ops.ops.items ≡ lacked_of c.missing.new.self.seen v =
     c.in_ok-ops.ensures.ops ∙ ap (lacked_of c.missing.new.self.seen) named in
-    answer_back table c.table-2.result.now c.in_ok-ops.ops.items c.as_slice.result.now _ c.in_ok-lines.lines.items c.table-2.ensures
-    c.as_slice.ensures.value
+    answer_back table c.in_ok-ops.ops.items c.as_slice.result.now _ c.in_ok-lines.lines.items c.as_slice.ensures.value
     lacked c.in_ok-lines.ensures.reads_back
-    (lacked_sent g.N.EngineName.own table c.missing.new.self.seen v c.in_ok-ops.ops.items c.seen_len-2.ensures.engine lacked)
+    (lacked_sent g.N.EngineName.own table c.missing.new.self.seen v c.in_ok-ops.ops.items c.seen_len-2.ensures.engine
+    c.in_ok-ops.ensures.named lacked)

@@ -12,8 +12,8 @@ add-requires-clause-lawful g c =
     let command : c.in_ok-clone.field-0 ≡ c.args.command.now = search rules in
     let same : c.in_ok-clone-2.field-0 ≡ Own c.args.client c.args.serial c.in_ok-clone.field-0 c.args.op = search rules in
     let next = made_of c.args.replica.now c.args.client c.args.serial c.args.command.now c.in_ok-clone.field-0 c.args.op command
-    c.requires.made c.requires.width c.requires.room c.requires.above in
-    subst (λ (e : Entry). IsEntryHistory h.own (entry_of h.members e ∷ h.appended)) (sym same)
+    c.requires.made c.requires.room c.requires.above in
+    subst (λ (e : Entry). IsEntryHistory h.own (entry_of e ∷ h.appended)) (sym same)
     (lawful h c.args.replica.now c.requires.holds c.requires.running
     (Own c.args.client c.args.serial c.in_ok-clone.field-0 c.args.op) next)
 
@@ -23,10 +23,10 @@ add-requires-clause-room g c =
     room (g.P.Publish.publication c.args.publisher.now) c.args.replica.now c.requires.holds
     (Own c.args.client c.args.serial c.in_ok-clone.field-0 c.args.op)
     (made_of c.args.replica.now c.args.client c.args.serial c.args.command.now c.in_ok-clone.field-0 c.args.op command
-    c.requires.made c.requires.width c.requires.room c.requires.above)
+    c.requires.made c.requires.room c.requires.above)
 
 pub commit_made-requires : goal.commit_made-requires
 commit_made-requires g c =
     let command : c.in_ok-clone.field-0 ≡ c.args.command.now = search rules in
     made_of c.args.replica.now c.args.client c.args.serial c.args.command.now c.in_ok-clone.field-0 c.args.op command
-    c.requires.made c.requires.width c.requires.room c.requires.above
+    c.requires.made c.requires.room c.requires.above

@@ -3,8 +3,8 @@ use Rattle.std.proofs.Common.{add-one}
 use Rattle.std.specs.Prelude.{IfErr, IsErrAnd}
 use Rattle.semantics.specs.LegalHistory.{greatest_of}
 use Rattle.semantics.specs.NamedIds.{vector_of}
-use Rattle.semantics.specs.Tables.{by_table}
 use Rattle.semantics.specs.Making.{is_full}
+use Rattle.ids.specs.Vectors.{IsNamed}
 use Rattle.semantics.specs.Questions.{resolve}
 use Rattle.semantics.specs.Context.{doc}
 use Rattle.semantics.specs.DocumentAnswer.{visible_items}
@@ -51,17 +51,17 @@ returns-in_err-check_place-clause-err c =
     (ap (resolve (visible_items (doc (applied G)))) (sym c.expression.ensures)
     ∙ c.in_ok-place.ensures.ok) c.in_err-check_place.ensures))
 
+pub of-requires : goal.of-requires
+of-requires c = subst IsNamed (sym c.ids.ensures.ids) c.applied-applied.ensures.named
+
 pub returns-clause-made : goal.returns-clause-made
 returns-clause-made c =
     let G = c.args.document.now.entries in
-    let table = c.args.document.now.table in
     let command = command_of c.args.command.now in
     let room = full G false (sym c.is_full.ensures ∙ c.if-is_full.false) in
-    let same_deps : c.in_ok-deps.deps ≡ c.applied-applied.result.now = c.in_ok-deps.ensures.cases in
     let counter : c.greatest-counter.result + 1 ≡ suc (greatest_of (λ a. true) (applied G)) =
     add-one c.greatest-counter.result ∙ ap suc (c.greatest-counter.ensures ∙ c.applied-applied.ensures.greatest) in
-    let vector : by_table table c.in_ok-deps.deps ≡ vector_of (applied G) = ap (by_table table)
-    same_deps ∙ c.applied-applied.ensures.all in (
+    let vector : c.in_ok-deps.deps ≡ vector_of (applied G) = c.in_ok-deps.ensures ∙ c.ids.ensures.ids ∙ c.applied-applied.ensures.all in (
       made_at (applied G) c.args.own command c.in_ok-place.place,
       make-placed (applied G) c.args.own command c.in_ok-place.place (Ok c.in_ok-place.place) room
           (ap (resolve (visible_items (doc (applied G)))) (sym c.expression.ensures)

@@ -15,10 +15,10 @@ pub returns-in-Err-clause-turn : goal.returns-in-Err-clause-turn
 returns-in-Err-clause-turn c =
     let d = c.args.document.now in
     record {
-      next = stamped_of d.table c.in-Some.op.now;
+      next = stamped_of c.in-Some.op.now;
       is_next = with_room (is_full d.entries) _ _ (sym c.is_full.ensures ∙ c.if-is_full.false) c.in-Some.ensures.first;
       id = ap (λ (o : Op). o.id) (sym c.deref-in-Err.ensures);
       why = c.in-Err.field-0;
-      fault = subst (λ (o : Op). fault_of (stamped_entries d.entries) (stamped_of d.table o) ≡ Some c.in-Err.field-0)
+      fault = subst (λ (o : Op). fault_of (stamped_entries d.entries) (stamped_of o) ≡ Some c.in-Err.field-0)
           c.deref.ensures c.in-Err.ensures;
     }

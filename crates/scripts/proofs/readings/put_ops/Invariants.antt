@@ -8,7 +8,7 @@ use Rattle.scripts.proofs.readings.put_ops.Given as goal
 
 abbrev pub invariant-loop-op : goal.invariant-loop-op
 invariant-loop-op l = record {
-  tokens : l.out.tokens ++ tokens_of_all (map (λ o. operation_json (stamped_of l.table o)) (drop l.op-index l.ops))
-      ≡ l.fn.out.tokens ++ begin_array ∷ tokens_of_all (map (λ o. operation_json (stamped_of l.table o)) l.ops);
+  tokens : l.out.tokens ++ tokens_of_all (map (λ o. operation_json (stamped_of o)) (drop l.op-index l.ops))
+      ≡ l.fn.out.tokens ++ begin_array ∷ tokens_of_all (map (λ o. operation_json (stamped_of o)) l.ops);
   before : l.out.before ≡ l.fn.out.before;
 }

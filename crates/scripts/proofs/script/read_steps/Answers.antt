@@ -1,11 +1,9 @@
-use Rattle.std.proofs.Common.{◌≡◌, ◌≢◌, ◌+◌, ◌++◌, [], ◌∷◌, List, map, inl, inr, sym, ap, ◌∙◌, subst}
-use Rattle.std.specs.List.{All}
+use Rattle.std.proofs.Common.{◌≡◌, ◌≢◌, ◌+◌, ◌++◌, [], ◌∷◌, List, map, inl, inr, sym, ap, ◌∙◌}
 use Rattle.std.proofs.lemmas.List.{map-append}
-use Rattle.std.proofs.lemmas.List.Elements.{All-push}
 use Rattle.ids.specs.declared.refusal.Refusal.TheVariants.{BadLine}
 use Rattle.semantics.specs.World.{WorldStep as TheStep}
 use Rattle.world.specs.declared.step.WorldStep.{WorldStep}
-use Rattle.world.specs.Worlds.{StepHasWidthIn, step_in, tables_of}
+use Rattle.world.specs.Worlds.{step_in, tables_of}
 use Rattle.scripts.specs.Errors.{error_of}
 use Rattle.scripts.specs.Scripts.{steps_left}
 use Rattle.scripts.proofs.StepsLeft.{after, after-step, after-bad, after-cut}
@@ -19,21 +17,19 @@ loop-line-preserved c =
     let x = c.in-Ok.step in
     let engines = c.args.engines.now in
     let step = after-step engines c.loop-line.lines.taken _ _ _ (map (step_in tables) old)
-    (step_in tables x) c.in-Some.ensures.line c.in-Ok.ensures.read in
+    (step_in tables x) c.in-Some.ensures.line c.in-Ok.ensures in
     let more : map (step_in tables) (old ++ x ∷ [])
     ≡ map (step_in tables) old ++ step_in tables x ∷ [] = map-append (step_in tables) old (x ∷ []) in
     record {
       left = rw (c.in_ok-push-in-Ok.ensures.items, c.in-Some.ensures.number.1, c.in-Some.ensures.number.0)
           (ap (λ (ss : List TheStep). after ss (steps_left engines (c.loop-line.lines.taken + 1) c.take_line.new.self.rest.now)) more
           ∙ sym step ∙ c.loop-line.invariant.left);
-      width = subst (All (StepHasWidthIn tables)) (sym c.in_ok-push-in-Ok.ensures.items)
-          (All-push (StepHasWidthIn tables) old x c.loop-line.invariant.width c.in-Ok.ensures.width);
     }
 
-pub returns-in-Err-clause-steps : goal.returns-in-Err-clause-steps
-returns-in-Err-clause-steps c =
+pub returns-in-Err : goal.returns-in-Err
+returns-in-Err c =
     let ss = map (step_in (tables_of c.args.world.now.engines)) c.loop-line.steps.items in
-    elim (IsOrNoMemory-Err _ _ c.in-Err.ensures.read) [
+    elim (IsOrNoMemory-Err _ _ c.in-Err.ensures) [
       | inl e ↦ inl (c.of_line.ensures ∙ ap (error_of c.in-Some.line.number) e)
       | inr e ↦ inr (
         (c.loop-line.lines.taken + 1, c.in-Err.why),
@@ -43,8 +39,8 @@ returns-in-Err-clause-steps c =
       )
     ]
 
-pub returns-in-Some-cut_line-clause-steps : goal.returns-in-Some-cut_line-clause-steps
-returns-in-Some-cut_line-clause-steps c =
+pub returns-in-Some-cut_line : goal.returns-in-Some-cut_line
+returns-in-Some-cut_line c =
     let ss = map (step_in (tables_of c.args.world.now.engines)) c.loop-line.steps.items in
     let some : c.loop-line.lines.rest.now ≢ [] = rw c.in_default.ensures.none.1 at c.in-Some-cut_line.ensures.1 in
     inr (

@@ -1,15 +1,14 @@
-use Rattle.std.proofs.Common.{◌≡◌, ℕ, ◌∙◌, List, [], ◌∷◌, length, get_or, Option, Ok, refl, sym, ap, subst, arith}
+use Rattle.std.proofs.Common.{◌≡◌, ℕ, List, [], ◌∷◌, length, get_or, Option, Ok, refl, sym, subst, arith}
 use Rattle.std.specs.Prelude.{slice_get}
 use Rattle.semantics.specs.LegalAnswer.{Asked}
 use Rattle.semantics.specs.World.{Ask, step_by}
-use Rattle.world.specs.document.Documents.{HasWidthOf, asked_of}
+use Rattle.world.specs.document.Documents.{asked_of}
 use Rattle.world.specs.Worlds.{tables_of}
 use Rattle.serde_json.specs.declared.value.Value.{Value}
 use Rattle.serde_json.specs.View.{view, items_view}
 use Rattle.world.specs.wire.Forms.{number_form}
-use Rattle.scripts.specs.Requests.{question_form, table_in}
+use Rattle.scripts.specs.Requests.{question_form}
 use Rattle.scripts.specs.Steps.{ask_of}
-use Rattle.scripts.proofs.AskedTables.{same_table}
 use Rattle.scripts.proofs.steps.ask_in.Goals as goal
 
 -- an engine, a token and a question make a step
@@ -23,23 +22,17 @@ asked tables (x1 ∷ x2 ∷ []) x y z e t q n a b d i j k = absurd (omega (arith
 asked tables (x1 ∷ x2 ∷ x3 ∷ []) x y z e t q n a b d i j k = rw (← a, ← b, ← d, i, j, k) refl
 asked tables (x1 ∷ x2 ∷ x3 ∷ x4 ∷ xs) x y z e t q n a b d i j k = absurd (omega (arith, n))
 
-pub returns-clause-width : goal.returns-clause-width
-returns-clause-width c =
-    let tables = tables_of c.args.world.now.engines in
-    subst (λ table. HasWidthOf table c.in_ok-question.question)
-    (ap table_in c.table.ensures ∙ same_table tables c.in_ok-engine.engine) c.in_ok-question.ensures.width
-
-pub returns-clause-read : goal.returns-clause-read
-returns-clause-read c =
+pub returns : goal.returns
+returns c =
     let tables = tables_of c.args.world.now.engines in
     let q = c.in_ok-question.question in
     let z : Value = c.question-item.result in
     let three : length c.args.parts.now ≡ 3 = omega (arith, c.in-len3.len_at_least, c.in-len3.len_below) in
     let read : question_form (slice_get tables c.in_ok-engine.engine) (view z)
-    ≡ Ok (asked_of (table_in (slice_get tables c.in_ok-engine.engine)) q) =
+    ≡ Ok (asked_of q) =
     subst (λ (o : Option (List ℕ)). question_form o (view z)
-    ≡ Ok (asked_of (table_in o) q)) c.table.ensures c.in_ok-question.ensures.read in
+    ≡ Ok (asked_of q)) c.table.ensures c.in_ok-question.ensures in
     asked tables c.args.parts.now c.engine-item.result c.token-item.result z c.in_ok-engine.engine c.in_ok-token.token _ three
     c.engine-item.is c.token-item.is c.question-item.is
     (sym c.in_ok-engine.ensures) (sym c.in_ok-token.ensures)
-    (read ∙ ap (λ table. Ok (asked_of table q)) (same_table tables c.in_ok-engine.engine))
+    read

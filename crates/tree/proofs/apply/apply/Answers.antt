@@ -14,7 +14,7 @@ pub returns-clause-nested : goal.returns-clause-nested
 returns-clause-nested c =
     let applied = sym (flags_context c.run.new.nodes c.show.new.nodes c.show.ensures.same) ∙ c.run.ensures.applied in
     subst IsNested (sym applied)
-    (nested_apply (context c.args.nodes.now) (loose_operation (stamped_of c.args.stamp.now.table.now c.args.op.now)) c.requires.nested)
+    (nested_apply (context c.args.nodes.now) (loose_operation (stamped_of c.args.op.now)) c.requires.nested)
 
 pub returns-clause-indexed : goal.returns-clause-indexed
 returns-clause-indexed c = c.show.ensures.same.indexed c.args.stamp.now.table.now c.run.ensures.indexed

@@ -1,7 +1,5 @@
-use Rattle.std.proofs.Common.{rules, Some, ◌≡◌, ◌≢◌, ◌++◌, [], ◌∷◌, List, length, map, inl, inr, sym, ap, ◌∙◌, subst}
-use Rattle.std.specs.List.{All}
+use Rattle.std.proofs.Common.{rules, Some, ◌≡◌, ◌≢◌, ◌++◌, [], ◌∷◌, List, map, inl, inr, sym, ap, ◌∙◌}
 use Rattle.std.proofs.lemmas.List.{map-append}
-use Rattle.std.proofs.lemmas.List.Elements.{All-push}
 use Rattle.semantics.specs.Stamped.{Stamped}
 use Rattle.operation.specs.declared.op.Op.{Op}
 use Rattle.operation.specs.Ops.{stamped_of}
@@ -17,22 +15,20 @@ loop-line-preserved c =
     let old : List Op = c.loop-line.ops.items in
     let x = c.in-Ok.op in
     let pushed : c.push.new.self.items ≡ old ++ x ∷ [] = search rules in
-    let step = after-op table _ _ _ (map (stamped_of table) old) (stamped_of table x) c.in-Some.ensures.line c.in-Ok.ensures.read in
-    let more : map (stamped_of table) (old ++ x ∷ [])
-    ≡ map (stamped_of table) old ++ stamped_of table x ∷ [] = map-append (stamped_of table) old (x ∷ []) in
+    let step = after-op table _ _ _ (map stamped_of old) (stamped_of x) c.in-Some.ensures.line c.in-Ok.ensures in
+    let more : map stamped_of (old ++ x ∷ [])
+    ≡ map stamped_of old ++ stamped_of x ∷ [] = map-append stamped_of old (x ∷ []) in
     record {
       left = rw pushed
           (ap (λ (ss : List Stamped). after ss (readable table c.take_line.new.self.rest.now)) more ∙ sym step
           ∙ c.loop-line.invariant.left);
-      width = subst (All (λ (o : Op). length o.deps ≡ length table)) (sym pushed)
-          (All-push (λ (o : Op). length o.deps ≡ length table) old x c.loop-line.invariant.width c.in-Ok.ensures.width);
     }
 
 pub returns-in-Err-clause-read : goal.returns-in-Err-clause-read
 returns-in-Err-clause-read c =
     let table = c.args.table.now in
-    let ss = map (stamped_of table) c.loop-line.ops.items in
-    elim (IsOrNoMemory-Err _ _ c.in-Err.ensures.read) [
+    let ss = map stamped_of c.loop-line.ops.items in
+    elim (IsOrNoMemory-Err _ _ c.in-Err.ensures) [
       | inl e ↦ inl (ap Some e)
       | inr e ↦
           let all = sym (after-bad table _ _ _ ss c.in-Err.why c.in-Some.ensures.line e) ∙ c.loop-line.invariant.left in
@@ -42,7 +38,7 @@ returns-in-Err-clause-read c =
 pub returns-clause-read : goal.returns-clause-read
 returns-clause-read c =
     let table = c.args.table.now in
-    let ss = map (stamped_of table) c.loop-line.ops.items in
+    let ss = map stamped_of c.loop-line.ops.items in
     elim c.match-cut_line.branch [
       | in-Some-cut_line w ↦
           let some : c.loop-line.lines.rest.now ≢ [] = rw c.in_default.ensures.none.1 at w.in-Some-cut_line.ensures.1 in

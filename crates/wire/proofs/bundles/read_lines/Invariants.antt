@@ -1,6 +1,5 @@
 -- What is left decides, after the operations so far.
 use Rattle.std.proofs.Common.{◌≡◌, map, length}
-use Rattle.std.specs.List.{All}
 use Rattle.operation.specs.Ops.{stamped_of}
 use Rattle.wire.specs.Bundles.{readable}
 use Rattle.wire.proofs.BundleLines.{after}
@@ -11,6 +10,5 @@ decreases-loop-line l = length l.lines.rest.now
 
 abbrev pub invariant-loop-line : goal.invariant-loop-line
 invariant-loop-line l = record {
-  left : after (map (stamped_of l.fn.table) l.ops.items) (readable l.fn.table l.lines.rest.now) ≡ readable l.fn.table l.fn.text;
-  width : All (λ o. length o.deps ≡ length l.fn.table) l.ops.items;
+  left : after (map stamped_of l.ops.items) (readable l.fn.table l.lines.rest.now) ≡ readable l.fn.table l.fn.text;
 }

@@ -15,8 +15,7 @@ use Rattle.wire.proofs.bundles.write_bundle.Goals as goal
 
 pub loop-op-preserved : goal.loop-op-preserved
 loop-op-preserved c =
-    let table = c.args.table.now in
-    let f : Op → Stamped = stamped_of table in
+    let f : Op → Stamped = stamped_of in
     let ops = c.args.ops.now in
     let i : ℕ = c.loop-op.op-index in
     let o = c.op-item.result in
@@ -35,24 +34,23 @@ loop-op-preserved c =
           ∙ append_assoc before (op_line (f o)) (10 ∷ rest)
           ∙ ap (λ (xs : List Op). before ++ bundle_text (map f xs)) (sym next)
           ∙ c.loop-op.invariant.left;
-      back = All-more (λ (x : Op). IsBackIfSent table (f x)) ops i o c.loop-op-test.true c.loop-op.invariant.back
-          (subst (λ (x : Op). IsBackIfSent table (f x)) c.op-item.is
+      back = All-more (λ (x : Op). IsBackIfSent (f x)) ops i o c.loop-op-test.true c.loop-op.invariant.back
+          (subst (λ (x : Op). IsBackIfSent (f x)) c.op-item.is
           (record {
-            back = subst (λ (x : Op). CanBeSent table (f x) → op_form table (op_line (f x)) ≡ Ok (f x))
+            back = subst (λ (x : Op). (table : List ℕ) → CanBeSent table (f x) → op_form table (op_line (f x)) ≡ Ok (f x))
                 c.deref.ensures c.in_ok-line.ensures.reads_back;
           }));
     }
 
 pub returns-clause-reads_back : goal.returns-clause-reads_back
-returns-clause-reads_back c sent =
-    let table = c.args.table.now in
-    let f : Op → Stamped = stamped_of table in
+returns-clause-reads_back c table sent =
+    let f : Op → Stamped = stamped_of in
     let ops = c.args.ops.now in
     let ended : drop c.loop-op.op-index ops ≡ [] = drop_all c.loop-op.op-index ops c.loop-op-test.false in
     let text : c.loop-op.text.items ≡ bundle_text (map f ops) =
     sym (append-nil c.loop-op.text.items) ∙ ap (λ (xs : List Op). c.loop-op.text.items ++ bundle_text (map f xs)) (sym ended)
     ∙ c.loop-op.invariant.left in
-    let back = subst (All (λ (x : Op). IsBackIfSent table (f x)))
+    let back = subst (All (λ (x : Op). IsBackIfSent (f x)))
     (take_all c.loop-op.op-index ops c.loop-op-test.false) c.loop-op.invariant.back in
     ap (bundle_form table) text
-    ∙ sent_bundle_back table (map f ops) (All-map (CanBeSent table) f ops sent) (All-map (IsBackIfSent table) f ops back)
+    ∙ sent_bundle_back table (map f ops) (All-map (CanBeSent table) f ops sent) (All-map IsBackIfSent f ops back)

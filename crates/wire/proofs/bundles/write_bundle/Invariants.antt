@@ -8,6 +8,6 @@ use Rattle.wire.proofs.bundles.write_bundle.Given as goal
 
 abbrev pub invariant-loop-op : goal.invariant-loop-op
 invariant-loop-op l = record {
-  left : l.text.items ++ bundle_text (map (stamped_of l.table) (drop l.op-index l.ops)) ≡ bundle_text (map (stamped_of l.table) l.ops);
-  back : All (λ o. IsBackIfSent l.table (stamped_of l.table o)) (take l.op-index l.ops);
+  left : l.text.items ++ bundle_text (map stamped_of (drop l.op-index l.ops)) ≡ bundle_text (map stamped_of l.ops);
+  back : All (λ o. IsBackIfSent (stamped_of o)) (take l.op-index l.ops);
 }

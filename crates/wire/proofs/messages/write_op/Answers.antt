@@ -8,13 +8,14 @@ use Rattle.wire.specs.Sent.{CanBeSent}
 use Rattle.wire.proofs.messages.write_op.Goals as goal
 
 -- the text is the line, and the line is read as the operation
-text_back : {V E : Type 0} (items : V → List ℕ) (table : List ℕ) (s : Stamped) (r : Result V E) → IfOk r (λ t. items t ≡ op_line s)
-    → OnOk r (CanBeSent table s → op_form table (op_line s) ≡ Ok s) → IfOk r (λ t. CanBeSent table s → op_form table (items t) ≡ Ok s)
-text_back items table s (Ok t) is back = λ sent. ap (op_form table) is ∙ back sent
-text_back items table s (Err e) is back = tt
+text_back : {V E : Type 0} (items : V → List ℕ) (s : Stamped) (r : Result V E) → IfOk r (λ t. items t ≡ op_line s)
+    → OnOk r ((table : List ℕ) → CanBeSent table s → op_form table (op_line s) ≡ Ok s)
+    → IfOk r (λ t. (table : List ℕ) → CanBeSent table s → op_form table (items t) ≡ Ok s)
+text_back items s (Ok t) is back = λ table sent. ap (op_form table) is ∙ back table sent
+text_back items s (Err e) is back = tt
 
 pub returns-clause-reads_back : goal.returns-clause-reads_back
 returns-clause-reads_back c =
-    let s = stamped_of c.args.table.now c.args.op.now in
+    let s = stamped_of c.args.op.now in
     let line : IfOk c.with_line.result (λ t. t.items ≡ op_line s) = search rules in
-    text_back (λ t. t.items) c.args.table.now s c.with_line.result line c.with_line.ensures.reads_back
+    text_back (λ t. t.items) s c.with_line.result line c.with_line.ensures.reads_back

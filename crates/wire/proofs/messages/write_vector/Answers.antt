@@ -2,16 +2,15 @@ use Rattle.std.proofs.Common.{◌≡◌, ◌++◌, [], List, IsUtf8, ap, ◌∙�
 use Rattle.json.specs.Print.{print}
 use Rattle.json.specs.Token.{Token}
 use Rattle.serde_json.proofs.Texts.{print-outline}
-use Rattle.semantics.specs.Tables.{by_table}
 use Rattle.wire.specs.Messages.{hello_form, hello_json}
 use Rattle.wire.specs.Writing.{tokens_of}
-use Rattle.wire.proofs.ReadBack.{sent_column}
+use Rattle.wire.proofs.ReadBack.{sent_named}
 use Rattle.wire.proofs.WholeOperations.{hello_form-vector_line}
 use Rattle.wire.proofs.messages.write_vector.Goals as goal
 
 pub returns-clause-line : goal.returns-clause-line
 returns-clause-line c =
-    let v = by_table c.args.table.now c.args.vector.now in
+    let v = c.args.vector.now in
     let wrote = c.in_ok-put_hello.ensures.json in
     let all : c.put_hello.new.out.tokens ≡ tokens_of (hello_json v) = wrote.tokens
     ∙ ap (λ (ts : List Token). ts ++ tokens_of (hello_json v)) c.new-out.ensures.tokens in
@@ -19,13 +18,13 @@ returns-clause-line c =
     c.into_inner.ensures.items ∙ (λ i. before i ++ (ap print all ∙ print-outline (hello_json v)) i)
 
 pub returns-clause-reads_back : goal.returns-clause-reads_back
-returns-clause-reads_back c sent =
-    let table = c.args.table.now in
-    let v = by_table table c.args.vector.now in
+returns-clause-reads_back c table members counters =
+    let v = c.args.vector.now in
+    let named = c.in_ok-put_hello.ensures.named in
     let all : c.put_hello.new.out.tokens ≡ tokens_of (hello_json v) = c.in_ok-put_hello.ensures.json.tokens
     ∙ ap (λ (ts : List Token). ts ++ tokens_of (hello_json v)) c.new-out.ensures.tokens in
     let before : c.put_hello.new.out.before ≡ [] = search rules in
     let text = c.into_inner.ensures.items ∙ (λ i. before i ++ (ap print all ∙ print-outline (hello_json v)) i) in
     ap (hello_form table) text
-    ∙ hello_form-vector_line table v (sent_column table c.args.vector.now c.in_ok-put_hello.ensures.typed sent)
+    ∙ hello_form-vector_line table v (sent_named table v named.canonical c.in_ok-put_hello.ensures.typed members counters) named.few
     (subst IsUtf8 (ap print all ∙ print-outline (hello_json v)) c.into_inner.ensures.utf8)

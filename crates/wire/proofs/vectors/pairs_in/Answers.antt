@@ -1,19 +1,17 @@
-use Rattle.std.proofs.Common.{◌≡◌, ◌≢◌, ◌<◌, ◌+◌, ℕ, max, cond, ◌==◌, List, [], ◌∷◌, ◌++◌, length, length-set, drop, drop-cons, get_or}
+use Rattle.std.proofs.Common.{rules, ◌≡◌, ◌<◌, ◌+◌, ℕ, suc, List, [], ◌∷◌, ◌++◌, length, drop, drop-cons, true}
 use Rattle.std.proofs.Common.{Result, Ok, Err, refl, sym, ap, ◌∙◌, subst, append_assoc, add-one, arith}
-use Rattle.std.proofs.lemmas.List.{length-replicate}
+use Rattle.std.proofs.lemmas.List.{length-append}
 use Rattle.std.proofs.lemmas.Bool.{lt-ltb}
-use Rattle.std.proofs.lemmas.Option.{slice_get_within, get_or_from_slice_get}
 use Rattle.ids.specs.declared.refusal.Refusal.{Refusal}
-use Rattle.ids.proofs.Tables.{member_at}
+use Rattle.ids.specs.Members.{is_member}
+use Rattle.ids.specs.Vectors.{AreBelow}
+use Rattle.ids.proofs.SearchedVectors.{below_behind, below_more}
 use Rattle.semantics.specs.Ids.{OpId}
 use Rattle.semantics.specs.Vectors.{Vector}
-use Rattle.semantics.specs.Tables.{by_table, component}
 use Rattle.serde_json.specs.declared.value.Value.{Value}
 use Rattle.serde_json.specs.View.{view, items_view}
-use Rattle.operation.proofs.version.TableColumns.{component-raised, component-zeros}
 use Rattle.wire.specs.Forms.{and_then}
 use Rattle.wire.specs.Vectors.{next_of, pair_form, pairs_above}
-use Rattle.wire.proofs.ReadVectors.{by_table-more, by_table-zeros, none_above}
 use Rattle.wire.proofs.vectors.pairs_in.Goals as goal
 
 -- nothing comes before
@@ -35,50 +33,49 @@ after_pair done a table last x xs e n = rw (e, n) (joined (pairs_above table a.r
 
 pub loop-pair-init : goal.loop-pair-init
 loop-pair-init c =
-    let ps = c.args.table.now in
-    let zeros = c.in_ok-vector.ensures in
-    let none : by_table ps c.in_ok-vector.vector ≡ [] = ap (by_table ps) zeros ∙ by_table-zeros ps c.len.result in
+    let none : c.new-vector.result ≡ [] = c.new-vector.ensures in
     record {
-      width = ap length zeros ∙ length-replicate c.len.result 0 ∙ c.len.ensures.length;
-      none_above = λ p q. ap (λ cs. component ps cs p) zeros ∙ component-zeros ps c.len.result p;
-      left = ap (λ (done : Vector). and_then (λ v. Ok (done ++ v)) (pairs_above ps 0 (items_view c.args.pairs.now))) none
-          ∙ none_before (pairs_above ps 0 (items_view c.args.pairs.now));
+      below = subst (AreBelow 1) (sym none) tt;
+      count = ap length none;
+      left = ap (λ (done : Vector). and_then (λ v. Ok (done ++ v)) (pairs_above c.args.table.now 0 (items_view c.args.pairs.now))) none
+          ∙ none_before (pairs_above c.args.table.now 0 (items_view c.args.pairs.now));
     }
 
-pub raise-requires : goal.raise-requires
-raise-requires c =
-    let within = slice_get_within c.args.table.now c.in-Some.index c.in_ok-id.id.replica c.in-Some.ensures.found in
-    omega (arith, within, c.loop-pair.invariant.width)
+pub push-requires-clause-above : goal.push-requires-clause-above
+push-requires-clause-above c =
+    let last : ℕ = c.loop-pair.last in
+    let id = c.in_ok-id.id in
+    let above : last < id.replica = omega (arith, c.if-replica-last.false, c.number-replica.ensures.number) in
+    below_more (suc last) id.replica c.loop-pair.vector c.loop-pair.invariant.below (omega (arith, above))
 
--- one more pair was raised, above those before it: the column stands for the pairs so far, and the rest is read after them
+pub push-requires-clause-room : goal.push-requires-clause-room
+push-requires-clause-room c = omega (arith, c.loop-pair.invariant.count, c.loop-pair-test.true, c.requires)
+
+-- one more pair, above those before it, and the rest is read after them
 pub loop-pair-preserved : goal.loop-pair-preserved
 loop-pair-preserved c =
     let ps = c.args.table.now in
-    let cs = c.loop-pair.vector in
-    let ds = c.raise.new.self in
-    let id = c.in_ok-id.id in
+    let v : Vector = c.loop-pair.vector in
+    let id : OpId = c.in_ok-id.id in
     let xs = c.args.pairs.now in
     let n : ℕ = c.loop-pair.pair-index in
     let last : ℕ = c.loop-pair.last in
-    let within : c.in-Some.index < length ps = slice_get_within ps c.in-Some.index id.replica c.in-Some.ensures.found in
-    let there : get_or ps c.in-Some.index 0 ≡ id.replica = get_or_from_slice_get ps c.in-Some.index id.replica 0 c.in-Some.ensures.found in
     let above : last < id.replica = omega (arith, c.if-replica-last.false, c.number-replica.ensures.number) in
-    let next : next_of ps last id ≡ Ok id = rw (lt-ltb last id.replica above, member_at ps id.replica c.in-Some.index within there) refl in
-    let raised : (p : ℕ) → component ps ds p ≡ cond (id.replica == p) (max id.counter (component ps cs p)) (component ps cs p) =
-    (λ p. ap (λ ks. component ps ks p) c.raise.ensures
-    ∙ component-raised ps cs c.in-Some.index id.counter p id.replica c.len.ensures.distinct within c.loop-pair.invariant.width there) in
-    let some : id.counter ≢ 0 = (λ e. absurd (omega (arith, e, c.in_ok-id.ensures.counted))) in
+    let member : is_member ps id.replica ≡ true = search rules in
+    let next : next_of ps last id ≡ Ok id = rw (lt-ltb last id.replica above, member) refl in
     let same : c.number-replica.result ≡ id.replica = c.number-replica.ensures.number in
+    let pushed : c.push.new.self ≡ v ++ id ∷ [] = c.in_ok-push.ensures in
     let rest : drop n xs ≡ c.pair-item.result ∷ drop (n + 1) xs = drop-cons xs n c.pair-item.result c.loop-pair-test.true
     ∙ (λ i. sym c.pair-item.is i ∷ drop (sym (add-one n) i) xs) in
+    let all : AreBelow (suc id.replica) (v ++ id ∷ []) = below_behind (suc id.replica) v id
+    (below_more (suc last) (suc id.replica) v c.loop-pair.invariant.below (omega (arith, above))) (omega arith) in
     record {
-      width = ap length c.raise.ensures ∙ length-set cs c.in-Some.index _ ∙ c.loop-pair.invariant.width;
-      none_above = λ p q. none_above ps cs ds id last raised c.loop-pair.invariant.none_above above p (subst (λ r. r < p) same q);
+      below = subst (λ (w : Vector). AreBelow (suc c.number-replica.result) w) (sym pushed)
+          (subst (λ r. AreBelow (suc r) (v ++ id ∷ [])) (sym same) all);
+      count = ap length pushed ∙ length-append v (id ∷ []) ∙ ap (λ k. k + 1) c.loop-pair.invariant.count;
       left =
-          (λ i. and_then
-          (λ v. Ok (by_table-more ps cs ds id last c.len.ensures.distinct raised c.loop-pair.invariant.none_above above some i ++ v))
-          (pairs_above ps (same i) (items_view (drop (n + 1) xs))))
-          ∙ sym (after_pair (by_table ps cs) id ps last c.pair-item.result (drop (n + 1) xs) (sym c.in_ok-id.ensures.form) next)
-          ∙ ap (λ ys. and_then (λ v. Ok (by_table ps cs ++ v)) (pairs_above ps last (items_view ys))) (sym rest)
+          (λ i. and_then (λ w. Ok (pushed i ++ w)) (pairs_above ps (same i) (items_view (drop (n + 1) xs))))
+          ∙ sym (after_pair v id ps last c.pair-item.result (drop (n + 1) xs) (sym c.in_ok-id.ensures.form) next)
+          ∙ ap (λ ys. and_then (λ w. Ok (v ++ w)) (pairs_above ps last (items_view ys))) (sym rest)
           ∙ c.loop-pair.invariant.left;
     }

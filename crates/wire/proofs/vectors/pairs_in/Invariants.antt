@@ -1,6 +1,6 @@
--- What is left decides, after the pairs so far; no replica above the last has a counter yet.
-use Rattle.std.proofs.Common.{◌≡◌, ◌<◌, ◌++◌, ℕ, length, drop, Ok}
-use Rattle.semantics.specs.Tables.{by_table, component}
+-- What is left decides, after the pairs so far, which are of replicas up to the last.
+use Rattle.std.proofs.Common.{◌≡◌, ◌++◌, suc, length, drop, Ok}
+use Rattle.ids.specs.Vectors.{AreBelow}
 use Rattle.serde_json.specs.View.{items_view}
 use Rattle.wire.specs.Forms.{and_then}
 use Rattle.wire.specs.Vectors.{pairs_above}
@@ -8,8 +8,8 @@ use Rattle.wire.proofs.vectors.pairs_in.Given as goal
 
 abbrev pub invariant-loop-pair : goal.invariant-loop-pair
 invariant-loop-pair l = record {
-  width : length l.vector ≡ length l.table;
-  none_above : (p : ℕ) → l.last < p → component l.table l.vector p ≡ 0;
-  left : and_then (λ v. Ok (by_table l.table l.vector ++ v)) (pairs_above l.table l.last (items_view (drop l.pair-index l.pairs)))
+  below : AreBelow (suc l.last) l.vector;
+  count : length l.vector ≡ l.pair-index;
+  left : and_then (λ v. Ok (l.vector ++ v)) (pairs_above l.table l.last (items_view (drop l.pair-index l.pairs)))
       ≡ pairs_above l.table 0 (items_view l.pairs);
 }

@@ -27,8 +27,8 @@ one_more W U V steps n o inside read same so_far is =
     ∙ sym (after_next W (map f steps) n (f o) (read_mapped f steps n o inside read))
     ∙ ap (λ m. world_after W (take m (map f steps))) (sym (add-one n))
 
-pub turn-requires-clause-reached : goal.turn-requires-clause-reached
-turn-requires-clause-reached c =
+pub turn-requires : goal.turn-requires
+turn-requires c =
     let W : World = world c.args.engines.now.items (map message_of c.args.messages.now.items) in
     let U : World = world c.loop-step.engines.items (map message_of c.loop-step.messages.items) in
     let done : List TheStep = take c.loop-step.step-index (map (step_in (tables_of c.args.engines.now.items)) c.args.steps.now) in

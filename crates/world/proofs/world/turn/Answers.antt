@@ -4,7 +4,7 @@ use Rattle.std.proofs.lemmas.Option.{slice_get_read}
 use Rattle.semantics.specs.Engine.{Engine, Message}
 use Rattle.semantics.specs.World.{WorldStep as TheStep, WorldOutcome, engine_step, sent_by, world_step}
 use Rattle.world.specs.declared.step.WorldStep.{WorldStep}
-use Rattle.world.specs.Acts.{ActHasWidthOf, act_of, step_of}
+use Rattle.world.specs.Acts.{act_of, step_of}
 use Rattle.world.specs.Parts.{IsInPart}
 use Rattle.world.specs.Worlds.{step_in, tables_of, world}
 use Rattle.world.specs.Engines.{message_of}
@@ -35,20 +35,12 @@ module _ (Es : List Engine) (ms : List Message) (s : WorldStep) (E : Engine) (at
       }
   turned = ap (world_step (world Es ms)) its_step ∙ world_step-there Es ms (step_of E.replica.members s) E at
 
-pub turn-requires-clause-reached : goal.turn-requires-clause-reached
-turn-requires-clause-reached c =
+pub turn-requires : goal.turn-requires
+turn-requires c =
     let Es = c.args.engines.now.items in
     let E : Engine = c.index_mut-engine.result.now in
     let there = slice_get_read Es (length Es) c.args.step.now.engine E refl (omega arith) c.index_mut-engine.ensures.value in
-    reached_at (world Es (map message_of c.args.messages.now.items)) c.requires.reached c.args.step.now.engine E there
-
-pub turn-requires-clause-width : goal.turn-requires-clause-width
-turn-requires-clause-width c =
-    let Es = c.args.engines.now.items in
-    let s = c.args.step.now in
-    let E : Engine = c.index_mut-engine.result.now in
-    let there = slice_get_read Es (length Es) s.engine E refl (omega arith) c.index_mut-engine.ensures.value in
-    subst (λ table. ActHasWidthOf table s.act) (own_table Es s.engine E there) c.requires.width
+    reached_at (world Es (map message_of c.args.messages.now.items)) c.requires c.args.step.now.engine E there
 
 -- the engine that moves is there
 there : (c : goal.After-engines-1) → slice_get c.args.engines.now.items c.args.step.now.engine ≡ Some c.index_mut-engine.result.now
@@ -90,7 +82,7 @@ returns-clause-tables c =
     let ms : List Message = map message_of c.args.messages.now.items in
     let s = c.args.step.now in
     let E : Engine = c.index_mut-engine.result.now in
-    let sound = reached_sound E (reached_at (world Es ms) c.requires.reached s.engine E (there c)) in
+    let sound = reached_sound E (reached_at (world Es ms) c.requires s.engine E (there c)) in
     then_ok c.turn.result
     (λ (e : c.turn.new.self ≡ (engine_step ms (act_of E.replica.members s.act) E).engine).
     tables_set Es s.engine E c.turn.new.self (there c)

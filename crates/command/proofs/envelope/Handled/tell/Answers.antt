@@ -11,7 +11,7 @@ returns-in-Ok g c =
       c.fill.new.self,
       c.in-Ok.ensures.value.0,
       (
-        ap (submitted_of g.N.EngineName.table) same
+        ap submitted_of same
             ∙ ap (λ (h : Handled). h.submitted) c.self.view_is,
         (
           record { reply = c.self.inside.reply; history = c.args.notice },

@@ -1,11 +1,14 @@
-use Rattle.document.proofs.Consistent.{column_is_vector, greatest_of_column, column_within}
+use Rattle.document.proofs.Consistent.{greatest_applied, is_named, within_length}
 use Rattle.document.proofs.document.Document.applied.Goals as goal
 
 pub returns-clause-all : goal.returns-clause-all
-returns-clause-all c = rw (← c.self.view_is) (column_is_vector _ _ _ _ c.self.invariant)
+returns-clause-all c = rw (← c.self.view_is) c.self.invariant.vector
+
+pub returns-clause-named : goal.returns-clause-named
+returns-clause-named c = is_named _ _ _ _ c.self.invariant
 
 pub returns-clause-greatest : goal.returns-clause-greatest
-returns-clause-greatest c = rw (← c.self.view_is) (greatest_of_column _ _ _ _ c.self.invariant)
+returns-clause-greatest c = rw (← c.self.view_is) (greatest_applied _ _ _ _ c.self.invariant)
 
 pub returns-clause-few : goal.returns-clause-few
-returns-clause-few c = rw (← c.self.view_is) (column_within _ _ _ _ c.self.invariant)
+returns-clause-few c = rw (← c.self.view_is) (within_length _ _ _ _ c.self.invariant)

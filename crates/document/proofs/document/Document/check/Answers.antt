@@ -1,5 +1,5 @@
 use Rattle.oplog.specs.operation.Ops.{stamped_of}
-use Rattle.oplog.proofs.operation.PassedAlone.{passed_alone}
+use Rattle.oplog.proofs.operation.StandingAlone.{passed_alone}
 use Rattle.document.proofs.ReceivedFaults.{lawful}
 use Rattle.document.proofs.document.Document.check.Goals as goal
 
@@ -7,5 +7,5 @@ pub returns-clause-lawful : goal.returns-clause-lawful
 returns-clause-lawful c =
     let d = c.self.inside in
     rw (← c.self.view_is)
-    (λ passed. lawful d.log.entries (stamped_of d.log.table c.args.op.now) c.self.invariant.legal c.check.result c.check.ensures
+    (λ passed. lawful d.log.entries (stamped_of c.args.op.now) c.self.invariant.legal c.check.result c.check.ensures
     (passed_alone d.log.table c.args.op.now passed))

@@ -1,17 +1,22 @@
-use Rattle.std.proofs.Common.{refl, sym, ap, length, ◌∙◌}
+use Rattle.std.proofs.Common.{◌≡◌, nat_le, List, [], ◌∷◌, ◌&&◌, refl, ap, ◌∙◌}
+use Rattle.std.specs.List.{list_all}
+use Rattle.semantics.specs.Ids.{OpId}
+use Rattle.semantics.specs.Operations.{Operation}
+use Rattle.semantics.specs.Vectors.{Vector, is_at_most}
+use Rattle.semantics.specs.NamedIds.{greatest_counter, vector_of}
 use Rattle.semantics.specs.Entries.{applied}
-use Rattle.semantics.proofs.ColumnComparison.{ready-by_table}
-use Rattle.oplog.specs.operation.Ops.{stamped_of}
-use Rattle.document.specs.Documents.{Contents}
+use Rattle.semantics.proofs.AppliedVectors.{at-vector_of}
 use Rattle.document.proofs.document.Document.ready.Goals as goal
+
+-- a vector is at most that of all that was applied, where each counter is at most the greatest of its replica
+at_most_all : (H : List Operation) (v : Vector)
+    → is_at_most v (vector_of H) ≡ list_all (λ (a : OpId). nat_le a.counter (greatest_counter H a.replica)) v
+at_most_all H [] = refl
+at_most_all H (a ∷ v) = λ i. nat_le a.counter (at-vector_of H a.replica i) && at_most_all H v i
 
 pub returns : goal.returns
 returns c =
     let d = c.self.inside in
-    let table = d.log.table in
+    let v : Vector = c.args.op.now.deps in
     rw (← c.self.view_is)
-    (c.le.ensures
-    ∙ sym
-    (ready-by_table (applied d.log.entries) table c.args.op.now.deps d.applied
-    (stamped_of table c.args.op.now) refl c.self.invariant.distinct
-    (c.requires.width ∙ ap (λ (k : Contents). length k.table) (sym c.self.view_is)) c.self.invariant.width c.self.invariant.greatest))
+    (c.is_at_most.ensures ∙ ap (is_at_most v) (c.ids.ensures.ids ∙ c.self.invariant.vector) ∙ at_most_all (applied d.log.entries) v)

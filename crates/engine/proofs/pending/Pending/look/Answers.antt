@@ -18,7 +18,7 @@ returns-clause-answer g c =
           ∙ ap (λ (x : Submission). answer_in x (Some c.in_ok-answer.answer.now)) (sym c.deref-2.ensures)
           ∙ c.in_ok-given.ensures.0
           ∙ ap (λ (G : List Entry). Some (record { reply = reply; history = G })) (sym c.again-2.ensures),
-      subst (λ (x : Submission). IsAnswerWith own table c.again-2.result (submitted_of table x) (reply_of reply)) here
-          (subst (λ (G : List Entry). IsAnswerWith own table G (submitted_of table submission) (reply_of reply)) (sym c.again-2.ensures)
+      subst (λ (x : Submission). IsAnswerWith own table c.again-2.result (submitted_of x) (reply_of reply)) here
+          (subst (λ (G : List Entry). IsAnswerWith own table G (submitted_of submission) (reply_of reply)) (sym c.again-2.ensures)
           c.in_ok-given.ensures.1),
     )

@@ -20,7 +20,7 @@ returns-in-Some g c =
     let known : answer_of c.args.self.now ≡ Some x = ap answer_of (sym c.self.view_is) ∙ held.1 in (
       x,
       refl,
-      subst (λ (y : AwaitedAnswer). IsAnswerWith own table n (submitted_of table y.submission) (reply_of held.0)) c.self.view_is held.2,
+      subst (λ (y : AwaitedAnswer). IsAnswerWith own table n (submitted_of y.submission) (reply_of held.0)) c.self.view_is held.2,
       subst (λ o. IfSome o (λ y. y ≡ x)) (sym known) refl,
     )
 
@@ -37,7 +37,7 @@ returns g c =
       x,
       refl,
       subst
-          (λ (y : Submission). IsAnswerWith own table given.notice (submitted_of table y) (reply_of given.reply)) (c.deref-2.ensures ∙ here)
+          (λ (y : Submission). IsAnswerWith own table given.notice (submitted_of y) (reply_of given.reply)) (c.deref-2.ensures ∙ here)
           c.in_ok-given.ensures.1,
       subst (λ o. IfSome o (λ y. y ≡ x)) (sym none) tt,
     )

@@ -1,19 +1,13 @@
-use Rattle.std.proofs.Common.{ℕ, List, length, ap, sym, subst, ◌∙◌}
-use Rattle.inbox.specs.Awaiting.{AreThisWide}
+use Rattle.std.proofs.Common.{sym, subst}
+use Rattle.semantics.specs.Vectors.{IsCanonical}
 use Rattle.inbox.proofs.KeptOps.{advanced}
-use Rattle.inbox.proofs.Ready.{wide_at}
 use Rattle.inbox.proofs.inbox.Inbox.advance.Goals as goal
 
-pub advance-requires : goal.advance-requires
-advance-requires c =
-    let d = c.self.inside in
-    record {
-      wide = subst (λ (table : List ℕ). AreThisWide (length table) d.ops) (sym c.table.ensures)
-          (wide_at d.ops d.keys.entries d.waits c.args.self.now c.self.invariant c.self.view_is c.args.document.now.table
-          c.requires.width);
-      applied = c.applied.ensures.width ∙ ap length (sym c.table.ensures);
-      there = (d.keys.entries, c.self.invariant.awaiting);
-    }
+pub advance-requires-clause-canonical : goal.advance-requires-clause-canonical
+advance-requires-clause-canonical c = subst IsCanonical (sym c.ids.ensures.ids) c.ids.ensures.canonical
+
+pub advance-requires-clause-there : goal.advance-requires-clause-there
+advance-requires-clause-there c = (c.self.inside.keys.entries, c.self.invariant.awaiting)
 
 pub invariant_of-self : goal.invariant_of-self
 invariant_of-self c =

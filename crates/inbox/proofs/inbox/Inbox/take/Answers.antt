@@ -17,8 +17,8 @@ pub invariant_of-self : goal.invariant_of-self
 invariant_of-self c = (without c).stored
 
 pub returns-in_err-key-clause-none : goal.returns-in_err-key-clause-none
-returns-in_err-key-clause-none c table =
-    not_found c.self.inside.ops _ _ c.args.id c.self.invariant.at_keys c.self.view_is _ table (sym c.in_err-key.ensures.number)
+returns-in_err-key-clause-none c =
+    not_found c.self.inside.ops _ _ c.args.id c.self.invariant.at_keys c.self.view_is _ (sym c.in_err-key.ensures.number)
 
 pub returns-in_err-key-clause-left : goal.returns-in_err-key-clause-left
 returns-in_err-key-clause-left c = (without c).left

@@ -1,4 +1,4 @@
-use Rattle.std.proofs.Common.{sym, ◌∙◌}
+use Rattle.std.proofs.Common.{◌∙◌}
 use Rattle.inbox.proofs.waits.Waits.move_met.Goals as goal
 
 pub move_on-requires-clause-there : goal.move_on-requires-clause-there
@@ -9,7 +9,6 @@ returns-then-is_err-clause-kept c es h = c.move_on.ensures.kept es (c.loop.invar
 
 pub loop-preserved : goal.loop-preserved
 loop-preserved c = record {
-  wide = λ k o stands. c.loop.invariant.wide k o (sym (c.move_on.ensures.same k) ∙ stands);
   kept = λ es h. c.move_on.ensures.kept es (c.loop.invariant.kept es h);
   same = λ k. c.move_on.ensures.same k ∙ c.loop.invariant.same k;
 }

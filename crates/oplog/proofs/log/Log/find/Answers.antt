@@ -12,21 +12,21 @@ returns-in_err-index c =
     let d = c.self.inside in
     c.from_residual.ensures
     ∙ sym
-    (absent_elsewhere d.table (history d.table d.entries.items) c.args.id (c.in_err-index.ensures.none.0 refl) c.self.invariant.members)
+    (absent_elsewhere d.table (history d.entries.items) c.args.id (c.in_err-index.ensures.none.0 refl) c.self.invariant.members)
     ∙ ap (λ (l : Logged). position_of c.args.id l.entries) c.self.view_is
 
 pub index-requires : goal.index-requires
 index-requires c =
     let d = c.self.inside in
     let h = positions_inside
-    (history d.table d.entries.items) d.table d.positions.items c.in_ok-index.index c.args.id.replica c.in_ok-index.ensures.found
+    (history d.entries.items) d.table d.positions.items c.in_ok-index.index c.args.id.replica c.in_ok-index.ensures.found
     c.self.invariant.positions_are in
     omega arith
 
 pub returns : goal.returns
 returns c =
     let d = c.self.inside in
-    let G = history d.table d.entries.items in
+    let G = history d.entries.items in
     let f = λ (n : Numbered OpId). n.entries in
     let i = c.in_ok-index.index in
     let a = c.args.id in

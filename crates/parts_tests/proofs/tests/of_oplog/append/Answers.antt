@@ -10,5 +10,5 @@ pub push-requires-clause-new : goal.push-requires-clause-new
 push-requires-clause-new c =
     let fits : IsTrue c.fits.result = search rules in
     subst (λ (b : OpId). has_id (applied c.reserve_one.new.self.entries) b ≡ false)
-    (ap (λ (o : Op). o.id) c.deref.ensures ∙ ap (λ (s : Stamped). s.id) (c.op.ensures.stamped c.reserve_one.new.self.table))
+    (ap (λ (o : Op). o.id) c.deref.ensures ∙ ap (λ (s : Stamped). s.id) c.op.ensures.stamped)
     (c.fits.ensures.new fits)

@@ -1,6 +1,8 @@
 use Rattle.std.proofs.Common.{◌≡◌, List, ◌∷◌, ◌++◌, [], drop, MatchBool, IsFalse, ap, sym, ◌∙◌, subst}
 use Rattle.semantics.specs.Making.{is_full}
 use Rattle.semantics.specs.Entries.{Entry as TheEntry, IsEntryHistory}
+use Rattle.semantics.specs.Vectors.{IsCanonical}
+use Rattle.document.specs.operation.declared.op.Op.{Op}
 use Rattle.document.specs.operation.Ops.{entry_of}
 use Rattle.document.specs.oplog.Logs.{history}
 use Rattle.published.specs.Beginnings.{Beginning}
@@ -12,9 +14,8 @@ use Rattle.published.proofs.publisher.Publisher.append.Goals as goal
 
 pub invariant_of-self-2 : goal.invariant_of-self-2
 invariant_of-self-2 g c =
-    let table = g.N.EngineName.table in
     let e = c.args.entry in
-    let now : history table c.self.inside.all.log ≡ c.args.self.now.appended = ap (λ (z : Publication). z.appended) c.self.view_is in
+    let now : history c.self.inside.all.log ≡ c.args.self.now.appended = ap (λ (z : Publication). z.appended) c.self.view_is in
     let w : Pending = record { entry = e; log = c.again.result.log; book = c.again.result.book } in
     let log : c.extend.new.self.log ≡ c.again-after.result.log ++ e ∷ [] =
     subst (λ b. MatchBool b (c.extend.new.self.log ≡ c.again-after.result.log ++ e ∷ [])
@@ -22,10 +23,10 @@ invariant_of-self-2 g c =
     one_pending _ _ _ _ _ _ _ c.self.invariant w c.extend.new.self (log ∙ ap (λ (p : Beginning). p.log ++ e ∷ []) c.again-after.ensures)
     (c.extend.ensures.book ∙ ap (λ (p : Beginning). p.book) c.again-after.ensures) (ap (λ (p : Beginning). p.log) c.again.ensures)
     (ap (λ (p : Beginning). p.book) c.again.ensures)
-    (subst (λ (G : List TheEntry). IsEntryHistory g.N.EngineName.own (entry_of table e ∷ G)) (sym now) c.requires.follows)
+    (subst (λ (G : List TheEntry). IsEntryHistory g.N.EngineName.own (entry_of e ∷ G)) (sym now) c.requires.follows)
     (subst (λ (G : List TheEntry). IsFalse (is_full G)) (sym now) c.requires.room)
     c.requires.member
-    c.requires.width
+    (subst IsCanonical (ap (λ (o : Op). o.deps) (c.deref.ensures ∙ c.op.ensures.op)) c.ids.ensures.named.canonical)
     c.flush.new.writer.desk.shown.value
     (drop c.flush.new.writer.behind c.flush.new.writer.log.items)
     c.put.new.next

@@ -11,5 +11,5 @@ returns-clause-begins g c yes' =
     let less : length c.self.inside.seen.log ≤ length c.point-point.result.now.log = omega
     (arith, leb-true c.len.result c.len-2.result yes', c.len.ensures, c.len-2.ensures) in
     subst (λ (G : List TheEntry). BeginsWith G c.args.self.now.seen) c.point-point.ensures.log
-    (grown _ c.self.inside.seen.log c.point-point.result.now.log c.point-point.result.now.log c.args.self.now.seen
+    (grown c.self.inside.seen.log c.point-point.result.now.log c.point-point.result.now.log c.args.self.now.seen
     (c.compare.ensures.shorter less) refl (ap (λ (s : TokenState). s.seen) c.self.view_is))

@@ -12,5 +12,5 @@ pub returns-clause-grows : goal.returns-clause-grows
 returns-clause-grows g c =
     let less : length c.self.inside.seen.log ≤ length c.copy.inside.point.log = omega
     (arith, c.if-len-before.false, c.len.ensures, c.len-before.ensures) in
-    grown _ c.self.inside.seen.log c.copy.inside.point.log c.again.result.log c.args.self.now.seen (c.compare.ensures.shorter less)
+    grown c.self.inside.seen.log c.copy.inside.point.log c.again.result.log c.args.self.now.seen (c.compare.ensures.shorter less)
     (ap (λ (p : Beginning). p.log) c.again.ensures) (ap (λ (s : TokenState). s.seen) c.self.view_is)

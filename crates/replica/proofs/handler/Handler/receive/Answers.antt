@@ -2,7 +2,8 @@ use Rattle.std.proofs.Common.{◌≢◌, Err, rules, ap, ◌∙◌}
 use Rattle.ids.specs.declared.refusal.Refusal.TheVariants.{NoMemory}
 use Rattle.semantics.specs.WriteSteps.{reply_delivered}
 use Rattle.replica.specs.Replicas.{replica_of}
-use Rattle.inbox.specs.operation.Submissions.{reply_of, received_of}
+use Rattle.inbox.specs.operation.Submissions.{reply_of}
+use Rattle.inbox.specs.operation.Ops.{stamped_of}
 use Rattle.replica.specs.Handlers.{outcome_of, handler_of}
 use Rattle.replica.proofs.Peers.{handled_peer}
 use Rattle.replica.proofs.handler.Handler.receive.Goals as goal
@@ -10,7 +11,7 @@ use Rattle.replica.proofs.handler.Handler.receive.Goals as goal
 pub returns-clause-handled : goal.returns-clause-handled
 returns-clause-handled g c x is floor =
     let r = replica_of c.args.self.now.replica in
-    let s = received_of r.members c.args.op.now in
+    let s = stamped_of c.args.op.now in
     let other : c.deliver-answer.result ≢ Err NoMemory = search rules in
     let d = c.deliver-answer.ensures.delivered other in
     handled_peer (handler_of c.args.self.now) x s (outcome_of c.deliver-answer.result) (replica_of c.deliver-answer.new.replica)

@@ -2,7 +2,7 @@ use Rattle.std.proofs.Common.{◌≡◌, sym, subst}
 use Rattle.inbox.specs.operation.declared.command.Entry.{Entry}
 use Rattle.replica.specs.contracts.replica.Replica.{the_view}
 use Rattle.replica.specs.Replicas.{Running, IsNextOwn}
-use Rattle.replica.proofs.OwnEntries.{own_follows, own_member, own_next, own_room, own_width}
+use Rattle.replica.proofs.OwnEntries.{own_follows, own_member, own_next, own_room}
 use Rattle.replica.proofs.replica.Replica.commit_made.Goals as goal
 
 -- the entry may come next in r, which is q
@@ -19,9 +19,6 @@ commit-requires-clause-lawful c =
 pub commit-requires-clause-member : goal.commit-requires-clause-member
 commit-requires-clause-member c =
     own_member _ c.self.invariant c.args.entry (next _ _ c.args.entry c.self.view_is c.requires)
-
-pub commit-requires-clause-width : goal.commit-requires-clause-width
-commit-requires-clause-width c = own_width (the_view c.self.inside) c.args.entry (next _ _ c.args.entry c.self.view_is c.requires)
 
 pub invariant_of-self : goal.invariant_of-self
 invariant_of-self c =

@@ -4,7 +4,7 @@ use Rattle.replica.proofs.replica.Replica.commit_peer.Goals as goal
 
 pub unreachable-requires : goal.unreachable-requires
 unreachable-requires c = true≢false
-    (sym (next_waits _ _ c.self.invariant c.self.view_is c.args.id c.requires) ∙ c.in_default.ensures.none c.self.inside.document.table)
+    (sym (next_waits _ _ c.self.invariant c.self.view_is c.args.id c.requires) ∙ c.in_default.ensures.none)
 
 pub commit-requires-clause-room : goal.commit-requires-clause-room
 commit-requires-clause-room c =

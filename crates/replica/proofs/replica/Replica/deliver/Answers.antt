@@ -17,11 +17,11 @@ invariant_of-self c =
     (ap (λ table. alone_fault_of_op table c.args.op) (sym c.table.ensures)
     ∙ subst (λ (o : Op). alone_fault_of_op c.table.result.now o ≡ None) c.deref.ensures c.in_ok-check_alone.ensures)
     (subst (λ (o : Op). has_id (applied d.entries) o.id ≡ false) c.deref-2.ensures (sym c.contains.ensures ∙ c.if-contains.false))
-    (subst (λ (o : Op). is_waiting (waiting_in d.table c.self.inside.inbox) o.id ≡ false) c.deref-else-contains.ensures
-    (sym (c.contains-else-contains.ensures d.table) ∙ c.if-contains-2.false))
-    (subst (λ (o : Op). answer_to_new (replica_with c.self.inside.own d c.self.inside.inbox) (stamped_of d.table o)
+    (subst (λ (o : Op). is_waiting (waiting_in c.self.inside.inbox) o.id ≡ false) c.deref-else-contains.ensures
+    (sym c.contains-else-contains.ensures ∙ c.if-contains-2.false))
+    (subst (λ (o : Op). answer_to_new (replica_with c.self.inside.own d c.self.inside.inbox) (stamped_of o)
     ≡ IsKept) c.deref-3.ensures
     c.in_ok-check_wanted.ensures)
-    (c.put.ensures.kept c.self.inside.document.table)
+    c.put.ensures.kept
     c.put.ensures.among
     c.put.ensures.same

@@ -10,7 +10,6 @@ use Rattle.semantics.proofs.Drained.{drained}
 use Rattle.inbox.specs.operation.declared.op.Op.{Op}
 use Rattle.inbox.specs.operation.Alone.{alone_fault_of_op}
 use Rattle.inbox.specs.operation.Ops.{stamped_of}
-use Rattle.inbox.proofs.operation.PassedAlone.{width_alone}
 use Rattle.inbox.proofs.operation.StandingAlone.{alone_member}
 use Rattle.replica.specs.Replicas.{Running, IsReplica, IsNextReady, next_of, replica_of}
 use Rattle.replica.proofs.Draining.{begun, dropping_on, may_follow, has_room, appending_on, renamed, whole_where_none, whole_by_count}
@@ -31,9 +30,9 @@ there : (P : Op → Type 0) {o : Option Op} {op : Op} → o ≡ Some op → IfSo
 there P e = subst (λ (x : Option Op). IfSome x P) e
 
 -- what is ready, if there is one, is ready where there is one
-next : {r : Running} {o : Option Op} {op : Op} → o ≡ Some op → IfSome o (λ op. IsNextReady r (stamped_of r.document.table op))
-    → IsNextReady r (stamped_of r.document.table op)
-next {r = r} = there (λ op. IsNextReady r (stamped_of r.document.table op))
+next : {r : Running} {o : Option Op} {op : Op} → o ≡ Some op → IfSome o (λ op. IsNextReady r (stamped_of op))
+    → IsNextReady r (stamped_of op)
+next {r = r} = there (λ op. IsNextReady r (stamped_of op))
 
 pub loop-init : goal.loop-init
 loop-init g c = begun (replica_of c.args.self.now) (g.P.Publish.publication c.args.publisher.now)
@@ -67,7 +66,7 @@ add-requires-clause-lawful g c =
     let w = dropping_on c.loop.invariant (running c.self.view_is c.self.invariant) c.next_ready.ensures.dropped in
     let h = g.P.Publish.publication c.loop.publisher in
     let n = next c.in-Some.is c.in_ok-op.ensures.ready in
-    subst (λ ps. IsEntryHistory h.own (Peer (stamped_of ps c.in-Some.op) ∷ h.appended)) (sym w.holds.members)
+    subst (λ ps. IsEntryHistory h.own (Peer (stamped_of c.in-Some.op) ∷ h.appended)) (sym w.holds.members)
     (may_follow w n.next n.faultless (running c.self.view_is c.self.invariant))
 
 pub add-requires-clause-room : goal.add-requires-clause-room
@@ -81,13 +80,6 @@ add-requires-clause-member g c =
     let new = c.next_ready.new.self in
     let alone = there (λ op. alone_fault_of_op new.document.table op ≡ None) c.in-Some.is c.in_ok-op.ensures.alone in
     subst (λ ps. IsTrue (is_member ps c.in-Some.op.id.replica)) (sym w.holds.members) (alone_member new.document.table c.in-Some.op alone)
-
-pub add-requires-clause-width : goal.add-requires-clause-width
-add-requires-clause-width g c =
-    let w = dropping_on c.loop.invariant (running c.self.view_is c.self.invariant) c.next_ready.ensures.dropped in
-    let new = c.next_ready.new.self in
-    let alone = there (λ op. alone_fault_of_op new.document.table op ≡ None) c.in-Some.is c.in_ok-op.ensures.alone in
-    width_alone new.document.table c.in-Some.op alone ∙ ap length (sym w.holds.members)
 
 pub returns-in_err-add-clause-partly : goal.returns-in_err-add-clause-partly
 returns-in_err-add-clause-partly g c =
@@ -104,11 +96,11 @@ loop-preserved g c =
     let h = g.P.Publish.publication c.loop.publisher in
     let n = next c.in-Some.is c.in_ok-op.ensures.ready in
     appending_on w n.next n.faultless (g.P.Publish.publication c.add.new.self) (replica_of c.commit_peer.new.self)
-    (c.in_ok-add.ensures.added ∙ ap (λ ps. with_entry h (Peer (stamped_of ps c.in-Some.op))) w.holds.members) c.commit_peer.ensures
+    (c.in_ok-add.ensures.added ∙ ap (λ ps. with_entry h (Peer (stamped_of c.in-Some.op))) w.holds.members) c.commit_peer.ensures
 
 pub returns-clause-drained : goal.returns-clause-drained
 returns-clause-drained g c =
-    let long = length-map c.args.self.now.waiting (stamped_of c.args.self.now.document.table) in
+    let long = length-map c.args.self.now.waiting stamped_of in
     whole_by_count c.loop.invariant (running c.self.view_is c.self.invariant)
     (let e = c.len-end.ensures in let v = ap (λ (q : Running). length q.waiting) c.self.view_is in
     omega (arith, long, e, v, c.loop-test.false))

@@ -8,16 +8,16 @@ pub unreachable-requires : goal.unreachable-requires
 unreachable-requires c =
     let n = c.prepare.ensures.next c.in-Some.id (c.in_ok-id.was ∙ ap Ok c.in-Some.is) in
     true≢false (sym (next_waits _ _ c.self.invariant c.self.view_is c.in-Some.id n)
-    ∙ c.in_default-get.ensures.none c.self.inside.document.table)
+    ∙ c.in_default-get.ensures.none)
 
 -- the copy is of the next one
 copied : (c : goal.In_ok-clone)
-    → stamped_of c.prepare.new.self.document.table c.in_ok-clone.field-0
+    → stamped_of c.in_ok-clone.field-0
     ≡ (c.prepare.ensures.next c.in-Some.id (c.in_ok-id.was ∙ ap Ok c.in-Some.is)).0
 copied c =
     let n = c.prepare.ensures.next c.in-Some.id (c.in_ok-id.was ∙ ap Ok c.in-Some.is) in
     let table = ap (λ (r : Running). r.document.table) c.self.view_is in
-    (λ i. stamped_of (sym table i) (c.in_ok-clone.ensures.cases i))
+    (λ i. stamped_of (c.in_ok-clone.ensures.cases i))
     ∙ has_its_id _ _ c.self.invariant c.self.view_is c.in-Some.id n c.in-Some-get.op.now c.in-Some-get.ensures.some
 
 pub returns-clause-next : goal.returns-clause-next

@@ -17,7 +17,7 @@ loop-turn-smaller c =
     fewer _ _
     (reserved _ _ c.loop-turn.invariant d c.next_turn.ensures.table c.next_turn.ensures.entries) c.in-Drop.id turn c.take.new.self
     c.saturating_add-self-inside.result
-    (c.take.ensures.left d.table) c.take.ensures.among
+    c.take.ensures.left c.take.ensures.among
     (c.saturating_add-self-inside.ensures ∙ ap (λ n. min n 18446744073709551615) (add-one q.dropped))
 
 pub loop-turn-preserved : goal.loop-turn-preserved
@@ -28,5 +28,5 @@ loop-turn-preserved c =
     dropped_one _ _
     (reserved _ _ c.loop-turn.invariant d c.next_turn.ensures.table c.next_turn.ensures.entries) c.in-Drop.id turn c.take.new.self
     c.saturating_add-self-inside.result
-    (c.take.ensures.left d.table) c.take.ensures.among
+    c.take.ensures.left c.take.ensures.among
     (c.saturating_add-self-inside.ensures ∙ ap (λ n. min n 18446744073709551615) (add-one q.dropped))

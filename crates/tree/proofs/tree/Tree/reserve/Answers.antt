@@ -11,6 +11,7 @@ invariant_of-self c = record {
   shown = kept_shown c.self.inside.nodes.items c.reserve_operation.new.nodes.items c.reserve_operation.ensures.kept c.self.invariant.shown;
   empty = kept_empty c.self.inside.nodes.items c.reserve_operation.new.nodes.items c.reserve_operation.ensures.kept c.self.invariant.empty;
   indexed = c.reserve_operation.ensures.kept.indexed c.self.inside.table c.self.invariant.indexed;
+  wide = c.self.invariant.wide;
 }
 
 pub invariant_of-self-2 : goal.invariant_of-self-2
@@ -21,6 +22,7 @@ invariant_of-self-2 c = record {
   shown = kept_shown c.self.inside.nodes.items c.reserve_operation.new.nodes.items c.reserve_operation.ensures.kept c.self.invariant.shown;
   empty = kept_empty c.self.inside.nodes.items c.reserve_operation.new.nodes.items c.reserve_operation.ensures.kept c.self.invariant.empty;
   indexed = c.reserve_operation.ensures.kept.indexed c.self.inside.table c.self.invariant.indexed;
+  wide = c.self.invariant.wide;
 }
 
 pub returns-clause-reserved : goal.returns-clause-reserved

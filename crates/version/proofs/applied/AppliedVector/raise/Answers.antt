@@ -4,7 +4,7 @@ use Rattle.std.specs.List.{insert}
 use Rattle.std.specs.List.Sorted.{IsBinarySearchResult}
 use Rattle.std.specs.Ordering.{nat_cmp}
 use Rattle.std.proofs.lemmas.Fn.{always_returns_same}
-use Rattle.ids.specs.Vectors.{IsNamed, most_named}
+use Rattle.ids.specs.Vectors.{IsCanonical}
 use Rattle.ids.proofs.RaisedVectors.{canonical_raise, raise_in_place, raise_searched}
 use Rattle.semantics.specs.Ids.{OpId}
 use Rattle.semantics.specs.Vectors.{Vector, raise}
@@ -12,13 +12,8 @@ use Rattle.version.specs.Applied.{Growing}
 use Rattle.version.proofs.applied.AppliedVector.raise.Goals as goal
 use Rattle.version.proofs.applied.AppliedVector.raise.Goals.{After-binary_search_by_key, Else-is_err}
 
-raised : (c : After-binary_search_by_key) → IsNamed (raise c.args.id c.self.inside.ids.items)
-raised c =
-    let is : c.self.inside.ids.items ≡ c.args.self.now.ids = ap (λ (v : Growing). v.ids) c.self.view_is in
-    record {
-      canonical = canonical_raise c.args.id c.self.inside.ids.items (λ e. omega (arith, e, c.requires.counted)) c.self.invariant.canonical;
-      few = subst (λ (v : Vector). length (raise c.args.id v) ≤ most_named) (sym is) c.requires.few;
-    }
+raised : (c : After-binary_search_by_key) → IsCanonical (raise c.args.id c.self.inside.ids.items)
+raised c = canonical_raise c.args.id c.self.inside.ids.items (λ e. omega (arith, e, c.requires.counted)) c.self.invariant
 
 put_in : (c : Else-is_err) → c.insert.new.self.items ≡ raise c.args.id c.self.inside.ids.items
 put_in c =
@@ -30,7 +25,7 @@ put_in c =
     (Err c.in-Err.position)) c.deref.ensures.value found in
     let inside : c.in-Err.position ≤ length ids = search rules in
     let inserted : c.insert.new.self.items ≡ insert ids c.in-Err.position c.args.id = search rules in
-    inserted ∙ sym (raise_searched c.args.id ids c.self.invariant.canonical (Err c.in-Err.position) there inside)
+    inserted ∙ sym (raise_searched c.args.id ids c.self.invariant (Err c.in-Err.position) there inside)
 
 pub invariant_of-self : goal.invariant_of-self
 invariant_of-self c =
@@ -41,13 +36,13 @@ invariant_of-self c =
     (λ l. IsBinarySearchResult (λ (a : OpId). nat_cmp a.replica c.args.id.replica) l
     (Ok c.in-Ok.position)) c.deref.ensures.value found in
     let inside : c.in-Ok.position < length ids = search rules in
-    subst IsNamed
+    subst IsCanonical
     (sym
-    (raise_in_place c.args.id ids c.in-Ok.position c.index_mut-other.result.now c.max-other.result c.self.invariant.canonical there inside
+    (raise_in_place c.args.id ids c.in-Ok.position c.index_mut-other.result.now c.max-other.result c.self.invariant there inside
     c.index_mut-other.ensures.value c.max-other.ensures)) (raised (goal.at.invariant_of-self c).After-binary_search_by_key)
 
 pub invariant_of-self-else-is_err : goal.invariant_of-self-else-is_err
-invariant_of-self-else-is_err c = subst IsNamed (sym (put_in c))
+invariant_of-self-else-is_err c = subst IsCanonical (sym (put_in c))
     (raised (goal.at.invariant_of-self-else-is_err c).After-binary_search_by_key)
 
 pub returns-in-Ok-clause-ids : goal.returns-in-Ok-clause-ids
@@ -59,7 +54,7 @@ returns-in-Ok-clause-ids c =
     (λ l. IsBinarySearchResult (λ (a : OpId). nat_cmp a.replica c.args.id.replica) l
     (Ok c.in-Ok.position)) c.deref.ensures.value found in
     let inside : c.in-Ok.position < length ids = search rules in
-    raise_in_place c.args.id ids c.in-Ok.position c.index_mut-other.result.now c.max-other.result c.self.invariant.canonical there inside
+    raise_in_place c.args.id ids c.in-Ok.position c.index_mut-other.result.now c.max-other.result c.self.invariant there inside
     c.index_mut-other.ensures.value c.max-other.ensures ∙ ap (λ (v : Growing). raise c.args.id v.ids) c.self.view_is
 
 pub returns-else-is_err-clause-ids : goal.returns-else-is_err-clause-ids

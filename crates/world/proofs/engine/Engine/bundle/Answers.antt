@@ -1,7 +1,6 @@
 -- The answer to a hello: there is none, it names a replica that isn't a member, or it gets a bundle.
 use Rattle.std.proofs.Common.{arith, ◌≡◌, [], ◌∷◌, ◌++◌, List, length, map, sym, ap, ◌∙◌, append-nil}
 use Rattle.std.proofs.lemmas.List.{length-map, map-append}
-use Rattle.semantics.specs.Tables.{by_table}
 use Rattle.semantics.specs.Engine.{Message as TheMessage, Bundle as TheBundle, Outcome, SentBundle}
 use Rattle.semantics.specs.Stamped.{Stamped}
 use Rattle.semantics.specs.PeerSteps.{lacked}
@@ -34,7 +33,7 @@ returns-in_default-clause-sent c =
 
 pub returns-in-Err-UnknownReplica-clause-engine : goal.returns-in-Err-UnknownReplica-clause-engine
 returns-in-Err-UnknownReplica-clause-engine c =
-    let v = by_table c.in-Some.hello.now.table c.in-Some.hello.now.vector in
+    let v = c.in-Some.hello.now in
     let all = answered-foreign c.args.self.now c.args.token c.args.messages.now.items _ c.args.message c.deref.ensures.value v
     c.in-Some.ensures.some
     (names_nonmember c.args.self.now v _ c.in-Err-UnknownReplica.ensures c.in-Err-UnknownReplica.field-0-is) in
@@ -42,7 +41,7 @@ returns-in-Err-UnknownReplica-clause-engine c =
 
 pub returns-in-Err-UnknownReplica-clause-reply : goal.returns-in-Err-UnknownReplica-clause-reply
 returns-in-Err-UnknownReplica-clause-reply c =
-    let v = by_table c.in-Some.hello.now.table c.in-Some.hello.now.vector in
+    let v = c.in-Some.hello.now in
     let all = answered-foreign c.args.self.now c.args.token c.args.messages.now.items _ c.args.message c.deref.ensures.value v
     c.in-Some.ensures.some
     (names_nonmember c.args.self.now v _ c.in-Err-UnknownReplica.ensures c.in-Err-UnknownReplica.field-0-is) in
@@ -50,7 +49,7 @@ returns-in-Err-UnknownReplica-clause-reply c =
 
 pub returns-in-Err-UnknownReplica-clause-sent : goal.returns-in-Err-UnknownReplica-clause-sent
 returns-in-Err-UnknownReplica-clause-sent c =
-    let v = by_table c.in-Some.hello.now.table c.in-Some.hello.now.vector in
+    let v = c.in-Some.hello.now in
     let all = answered-foreign c.args.self.now c.args.token c.args.messages.now.items _ c.args.message c.deref.ensures.value v
     c.in-Some.ensures.some
     (names_nonmember c.args.self.now v _ c.in-Err-UnknownReplica.ensures c.in-Err-UnknownReplica.field-0-is) in
@@ -59,17 +58,17 @@ returns-in-Err-UnknownReplica-clause-sent c =
 pub returns-clause-engine : goal.returns-clause-engine
 returns-clause-engine c =
     let all = answered-given c.args.self.now c.args.token c.args.messages.now.items _ c.args.message c.deref.ensures.value
-    (by_table c.in-Some.hello.now.table c.in-Some.hello.now.vector) c.in-Some.ensures.some c.in-Ok.ensures.1 in
+    c.in-Some.hello.now c.in-Some.ensures.some c.in-Ok.ensures.1 in
     c.see_published.ensures ∙ sym (ap (λ (t : Outcome). t.engine) all.0)
 
 pub returns-clause-reply : goal.returns-clause-reply
 returns-clause-reply c =
     let all = answered-given c.args.self.now c.args.token c.args.messages.now.items _ c.args.message c.deref.ensures.value
-    (by_table c.in-Some.hello.now.table c.in-Some.hello.now.vector) c.in-Some.ensures.some c.in-Ok.ensures.1 in
+    c.in-Some.hello.now c.in-Some.ensures.some c.in-Ok.ensures.1 in
     let lacks = ap (length {A = Stamped}) c.in-Ok.ensures.0 in
-    let mapped = length-map c.in-Ok.bundle.ops.items (stamped_of c.in-Ok.bundle.table) in
+    let mapped = length-map c.in-Ok.bundle.items stamped_of in
     let operations : c.len-operations.result
-    ≡ length (lacked c.args.self.now (by_table c.in-Some.hello.now.table c.in-Some.hello.now.vector)) =
+    ≡ length (lacked c.args.self.now c.in-Some.hello.now) =
     omega (arith, lacks, mapped, c.len-operations.ensures) in
     let number : c.len-message.result ≡ length c.args.messages.now.items = (let l = c.len-message.ensures in omega (arith, l)) in
     (λ i. SentBundle (number i) (operations i)) ∙ sym (ap (λ (t : Outcome). t.reply) all.0)
@@ -77,7 +76,7 @@ returns-clause-reply c =
 pub returns-clause-sent : goal.returns-clause-sent
 returns-clause-sent c =
     let all = answered-given c.args.self.now c.args.token c.args.messages.now.items _ c.args.message c.deref.ensures.value
-    (by_table c.in-Some.hello.now.table c.in-Some.hello.now.vector) c.in-Some.ensures.some c.in-Ok.ensures.1 in
+    c.in-Some.hello.now c.in-Some.ensures.some c.in-Ok.ensures.1 in
     ap (map message_of) c.in_ok-push.ensures.items
     ∙ map-append message_of c.args.messages.now.items _
     ∙ ap (λ (ss : List Stamped). map message_of c.args.messages.now.items ++ TheBundle ss ∷ []) c.in-Ok.ensures.0

@@ -12,9 +12,8 @@ unset : (c : goal.In_default)
     ≡ learn (the_view c.self.inside) c.args.token c.args.client c.args.serial
 unset c =
     let E : TheEngine = the_view c.self.inside in
-    let table = c.self.inside.handler.replica.document.table in
     learn-unset E c.args.token c.args.client c.args.serial
-    (c.in_default.ensures table E (ap (map (client_of table)) (sym c.deref.ensures.value)))
+    (c.in_default.ensures E (ap (map client_of) (sym c.deref.ensures.value)))
 
 pub returns-in_default-clause-engine : goal.returns-in_default-clause-engine
 returns-in_default-clause-engine c = rw (← c.self.view_is) (ap (λ (t : Outcome). t.engine) (unset c))
@@ -28,13 +27,12 @@ answered : (c : goal.After-see)
     ≡ learn (the_view c.self.inside) c.args.token c.args.client c.args.serial
 answered c =
     let E : TheEngine = the_view c.self.inside in
-    let table = c.self.inside.handler.replica.document.table in
     let token = c.args.token in
     let g = given_of c.in-Some.given in
     let found : Some g ≡ option_and_then (λ (cell : TheCell). cell.answer) (cell_under E c.args.client c.args.serial) =
-    c.in-Some.ensures table E (ap (map (client_of table)) (sym c.deref.ensures.value)) in
+    c.in-Some.ensures E (ap (map client_of) (sym c.deref.ensures.value)) in
     let before : c.seen_by.result
-    ≡ seen_by E token = c.seen_by.ensures table E (ap (map (client_of table)) (sym c.deref-2.ensures.value))
+    ≡ seen_by E token = c.seen_by.ensures E (ap (map client_of) (sym c.deref-2.ensures.value))
     (sym c.deref-3.ensures.value) in
     let after : c.max-seen.result ≡ max (seen_by E token) g.published = c.max-seen.ensures ∙ ap (λ (n : ℕ). max n g.published) before in
     subst (λ (n : ℕ). record { engine = see E token n; reply = Seen n } ≡ learn E token c.args.client c.args.serial) (sym after)
@@ -44,7 +42,7 @@ pub returns-clause-engine : goal.returns-clause-engine
 returns-clause-engine c =
     let E : TheEngine = the_view c.self.inside in
     rw (← c.self.view_is)
-    (sym (c.see.ensures c.self.inside.handler.replica.document.table E refl refl) ∙ ap (λ (t : Outcome). t.engine) (answered c))
+    (sym (c.see.ensures E refl refl) ∙ ap (λ (t : Outcome). t.engine) (answered c))
 
 pub returns-clause-reply : goal.returns-clause-reply
 returns-clause-reply c = rw (← c.self.view_is) (ap (λ (t : Outcome). t.reply) (answered c))

@@ -16,11 +16,11 @@ returns-clause-stopped c =
     let ops = c.read_lines-read.result.ops.items in
     let got = c.read_lines-read.result.stopped in
     let table : c.table.result.now ≡ M = c.table.ensures ∙ c.shown.ensures.table in
-    let read : (got ≡ Some NoMemory) ⊎ ((map (stamped_of M) ops ≡ (readable M text).operations) × (got ≡ (readable M text).stopped)) =
+    let read : (got ≡ Some NoMemory) ⊎ ((map stamped_of ops ≡ (readable M text).operations) × (got ≡ (readable M text).stopped)) =
     subst (λ N. (got ≡ Some NoMemory)
-    ⊎ ((map (stamped_of N) ops ≡ (readable N text).operations)
+    ⊎ ((map stamped_of ops ≡ (readable N text).operations)
     × (got ≡ (readable N text).stopped))) table c.read_lines-read.ensures.read in
     then_err c.receive.result
-    (λ part. lines_stopped A c.receive.new.self c.args.client (readable M text).operations (map (stamped_of M) ops)
+    (λ part. lines_stopped A c.receive.new.self c.args.client (readable M text).operations (map stamped_of ops)
     (readable M text).stopped got (reached_sound A c.requires.reached) read part)
     c.receive.ensures.stopped

@@ -1,4 +1,4 @@
-use Rattle.std.proofs.Common.{◌≡◌, ◌∙◌, ℕ, List, length, map, sym, ap}
+use Rattle.std.proofs.Common.{◌≡◌, ◌∙◌, length, map, sym, ap}
 use Rattle.semantics.specs.World.{opened_engine}
 use Rattle.ids.specs.Configurations.{Configuration}
 use Rattle.ids.specs.contracts.config.Config.{the_view}
@@ -10,15 +10,14 @@ use Rattle.world.proofs.engine.Engine.open.Goals as goal
 pub returns : goal.returns
 returns c =
     let E = opened_engine (the_view c.config.inside) in
-    let table : List ℕ = c.in_ok-handler.handler.replica.document.table in
     let replica : replica_of c.in_ok-handler.handler.replica ≡ E.replica = c.in_ok-handler.ensures.new.0
     ∙ ap (λ (g : Configuration). (opened_engine g).replica) (sym c.config.view_is) in
     let serials : c.from.result ≡ E.serials = c.from.ensures in
-    let queue : map (submitted_of table) c.new.result.items ≡ E.queue = (λ i. map (submitted_of table) (c.new.ensures.items i)) in
-    let handled : map (handled_of table) c.new-2.result.items ≡ E.handled = (λ i. map (handled_of table) (c.new-2.ensures.items i)) in
-    let due : map (handled_of table) c.new-3.result.items ≡ E.due = (λ i. map (handled_of table) (c.new-3.ensures.items i)) in
+    let queue : map submitted_of c.new.result.items ≡ E.queue = (λ i. map submitted_of (c.new.ensures.items i)) in
+    let handled : map handled_of c.new-2.result.items ≡ E.handled = (λ i. map handled_of (c.new-2.ensures.items i)) in
+    let due : map handled_of c.new-3.result.items ≡ E.due = (λ i. map handled_of (c.new-3.ensures.items i)) in
     let published : length c.in_ok-handler.publisher.published ≡ E.published = (λ i. length (c.in_ok-handler.ensures.new.2 i)) in
-    let clients : map (client_of table) c.in_ok-clients.clients.items ≡ E.clients = c.in_ok-clients.ensures.clients table in
+    let clients : map client_of c.in_ok-clients.clients.items ≡ E.clients = c.in_ok-clients.ensures.clients in
     let readers : c.in_ok-readers.readers.items ≡ E.readers = c.in_ok-readers.ensures.readers in
     record {
       engine =

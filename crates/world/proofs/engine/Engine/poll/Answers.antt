@@ -11,7 +11,7 @@ use Rattle.world.proofs.engine.Engine.poll.Goals as goal
 -- the client that is there reads the answer, and has seen what was published with it
 polled : (c : goal.After-self-1) →
     let E : TheEngine = the_view c.self.inside in
-    let k : TheClient = client_of c.self.inside.handler.replica.document.table c.index_mut-k.result.now in
+    let k : TheClient = client_of c.index_mut-k.result.now in
     let g = given_of c.in-Some-answer.given in
     poll E c.args.client c.args.serial
     ≡ record {
@@ -20,26 +20,25 @@ polled : (c : goal.After-self-1) →
     }
 polled c =
     let E : TheEngine = the_view c.self.inside in
-    let table = c.self.inside.handler.replica.document.table in
     let ks = c.self.inside.clients.items in
     let at = c.args.client in
     let k = c.index.result.now in
     let m = c.index_mut-k.result.now in
     let cell = c.in-Some.cell.now in
     let within : at < length ks = omega arith in
-    let again = read_mapped (client_of table) ks at m within c.index_mut-k.ensures.value in
-    let there = read_mapped (client_of table) ks at k within c.index.ensures in
-    let same = same_Some (client_of table k) (client_of table m) (sym there ∙ again) in
-    let found : cell_at (client_of table m).cells c.args.serial
-    ≡ Some (cell_of table cell) = ap (λ (x : TheClient). cell_at x.cells c.args.serial) (sym same)
-    ∙ sym (c.in-Some.ensures table) in
+    let again = read_mapped client_of ks at m within c.index_mut-k.ensures.value in
+    let there = read_mapped client_of ks at k within c.index.ensures in
+    let same = same_Some (client_of k) (client_of m) (sym there ∙ again) in
+    let found : cell_at (client_of m).cells c.args.serial
+    ≡ Some (cell_of cell) = ap (λ (x : TheClient). cell_at x.cells c.args.serial) (sym same)
+    ∙ sym c.in-Some.ensures in
     let given = ap (option_map given_of) c.in-Some-answer.is in
-    poll-there E at c.args.serial (client_of table m) (cell_of table cell) (given_of c.in-Some-answer.given) again found given
+    poll-there E at c.args.serial (client_of m) (cell_of cell) (given_of c.in-Some-answer.given) again found given
 
 pub returns-clause-engine : goal.returns-clause-engine
 returns-clause-engine c =
     let E : TheEngine = the_view c.self.inside in
-    let client = client_of c.self.inside.handler.replica.document.table in
+    let client = client_of in
     let ks = c.self.inside.clients.items in
     let at = c.args.client in
     let m = c.index_mut-k.result.now in

@@ -1,4 +1,4 @@
-use Rattle.std.proofs.Common.{◌≡◌, ◌≤◌, ℕ, ◌||◌, not, true, false, List, length, refl, sym, ap, ◌∙◌, subst, arith}
+use Rattle.std.proofs.Common.{◌≡◌, ◌≤◌, ◌||◌, not, true, false, length, refl, sym, ap, ◌∙◌, subst, arith}
 use Rattle.std.proofs.Common.{eqb-true}
 use Rattle.semantics.specs.DocumentAnswer.{is_any}
 use Rattle.semantics.specs.Entries.{Entry}
@@ -20,12 +20,11 @@ returns-in_err-publish-clause-stopped c =
     let p : Publication = c.publish.new.self in
     let all : p.appended ≡ E.replica.entries = ap (λ (q : Publication). q.appended) c.publish.ensures.partly ∙ c.self.invariant.appended in
     let short : length p.published ≤ length p.appended = no_shorter p.appended p.published c.publish.ensures.begins in
-    let table : List ℕ = I.handler.replica.document.table in
     let none : length I.due.items ≡ 0 = (let e = eqb-true _ _ (sym c.is_empty.ensures ∙ c.if-not-is_empty.false) in omega (arith, e)) in
     let some : length I.handled.items ≡ 0
     → ⊥ = λ z. not_zero _ (sym c.is_empty-else-not-is_empty.ensures ∙ c.if-is_empty.false) (omega (arith, z)) in
-    let due : is_any E.due ≡ false = none_mapped (handled_of table) I.due.items none in
-    let handled : is_any E.handled ≡ true = some_mapped (handled_of table) I.handled.items some in
+    let due : is_any E.due ≡ false = none_mapped handled_of I.due.items none in
+    let handled : is_any E.handled ≡ true = some_mapped handled_of I.handled.items some in
     let part : PublishesInPart E F = record {
       free = λ i. due i || not (handled i);
       more = no_shorter p.published I.publisher.published c.publish.ensures.more;

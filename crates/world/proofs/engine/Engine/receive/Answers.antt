@@ -12,7 +12,7 @@ use Rattle.world.proofs.engine.Engine.receive.Goals as goal
 
 pub returns-in_err-submitted-clause-stopped : goal.returns-in_err-submitted-clause-stopped
 returns-in_err-submitted-clause-stopped c =
-    let ss = map (stamped_of c.args.self.now.replica.members) c.args.read.ops.items in
+    let ss = map stamped_of c.args.read.ops.items in
     let k = receives c.self.inside c.args.self.now c.args.client ss c.args.read.stopped c.self.view_is (omega arith) in
     let other : c.args.read.stopped ≢ Some NoMemory = search rules in
     on_err c.from_residual.result
@@ -24,7 +24,7 @@ returns-in_err-submitted-clause-stopped c =
 
 pub returns-clause-engine : goal.returns-clause-engine
 returns-clause-engine c =
-    let ss = map (stamped_of c.args.self.now.replica.members) c.args.read.ops.items in
+    let ss = map stamped_of c.args.read.ops.items in
     let k = receives c.self.inside c.args.self.now c.args.client ss c.args.read.stopped c.self.view_is (omega arith) in
     sym (ap (λ (r : Receipt). r.engine) (c.in_ok-submitted.ensures.submitted c.args.read.stopped))
     ∙ sym (ap (λ (t : Outcome). t.engine) k.2)
@@ -32,7 +32,7 @@ returns-clause-engine c =
 pub returns-clause-reply : goal.returns-clause-reply
 returns-clause-reply c =
     let n : ℕ = c.in_ok-submitted.submitted in
-    let ss = map (stamped_of c.args.self.now.replica.members) c.args.read.ops.items in
+    let ss = map stamped_of c.args.read.ops.items in
     let k = receives c.self.inside c.args.self.now c.args.client ss c.args.read.stopped c.self.view_is (omega arith) in
     let serial : c.next_serial-serial.result ≡ suc (length k.0.cells) = c.next_serial-serial.ensures k.0 k.1 ∙ add-one (length k.0.cells) in
     let all = c.in_ok-submitted.ensures.submitted c.args.read.stopped in

@@ -26,41 +26,39 @@ returns-then-len-self-2-clause-reply c k there_now =
 pub returns-in_err-enqueue-clause-unchanged : goal.returns-in_err-enqueue-clause-unchanged
 returns-in_err-enqueue-clause-unchanged c =
     let E : TheEngine = the_view c.self.inside in
-    let table = c.self.inside.handler.replica.document.table in
     let ks = c.self.inside.clients.items in
     let at = c.args.client in
     let m = c.index_mut-k.result.now in
     let there = stands c.self.inside c.args.self.now at m c.self.view_is c.requires.there c.index_mut-k.ensures.value in
-    let clients : map (client_of table) (set ks at c.enqueue.new.k) ≡ map (client_of table) ks =
-    map-set (client_of table) ks at c.enqueue.new.k
-    ∙ ap (set (map (client_of table) ks) at) (c.in_err-enqueue.ensures.unchanged table)
-    ∙ set_itself (map (client_of table) ks) at (client_of table m) there in
+    let clients : map client_of (set ks at c.enqueue.new.k) ≡ map client_of ks =
+    map-set client_of ks at c.enqueue.new.k
+    ∙ ap (set (map client_of ks) at) c.in_err-enqueue.ensures.unchanged
+    ∙ set_itself (map client_of ks) at (client_of m) there in
     on_err c.from_residual.result
-    ((λ i. record E { queue = map (submitted_of table) (c.in_err-enqueue.ensures.unqueued i); clients = clients i }) ∙ c.self.view_is)
+    ((λ i. record E { queue = map submitted_of (c.in_err-enqueue.ensures.unqueued i); clients = clients i }) ∙ c.self.view_is)
 
 pub returns-clause-engine : goal.returns-clause-engine
 returns-clause-engine c =
     let e = c.self.inside in
     let E : TheEngine = the_view e in
-    let table = e.handler.replica.document.table in
     let ks = e.clients.items in
     let at = c.args.client in
     let k = c.index-k.result.now in
     let m = c.index_mut-k.result.now in
-    let q : Request = request_of table c.args.request in
+    let q : Request = request_of c.args.request in
     let there = stands e c.args.self.now at k c.self.view_is c.requires.there c.index-k.ensures in
     let again = stands e c.args.self.now at m c.self.view_is c.requires.there c.index_mut-k.ensures.value in
-    let same : client_of table m ≡ client_of table k = same_Some (client_of table m) (client_of table k) (sym again ∙ there) in
-    let submission : submitted_of table c.next_submission-submission.result
-    ≡ next_submission at (client_of table k) q = c.next_submission-submission.ensures.submission table in
-    let queue : map (submitted_of table) c.enqueue.new.queue.items ≡ E.queue ++ next_submission at (client_of table k) q ∷ [] =
-    ap (map (submitted_of table)) c.in_ok-enqueue.ensures.queue
-    ∙ map-append (submitted_of table) e.queue.items (c.next_submission-submission.result ∷ [])
+    let same : client_of m ≡ client_of k = same_Some (client_of m) (client_of k) (sym again ∙ there) in
+    let submission : submitted_of c.next_submission-submission.result
+    ≡ next_submission at (client_of k) q = c.next_submission-submission.ensures.submission in
+    let queue : map submitted_of c.enqueue.new.queue.items ≡ E.queue ++ next_submission at (client_of k) q ∷ [] =
+    ap (map submitted_of) c.in_ok-enqueue.ensures.queue
+    ∙ map-append submitted_of e.queue.items (c.next_submission-submission.result ∷ [])
     ∙ ap (λ (x : Submitted). E.queue ++ x ∷ []) submission in
-    let clients : map (client_of table) (set ks at c.enqueue.new.k)
-    ≡ set (map (client_of table) ks) at (with_cell (client_of table k) (next_submission at (client_of table k) q)) =
-    map-set (client_of table) ks at c.enqueue.new.k
-    ∙ ap (set (map (client_of table) ks) at) (c.in_ok-enqueue.ensures.client table ∙ (λ i. with_cell (same i) (submission i))) in
+    let clients : map client_of (set ks at c.enqueue.new.k)
+    ≡ set (map client_of ks) at (with_cell (client_of k) (next_submission at (client_of k) q)) =
+    map-set client_of ks at c.enqueue.new.k
+    ∙ ap (set (map client_of ks) at) (c.in_ok-enqueue.ensures.client ∙ (λ i. with_cell (same i) (submission i))) in
     (λ i. record E { queue = queue i; clients = clients i })
     ∙ sym (ap (λ (t : Outcome). t.engine) (queued e c.args.self.now at c.args.request k c.self.view_is c.requires.there c.index-k.ensures
     (omega arith) (omega arith)))
@@ -68,7 +66,7 @@ returns-clause-engine c =
 pub returns-clause-reply : goal.returns-clause-reply
 returns-clause-reply c k there_now =
     let e = c.self.inside in
-    let read : TheClient = client_of e.handler.replica.document.table c.index-k.result.now in
+    let read : TheClient = client_of c.index-k.result.now in
     let there = stands e c.args.self.now c.args.client c.index-k.result.now c.self.view_is c.requires.there c.index-k.ensures in
     let same : read ≡ k = same_Some read k
     (sym (subst (λ (F : TheEngine). slice_get F.clients c.args.client ≡ Some read) c.self.view_is there) ∙ there_now) in

@@ -1,5 +1,5 @@
 -- The oldest submission is handled; where that stops halfway the submission is put back at the front, and the replica alone has changed.
-use Rattle.std.proofs.Common.{◌≡◌, ◌||◌, false, nat_le, inl, inr, ℕ, List, ◌∷◌, length, map, refl, sym, ap, ◌∙◌, subst, arith}
+use Rattle.std.proofs.Common.{◌≡◌, ◌||◌, false, nat_le, inl, inr, ◌∷◌, length, map, refl, sym, ap, ◌∙◌, subst, arith}
 use Rattle.std.proofs.Common.{eqb-true}
 use Rattle.std.proofs.lemmas.List.{length-map}
 use Rattle.std.proofs.lemmas.Bool.{lt-leb}
@@ -25,10 +25,9 @@ pub handle-requires-clause-above : goal.handle-requires-clause-above
 handle-requires-clause-above c =
     let E : TheEngine = the_view c.self.inside in
     let s : IsSound E = subst IsSound (sym c.self.view_is) (reached_sound c.args.self.now c.requires) in
-    let table = c.self.inside.handler.replica.document.table in
-    let x : Submitted = submitted_of table c.in-Some.submission in
+    let x : Submitted = submitted_of c.in-Some.submission in
     let oldest : E.queue
-    ≡ x ∷ map (submitted_of table) c.pop_front.new.self.items = ap (map (submitted_of table)) c.in-Some.ensures.items in
+    ≡ x ∷ map submitted_of c.pop_front.new.self.items = ap (map submitted_of) c.in-Some.ensures.items in
     s.queued x (subst (IsAmong x) (sym oldest) (inl refl))
 
 pub returns-in_default-handle-clause-stopped : goal.returns-in_default-handle-clause-stopped
@@ -42,8 +41,6 @@ returns-in_default-handle-clause-stopped c =
       queue = c.push_front_reserved.new.self;
       handled = c.reserve.new.self;
     }) in
-    let table : List ℕ = I.handler.replica.document.table in
-    let same_table : c.handle.new.handler.replica.document.table ≡ table = c.handle.ensures.table in
     let same_queue : c.push_front_reserved.new.self.items ≡ I.queue.items = c.push_front_reserved.ensures.items
     ∙ sym c.in-Some.ensures.items in
     let is : F ≡ record E { replica = F.replica } =
@@ -52,22 +49,22 @@ returns-in_default-handle-clause-stopped c =
       batch = E.batch;
       serials = E.serials;
       replica = F.replica;
-      queue = map (submitted_of (same_table i)) (same_queue i);
-      handled = map (handled_of (same_table i)) (c.reserve.ensures.items i);
-      due = map (handled_of (same_table i)) I.due.items;
+      queue = map submitted_of (same_queue i);
+      handled = map handled_of (c.reserve.ensures.items i);
+      due = map handled_of I.due.items;
       published = length (c.handle.ensures.published i);
-      clients = map (client_of (same_table i)) I.clients.items;
+      clients = map client_of I.clients.items;
       readers = E.readers;
     }) in
     let none : length I.due.items ≡ 0 = (let e = eqb-true _ _ (sym c.is_empty.ensures ∙ c.if-not-is_empty.false) in omega (arith, e)) in
-    let due : is_any E.due ≡ false = none_mapped (handled_of table) I.due.items none in
+    let due : is_any E.due ≡ false = none_mapped handled_of I.due.items none in
     let low : nat_le E.batch (length E.handled)
-    ≡ false = lt-leb E.batch (length E.handled) (omega (arith, length-map I.handled.items (handled_of table))) in
+    ≡ false = lt-leb E.batch (length E.handled) (omega (arith, length-map I.handled.items handled_of)) in
     let part : TakesInPart E F = inr (record {
       free = λ i. due i || low i;
-      submission = submitted_of table c.in-Some.submission;
-      queue = map (submitted_of table) c.pop_front.new.self.items;
-      oldest = ap (map (submitted_of table)) c.in-Some.ensures.items;
+      submission = submitted_of c.in-Some.submission;
+      queue = map submitted_of c.pop_front.new.self.items;
+      oldest = ap (map submitted_of) c.in-Some.ensures.items;
       handled = c.in_default-handle.ensures.stopped;
       same = is;
     }) in

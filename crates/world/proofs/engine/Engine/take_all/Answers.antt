@@ -17,7 +17,7 @@ returns-then-is_empty-clause-engine c =
     let q = c.self-in-loop.inside.queue in
     let none : length q.items ≡ 0 = (let e = eqb-true _ _ (sym c.is_empty.ensures ∙ c.if-is_empty.true) in omega (arith, e)) in
     let empty : E.queue ≡ [] = ap (λ (F : Engine). F.queue) (sym c.self-in-loop.view_is)
-    ∙ ap (map (submitted_of c.self-in-loop.inside.handler.replica.document.table)) (nil_from_length q.items none) in
+    ∙ ap (map submitted_of) (nil_from_length q.items none) in
     sym (take_none (c.args.self.now.batch - c.loop.counter) E empty) ∙ c.loop.invariant.taken
 
 pub returns-in_err-take-clause-stopped : goal.returns-in_err-take-clause-stopped

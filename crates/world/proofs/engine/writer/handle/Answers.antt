@@ -1,25 +1,10 @@
 use Rattle.std.proofs.Common.{inl, inr, ap}
 use Rattle.semantics.specs.LegalAnswer.{Reply, Submitted}
 use Rattle.semantics.specs.Handling.{Handler, Handles}
-use Rattle.semantics.proofs.HandledAnswers.{handled}
 use Rattle.replica.specs.operation.Submissions.{reply_of, submitted_of}
 use Rattle.replica.specs.Handlers.{handler_of}
 use Rattle.world.specs.Parts.{IsHandledInPart}
 use Rattle.world.proofs.engine.writer.handle.Goals as goal
-
-pub returns-clause-table : goal.returns-clause-table
-returns-clause-table c =
-    let w = c.args.handler.now in
-    (handled (handler_of w) (handler_of c.handle-reply.new.self) (submitted_of w.replica.document.table c.args.submission.now)
-    (reply_of c.handle-reply.result)
-    c.requires.running c.requires.above c.handle-reply.ensures.handled).members
-
-pub returns-then-handler-clause-table : goal.returns-then-handler-clause-table
-returns-then-handler-clause-table c =
-    let w = c.args.handler.now in
-    (handled (handler_of w) (handler_of c.handle-reply.new.self) (submitted_of w.replica.document.table c.args.submission.now)
-    (reply_of c.handle-reply.result)
-    c.requires.running c.requires.above c.handle-reply.ensures.handled).members
 
 -- whatever became of the submission, it was handled in part
 in_part : (w v : Handler) (x : Submitted) (y : Reply) → Handles w x y v → IsHandledInPart w.replica x v.replica
@@ -30,5 +15,5 @@ in_part w v x y (inr (inr cut)) = inr (inr (cut.stamped, cut.replica.0, cut.requ
 pub returns-then-handler-clause-stopped : goal.returns-then-handler-clause-stopped
 returns-then-handler-clause-stopped c =
     let w = c.args.handler.now in
-    in_part (handler_of w) (handler_of c.handle-reply.new.self) (submitted_of w.replica.document.table c.args.submission.now)
+    in_part (handler_of w) (handler_of c.handle-reply.new.self) (submitted_of c.args.submission.now)
     (reply_of c.handle-reply.result) c.handle-reply.ensures.handled

@@ -4,5 +4,4 @@ use Rattle.world.proofs.publisher.Publisher.publish.Goals as goal
 
 pub returns-clause-begins : goal.returns-clause-begins
 returns-clause-begins c =
-    let table = c.publish_all.new.published.table in
-    (history table c.publish_all.new.pending.items, refl)
+    (history c.publish_all.new.pending.items, refl)

@@ -7,4 +7,4 @@ use Rattle.world.proofs.publisher.Publisher.published.Goals as goal
 pub returns-clause-begins : goal.returns-clause-begins
 returns-clause-begins c =
     let p = c.self.inside in
-    subst (λ (z : Publication). BeginsWith z.appended z.published) c.self.view_is (history p.published.table p.pending.items, refl)
+    subst (λ (z : Publication). BeginsWith z.appended z.published) c.self.view_is (history p.pending.items, refl)
