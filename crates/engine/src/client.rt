@@ -314,7 +314,7 @@ impl<N: EngineName> Client<N> {
         self.token.seen_len()
     }
 
-    /// The table of the engine's members, which indexes the vectors of its questions and readings.
+    /// The table of the engine's members.
     pub fn table(&self) -> &ReplicaTable
         ensures { result.now ≡ N.table }
     {

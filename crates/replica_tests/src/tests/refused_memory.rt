@@ -45,3 +45,17 @@ fn drains_go_on(rt: HostRuntime) -> Result<(), Fail> {
     const TURNS: &[Turn<'static>] = &[Turn::Drain(7, 1), FORGED, Turn::Lengths(7, 1)];
     on_new_after(&rt, rt.alloc(), 1, EIGHT, TURNS, SEVEN)
 }
+
+/// 3@3 waits for 1@3, and once that came for 2@1, which waits for 1@1.
+#[test]
+fn what_waits_twice_goes_on(rt: HostRuntime) -> Result<(), Fail> {
+    const TURNS: &[Turn<'static>] = &[
+        Turn::Deliver((3, 3), &[2, 0, 1], Writes::Delete, KEPT),
+        Turn::Deliver((1, 3), &[0, 0, 0], Writes::Delete, KEPT),
+        Turn::Drain(1, 0),
+        Turn::Deliver((2, 1), &[1, 0, 0], Writes::Delete, KEPT),
+        Turn::Deliver((1, 1), &[0, 0, 0], Writes::Delete, KEPT),
+        Turn::Drain(4, 0),
+    ];
+    on_new(&rt, rt.alloc(), 2, TURNS, &[(1, 3), (1, 1), (2, 1), (3, 3)])
+}
