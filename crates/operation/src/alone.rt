@@ -1,6 +1,7 @@
 //! The tests of a received operation that need no history.
 
 ghost use Rattle.std.specs.Prelude.{◌≡◌, None, Some, MatchResult};
+ghost use Rattle.ids.specs.Members.{is_member};
 ghost use Rattle.ids.specs.Vectors.{names_only};
 ghost use Rattle.semantics.specs.Operations.{element_of};
 ghost use Rattle.semantics.specs.Faults.{has_counter, is_of_members, items_covered, items_of_members};
@@ -11,7 +12,7 @@ ghost use Rattle.operation.specs.Ops.{stamped_of};
 use crate::misplaced::Misplaced;
 use crate::op::Op;
 use cursor::{Hop, Place};
-use ids::{MOST_COUNTER, NamedVector, OpId, Refusal, ReplicaTable};
+use ids::{MOST_COUNTER, NamedVector, OpId, Refusal, ReplicaId, ReplicaTable};
 
 /// The first fault that can be seen of an operation without a history.
 ///
@@ -63,11 +64,26 @@ pub fn names_members(op: &Op, table: &ReplicaTable) -> bool
     has_items_of_members(&op.place, table)
 }
 
-/// Whether each of these ids is a member's.
+/// Whether each of these ids is a member's. One look for each while the ids are of the first members; else a binary search.
 pub fn names_only(ids: &[OpId], table: &ReplicaTable) -> bool
     ensures { result ≡ names_only table.now ids.now }
 {
-    ids.iter().all(|id| table.index_of(id.replica).is_some())
+    for position in 0..ids.len() {
+        if !is_member_near(table, position, ids[position].replica) {
+            return false;
+        }
+    }
+    true
+}
+
+/// Whether this is a member. Looks at this index of the table first; else binary search.
+fn is_member_near(table: &ReplicaTable, index: usize, replica: ReplicaId) -> bool
+    ensures { result ≡ is_member table.now replica }
+{
+    match table.at(index) {
+        Some(member) if member == replica => true,
+        _ => table.index_of(replica).is_some(),
+    }
 }
 
 /// Whether the items of the place are of members.
