@@ -11,8 +11,8 @@ use Rattle.peer_sync.specs.operation.Submissions.{request_of}
 use Rattle.peer_sync.specs.engine.Clients.{Client, submissions_by}
 
 -- what the client asked of the writer so far, in order
-abbrev pub requests_by : List ℕ → Client → List Request
-requests_by table c = map (λ x. request_of x.request) (submissions_by c)
+abbrev pub requests_by : Client → List Request
+requests_by c = map (λ x. request_of x.request) (submissions_by c)
 
 -- the command that assigns the number at a key of the document
 abbrev pub assignment : List ℕ → ℕ → Command

@@ -1,6 +1,6 @@
 //! A worker: one client that writes, polls and reads back.
 
-ghost use Rattle.std.specs.Prelude.{◌≡◌, ◌<◌, ◌≤◌, ◌-◌, ◌+◌, ◌++◌, ◌∷◌, [], ℕ, length, Ok, IfOk, MatchResult, map, pos, true};
+ghost use Rattle.std.specs.Prelude.{◌≡◌, ◌<◌, ◌≤◌, ◌-◌, ◌+◌, ◌++◌, ◌∷◌, [], ℕ, Ok, IfOk, MatchResult, map, pos, true};
 ghost use Rattle.semantics.specs.Ids.{OpId as AnId};
 ghost use Rattle.semantics.specs.Elements.{Scalar as TheScalar, Whole};
 ghost use Rattle.semantics.specs.LegalAnswer.{OfCommand};
@@ -31,7 +31,7 @@ pub fn worker<N: EngineName, R: Wait, G: Gate>(
     ops: u32,
 ) -> Result<bool, Stop>
     ensures requests { (n : ℕ) × (n ≤ ops) × (result ≡ Ok true → n ≡ ops)
-        × (requests_by N.table client.new ≡ requests_by N.table client.old ++ assignments key.now n) }
+        × (requests_by client.new ≡ requests_by client.old ++ assignments key.now n) }
     ensures read { result ≡ Ok true → 0 < ops → Shows client.new.seen key.now (ops - 1) }
     ensures same { client.new
         ≡ record client.old {
@@ -80,8 +80,8 @@ fn submit<N: EngineName, R: Wait>(
     number: u32,
 ) -> Result<Ticket, Stop>
     ensures requests { MatchResult result
-        (λ _. requests_by N.table client.new ≡ requests_by N.table client.old ++ OfCommand (assignment key.now number) ∷ [])
-        (λ _. requests_by N.table client.new ≡ requests_by N.table client.old) }
+        (λ _. requests_by client.new ≡ requests_by client.old ++ OfCommand (assignment key.now number) ∷ [])
+        (λ _. requests_by client.new ≡ requests_by client.old) }
     ensures same { client.new ≡ record client.old { found_full = client.new.found_full; kept = client.new.kept } }
 {
     for _ in 0..MOST_TURNS {
@@ -104,7 +104,7 @@ fn assign(alloc: Global, key: &Key, number: u32) -> Result<Command, AllocError>
 
 /// Polls until the ticket is answered.
 fn await_answer<N: EngineName>(client: &mut Client<N>, ticket: &Ticket) -> Result<(), Stop>
-    ensures requests { requests_by N.table client.new ≡ requests_by N.table client.old }
+    ensures requests { requests_by client.new ≡ requests_by client.old }
     ensures same { client.new ≡ record client.old { seen = client.new.seen; kept = client.new.kept } }
 {
     for _ in 0..MOST_TURNS {

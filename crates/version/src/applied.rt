@@ -4,7 +4,7 @@ ghost use Rattle.std.specs.Prelude.{◌≡◌, ◌<◌, ◌≤◌, ◌+◌, [], 
 ghost use Rattle.semantics.specs.Vectors.{greatest, raise};
 ghost use Rattle.ids.specs.Vectors.{IsCanonical};
 
-use ids::OpId;
+use ids::{OpId, greatest_counter};
 use std::alloc::{AllocError, Global};
 use std::marker::Model;
 
@@ -49,11 +49,7 @@ impl AppliedVector {
     pub fn greatest(&self) -> u64
         ensures { result ≡ greatest self.now.ids }
     {
-        let mut most = 0;
-        for id in &self.ids {
-            most = id.counter.max(most);
-        }
-        most
+        greatest_counter(self.ids.as_slice())
     }
 
     /// Makes room for one more replica.

@@ -68,7 +68,6 @@ returns-clause-taken g c =
 
 pub returns-clause-own : goal.returns-clause-own
 returns-clause-own g c k d at n serial command s there =
-    let table = g.N.EngineName.table in
     let q = c.rest.ensures.whole in
     let P : List Entry = c.writer.inside.publisher.published in
     let begins : BeginsWith c.writer.inside.handler.replica.document.entries P = subst

@@ -1,6 +1,6 @@
 use Rattle.std.proofs.Common.{◌≡◌, Ok, Some, sym, ap, ◌∙◌, subst, true≢false}
 use Rattle.inbox.specs.operation.Ops.{stamped_of}
-use Rattle.replica.specs.Replicas.{Running, IsNextReady}
+use Rattle.replica.specs.Replicas.{IsNextReady}
 use Rattle.replica.proofs.Leaving.{has_its_id, next_waits}
 use Rattle.replica.proofs.replica.Replica.next_ready.Goals as goal
 
@@ -16,7 +16,6 @@ copied : (c : goal.In_ok-clone)
     ≡ (c.prepare.ensures.next c.in-Some.id (c.in_ok-id.was ∙ ap Ok c.in-Some.is)).0
 copied c =
     let n = c.prepare.ensures.next c.in-Some.id (c.in_ok-id.was ∙ ap Ok c.in-Some.is) in
-    let table = ap (λ (r : Running). r.document.table) c.self.view_is in
     (λ i. stamped_of (c.in_ok-clone.ensures.cases i))
     ∙ has_its_id _ _ c.self.invariant c.self.view_is c.in-Some.id n c.in-Some-get.op.now c.in-Some-get.ensures.some
 
