@@ -11,6 +11,6 @@ mod table;
 
 pub use config::{Config, MOST_QUEUE};
 pub use id::{MOST_COUNTER, OpId, ReplicaId, ids_are_ordered_by_counter};
-pub use named_vector::{MOST_NAMED, NamedVector, counter_near, counter_of};
+pub use named_vector::{MOST_NAMED, NamedVector, counter_near, counter_of, greatest_counter};
 pub use refusal::Refusal;
 pub use table::ReplicaTable;

@@ -41,6 +41,18 @@ impl NamedVector {
         }
     }
 
+    /// The vector that names nothing, with room for this many pairs.
+    ///
+    /// # Errors
+    /// `AllocError` if allocation fails.
+    pub fn with_capacity(alloc: Global, pairs: usize) -> Result<NamedVector, AllocError>
+        ensures { IfOk result (λ v. v ≡ []) }
+    {
+        Ok(NamedVector {
+            ids: Vec::with_capacity(alloc, pairs)?,
+        })
+    }
+
     /// The vector of these pairs, which it copies.
     ///
     /// # Errors
@@ -94,27 +106,33 @@ impl NamedVector {
     pub fn greatest(&self) -> u64
         ensures { result ≡ greatest self.now }
     {
-        let mut most = 0;
-        for id in &self.ids {
-            most = id.counter.max(most);
-        }
-        most
+        greatest_counter(self.ids.as_slice())
     }
 
-    /// Whether each counter is at most the one that these pairs name of its replica. Walks both once.
+    /// Whether each counter is at most the one that these pairs name of its replica. One look for each while both name the same
+    /// replicas, else a binary search.
     pub fn is_at_most(&self, others: &[OpId]) -> bool
         requires { IsCanonical others.now }
         ensures { result ≡ is_at_most self.now others.now }
     {
-        let mut position = 0;
-        for id in &self.ids {
-            position = skip_below(others, position, id.replica);
-            if id.counter > counter_at(others, position, id.replica) {
+        for (index, id) in self.ids.iter().enumerate() {
+            if id.counter > counter_near(others, index, id.replica) {
                 return false;
             }
         }
         true
     }
+}
+
+/// The greatest counter of these pairs, 0 where there is none. Looks at each.
+pub fn greatest_counter(ids: &[OpId]) -> u64
+    ensures { result ≡ greatest ids.now }
+{
+    let mut most = 0;
+    for id in ids {
+        most = id.counter.max(most);
+    }
+    most
 }
 
 /// The counter that these pairs name of a replica, 0 if none does. Binary search.
@@ -137,35 +155,6 @@ pub fn counter_near(ids: &[OpId], position: usize, replica: ReplicaId) -> u64
     match ids.get(position) {
         Some(id) if id.replica == replica => id.counter,
         _ => counter_of(ids, replica),
-    }
-}
-
-/// The position of the first of these pairs, from this position on, whose replica isn't below this one, or how many there are.
-fn skip_below(ids: &[OpId], from: usize, replica: ReplicaId) -> usize
-    requires { from ≤ length ids.now }
-    ensures from { from ≤ result }
-    ensures within { result ≤ length ids.now }
-    ensures below { (k : ℕ) (d : Id) → from ≤ k → k < result → (slice_index_or ids.now k d).replica < replica }
-    ensures here { (d : Id) → result < length ids.now → replica ≤ (slice_index_or ids.now result d).replica }
-{
-    for position in from..ids.len() {
-        if ids[position].replica >= replica {
-            return position;
-        }
-    }
-    ids.len()
-}
-
-/// The counter beside a replica, which could only stand at this position; 0 where another one does, or none.
-fn counter_at(ids: &[OpId], position: usize, replica: ReplicaId) -> u64
-    requires canonical { IsCanonical ids.now }
-    requires below { (k : ℕ) (d : Id) → k < position → k < length ids.now → (slice_index_or ids.now k d).replica < replica }
-    requires here { (d : Id) → position < length ids.now → replica ≤ (slice_index_or ids.now position d).replica }
-    ensures { result ≡ at ids.now replica }
-{
-    match ids.get(position) {
-        Some(id) if id.replica == replica => id.counter,
-        _ => 0,
     }
 }
 

@@ -7,7 +7,6 @@ use Rattle.semantics.specs.Operations.{Assign, Insert, Delete, element_of, scala
 use Rattle.semantics.specs.Paths.{Hop, hops_from_root}
 use Rattle.semantics.specs.LegalHistory.{IsFormed}
 use Rattle.semantics.specs.Vectors.{covers}
-use Rattle.semantics.specs.Tables.{by_table}
 use Rattle.semantics.specs.Context.{Context, clear, apply}
 use Rattle.semantics.specs.Stamped.{loose_operation}
 use Rattle.semantics.proofs.ElementPaths.{down-hops_from_root}
@@ -36,7 +35,7 @@ delete_at_element (At e) f = refl
 delete_at_element (HeadOf l) f = cc
 
 -- an operation, and a stamp that is made of it
-module _ (o : Op) (s : Stamp) (same_id : s.id ≡ o.id) (same_vector : by_table s.table.now s.vector.now ≡ o.deps)
+module _ (o : Op) (s : Stamp) (same_id : s.id ≡ o.id) (same_vector : s.vector.now ≡ o.deps)
     (formed : IsFormed (mutation_of o.mutation) o.place) (C D : Context) where
   pub delete_applied : o.mutation ≡ mutation.Delete → (path : List Hop) → path ≡ hops_from_root (element_of o.place)
       → D ≡ clear C (end_of path) (deps_of s) → D ≡ apply C (loose_operation (stamped_of o))

@@ -1,7 +1,8 @@
 -- What an operation writes along a path, step by step.
-use Rattle.std.specs.Prelude.{◌≡◌, ℕ, ◌<◌, ◌≤◌, IsTrue, cond, List, [], ◌∷◌, length, take, map, Option, Some, None}
+use Rattle.std.specs.Prelude.{◌≡◌, ℕ, ◌<◌, ◌≤◌, IsTrue, cond, List, length, take, map, Option, Some, None}
 use Rattle.std.specs.FinMap.{put}
 use Rattle.ids.specs.Members.{AreDistinct, is_member}
+use Rattle.ids.specs.Vectors.{names_only}
 use Rattle.semantics.specs.Ids.{OpId, IdSet, id_cmp}
 use Rattle.semantics.specs.Elements.{Element, Doc, Field, Item, Name, Scalar, Tag, AsMap, AsList, name_cmp, is_same}
 use Rattle.semantics.specs.Paths.{Hop, FieldHop, ItemHop, down}
@@ -9,18 +10,28 @@ use Rattle.semantics.specs.Context.{Context, without, clear, insert_after}
 use Rattle.semantics.specs.Vectors.{covers}
 use Rattle.semantics.specs.Tables.{by_table}
 use Rattle.tree.specs.declared.node.Node.{Node}
+use Rattle.tree.specs.declared.stamp.Covered.{Covered}
 use Rattle.tree.specs.declared.stamp.Stamp.{Stamp}
 use Rattle.tree.specs.Nodes.{node_at, presence_room}
 
--- a member's id, with a vector as wide as the table
+-- an id and a vector of replicas of the table
 pub record IsStamp (s : Stamp) : Type 0 where
   pub distinct : AreDistinct s.table.now
   pub member : IsTrue (is_member s.table.now s.id.replica)
-  pub width : length s.vector.now ≡ length s.table.now
+  pub known : IsTrue (names_only s.table.now s.vector.now)
 
 -- the ids that the vector covers
 abbrev pub deps_of : Stamp → IdSet
-deps_of s = covers (by_table s.table.now s.vector.now)
+deps_of s = covers s.vector.now
+
+-- a column as wide as the table
+pub record IsCovered (c : Covered) : Type 0 where
+  pub distinct : AreDistinct c.table.now
+  pub width : length c.column.now ≡ length c.table.now
+
+-- the ids that the column covers
+abbrev pub covered_by : Covered → IdSet
+covered_by c = covers (by_table c.table.now c.column.now)
 
 -- the element at the end of a path
 abbrev pub end_of : List Hop → Element

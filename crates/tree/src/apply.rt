@@ -1,12 +1,11 @@
 //! What each kind of operation does.
 
-ghost use Rattle.std.specs.Prelude.{◌≡◌, Option, Some, IsSome, option_map};
+ghost use Rattle.std.specs.Prelude.{◌≡◌, Option, Some, IsSome, length, option_map};
 ghost use Rattle.semantics.specs.Ids.{OpId as TheId};
 ghost use Rattle.semantics.specs.Elements.{Element, Item, EmptyMap, is_under};
 ghost use Rattle.semantics.specs.LegalHistory.{IsFormed};
 ghost use Rattle.semantics.specs.Operations.{Insert, slot_of, target_in};
 ghost use Rattle.semantics.specs.Context.{apply};
-ghost use Rattle.semantics.specs.Tables.{by_table};
 ghost use Rattle.semantics.specs.Stamped.{loose_operation};
 ghost use Rattle.operation.specs.value.Values.{scalar_of};
 ghost use Rattle.operation.specs.cursor.Steps.{tag_of};
@@ -23,13 +22,20 @@ use crate::node::Node;
 use crate::show::show;
 use crate::stamp::Stamp;
 use crate::write::assign;
-use operation::{Mutation, Op, Place, Scalar, Tag};
+use operation::{Mutation, Op, Place, Scalar, Tag, VersionVector};
 
 /// Applies an operation, and then sets what the lists show, their bounds of empty items, and the flags of fields.
-pub fn apply(nodes: &mut [Node], op: &Op, stamp: &Stamp, scalar: Option<Scalar>)
+pub fn apply(
+    nodes: &mut [Node],
+    op: &Op,
+    stamp: &Stamp,
+    column: &mut VersionVector,
+    scalar: Option<Scalar>,
+)
     requires stamp { IsStamp stamp.now }
+    requires width { length column.old ≡ length stamp.now.table.now }
     requires id { stamp.now.id ≡ op.now.id }
-    requires vector { by_table stamp.now.table.now stamp.now.vector.now ≡ op.now.deps }
+    requires vector { stamp.now.vector.now ≡ op.now.deps }
     requires tree { IsTree nodes.old }
     requires indexed { AreIndexedNodes stamp.now.table.now nodes.old }
     requires nested { IsNested (context nodes.old) }
@@ -39,6 +45,7 @@ pub fn apply(nodes: &mut [Node], op: &Op, stamp: &Stamp, scalar: Option<Scalar>)
         (stamped_of op.now) }
     requires placed { IsPlaced (context nodes.old) (stamped_of op.now) }
     requires formed { IsFormed (mutation_of op.now.mutation) op.now.place }
+    ensures width { length column.new ≡ length column.old }
     ensures tree { IsTree nodes.new }
     ensures nested { IsNested (context nodes.new) }
     ensures indexed { AreIndexedNodes stamp.now.table.now nodes.new }
@@ -46,16 +53,23 @@ pub fn apply(nodes: &mut [Node], op: &Op, stamp: &Stamp, scalar: Option<Scalar>)
     ensures empty { AreEmpty nodes.new }
     ensures applied { context nodes.new ≡ apply (context nodes.old) (loose_operation (stamped_of op.now)) }
 {
-    run(nodes, op, stamp, scalar);
+    run(nodes, op, stamp, column, scalar);
     show(nodes, op);
 }
 
 /// Clears and writes what an operation's mutation says. What lists show, their bounds of empty items, and the flags of fields may be wrong
 /// then on the way to its target, and nowhere else.
-fn run(nodes: &mut [Node], op: &Op, stamp: &Stamp, scalar: Option<Scalar>)
+fn run(
+    nodes: &mut [Node],
+    op: &Op,
+    stamp: &Stamp,
+    column: &mut VersionVector,
+    scalar: Option<Scalar>,
+)
     requires stamp { IsStamp stamp.now }
+    requires width { length column.old ≡ length stamp.now.table.now }
     requires id { stamp.now.id ≡ op.now.id }
-    requires vector { by_table stamp.now.table.now stamp.now.vector.now ≡ op.now.deps }
+    requires vector { stamp.now.vector.now ≡ op.now.deps }
     requires tree { IsTree nodes.old }
     requires indexed { AreIndexedNodes stamp.now.table.now nodes.old }
     requires nested { IsNested (context nodes.old) }
@@ -64,6 +78,7 @@ fn run(nodes: &mut [Node], op: &Op, stamp: &Stamp, scalar: Option<Scalar>)
         (stamped_of op.now) }
     requires placed { IsPlaced (context nodes.old) (stamped_of op.now) }
     requires formed { IsFormed (mutation_of op.now.mutation) op.now.place }
+    ensures width { length column.new ≡ length column.old }
     ensures tree { IsTree nodes.new }
     ensures indexed { AreIndexedNodes stamp.now.table.now nodes.new }
     ensures shown { AreShown nodes.old
@@ -72,15 +87,37 @@ fn run(nodes: &mut [Node], op: &Op, stamp: &Stamp, scalar: Option<Scalar>)
     ensures applied { context nodes.new ≡ apply (context nodes.old) (loose_operation (stamped_of op.now)) }
 {
     match &op.mutation {
-        Mutation::Assign(value) => assign(nodes, op.place.hops(), stamp, Tag::of(value), scalar),
-        Mutation::Insert(value) => insert_at(nodes, &op.place, stamp, Tag::of(value), scalar),
-        Mutation::Delete => clear_at(nodes, op.place.hops(), stamp),
+        Mutation::Assign(value) => assign(
+            nodes,
+            op.place.hops(),
+            stamp,
+            column,
+            Tag::of(value),
+            scalar,
+        ),
+        Mutation::Insert(value) => insert_at(
+            nodes,
+            &op.place,
+            stamp,
+            column,
+            Tag::of(value),
+            scalar,
+        ),
+        Mutation::Delete => clear_at(nodes, op.place.hops(), stamp, column),
     }
 }
 
 /// Inserts at a head or after an item.
-fn insert_at(nodes: &mut [Node], place: &Place, stamp: &Stamp, tag: Tag, scalar: Option<Scalar>)
+fn insert_at(
+    nodes: &mut [Node],
+    place: &Place,
+    stamp: &Stamp,
+    column: &mut VersionVector,
+    tag: Tag,
+    scalar: Option<Scalar>,
+)
     requires stamp { IsStamp stamp.now }
+    requires width { length column.old ≡ length stamp.now.table.now }
     requires tree { IsTree nodes.old }
     requires indexed { AreIndexedNodes stamp.now.table.now nodes.old }
     requires nested { IsNested (context nodes.old) }
@@ -88,6 +125,7 @@ fn insert_at(nodes: &mut [Node], place: &Place, stamp: &Stamp, tag: Tag, scalar:
     requires slot { IsSome (slot_of (Insert EmptyMap) place.now) }
     requires fits { (l : Element) (p : Option TheId) → slot_of (Insert EmptyMap) place.now ≡ Some (l, p)
         → CanInsert nodes.old l p stamp.now.id scalar }
+    ensures width { length column.new ≡ length column.old }
     ensures tree { IsTree nodes.new }
     ensures indexed { AreIndexedNodes stamp.now.table.now nodes.new }
     ensures shown { (l : Element) (p : Option TheId) → slot_of (Insert EmptyMap) place.now ≡ Some (l, p) → AreShown nodes.old
@@ -100,5 +138,5 @@ fn insert_at(nodes: &mut [Node], place: &Place, stamp: &Stamp, tag: Tag, scalar:
     let Some(slot) = slot_of(place) else {
         unreachable!()
     };
-    insert(nodes, &slot, stamp, tag, scalar);
+    insert(nodes, &slot, stamp, column, tag, scalar);
 }

@@ -12,30 +12,30 @@ ghost use Rattle.tree.specs.Nested.{IsNested};
 ghost use Rattle.tree.specs.Nodes.{AreIndexedNodes, IsTree, MoreRoom, SameChildren, SameLinks, context, empty_below_of, links, number};
 ghost use Rattle.tree.specs.Nodes.{presence_of};
 ghost use Rattle.tree.specs.Shown.{AreEmpty, IsEmptyBelow, SameButFlags, ShownBut};
-ghost use Rattle.tree.specs.Writes.{IsStamp, clear_own, deps_of, end_of};
+ghost use Rattle.tree.specs.Writes.{IsCovered, IsStamp, clear_own, covered_by, deps_of, end_of};
 
 use crate::answer::is_present;
 use crate::node::{Node, NodeNumber, node_at, node_at_mut};
 use crate::show::{empty_below_with, flag_field, show_child};
-use crate::stamp::Stamp;
+use crate::stamp::{Covered, Stamp};
 use crate::walk::{count_fields, count_items, field_at, item_at, next_field, walk};
-use operation::Hop;
+use operation::{Hop, VersionVector};
 
-/// Removes from a node every id that the stamp's vector covers.
-fn clear_node(nodes: &mut [Node], at: NodeNumber, stamp: &Stamp)
+/// Removes from a node every id that the column covers.
+fn clear_node(nodes: &mut [Node], at: NodeNumber, covered: &Covered)
     requires tree { IsTree nodes.old }
-    requires stamp { IsStamp stamp.now }
-    requires indexed { AreIndexedNodes stamp.now.table.now nodes.old }
+    requires covered { IsCovered covered.now }
+    requires indexed { AreIndexedNodes covered.now.table.now nodes.old }
     requires inside { at < length nodes.old }
     ensures links { SameLinks nodes.old nodes.new }
     ensures room { MoreRoom nodes.old nodes.new }
-    ensures indexed { AreIndexedNodes stamp.now.table.now nodes.new }
+    ensures indexed { AreIndexedNodes covered.now.table.now nodes.new }
     ensures cleared { (e : Element) → number nodes.old e ≡ Some at
-        → context nodes.new ≡ clear_own (context nodes.old) e (deps_of stamp.now) }
+        → context nodes.new ≡ clear_own (context nodes.old) e (covered_by covered.now) }
 {
     let node = node_at_mut(nodes, at);
-    node.presence.clear(stamp.vector);
-    node.register.clear(stamp.vector);
+    node.presence.clear(covered.column);
+    node.register.clear(covered.column);
 }
 
 /// Sets what the list shows of the item with this index, if something stood there before it was cleared: else it isn't shown.
@@ -109,18 +109,19 @@ fn set_empty_below(nodes: &mut [Node], at: NodeNumber, empty_below: u64)
 /// stands beneath it either. Of a map it comes to the fields whose flags are raised alone, and lowers the flags of those that it leaves
 /// empty. Of a list it begins at the first item that stood after the list's last clear, or that was shown since. So a map or a list
 /// that is emptied again and again, each time for new fields or items, costs its newest ones alone.
-pub fn clear_below(nodes: &mut [Node], at: NodeNumber, stamp: &Stamp)
+fn clear_below(nodes: &mut [Node], at: NodeNumber, covered: &Covered)
     requires tree { IsTree nodes.old }
-    requires stamp { IsStamp stamp.now }
-    requires indexed { AreIndexedNodes stamp.now.table.now nodes.old }
+    requires covered { IsCovered covered.now }
+    requires indexed { AreIndexedNodes covered.now.table.now nodes.old }
     requires nested { IsNested (context nodes.old) }
     requires empty { AreEmpty nodes.old }
     requires there { (e : Element) × (number nodes.old e ≡ Some at) }
     requires inside { at < length nodes.old }
     ensures children { SameChildren nodes.old nodes.new }
     ensures room { MoreRoom nodes.old nodes.new }
-    ensures indexed { AreIndexedNodes stamp.now.table.now nodes.new }
-    ensures cleared { (e : Element) → number nodes.old e ≡ Some at → context nodes.new ≡ clear (context nodes.old) e (deps_of stamp.now) }
+    ensures indexed { AreIndexedNodes covered.now.table.now nodes.new }
+    ensures cleared { (e : Element) → number nodes.old e ≡ Some at
+        → context nodes.new ≡ clear (context nodes.old) e (covered_by covered.now) }
     ensures shown { (e : Element) (off : Element → Bool) → number nodes.old e ≡ Some at → ShownBut nodes.old off
         → ShownBut nodes.new (λ x. (is_any (presence_of (slice_get nodes.old at)) && is_same x e) || off x) }
     ensures empty { AreEmpty nodes.new }
@@ -132,7 +133,7 @@ pub fn clear_below(nodes: &mut [Node], at: NodeNumber, stamp: &Stamp)
     let mut position = next_field(nodes, at, 0);
     'fields: while position < fields {
         let child = field_at(nodes, at, position);
-        clear_below(nodes, child, stamp);
+        clear_below(nodes, child, covered);
         flag_field(nodes, at, position, child);
         position = next_field(nodes, at, position + 1);
     }
@@ -143,22 +144,55 @@ pub fn clear_below(nodes: &mut [Node], at: NodeNumber, stamp: &Stamp)
     'items: for position in from..items {
         let child = item_at(nodes, at, position);
         let was_present = is_present(nodes, child);
-        clear_below(nodes, child, stamp);
+        clear_below(nodes, child, covered);
         show_cleared(nodes, at, position, was_present);
         empty_below = empty_below_after(nodes, at, position, child, empty_below);
     }
     set_empty_below(nodes, at, empty_below);
-    clear_node(nodes, at, stamp);
+    clear_node(nodes, at, covered);
+}
+
+/// Clears a node and all nodes beneath it of what an operation depends on, and sets what the lists beneath it show. The column is filled
+/// only where something stands: most operations find nothing to clear.
+pub fn clear_of(nodes: &mut [Node], at: NodeNumber, stamp: &Stamp, column: &mut VersionVector)
+    requires tree { IsTree nodes.old }
+    requires stamp { IsStamp stamp.now }
+    requires width { length column.old ≡ length stamp.now.table.now }
+    requires indexed { AreIndexedNodes stamp.now.table.now nodes.old }
+    requires nested { IsNested (context nodes.old) }
+    requires empty { AreEmpty nodes.old }
+    requires there { (e : Element) × (number nodes.old e ≡ Some at) }
+    requires inside { at < length nodes.old }
+    ensures width { length column.new ≡ length column.old }
+    ensures children { SameChildren nodes.old nodes.new }
+    ensures room { MoreRoom nodes.old nodes.new }
+    ensures indexed { AreIndexedNodes stamp.now.table.now nodes.new }
+    ensures cleared { (e : Element) → number nodes.old e ≡ Some at → context nodes.new ≡ clear (context nodes.old) e (deps_of stamp.now) }
+    ensures shown { (e : Element) (off : Element → Bool) → number nodes.old e ≡ Some at → ShownBut nodes.old off
+        → ShownBut nodes.new (λ x. (is_any (presence_of (slice_get nodes.old at)) && is_same x e) || off x) }
+    ensures empty { AreEmpty nodes.new }
+{
+    if !is_present(nodes, at) {
+        return;
+    }
+    column.name(stamp.table, stamp.vector.ids());
+    let covered = Covered {
+        table: stamp.table,
+        column,
+    };
+    clear_below(nodes, at, &covered);
 }
 
 /// Clears the element at the end of a path and all beneath it, if a node was ever made there. The lists beneath it then show what
 /// stands there.
-pub fn clear_at(nodes: &mut [Node], path: &[Hop], stamp: &Stamp)
+pub fn clear_at(nodes: &mut [Node], path: &[Hop], stamp: &Stamp, column: &mut VersionVector)
     requires tree { IsTree nodes.old }
     requires stamp { IsStamp stamp.now }
+    requires width { length column.old ≡ length stamp.now.table.now }
     requires indexed { AreIndexedNodes stamp.now.table.now nodes.old }
     requires nested { IsNested (context nodes.old) }
     requires empty { AreEmpty nodes.old }
+    ensures width { length column.new ≡ length column.old }
     ensures children { SameChildren nodes.old nodes.new }
     ensures room { MoreRoom nodes.old nodes.new }
     ensures indexed { AreIndexedNodes stamp.now.table.now nodes.new }
@@ -167,7 +201,7 @@ pub fn clear_at(nodes: &mut [Node], path: &[Hop], stamp: &Stamp)
         → ShownBut nodes.new (λ x. is_same x (end_of (map hop_of path.now)) || off x) }
 {
     match walk(nodes, path) {
-        Some(at) => clear_below(nodes, at, stamp),
+        Some(at) => clear_of(nodes, at, stamp, column),
         None => {}
     }
 }

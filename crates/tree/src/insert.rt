@@ -12,13 +12,13 @@ ghost use Rattle.tree.specs.Shown.{AreEmpty, AreShown, ShownBut};
 ghost use Rattle.tree.specs.Writes.{IsStamp, assigned, deps_of, end_of, linked};
 ghost use Rattle.tree.specs.Trees.{CanInsert, SlotIs};
 
-use crate::clear::clear_below;
+use crate::clear::clear_of;
 use crate::node::{Node, NodeNumber, node_at_mut};
 use crate::stamp::Stamp;
 use crate::walk::{item_of, walk};
 use crate::write::{settle, write_path};
 use ids::OpId;
-use operation::{Hop, Place, Scalar, Tag};
+use operation::{Hop, Place, Scalar, Tag, VersionVector};
 
 /// The path of a list, and the item that something is inserted after, `None` for the head.
 #[derive(Clone, Copy, Debug)]
@@ -84,13 +84,22 @@ fn link_list(nodes: &mut [Node], slot: &Slot<'_>, id: &OpId) -> NodeNumber
 
 /// Inserts a new item into a list, and writes it. What lists show, their bounds of empty items, and the flags of fields may be wrong then
 /// on the way to it, and nowhere else.
-pub fn insert(nodes: &mut [Node], slot: &Slot<'_>, stamp: &Stamp, tag: Tag, scalar: Option<Scalar>)
+pub fn insert(
+    nodes: &mut [Node],
+    slot: &Slot<'_>,
+    stamp: &Stamp,
+    column: &mut VersionVector,
+    tag: Tag,
+    scalar: Option<Scalar>,
+)
     requires tree { IsTree nodes.old }
     requires stamp { IsStamp stamp.now }
+    requires width { length column.old ≡ length stamp.now.table.now }
     requires indexed { AreIndexedNodes stamp.now.table.now nodes.old }
     requires nested { IsNested (context nodes.old) }
     requires empty { AreEmpty nodes.old }
     requires fits { CanInsert nodes.old (end_of (map hop_of slot.now.list.now)) slot.now.prev stamp.now.id scalar }
+    ensures width { length column.new ≡ length column.old }
     ensures tree { IsTree nodes.new }
     ensures indexed { AreIndexedNodes stamp.now.table.now nodes.new }
     ensures shown { AreShown nodes.old
@@ -100,7 +109,7 @@ pub fn insert(nodes: &mut [Node], slot: &Slot<'_>, stamp: &Stamp, tag: Tag, scal
         (deps_of stamp.now) (Item (end_of (map hop_of slot.now.list.now)) stamp.now.id) (tag_of tag) (option_map scalar_of scalar) }
 {
     let item = link_list(nodes, slot, &stamp.id);
-    clear_below(nodes, item, stamp);
+    clear_of(nodes, item, stamp, column);
     write_path(nodes, slot.list, stamp, Tag::List);
     settle(nodes, item, stamp, tag, scalar);
 }

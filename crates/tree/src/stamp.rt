@@ -1,17 +1,17 @@
-//! What an operation clears and writes with.
+//! What an operation writes with, and what it clears.
 
 ghost use Rattle.std.specs.Prelude.{◌≡◌, Some, slice_get};
 ghost use Rattle.tree.specs.Writes.{IsStamp};
 
-use ids::{OpId, ReplicaTable};
+use ids::{NamedVector, OpId, ReplicaTable};
 use operation::VersionVector;
 
-/// The id of an operation, and the vector of what it depends on, indexed by the table.
+/// The id of an operation, the vector of what it depends on, and the table of replicas.
 #[derive(Clone, Copy, Debug)]
 pub struct Stamp<'a> {
     pub table: &'a ReplicaTable,
     pub id: OpId,
-    pub vector: &'a VersionVector,
+    pub vector: &'a NamedVector,
 }
 
 impl<'a> Stamp<'a> {
@@ -25,4 +25,11 @@ impl<'a> Stamp<'a> {
             None => unreachable!(),
         }
     }
+}
+
+/// What a clear removes: the ids that a column covers, which is indexed by the table.
+#[derive(Clone, Copy, Debug)]
+pub struct Covered<'a> {
+    pub table: &'a ReplicaTable,
+    pub column: &'a VersionVector,
 }

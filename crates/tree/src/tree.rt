@@ -35,8 +35,8 @@ pub struct Tree {
     pub(crate) nodes: Vec<Node>,
     /// The scalar that the next operation writes into a register, copied by `reserve`.
     scalar: Option<Scalar>,
-    /// What the operation that is being applied depends on, indexed by the table.
-    covered: VersionVector,
+    /// What the last operation that found something to clear depended on, indexed by the table.
+    column: VersionVector,
 }
 
 impl Model for Tree {
@@ -46,7 +46,7 @@ impl Model for Tree {
 
     ghost view = { λ t. record { table = t.table; nodes = t.nodes.items; scalar = t.scalar } };
 
-    ghost invariant = { λ t. IsPlanted (record { table = t.table; nodes = t.nodes.items; scalar = t.scalar }) t.covered };
+    ghost invariant = { λ t. IsPlanted (record { table = t.table; nodes = t.nodes.items; scalar = t.scalar }) t.column };
 }
 
 impl Tree {
@@ -59,14 +59,14 @@ impl Tree {
         ensures empty { IfOk result (λ t. document t ≡ empty) }
     {
         let table = table.clone()?;
-        let covered = VersionVector::zero(alloc, table.len())?;
+        let column = VersionVector::zero(alloc, table.len())?;
         let mut nodes = Vec::new(alloc);
         nodes.push(Node::new(alloc))?;
         Ok(Tree {
             table,
             nodes,
             scalar: None,
-            covered,
+            column,
         })
     }
 
@@ -99,13 +99,12 @@ impl Tree {
         ensures applied { document self.new ≡ apply (document self.old) (loose_operation (stamped_of op.now)) }
     {
         let scalar = self.scalar.take();
-        self.covered.name(&self.table, op.deps.ids());
         let stamp = Stamp {
             table: &self.table,
             id: op.id,
-            vector: &self.covered,
+            vector: &op.deps,
         };
-        apply(&mut self.nodes, op, &stamp, scalar);
+        apply(&mut self.nodes, op, &stamp, &mut self.column, scalar);
     }
 
     /// Whether each item on the way to the place was inserted into the list that it is entered from. A binary search for each key,

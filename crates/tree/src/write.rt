@@ -15,7 +15,7 @@ use crate::clear::clear_at;
 use crate::node::{Node, NodeNumber, node_at_mut};
 use crate::stamp::Stamp;
 use crate::walk::child_of;
-use operation::{Hop, Scalar, Tag};
+use operation::{Hop, Scalar, Tag, VersionVector};
 
 /// Puts the stamp's id into a node's presence.
 fn mark_node(nodes: &mut [Node], at: NodeNumber, stamp: &Stamp, tag: Tag)
@@ -150,14 +150,23 @@ pub fn settle(nodes: &mut [Node], at: NodeNumber, stamp: &Stamp, tag: Tag, scala
 
 /// Clears what stands at the end of a path, and writes there. What lists show, their bounds of empty items, and the flags of fields may be
 /// wrong then on the way there, and nowhere else.
-pub fn assign(nodes: &mut [Node], path: &[Hop], stamp: &Stamp, tag: Tag, scalar: Option<Scalar>)
+pub fn assign(
+    nodes: &mut [Node],
+    path: &[Hop],
+    stamp: &Stamp,
+    column: &mut VersionVector,
+    tag: Tag,
+    scalar: Option<Scalar>,
+)
     requires tree { IsTree nodes.old }
     requires stamp { IsStamp stamp.now }
+    requires width { length column.old ≡ length stamp.now.table.now }
     requires indexed { AreIndexedNodes stamp.now.table.now nodes.old }
     requires nested { IsNested (context nodes.old) }
     requires empty { AreEmpty nodes.old }
     requires room { HasRoom nodes.old (map hop_of path.now) }
     requires register { IsSome scalar → 0 < register_room (node_at nodes.old (end_of (map hop_of path.now))) }
+    ensures width { length column.new ≡ length column.old }
     ensures tree { IsTree nodes.new }
     ensures indexed { AreIndexedNodes stamp.now.table.now nodes.new }
     ensures shown { AreShown nodes.old → ShownBut nodes.new (is_under (end_of (map hop_of path.now))) }
@@ -165,7 +174,7 @@ pub fn assign(nodes: &mut [Node], path: &[Hop], stamp: &Stamp, tag: Tag, scalar:
         ≡ assigned (context nodes.old) stamp.now.id (deps_of stamp.now) (end_of (map hop_of path.now)) (tag_of tag)
         (option_map scalar_of scalar) }
 {
-    clear_at(nodes, path, stamp);
+    clear_at(nodes, path, stamp, column);
     let at = write_path(nodes, path, stamp, tag);
     put_scalar(nodes, at, stamp, scalar);
 }

@@ -1,5 +1,5 @@
 -- First the fields, then the items, and last the node: clearing those that weren't reached yet gives what clearing all gives.
-use Rattle.std.proofs.Common.{◌≡◌, [], ℕ, ◌+◌, ◌<◌, ◌&&◌, ◌||◌, Bool, true, false, length, Some, sym, ap, ◌∙◌, arith, get_or}
+use Rattle.std.proofs.Common.{◌≡◌, [], ℕ, ◌+◌, ◌<◌, ◌&&◌, ◌||◌, Bool, true, length, Some, sym, ap, ◌∙◌, arith, get_or}
 use Rattle.std.proofs.Common.{drop, is_some, min, nat_le, rules, subst, cond, slice_get}
 use Rattle.std.specs.FinMap.{find}
 use Rattle.std.specs.List.{filter}
@@ -13,7 +13,7 @@ use Rattle.semantics.specs.DocumentAnswer.{is_any}
 use Rattle.tree.specs.Nested.{IsNested}
 use Rattle.tree.specs.Nodes.{number, empty_below_of, links, context, Links, node_in, presence_of}
 use Rattle.tree.specs.Shown.{ShownBut}
-use Rattle.tree.specs.Writes.{clear_own, deps_of, fields_of, items_of}
+use Rattle.tree.specs.Writes.{clear_own, covered_by, fields_of, items_of}
 use Rattle.tree.proofs.Shape.{children_linked, children_number, children_same, children_trans, children_tree, number_child, room_same}
 use Rattle.tree.proofs.Shape.{room_trans}
 use Rattle.tree.proofs.Clears.{clear_each, turn_field, turn_item, clear_whole}
@@ -26,7 +26,7 @@ use Rattle.tree.proofs.clear.+clear_below.Goals as goal
 pub returns-then-not-is_present-clause-cleared : goal.returns-then-not-is_present-clause-cleared
 returns-then-not-is_present-clause-cleared t c = λ e at.
     let ns = c.args.nodes.now in
-    clear_empty (context ns) e (deps_of c.args.stamp.now) c.requires.nested
+    clear_empty (context ns) e (covered_by c.args.covered.now) c.requires.nested
     (ap (λ o. presence_of (node_in ns o)) at
     ∙ none_any _ (sym c.is_present.ensures ∙ c.if-not-is_present.true))
 
@@ -42,7 +42,7 @@ fields-init t c =
       indexed = c.requires.indexed;
       nested = c.requires.nested;
       empty = c.requires.empty;
-      rest = λ e p. sym (past_fields e (deps_of c.args.stamp.now) fs (context old) ([], 0) c.requires.nested 0 next.result
+      rest = λ e p. sym (past_fields e (covered_by c.args.covered.now) fs (context old) ([], 0) c.requires.nested 0 next.result
           (omega arith) next.ensures.within (λ i low high. next.ensures.passed e i ([], 0) p c.requires.empty low high));
       shown = λ e off p s. s;
     }
@@ -92,7 +92,7 @@ fields-preserved t c =
     let fs = (links old c.args.at).0 in
     let k = c.fields.position in
     let d : Name × ℕ = ([], 0) in
-    let S = deps_of c.args.stamp.now in
+    let S = covered_by c.args.covered.now in
     let inv = c.fields.invariant in
     let one = c.clear_below.ensures in
     let two = c.flag_field.ensures in
@@ -115,7 +115,7 @@ fields-preserved t c =
     record {
       shape = whole;
       room = room_trans old mid new (room_trans old now mid inv.room one.room) two.room;
-      indexed = two.same.indexed c.args.stamp.now.table.now one.indexed;
+      indexed = two.same.indexed c.args.covered.now.table.now one.indexed;
       nested = nested;
       empty = empty;
       rest = λ e p.
@@ -138,7 +138,7 @@ pub items-init : goal.items-init
 items-init t c =
     let old = c.args.nodes.now in
     let now = c.fields.nodes in
-    let S = deps_of c.args.stamp.now in
+    let S = covered_by c.args.covered.now in
     let inv = c.fields.invariant in
     let fs = (links old c.args.at).0 in
     let xs = (links old c.args.at).1 in
@@ -195,7 +195,7 @@ items-preserved t c =
     let xs = (links old c.args.at).1 in
     let k = c.items.position in
     let d : OpId × ℕ = (id_at 0 0, 0) in
-    let S = deps_of c.args.stamp.now in
+    let S = covered_by c.args.covered.now in
     let inv = c.items.invariant in
     let one = c.clear_below-in-items.ensures in
     let two = c.show_cleared.ensures in
@@ -216,7 +216,7 @@ items-preserved t c =
     record {
       shape = whole;
       room = room_trans old mid new (room_trans old now mid inv.room one.room) two.room;
-      indexed = two.same.indexed c.args.stamp.now.table.now one.indexed;
+      indexed = two.same.indexed c.args.covered.now.table.now one.indexed;
       nested = subst IsNested (sym (one.cleared x (child e p)) ∙ same) (nested_clear (context now) x S inv.nested);
       empty = two.empty e (sym (children_number old mid shape e) ∙ p) one.empty;
       rest = λ e p. ap (λ C. clear_each C (items_of e (drop (k + 1) xs)) S)
@@ -266,7 +266,7 @@ clear_node-requires-clause-tree t c = flags_tree c.items.nodes c.set_empty_below
     (children_tree c.args.nodes.now c.items.nodes c.items.invariant.shape c.requires.tree)
 
 pub clear_node-requires-clause-indexed : goal.clear_node-requires-clause-indexed
-clear_node-requires-clause-indexed t c = c.set_empty_below.ensures.same.indexed c.args.stamp.now.table.now c.items.invariant.indexed
+clear_node-requires-clause-indexed t c = c.set_empty_below.ensures.same.indexed c.args.covered.now.table.now c.items.invariant.indexed
 
 pub returns-clause-children : goal.returns-clause-children
 returns-clause-children t c =
@@ -290,7 +290,7 @@ returns-clause-cleared t c = λ e p.
     let old = c.args.nodes.now in
     let now = c.items.nodes in
     let mid = c.set_empty_below.new.nodes in
-    let S = deps_of c.args.stamp.now in
+    let S = covered_by c.args.covered.now in
     let here : number now e ≡ Some c.args.at = sym (children_number old now c.items.invariant.shape e) ∙ p in
     let xs = (links old c.args.at).1 in
     let count : length xs ≡ c.count_items-items.result = ap (λ (l : Links). length l.1) (c.fields.invariant.shape.same c.args.at)
@@ -308,7 +308,7 @@ returns-clause-empty t c =
     let now = c.items.nodes in
     let mid = c.set_empty_below.new.nodes in
     let new = c.clear_node.new.nodes in
-    let S = deps_of c.args.stamp.now in
+    let S = covered_by c.args.covered.now in
     let xs = (links old c.args.at).1 in
     let count : length xs ≡ c.count_items-items.result = ap (λ (l : Links). length l.1) (c.fields.invariant.shape.same c.args.at)
     ∙ sym c.count_items-items.ensures in
@@ -329,7 +329,7 @@ returns-clause-shown t c = λ e off p s.
     let now = c.items.nodes in
     let mid = c.set_empty_below.new.nodes in
     let new = c.clear_node.new.nodes in
-    let S = deps_of c.args.stamp.now in
+    let S = covered_by c.args.covered.now in
     let xs = (links old c.args.at).1 in
     let count : length xs ≡ c.count_items-items.result = ap (λ (l : Links). length l.1) (c.fields.invariant.shape.same c.args.at)
     ∙ sym c.count_items-items.ensures in

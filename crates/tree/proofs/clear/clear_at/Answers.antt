@@ -8,15 +8,15 @@ use Rattle.tree.proofs.Contexts.{clear_none}
 use Rattle.tree.proofs.Showing.{but_wider}
 use Rattle.tree.proofs.clear.clear_at.Goals as goal
 
-pub clear_below-requires-clause-there : goal.clear_below-requires-clause-there
-clear_below-requires-clause-there c = (end_of (map hop_of c.args.path.now), sym c.walk.ensures.number ∙ c.in-Some.is)
+pub clear_of-requires-clause-there : goal.clear_of-requires-clause-there
+clear_of-requires-clause-there c = (end_of (map hop_of c.args.path.now), sym c.walk.ensures.number ∙ c.in-Some.is)
 
 pub returns-in-Some-clause-shown : goal.returns-in-Some-clause-shown
 returns-in-Some-clause-shown c = λ off s.
     let t = end_of (map hop_of c.args.path.now) in
     let at : number c.args.nodes.now t ≡ Some c.in-Some.at = sym c.walk.ensures.number ∙ c.in-Some.is in
-    but_wider c.clear_below.new.nodes (is_any (presence_of (slice_get c.args.nodes.now c.in-Some.at))) t off
-    (c.clear_below.ensures.shown t off at s)
+    but_wider c.clear_of.new.nodes (is_any (presence_of (slice_get c.args.nodes.now c.in-Some.at))) t off
+    (c.clear_of.ensures.shown t off at s)
 
 pub returns-in-None-clause-cleared : goal.returns-in-None-clause-cleared
 returns-in-None-clause-cleared c = clear_none c.args.nodes.now (end_of (map hop_of c.args.path.now)) (deps_of c.args.stamp.now)

@@ -4,7 +4,7 @@ use Rattle.operation.specs.value.Values.{scalar_of}
 use Rattle.columns.proofs.IndexedEntries.{indices_within}
 use Rattle.tree.specs.declared.node.Node.{Node}
 use Rattle.tree.specs.Nodes.{tagged, valued}
-use Rattle.tree.specs.Writes.{deps_of}
+use Rattle.tree.specs.Writes.{covered_by}
 use Rattle.tree.proofs.Mapped.{without-mapped}
 use Rattle.tree.proofs.Shape.{links_set}
 use Rattle.tree.proofs.Contexts.{context_set, cleared_with}
@@ -14,16 +14,16 @@ use Rattle.tree.proofs.clear.clear_node.Goals as goal
 pub clear-requires : goal.clear-requires
 clear-requires c = λ k d h.
     let n : Node = c.node_at_mut-node.result.now in
-    let stands = indexed_at c.args.stamp.now.table.now c.args.nodes.now c.args.at n c.node_at_mut-node.ensures.node c.requires.indexed in
-    let within = indices_within c.args.stamp.now.table.now n.presence.entries n.presence.indices stands.0 k d h in
-    let width = c.requires.stamp.width in omega arith
+    let stands = indexed_at c.args.covered.now.table.now c.args.nodes.now c.args.at n c.node_at_mut-node.ensures.node c.requires.indexed in
+    let within = indices_within c.args.covered.now.table.now n.presence.entries n.presence.indices stands.0 k d h in
+    let width = c.requires.covered.width in omega arith
 
 pub clear-requires-2 : goal.clear-requires-2
 clear-requires-2 c = λ k d h.
     let n : Node = c.node_at_mut-node.result.now in
-    let stands = indexed_at c.args.stamp.now.table.now c.args.nodes.now c.args.at n c.node_at_mut-node.ensures.node c.requires.indexed in
-    let within = indices_within c.args.stamp.now.table.now n.register.entries n.register.indices stands.1 k d h in
-    let width = c.requires.stamp.width in omega arith
+    let stands = indexed_at c.args.covered.now.table.now c.args.nodes.now c.args.at n c.node_at_mut-node.ensures.node c.requires.indexed in
+    let within = indices_within c.args.covered.now.table.now n.register.entries n.register.indices stands.1 k d h in
+    let width = c.requires.covered.width in omega arith
 
 pub returns-clause-links : goal.returns-clause-links
 returns-clause-links c =
@@ -42,7 +42,7 @@ returns-clause-room c =
 pub returns-clause-indexed : goal.returns-clause-indexed
 returns-clause-indexed c =
     let ns = c.args.nodes.now in
-    let table = c.args.stamp.now.table.now in
+    let table = c.args.covered.now.table.now in
     let n : Node = c.node_at_mut-node.result.now in
     let m : Node = record n { presence = c.clear.new.self; register = c.clear-2.new.self } in
     let g = c.node_at_mut-node.ensures.node in
@@ -53,16 +53,16 @@ returns-clause-indexed c =
 pub returns-clause-cleared : goal.returns-clause-cleared
 returns-clause-cleared c = λ e at.
     let ns = c.args.nodes.now in
-    let s = c.args.stamp.now in
+    let s = c.args.covered.now in
     let n : Node = c.node_at_mut-node.result.now in
     let m : Node = record n { presence = c.clear.new.self; register = c.clear-2.new.self } in
     let g = c.node_at_mut-node.ensures.node in
     let stands = indexed_at s.table.now ns c.args.at n g c.requires.indexed in
-    let width = sym c.requires.stamp.width in
+    let width = sym c.requires.covered.width in
     context_set ns c.requires.tree e c.args.at n m at g refl refl
-    ∙ cleared_with ns e c.args.at n m (deps_of s) at g
-    (ap tagged (c.clear.ensures.without s.table.now c.requires.stamp.distinct width stands.0)
-    ∙ without-mapped tag_of (deps_of s) n.presence.entries)
-    (ap valued (c.clear-2.ensures.without s.table.now c.requires.stamp.distinct width stands.1)
-    ∙ without-mapped scalar_of (deps_of s) n.register.entries)
+    ∙ cleared_with ns e c.args.at n m (covered_by s) at g
+    (ap tagged (c.clear.ensures.without s.table.now c.requires.covered.distinct width stands.0)
+    ∙ without-mapped tag_of (covered_by s) n.presence.entries)
+    (ap valued (c.clear-2.ensures.without s.table.now c.requires.covered.distinct width stands.1)
+    ∙ without-mapped scalar_of (covered_by s) n.register.entries)
     refl

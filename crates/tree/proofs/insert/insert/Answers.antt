@@ -18,35 +18,35 @@ use Rattle.tree.proofs.Showing.{but_wider, empty_kept}
 use Rattle.tree.proofs.Rooms.{depth_whole, more_room, path_room, room_along}
 use Rattle.tree.proofs.insert.insert.Goals as goal
 
-pub clear_below-requires-clause-indexed : goal.clear_below-requires-clause-indexed
-clear_below-requires-clause-indexed c = c.link_list-item.ensures.indexed c.args.stamp.now.table.now c.requires.indexed
+pub clear_of-requires-clause-indexed : goal.clear_of-requires-clause-indexed
+clear_of-requires-clause-indexed c = c.link_list-item.ensures.indexed c.args.stamp.now.table.now c.requires.indexed
 
-pub clear_below-requires-clause-inside : goal.clear_below-requires-clause-inside
-clear_below-requires-clause-inside c =
+pub clear_of-requires-clause-inside : goal.clear_of-requires-clause-inside
+clear_of-requires-clause-inside c =
     let t = Item (end_of (map hop_of c.args.slot.now.list.now)) c.args.stamp.now.id in
     let h = number_inside c.args.nodes.now c.requires.tree t c.link_list-item.result c.link_list-item.ensures.item in
     let a = c.link_list-item.ensures.links.count in
     omega arith
 
-pub clear_below-requires-clause-nested : goal.clear_below-requires-clause-nested
-clear_below-requires-clause-nested c =
+pub clear_of-requires-clause-nested : goal.clear_of-requires-clause-nested
+clear_of-requires-clause-nested c =
     let s = c.args.stamp.now in
     let l = end_of (map hop_of c.args.slot.now.list.now) in
     subst IsNested (sym c.link_list-item.ensures.linked)
     (nested_linked (context c.args.nodes.now) l c.args.slot.now.prev s.id c.requires.nested)
 
-pub clear_below-requires-clause-empty : goal.clear_below-requires-clause-empty
-clear_below-requires-clause-empty c = empty_kept c.args.nodes.now c.link_list-item.new.nodes c.link_list-item.ensures.links
+pub clear_of-requires-clause-empty : goal.clear_of-requires-clause-empty
+clear_of-requires-clause-empty c = empty_kept c.args.nodes.now c.link_list-item.new.nodes c.link_list-item.ensures.links
     (λ x none. ap (λ (C : Context). is_any (C.presence x)) c.link_list-item.ensures.linked ∙ none) c.requires.empty
 
-pub clear_below-requires-clause-there : goal.clear_below-requires-clause-there
-clear_below-requires-clause-there c =
+pub clear_of-requires-clause-there : goal.clear_of-requires-clause-there
+clear_of-requires-clause-there c =
     let t : Element = Item (end_of (map hop_of c.args.slot.now.list.now)) c.args.stamp.now.id in
     (t, sym (number_same c.args.nodes.now c.link_list-item.new.nodes c.link_list-item.ensures.links t) ∙ c.link_list-item.ensures.item)
 
 pub write_path-requires-clause-tree : goal.write_path-requires-clause-tree
 write_path-requires-clause-tree c =
-    children_tree c.link_list-item.new.nodes c.clear_below.new.nodes c.clear_below.ensures.children
+    children_tree c.link_list-item.new.nodes c.clear_of.new.nodes c.clear_of.ensures.children
     (tree_same c.args.nodes.now c.link_list-item.new.nodes c.link_list-item.ensures.links c.requires.tree)
 
 pub write_path-requires-clause-room : goal.write_path-requires-clause-room
@@ -54,16 +54,16 @@ write_path-requires-clause-room c =
     let path = map hop_of c.args.slot.now.list.now in
     let n0 = c.args.nodes.now in
     let n1 = c.link_list-item.new.nodes in
-    let n2 = c.clear_below.new.nodes in
+    let n2 = c.clear_of.new.nodes in
     path_room n0 n2 path
-    (children_trans n0 n1 n2 (children_linked n0 n1 c.link_list-item.ensures.links) c.clear_below.ensures.children)
-    (room_trans n0 n1 n2 c.link_list-item.ensures.room c.clear_below.ensures.room)
+    (children_trans n0 n1 n2 (children_linked n0 n1 c.link_list-item.ensures.links) c.clear_of.ensures.children)
+    (room_trans n0 n1 n2 c.link_list-item.ensures.room c.clear_of.ensures.room)
     (room_along n0 path c.requires.fits.room.0)
 
 pub settle-requires-clause-tree : goal.settle-requires-clause-tree
 settle-requires-clause-tree c =
-    tree_same c.clear_below.new.nodes c.write_path.new.nodes c.write_path.ensures.links
-    (children_tree c.link_list-item.new.nodes c.clear_below.new.nodes c.clear_below.ensures.children
+    tree_same c.clear_of.new.nodes c.write_path.new.nodes c.write_path.ensures.links
+    (children_tree c.link_list-item.new.nodes c.clear_of.new.nodes c.clear_of.ensures.children
     (tree_same c.args.nodes.now c.link_list-item.new.nodes c.link_list-item.ensures.links c.requires.tree))
 
 pub settle-requires-clause-inside : goal.settle-requires-clause-inside
@@ -71,7 +71,7 @@ settle-requires-clause-inside c =
     let t = Item (end_of (map hop_of c.args.slot.now.list.now)) c.args.stamp.now.id in
     let h = number_inside c.args.nodes.now c.requires.tree t c.link_list-item.result c.link_list-item.ensures.item in
     let a = c.link_list-item.ensures.links.count in
-    let b = c.clear_below.ensures.children.count in
+    let b = c.clear_of.ensures.children.count in
     let d = c.write_path.ensures.links.count in
     omega arith
 
@@ -81,10 +81,10 @@ settle-requires-clause-room c =
     let t = Item (end_of path) c.args.stamp.now.id in
     let n0 = c.args.nodes.now in
     let n1 = c.link_list-item.new.nodes in
-    let n2 = c.clear_below.new.nodes in
+    let n2 = c.clear_of.new.nodes in
     let n3 = c.write_path.new.nodes in
-    let links = children_trans n0 n1 n2 (children_linked n0 n1 c.link_list-item.ensures.links) c.clear_below.ensures.children in
-    let room = room_trans n0 n1 n2 c.link_list-item.ensures.room c.clear_below.ensures.room in
+    let links = children_trans n0 n1 n2 (children_linked n0 n1 c.link_list-item.ensures.links) c.clear_of.ensures.children in
+    let room = room_trans n0 n1 n2 c.link_list-item.ensures.room c.clear_of.ensures.room in
     let deep = depth_whole path in
     let count = length-map c.args.slot.now.list.now hop_of in
     let still = c.write_path.ensures.deeper t (omega arith) (more_room n0 n2 links room t c.requires.fits.room.1) in
@@ -98,7 +98,7 @@ settle-requires-clause-register c = λ some.
     let t = Item (end_of (map hop_of c.args.slot.now.list.now)) c.args.stamp.now.id in
     let here = subst (λ o. 0 < register_room (node_in c.args.nodes.now o)) c.link_list-item.ensures.item (c.requires.fits.register some) in
     let a = c.link_list-item.ensures.room.register c.link_list-item.result in
-    let b = c.clear_below.ensures.room.register c.link_list-item.result in
+    let b = c.clear_of.ensures.room.register c.link_list-item.result in
     let d = c.write_path.ensures.register_room c.link_list-item.result in
     omega arith
 
@@ -109,19 +109,19 @@ returns-clause-inserted c =
     let t : Element = Item l s.id in
     let n0 = c.args.nodes.now in
     let n1 = c.link_list-item.new.nodes in
-    let n2 = c.clear_below.new.nodes in
+    let n2 = c.clear_of.new.nodes in
     let n3 = c.write_path.new.nodes in
     let at1 : number n1 t ≡ Some c.link_list-item.result = sym (number_same n0 n1 c.link_list-item.ensures.links t)
     ∙ c.link_list-item.ensures.item in
     let at3 : number n3 t
     ≡ Some c.link_list-item.result = sym
-    (children_number n1 n2 c.clear_below.ensures.children t ∙ number_same n2 n3 c.write_path.ensures.links t)
+    (children_number n1 n2 c.clear_of.ensures.children t ∙ number_same n2 n3 c.write_path.ensures.links t)
     ∙ at1 in
     c.settle.ensures.settled t at3
     ∙ ap (λ C. registered (mark C t s.id (tag_of c.args.tag)) t s.id (option_map scalar_of c.args.scalar))
     (c.write_path.ensures.written
     ∙ ap (λ C. mark (entered C l s.id) l s.id AsList)
-    (c.clear_below.ensures.cleared t at1 ∙ ap (λ C. clear C t (deps_of s)) c.link_list-item.ensures.linked))
+    (c.clear_of.ensures.cleared t at1 ∙ ap (λ C. clear C t (deps_of s)) c.link_list-item.ensures.linked))
 
 pub returns-clause-shown : goal.returns-clause-shown
 returns-clause-shown c = λ shown.
@@ -131,14 +131,14 @@ returns-clause-shown c = λ shown.
     let t : Element = Item l s.id in
     let n0 = c.args.nodes.now in
     let n1 = c.link_list-item.new.nodes in
-    let n2 = c.clear_below.new.nodes in
+    let n2 = c.clear_of.new.nodes in
     let n3 = c.write_path.new.nodes in
     let n4 = c.settle.new.nodes in
     let at1 : number n1 t ≡ Some c.link_list-item.result = sym (number_same n0 n1 c.link_list-item.ensures.links t)
     ∙ c.link_list-item.ensures.item in
     let at3 : number n3 t
     ≡ Some c.link_list-item.result = sym
-    (children_number n1 n2 c.clear_below.ensures.children t ∙ number_same n2 n3 c.write_path.ensures.links t)
+    (children_number n1 n2 c.clear_of.ensures.children t ∙ number_same n2 n3 c.write_path.ensures.links t)
     ∙ at1 in
     let is : context n4 ≡ written (context n2) t s.id (tag_of c.args.tag) (option_map scalar_of c.args.scalar) =
     c.settle.ensures.settled t at3
@@ -146,7 +146,7 @@ returns-clause-shown c = λ shown.
     let new = linked_shown n0 n1 c.link_list-item.ensures.links l p s.id c.link_list-item.ensures.linked
     (c.requires.fits.position, c.requires.fits.fresh) shown c.requires.empty in
     let cleared = but_wider n2 (is_any (presence_of (slice_get n1 c.link_list-item.result))) t (λ x. is_same x t)
-    (c.clear_below.ensures.shown t (λ x. is_same x t) at1 new) in
+    (c.clear_of.ensures.shown t (λ x. is_same x t) at1 new) in
     written_shown n2 n4 (links_trans n2 n3 n4 c.write_path.ensures.links c.settle.ensures.links) t s.id (tag_of c.args.tag)
     (option_map scalar_of c.args.scalar) is (λ x. is_same x t || is_same x t)
     (λ x far. ap (λ b. b || b) (way_itself t x far)) cleared

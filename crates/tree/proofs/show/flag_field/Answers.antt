@@ -1,10 +1,9 @@
-use Rattle.std.proofs.Common.{◌≡◌, ◌<◌, ◌||◌, ℕ, Some, refl, sym, ap, ◌∙◌, subst, arith, get_or, length, [], slice_get, set}
+use Rattle.std.proofs.Common.{◌≡◌, ◌<◌, ℕ, Some, refl, sym, ap, ◌∙◌, subst, arith, get_or, length, [], slice_get}
 use Rattle.std.proofs.lemmas.Option.{slice_get-get_or}
-use Rattle.semantics.specs.Elements.{Field, Name, is_same}
+use Rattle.semantics.specs.Elements.{Name}
 use Rattle.semantics.specs.Paths.{FieldHop}
 use Rattle.tree.specs.declared.node.Node.{Node}
-use Rattle.tree.specs.Nodes.{child_number, links, links_of}
-use Rattle.tree.specs.Shown.{ShownBut}
+use Rattle.tree.specs.Nodes.{links, links_of}
 use Rattle.tree.proofs.Flagging.{field_empty, field_shown}
 use Rattle.tree.proofs.NodeWrites.{room_set}
 use Rattle.tree.proofs.Showing.{flag_same}

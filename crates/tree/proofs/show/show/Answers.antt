@@ -1,5 +1,5 @@
 use Rattle.std.proofs.Common.{◌≡◌, map, sym, ap, ◌∙◌, subst}
-use Rattle.semantics.specs.Elements.{Item, is_under}
+use Rattle.semantics.specs.Elements.{is_under}
 use Rattle.semantics.specs.Operations.{slot_of, target_in}
 use Rattle.operation.specs.cursor.Steps.{hop_of}
 use Rattle.operation.specs.Ops.{mutation_of}

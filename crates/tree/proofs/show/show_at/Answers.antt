@@ -1,5 +1,5 @@
 use Rattle.std.proofs.Common.{false, map}
-use Rattle.semantics.specs.Elements.{Item, is_under}
+use Rattle.semantics.specs.Elements.{is_under}
 use Rattle.operation.specs.cursor.Steps.{hop_of}
 use Rattle.tree.specs.Writes.{end_of}
 use Rattle.tree.proofs.Showing.{but_none, or_none}

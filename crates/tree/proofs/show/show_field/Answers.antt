@@ -1,5 +1,4 @@
 use Rattle.std.proofs.Common.{◌≡◌, ◌<◌, ◌||◌, ℕ, Some, sym, ap, ◌∙◌, subst, get_or, length}
-use Rattle.std.specs.Prelude.{slice_get}
 use Rattle.std.specs.FinMap.{find}
 use Rattle.std.proofs.lemmas.Option.{get_or_from_slice_get, slice_get_within}
 use Rattle.semantics.specs.Elements.{Field, Name, name_cmp, is_same}

@@ -1,5 +1,5 @@
 use Rattle.std.proofs.Common.{◌≡◌, map, sym, ap, ◌∙◌, subst}
-use Rattle.semantics.specs.Elements.{EmptyMap, Item, is_under}
+use Rattle.semantics.specs.Elements.{EmptyMap, is_under}
 use Rattle.semantics.specs.Operations.{Insert, slot_of, target_in}
 use Rattle.operation.specs.cursor.Steps.{hop_of}
 use Rattle.tree.specs.Shown.{ShownBut}

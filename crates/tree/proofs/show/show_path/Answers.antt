@@ -1,5 +1,5 @@
 use Rattle.std.proofs.Common.{◌≡◌, ◌+◌, ◌||◌, map, take, Some, None, sym, ap, ◌∙◌}
-use Rattle.semantics.specs.Elements.{Item, is_same}
+use Rattle.semantics.specs.Elements.{is_same}
 use Rattle.semantics.specs.Paths.{child}
 use Rattle.operation.specs.cursor.Steps.{hop_of}
 use Rattle.tree.specs.Nodes.{linked_by, number}

@@ -1,6 +1,5 @@
 use Rattle.std.proofs.Common.{◌≡◌, ◌<◌, ◌||◌, Bool, length, map, take, Some}
-use Rattle.semantics.specs.Ids.{OpId}
-use Rattle.semantics.specs.Elements.{Element, Item, is_under}
+use Rattle.semantics.specs.Elements.{Element, is_under}
 use Rattle.operation.specs.cursor.Steps.{hop_of}
 use Rattle.tree.specs.Nodes.{number}
 use Rattle.tree.specs.Shown.{SameButFlags, ShownBut}

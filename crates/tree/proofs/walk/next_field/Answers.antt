@@ -1,7 +1,6 @@
-use Rattle.std.proofs.Common.{◌≡◌, ◌<◌, ◌≤◌, ℕ, Some, sym, ap, ◌∙◌, subst, get_or, length, arith}
-use Rattle.std.specs.Prelude.{slice_get, unwrap_or, false}
+use Rattle.std.proofs.Common.{◌<◌, ◌≤◌, sym, ap, ◌∙◌, subst, get_or, length, arith}
+use Rattle.std.specs.Prelude.{unwrap_or, false}
 use Rattle.std.proofs.lemmas.Option.{slice_get-get_or}
-use Rattle.semantics.specs.Elements.{Name}
 use Rattle.tree.specs.Nodes.{is_flagged, links_of}
 use Rattle.tree.proofs.Flagging.{passed_field}
 use Rattle.tree.proofs.walk.next_field.Goals as goal

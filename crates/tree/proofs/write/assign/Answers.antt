@@ -2,7 +2,7 @@ use Rattle.std.proofs.Common.{◌≡◌, ◌<◌, ◌||◌, false, map, sym, ap,
 use Rattle.std.specs.Prelude.{option_map}
 use Rattle.operation.specs.value.Values.{scalar_of}
 use Rattle.operation.specs.cursor.Steps.{hop_of, tag_of}
-use Rattle.semantics.specs.Elements.{Item, is_same}
+use Rattle.semantics.specs.Elements.{is_same}
 use Rattle.tree.specs.Nodes.{context, number, node_in, register_room}
 use Rattle.tree.specs.Writes.{end_of, registered, mark, entered}
 use Rattle.tree.proofs.OnTheWay.{way_itself, written, written_shown}

@@ -13,10 +13,10 @@ invariant_of-result c =
     let distinct : AreDistinct table = subst AreDistinct c.table.view_is (distinct_from_rising _ c.table.invariant.rising) in
     let one : c.push.new.self.items ≡ c.new.result ∷ [] = c.in_ok-push.ensures.items
     ∙ ap (λ ns. ns ++ c.new.result ∷ []) c.new-nodes.ensures.items in
-    let wide : length c.in_ok-covered.covered ≡ length table = ap length c.in_ok-covered.ensures ∙ length-replicate _ 0
+    let wide : length c.in_ok-column.column ≡ length table = ap length c.in_ok-column.ensures ∙ length-replicate _ 0
     ∙ c.len.ensures.length in
-    subst (λ ns. IsPlanted (record { table = table; nodes = ns; scalar = None }) c.in_ok-covered.covered) (sym one)
-    (root_planted c.new.result c.new.ensures table c.in_ok-covered.covered None distinct wide)
+    subst (λ ns. IsPlanted (record { table = table; nodes = ns; scalar = None }) c.in_ok-column.column) (sym one)
+    (root_planted c.new.result c.new.ensures table c.in_ok-column.column None distinct wide)
 
 pub returns-clause-empty : goal.returns-clause-empty
 returns-clause-empty c =
