@@ -13,5 +13,5 @@ pub use question::{Question, Reading};
 pub use oplog::{
     AppliedVector, Command, Delivered, Entry, Expr, ExprStep, Key, Misplaced, NamedVector, Numbers,
     Op, Place, Publish, Reply, Request, Scalar, Shared, Submission, Tag, Text, Val, VersionVector,
-    check_alone, names_members, names_only,
+    check_alone,
 };

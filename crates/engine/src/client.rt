@@ -20,7 +20,7 @@ ghost use Rattle.engine.specs.Clients.{HasNotice, IsAnswered, IsMine, Looks, aft
 
 use crate::pending::Pending;
 use command::{EngineName, Envelope, Notice, ReaderToken, Sender, Taker, Ticket};
-use ids::{Refusal, ReplicaId, ReplicaTable};
+use ids::{Refusal, ReplicaId};
 use replica::{Command, Op, Question, Reading, Reply, Request, Shared, Submission};
 use std::alloc::{AllocError, Global};
 use std::marker::Model;
@@ -312,13 +312,6 @@ impl<N: EngineName> Client<N> {
         ensures legal { IsEntryHistory N.own self.now.seen }
     {
         self.token.seen_len()
-    }
-
-    /// The table of the engine's members.
-    pub fn table(&self) -> &ReplicaTable
-        ensures { result.now ≡ N.table }
-    {
-        self.token.table()
     }
 
     /// Learns of a notice of the same engine: has seen the longer of the two histories from then on. Never waits.

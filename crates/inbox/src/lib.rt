@@ -12,5 +12,5 @@ pub use inbox::Inbox;
 pub use document::{
     AppliedVector, Command, Delivered, Document, Entry, Expr, ExprStep, Key, Misplaced,
     NamedVector, Op, Place, Publish, Question, Reading, Reply, Request, Scalar, Shared, Submission,
-    Tag, Text, Val, VersionVector, check_alone, names_members, names_only,
+    Tag, Text, Val, VersionVector, check_alone,
 };

@@ -52,7 +52,7 @@ fn has_counter(op: &Op) -> bool
 }
 
 /// Whether the id, the vector and the items of the place name members. A binary search for each.
-pub fn names_members(op: &Op, table: &ReplicaTable) -> bool
+fn names_members(op: &Op, table: &ReplicaTable) -> bool
     ensures { result ≡ is_of_members table.now (stamped_of op.now) }
 {
     if table.index_of(op.id.replica).is_none() {

@@ -12,5 +12,5 @@ pub use columns::Numbers;
 pub use operation::{
     AppliedVector, Command, Delivered, Entry, Expr, ExprStep, Key, Misplaced, Mutation,
     NamedVector, Op, Place, Reply, Request, Scalar, Shared, Submission, Tag, Text, Val,
-    VersionVector, check_alone, names_members, names_only,
+    VersionVector, check_alone,
 };

@@ -3,7 +3,6 @@ use Rattle.std.proofs.Common.{◌≡◌, ℕ, List, [], ◌∷◌, ◌++◌, map
 use Rattle.std.specs.List.{All}
 use Rattle.std.proofs.lemmas.List.Elements.{All-nil, All-cons, All-head, All-tail}
 use Rattle.ids.specs.declared.refusal.Refusal.{Refusal}
-use Rattle.ids.specs.Vectors.{names_only}
 use Rattle.semantics.specs.Stamped.{Stamped}
 use Rattle.semantics.specs.Vectors.{Vector}
 use Rattle.engine.specs.operation.declared.op.Op.{Op}
@@ -15,21 +14,16 @@ use Rattle.peer_sync.specs.Sending.{without_end}
 use Rattle.peer_sync.proofs.EndedLines.{without_end-ended}
 
 -- a vector's line with its line feed
-pub hello_back : (table : List ℕ) (v w : Vector) (line text : List ℕ) → w ≡ v → text ≡ line ++ 10 ∷ []
-    → ((ts : List ℕ) → IsTrue (names_only ts w) → IsTrue (are_counters w) → hello_form ts line ≡ Ok w)
-    → IsTrue (names_only table v) × IsTrue (are_counters v) → hello_form table (without_end text) ≡ Ok v
-hello_back table v w line text is ended back sent =
-    ap (hello_form table) (ap without_end ended ∙ without_end-ended line)
-    ∙ back table (subst (λ (u : Vector). IsTrue (names_only table u)) (sym is) sent.0)
-    (subst (λ (u : Vector). IsTrue (are_counters u)) (sym is) sent.1)
+pub hello_back : (v w : Vector) (line text : List ℕ) → w ≡ v → text ≡ line ++ 10 ∷ []
+    → (IsTrue (are_counters w) → hello_form line ≡ Ok w) → IsTrue (are_counters v) → hello_form (without_end text) ≡ Ok v
+hello_back v w line text is ended back sent =
+    ap hello_form (ap without_end ended ∙ without_end-ended line) ∙ back (subst (λ (u : Vector). IsTrue (are_counters u)) (sym is) sent)
     ∙ ap Ok is
 
 -- the vector that was read is the one that the hello has
-pub same_vector : (table ts : List ℕ) (w v : Vector) (text line : List ℕ) → ts ≡ table → line ≡ text → hello_form ts line ≡ Ok w
-    → hello_form table text ≡ Ok v → w ≡ v
-same_vector table ts w v text line same is read form =
-    let here : hello_form table text ≡ Ok w =
-    subst (λ (ps : List ℕ). hello_form ps text ≡ Ok w) same (subst (λ (l : List ℕ). hello_form ts l ≡ Ok w) is read) in
+pub same_vector : (w v : Vector) (text line : List ℕ) → line ≡ text → hello_form line ≡ Ok w → hello_form text ≡ Ok v → w ≡ v
+same_vector w v text line is read form =
+    let here : hello_form text ≡ Ok w = subst (λ (l : List ℕ). hello_form l ≡ Ok w) is read in
     let equal : ◌≡◌ {A = Result Vector Refusal} (Ok w) (Ok v) = sym here ∙ form in
     cc
 
@@ -38,11 +32,9 @@ unmapped P f [] h = All-nil (λ y. P (f y))
 unmapped P f (y ∷ ys) h = All-cons (λ x. P (f x)) y ys (All-head P (f y) (map f ys) h) (unmapped P f ys (All-tail P (f y) (map f ys) h))
 
 -- a bundle, where it is read as its operations
-pub answer_back : (table : List ℕ) (xs ys : List Op) (ss : List Stamped) (text : List ℕ) → ys ≡ xs → map stamped_of xs ≡ ss
-    → ((ts : List ℕ) → All (λ (o : Op). CanBeSent ts (stamped_of o)) ys → bundle_form ts text ≡ Ok (map stamped_of ys))
-    → All (CanBeSent table) ss
-    → bundle_form table text ≡ Ok ss
-answer_back table xs ys ss text slice is back sent =
+pub answer_back : (xs ys : List Op) (ss : List Stamped) (text : List ℕ) → ys ≡ xs → map stamped_of xs ≡ ss
+    → (All (λ (o : Op). CanBeSent (stamped_of o)) ys → bundle_form text ≡ Ok (map stamped_of ys)) → All CanBeSent ss
+    → bundle_form text ≡ Ok ss
+answer_back xs ys ss text slice is back sent =
     let all : map stamped_of ys ≡ ss = ap (map stamped_of) slice ∙ is in
-    back table (unmapped (CanBeSent table) stamped_of ys (subst (λ (rs : List Stamped). All (CanBeSent table) rs) (sym all) sent))
-    ∙ ap Ok all
+    back (unmapped CanBeSent stamped_of ys (subst (λ (rs : List Stamped). All CanBeSent rs) (sym all) sent)) ∙ ap Ok all

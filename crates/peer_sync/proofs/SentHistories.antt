@@ -1,12 +1,11 @@
--- A line can carry all that stands in a history of an engine: its names are of members, and its counters few.
+-- A line can carry all that stands in a history of an engine: its counters are few.
 use Rattle.std.proofs.Common.{◌≡◌, inl, inr, ℕ, ◌<◌, ◌≤◌, true, nat_le, List, [], ◌∷◌, ◌++◌, length, map, refl, sym}
 use Rattle.std.proofs.Common.{subst, arith}
 use Rattle.std.specs.Prelude.{IsTrue}
 use Rattle.std.specs.List.{All, list_all}
 use Rattle.std.proofs.lemmas.Bool.{and_from, and_parts, le-leb}
 use Rattle.std.proofs.lemmas.List.Elements.{All-nil, All-cons, All-head, All-tail}
-use Rattle.ids.specs.Members.{is_member}
-use Rattle.ids.specs.Vectors.{IsNamed, names_only}
+use Rattle.ids.specs.Vectors.{IsNamed}
 use Rattle.semantics.specs.Ids.{OpId, IdSet}
 use Rattle.semantics.specs.Elements.{Element, Doc, Field, Item}
 use Rattle.semantics.specs.Operations.{Operation, element_of}
@@ -25,9 +24,8 @@ use Rattle.semantics.proofs.NamedOperations.{legal}
 use Rattle.semantics.proofs.Replies.{before}
 use Rattle.engine.specs.operation.declared.op.Op.{Op}
 use Rattle.engine.specs.operation.Ops.{stamped_of}
-use Rattle.engine.specs.oplog.Logs.{AreOfMembers}
 use Rattle.engine.specs.published.Beginnings.{IsHistoryOfEngine}
-use Rattle.engine.proofs.oplog.KnownMembers.{attained_all, known_members, names_applied}
+use Rattle.engine.proofs.oplog.KnownMembers.{attained_all}
 use Rattle.wire.specs.Sent.{CanBeSent, are_counters, is_counter, key_counted}
 
 counter_from : (c : ℕ) → 0 < c → c ≤ most_counter → is_counter c ≡ true
@@ -67,58 +65,53 @@ module _ (H : List Operation) (l : IsLegal H) (few : length H ≤ most_counter) 
 
 -- ---- what is sent
 
-one_sent : (table : List ℕ) (G : List Entry) (o : Op) → IsLegal (applied G) → AreOfMembers table G → length G < most_counter
-    → is_member table o.id.replica ≡ true → IsCanonical o.deps → MayFollow (applied G) (stamped_of o) → CanBeSent table (stamped_of o)
-one_sent table G o l known few member canonical may =
+one_sent : (G : List Entry) (o : Op) → IsLegal (applied G) → length G < most_counter → IsCanonical o.deps
+    → MayFollow (applied G) (stamped_of o) → CanBeSent (stamped_of o)
+one_sent G o l few canonical may =
     let same = length-applied G in
     let short : length (applied G) ≤ most_counter = omega (arith, same, few) in
     let longer : IsLegal (operation_after (applied G) (stamped_of o) ∷ applied G) = (l, may.follows) in
     let mine = operation_after (applied G) (stamped_of o) in
     let within = counter_within (mine ∷ applied G) longer mine (inl refl) in
     let some = counter_pos (mine ∷ applied G) longer mine (inl refl) in record {
-      members = known_members table G o known member canonical may;
       id = counter_from o.id.counter some (omega (arith, within, same, few));
       vector = all_few (applied G) l short (stamped_of o).vector
           (attained_all (applied G) (stamped_of o).vector canonical may.attained);
       items = few_items (applied G) l short (names (applied G) (stamped_of o).vector) (element_of o.place) may.follows.items;
     }
 
-stands : (p : ℕ) (table : List ℕ) (G : List Entry) → IsEntryHistory p G → AreOfMembers table G → length G ≤ most_counter → (o : Op)
-    → IsCanonical o.deps → IsAmong (stamped_of o) (stamped_entries G) → CanBeSent table (stamped_of o)
-stands p table [] h known few o canonical m = absurd m
-stands p table (e ∷ G) h known few o canonical (inl is) =
+stands : (p : ℕ) (G : List Entry) → IsEntryHistory p G → length G ≤ most_counter → (o : Op) → IsCanonical o.deps
+    → IsAmong (stamped_of o) (stamped_entries G) → CanBeSent (stamped_of o)
+stands p [] h few o canonical m = absurd m
+stands p (e ∷ G) h few o canonical (inl is) =
     let all = entries_legal p (e ∷ G) h in
-    one_sent table G o (legal (stamped_entries G) all.0) known.0 (omega (arith, few))
-    (subst (λ (s : Stamped). is_member table s.id.replica ≡ true) (sym is) known.1)
-    canonical (subst (MayFollow (applied G)) (sym is) all.1)
-stands p table (e ∷ G) h known few o canonical (inr m) = stands p table G (before p e G h) known.0 (omega (arith, few)) o canonical m
+    one_sent G o (legal (stamped_entries G) all.0) (omega (arith, few)) canonical (subst (MayFollow (applied G)) (sym is) all.1)
+stands p (e ∷ G) h few o canonical (inr m) = stands p G (before p e G h) (omega (arith, few)) o canonical m
 
-all_of : (table : List ℕ) (ops : List Op) → All (λ (o : Op). IsNamed o.deps) ops
-    → ((o : Op) → IsCanonical o.deps → IsAmong (stamped_of o) (map stamped_of ops) → CanBeSent table (stamped_of o))
-    → All (CanBeSent table) (map stamped_of ops)
-all_of table [] named each = All-nil (CanBeSent table)
-all_of table (o ∷ ops) named each =
+all_of : (ops : List Op) → All (λ (o : Op). IsNamed o.deps) ops
+    → ((o : Op) → IsCanonical o.deps → IsAmong (stamped_of o) (map stamped_of ops) → CanBeSent (stamped_of o))
+    → All CanBeSent (map stamped_of ops)
+all_of [] named each = All-nil CanBeSent
+all_of (o ∷ ops) named each =
     let P : Op → Type 0 = λ x. IsNamed x.deps in
-    All-cons (CanBeSent table) (stamped_of o) (map stamped_of ops) (each o (All-head P o ops named).canonical (inl refl))
-    (all_of table ops (All-tail P o ops named) (λ x canonical m. each x canonical (inr m)))
+    All-cons CanBeSent (stamped_of o) (map stamped_of ops) (each o (All-head P o ops named).canonical (inl refl))
+    (all_of ops (All-tail P o ops named) (λ x canonical m. each x canonical (inr m)))
 
 -- each operation that a vector lacks of a history of an engine
-pub lacked_sent : (p : ℕ) (table : List ℕ) (G : List Entry) (v : Vector) (ops : List Op) → IsHistoryOfEngine p table G
-    → All (λ (o : Op). IsNamed o.deps) ops → map stamped_of ops ≡ lacked_of G v → All (CanBeSent table) (lacked_of G v)
-lacked_sent p table G v ops h named is = subst (λ (ss : List Stamped). All (CanBeSent table) ss) is
-    (all_of table ops named (λ o canonical m. stands p table G h.legal h.known (omega (arith, h.few)) o canonical
+pub lacked_sent : (p : ℕ) (members : List ℕ) (G : List Entry) (v : Vector) (ops : List Op) → IsHistoryOfEngine p members G
+    → All (λ (o : Op). IsNamed o.deps) ops → map stamped_of ops ≡ lacked_of G v → All CanBeSent (lacked_of G v)
+lacked_sent p members G v ops h named is = subst (λ (ss : List Stamped). All CanBeSent ss) is
+    (all_of ops named (λ o canonical m. stands p G h.legal (omega (arith, h.few)) o canonical
     (in_filter _ (stamped_entries G) (stamped_of o)
     (in_reverse (missing v (stamped_entries G)) (stamped_of o)
     (subst (λ (ss : List Stamped). IsAmong (stamped_of o) ss) is m)))))
 
 -- the vector of all that was applied
-pub applied_sent : (p : ℕ) (table : List ℕ) (G : List Entry) → IsHistoryOfEngine p table G
-    → IsTrue (names_only table (vector_of (applied G))) × IsTrue (are_counters (vector_of (applied G)))
-applied_sent p table G h =
+pub applied_sent : (p : ℕ) (members : List ℕ) (G : List Entry) → IsHistoryOfEngine p members G
+    → IsTrue (are_counters (vector_of (applied G)))
+applied_sent p members G h =
     let H = applied G in
     let l : IsLegal H = legal (stamped_entries G) (entries_legal p G h.legal) in
-    let few : length H ≤ most_counter = omega (arith, length-applied G, h.few) in (
-      names_applied table G h.known l,
-      all_few H l few (vector_of H)
-          (attained_all H (vector_of H) (canonical-vector_of H (legal_counters H l)) (all_named H (vector_of H) (at-vector_of H)).attained),
-    )
+    let few : length H ≤ most_counter = omega (arith, length-applied G, h.few) in
+    all_few H l few (vector_of H)
+    (attained_all H (vector_of H) (canonical-vector_of H (legal_counters H l)) (all_named H (vector_of H) (at-vector_of H)).attained)

@@ -30,8 +30,8 @@ pub struct Received {
 /// came before that line stays submitted. The bytes may be of any origin. May spin behind another thread that is in the queue, as
 /// `Client::deliver`; never waits for room.
 ///
-/// The result's stop is a fault of the line itself: `BadLine`, also for bytes after the last line feed, `UnknownReplica`, `TooDeep`,
-/// `KeyTooLong`, `TextTooLong` or `NotWhole`; such a line is refused each time. Or it is a refusal of `Client::deliver`: `QueueFull` (give
+/// The result's stop is a fault of the line itself: `BadLine`, also for bytes after the last line feed, `TooDeep`, `KeyTooLong`,
+/// `TextTooLong` or `NotWhole`; such a line is refused each time. Or it is a refusal of `Client::deliver`: `QueueFull` (give
 /// what is left once the writer has stepped), for which the queue was full at one moment of this call, or `SerialEnd`; or `NoMemory` if
 /// allocation fails (give what is left again). Reads each line
 /// whole before it is judged: bound its length. The reply alone says what becomes of each operation.
@@ -43,13 +43,13 @@ pub fn receive<N: EngineName>(
 ) -> Received
     ensures submitted { (ops : List Op) × (length ops ≡ result.submitted)
         × (client.new ≡ record (all_submitted client.old ops) { found_full = client.new.found_full })
-        × (map stamped_of ops ≡ take result.submitted (readable N.table bundle.now).operations) }
+        × (map stamped_of ops ≡ take result.submitted (readable bundle.now).operations) }
     ensures first { result.first_serial ≡ cond (result.submitted == 0) 0 (length client.old.kept + 1) }
     ensures serials { (result.submitted ≡ 0) ⊎ (length client.new.kept ≤ client.new.serials) }
     ensures stopped { MatchOption result.stopped
-        (EndsAfter (readable N.table bundle.now) result.submitted × (client.new.found_full ≡ client.old.found_full))
+        (EndsAfter (readable bundle.now) result.submitted × (client.new.found_full ≡ client.old.found_full))
         (λ stop. (stop.0 ≡ result.submitted + 1)
-        × StopsAfter (readable N.table bundle.now) result.submitted client.old.found_full client.new stop.1) }
+        × StopsAfter (readable bundle.now) result.submitted client.old.found_full client.new stop.1) }
 {
     let mut lines = Lines::new(bundle);
     let mut received = Received {
@@ -90,16 +90,16 @@ fn submit_line<N: EngineName>(
     line: &[u8],
 ) -> Result<Ticket, Refusal>
     ensures ok { IfOk result
-        (λ ticket. (op : Op) × (op_form N.table line.now ≡ Ok (stamped_of op))
+        (λ ticket. (op : Op) × (op_form line.now ≡ Ok (stamped_of op))
         × (client.new ≡ submitted client.old op) × (ticket.serial ≡ length client.old.kept + 1)
         × (length client.new.kept ≤ client.new.serials)) }
     ensures err { IfErr result
         (λ why. (client.new ≡ record client.old { found_full = client.new.found_full })
         × (((why ≡ NoMemory) × (client.new.found_full ≡ client.old.found_full))
-        ⊎ ((op_form N.table line.now ≡ Err why) × (client.new.found_full ≡ client.old.found_full))
-        ⊎ ((op : Op) × (op_form N.table line.now ≡ Ok (stamped_of op)) × IsDenied client.old.found_full client.new why))) }
+        ⊎ ((op_form line.now ≡ Err why) × (client.new.found_full ≡ client.old.found_full))
+        ⊎ ((op : Op) × (op_form line.now ≡ Ok (stamped_of op)) × IsDenied client.old.found_full client.new why))) }
 {
-    let op = read_op(alloc, line, client.table())?;
+    let op = read_op(alloc, line)?;
     client.deliver(rt, alloc, op)
 }
 

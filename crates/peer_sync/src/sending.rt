@@ -15,8 +15,8 @@ use ids::Refusal;
 use std::alloc::Global;
 use wire::{read_vector, write_bundle, write_vector};
 
-/// The line, with its line feed, of the vector of all that the token sees in this read, which it has then seen. A peer with the same
-/// members reads it as that vector.
+/// The line, with its line feed, of the vector of all that the token sees in this read, which it has then seen. A peer reads it as
+/// that vector.
 ///
 /// # Errors
 /// `NoReading` if the copies gave no reading, `NoMemory` if allocation fails. The token may then have seen more than before, never
@@ -25,7 +25,7 @@ pub fn hello<N: EngineName>(alloc: Global, token: &mut ReaderToken<N>) -> Result
     ensures grows { BeginsWith token.new.seen token.old.seen }
     ensures legal { IsEntryHistory N.own token.new.seen }
     ensures line { IfOk result (λ text. text.items ≡ hello_text token.new.seen) }
-    ensures reads_back { IfOk result (λ text. hello_form N.table (without_end text.items) ≡ Ok (vector_of (applied token.new.seen))) }
+    ensures reads_back { IfOk result (λ text. hello_form (without_end text.items) ≡ Ok (vector_of (applied token.new.seen))) }
     ensures published { IfOk result (λ _. token.new.read ≡ token.new.seen) }
     ensures err { IfErr result (λ why. (why ≡ NoMemory) ⊎ (why ≡ NoReading)) }
 {
@@ -38,14 +38,13 @@ pub fn hello<N: EngineName>(alloc: Global, token: &mut ReaderToken<N>) -> Result
 }
 
 /// The answer to a hello, which is given with its line feed or without it: the lines, each with its line feed, of the operations that
-/// its vector doesn't cover, the oldest first, of all that the token sees in this one read. The token has then seen that. A peer with the
-/// same members reads the same operations. Takes time and memory in proportion to what is lacked: for the empty vector the whole history
+/// its vector doesn't cover, the oldest first, of all that the token sees in this one read. The token has then seen that. A peer reads
+/// the same operations. Takes time and memory in proportion to what is lacked: for the empty vector the whole history
 /// as one text.
 ///
 /// # Errors
-/// First those of the hello: `BadLine` if it is no such line, `UnknownReplica` if it names a replica that isn't a member, as
-/// `read_vector` has them; the token is as before then. Then `NoReading` if the copies gave no reading: the token may have seen more,
-/// never less. `NoMemory`, at any moment, if allocation fails.
+/// First `BadLine` if the hello is no such line, as `read_vector` has it; the token is as before then. Then `NoReading` if the copies gave
+/// no reading: the token may have seen more, never less. `NoMemory`, at any moment, if allocation fails.
 pub fn answer<N: EngineName>(
     alloc: Global,
     token: &mut ReaderToken<N>,
@@ -54,19 +53,19 @@ pub fn answer<N: EngineName>(
     ensures grows { BeginsWith token.new.seen token.old.seen }
     ensures legal { IsEntryHistory N.own token.new.seen }
     ensures lines { IfOk result
-        (λ text. (v : Vector) × (hello_form N.table (without_end hello.now) ≡ Ok v)
+        (λ text. (v : Vector) × (hello_form (without_end hello.now) ≡ Ok v)
         × (text.items ≡ bundle_text (lacked_of token.new.seen v))) }
     ensures reads_back { IfOk result
-        (λ text. (v : Vector) → hello_form N.table (without_end hello.now) ≡ Ok v
-        → bundle_form N.table text.items ≡ Ok (lacked_of token.new.seen v)) }
+        (λ text. (v : Vector) → hello_form (without_end hello.now) ≡ Ok v
+        → bundle_form text.items ≡ Ok (lacked_of token.new.seen v)) }
     ensures published { IfOk result (λ _. token.new.read ≡ token.new.seen) }
-    ensures err { IfErr result (λ why. (why ≡ NoMemory) ⊎ (why ≡ NoReading) ⊎ (hello_form N.table (without_end hello.now) ≡ Err why)) }
-    ensures bad { IfErr (hello_form N.table (without_end hello.now))
+    ensures err { IfErr result (λ why. (why ≡ NoMemory) ⊎ (why ≡ NoReading) ⊎ (hello_form (without_end hello.now) ≡ Err why)) }
+    ensures bad { IfErr (hello_form (without_end hello.now))
         (λ why. ((result ≡ Err why) ⊎ (result ≡ Err NoMemory)) × (token.new ≡ token.old)) }
 {
     // What a token has seen is an entry history, also where the hello is refused.
     prove!(token.seen_len() <= usize::MAX);
-    let vector = read_vector(alloc, without_end(hello), token.table())?;
+    let vector = read_vector(alloc, without_end(hello))?;
     let ops = token.missing(alloc, &vector)?;
     // It is a history of its engine, so a line can carry each of its operations.
     prove!(token.seen_len() <= usize::MAX);

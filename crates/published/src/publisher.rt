@@ -21,7 +21,7 @@ use crate::seen::View;
 use crate::token::{ReaderToken, Sees, Shown};
 use core::mem::replace_with;
 use document::{Document, Entry};
-use ids::{MOST_NAMED, Refusal, ReplicaTable};
+use ids::{MOST_NAMED, Refusal};
 use left_right::writer::Writer;
 use logbook::Word;
 use std::alloc::{AllocError, Global};
@@ -80,9 +80,6 @@ pub fn open<N: EngineName>(
     ensures tokens { IfOk result (λ r. (length r.1.items ≡ readers) × All (λ s. s.seen ≡ []) r.1.items) }
     ensures err { IfErr result (λ why. (why ≡ NoMemory) ⊎ (why ≡ NoReaderPlace)) }
 {
-    let Ok(table) = first.table().clone() else {
-        return Err(Refusal::NoMemory);
-    };
     let (head, all) = opened.start();
     let first = Copy {
         alloc,
@@ -97,7 +94,7 @@ pub fn open<N: EngineName>(
     let Ok(writer) = Writer::new(alloc, first, second, readers) else {
         return Err(Refusal::NoMemory);
     };
-    match tokens::<N>(alloc, &writer, &all, &table, readers) {
+    match tokens::<N>(alloc, &writer, &all, readers) {
         Ok(tokens) => Ok((
             Publisher {
                 writer,
@@ -119,10 +116,9 @@ fn tokens<N: EngineName>(
     alloc: Global,
     writer: &Writer<Copy, Pending, View, Shown<N>>,
     all: &Point,
-    table: &ReplicaTable,
     readers: usize,
 ) -> Result<Vec<ReaderToken<N>>, Refusal>
-    requires { (all.now.log ≡ []) × (all.now.book ≡ N.book) × (table.now ≡ N.table) }
+    requires { (all.now.log ≡ []) × (all.now.book ≡ N.book) }
     ensures tokens { IfOk result (λ v. (length v.items ≡ readers) × All (λ s. s.seen ≡ []) v.items) }
     ensures err { IfErr result (λ why. (why ≡ NoMemory) ⊎ (why ≡ NoReaderPlace)) }
 {
@@ -131,7 +127,7 @@ fn tokens<N: EngineName>(
         let Ok(reader) = writer.factory().reader() else {
             return Err(Refusal::NoReaderPlace);
         };
-        let token = ReaderToken::new(reader, all.again(), table.clone()?);
+        let token = ReaderToken::new(reader, all.again());
         tokens.push(token)?;
     }
     Ok(tokens)

@@ -22,7 +22,7 @@ use crate::notice::{EngineName, Notice};
 use crate::seen::View;
 use crossbeam_utils::rule::{Outcome, Protocol};
 use document::{NamedVector, Op, Question, Reading as Answer, Shared};
-use ids::{Refusal, ReplicaTable};
+use ids::Refusal;
 use left_right::reader::{Reader, Reading};
 use std::alloc::Global;
 use std::marker::{Model, PhantomData};
@@ -59,7 +59,6 @@ impl<N: EngineName> Outcome<Copy, View> for Sees<N> {
 pub struct ReaderToken<N: EngineName> {
     reader: Option<Reader<Copy, View, Shown<N>>>,
     seen: Point,
-    table: ReplicaTable,
 }
 
 impl<N: EngineName> Model for ReaderToken<N> {
@@ -80,16 +79,11 @@ impl<N: EngineName> Model for ReaderToken<N> {
       reads = reads_of s.reader;
     } };
 
-    ghost invariant = { λ s. (s.seen.book ≡ N.book) × IsHistoryOfEngine N.own N.table (history s.seen.log) × (s.table ≡ N.table) };
+    ghost invariant = { λ s. (s.seen.book ≡ N.book) × IsHistoryOfEngine N.own N.table (history s.seen.log) };
 }
 
 impl<N: EngineName> ReaderToken<N> {
-    pub(crate) fn new(
-        reader: Reader<Copy, View, Shown<N>>,
-        seen: Point,
-        table: ReplicaTable,
-    ) -> ReaderToken<N>
-        requires table { table ≡ N.table }
+    pub(crate) fn new(reader: Reader<Copy, View, Shown<N>>, seen: Point) -> ReaderToken<N>
         requires book { seen.book ≡ N.book }
         requires legal { IsHistoryOfEngine N.own N.table (history seen.log) }
         ensures { result.seen ≡ history seen.log }
@@ -97,15 +91,7 @@ impl<N: EngineName> ReaderToken<N> {
         ReaderToken {
             reader: Some(reader),
             seen,
-            table,
         }
-    }
-
-    /// The table of the engine's members.
-    pub fn table(&self) -> &ReplicaTable
-        ensures { result.now ≡ N.table }
-    {
-        &self.table
     }
 
     /// How many entries it has seen.

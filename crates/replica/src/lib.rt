@@ -13,5 +13,5 @@ pub use replica::Replica;
 pub use inbox::{
     AppliedVector, Command, Delivered, Document, Entry, Expr, ExprStep, Key, NamedVector, Op,
     Publish, Question, Reading, Reply, Request, Scalar, Shared, Submission, Tag, Text, Val,
-    VersionVector, names_members, names_only,
+    VersionVector,
 };

@@ -1,5 +1,4 @@
 pub mod StepsLeft
 pub mod Tokens
 pub mod WrongLengths
-pub mod AskedTables
 pub mod WrittenBack

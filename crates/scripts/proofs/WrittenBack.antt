@@ -23,12 +23,11 @@ use Rattle.world.specs.wire.Vectors.{vector_form, vector_json}
 use Rattle.world.proofs.wire.NormalNumbers.{AreNormal, IsNormal}
 use Rattle.world.proofs.wire.WrittenBack.{made_of, list_in, number_in, phrase_in, same_ok, value_in, vector_in, word_is}
 use Rattle.world.proofs.wire.WrittenLines.{json_normal}
-use Rattle.world.specs.Worlds.{table_at}
 use Rattle.scripts.specs.Expressions.{expression_form, path_step_form, path_steps_of}
 use Rattle.scripts.specs.NumberedSteps.{engine_step_of, message_step_of, numbered_step_of}
 use Rattle.scripts.specs.Numbers.{one_number, two_numbers, three_numbers, four_numbers}
-use Rattle.scripts.specs.Requests.{applied_of, as_bad_line, asking_of, command_form, command_of, delete_of, missing_of, question_form}
-use Rattle.scripts.specs.Requests.{question_of, script_vector, writing_of}
+use Rattle.scripts.specs.Requests.{applied_of, asking_of, command_form, command_of, delete_of, missing_of, question_form}
+use Rattle.scripts.specs.Requests.{question_of, writing_of}
 use Rattle.scripts.specs.Steps.{any_step_of, ask_of, line_of, lines_step, push_of, step_form}
 use Rattle.scripts.specs.Written.{ask_json, command_json, expression_json, path_step_json, push_json, question_json}
 
@@ -127,25 +126,20 @@ asking_written what word want xs q is h written =
     let e = asking_in what xs q h in
     (λ i. worded (word_is word want is i) (e.1 i)) ∙ written e.0 ∙ ap question_json e.2
 
-vector_read : (r : Result Vector Refusal) (v : Vector) → as_bad_line r ≡ Ok v → r ≡ Ok v
-vector_read (Ok w) v h = h
-vector_read (Err why) v h = absurd (cc)
-
-missing_in : (table : Option (List ℕ)) (xs : Items) (q : Asked) → missing_of table xs ≡ Ok q → worded (codes "missing") xs ≡ question_json q
-missing_in (Some table) (item d no_items) q h =
-    let v = made_of (λ v. Ok (Missing v)) (script_vector table d) q h in
-    let is : d ≡ vector_json v.0 = vector_in table d v.0 (vector_read (vector_form table d) v.0 v.1) in
+missing_in : (xs : Items) (q : Asked) → missing_of xs ≡ Ok q → worded (codes "missing") xs ≡ question_json q
+missing_in (item d no_items) q h =
+    let v = made_of (λ v. Ok (Missing v)) (vector_form d) q h in
+    let is : d ≡ vector_json v.0 = vector_in d v.0 v.1 in
     (λ i. worded (codes "missing") (item (is i) no_items)) ∙ ap question_json (same_ok (Missing v.0) q v.2)
-missing_in (Some table) no_items q h = absurd (cc)
-missing_in (Some table) (item d (item x xs)) q h = absurd (cc)
-missing_in None xs q h = absurd (cc)
+missing_in no_items q h = absurd (cc)
+missing_in (item d (item x xs)) q h = absurd (cc)
 
 applied_in : (xs : Items) (q : Asked) → applied_of xs ≡ Ok q → worded (codes "vector") xs ≡ question_json q
 applied_in no_items q h = ap question_json (same_ok (OfDocument AppliedVector) q h)
 applied_in (item x xs) q h = absurd (cc)
 
-question_in : (table : Option (List ℕ)) (d : Data) (q : Asked) → question_form table d ≡ Ok q → d ≡ question_json q
-question_in table d q h = let p = made_of (question_of table) (phrase_form d) q h in phrase_in d p.0 p.1
+question_in : (d : Data) (q : Asked) → question_form d ≡ Ok q → d ≡ question_json q
+question_in d q h = let p = made_of question_of (phrase_form d) q h in phrase_in d p.0 p.1
     ∙ by p.0.0 p.0.1 (bytes_eq p.0.0 (codes "values")) (bytes_eq p.0.0 (codes "keys")) (bytes_eq p.0.0 (codes "items"))
     (bytes_eq p.0.0 (codes "conflicts")) (bytes_eq p.0.0 (codes "missing"))
     (bytes_eq p.0.0 (codes "vector")) refl refl refl refl refl refl p.2
@@ -156,7 +150,7 @@ question_in table d q h = let p = made_of (question_of table) (phrase_form d) q 
         → cond vs (asking_of Values xs)
         (cond ks (asking_of Keys xs)
         (cond is (asking_of ItemsAt xs)
-        (cond cs (asking_of Conflicts xs) (cond m (missing_of table xs) (cond v (applied_of xs) (Err BadLine))))))
+        (cond cs (asking_of Conflicts xs) (cond m (missing_of xs) (cond v (applied_of xs) (Err BadLine))))))
         ≡ Ok q
         → worded word xs ≡ question_json q
     by word xs true ks is cs m v a b c d e f h = asking_written Values word (codes "values") xs q a h (λ e. refl)
@@ -164,7 +158,7 @@ question_in table d q h = let p = made_of (question_of table) (phrase_form d) q 
     by word xs false false true cs m v a b c d e f h = asking_written ItemsAt word (codes "items") xs q c h (λ e. refl)
     by word xs false false false true m v a b c d e f h = asking_written Conflicts word (codes "conflicts") xs q d h (λ e. refl)
     by word xs false false false false true v a b c d e f h = ap (λ w. worded w xs) (word_is word (codes "missing") e)
-        ∙ missing_in table xs q h
+        ∙ missing_in xs q h
     by word xs false false false false false true a b c d e f h = ap (λ w. worded w xs) (word_is word (codes "vector") f)
         ∙ applied_in xs q h
     by word xs false false false false false false a b c d e f h = absurd (cc)
@@ -194,38 +188,38 @@ push_in (item a no_items) s normal h = absurd (cc)
 push_in (item a (item b no_items)) s normal h = absurd (cc)
 push_in (item a (item b (item d (item x xs)))) s normal h = absurd (cc)
 
-ask_in : (tables : List (List ℕ)) (xs : Items) (s : WorldStep) → ask_of tables xs ≡ Ok s → HasJson (worded (codes "ask") xs) s
-ask_in tables (item a (item b (item d no_items))) s h =
-    let e = made_of (λ e. and_then (λ t. and_then (λ q. Ok (step_by e (Ask t q))) (question_form (slice_get tables e) d)) (number_form b))
+ask_in : (xs : Items) (s : WorldStep) → ask_of xs ≡ Ok s → HasJson (worded (codes "ask") xs) s
+ask_in (item a (item b (item d no_items))) s h =
+    let e = made_of (λ e. and_then (λ t. and_then (λ q. Ok (step_by e (Ask t q))) (question_form d)) (number_form b))
     (number_form a) s h in
-    let t = made_of (λ t. and_then (λ q. Ok (step_by e.0 (Ask t q))) (question_form (slice_get tables e.0) d)) (number_form b) s e.2 in
-    let q = made_of (λ q. Ok (step_by e.0 (Ask t.0 q))) (question_form (slice_get tables e.0) d) s t.2 in
+    let t = made_of (λ t. and_then (λ q. Ok (step_by e.0 (Ask t q))) (question_form d)) (number_form b) s e.2 in
+    let q = made_of (λ q. Ok (step_by e.0 (Ask t.0 q))) (question_form d) s t.2 in
     let is : worded (codes "ask") (item a (item b (item d no_items))) ≡ ask_json e.0 t.0 q.0 =
     (λ i. worded (codes "ask")
-    (item (number_in a e.0 e.1 i) (item (number_in b t.0 t.1 i) (item (question_in (slice_get tables e.0) d q.0 q.1 i) no_items)))) in
+    (item (number_in a e.0 e.1 i) (item (number_in b t.0 t.1 i) (item (question_in d q.0 q.1 i) no_items)))) in
     subst (HasJson (worded (codes "ask") (item a (item b (item d no_items))))) (same_ok (step_by e.0 (Ask t.0 q.0)) s q.2) is
-ask_in tables no_items s h = absurd (cc)
-ask_in tables (item a no_items) s h = absurd (cc)
-ask_in tables (item a (item b no_items)) s h = absurd (cc)
-ask_in tables (item a (item b (item d (item x xs)))) s h = absurd (cc)
+ask_in no_items s h = absurd (cc)
+ask_in (item a no_items) s h = absurd (cc)
+ask_in (item a (item b no_items)) s h = absurd (cc)
+ask_in (item a (item b (item d (item x xs)))) s h = absurd (cc)
 
 -- a step that is made of other parts holds neither
 other_in : {A : Type 0} (d : Data) (f : A → WorldStep) (r : Result A Refusal) (s : WorldStep) → ((x : A) → HasJson d (f x))
     → and_then (λ x. Ok (f x)) r ≡ Ok s → HasJson d s
 other_in d f r s none h = let x = made_of (λ x. Ok (f x)) r s h in subst (HasJson d) (same_ok (f x.0) s x.2) (none x.0)
 
-line_in : (d : Data) (tables : List (List ℕ)) (xs : Items) (s : WorldStep) → line_of tables xs ≡ Ok s → HasJson d s
-line_in d tables (item a (item b (item t no_items))) s h =
+line_in : (d : Data) (xs : Items) (s : WorldStep) → line_of xs ≡ Ok s → HasJson d s
+line_in d (item a (item b (item t no_items))) s h =
     let e = made_of
-    (λ e. and_then (λ c. and_then (λ bytes. Ok (lines_step e c (readable (table_at tables e) bytes))) (text_form t)) (number_form b))
+    (λ e. and_then (λ c. and_then (λ bytes. Ok (lines_step e c (readable bytes))) (text_form t)) (number_form b))
     (number_form a) s h in
-    let c = made_of (λ c. and_then (λ bytes. Ok (lines_step e.0 c (readable (table_at tables e.0) bytes))) (text_form t))
+    let c = made_of (λ c. and_then (λ bytes. Ok (lines_step e.0 c (readable bytes))) (text_form t))
     (number_form b) s e.2 in
-    other_in d (λ bytes. lines_step e.0 c.0 (readable (table_at tables e.0) bytes)) (text_form t) s (λ bytes. tt) c.2
-line_in d tables no_items s h = absurd (cc)
-line_in d tables (item a no_items) s h = absurd (cc)
-line_in d tables (item a (item b no_items)) s h = absurd (cc)
-line_in d tables (item a (item b (item t (item x xs)))) s h = absurd (cc)
+    other_in d (λ bytes. lines_step e.0 c.0 (readable bytes)) (text_form t) s (λ bytes. tt) c.2
+line_in d no_items s h = absurd (cc)
+line_in d (item a no_items) s h = absurd (cc)
+line_in d (item a (item b no_items)) s h = absurd (cc)
+line_in d (item a (item b (item t (item x xs)))) s h = absurd (cc)
 
 -- one word's step, or what the other words give
 one_word : (d : Data) (t : Bool) (r rest : Result WorldStep Refusal) (s : WorldStep) → (r ≡ Ok s → HasJson d s)
@@ -257,9 +251,9 @@ numbered_step_in d p s =
     (one_word d (bytes_eq p.0 (codes "learn")) _ _ s
     (other_in d (λ (n : ℕ × ℕ × ℕ × ℕ). step_by n.0 (Learn n.1 n.2 n.3)) (four_numbers p.1) s (λ n. tt)) (message_step_in d p s))
 
-step_in : (tables : List (List ℕ)) (d : Data) (s : WorldStep) → IsNormal d → step_form tables d ≡ Ok s → HasJson d s
-step_in tables d s normal h =
-    let p = made_of (any_step_of tables) (phrase_form d) s h in
+step_in : (d : Data) (s : WorldStep) → IsNormal d → step_form d ≡ Ok s → HasJson d s
+step_in d s normal h =
+    let p = made_of any_step_of (phrase_form d) s h in
     let is = phrase_in d p.0 p.1 in
     subst (λ x. HasJson x s) (sym is)
     (by p.0.0 p.0.1 (bytes_eq p.0.0 (codes "push")) (bytes_eq p.0.0 (codes "ask")) (bytes_eq p.0.0 (codes "line")) refl refl
@@ -267,33 +261,33 @@ step_in tables d s normal h =
   where
     by : (word : List ℕ) (xs : Items) (push ask line : Bool) → bytes_eq word (codes "push") ≡ push → bytes_eq word (codes "ask") ≡ ask
         → AreNormal xs
-        → cond push (push_of xs) (cond ask (ask_of tables xs) (cond line (line_of tables xs) (numbered_step_of (word, xs)))) ≡ Ok s
+        → cond push (push_of xs) (cond ask (ask_of xs) (cond line (line_of xs) (numbered_step_of (word, xs)))) ≡ Ok s
         → HasJson (worded word xs) s
     by word xs true ask line is_push is_ask n e = subst (λ w. HasJson (worded w xs) s) (sym (word_is word (codes "push") is_push))
         (push_in xs s n e)
     by word xs false true line is_push is_ask n e = subst (λ w. HasJson (worded w xs) s) (sym (word_is word (codes "ask") is_ask))
-        (ask_in tables xs s e)
-    by word xs false false true is_push is_ask n e = line_in (worded word xs) tables xs s e
+        (ask_in xs s e)
+    by word xs false false true is_push is_ask n e = line_in (worded word xs) xs s e
     by word xs false false false is_push is_ask n e = numbered_step_in (worded word xs) (word, xs) s e
 
 -- ---- lines
 
-pub push_line_in : (tables : List (List ℕ)) (text : List ℕ) (e c : ℕ) (k : Command)
-    → and_then (step_form tables) (json_form text) ≡ Ok (step_by e (Push c k)) → json_form text ≡ Ok (push_json e c k)
-push_line_in tables text e c k h =
-    let d = made_of (step_form tables) (json_form text) (step_by e (Push c k)) h in
-    d.1 ∙ ap Ok (step_in tables d.0 (step_by e (Push c k)) (json_normal text d.0 d.1) d.2)
+pub push_line_in : (text : List ℕ) (e c : ℕ) (k : Command)
+    → and_then step_form (json_form text) ≡ Ok (step_by e (Push c k)) → json_form text ≡ Ok (push_json e c k)
+push_line_in text e c k h =
+    let d = made_of step_form (json_form text) (step_by e (Push c k)) h in
+    d.1 ∙ ap Ok (step_in d.0 (step_by e (Push c k)) (json_normal text d.0 d.1) d.2)
 
-pub ask_line_in : (tables : List (List ℕ)) (text : List ℕ) (e t : ℕ) (q : Asked)
-    → and_then (step_form tables) (json_form text) ≡ Ok (step_by e (Ask t q)) → json_form text ≡ Ok (ask_json e t q)
-ask_line_in tables text e t q h =
-    let d = made_of (step_form tables) (json_form text) (step_by e (Ask t q)) h in
-    d.1 ∙ ap Ok (step_in tables d.0 (step_by e (Ask t q)) (json_normal text d.0 d.1) d.2)
+pub ask_line_in : (text : List ℕ) (e t : ℕ) (q : Asked)
+    → and_then step_form (json_form text) ≡ Ok (step_by e (Ask t q)) → json_form text ≡ Ok (ask_json e t q)
+ask_line_in text e t q h =
+    let d = made_of step_form (json_form text) (step_by e (Ask t q)) h in
+    d.1 ∙ ap Ok (step_in d.0 (step_by e (Ask t q)) (json_normal text d.0 d.1) d.2)
 
 pub command_text_in : (text : List ℕ) (c : Command) → and_then command_form (json_form text) ≡ Ok c → json_form text ≡ Ok (command_json c)
 command_text_in text c h =
     let d = made_of command_form (json_form text) c h in d.1 ∙ ap Ok (command_in d.0 c (json_normal text d.0 d.1) d.2)
 
-pub question_text_in : (table : Option (List ℕ)) (text : List ℕ) (q : Asked) → and_then (question_form table) (json_form text) ≡ Ok q
+pub question_text_in : (text : List ℕ) (q : Asked) → and_then question_form (json_form text) ≡ Ok q
     → json_form text ≡ Ok (question_json q)
-question_text_in table text q h = let d = made_of (question_form table) (json_form text) q h in d.1 ∙ ap Ok (question_in table d.0 q d.2)
+question_text_in text q h = let d = made_of question_form (json_form text) q h in d.1 ∙ ap Ok (question_in d.0 q d.2)

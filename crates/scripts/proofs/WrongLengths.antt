@@ -45,10 +45,10 @@ asking_of-wrong_length what [] h = refl
 asking_of-wrong_length what (a ∷ []) h = absurd (h refl)
 asking_of-wrong_length what (a ∷ b ∷ xs) h = refl
 
-pub missing_of-wrong_length : (table : List ℕ) → (xs : List Value) → length xs ≢ 1 → missing_of (Some table) (items_view xs) ≡ Err BadLine
-missing_of-wrong_length table [] h = refl
-missing_of-wrong_length table (a ∷ []) h = absurd (h refl)
-missing_of-wrong_length table (a ∷ b ∷ xs) h = refl
+pub missing_of-wrong_length : (xs : List Value) → length xs ≢ 1 → missing_of (items_view xs) ≡ Err BadLine
+missing_of-wrong_length [] h = refl
+missing_of-wrong_length (a ∷ []) h = absurd (h refl)
+missing_of-wrong_length (a ∷ b ∷ xs) h = refl
 
 pub applied_of-wrong_length : (xs : List Value) → length xs ≢ 0 → applied_of (items_view xs) ≡ Err BadLine
 applied_of-wrong_length [] h = absurd (h refl)
@@ -61,19 +61,19 @@ push_of-wrong_length (a ∷ b ∷ []) h = refl
 push_of-wrong_length (a ∷ b ∷ d ∷ []) h = absurd (h refl)
 push_of-wrong_length (a ∷ b ∷ d ∷ e ∷ xs) h = refl
 
-pub ask_of-wrong_length : (tables : List (List ℕ)) → (xs : List Value) → length xs ≢ 3 → ask_of tables (items_view xs) ≡ Err BadLine
-ask_of-wrong_length tables [] h = refl
-ask_of-wrong_length tables (a ∷ []) h = refl
-ask_of-wrong_length tables (a ∷ b ∷ []) h = refl
-ask_of-wrong_length tables (a ∷ b ∷ d ∷ []) h = absurd (h refl)
-ask_of-wrong_length tables (a ∷ b ∷ d ∷ e ∷ xs) h = refl
+pub ask_of-wrong_length : (xs : List Value) → length xs ≢ 3 → ask_of (items_view xs) ≡ Err BadLine
+ask_of-wrong_length [] h = refl
+ask_of-wrong_length (a ∷ []) h = refl
+ask_of-wrong_length (a ∷ b ∷ []) h = refl
+ask_of-wrong_length (a ∷ b ∷ d ∷ []) h = absurd (h refl)
+ask_of-wrong_length (a ∷ b ∷ d ∷ e ∷ xs) h = refl
 
-pub line_of-wrong_length : (tables : List (List ℕ)) → (xs : List Value) → length xs ≢ 3 → line_of tables (items_view xs) ≡ Err BadLine
-line_of-wrong_length tables [] h = refl
-line_of-wrong_length tables (a ∷ []) h = refl
-line_of-wrong_length tables (a ∷ b ∷ []) h = refl
-line_of-wrong_length tables (a ∷ b ∷ d ∷ []) h = absurd (h refl)
-line_of-wrong_length tables (a ∷ b ∷ d ∷ e ∷ xs) h = refl
+pub line_of-wrong_length : (xs : List Value) → length xs ≢ 3 → line_of (items_view xs) ≡ Err BadLine
+line_of-wrong_length [] h = refl
+line_of-wrong_length (a ∷ []) h = refl
+line_of-wrong_length (a ∷ b ∷ []) h = refl
+line_of-wrong_length (a ∷ b ∷ d ∷ []) h = absurd (h refl)
+line_of-wrong_length (a ∷ b ∷ d ∷ e ∷ xs) h = refl
 
 pub one_number-wrong_length : (xs : List Value) → length xs ≢ 1 → one_number (items_view xs) ≡ Err BadLine
 one_number-wrong_length [] h = refl

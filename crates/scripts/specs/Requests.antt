@@ -1,5 +1,5 @@
 -- What a COMMAND and a QUESTION of a script are.
-use Rattle.std.specs.Prelude.{ℕ, List, codes, Option, Some, None, Result, Ok, Err, if◌then◌else◌}
+use Rattle.std.specs.Prelude.{ℕ, List, codes, Result, Ok, Err, if◌then◌else◌}
 use Rattle.std.specs.Str.{bytes_eq}
 use Rattle.ids.specs.declared.refusal.Refusal.{Refusal}
 use Rattle.ids.specs.declared.refusal.Refusal.TheVariants.{BadLine}
@@ -7,7 +7,6 @@ use Rattle.semantics.specs.Elements.{Value}
 use Rattle.semantics.specs.Operations.{Mutation, Assign, Insert, Delete}
 use Rattle.semantics.specs.Making.{Command}
 use Rattle.semantics.specs.Questions.{Step, Question, Values, Keys, Items as ItemsAt, Conflicts, AppliedVector}
-use Rattle.semantics.specs.Vectors.{Vector}
 use Rattle.semantics.specs.LegalAnswer.{Asked, OfDocument, Missing}
 use Rattle.serde_json.specs.Data.{Data, Items, no_items, item}
 use Rattle.world.specs.value.Forms.{value_form}
@@ -45,20 +44,10 @@ abbrev pub asking_of : (List Step → Question) → Items → Result Asked Refus
 asking_of what (item expression no_items) = and_then (λ e. Ok (OfDocument (what e))) (expression_form expression)
 asking_of what _ = Err BadLine
 
--- all refusals are `BadLine`
-abbrev pub as_bad_line : {T : Type 0} → Result T Refusal → Result T Refusal
-as_bad_line (Ok x) = Ok x
-as_bad_line (Err why) = Err BadLine
-
--- a vector of replicas of the table; whatever is wrong with one in a script is `BadLine`
-abbrev pub script_vector : List ℕ → Data → Result Vector Refusal
-script_vector table d = as_bad_line (vector_form table d)
-
--- a vector, where there is a table
-abbrev pub missing_of : Option (List ℕ) → Items → Result Asked Refusal
-missing_of None parts = Err BadLine
-missing_of (Some table) (item vector no_items) = and_then (λ v. Ok (Missing v)) (script_vector table vector)
-missing_of (Some table) _ = Err BadLine
+-- a vector
+abbrev pub missing_of : Items → Result Asked Refusal
+missing_of (item vector no_items) = and_then (λ v. Ok (Missing v)) (vector_form vector)
+missing_of _ = Err BadLine
 
 -- nothing
 abbrev pub applied_of : Items → Result Asked Refusal
@@ -66,14 +55,14 @@ applied_of no_items = Ok (OfDocument AppliedVector)
 applied_of (item _ _) = Err BadLine
 
 -- by its word
-abbrev pub question_of : Option (List ℕ) → List ℕ × Items → Result Asked Refusal
-question_of table p = if bytes_eq p.0 (codes "values") then asking_of Values p.1
+abbrev pub question_of : List ℕ × Items → Result Asked Refusal
+question_of p = if bytes_eq p.0 (codes "values") then asking_of Values p.1
     else (if bytes_eq p.0 (codes "keys") then asking_of Keys p.1
     else (if bytes_eq p.0 (codes "items") then asking_of ItemsAt p.1
     else (if bytes_eq p.0 (codes "conflicts") then asking_of Conflicts p.1
-    else (if bytes_eq p.0 (codes "missing") then missing_of table p.1
+    else (if bytes_eq p.0 (codes "missing") then missing_of p.1
     else (if bytes_eq p.0 (codes "vector") then applied_of p.1 else Err BadLine)))))
 
--- a question to an engine with this table, if it is there
-abbrev pub question_form : Option (List ℕ) → Data → Result Asked Refusal
-question_form table d = and_then (question_of table) (phrase_form d)
+-- a list of a word and its parts
+abbrev pub question_form : Data → Result Asked Refusal
+question_form d = and_then question_of (phrase_form d)

@@ -1,15 +1,13 @@
 -- What a line of a script is as a step.
-use Rattle.std.specs.Prelude.{ℕ, List, codes, map, Result, Ok, Err, if◌then◌else◌, slice_get}
+use Rattle.std.specs.Prelude.{ℕ, List, codes, Result, Ok, Err, if◌then◌else◌}
 use Rattle.std.specs.Str.{bytes_eq}
 use Rattle.ids.specs.Configurations.{Configuration}
-use Rattle.ids.specs.Members.{in_order}
 use Rattle.ids.specs.declared.refusal.Refusal.{Refusal}
 use Rattle.ids.specs.declared.refusal.Refusal.TheVariants.{BadLine}
 use Rattle.semantics.specs.World.{WorldStep, Push, Ask, Lines, step_by}
 use Rattle.serde_json.specs.Data.{Data, Items, no_items, item}
 use Rattle.world.specs.wire.Bundles.{Readable, readable}
 use Rattle.world.specs.wire.Forms.{and_then, json_form, number_form, phrase_form, text_form}
-use Rattle.world.specs.Worlds.{table_at}
 use Rattle.scripts.specs.NumberedSteps.{numbered_step_of}
 use Rattle.scripts.specs.Exists.{if_there}
 use Rattle.scripts.specs.Requests.{command_form, question_form}
@@ -21,43 +19,39 @@ push_of (item engine (item client (item command no_items))) =
     (λ e. and_then (λ c. and_then (λ k. Ok (step_by e (Push c k))) (command_form command)) (number_form client)) (number_form engine)
 push_of _ = Err BadLine
 
--- an engine, a token and a question, where the engines have these tables
-abbrev pub ask_of : List (List ℕ) → Items → Result WorldStep Refusal
-ask_of tables (item engine (item token (item question no_items))) =
+-- an engine, a token and a question
+abbrev pub ask_of : Items → Result WorldStep Refusal
+ask_of (item engine (item token (item question no_items))) =
     and_then
     (λ e. and_then
     (λ t. and_then
-    (λ q. Ok (step_by e (Ask t q))) (question_form (slice_get tables e) question)) (number_form token)) (number_form engine)
-ask_of tables _ = Err BadLine
+    (λ q. Ok (step_by e (Ask t q))) (question_form question)) (number_form token)) (number_form engine)
+ask_of _ = Err BadLine
 
 -- a client receives what can be read of lines
 abbrev pub lines_step : ℕ → ℕ → Readable → WorldStep
 lines_step e c r = step_by e (Lines c r.operations r.stopped)
 
 -- an engine, a client and a text of any lines
-abbrev pub line_of : List (List ℕ) → Items → Result WorldStep Refusal
-line_of tables (item engine (item client (item text no_items))) =
+abbrev pub line_of : Items → Result WorldStep Refusal
+line_of (item engine (item client (item text no_items))) =
     and_then
     (λ e. and_then
     (λ c. and_then
-    (λ bytes. Ok (lines_step e c (readable (table_at tables e) bytes))) (text_form text)) (number_form client))
+    (λ bytes. Ok (lines_step e c (readable bytes))) (text_form text)) (number_form client))
     (number_form engine)
-line_of tables _ = Err BadLine
+line_of _ = Err BadLine
 
 -- by its word
-abbrev pub any_step_of : List (List ℕ) → List ℕ × Items → Result WorldStep Refusal
-any_step_of tables p = if bytes_eq p.0 (codes "push") then push_of p.1
-    else (if bytes_eq p.0 (codes "ask") then ask_of tables p.1
-    else (if bytes_eq p.0 (codes "line") then line_of tables p.1 else numbered_step_of p))
+abbrev pub any_step_of : List ℕ × Items → Result WorldStep Refusal
+any_step_of p = if bytes_eq p.0 (codes "push") then push_of p.1
+    else (if bytes_eq p.0 (codes "ask") then ask_of p.1
+    else (if bytes_eq p.0 (codes "line") then line_of p.1 else numbered_step_of p))
 
 -- a list of a word and its parts
-abbrev pub step_form : List (List ℕ) → Data → Result WorldStep Refusal
-step_form tables d = and_then (any_step_of tables) (phrase_form d)
-
--- the tables of engines
-abbrev pub tables_for : List Configuration → List (List ℕ)
-tables_for engines = map (λ g. in_order g.members) engines
+abbrev pub step_form : Data → Result WorldStep Refusal
+step_form d = and_then any_step_of (phrase_form d)
 
 -- the step on a line of a script of these engines
 abbrev pub step_line : List Configuration → List ℕ → Result WorldStep Refusal
-step_line engines text = and_then (if_there engines) (and_then (step_form (tables_for engines)) (json_form text))
+step_line engines text = and_then (if_there engines) (and_then step_form (json_form text))

@@ -1,6 +1,6 @@
 //! Whether the engine, client and token of a step exist.
 
-ghost use Rattle.std.specs.Prelude.{◌≡◌, ℕ, List};
+ghost use Rattle.std.specs.Prelude.{◌≡◌};
 ghost use Rattle.world.specs.Acts.{step_of};
 ghost use Rattle.scripts.specs.Exists.{has_client as client_there, has_token as token_there, is_there as step_there};
 
@@ -9,7 +9,7 @@ use world::{WorldAct, WorldStep};
 
 /// Whether a step's engine is one of these, and its client and token are that engine's. A message need not exist.
 pub fn is_there(step: &WorldStep, engines: &[Config]) -> bool
-    ensures { (table : List ℕ) → result ≡ step_there engines.now (step_of table step.now) }
+    ensures { result ≡ step_there engines.now (step_of step.now) }
 {
     let engine = step.engine;
     match &step.act {

@@ -1,8 +1,7 @@
 //! A script's steps whose parts are numbers alone.
 
-ghost use Rattle.std.specs.Prelude.{List, ℕ};
 ghost use Rattle.serde_json.specs.View.{items_view};
-ghost use Rattle.world.specs.Worlds.{step_in as step_meant};
+ghost use Rattle.world.specs.Acts.{step_of as step_meant};
 ghost use Rattle.world.specs.wire.Forms.{IsRead};
 ghost use Rattle.scripts.specs.NumberedSteps.{engine_step_of, message_step_of, numbered_step_of};
 
@@ -13,7 +12,7 @@ use world::{WorldAct, WorldStep};
 
 /// The step of this word with these parts.
 pub fn numbered_step_in(word: &str, parts: &[Value]) -> Result<WorldStep, Refusal>
-    ensures { (tables : List (List ℕ)) → IsRead (step_meant tables) result (numbered_step_of (word.now, items_view parts.now)) }
+    ensures { IsRead step_meant result (numbered_step_of (word.now, items_view parts.now)) }
 {
     match word {
         "poll" => {
@@ -40,7 +39,7 @@ pub fn numbered_step_in(word: &str, parts: &[Value]) -> Result<WorldStep, Refusa
 
 /// A step that names a message.
 fn message_step_in(word: &str, parts: &[Value]) -> Result<WorldStep, Refusal>
-    ensures { (tables : List (List ℕ)) → IsRead (step_meant tables) result (message_step_of (word.now, items_view parts.now)) }
+    ensures { IsRead step_meant result (message_step_of (word.now, items_view parts.now)) }
 {
     match word {
         "hello" => {
@@ -72,7 +71,7 @@ fn message_step_in(word: &str, parts: &[Value]) -> Result<WorldStep, Refusal>
 
 /// A step that names an engine alone.
 fn engine_step_in(word: &str, parts: &[Value]) -> Result<WorldStep, Refusal>
-    ensures { (tables : List (List ℕ)) → IsRead (step_meant tables) result (engine_step_of (word.now, items_view parts.now)) }
+    ensures { IsRead step_meant result (engine_step_of (word.now, items_view parts.now)) }
 {
     match word {
         "take" => Ok(WorldStep {

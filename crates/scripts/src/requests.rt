@@ -1,7 +1,7 @@
 //! Commands and questions in a script.
 #![tactic(auto, using(crate::proofs::WrongLengths::request_lengths))]
 
-ghost use Rattle.std.specs.Prelude.{◌≡◌, ℕ, List, Option, Ok, option_map};
+ghost use Rattle.std.specs.Prelude.{◌≡◌, ℕ, List, Ok};
 ghost use Rattle.serde_json.specs.View.{view, items_view};
 ghost use Rattle.semantics.specs.Elements.{Value as TheValue};
 ghost use Rattle.semantics.specs.Operations.{Mutation as TheMutation};
@@ -13,16 +13,15 @@ ghost use Rattle.world.specs.value.Values.{value_of};
 ghost use Rattle.world.specs.operation.Ops.{command_of};
 ghost use Rattle.world.specs.document.Documents.{asked_of};
 ghost use Rattle.world.specs.wire.Forms.{IsRead, and_then, json_form};
-ghost use Rattle.scripts.specs.Requests.{applied_of, asking_of, command_form, delete_of, missing_of, question_form, script_vector};
-ghost use Rattle.scripts.specs.Requests.{writing_of};
+ghost use Rattle.scripts.specs.Requests.{applied_of, asking_of, command_form, delete_of, missing_of, question_form, writing_of};
 ghost use Rattle.scripts.specs.Steps.{step_form};
 ghost use Rattle.scripts.specs.Written.{ask_json, command_json, push_json, question_json};
 
 use crate::expressions::expression_in;
-use ids::{Refusal, ReplicaTable};
+use ids::Refusal;
 use serde_json::Value;
 use std::alloc::Global;
-use world::{Command, Expr, NamedVector, Question, Val, phrase_in, vector_in};
+use world::{Command, Expr, Question, Val, phrase_in, vector_in};
 
 pub fn command_in(alloc: Global, value: &Value) -> Result<Command, Refusal>
     ensures { IsRead command_of result (command_form (view value.now)) }
@@ -63,13 +62,8 @@ fn delete_in(alloc: Global, parts: &[Value]) -> Result<Command, Refusal>
     Ok(Command::Delete(expression_in(alloc, expression)?))
 }
 
-/// A question to an engine with this table. A vector is refused if there is no table.
-pub fn question_in(
-    alloc: Global,
-    table: Option<&ReplicaTable>,
-    value: &Value,
-) -> Result<Question, Refusal>
-    ensures { IsRead asked_of result (question_form (option_map (λ t. t.now) table.entry) (view value.now)) }
+pub fn question_in(alloc: Global, value: &Value) -> Result<Question, Refusal>
+    ensures { IsRead asked_of result (question_form (view value.now)) }
 {
     let (word, parts) = phrase_in(value)?;
     match word {
@@ -77,7 +71,7 @@ pub fn question_in(
         "keys" => Ok(Question::Keys(asked_in(alloc, parts)?)),
         "items" => Ok(Question::Items(asked_in(alloc, parts)?)),
         "conflicts" => Ok(Question::Conflicts(asked_in(alloc, parts)?)),
-        "missing" => missing_in(alloc, table, parts),
+        "missing" => missing_in(alloc, parts),
         "vector" => {
             check_none(parts)?;
             Ok(Question::Vector)
@@ -96,35 +90,14 @@ fn asked_in(alloc: Global, parts: &[Value]) -> Result<Expr, Refusal>
     expression_in(alloc, expression)
 }
 
-fn missing_in(
-    alloc: Global,
-    table: Option<&ReplicaTable>,
-    parts: &[Value],
-) -> Result<Question, Refusal>
-    ensures { IsRead asked_of result (missing_of (option_map (λ t. t.now) table.entry) (items_view parts.now)) }
+/// The vector of a question.
+fn missing_in(alloc: Global, parts: &[Value]) -> Result<Question, Refusal>
+    ensures { IsRead asked_of result (missing_of (items_view parts.now)) }
 {
-    let Some(table) = table else {
-        return Err(Refusal::BadLine);
-    };
     let [vector] = parts else {
         return Err(Refusal::BadLine);
     };
-    Ok(Question::Missing(script_vector_in(alloc, table, vector)?))
-}
-
-/// A vector of members. Every fault of a vector in a script is `BadLine`.
-fn script_vector_in(
-    alloc: Global,
-    table: &ReplicaTable,
-    value: &Value,
-) -> Result<NamedVector, Refusal>
-    ensures { IsRead (λ v. v) result (script_vector table.now (view value.now)) }
-{
-    match vector_in(alloc, table, value) {
-        Ok(vector) => Ok(vector),
-        Err(Refusal::NoMemory) => Err(Refusal::NoMemory),
-        Err(_) => Err(Refusal::BadLine),
-    }
+    Ok(Question::Missing(vector_in(alloc, vector)?))
 }
 
 /// Tests that nothing follows the word.
@@ -142,10 +115,10 @@ fn check_none(parts: &[Value]) -> Result<(), Refusal>
 pub fn what_is_read_is_written_alike()
     ensures command { (text : List ℕ) (c : TheCommand) → and_then command_form (json_form text) ≡ Ok c
         → json_form text ≡ Ok (command_json c) }
-    ensures question { (table : Option (List ℕ)) (text : List ℕ) (q : Asked) → and_then (question_form table) (json_form text) ≡ Ok q
+    ensures question { (text : List ℕ) (q : Asked) → and_then question_form (json_form text) ≡ Ok q
         → json_form text ≡ Ok (question_json q) }
-    ensures push { (tables : List (List ℕ)) (text : List ℕ) (e c : ℕ) (k : TheCommand)
-        → and_then (step_form tables) (json_form text) ≡ Ok (step_by e (Push c k)) → json_form text ≡ Ok (push_json e c k) }
-    ensures ask { (tables : List (List ℕ)) (text : List ℕ) (e t : ℕ) (q : Asked)
-        → and_then (step_form tables) (json_form text) ≡ Ok (step_by e (Ask t q)) → json_form text ≡ Ok (ask_json e t q) }
+    ensures push { (text : List ℕ) (e c : ℕ) (k : TheCommand)
+        → and_then step_form (json_form text) ≡ Ok (step_by e (Push c k)) → json_form text ≡ Ok (push_json e c k) }
+    ensures ask { (text : List ℕ) (e t : ℕ) (q : Asked)
+        → and_then step_form (json_form text) ≡ Ok (step_by e (Ask t q)) → json_form text ≡ Ok (ask_json e t q) }
 {}

@@ -4,10 +4,10 @@ ghost use Rattle.std.specs.Prelude.{◌≡◌, List, map, Ok, IfErr, IfOk, Match
 ghost use Rattle.std.specs.List.{list_all};
 ghost use Rattle.ids.specs.Configurations.{Configuration, is_within_limits};
 ghost use Rattle.semantics.specs.World.{opened};
-ghost use Rattle.world.specs.Worlds.{step_in, tables_of, world_of};
+ghost use Rattle.world.specs.Acts.{step_of};
+ghost use Rattle.world.specs.Worlds.{world_of};
 ghost use Rattle.scripts.specs.Engines.{if_within_limits};
 ghost use Rattle.scripts.specs.Errors.{IsErrorOf};
-ghost use Rattle.scripts.specs.Steps.{tables_for};
 ghost use Rattle.world.specs.wire.Lines.{on_line, unless_bad};
 ghost use Rattle.scripts.specs.Scripts.{script_form, steps_left};
 
@@ -33,7 +33,7 @@ pub struct Script {
 /// `BadLine` of the first bad line, else `NoMemory` if allocation fails.
 pub fn read_script(alloc: Global, bytes: &[u8]) -> Result<Script, ScriptError>
     ensures ok { IfOk result
-        (λ s. (gs : List Configuration) × (script_form bytes.now ≡ Ok (gs, map (step_in (tables_of s.world.engines)) s.steps.items))
+        (λ s. (gs : List Configuration) × (script_form bytes.now ≡ Ok (gs, map step_of s.steps.items))
         × (world_of s.world ≡ opened gs)) }
     ensures err { IfErr result (IsErrorOf (script_form bytes.now)) }
 {
@@ -52,7 +52,7 @@ fn open(alloc: Global, engines: &[Config], lines: &mut Lines<'_>) -> Result<Scri
     ensures allowed { IfOk result (λ s. list_all is_within_limits engines.now ≡ true) }
     ensures world { IfOk result (λ s. world_of s.world ≡ opened engines.now) }
     ensures steps { IfOk result
-        (λ s. steps_left engines.now lines.old.taken lines.old.rest.now ≡ Ok (map (step_in (tables_of s.world.engines)) s.steps.items)) }
+        (λ s. steps_left engines.now lines.old.taken lines.old.rest.now ≡ Ok (map step_of s.steps.items)) }
     ensures err { IfErr result (IsErrorOf (unless_bad
         (λ gs. steps_left gs lines.old.taken lines.old.rest.now) (on_line 1 (if_within_limits engines.now)))) }
 {
@@ -68,14 +68,13 @@ fn with_steps(
     engines: &[Config],
     lines: &mut Lines<'_>,
 ) -> Result<Script, ScriptError>
-    requires { tables_of world.engines ≡ tables_for engines.now }
     ensures world { IfOk result (λ s. s.world ≡ world) }
     ensures steps { MatchResult result
         (λ s. steps_left engines.now lines.old.taken lines.old.rest.now
-        ≡ Ok (map (step_in (tables_of world.engines)) s.steps.items))
+        ≡ Ok (map step_of s.steps.items))
         (IsErrorOf (steps_left engines.now lines.old.taken lines.old.rest.now)) }
 {
-    let steps = read_steps(alloc, lines, engines, &world)?;
+    let steps = read_steps(alloc, lines, engines)?;
     Ok(Script { world, steps })
 }
 
@@ -84,17 +83,15 @@ fn read_steps(
     alloc: Global,
     lines: &mut Lines<'_>,
     engines: &[Config],
-    world: &World,
 ) -> Result<Vec<WorldStep>, ScriptError>
-    requires { tables_of world.now.engines ≡ tables_for engines.now }
     ensures { MatchResult result
         (λ v. steps_left engines.now lines.old.taken lines.old.rest.now
-        ≡ Ok (map (step_in (tables_of world.now.engines)) v.items))
+        ≡ Ok (map step_of v.items))
         (IsErrorOf (steps_left engines.now lines.old.taken lines.old.rest.now)) }
 {
     let mut steps = Vec::new(alloc);
     while let Some(line) = lines.take_line() {
-        match read_step(alloc, line.text, engines, world) {
+        match read_step(alloc, line.text, engines) {
             Ok(step) => steps.push(step)?,
             Err(why) => return Err(ScriptError::of_line(line.number, why)),
         }

@@ -1,11 +1,10 @@
 //! A script's steps, one a line.
 #![tactic(auto, using(crate::proofs::WrongLengths::step_lengths))]
 
-ghost use Rattle.std.specs.Prelude.{◌≡◌, ℕ, List};
 ghost use Rattle.serde_json.specs.View.{view, items_view};
-ghost use Rattle.world.specs.Worlds.{step_in as step_meant, tables_of};
+ghost use Rattle.world.specs.Acts.{step_of as step_meant};
 ghost use Rattle.world.specs.wire.Forms.{IsRead};
-ghost use Rattle.scripts.specs.Steps.{ask_of, line_of, push_of, step_form, step_line, tables_for};
+ghost use Rattle.scripts.specs.Steps.{ask_of, line_of, push_of, step_form, step_line};
 
 use crate::exists::is_there;
 use crate::numbered_steps::numbered_step_in;
@@ -14,33 +13,27 @@ use crate::requests::{command_in, question_in};
 use ids::{Config, Refusal};
 use serde_json::Value;
 use std::alloc::Global;
-use world::{Shared, World, WorldAct, WorldStep, json_of, phrase_in, text_in};
+use world::{Shared, WorldAct, WorldStep, json_of, phrase_in, text_in};
 
-/// The step on a line, whose engine, client and token exist. The world is that of the engines.
-pub fn read_step(
-    alloc: Global,
-    text: &[u8],
-    engines: &[Config],
-    world: &World,
-) -> Result<WorldStep, Refusal>
-    requires { tables_of world.now.engines ≡ tables_for engines.now }
-    ensures { IsRead (step_meant (tables_of world.now.engines)) result (step_line engines.now text.now) }
+/// The step on a line, whose engine, client and token exist.
+pub fn read_step(alloc: Global, text: &[u8], engines: &[Config]) -> Result<WorldStep, Refusal>
+    ensures { IsRead step_meant result (step_line engines.now text.now) }
 {
     let value = json_of(alloc, text)?;
-    let step = step_in(alloc, &value, world)?;
+    let step = step_in(alloc, &value)?;
     if !is_there(&step, engines) {
         return Err(Refusal::BadLine);
     }
     Ok(step)
 }
 
-fn step_in(alloc: Global, value: &Value, world: &World) -> Result<WorldStep, Refusal>
-    ensures { IsRead (step_meant (tables_of world.now.engines)) result (step_form (tables_of world.now.engines) (view value.now)) }
+fn step_in(alloc: Global, value: &Value) -> Result<WorldStep, Refusal>
+    ensures { IsRead step_meant result (step_form (view value.now)) }
 {
     let (word, parts) = phrase_in(value)?;
     match word {
         "push" => push_in(alloc, parts),
-        "ask" => ask_in(alloc, parts, world),
+        "ask" => ask_in(alloc, parts),
         "line" => line_in(alloc, parts),
         _ => numbered_step_in(word, parts),
     }
@@ -48,7 +41,7 @@ fn step_in(alloc: Global, value: &Value, world: &World) -> Result<WorldStep, Ref
 
 /// An engine, a client of it, and a command.
 fn push_in(alloc: Global, parts: &[Value]) -> Result<WorldStep, Refusal>
-    ensures { (tables : List (List ℕ)) → IsRead (step_meant tables) result (push_of (items_view parts.now)) }
+    ensures { IsRead step_meant result (push_of (items_view parts.now)) }
 {
     let [engine, client, command] = parts else {
         return Err(Refusal::BadLine);
@@ -63,15 +56,15 @@ fn push_in(alloc: Global, parts: &[Value]) -> Result<WorldStep, Refusal>
 }
 
 /// An engine, a token of it, and a question.
-fn ask_in(alloc: Global, parts: &[Value], world: &World) -> Result<WorldStep, Refusal>
-    ensures { IsRead (step_meant (tables_of world.now.engines)) result (ask_of (tables_of world.now.engines) (items_view parts.now)) }
+fn ask_in(alloc: Global, parts: &[Value]) -> Result<WorldStep, Refusal>
+    ensures { IsRead step_meant result (ask_of (items_view parts.now)) }
 {
     let [engine, token, question] = parts else {
         return Err(Refusal::BadLine);
     };
     let engine = index_in(engine)?;
     let token = index_in(token)?;
-    let question = question_in(alloc, world.table(engine), question)?;
+    let question = question_in(alloc, question)?;
     Ok(WorldStep {
         engine,
         act: WorldAct::Ask { token, question },
@@ -80,7 +73,7 @@ fn ask_in(alloc: Global, parts: &[Value], world: &World) -> Result<WorldStep, Re
 
 /// An engine, a client of it, and a text of lines.
 fn line_in(alloc: Global, parts: &[Value]) -> Result<WorldStep, Refusal>
-    ensures { (tables : List (List ℕ)) → IsRead (step_meant tables) result (line_of tables (items_view parts.now)) }
+    ensures { IsRead step_meant result (line_of (items_view parts.now)) }
 {
     let [engine, client, text] = parts else {
         return Err(Refusal::BadLine);

@@ -1,5 +1,5 @@
 -- In every run of a world all that clients submitted is there.
-use Rattle.std.proofs.Common.{◌≡◌, inl, inr, ℕ, zero, suc, max, Bool, true, false, List, [], ◌∷◌, replicate, length, Option, Some, None}
+use Rattle.std.proofs.Common.{◌≡◌, inl, inr, ℕ, zero, suc, max, List, [], ◌∷◌, replicate, length, Option, Some, None}
 use Rattle.std.proofs.Common.{refl, sym, ap, ◌∙◌, subst, slice_get, slice_set}
 use Rattle.std.proofs.lemmas.Bool.{cases_eq}
 use Rattle.ids.specs.Configurations.{Configuration}
@@ -9,8 +9,7 @@ use Rattle.semantics.specs.LegalAnswer.{OfCommand, OfPeer}
 use Rattle.semantics.specs.Engine.{Engine, Client, Cell, Given, Message, Hello, Bundle}
 use Rattle.semantics.specs.WriteSteps.{push, take_submission, give, take_for, give_for, handle_all, whole_step}
 use Rattle.semantics.specs.ReadSteps.{cell_at, cell_under, poll_cell, poll, see, learn}
-use Rattle.semantics.specs.PeerSteps.{names_members, answer_hello, refusal_in, unless_refused, submit_all, receive_lines, before_nonmember}
-use Rattle.semantics.specs.PeerSteps.{nonmember_fault, receive_message}
+use Rattle.semantics.specs.PeerSteps.{answer_hello, refusal_in, unless_refused, submit_all, receive_lines, receive_message}
 use Rattle.semantics.specs.World.{WorldAct, opened_engine, World, opened, WorldStep, Push, Take, Publish, Give, WholeStep, Poll, Ask, Learn}
 use Rattle.semantics.specs.World.{SayHello, AnswerHello, Deliver, Lines, CountDropped, engine_step, world_step, world_after}
 use Rattle.semantics.specs.WorldHistory.{IsEngineAfter, cells_of, HasAllSubmitted}
@@ -73,11 +72,7 @@ complete_learnt E t c serial h = at_cell (cell_under E c serial) refl
 complete_answered : (E : Engine) (t k : ℕ) (m : Option Message) → IsComplete E → IsComplete (answer_hello E t k m).engine
 complete_answered E t k None h = h
 complete_answered E t k (Some (Bundle ss)) h = h
-complete_answered E t k (Some (Hello v)) h = at_test (names_members E v) refl
-  where
-    at_test : (b : Bool) → names_members E v ≡ b → IsComplete (answer_hello E t k (Some (Hello v))).engine
-    at_test true e = rw e (complete_seen E t E.published h)
-    at_test false e = rw e h
+complete_answered E t k (Some (Hello v)) h = complete_seen E t E.published h
 
 -- ---- a whole step, and what a client receives
 
@@ -117,7 +112,7 @@ complete_message : (E : Engine) (c : ℕ) (m : Option Message) → IsComplete E 
 complete_message E c None h = h
 complete_message E c (Some (Hello v)) h = h
 complete_message E c (Some (Bundle ss)) h =
-    complete_lines E c (before_nonmember E.replica.members ss) (nonmember_fault E.replica.members ss) h
+    complete_lines E c ss None h
 
 -- ---- each step
 

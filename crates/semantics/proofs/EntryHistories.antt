@@ -1,10 +1,10 @@
 -- An entry history is legal, and the vector of all that was applied stands for it.
 use Rattle.std.proofs.Common.{◌≡◌, inl, inr, ℕ, suc, ◌≤◌, Bool, true, false, ◌&&◌, List, [], ◌∷◌, length, Ok, refl, sym, ap, ◌∙◌, subst}
-use Rattle.semantics.specs.Ids.{IdSet, id_at}
+use Rattle.semantics.specs.Ids.{id_at}
 use Rattle.semantics.specs.Operations.{Operation}
 use Rattle.semantics.specs.LegalHistory.{IsLegal, has_id}
 use Rattle.semantics.specs.Vectors.{Vector, at, covers}
-use Rattle.semantics.specs.NamedIds.{names, StandsFor, NamesAll}
+use Rattle.semantics.specs.NamedIds.{StandsFor, NamesAll}
 use Rattle.semantics.specs.Stamped.{Stamped, operation_after, operations_of, MayFollow, IsLegalStamped}
 use Rattle.semantics.specs.Making.{Command, make}
 use Rattle.semantics.specs.Entries.{Entry, Own, Peer, stamped_entries, IsEntryHistory}

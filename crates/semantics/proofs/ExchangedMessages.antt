@@ -1,10 +1,10 @@
 -- What was sent and received where a hello, its answer and the receipt of that were replied to.
-use Rattle.std.proofs.Common.{◌≡◌, ℕ, Bool, true, false, List, [], ◌∷◌, ◌++◌, length, Option, Some, None, refl, sym, ap, ◌∙◌, slice_get}
+use Rattle.std.proofs.Common.{◌≡◌, ℕ, List, [], ◌∷◌, ◌++◌, length, Option, Some, None, refl, sym, ap, ◌∙◌, slice_get}
 use Rattle.std.proofs.Common.{slice_set}
 use Rattle.semantics.specs.Vectors.{Vector}
 use Rattle.semantics.specs.Stamped.{Stamped}
 use Rattle.semantics.specs.Engine.{Engine, Hello, Bundle, SentHello, SentBundle, Received}
-use Rattle.semantics.specs.PeerSteps.{published_vector, lacked, names_members, receive_message}
+use Rattle.semantics.specs.PeerSteps.{published_vector, lacked, receive_message}
 use Rattle.semantics.specs.World.{World, SayHello, AnswerHello, Deliver, world_step, step_by}
 use Rattle.semantics.proofs.SetElements.{get-set_same, get-append_last}
 use Rattle.semantics.proofs.ReceivedBundles.{HasReceivedAll, bundle_received}
@@ -30,16 +30,11 @@ said_hello W a t h v r = at_engine (slice_get W.engines a) refl
 pub hello_answered : (W : World) (b u h k sent : ℕ) (B : Engine) (v : Vector) → slice_get W.engines b ≡ Some B
     → slice_get W.messages h ≡ Some (Hello v) → (world_step W (step_by b (AnswerHello u h))).reply ≡ SentBundle k sent
     → slice_get (world_step W (step_by b (AnswerHello u h))).world.messages k ≡ Some (Bundle (lacked B v))
-hello_answered W b u h k sent B v there m r = at_test (names_members B v) refl
-  where
-    at_test : (known : Bool) → names_members B v ≡ known
-        → slice_get (world_step W (step_by b (AnswerHello u h))).world.messages k ≡ Some (Bundle (lacked B v))
-    at_test true e =
-        let reply : SentBundle (length W.messages) (length (lacked B v)) ≡ SentBundle k sent = rw (there, m, e) at r in
-        let number : length W.messages ≡ k = cc in
-        rw (there, m, e)
-        (ap (slice_get (W.messages ++ Bundle (lacked B v) ∷ [])) (sym number) ∙ get-append_last W.messages (Bundle (lacked B v)))
-    at_test false e = (let z = rw (there, m, e) at r in cc)
+hello_answered W b u h k sent B v there m r =
+    let reply : SentBundle (length W.messages) (length (lacked B v)) ≡ SentBundle k sent = rw (there, m) at r in
+    let number : length W.messages ≡ k = cc in
+    rw (there, m)
+    (ap (slice_get (W.messages ++ Bundle (lacked B v) ∷ [])) (sym number) ∙ get-append_last W.messages (Bundle (lacked B v)))
 
 pub bundle_delivered : (W : World) (a c k serial count : ℕ) (ss : List Stamped) → slice_get W.messages k ≡ Some (Bundle ss)
     → (world_step W (step_by a (Deliver c k))).reply ≡ Received serial count None

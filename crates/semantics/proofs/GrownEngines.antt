@@ -13,6 +13,7 @@ begins_trans G F H g f = (g.0 ++ f.0, g.1 ∙ ap (λ (K : List Entry). g.0 ++ K)
 pub grown_refl : (E : Engine) → HasGrown E E
 grown_refl E = record {
   own = refl;
+  members = refl;
   entries = ([], refl);
   published = omega arith;
   seen = λ t. omega arith;
@@ -24,6 +25,7 @@ grown_refl E = record {
 pub grown_trans : (E F G : Engine) → HasGrown E F → HasGrown F G → HasGrown E G
 grown_trans E F G f g = record {
   own = g.own ∙ f.own;
+  members = g.members ∙ f.members;
   entries = begins_trans G.replica.entries F.replica.entries E.replica.entries g.entries f.entries;
   published = omega (arith, f.published, g.published);
   seen = λ t. omega (arith, f.seen t, g.seen t);
@@ -39,11 +41,12 @@ abbrev pub with_history : Engine → Replica → List Submitted → List Handled
 with_history E r queue handled due published = record E { replica = r; queue = queue; handled = handled; due = due; published = published }
 
 pub grown_by_history : (E : Engine) (r : Replica) (queue : List Submitted) (handled due : List Handled) (published : ℕ)
-    → r.own ≡ E.replica.own → BeginsWith r.entries E.replica.entries → E.published ≤ published
+    → r.own ≡ E.replica.own → r.members ≡ E.replica.members → BeginsWith r.entries E.replica.entries → E.published ≤ published
     → ((h : Handled) → IsAmong h (E.due ++ E.handled) → IsAmong h (due ++ handled))
     → HasGrown E (with_history E r queue handled due published)
-grown_by_history E r queue handled due published own entries more still = record {
+grown_by_history E r queue handled due published own members entries more still = record {
   own = own;
+  members = members;
   entries = entries;
   published = more;
   seen = λ t. omega arith;

@@ -1,16 +1,14 @@
 -- A claim on an engine that is kept as it goes on is kept by each step of a world.
-use Rattle.std.proofs.Common.{◌≡◌, inl, inr, ℕ, zero, suc, Bool, true, false, cond, List, [], ◌∷◌, length, Option, Some, None, refl}
+use Rattle.std.proofs.Common.{◌≡◌, inl, inr, ℕ, zero, suc, false, List, [], ◌∷◌, length, Option, Some, None, refl}
 use Rattle.std.proofs.Common.{sym, ap, ◌∙◌, slice_get, true≢false}
 use Rattle.ids.specs.declared.refusal.Refusal.{Refusal}
 use Rattle.semantics.specs.LegalHistory.{IsAmong}
 use Rattle.semantics.specs.Stamped.{Stamped}
-use Rattle.semantics.specs.Faults.{is_of_members}
 use Rattle.semantics.specs.Making.{Command}
 use Rattle.semantics.specs.LegalAnswer.{Request, OfCommand, OfPeer}
 use Rattle.semantics.specs.Engine.{Engine, Client, Message, Hello, Bundle}
 use Rattle.semantics.specs.WriteSteps.{push, take_submission, publish, give, take_for, give_for, handle_all, whole_step}
-use Rattle.semantics.specs.PeerSteps.{names_members, answer_hello, refusal_in, unless_refused, submit_all, receive_lines, before_nonmember}
-use Rattle.semantics.specs.PeerSteps.{nonmember_fault, receive_message}
+use Rattle.semantics.specs.PeerSteps.{answer_hello, refusal_in, unless_refused, submit_all, receive_lines, receive_message}
 use Rattle.semantics.specs.World.{WorldAct, Push, Take, Publish, Give, WholeStep, Poll, Ask, Learn, SayHello, AnswerHello, Deliver, Lines}
 use Rattle.semantics.specs.World.{CountDropped, engine_step}
 use Rattle.semantics.specs.WorldExchange.{is_of_lines}
@@ -26,21 +24,7 @@ use Rattle.semantics.proofs.EngineMoves.{kept_by_push, kept_by_take}
 still_answered : (E : Engine) (t k : ℕ) (m : Option Message) → IsStill E (answer_hello E t k m).engine
 still_answered E t k None = (refl, refl)
 still_answered E t k (Some (Bundle ss)) = (refl, refl)
-still_answered E t k (Some (Hello v)) = at_test (names_members E v) refl
-  where
-    at_test : (b : Bool) → names_members E v ≡ b → IsStill E (answer_hello E t k (Some (Hello v))).engine
-    at_test true e = rw e (still_seen E t E.published)
-    at_test false e = rw e (refl, refl)
-
-pub in_before : (ms : List ℕ) (ss : List Stamped) (s : Stamped) → IsAmong s (before_nonmember ms ss) → IsAmong s ss
-in_before ms [] s m = m
-in_before ms (x ∷ ss) s m = at_test (in_before ms ss s) (is_of_members ms x) m
-  where
-    at_test : (IsAmong s (before_nonmember ms ss) → IsAmong s ss) → (b : Bool) → IsAmong s (cond b (x ∷ before_nonmember ms ss) [])
-        → IsAmong s (x ∷ ss)
-    at_test rest true (inl e) = inl e
-    at_test rest true (inr n) = inr (rest n)
-    at_test rest false n = absurd n
+still_answered E t k (Some (Hello v)) = still_seen E t E.published
 
 module _ (P : Request → Type 0) (Claim : Engine → Type 0) (kept : IsKeptOn P Claim) where
   -- ---- a whole step
@@ -89,8 +73,7 @@ module _ (P : Request → Type 0) (Claim : Engine → Type 0) (kept : IsKeptOn P
   kept_by_message E c None s p h = h
   kept_by_message E c (Some (Hello v)) s p h = h
   kept_by_message E c (Some (Bundle ss)) s p h =
-      kept_by_lines E c (before_nonmember E.replica.members ss) (nonmember_fault E.replica.members ss) s
-      (λ x m. p ss x refl (in_before E.replica.members ss x m)) h
+      kept_by_lines E c ss None s (λ x m. p ss x refl m) h
 
   -- ---- each step
 

@@ -44,6 +44,7 @@ pub grown_by_client : (E : Engine) (queue : List Submitted) (due : List Handled)
     → ((x : Handled) → IsAmong x E.due → IsStillReplied (with_client E queue due c j) x) → HasGrown E (with_client E queue due c j)
 grown_by_client E queue due c k j h m still = record {
   own = refl;
+  members = refl;
   entries = ([], refl);
   published = omega arith;
   seen = λ t. seen_now t (cases_eq t c);
@@ -117,6 +118,7 @@ raised (n ∷ seen) (suc i) (suc j) m h = raised seen i j m h
 pub grown_by_reader : (E : Engine) (i m : ℕ) → get_or E.readers i 0 ≤ m → HasGrown E (with_reader E i m)
 grown_by_reader E i m h = record {
   own = refl;
+  members = refl;
   entries = ([], refl);
   published = omega arith;
   seen = λ t. seen_now t (slice_get E.clients t) refl;

@@ -1,7 +1,7 @@
 -- What a vector names in a legal history.
 use Rattle.std.proofs.Common.{◌≡◌, ◌≢◌, ◌⊎◌, inl, inr, ℕ, suc, ◌<◌, ◌≤◌, Bool, true, false, ◌&&◌, ◌||◌, ◌==◌, List, [], ◌∷◌, refl, sym, ◌∙◌}
 use Rattle.std.proofs.Common.{subst, arith}
-use Rattle.std.proofs.lemmas.Bool.{or_right, and_parts, and_right, false_from_ne_true, eqb-true, eq-eqb, cases_eq}
+use Rattle.std.proofs.lemmas.Bool.{or_right, and_right, false_from_ne_true, eqb-true, eq-eqb, cases_eq}
 use Rattle.semantics.specs.Ids.{OpId, id_at, is_same_id}
 use Rattle.semantics.specs.Operations.{Operation}
 use Rattle.semantics.specs.LegalHistory.{IsLegal, Follows, IsAmong, has_id, greatest_of}

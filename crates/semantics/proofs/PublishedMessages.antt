@@ -1,12 +1,12 @@
 -- What a step sends is published.
-use Rattle.std.proofs.Common.{◌≡◌, inl, inr, Bool, true, false, not, cond, List, [], ◌∷◌, Option, Some, None, refl, sym, subst, slice_get}
+use Rattle.std.proofs.Common.{◌≡◌, inl, inr, not, List, Option, Some, None, refl, sym, subst, slice_get}
 use Rattle.semantics.specs.Vectors.{Vector, covers}
 use Rattle.semantics.specs.LegalHistory.{IsAmong}
 use Rattle.semantics.specs.NamedIds.{vector_of}
 use Rattle.semantics.specs.Stamped.{Stamped}
 use Rattle.semantics.specs.Entries.{applied, stamped_entries, missing}
 use Rattle.semantics.specs.Engine.{Engine, Message, Hello, Bundle, published_entries}
-use Rattle.semantics.specs.PeerSteps.{answer_sent, lacked, names_members}
+use Rattle.semantics.specs.PeerSteps.{answer_sent, lacked}
 use Rattle.semantics.specs.World.{WorldAct, Push, Take, Publish, Give, WholeStep, Poll, Ask, Learn, SayHello, AnswerHello, Deliver, Lines}
 use Rattle.semantics.specs.World.{CountDropped, sent_by}
 use Rattle.semantics.proofs.AmongLists.{in_reverse, in_filter}
@@ -23,12 +23,8 @@ lacked_published E v s m = in_filter (λ x. not (covers v x.id)) (stamped_entrie
 answer_published : (E : Engine) (o : Option Message) (m : Message) → IsAmong m (answer_sent E o) → IsPublished E m
 answer_published E None m h = absurd h
 answer_published E (Some (Bundle ss)) m h = absurd h
-answer_published E (Some (Hello v)) m h = at_test (names_members E v) h
-  where
-    at_test : (b : Bool) → IsAmong m (cond b (Bundle (lacked E v) ∷ []) []) → IsPublished E m
-    at_test true (inl e) = subst (IsPublished E) (sym e) (lacked_published E v)
-    at_test true (inr n) = absurd n
-    at_test false n = absurd n
+answer_published E (Some (Hello v)) m (inl e) = subst (IsPublished E) (sym e) (lacked_published E v)
+answer_published E (Some (Hello v)) m (inr n) = absurd n
 
 sent_published : (ms : List Message) (act : WorldAct) (E : Engine) (m : Message) → IsAmong m (sent_by ms act E) → IsPublished E m
 sent_published ms (SayHello t) E m (inl h) = subst (IsPublished E) (sym h) refl

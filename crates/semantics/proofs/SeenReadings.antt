@@ -1,12 +1,12 @@
 -- What a token has seen after it read.
-use Rattle.std.proofs.Common.{◌≡◌, inl, inr, ℕ, ◌+◌, ◌-◌, ◌<◌, ◌≤◌, max, Bool, true, false, List, length, Option, Some, None, refl, sym, ap}
+use Rattle.std.proofs.Common.{◌≡◌, inl, inr, ℕ, ◌+◌, ◌-◌, ◌<◌, ◌≤◌, max, List, length, Option, Some, None, refl, sym, ap}
 use Rattle.std.proofs.Common.{◌∙◌, arith, slice_get, slice_set, get_or-set_same}
 use Rattle.std.proofs.Math.Nat.{le-max_right}
 use Rattle.std.proofs.lemmas.Option.{slice_get_cases, none-some}
 use Rattle.semantics.specs.LegalAnswer.{Asked}
 use Rattle.semantics.specs.Engine.{Engine, Client, Given, Message, Hello, Bundle, SentBundle}
 use Rattle.semantics.specs.ReadSteps.{cell_at, poll, see, ask, learn, seen_by}
-use Rattle.semantics.specs.PeerSteps.{names_members, say_hello, answer_hello}
+use Rattle.semantics.specs.PeerSteps.{say_hello, answer_hello}
 use Rattle.semantics.specs.WorldHistory.{WasGiven}
 use Rattle.semantics.proofs.SetElements.{get-set_same}
 use Rattle.semantics.proofs.MovedTokens.{cell_of}
@@ -37,11 +37,7 @@ pub token_answered : (E : Engine) (t k j n : ℕ) (m : Option Message) → t < l
     → (answer_hello E t k m).reply ≡ SentBundle j n → seen_by (answer_hello E t k m).engine t ≡ E.published
 token_answered E t k j n None within h = cc
 token_answered E t k j n (Some (Bundle ss)) within h = cc
-token_answered E t k j n (Some (Hello v)) within h = at_test (names_members E v) refl
-  where
-    at_test : (b : Bool) → names_members E v ≡ b → seen_by (answer_hello E t k (Some (Hello v))).engine t ≡ E.published
-    at_test true e = rw e (sees E t E.published within)
-    at_test false e = (let z = rw e at h in cc)
+token_answered E t k j n (Some (Hello v)) within h = sees E t E.published within
 
 pub client_polled : (E : Engine) (c serial : ℕ) (g : Given) → WasGiven E c serial g → g.published ≤ seen_by (poll E c serial).engine c
 client_polled E c serial g (cell, there, given) = at_client (slice_get E.clients c) refl

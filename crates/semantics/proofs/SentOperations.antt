@@ -1,5 +1,5 @@
 -- What an engine publishes and sends stands in its history.
-use Rattle.std.proofs.Common.{◌≡◌, ◌⊎◌, inl, inr, ℕ, zero, suc, Bool, true, false, not, cond, List, [], ◌∷◌, ◌++◌, Option, Some, None, sym}
+use Rattle.std.proofs.Common.{◌≡◌, ◌⊎◌, inl, inr, ℕ, zero, suc, not, List, [], ◌∷◌, ◌++◌, Option, Some, None, sym}
 use Rattle.std.proofs.Common.{subst, slice_get}
 use Rattle.semantics.specs.LegalHistory.{IsAmong}
 use Rattle.semantics.specs.Vectors.{Vector, covers}
@@ -7,7 +7,7 @@ use Rattle.semantics.specs.Stamped.{Stamped}
 use Rattle.semantics.specs.Entries.{Entry, stamped_entries, applied, missing}
 use Rattle.semantics.specs.OneWorld.{AreWithin}
 use Rattle.semantics.specs.Engine.{Engine, Message, Hello, Bundle, published_entries}
-use Rattle.semantics.specs.PeerSteps.{names_members, lacked, answer_sent}
+use Rattle.semantics.specs.PeerSteps.{lacked, answer_sent}
 use Rattle.semantics.specs.World.{WorldAct, Push, Take, Publish, Give, WholeStep, Poll, Ask, Learn, SayHello, AnswerHello, Deliver, Lines}
 use Rattle.semantics.specs.World.{CountDropped, sent_by}
 use Rattle.semantics.specs.WorldHistory.{BeginsWith}
@@ -48,12 +48,9 @@ answer_there : (E : Engine) (m : Option Message) (ss : List Stamped) → IsAmong
     → IsAmong s (stamped_entries E.replica.entries)
 answer_there E None ss n s m = absurd n
 answer_there E (Some (Bundle ts)) ss n s m = absurd n
-answer_there E (Some (Hello v)) ss n s m = at_test (names_members E v) n
-  where
-    at_test : (b : Bool) → IsAmong (Bundle ss) (cond b (Bundle (lacked E v) ∷ []) []) → IsAmong s (stamped_entries E.replica.entries)
-    at_test true (inl e) = (let same : ss ≡ lacked E v = cc in lacked_there E v s (subst (IsAmong s) same m))
-    at_test true (inr k) = absurd k
-    at_test false k = absurd k
+answer_there E (Some (Hello v)) ss (inl e) s m =
+    let same : ss ≡ lacked E v = cc in lacked_there E v s (subst (IsAmong s) same m)
+answer_there E (Some (Hello v)) ss (inr n) s m = absurd n
 
 -- An operation of a bundle stands in the history of the engine that sends it.
 pub sent_there : (ms : List Message) (w : WorldAct) (E : Engine) (ss : List Stamped) → IsAmong (Bundle ss) (sent_by ms w E) → (s : Stamped)

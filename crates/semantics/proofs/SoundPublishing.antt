@@ -35,7 +35,7 @@ publishes E s none = record {
         (sym (all_first E.replica.entries))
         (s.handled h m);
   };
-  grown = grown_by_history E E.replica E.queue [] E.handled (length E.replica.entries) refl ([], refl) s.published
+  grown = grown_by_history E E.replica E.queue [] E.handled (length E.replica.entries) refl refl ([], refl) s.published
       (λ h m. among_left E.handled [] h (subst (λ (d : List Handled). IsAmong h (d ++ E.handled)) none m));
 }
 

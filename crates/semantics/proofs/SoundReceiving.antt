@@ -1,12 +1,11 @@
 -- An engine stays sound where it answers a hello, and where a client receives what a peer sent.
-use Rattle.std.proofs.Common.{◌≡◌, ℕ, suc, Bool, true, false, List, [], ◌∷◌, Option, Some, None, refl, slice_get}
+use Rattle.std.proofs.Common.{◌≡◌, ℕ, suc, List, [], ◌∷◌, Option, Some, None, refl, slice_get}
 use Rattle.ids.specs.declared.refusal.Refusal.{Refusal}
 use Rattle.semantics.specs.Stamped.{Stamped}
 use Rattle.semantics.specs.LegalAnswer.{OfPeer}
 use Rattle.semantics.specs.Engine.{Engine, Client, Message, Hello, Bundle}
 use Rattle.semantics.specs.WriteSteps.{push}
-use Rattle.semantics.specs.PeerSteps.{names_members, answer_hello, refusal_in, unless_refused, submit_all, receive_lines, before_nonmember}
-use Rattle.semantics.specs.PeerSteps.{nonmember_fault, receive_message}
+use Rattle.semantics.specs.PeerSteps.{answer_hello, refusal_in, unless_refused, submit_all, receive_lines, receive_message}
 use Rattle.semantics.proofs.SoundEngines.{IsSound, IsLater}
 use Rattle.semantics.proofs.SoundSeeing.{later_refl, later_trans, seen_all}
 use Rattle.semantics.proofs.SoundSubmitting.{pushed}
@@ -15,11 +14,7 @@ use Rattle.semantics.proofs.SoundSubmitting.{pushed}
 pub hello_answered : (E : Engine) (t k : ℕ) (m : Option Message) → IsSound E → IsLater E (answer_hello E t k m).engine
 hello_answered E t k None s = later_refl E s
 hello_answered E t k (Some (Bundle ss)) s = later_refl E s
-hello_answered E t k (Some (Hello v)) s = at_test (names_members E v) refl
-  where
-    at_test : (b : Bool) → names_members E v ≡ b → IsLater E (answer_hello E t k (Some (Hello v))).engine
-    at_test true e = rw e (seen_all E t s)
-    at_test false e = rw e (later_refl E s)
+hello_answered E t k (Some (Hello v)) s = seen_all E t s
 
 pub submitted_all : (c : ℕ) (bad : Option Refusal) (n : ℕ) (E : Engine) (ss : List Stamped) → IsSound E
     → IsLater E (submit_all c bad n E ss).engine
@@ -48,5 +43,4 @@ lines_received E c ss bad s = at_client (slice_get E.clients c) refl
 pub message_received : (E : Engine) (c : ℕ) (m : Option Message) → IsSound E → IsLater E (receive_message E c m).engine
 message_received E c None s = later_refl E s
 message_received E c (Some (Hello v)) s = later_refl E s
-message_received E c (Some (Bundle ss)) s = lines_received E c (before_nonmember E.replica.members ss)
-    (nonmember_fault E.replica.members ss) s
+message_received E c (Some (Bundle ss)) s = lines_received E c ss None s

@@ -106,7 +106,7 @@ module _ (E : Engine) (x : Submitted) (queue : List Submitted) (s : IsSound E) (
             (good_in_longer E.replica.own E.replica.members (published_entries after) (published_entries E) g.submitted g.reply
             (begins_published r.entries E.replica.entries E.published E.published h.entries s.published (omega arith)) (s.due g m));
       };
-      grown = grown_by_history E r queue (E.handled ++ as_handled ∷ []) E.due E.published h.own h.entries (omega arith) still;
+      grown = grown_by_history E r queue (E.handled ++ as_handled ∷ []) E.due E.published h.own h.members h.entries (omega arith) still;
     }
 
 -- The writer's take keeps an engine sound.

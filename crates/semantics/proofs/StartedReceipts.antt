@@ -1,7 +1,7 @@
 -- With the receipt of a bundle the rest of its sender's history is on its way.
-use Rattle.std.proofs.Common.{◌≡◌, inl, inr, ℕ, zero, suc, ◌+◌, ◌<◌, ◌≤◌, true, false, not, cond, ◌&&◌, ◌==◌, nat_le, nat_lt, List, [], ◌∷◌}
+use Rattle.std.proofs.Common.{◌≡◌, inl, inr, ℕ, zero, suc, ◌+◌, ◌<◌, ◌≤◌, true, false, cond, ◌&&◌, ◌==◌, nat_le, nat_lt, List, [], ◌∷◌}
 use Rattle.std.proofs.Common.{◌++◌, map, reverse, length, Some, refl, sym, ap, ◌∙◌, subst, arith, slice_get}
-use Rattle.std.proofs.lemmas.Bool.{and_parts, false_from_ne_true, eqb-true, leb-true, not_from_false}
+use Rattle.std.proofs.lemmas.Bool.{and_parts, false_from_ne_true, eqb-true, leb-true}
 use Rattle.std.proofs.lemmas.List.{append-nil}
 use Rattle.std.proofs.lemmas.Option.{slice_get_cases}
 use Rattle.semantics.specs.Operations.{Operation}
@@ -23,7 +23,6 @@ use Rattle.semantics.proofs.ClientCells.{cell_at-suc, cell_within}
 use Rattle.semantics.proofs.MovedTokens.{cell_of}
 use Rattle.semantics.proofs.SoundEngines.{IsSound}
 use Rattle.semantics.proofs.ItemsInTurn.{queued_waits}
-use Rattle.semantics.proofs.AmongLists.{into_reverse, into_filter, all_pass}
 use Rattle.semantics.proofs.TrackedEngines.{IsEngineOf}
 use Rattle.semantics.proofs.ComingHistory.{Comes, End, comes_from}
 use Rattle.semantics.proofs.ComingItems.{is_of_receipt, awaited, IsComing}
@@ -43,7 +42,8 @@ awaited_after c start end (x ∷ queue) more none =
 module _ (K : List Operation) (lk : IsLegal K) (A G : Engine) (sound : IsSound A) (is : IsEngineOf K A) (v : Vector) (F : List Stamped)
     (l : IsLegalStamped F) (short : length F ≤ 1048576) (w : AreWithin (operations_of F) K) (c serial count : ℕ)
     (r : HasReceivedAll A c (reverse (missing v F)) serial count G)
-    (named : (q : ℕ) → at v q ≤ greatest_counter (operations A.replica) q) where
+    (named : (q : ℕ) → at v q ≤ greatest_counter (operations A.replica) q)
+    (known : (s : Stamped) → IsAmong s F → is_of_members A.replica.members s ≡ true) where
   -- the serials of the receipt
   abbrev pub first_serial : ℕ
   first_serial = suc (length r.client.cells)
@@ -78,13 +78,9 @@ module _ (K : List Operation) (lk : IsLegal K) (A G : Engine) (sound : IsSound A
       ∙ covered_there K lk A.replica v named (legal_entries A.replica is.settled.world.running) is.settled.world.within o.0
       (w o.0 o.1.among) (ap (covers v) o.1.id ∙ e)
 
-  known : (s : Stamped) → IsAmong s F → covers v s.id ≡ false → is_of_members A.replica.members s ≡ true
-  known s m e = all_pass (is_of_members A.replica.members) (reverse (missing v F)) s r.known
-      (into_reverse (missing v F) s (into_filter (λ t. not (covers v t.id)) F s m (not_from_false (covers v s.id) e)))
-
   all_come : Comes A.replica.members (operations A.replica) F [] (awaited c first_serial end_serial G.queue)
   all_come = subst (Comes A.replica.members (operations A.replica) F []) (append-nil (map OfPeer (reverse (missing v F))) ∙ sym all_awaited)
-      (comes_from A.replica.members (operations A.replica) F v F [] [] had known
+      (comes_from A.replica.members (operations A.replica) F v F [] [] had (λ s m e. known s m)
       (subst (λ (H : List Stamped). Comes A.replica.members (operations A.replica) F H []) (sym (append-nil F)) End))
 
   used : (n : ℕ) → first_serial ≤ n → n < end_serial → (x : Submitted) × WasSubmitted G c n x

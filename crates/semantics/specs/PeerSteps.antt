@@ -1,13 +1,9 @@
 -- The steps of one engine by which it says what it has, sends what a peer lacks, and receives what a peer sent.
-use Rattle.std.specs.Prelude.{ℕ, suc, cond, ◌==◌, Bool, List, [], ◌∷◌, length, Option, Some, None, option_map, slice_get}
-use Rattle.std.specs.List.{list_all}
-use Rattle.ids.specs.Vectors.{names_only}
+use Rattle.std.specs.Prelude.{ℕ, suc, cond, ◌==◌, List, [], ◌∷◌, length, Option, Some, None, option_map, slice_get}
 use Rattle.ids.specs.declared.refusal.Refusal.{Refusal}
-use Rattle.ids.specs.declared.refusal.Refusal.TheVariants.{UnknownReplica}
 use Rattle.semantics.specs.Vectors.{Vector}
 use Rattle.semantics.specs.NamedIds.{vector_of}
 use Rattle.semantics.specs.Stamped.{Stamped}
-use Rattle.semantics.specs.Faults.{is_of_members}
 use Rattle.semantics.specs.Entries.{applied, lacked_of}
 use Rattle.semantics.specs.LegalAnswer.{OfPeer}
 use Rattle.semantics.specs.Engine.{Engine, Client, Message, Hello, Bundle, published_entries, StepReply, Denied, Idle, SentHello}
@@ -25,26 +21,19 @@ published_vector e = vector_of (applied (published_entries e))
 abbrev pub lacked : Engine → Vector → List Stamped
 lacked e v = lacked_of (published_entries e) v
 
--- each replica of the vector is a member
-abbrev pub names_members : Engine → Vector → Bool
-names_members e v = names_only e.replica.members v
-
 -- a token says hello, in message k; it then has seen all that is published
 abbrev pub say_hello : Engine → (token message : ℕ) → Outcome
 say_hello e t k = record { engine = see_published e t; reply = SentHello k (published_vector e) }
 
--- a token answers a hello, in message k; where the hello names a replica that isn't a member, nothing is sent or seen
+-- a token answers a hello, in message k; it then has seen all that is published
 abbrev pub answer_hello : Engine → (token message : ℕ) → Option Message → Outcome
-answer_hello e t k (Some (Hello v)) =
-    cond (names_members e v)
-    (record { engine = see_published e t; reply = SentBundle k (length (lacked e v)) })
-    (record { engine = e; reply = Denied UnknownReplica })
+answer_hello e t k (Some (Hello v)) = record { engine = see_published e t; reply = SentBundle k (length (lacked e v)) }
 answer_hello e t k (Some (Bundle ss)) = record { engine = e; reply = NoMessage }
 answer_hello e t k None = record { engine = e; reply = NoMessage }
 
 -- what is sent in answer to a message
 abbrev pub answer_sent : Engine → Option Message → List Message
-answer_sent e (Some (Hello v)) = cond (names_members e v) (Bundle (lacked e v) ∷ []) []
+answer_sent e (Some (Hello v)) = Bundle (lacked e v) ∷ []
 answer_sent e (Some (Bundle ss)) = []
 answer_sent e None = []
 
@@ -84,17 +73,8 @@ receive_lines e c ss bad = at_client (slice_get e.clients c)
     at_client None = record { engine = e; reply = Idle }
     at_client (Some k) = as_received (suc (length k.cells)) (submit_all c bad 0 e ss)
 
--- the operations before the first that names a replica that isn't a member
-abbrev pub before_nonmember : List ℕ → List Stamped → List Stamped
-before_nonmember ms [] = []
-before_nonmember ms (s ∷ ss) = cond (is_of_members ms s) (s ∷ before_nonmember ms ss) []
-
--- the refusal of that one, if there is one
-abbrev pub nonmember_fault : List ℕ → List Stamped → Option Refusal
-nonmember_fault ms ss = cond (list_all (is_of_members ms) ss) None (Some UnknownReplica)
-
 -- a client receives a message, each operation as a line
 abbrev pub receive_message : Engine → ℕ → Option Message → Outcome
-receive_message e c (Some (Bundle ss)) = receive_lines e c (before_nonmember e.replica.members ss) (nonmember_fault e.replica.members ss)
+receive_message e c (Some (Bundle ss)) = receive_lines e c ss None
 receive_message e c (Some (Hello v)) = record { engine = e; reply = NoMessage }
 receive_message e c None = record { engine = e; reply = NoMessage }

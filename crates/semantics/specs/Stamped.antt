@@ -1,11 +1,11 @@
 -- Operations as they are kept and sent: stamped with a vector in place of the set of what they depend on.
-use Rattle.std.specs.Prelude.{◌≡◌, ◌≢◌, ◌↔◌, ℕ, ◌&&◌, ⊤, IsTrue, List, [], ◌∷◌, map}
+use Rattle.std.specs.Prelude.{◌≡◌, ◌↔◌, ◌&&◌, ⊤, List, [], ◌∷◌, map}
 use Rattle.std.specs.List.{list_any}
-use Rattle.semantics.specs.Ids.{OpId, id_at, is_same_id}
+use Rattle.semantics.specs.Ids.{OpId, is_same_id}
 use Rattle.semantics.specs.Elements.{Place}
 use Rattle.semantics.specs.Operations.{Operation, Mutation}
-use Rattle.semantics.specs.LegalHistory.{IsAmong, has_id, Follows}
-use Rattle.semantics.specs.Vectors.{Vector, at, covers}
+use Rattle.semantics.specs.LegalHistory.{IsAmong, Follows}
+use Rattle.semantics.specs.Vectors.{Vector, covers}
 use Rattle.semantics.specs.NamedIds.{names, IsAttained}
 
 -- an operation with the version vector of what it depends on

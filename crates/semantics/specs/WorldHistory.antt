@@ -37,10 +37,11 @@ IsNotBelow floor (RefusedAt why m) = floor ≤ m
 IsNotBelow floor (KeptAt m) = floor ≤ m
 IsNotBelow floor (KnownAt m) = floor ≤ m
 
--- F is E later: the history and what is published of it only got longer, no token has seen less,
+-- F is E later: its number and its members stay, the history and what is published of it only got longer, no token has seen less,
 -- and what was submitted, replied and answered stays
 pub record HasGrown (E F : Engine) : Type 0 where
   pub own : F.replica.own ≡ E.replica.own
+  pub members : F.replica.members ≡ E.replica.members
   pub entries : BeginsWith F.replica.entries E.replica.entries
   pub published : E.published ≤ F.published
   pub seen : (t : ℕ) → seen_by E t ≤ seen_by F t

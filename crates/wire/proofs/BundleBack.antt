@@ -13,38 +13,38 @@ use Rattle.wire.proofs.BundleLines.{after, after-op}
 use Rattle.wire.proofs.LineEnds.{compact_no_end}
 
 -- the operation's line is read as that operation
-abbrev IsBack : List ℕ → Stamped → Type 0
-IsBack table s = op_form table (op_line s) ≡ Ok s
+abbrev IsBack : Stamped → Type 0
+IsBack s = op_form (op_line s) ≡ Ok s
 
 first_line : (s : Stamped) (ss : List Stamped) (rest : List ℕ)
     → IsFirstLine (bundle_text (s ∷ ss) ++ rest) (op_line s) (bundle_text ss ++ rest)
 first_line s ss rest = record { split = append_assoc (op_line s) (10 ∷ bundle_text ss) rest; whole = compact_no_end (operation_json s) }
 
-after_bundle : (table : List ℕ) (ops ss : List Stamped) (rest : List ℕ) → All (IsBack table) ss
-    → after ops (readable table (bundle_text ss ++ rest)) ≡ after (ops ++ ss) (readable table rest)
-after_bundle table ops [] rest h = λ i. after (sym (append-nil ops) i) (readable table rest)
-after_bundle table ops (s ∷ ss) rest h =
-    after-op table (bundle_text (s ∷ ss) ++ rest) (op_line s) (bundle_text ss ++ rest) ops s (first_line s ss rest)
-    (All-head (IsBack table) s ss h)
-    ∙ after_bundle table (ops ++ s ∷ []) ss rest (All-tail (IsBack table) s ss h)
-    ∙ ap (λ (all : List Stamped). after all (readable table rest)) (append_assoc ops (s ∷ []) ss)
+after_bundle : (ops ss : List Stamped) (rest : List ℕ) → All IsBack ss
+    → after ops (readable (bundle_text ss ++ rest)) ≡ after (ops ++ ss) (readable rest)
+after_bundle ops [] rest h = λ i. after (sym (append-nil ops) i) (readable rest)
+after_bundle ops (s ∷ ss) rest h =
+    after-op (bundle_text (s ∷ ss) ++ rest) (op_line s) (bundle_text ss ++ rest) ops s (first_line s ss rest)
+    (All-head IsBack s ss h)
+    ∙ after_bundle (ops ++ s ∷ []) ss rest (All-tail IsBack s ss h)
+    ∙ ap (λ (all : List Stamped). after all (readable rest)) (append_assoc ops (s ∷ []) ss)
 
 -- a bundle, and what follows it
-pub readable-bundle : (table : List ℕ) (ss : List Stamped) (rest : List ℕ) → All (λ s. op_form table (op_line s) ≡ Ok s) ss
-    → readable table (bundle_text ss ++ rest) ≡ after ss (readable table rest)
-readable-bundle table ss rest h = after_bundle table [] ss rest h
+pub readable-bundle : (ss : List Stamped) (rest : List ℕ) → All (λ s. op_form (op_line s) ≡ Ok s) ss
+    → readable (bundle_text ss ++ rest) ≡ after ss (readable rest)
+readable-bundle ss rest h = after_bundle [] ss rest h
 
-pub bundle_form-bundle : (table : List ℕ) (ss : List Stamped) → All (λ s. op_form table (op_line s) ≡ Ok s) ss
-    → bundle_form table (bundle_text ss) ≡ Ok ss
-bundle_form-bundle table ss h =
-    ap (λ text. all_or_bad (readable table text)) (sym (append-nil (bundle_text ss)))
-    ∙ ap all_or_bad (readable-bundle table ss [] h)
+pub bundle_form-bundle : (ss : List Stamped) → All (λ s. op_form (op_line s) ≡ Ok s) ss
+    → bundle_form (bundle_text ss) ≡ Ok ss
+bundle_form-bundle ss h =
+    ap (λ text. all_or_bad (readable text)) (sym (append-nil (bundle_text ss)))
+    ∙ ap all_or_bad (readable-bundle ss [] h)
     ∙ ap Ok (append-nil ss)
 
 -- where the operation can be sent, its line is read as that operation
 pub record IsBackIfSent (s : Stamped) : Type 0 where
-  pub back : (table : List ℕ) → CanBeSent table s → op_form table (op_line s) ≡ Ok s
+  pub back : CanBeSent s → op_form (op_line s) ≡ Ok s
 
-pub sent_bundle_back : (table : List ℕ) (ss : List Stamped) → All (CanBeSent table) ss → All IsBackIfSent ss
-    → bundle_form table (bundle_text ss) ≡ Ok ss
-sent_bundle_back table ss sent h = bundle_form-bundle table ss (λ k d lt. (h k d lt).back table (sent k d lt))
+pub sent_bundle_back : (ss : List Stamped) → All CanBeSent ss → All IsBackIfSent ss
+    → bundle_form (bundle_text ss) ≡ Ok ss
+sent_bundle_back ss sent h = bundle_form-bundle ss (λ k d lt. (h k d lt).back (sent k d lt))

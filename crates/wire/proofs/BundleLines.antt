@@ -13,30 +13,30 @@ abbrev pub after : List Stamped → Readable → Readable
 after ops r = record { operations = ops ++ r.operations; stopped = r.stopped }
 
 -- a line that is an operation
-pub after-op : (table text line rest : List ℕ) (ops : List Stamped) (s : Stamped) → IsFirstLine text line rest → op_form table line ≡ Ok s
-    → after ops (readable table text) ≡ after (ops ++ s ∷ []) (readable table rest)
-after-op table text line rest ops s first e =
+pub after-op : (text line rest : List ℕ) (ops : List Stamped) (s : Stamped) → IsFirstLine text line rest → op_form line ≡ Ok s
+    → after ops (readable text) ≡ after (ops ++ s ∷ []) (readable rest)
+after-op text line rest ops s first e =
     rw (cut-first_line text line rest first, e)
     (λ i. record {
-      operations = sym (append_assoc ops (s ∷ []) (readable table rest).operations) i;
-      stopped = (readable table rest).stopped;
+      operations = sym (append_assoc ops (s ∷ []) (readable rest).operations) i;
+      stopped = (readable rest).stopped;
     })
 
 -- a line that is none
-pub after-bad : (table text line rest : List ℕ) (ops : List Stamped) (why : Refusal) → IsFirstLine text line rest
-    → op_form table line ≡ Err why
-    → after ops (readable table text) ≡ record { operations = ops; stopped = Some why }
-after-bad table text line rest ops why first e =
+pub after-bad : (text line rest : List ℕ) (ops : List Stamped) (why : Refusal) → IsFirstLine text line rest
+    → op_form line ≡ Err why
+    → after ops (readable text) ≡ record { operations = ops; stopped = Some why }
+after-bad text line rest ops why first e =
     rw (cut-first_line text line rest first, e) (λ i. record { operations = append-nil ops i; stopped = Some why })
 
 -- bytes that no line feed ends
-pub after-cut : (table text : List ℕ) (ops : List Stamped) → HasNoEnd text → text ≢ []
-    → after ops (readable table text) ≡ record { operations = ops; stopped = Some BadLine }
-after-cut table [] ops h some = absurd (some refl)
-after-cut table (b ∷ text) ops h some =
+pub after-cut : (text : List ℕ) (ops : List Stamped) → HasNoEnd text → text ≢ []
+    → after ops (readable text) ≡ record { operations = ops; stopped = Some BadLine }
+after-cut [] ops h some = absurd (some refl)
+after-cut (b ∷ text) ops h some =
     rw (cut-no_end (b ∷ text) h) (λ i. record { operations = append-nil ops i; stopped = Some BadLine })
 
 -- no byte
-pub after-none : (table text : List ℕ) (ops : List Stamped) → text ≡ []
-    → after ops (readable table text) ≡ record { operations = ops; stopped = None }
-after-none table text ops e = rw e (λ i. record { operations = append-nil ops i; stopped = None })
+pub after-none : (text : List ℕ) (ops : List Stamped) → text ≡ []
+    → after ops (readable text) ≡ record { operations = ops; stopped = None }
+after-none text ops e = rw e (λ i. record { operations = append-nil ops i; stopped = None })

@@ -1,15 +1,13 @@
 -- What is written of an operation is read as that operation.
-use Rattle.std.proofs.Common.{◌≡◌, ◌≤◌, ◌&&◌, ℕ, suc, true, false, nat_le, nat_lt, sym, List, [], ◌∷◌, ◌++◌, length, map, Option, Some}
+use Rattle.std.proofs.Common.{◌≡◌, ◌≤◌, ℕ, suc, true, false, nat_le, nat_lt, List, [], ◌∷◌, ◌++◌, length, map, Option, Some}
 use Rattle.std.proofs.Common.{None, Ok}
 use Rattle.std.proofs.Common.{refl, ap, ◌∙◌, arith}
 use Rattle.std.specs.Prelude.{codes, pos, negsuc}
 use Rattle.std.specs.List.{list_all}
 use Rattle.std.proofs.lemmas.Bool.{and_parts, leb-true, lt-ltb, le-ltb}
 use Rattle.std.proofs.lemmas.List.{length-append}
-use Rattle.ids.specs.Members.{is_member}
-use Rattle.ids.specs.Vectors.{IsNamed, names_only}
+use Rattle.ids.specs.Vectors.{IsNamed}
 use Rattle.semantics.specs.Ids.{OpId}
-use Rattle.semantics.specs.Faults.{items_of_members}
 use Rattle.semantics.specs.Elements.{Element, Doc, Field, Item, Place, At, HeadOf, Tag, AsMap, AsList, Value, Plain, EmptyMap, EmptyList}
 use Rattle.semantics.specs.Elements.{Null, Boolean, Whole, Text, depth}
 use Rattle.semantics.specs.Operations.{Mutation, Assign, Insert, Delete, element_of}
@@ -18,15 +16,13 @@ use Rattle.semantics.specs.Stamped.{Stamped}
 use Rattle.semantics.specs.Vectors.{AreAbove, IsCanonical, Vector}
 use Rattle.semantics.proofs.ElementPaths.{down-hops_from_root}
 use Rattle.operation.specs.declared.op.Op.{Op}
-use Rattle.operation.specs.Alone.{key_of_member}
 use Rattle.operation.specs.Ops.{mutation_of, stamped_of}
-use Rattle.operation.proofs.PlaceKeys.{items_of_members-keys}
 use Rattle.serde_json.specs.Data.{Data}
 use Rattle.serde_json.specs.View.{items_of}
 use Rattle.operation.specs.cursor.Places.{LastKey, DocKey, FieldName, ItemId, HeadKey, depth_of}
 use Rattle.operation.specs.value.Forms.{IsWithinLimits, json_of, value_form}
 use Rattle.wire.specs.Forms.{and_then, count_parts, phrase_form}
-use Rattle.wire.specs.Members.{member_form}
+use Rattle.wire.specs.OpIds.{id_form}
 use Rattle.wire.specs.Messages.{hello_json, hello_of}
 use Rattle.wire.specs.Operations.{entered_json, id_json, key_json, last_from, last_json, mutation_json, operation_json, parts_from}
 use Rattle.wire.specs.Operations.{path_json, phrase, root_json}
@@ -38,12 +34,12 @@ use Rattle.wire.specs.Vectors.{pair_json, pairs_above}
 
 -- ---- ids and vectors
 
-id_back : (table : List ℕ) (a : OpId) → IsSentId table a → member_form table (id_json a) ≡ Ok a
-id_back table a h = rw (h.0, h.1, h.2) refl
+id_back : (a : OpId) → IsSentId a → id_form (id_json a) ≡ Ok a
+id_back a h = rw (h.0, h.1) refl
 
-pairs_back : (table : List ℕ) (p : ℕ) (v : Vector) → IsSentVector table p v → pairs_above table p (items_of (map pair_json v)) ≡ Ok v
-pairs_back table p [] h = refl
-pairs_back table p (a ∷ v) h = rw (h.1.0, h.1.1, lt-ltb p a.replica h.0, h.1.2, pairs_back table a.replica v h.2) refl
+pairs_back : (p : ℕ) (v : Vector) → IsSentVector p v → pairs_above p (items_of (map pair_json v)) ≡ Ok v
+pairs_back p [] h = refl
+pairs_back p (a ∷ v) h = rw (h.1.0, h.1.1, lt-ltb p a.replica h.0, pairs_back a.replica v h.2) refl
 
 count_pairs : (v : Vector) → count_parts (items_of (map pair_json v)) ≡ length v
 count_pairs [] = refl
@@ -74,32 +70,32 @@ abbrev path_last : LastKey → List Hop → LastKey
 path_last before [] = before
 path_last before (k ∷ ks) = path_last (written_key k) ks
 
-key_back : (table : List ℕ) (k : Hop) → IsSentKey table k → key_form table (key_json k) ≡ Ok (written_key k)
-key_back table (FieldHop n) h = rw (le-ltb 256 (length n) h) refl
-key_back table (ItemHop a) h = rw (h.0, h.1, h.2) refl
+key_back : (k : Hop) → IsSentKey k → key_form (key_json k) ≡ Ok (written_key k)
+key_back (FieldHop n) h = rw (le-ltb 256 (length n) h) refl
+key_back (ItemHop a) h = rw (h.0, h.1) refl
 
-part_back : (table : List ℕ) (d : Data) (before : LastKey) (k : Hop) → key_form table d ≡ Ok before
-    → and_then (entered_of table) (phrase_form (entered_json d k)) ≡ Ok (record { key = before; tag = tag_before k })
-part_back table d before (FieldHop n) e = rw e refl
-part_back table d before (ItemHop a) e = rw e refl
+part_back : (d : Data) (before : LastKey) (k : Hop) → key_form d ≡ Ok before
+    → and_then entered_of (phrase_form (entered_json d k)) ≡ Ok (record { key = before; tag = tag_before k })
+part_back d before (FieldHop n) e = rw e refl
+part_back d before (ItemHop a) e = rw e refl
 
-parts_back : (table : List ℕ) (d : Data) (before : LastKey) (ks : List Hop) → key_form table d ≡ Ok before → AreSentKeys table ks
-    → parts_of table (items_of (parts_from d ks)) ≡ Ok (path_parts before ks)
-parts_back table d before [] e h = refl
-parts_back table d before (k ∷ ks) e h = rw
-    (part_back table d before k e, parts_back table (key_json k) (written_key k) ks (key_back table k h.0) h.1) refl
+parts_back : (d : Data) (before : LastKey) (ks : List Hop) → key_form d ≡ Ok before → AreSentKeys ks
+    → parts_of (items_of (parts_from d ks)) ≡ Ok (path_parts before ks)
+parts_back d before [] e h = refl
+parts_back d before (k ∷ ks) e h = rw
+    (part_back d before k e, parts_back (key_json k) (written_key k) ks (key_back k h.0) h.1) refl
 
-last_back : (table : List ℕ) (d : Data) (before : LastKey) (ks : List Hop) → key_form table d ≡ Ok before → AreSentKeys table ks
-    → key_form table (last_from d ks) ≡ Ok (path_last before ks)
-last_back table d before [] e h = e
-last_back table d before (k ∷ ks) e h = last_back table (key_json k) (written_key k) ks (key_back table k h.0) h.1
+last_back : (d : Data) (before : LastKey) (ks : List Hop) → key_form d ≡ Ok before → AreSentKeys ks
+    → key_form (last_from d ks) ≡ Ok (path_last before ks)
+last_back d before [] e h = e
+last_back d before (k ∷ ks) e h = last_back (key_json k) (written_key k) ks (key_back k h.0) h.1
 
-head_back : (table : List ℕ) (d : Data) (before : LastKey) (ks : List Hop) → key_form table d ≡ Ok before → AreSentKeys table ks
-    → parts_of table (items_of (parts_from d ks ++ phrase (codes "l") (last_from d ks ∷ []) ∷ []))
+head_back : (d : Data) (before : LastKey) (ks : List Hop) → key_form d ≡ Ok before → AreSentKeys ks
+    → parts_of (items_of (parts_from d ks ++ phrase (codes "l") (last_from d ks ∷ []) ∷ []))
     ≡ Ok (path_parts before ks ++ record { key = path_last before ks; tag = AsList } ∷ [])
-head_back table d before [] e h = rw e refl
-head_back table d before (k ∷ ks) e h = rw
-    (part_back table d before k e, head_back table (key_json k) (written_key k) ks (key_back table k h.0) h.1) refl
+head_back d before [] e h = rw e refl
+head_back d before (k ∷ ks) e h = rw
+    (part_back d before k e, head_back (key_json k) (written_key k) ks (key_back k h.0) h.1) refl
 
 entry_back : (e : Element) (k : Hop) → element_at e (Some (tag_before k)) (written_key k) ≡ Ok (child e k)
 entry_back e (FieldHop n) = refl
@@ -135,25 +131,25 @@ length_keys Doc = refl
 length_keys (Field e n) = omega (arith, length-append (hops_from_root e) (FieldHop n ∷ []), length_keys e)
 length_keys (Item e a) = omega (arith, length-append (hops_from_root e) (ItemHop a ∷ []), length_keys e)
 
-place_back : (table : List ℕ) (p : Place) → AreSentKeys table (hops_from_root (element_of p)) → depth_of p ≤ 32
-    → place_form table (path_json p) (last_json p) ≡ Ok p
-place_back table (At e) h few =
+place_back : (p : Place) → AreSentKeys (hops_from_root (element_of p)) → depth_of p ≤ 32
+    → place_form (path_json p) (last_json p) ≡ Ok p
+place_back (At e) h few =
     let ks = hops_from_root e in
     let short : count_parts (items_of (parts_from root_json ks)) ≤ 32 = omega (arith, count_back root_json ks, length_keys e, few) in
     rw (
       le-ltb 32
           (count_parts (items_of
           (parts_from root_json ks))) short,
-      parts_back table root_json DocKey ks refl h,
-      last_back table root_json DocKey ks refl h,
+      parts_back root_json DocKey ks refl h,
+      last_back root_json DocKey ks refl h,
     )
     (walk_back Doc Doc None DocKey ks refl refl ∙ ap (λ (d : Element). Ok (At d)) (down-hops_from_root e))
-place_back table (HeadOf e) h few =
+place_back (HeadOf e) h few =
     let ks = hops_from_root e in
     let x = phrase (codes "l") (last_from root_json ks ∷ []) in
     let short : count_parts (items_of (parts_from root_json ks ++ x ∷ [])) ≤ 32 = omega
     (arith, count_head root_json x ks, length_keys e, few) in
-    rw (le-ltb 32 (count_parts (items_of (parts_from root_json ks ++ x ∷ []))) short, head_back table root_json DocKey ks refl h)
+    rw (le-ltb 32 (count_parts (items_of (parts_from root_json ks ++ x ∷ []))) short, head_back root_json DocKey ks refl h)
     (walk_to_head Doc Doc None DocKey ks refl ∙ ap (λ (d : Element). Ok (HeadOf d)) (down-hops_from_root e))
 
 -- ---- mutations
@@ -174,30 +170,28 @@ mutation_back Delete h = refl
 
 -- ---- operations
 
-pub operation_back : (table : List ℕ) (s : Stamped) → IsSent table s → operation_form table (operation_json s) ≡ Ok s
-operation_back table s h =
+pub operation_back : (s : Stamped) → IsSent s → operation_form (operation_json s) ≡ Ok s
+operation_back s h =
     rw (
-      id_back table s.id h.id,
+      id_back s.id h.id,
       few_pairs s.vector h.few_pairs,
-      pairs_back table 0 s.vector h.vector,
-      place_back table s.place h.keys h.few,
+      pairs_back 0 s.vector h.vector,
+      place_back s.place h.keys h.few,
       mutation_back s.mutation
           h.mutation,
     ) refl
 
-pub hello_back : (table : List ℕ) (v : Vector) → IsSentVector table 0 v → length v ≤ 256
-    → and_then (hello_of table) (phrase_form (hello_json v)) ≡ Ok v
-hello_back table v h few = rw (few_pairs v few, pairs_back table 0 v h) refl
+pub hello_back : (v : Vector) → IsSentVector 0 v → length v ≤ 256
+    → and_then hello_of (phrase_form (hello_json v)) ≡ Ok v
+hello_back v h few = rw (few_pairs v few, pairs_back 0 v h) refl
 
 -- ---- what types keep, beside what a caller answers for
 
-sent_vector : (table : List ℕ) (p : ℕ) (v : Vector) → IsCanonical v → AreAbove p v → AreReplicaNumbers v
-    → list_all (λ a. is_member table a.replica) v ≡ true → are_counters v ≡ true → IsSentVector table p v
-sent_vector table p [] rising above typed members counters = tt
-sent_vector table p (a ∷ v) rising above typed members counters =
-    let m = and_parts (is_member table a.replica) (list_all (λ (b : OpId). is_member table b.replica) v) members in
+sent_vector : (p : ℕ) (v : Vector) → IsCanonical v → AreAbove p v → AreReplicaNumbers v → are_counters v ≡ true → IsSentVector p v
+sent_vector p [] rising above typed counters = tt
+sent_vector p (a ∷ v) rising above typed counters =
     let n = and_parts (is_counter a.counter) (are_counters v) counters in
-    (above.0, (n.0, typed.0, m.0), sent_vector table a.replica v rising.2 rising.1 typed.1 m.1 n.1)
+    (above.0, (n.0, typed.0), sent_vector a.replica v rising.2 rising.1 typed.1 n.1)
 
 above_zero : (v : Vector) → AreReplicaNumbers v → AreAbove 0 v
 above_zero [] h = tt
@@ -205,34 +199,25 @@ above_zero (a ∷ v) h =
     let some = and_parts (nat_le 1 a.replica) (nat_le a.replica 4294967295) h.0 in
     let above : 1 ≤ a.replica = leb-true 1 a.replica some.0 in (omega (arith, above), above_zero v h.1)
 
--- a vector of members, where its counters are those of the wire
-pub sent_named : (table : List ℕ) (v : Vector) → IsCanonical v → AreReplicaNumbers v → names_only table v ≡ true → are_counters v ≡ true
-    → IsSentVector table 0 v
-sent_named table v canonical typed members counters = sent_vector table 0 v canonical (above_zero v typed) typed members counters
+-- a vector, where its counters are those of the wire
+pub sent_named : (v : Vector) → IsCanonical v → AreReplicaNumbers v → are_counters v ≡ true → IsSentVector 0 v
+sent_named v canonical typed counters = sent_vector 0 v canonical (above_zero v typed) typed counters
 
-sent_keys : (table : List ℕ) (ks : List Hop) → AreTypedKeys ks → list_all (key_of_member table) ks ≡ true → list_all key_counted ks ≡ true
-    → AreSentKeys table ks
-sent_keys table [] typed members counters = tt
-sent_keys table (FieldHop n ∷ ks) typed members counters = (typed.0, sent_keys table ks typed.1 members counters)
-sent_keys table (ItemHop a ∷ ks) typed members counters =
-    let m = and_parts (is_member table a.replica) (list_all (key_of_member table) ks) members in
-    let n = and_parts (is_counter a.counter) (list_all key_counted ks) counters in
-    ((n.0, typed.0, m.0), sent_keys table ks typed.1 m.1 n.1)
+sent_keys : (ks : List Hop) → AreTypedKeys ks → list_all key_counted ks ≡ true → AreSentKeys ks
+sent_keys [] typed counters = tt
+sent_keys (FieldHop n ∷ ks) typed counters = (typed.0, sent_keys ks typed.1 counters)
+sent_keys (ItemHop a ∷ ks) typed counters =
+    let n = and_parts (is_counter a.counter) (list_all key_counted ks) counters in ((n.0, typed.0), sent_keys ks typed.1 n.1)
 
 -- what its types keep, and what a caller answers for, is all that a line wants
-pub typed_sent : (table : List ℕ) (o : Op) → IsNamed o.deps → IsReplicaNumber o.id.replica → AreReplicaNumbers o.deps
-    → IsTypedPlace o.place → IsSentMutation (mutation_of o.mutation) → CanBeSent table (stamped_of o) → IsSent table (stamped_of o)
-typed_sent table o named own_typed vector_typed place_typed within sent =
-    let s : Stamped = stamped_of o in
-    let parts = and_parts (is_member table s.id.replica && list_all (λ (a : OpId). is_member table a.replica) s.vector)
-    (items_of_members table (element_of s.place)) sent.members in
-    let own = and_parts (is_member table s.id.replica) (list_all (λ (a : OpId). is_member table a.replica) s.vector) parts.0 in
+pub typed_sent : (o : Op) → IsNamed o.deps → IsReplicaNumber o.id.replica → AreReplicaNumbers o.deps → IsTypedPlace o.place
+    → IsSentMutation (mutation_of o.mutation) → CanBeSent (stamped_of o) → IsSent (stamped_of o)
+typed_sent o named own_typed vector_typed place_typed within sent =
     record {
-      id = (sent.id, own_typed, own.0);
-      vector = sent_named table o.deps named.canonical vector_typed own.1 sent.vector;
+      id = (sent.id, own_typed);
+      vector = sent_named o.deps named.canonical vector_typed sent.vector;
       few_pairs = named.few;
-      keys = sent_keys table (hops_from_root (element_of s.place)) place_typed.keys
-          (sym (items_of_members-keys table (element_of s.place)) ∙ parts.1) sent.items;
+      keys = sent_keys (hops_from_root (element_of o.place)) place_typed.keys sent.items;
       few = place_typed.few;
       mutation = within;
     }

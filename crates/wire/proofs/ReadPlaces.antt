@@ -1,5 +1,5 @@
 -- Places that are read key by key.
-use Rattle.std.proofs.Common.{◌≡◌, ◌≤◌, ◌<◌, ◌+◌, ℕ, suc, true, false, true≢false, List, [], ◌∷◌, ◌++◌, map, length, Option, Some, None}
+use Rattle.std.proofs.Common.{◌≡◌, ◌≤◌, ◌<◌, ◌+◌, suc, true, false, true≢false, List, [], ◌∷◌, ◌++◌, map, length, Option, Some, None}
 use Rattle.std.proofs.Common.{Result, Ok, Err, inl, inr, refl, sym, ap, ◌∙◌, subst, arith}
 use Rattle.std.specs.Result.{IsErrAnd}
 use Rattle.std.proofs.lemmas.Bool.{lt-ltb, le-ltb}
@@ -26,11 +26,11 @@ pub count_parts-items_view : (vs : List Value) → count_parts (items_view vs) �
 count_parts-items_view [] = refl
 count_parts-items_view (v ∷ vs) = ap suc (count_parts-items_view vs)
 
-pub path_of-many : (table : List ℕ) (vs : List Value) → 32 < length vs → path_of table (items_view vs) ≡ Err TooDeep
-path_of-many table vs h = rw (count_parts-items_view vs, lt-ltb 32 (length vs) h) refl
+pub path_of-many : (vs : List Value) → 32 < length vs → path_of (items_view vs) ≡ Err TooDeep
+path_of-many vs h = rw (count_parts-items_view vs, lt-ltb 32 (length vs) h) refl
 
-pub path_of-few : (table : List ℕ) (vs : List Value) → length vs ≤ 32 → path_of table (items_view vs) ≡ parts_of table (items_view vs)
-path_of-few table vs h = rw (count_parts-items_view vs, le-ltb 32 (length vs) h) refl
+pub path_of-few : (vs : List Value) → length vs ≤ 32 → path_of (items_view vs) ≡ parts_of (items_view vs)
+path_of-few vs h = rw (count_parts-items_view vs, le-ltb 32 (length vs) h) refl
 
 -- ---- hops
 

@@ -1,19 +1,18 @@
 -- What is tested of an operation before it is compared with a line: it can be sent.
-use Rattle.std.proofs.Common.{◌≡◌, ◌&&◌, ℕ, true, List}
+use Rattle.std.proofs.Common.{◌≡◌, ◌&&◌, true}
 use Rattle.std.specs.List.{list_all}
 use Rattle.std.proofs.lemmas.Bool.{and_parts}
-use Rattle.semantics.specs.Faults.{is_of_members}
 use Rattle.semantics.specs.Operations.{element_of}
 use Rattle.semantics.specs.Paths.{hops_from_root}
 use Rattle.operation.specs.declared.op.Op.{Op}
 use Rattle.operation.specs.Ops.{stamped_of}
 use Rattle.wire.specs.Sent.{CanBeSent, are_counters, is_counter, key_counted}
 
-pub tested_sent : (table : List ℕ) (o : Op) → is_of_members table (stamped_of o) ≡ true
+pub tested_sent : (o : Op)
     → (is_counter o.id.counter && are_counters o.deps && list_all key_counted (hops_from_root (element_of o.place))) ≡ true
-    → CanBeSent table (stamped_of o)
-tested_sent table o names counts =
+    → CanBeSent (stamped_of o)
+tested_sent o counts =
     let both = and_parts (is_counter o.id.counter && are_counters o.deps)
     (list_all key_counted (hops_from_root (element_of o.place))) counts in
     let first = and_parts (is_counter o.id.counter) (are_counters o.deps) both.0 in
-    record { members = names; id = first.0; vector = first.1; items = both.1 }
+    record { id = first.0; vector = first.1; items = both.1 }

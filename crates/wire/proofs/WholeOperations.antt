@@ -27,32 +27,32 @@ use Rattle.wire.proofs.WholeTexts.{HasWhole, ItemsHaveWhole, read-compact_text}
 limited : (limit n : ℕ) → limit < 2 ^ 64 → is_from_one_to limit n ≡ true → n < 2 ^ 64
 limited limit n l t = let p : (nat_le 1 n ≡ true) × (nat_le n limit ≡ true) = and_parts _ _ t in omega (arith, l, leb-true n limit p.1)
 
-counter : (table : List ℕ) (a : OpId) → IsSentId table a → a.counter < 2 ^ 64
-counter table a h = limited 4611686018427387904 a.counter (omega arith) h.0
+counter : (a : OpId) → IsSentId a → a.counter < 2 ^ 64
+counter a h = limited 4611686018427387904 a.counter (omega arith) h.0
 
-replica : (table : List ℕ) (a : OpId) → IsSentId table a → a.replica < 2 ^ 64
-replica table a h = limited 4294967295 a.replica (omega arith) h.1
+replica : (a : OpId) → IsSentId a → a.replica < 2 ^ 64
+replica a h = limited 4294967295 a.replica (omega arith) h.1
 
-pairs : (table : List ℕ) (p : ℕ) (v : Vector) → IsSentVector table p v → ItemsHaveWhole (items_of (map pair_json v))
-pairs table p [] h = tt
-pairs table p (a ∷ v) h = ((replica table a h.1, (counter table a h.1, tt)), pairs table a.replica v h.2)
+pairs : (p : ℕ) (v : Vector) → IsSentVector p v → ItemsHaveWhole (items_of (map pair_json v))
+pairs p [] h = tt
+pairs p (a ∷ v) h = ((replica a h.1, (counter a h.1, tt)), pairs a.replica v h.2)
 
-key : (table : List ℕ) (k : Hop) → IsSentKey table k → HasWhole (key_json k)
-key table (FieldHop n) h = tt
-key table (ItemHop a) h = (counter table a h, (replica table a h, tt))
+key : (k : Hop) → IsSentKey k → HasWhole (key_json k)
+key (FieldHop n) h = tt
+key (ItemHop a) h = (counter a h, (replica a h, tt))
 
 part : (before : Data) (k : Hop) → HasWhole before → HasWhole (entered_json before k)
 part before (FieldHop n) h = (tt, (h, tt))
 part before (ItemHop a) h = (tt, (h, tt))
 
-parts : (table : List ℕ) (before : Data) (ks : List Hop) → HasWhole before → AreSentKeys table ks
+parts : (before : Data) (ks : List Hop) → HasWhole before → AreSentKeys ks
     → ItemsHaveWhole (items_of (parts_from before ks))
-parts table before [] h sent = tt
-parts table before (k ∷ ks) h sent = (part before k h, parts table (key_json k) ks (key table k sent.0) sent.1)
+parts before [] h sent = tt
+parts before (k ∷ ks) h sent = (part before k h, parts (key_json k) ks (key k sent.0) sent.1)
 
-last : (table : List ℕ) (before : Data) (ks : List Hop) → HasWhole before → AreSentKeys table ks → HasWhole (last_from before ks)
-last table before [] h sent = h
-last table before (k ∷ ks) h sent = last table (key_json k) ks (key table k sent.0) sent.1
+last : (before : Data) (ks : List Hop) → HasWhole before → AreSentKeys ks → HasWhole (last_from before ks)
+last before [] h sent = h
+last before (k ∷ ks) h sent = last (key_json k) ks (key k sent.0) sent.1
 
 one_more : (ds : List Data) (d : Data) → ItemsHaveWhole (items_of ds) → HasWhole d → ItemsHaveWhole (items_of (ds ++ d ∷ []))
 one_more [] d h k = (k, tt)
@@ -61,16 +61,16 @@ one_more (x ∷ ds) d h k = (h.0, one_more ds d h.1 k)
 root : HasWhole root_json
 root = omega arith
 
-place : (table : List ℕ) (p : Place) → AreSentKeys table (hops_from_root (element_of p)) → ItemsHaveWhole (items_of (parts_of p))
-place table (At e) h = parts table root_json (hops_from_root e) root h
-place table (HeadOf l) h =
+place : (p : Place) → AreSentKeys (hops_from_root (element_of p)) → ItemsHaveWhole (items_of (parts_of p))
+place (At e) h = parts root_json (hops_from_root e) root h
+place (HeadOf l) h =
     one_more (parts_from root_json (hops_from_root l)) (phrase (codes "l") (last_from root_json (hops_from_root l) ∷ []))
-    (parts table root_json (hops_from_root l) root h)
-    (tt, (last table root_json (hops_from_root l) root h, tt))
+    (parts root_json (hops_from_root l) root h)
+    (tt, (last root_json (hops_from_root l) root h, tt))
 
-last_key : (table : List ℕ) (p : Place) → AreSentKeys table (hops_from_root (element_of p)) → HasWhole (last_json p)
-last_key table (At e) h = last table root_json (hops_from_root e) root h
-last_key table (HeadOf l) h = omega arith
+last_key : (p : Place) → AreSentKeys (hops_from_root (element_of p)) → HasWhole (last_json p)
+last_key (At e) h = last root_json (hops_from_root e) root h
+last_key (HeadOf l) h = omega arith
 
 value : (v : Value) → IsWithinLimits v → HasWhole (json_of v)
 value (Plain Null) h = tt
@@ -86,31 +86,31 @@ mutation (Assign v) h = (tt, (value v h, tt))
 mutation (Insert v) h = (tt, (value v h, tt))
 mutation Delete h = (tt, tt)
 
-operation : (table : List ℕ) (s : Stamped) → IsSent table s → HasWhole (operation_json s)
-operation table s h =
-    let id : HasWhole (id_json s.id) = (counter table s.id h.id, (replica table s.id h.id, tt)) in (
+operation : (s : Stamped) → IsSent s → HasWhole (operation_json s)
+operation s h =
+    let id : HasWhole (id_json s.id) = (counter s.id h.id, (replica s.id h.id, tt)) in (
       tt,
       (
         id,
         (
-          pairs table 0 s.vector h.vector,
-          (place table s.place h.keys, (last_key table s.place h.keys, (mutation s.mutation h.mutation, tt))),
+          pairs 0 s.vector h.vector,
+          (place s.place h.keys, (last_key s.place h.keys, (mutation s.mutation h.mutation, tt))),
         ),
       ),
     )
 
-pub op_form-op_line : (table : List ℕ) (s : Stamped) → IsSent table s → IsUtf8 (op_line s) → op_form table (op_line s) ≡ Ok s
-op_form-op_line table s sent utf8 =
+pub op_form-op_line : (s : Stamped) → IsSent s → IsUtf8 (op_line s) → op_form (op_line s) ≡ Ok s
+op_form-op_line s sent utf8 =
     let d = operation_json s in
     let shallow : depth (operation_json s) ≤ 127 = omega (arith, depth-operation_json s) in
-    ap (and_then (operation_form table)) (json_form-read (op_line s) d utf8 (read-compact_text d (operation table s sent) shallow))
-    ∙ operation_back table s sent
+    ap (and_then operation_form) (json_form-read (op_line s) d utf8 (read-compact_text d (operation s sent) shallow))
+    ∙ operation_back s sent
 
-pub hello_form-vector_line : (table : List ℕ) (v : Vector) → IsSentVector table 0 v → length v ≤ 256 → IsUtf8 (vector_line v)
-    → hello_form table (vector_line v) ≡ Ok v
-hello_form-vector_line table v sent few utf8 =
+pub hello_form-vector_line : (v : Vector) → IsSentVector 0 v → length v ≤ 256 → IsUtf8 (vector_line v)
+    → hello_form (vector_line v) ≡ Ok v
+hello_form-vector_line v sent few utf8 =
     let d = hello_json v in
-    let whole : HasWhole (hello_json v) = (tt, (pairs table 0 v sent, tt)) in
+    let whole : HasWhole (hello_json v) = (tt, (pairs 0 v sent, tt)) in
     let shallow : depth (hello_json v) ≤ 127 = omega (arith, depth-hello_json v) in
-    ap (λ r. and_then (hello_of table) (and_then phrase_form r)) (json_form-read (vector_line v) d utf8 (read-compact_text d whole shallow))
-    ∙ hello_back table v sent few
+    ap (λ r. and_then hello_of (and_then phrase_form r)) (json_form-read (vector_line v) d utf8 (read-compact_text d whole shallow))
+    ∙ hello_back v sent few

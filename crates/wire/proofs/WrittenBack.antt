@@ -7,9 +7,8 @@ use Rattle.std.proofs.lemmas.Bool.{eqb-true}
 use Rattle.std.specs.Str.{bytes_eq}
 use Rattle.std.proofs.lemmas.Slice.Eq.{bytes_eq-Decides}
 use Rattle.ids.specs.declared.refusal.Refusal.{Refusal}
-use Rattle.ids.specs.declared.refusal.Refusal.TheVariants.{BadLine, KeyTooLong, NotWhole, TextTooLong, TooDeep, UnknownReplica}
+use Rattle.ids.specs.declared.refusal.Refusal.TheVariants.{BadLine, KeyTooLong, NotWhole, TextTooLong, TooDeep}
 use Rattle.ids.specs.Configurations.{is_from_one_to}
-use Rattle.ids.specs.Members.{is_member}
 use Rattle.semantics.specs.Ids.{OpId, id_at}
 use Rattle.semantics.specs.Elements.{Element, Doc, Field, Item, Place, At, HeadOf, Tag, AsMap, AsList, AsRegister, Value, Plain, EmptyMap}
 use Rattle.semantics.specs.Elements.{EmptyList, Null, Boolean, Whole, Text}
@@ -24,7 +23,7 @@ use Rattle.operation.specs.cursor.Places.{LastKey, DocKey, FieldName, ItemId, He
 use Rattle.operation.proofs.cursor.RootPaths.{hops_from_root-down}
 use Rattle.operation.specs.value.Forms.{json_of, value_form}
 use Rattle.wire.specs.Forms.{and_then, count_parts, list_form, number_form, phrase_form, phrase_of, text_form, with_parts}
-use Rattle.wire.specs.Members.{counter_form, id_of, limited_form, member_form, member_of, replica_form}
+use Rattle.wire.specs.OpIds.{counter_form, id_form, id_of, limited_form, replica_form}
 use Rattle.wire.specs.Messages.{hello_json, hello_of, only_vector}
 use Rattle.wire.specs.Operations.{head_json, id_json, last_from, last_json, mutation_json, operation_json, parts_from, path_json, phrase}
 use Rattle.wire.specs.Operations.{root_json}
@@ -107,18 +106,8 @@ id_in (item c (item r no_items)) a h =
     (λ i. array (item (limited_in 4611686018427387904 c n.0 n.1 i) (item (limited_in 4294967295 r p.0 p.1 i) no_items)))
     ∙ ap id_json (same_ok (id_at n.0 p.0) a p.2)
 
-member_is : (table : List ℕ) (a b : OpId) → member_of table a ≡ Ok b → a ≡ b
-member_is table a b h = by (is_member table a.replica) h
-  where
-    by : (t : Bool) → cond t (Ok a) (Err UnknownReplica) ≡ Ok b → a ≡ b
-    by true e = same_ok a b e
-    by false e = absurd (cc)
-
-member_in : (table : List ℕ) (d : Data) (a : OpId) → member_form table d ≡ Ok a → d ≡ id_json a
-member_in table d a h =
-    let b = made_of (member_of table) (and_then id_of (list_form d)) a h in
-    let xs = made_of id_of (list_form d) b.0 b.1 in
-    list_in d xs.0 xs.1 ∙ id_in xs.0 b.0 xs.2 ∙ ap id_json (member_is table b.0 a b.2)
+id_form_in : (d : Data) (a : OpId) → id_form d ≡ Ok a → d ≡ id_json a
+id_form_in d a h = let xs = made_of id_of (list_form d) a h in list_in d xs.0 xs.1 ∙ id_in xs.0 a xs.2
 
 pair_in : (d : Data) (a : OpId) → pair_form d ≡ Ok a → d ≡ pair_json a
 pair_in d a h = let xs = made_of pair_of (list_form d) a h in list_in d xs.0 xs.1 ∙ of xs.0 xs.2
@@ -133,42 +122,42 @@ pair_in d a h = let xs = made_of pair_of (list_form d) a h in list_in d xs.0 xs.
         (λ i. array (item (limited_in 4294967295 r p.0 p.1 i) (item (limited_in 4611686018427387904 c n.0 n.1 i) no_items)))
         ∙ ap pair_json (same_ok (id_at n.0 p.0) a n.2)
 
-next_is : (table : List ℕ) (p : ℕ) (a b : OpId) → next_of table p a ≡ Ok b → a ≡ b
-next_is table p a b h = by (nat_lt p a.replica) h
+next_is : (p : ℕ) (a b : OpId) → next_of p a ≡ Ok b → a ≡ b
+next_is p a b h = by (nat_lt p a.replica) h
   where
-    by : (t : Bool) → cond t (member_of table a) (Err BadLine) ≡ Ok b → a ≡ b
-    by true e = member_is table a b e
+    by : (t : Bool) → cond t (Ok a) (Err BadLine) ≡ Ok b → a ≡ b
+    by true e = same_ok a b e
     by false e = absurd (cc)
 
-pairs_in : (table : List ℕ) (p : ℕ) (xs : Items) (v : Vector) → pairs_above table p xs ≡ Ok v → xs ≡ items_of (map pair_json v)
-pairs_in table p no_items v h = ap (λ (w : Vector). items_of (map pair_json w)) (same_ok [] v h)
-pairs_in table p (item d ds) v h =
-    let a = made_of (λ (a : OpId). and_then (λ w. Ok (a ∷ w)) (pairs_above table a.replica ds))
-    (and_then (next_of table p) (pair_form d)) v h in
-    let b = made_of (next_of table p) (pair_form d) a.0 a.1 in
-    let w = made_of (λ w. Ok (a.0 ∷ w)) (pairs_above table a.0.replica ds) v a.2 in
-    let first : d ≡ pair_json a.0 = pair_in d b.0 b.1 ∙ ap pair_json (next_is table p b.0 a.0 b.2) in
-    (λ i. item (first i) (pairs_in table a.0.replica ds w.0 w.1 i))
+pairs_in : (p : ℕ) (xs : Items) (v : Vector) → pairs_above p xs ≡ Ok v → xs ≡ items_of (map pair_json v)
+pairs_in p no_items v h = ap (λ (w : Vector). items_of (map pair_json w)) (same_ok [] v h)
+pairs_in p (item d ds) v h =
+    let a = made_of (λ (a : OpId). and_then (λ w. Ok (a ∷ w)) (pairs_above a.replica ds))
+    (and_then (next_of p) (pair_form d)) v h in
+    let b = made_of (next_of p) (pair_form d) a.0 a.1 in
+    let w = made_of (λ w. Ok (a.0 ∷ w)) (pairs_above a.0.replica ds) v a.2 in
+    let first : d ≡ pair_json a.0 = pair_in d b.0 b.1 ∙ ap pair_json (next_is p b.0 a.0 b.2) in
+    (λ i. item (first i) (pairs_in a.0.replica ds w.0 w.1 i))
     ∙ ap (λ (u : Vector). items_of (map pair_json u)) (same_ok (a.0 ∷ w.0) v w.2)
 
-pub vector_in : (table : List ℕ) (d : Data) (v : Vector) → vector_form table d ≡ Ok v → d ≡ vector_json v
-vector_in table d v h =
-    let xs = made_of (pairs_of table) (list_form d) v h in list_in d xs.0 xs.1 ∙ ap array (few xs.0 (nat_lt 256 (count_parts xs.0)) xs.2)
+pub vector_in : (d : Data) (v : Vector) → vector_form d ≡ Ok v → d ≡ vector_json v
+vector_in d v h =
+    let xs = made_of pairs_of (list_form d) v h in list_in d xs.0 xs.1 ∙ ap array (few xs.0 (nat_lt 256 (count_parts xs.0)) xs.2)
   where
-    few : (xs : Items) (t : Bool) → cond t (Err BadLine) (pairs_above table 0 xs) ≡ Ok v → xs ≡ items_of (map pair_json v)
+    few : (xs : Items) (t : Bool) → cond t (Err BadLine) (pairs_above 0 xs) ≡ Ok v → xs ≡ items_of (map pair_json v)
     few xs true e = absurd (cc)
-    few xs false e = pairs_in table 0 xs v e
+    few xs false e = pairs_in 0 xs v e
 
-pub hello_in : (table : List ℕ) (d : Data) (v : Vector) → and_then (hello_of table) (phrase_form d) ≡ Ok v → d ≡ hello_json v
-hello_in table d v h =
-    let p = made_of (hello_of table) (phrase_form d) v h in phrase_in d p.0 p.1 ∙ by (bytes_eq p.0.0 (codes "hello")) p.0.0 p.0.1 refl p.2
+pub hello_in : (d : Data) (v : Vector) → and_then hello_of (phrase_form d) ≡ Ok v → d ≡ hello_json v
+hello_in d v h =
+    let p = made_of hello_of (phrase_form d) v h in phrase_in d p.0 p.1 ∙ by (bytes_eq p.0.0 (codes "hello")) p.0.0 p.0.1 refl p.2
   where
-    only : (xs : Items) → only_vector table xs ≡ Ok v → xs ≡ item (vector_json v) no_items
+    only : (xs : Items) → only_vector xs ≡ Ok v → xs ≡ item (vector_json v) no_items
     only no_items h = absurd (cc)
     only (item x (item y ys)) h = absurd (cc)
-    only (item x no_items) h = ap (λ d. item d no_items) (vector_in table x v h)
+    only (item x no_items) h = ap (λ d. item d no_items) (vector_in x v h)
 
-    by : (t : Bool) (word : List ℕ) (xs : Items) → bytes_eq word (codes "hello") ≡ t → cond t (only_vector table xs) (Err BadLine) ≡ Ok v
+    by : (t : Bool) (word : List ℕ) (xs : Items) → bytes_eq word (codes "hello") ≡ t → cond t (only_vector xs) (Err BadLine) ≡ Ok v
         → array (item (string word) xs) ≡ hello_json v
     by true word xs is e = λ i. array (item (string (word_is word (codes "hello") is i)) (only xs e i))
     by false word xs is e = absurd (cc)
@@ -194,29 +183,27 @@ part_data before t = phrase (tag_word t) (before ∷ [])
 abbrev parts_data : List Entered → List Data
 parts_data xs = map (λ x. part_data (key_data x.key) x.tag) xs
 
-numbered_in : (table : List ℕ) (n : ℕ) (k : LastKey) → numbered_key n ≡ Ok k → count n ≡ key_data k
-numbered_in table n k h = by (n == 0) (n == 1) refl refl h
+numbered_in : (n : ℕ) (k : LastKey) → numbered_key n ≡ Ok k → count n ≡ key_data k
+numbered_in n k h = by (n == 0) (n == 1) refl refl h
   where
     by : (s t : Bool) → (n == 0) ≡ s → (n == 1) ≡ t → cond s (Ok DocKey) (cond t (Ok HeadKey) (Err BadLine)) ≡ Ok k → count n ≡ key_data k
     by true t is_0 is_1 e = ap count (eqb-true n 0 is_0) ∙ ap key_data (same_ok DocKey k e)
     by false true is_0 is_1 e = ap count (eqb-true n 1 is_1) ∙ ap key_data (same_ok HeadKey k e)
     by false false is_0 is_1 e = absurd (cc)
 
-key_in : (table : List ℕ) (d : Data) (k : LastKey) → key_form table d ≡ Ok k → d ≡ key_data k
-key_in table (string s) k h = by (nat_lt 256 (length s)) h
+key_in : (d : Data) (k : LastKey) → key_form d ≡ Ok k → d ≡ key_data k
+key_in (string s) k h = by (nat_lt 256 (length s)) h
   where
     by : (t : Bool) → cond t (Err KeyTooLong) (Ok (FieldName s)) ≡ Ok k → string s ≡ key_data k
     by true e = absurd (cc)
     by false e = ap key_data (same_ok (FieldName s) k e)
-key_in table (array xs) k h =
-    let a = made_of (λ a. Ok (ItemId a)) (and_then (member_of table) (id_of xs)) k h in
-    let b = made_of (member_of table) (id_of xs) a.0 a.1 in
-    id_in xs b.0 b.1 ∙ ap id_json (member_is table b.0 a.0 b.2) ∙ ap key_data (same_ok (ItemId a.0) k a.2)
-key_in table (number n) k h =
-    let m = made_of numbered_key (number_form (number n)) k h in number_in (number n) m.0 m.1 ∙ numbered_in table m.0 k m.2
-key_in table null k h = absurd (cc)
-key_in table (boolean b) k h = absurd (cc)
-key_in table (object ms) k h = absurd (cc)
+key_in (array xs) k h =
+    let a = made_of (λ a. Ok (ItemId a)) (id_of xs) k h in id_in xs a.0 a.1 ∙ ap key_data (same_ok (ItemId a.0) k a.2)
+key_in (number n) k h =
+    let m = made_of numbered_key (number_form (number n)) k h in number_in (number n) m.0 m.1 ∙ numbered_in m.0 k m.2
+key_in null k h = absurd (cc)
+key_in (boolean b) k h = absurd (cc)
+key_in (object ms) k h = absurd (cc)
 
 tag_in : (word : List ℕ) (t : Tag) → tag_form word ≡ Ok t → word ≡ tag_word t
 tag_in word t h = by (bytes_eq word (codes "m")) (bytes_eq word (codes "l")) refl refl h
@@ -227,37 +214,37 @@ tag_in word t h = by (bytes_eq word (codes "m")) (bytes_eq word (codes "l")) ref
     by false true is_m is_l e = word_is word (codes "l") is_l ∙ ap tag_word (same_ok AsList t e)
     by false false is_m is_l e = absurd (cc)
 
-only_key_in : (table : List ℕ) (xs : Items) (k : LastKey) → only_key table xs ≡ Ok k → xs ≡ item (key_data k) no_items
-only_key_in table no_items k h = absurd (cc)
-only_key_in table (item x (item y ys)) k h = absurd (cc)
-only_key_in table (item x no_items) k h = ap (λ d. item d no_items) (key_in table x k h)
+only_key_in : (xs : Items) (k : LastKey) → only_key xs ≡ Ok k → xs ≡ item (key_data k) no_items
+only_key_in no_items k h = absurd (cc)
+only_key_in (item x (item y ys)) k h = absurd (cc)
+only_key_in (item x no_items) k h = ap (λ d. item d no_items) (key_in x k h)
 
-part_in : (table : List ℕ) (d : Data) (x : Entered) → and_then (entered_of table) (phrase_form d) ≡ Ok x
+part_in : (d : Data) (x : Entered) → and_then entered_of (phrase_form d) ≡ Ok x
     → d ≡ part_data (key_data x.key) x.tag
-part_in table d x h =
-    let p = made_of (entered_of table) (phrase_form d) x h in
-    let t = made_of (λ t. and_then (λ k. Ok (record { key = k; tag = t })) (only_key table p.0.1)) (tag_form p.0.0) x p.2 in
-    let k = made_of (λ k. Ok (record { key = k; tag = t.0 })) (only_key table p.0.1) x t.2 in
+part_in d x h =
+    let p = made_of entered_of (phrase_form d) x h in
+    let t = made_of (λ t. and_then (λ k. Ok (record { key = k; tag = t })) (only_key p.0.1)) (tag_form p.0.0) x p.2 in
+    let k = made_of (λ k. Ok (record { key = k; tag = t.0 })) (only_key p.0.1) x t.2 in
     let it : Entered = record { key = k.0; tag = t.0 } in
     phrase_in d p.0 p.1
-    ∙ (λ i. array (item (string (tag_in p.0.0 t.0 t.1 i)) (only_key_in table p.0.1 k.0 k.1 i)))
+    ∙ (λ i. array (item (string (tag_in p.0.0 t.0 t.1 i)) (only_key_in p.0.1 k.0 k.1 i)))
     ∙ ap (λ (y : Entered). part_data (key_data y.key) y.tag) (same_ok it x k.2)
 
-parts_in : (table : List ℕ) (ds : Items) (xs : List Entered) → parts_of table ds ≡ Ok xs → ds ≡ items_of (parts_data xs)
-parts_in table no_items xs h = ap (λ (ys : List Entered). items_of (parts_data ys)) (same_ok [] xs h)
-parts_in table (item d ds) xs h =
-    let x = made_of (λ x. and_then (λ ys. Ok (x ∷ ys)) (parts_of table ds)) (and_then (entered_of table) (phrase_form d)) xs h in
-    let ys = made_of (λ ys. Ok (x.0 ∷ ys)) (parts_of table ds) xs x.2 in
-    (λ i. item (part_in table d x.0 x.1 i) (parts_in table ds ys.0 ys.1 i))
+parts_in : (ds : Items) (xs : List Entered) → parts_of ds ≡ Ok xs → ds ≡ items_of (parts_data xs)
+parts_in no_items xs h = ap (λ (ys : List Entered). items_of (parts_data ys)) (same_ok [] xs h)
+parts_in (item d ds) xs h =
+    let x = made_of (λ x. and_then (λ ys. Ok (x ∷ ys)) (parts_of ds)) (and_then entered_of (phrase_form d)) xs h in
+    let ys = made_of (λ ys. Ok (x.0 ∷ ys)) (parts_of ds) xs x.2 in
+    (λ i. item (part_in d x.0 x.1 i) (parts_in ds ys.0 ys.1 i))
     ∙ ap (λ (zs : List Entered). items_of (parts_data zs)) (same_ok (x.0 ∷ ys.0) xs ys.2)
 
-path_in : (table : List ℕ) (d : Data) (xs : List Entered) → path_form table d ≡ Ok xs → d ≡ array (items_of (parts_data xs))
-path_in table d xs h =
-    let ds = made_of (path_of table) (list_form d) xs h in list_in d ds.0 ds.1 ∙ ap array (short ds.0 (nat_lt 32 (count_parts ds.0)) ds.2)
+path_in : (d : Data) (xs : List Entered) → path_form d ≡ Ok xs → d ≡ array (items_of (parts_data xs))
+path_in d xs h =
+    let ds = made_of path_of (list_form d) xs h in list_in d ds.0 ds.1 ∙ ap array (short ds.0 (nat_lt 32 (count_parts ds.0)) ds.2)
   where
-    short : (ds : Items) (t : Bool) → cond t (Err TooDeep) (parts_of table ds) ≡ Ok xs → ds ≡ items_of (parts_data xs)
+    short : (ds : Items) (t : Bool) → cond t (Err TooDeep) (parts_of ds) ≡ Ok xs → ds ≡ items_of (parts_data xs)
     short ds true e = absurd (cc)
-    short ds false e = parts_in table ds xs e
+    short ds false e = parts_in ds xs e
 
 -- ---- places
 
@@ -364,12 +351,12 @@ from_root (x ∷ xs) last p h = by x.key refl (made_of (λ g. place_below g (Som
     by (ItemId a) same g = absurd (let e = g.1 in cc)
     by HeadKey same g = absurd (let e = g.1 in cc)
 
-place_in : (table : List ℕ) (path last : Data) (p : Place) → place_form table path last ≡ Ok p → (path ≡ path_json p) × (last ≡ last_json p)
-place_in table path last p h =
-    let xs = made_of (λ xs. and_then (place_below Doc None xs) (key_form table last)) (path_form table path) p h in
-    let k = made_of (place_below Doc None xs.0) (key_form table last) p xs.2 in
+place_in : (path last : Data) (p : Place) → place_form path last ≡ Ok p → (path ≡ path_json p) × (last ≡ last_json p)
+place_in path last p h =
+    let xs = made_of (λ xs. and_then (place_below Doc None xs) (key_form last)) (path_form path) p h in
+    let k = made_of (place_below Doc None xs.0) (key_form last) p xs.2 in
     let both = led (parts_data xs.0) (key_data k.0) p (from_root xs.0 k.0 p k.2) in
-    (path_in table path xs.0 xs.1 ∙ both.0, key_in table last k.0 k.1 ∙ both.1)
+    (path_in path xs.0 xs.1 ∙ both.0, key_in last k.0 k.1 ∙ both.1)
 
 -- ---- mutations
 
@@ -460,30 +447,30 @@ fields_in d f h =
     by word xs true is e = λ i. array (item (string (word_is word (codes "op") is i)) (five_in xs f e i))
     by word xs false is e = absurd (cc)
 
-pub operation_in : (table : List ℕ) (d : Data) (s : Stamped) → IsNormal d → operation_form table d ≡ Ok s → d ≡ operation_json s
-operation_in table d s normal h =
-    let f = made_of (fields_of table) (fields_form d) s h in
+pub operation_in : (d : Data) (s : Stamped) → IsNormal d → operation_form d ≡ Ok s → d ≡ operation_json s
+operation_in d s normal h =
+    let f = made_of fields_of (fields_form d) s h in
     let is = fields_in d f.0 f.1 in
     let n = subst IsNormal is normal in
     let a = made_of
     (λ a. and_then
     (λ v. and_then (λ p. and_then (λ m. Ok (record { id = a; vector = v; place = p; mutation = m })) (mutation_form f.0.mutation))
-    (place_form table f.0.path f.0.last))
-    (vector_form table f.0.vector))
-    (member_form table f.0.id) s f.2 in
+    (place_form f.0.path f.0.last))
+    (vector_form f.0.vector))
+    (id_form f.0.id) s f.2 in
     let v = made_of
     (λ v. and_then (λ p. and_then (λ m. Ok (record { id = a.0; vector = v; place = p; mutation = m })) (mutation_form f.0.mutation))
-    (place_form table f.0.path f.0.last))
-    (vector_form table f.0.vector) s a.2 in
+    (place_form f.0.path f.0.last))
+    (vector_form f.0.vector) s a.2 in
     let p = made_of (λ p. and_then (λ m. Ok (record { id = a.0; vector = v.0; place = p; mutation = m })) (mutation_form f.0.mutation))
-    (place_form table f.0.path f.0.last) s v.2 in
+    (place_form f.0.path f.0.last) s v.2 in
     let m = made_of (λ m. Ok (record { id = a.0; vector = v.0; place = p.0; mutation = m })) (mutation_form f.0.mutation) s p.2 in
     let it : Stamped = record { id = a.0; vector = v.0; place = p.0; mutation = m.0 } in
-    let place = place_in table f.0.path f.0.last p.0 p.1 in
+    let place = place_in f.0.path f.0.last p.0 p.1 in
     is
     ∙ (λ i. array
     (item (string (codes "op"))
-    (item (member_in table f.0.id a.0 a.1 i)
-    (item (vector_in table f.0.vector v.0 v.1 i)
+    (item (id_form_in f.0.id a.0 a.1 i)
+    (item (vector_in f.0.vector v.0 v.1 i)
     (item (place.0 i) (item (place.1 i) (item (mutation_in f.0.mutation m.0 n.1.1.1.1.1.0 m.1 i) no_items)))))))
     ∙ ap operation_json (same_ok it s m.2)

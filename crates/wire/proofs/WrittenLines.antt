@@ -26,15 +26,15 @@ json_normal text d h = by (is_utf8 text) (read text) refl h
     by true None is e = absurd (cc)
     by false o is e = absurd (cc)
 
-pub op_line_in : (table text : List ℕ) (s : Stamped) → op_form table text ≡ Ok s → json_form text ≡ Ok (operation_json s)
-op_line_in table text s h =
-    let d = made_of (operation_form table) (json_form text) s h in d.1 ∙ ap Ok (operation_in table d.0 s (json_normal text d.0 d.1) d.2)
+pub op_line_in : (text : List ℕ) (s : Stamped) → op_form text ≡ Ok s → json_form text ≡ Ok (operation_json s)
+op_line_in text s h =
+    let d = made_of operation_form (json_form text) s h in d.1 ∙ ap Ok (operation_in d.0 s (json_normal text d.0 d.1) d.2)
 
-pub hello_line_in : (table text : List ℕ) (v : Vector) → hello_form table text ≡ Ok v → json_form text ≡ Ok (hello_json v)
-hello_line_in table text v h =
-    let p = made_of (hello_of table) (and_then phrase_form (json_form text)) v h in
+pub hello_line_in : (text : List ℕ) (v : Vector) → hello_form text ≡ Ok v → json_form text ≡ Ok (hello_json v)
+hello_line_in text v h =
+    let p = made_of hello_of (and_then phrase_form (json_form text)) v h in
     let d = made_of phrase_form (json_form text) p.0 p.1 in
-    d.1 ∙ ap Ok (hello_in table d.0 v (ap (and_then (hello_of table)) d.2 ∙ p.2))
+    d.1 ∙ ap Ok (hello_in d.0 v (ap (and_then hello_of) d.2 ∙ p.2))
 
 -- what was read of a text without a bad line
 pub record IsWhole (r : Readable) (ss : List Stamped) : Type 0 where
@@ -54,25 +54,25 @@ ended : (tail : List ℕ) → (tail_readable tail).stopped ≡ None → tail ≡
 ended [] h = refl
 ended (b ∷ tail) h = absurd (cc)
 
-lines_in : (table : List ℕ) (ls : List (List ℕ)) (tail : List ℕ) → (lines_readable table ls tail).stopped ≡ None
-    → (map json_form ls ≡ map (λ s. Ok (operation_json s)) (lines_readable table ls tail).operations) × (tail ≡ [])
-lines_in table [] [] h = (refl, refl)
-lines_in table [] (b ∷ tail) h = absurd (cc)
-lines_in table (l ∷ ls) tail h = by (op_form table l) refl (λ e. lines_in table ls tail e) h
+lines_in : (ls : List (List ℕ)) (tail : List ℕ) → (lines_readable ls tail).stopped ≡ None
+    → (map json_form ls ≡ map (λ s. Ok (operation_json s)) (lines_readable ls tail).operations) × (tail ≡ [])
+lines_in [] [] h = (refl, refl)
+lines_in [] (b ∷ tail) h = absurd (cc)
+lines_in (l ∷ ls) tail h = by (op_form l) refl (λ e. lines_in ls tail e) h
   where
-    by : (r : Result Stamped Refusal) → op_form table l ≡ r
-        → ((lines_readable table ls tail).stopped ≡ None
-        → (map json_form ls ≡ map (λ s. Ok (operation_json s)) (lines_readable table ls tail).operations) × (tail ≡ []))
-        → (line_readable (lines_readable table ls tail) r).stopped ≡ None
-        → (map json_form (l ∷ ls) ≡ map (λ s. Ok (operation_json s)) (line_readable (lines_readable table ls tail) r).operations)
+    by : (r : Result Stamped Refusal) → op_form l ≡ r
+        → ((lines_readable ls tail).stopped ≡ None
+        → (map json_form ls ≡ map (λ s. Ok (operation_json s)) (lines_readable ls tail).operations) × (tail ≡ []))
+        → (line_readable (lines_readable ls tail) r).stopped ≡ None
+        → (map json_form (l ∷ ls) ≡ map (λ s. Ok (operation_json s)) (line_readable (lines_readable ls tail) r).operations)
         × (tail ≡ [])
-    by (Ok s) is rest e = (let more = rest e in ((λ i. op_line_in table l s is i ∷ more.0 i), more.1))
+    by (Ok s) is rest e = (let more = rest e in ((λ i. op_line_in l s is i ∷ more.0 i), more.1))
     by (Err why) is rest e = absurd (cc)
 
-pub bundle_in : (table text : List ℕ) (ss : List Stamped) → bundle_form table text ≡ Ok ss
+pub bundle_in : (text : List ℕ) (ss : List Stamped) → bundle_form text ≡ Ok ss
     → (map json_form (cut text).lines ≡ map (λ s. Ok (operation_json s)) ss) × ((cut text).tail ≡ [])
-bundle_in table text ss h =
-    let r = lines_readable table (cut text).lines (cut text).tail in
+bundle_in text ss h =
+    let r = lines_readable (cut text).lines (cut text).tail in
     let all = whole r ss h in
-    let read = lines_in table (cut text).lines (cut text).tail all.unstopped in
+    let read = lines_in (cut text).lines (cut text).tail all.unstopped in
     (read.0 ∙ ap (map (λ s. Ok (operation_json s))) all.operations, read.1)

@@ -5,7 +5,7 @@ use Rattle.ids.specs.declared.refusal.Refusal.TheVariants.{BadLine}
 use Rattle.serde_json.specs.declared.value.Value.{Value}
 use Rattle.serde_json.specs.View.{items_view}
 use Rattle.wire.specs.Messages.{only_vector}
-use Rattle.wire.specs.Members.{id_of}
+use Rattle.wire.specs.OpIds.{id_of}
 use Rattle.wire.specs.Places.{only_key}
 use Rattle.wire.specs.Reading.{five_parts, nothing_more, only_value}
 use Rattle.wire.specs.Vectors.{pair_of}
@@ -16,10 +16,10 @@ pair_of-wrong_length (a ∷ []) h = refl
 pair_of-wrong_length (a ∷ b ∷ []) h = absurd (h refl)
 pair_of-wrong_length (a ∷ b ∷ d ∷ xs) h = refl
 
-pub only_vector-wrong_length : (table : List ℕ) → (xs : List Value) → length xs ≢ 1 → only_vector table (items_view xs) ≡ Err BadLine
-only_vector-wrong_length table [] h = refl
-only_vector-wrong_length table (a ∷ []) h = absurd (h refl)
-only_vector-wrong_length table (a ∷ b ∷ xs) h = refl
+pub only_vector-wrong_length : (xs : List Value) → length xs ≢ 1 → only_vector (items_view xs) ≡ Err BadLine
+only_vector-wrong_length [] h = refl
+only_vector-wrong_length (a ∷ []) h = absurd (h refl)
+only_vector-wrong_length (a ∷ b ∷ xs) h = refl
 
 pub id_of-wrong_length : (xs : List Value) → length xs ≢ 2 → id_of (items_view xs) ≡ Err BadLine
 id_of-wrong_length [] h = refl
@@ -27,10 +27,10 @@ id_of-wrong_length (a ∷ []) h = refl
 id_of-wrong_length (a ∷ b ∷ []) h = absurd (h refl)
 id_of-wrong_length (a ∷ b ∷ d ∷ xs) h = refl
 
-pub only_key-wrong_length : (table : List ℕ) → (xs : List Value) → length xs ≢ 1 → only_key table (items_view xs) ≡ Err BadLine
-only_key-wrong_length table [] h = refl
-only_key-wrong_length table (a ∷ []) h = absurd (h refl)
-only_key-wrong_length table (a ∷ b ∷ xs) h = refl
+pub only_key-wrong_length : (xs : List Value) → length xs ≢ 1 → only_key (items_view xs) ≡ Err BadLine
+only_key-wrong_length [] h = refl
+only_key-wrong_length (a ∷ []) h = absurd (h refl)
+only_key-wrong_length (a ∷ b ∷ xs) h = refl
 
 pub only_value-wrong_length : (xs : List Value) → length xs ≢ 1 → only_value (items_view xs) ≡ Err BadLine
 only_value-wrong_length [] h = refl

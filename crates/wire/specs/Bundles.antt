@@ -29,21 +29,21 @@ line_readable rest (Ok s) = record { operations = s ∷ rest.operations; stopped
 line_readable rest (Err why) = record { operations = []; stopped = Some why }
 
 -- what can be read of these lines, and of the bytes after them
-abbrev pub lines_readable : List ℕ → List (List ℕ) → List ℕ → Readable
-lines_readable table [] tail = tail_readable tail
-lines_readable table (l ∷ ls) tail = line_readable (lines_readable table ls tail) (op_form table l)
+abbrev pub lines_readable : List (List ℕ) → List ℕ → Readable
+lines_readable [] tail = tail_readable tail
+lines_readable (l ∷ ls) tail = line_readable (lines_readable ls tail) (op_form l)
 
 -- what can be read of a text
-abbrev pub readable : List ℕ → List ℕ → Readable
-readable table text = lines_readable table (cut text).lines (cut text).tail
+abbrev pub readable : List ℕ → Readable
+readable text = lines_readable (cut text).lines (cut text).tail
 
 -- all operations, or the number of the bad line, which is the next one, and why it is bad
 abbrev pub all_or_bad : Readable → Result (List Stamped) Bad
 all_or_bad r = option_map_or (λ why. Err (length r.operations + 1, why)) r.stopped (Ok r.operations)
 
 -- the operations of a bundle, or its first bad line
-abbrev pub bundle_form : List ℕ → List ℕ → Result (List Stamped) Bad
-bundle_form table text = all_or_bad (readable table text)
+abbrev pub bundle_form : List ℕ → Result (List Stamped) Bad
+bundle_form text = all_or_bad (readable text)
 
 -- the number of a bad line with its refusal, or NoMemory on any line
 abbrev pub IsBadOf : {T : Type 0} → Result T Bad → Bad → Type 0

@@ -1,7 +1,7 @@
 -- What lines and their parts are, and operations and vectors as JSON.
 pub mod Forms
 pub mod Lines
-pub mod Members
+pub mod OpIds
 pub mod Vectors
 pub mod Places
 pub mod Operations

@@ -28,14 +28,14 @@ vector_line v = compact_text (hello_json v)
 -- ---- reading
 
 -- a vector alone
-abbrev pub only_vector : List ℕ → Items → Result Vector Refusal
-only_vector table (item vector no_items) = vector_form table vector
-only_vector table _ = Err BadLine
+abbrev pub only_vector : Items → Result Vector Refusal
+only_vector (item vector no_items) = vector_form vector
+only_vector _ = Err BadLine
 
 -- a vector after its word
-abbrev pub hello_of : List ℕ → List ℕ × Items → Result Vector Refusal
-hello_of table p = if bytes_eq p.0 (codes "hello") then only_vector table p.1 else Err BadLine
+abbrev pub hello_of : List ℕ × Items → Result Vector Refusal
+hello_of p = if bytes_eq p.0 (codes "hello") then only_vector p.1 else Err BadLine
 
 -- the vector on a line
-abbrev pub hello_form : List ℕ → List ℕ → Result Vector Refusal
-hello_form table text = and_then (hello_of table) (and_then phrase_form (json_form text))
+abbrev pub hello_form : List ℕ → Result Vector Refusal
+hello_form text = and_then hello_of (and_then phrase_form (json_form text))

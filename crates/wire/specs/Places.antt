@@ -11,7 +11,7 @@ use Rattle.serde_json.specs.Data.{Data, Items, no_items, item}
 use Rattle.serde_json.specs.Find.{as_array, as_str}
 use Rattle.operation.specs.cursor.Places.{LastKey, DocKey, FieldName, ItemId, HeadKey}
 use Rattle.wire.specs.Forms.{and_then, count_parts, list_form, number_form, phrase_form}
-use Rattle.wire.specs.Members.{id_of, member_of}
+use Rattle.wire.specs.OpIds.{id_of}
 
 -- ---- keys
 
@@ -19,17 +19,17 @@ use Rattle.wire.specs.Members.{id_of, member_of}
 abbrev pub field_key : List ℕ → Result LastKey Refusal
 field_key name = if nat_lt most_key_bytes (length name) then Err KeyTooLong else Ok (FieldName name)
 
--- the id of a member's item
-abbrev pub item_key : List ℕ → Items → Result LastKey Refusal
-item_key table parts = and_then (λ a. Ok (ItemId a)) (and_then (member_of table) (id_of parts))
+-- the id of an item
+abbrev pub item_key : Items → Result LastKey Refusal
+item_key parts = and_then (λ a. Ok (ItemId a)) (id_of parts)
 
 -- 0 is the root, and 1 a head
 abbrev pub numbered_key : ℕ → Result LastKey Refusal
 numbered_key n = if n == 0 then Ok DocKey else (if n == 1 then Ok HeadKey else Err BadLine)
 
 -- a text is a field's key, a list an item's, and a number that of the root or a head
-abbrev pub key_form : List ℕ → Data → Result LastKey Refusal
-key_form table d = option_map_or field_key (as_str d) (option_map_or (item_key table) (as_array d) (and_then numbered_key (number_form d)))
+abbrev pub key_form : Data → Result LastKey Refusal
+key_form d = option_map_or field_key (as_str d) (option_map_or item_key (as_array d) (and_then numbered_key (number_form d)))
 
 -- ---- paths
 
@@ -39,31 +39,31 @@ pub record Entered : Type 0 where
   pub tag : Tag
 
 -- one key alone
-abbrev pub only_key : List ℕ → Items → Result LastKey Refusal
-only_key table (item key no_items) = key_form table key
-only_key table _ = Err BadLine
+abbrev pub only_key : Items → Result LastKey Refusal
+only_key (item key no_items) = key_form key
+only_key _ = Err BadLine
 
 -- as what an element is entered, by its word
 abbrev pub tag_form : List ℕ → Result Tag Refusal
 tag_form word = if bytes_eq word (codes "m") then Ok AsMap else (if bytes_eq word (codes "l") then Ok AsList else Err BadLine)
 
 -- a word and a key
-abbrev pub entered_of : List ℕ → List ℕ × Items → Result Entered Refusal
-entered_of table p = and_then (λ t. and_then (λ k. Ok (record { key = k; tag = t })) (only_key table p.1)) (tag_form p.0)
+abbrev pub entered_of : List ℕ × Items → Result Entered Refusal
+entered_of p = and_then (λ t. and_then (λ k. Ok (record { key = k; tag = t })) (only_key p.1)) (tag_form p.0)
 
 -- each part in its turn
-abbrev pub parts_of : List ℕ → Items → Result (List Entered) Refusal
-parts_of table no_items = Ok []
-parts_of table (item part parts) = and_then
-    (λ x. and_then (λ xs. Ok (x ∷ xs)) (parts_of table parts)) (and_then (entered_of table) (phrase_form part))
+abbrev pub parts_of : Items → Result (List Entered) Refusal
+parts_of no_items = Ok []
+parts_of (item part parts) = and_then
+    (λ x. and_then (λ xs. Ok (x ∷ xs)) (parts_of parts)) (and_then entered_of (phrase_form part))
 
 -- at most 32 parts
-abbrev pub path_of : List ℕ → Items → Result (List Entered) Refusal
-path_of table parts = if nat_lt most_keys (count_parts parts) then Err TooDeep else parts_of table parts
+abbrev pub path_of : Items → Result (List Entered) Refusal
+path_of parts = if nat_lt most_keys (count_parts parts) then Err TooDeep else parts_of parts
 
 -- a list of parts
-abbrev pub path_form : List ℕ → Data → Result (List Entered) Refusal
-path_form table d = and_then (path_of table) (list_form d)
+abbrev pub path_form : Data → Result (List Entered) Refusal
+path_form d = and_then path_of (list_form d)
 
 -- ---- places
 
@@ -89,5 +89,5 @@ place_below e t [] last = place_at_last e t last
 place_below e t (x ∷ xs) last = and_then (λ f. place_below f (Some x.tag) xs last) (element_at e t x.key)
 
 -- the place of a path and a last key, which begin with the root
-abbrev pub place_form : List ℕ → Data → Data → Result Place Refusal
-place_form table path last = and_then (λ xs. and_then (place_below Doc None xs) (key_form table last)) (path_form table path)
+abbrev pub place_form : Data → Data → Result Place Refusal
+place_form path last = and_then (λ xs. and_then (place_below Doc None xs) (key_form last)) (path_form path)

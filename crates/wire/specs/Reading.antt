@@ -9,7 +9,7 @@ use Rattle.semantics.specs.Stamped.{Stamped}
 use Rattle.serde_json.specs.Data.{Data, Items, no_items, item}
 use Rattle.operation.specs.value.Forms.{value_form}
 use Rattle.wire.specs.Forms.{and_then, json_form, phrase_form}
-use Rattle.wire.specs.Members.{member_form}
+use Rattle.wire.specs.OpIds.{id_form}
 use Rattle.wire.specs.Places.{place_form}
 use Rattle.wire.specs.Vectors.{vector_form}
 
@@ -55,16 +55,16 @@ parts_after p = if bytes_eq p.0 (codes "op") then five_parts p.1 else Err BadLin
 abbrev pub fields_form : Data → Result Fields Refusal
 fields_form d = and_then parts_after (phrase_form d)
 
--- what they are, with a table of replicas: an id, a vector, a path with its last key, and what is done
-abbrev pub fields_of : List ℕ → Fields → Result Stamped Refusal
-fields_of table f =
+-- what they are: an id, a vector, a path with its last key, and what is done
+abbrev pub fields_of : Fields → Result Stamped Refusal
+fields_of f =
     and_then (λ a. and_then (λ v. and_then (λ p. and_then (λ m. Ok (record { id = a; vector = v; place = p; mutation = m }))
-    (mutation_form f.mutation)) (place_form table f.path f.last)) (vector_form table f.vector)) (member_form table f.id)
+    (mutation_form f.mutation)) (place_form f.path f.last)) (vector_form f.vector)) (id_form f.id)
 
 -- the operation that JSON stands for
-abbrev pub operation_form : List ℕ → Data → Result Stamped Refusal
-operation_form table d = and_then (fields_of table) (fields_form d)
+abbrev pub operation_form : Data → Result Stamped Refusal
+operation_form d = and_then fields_of (fields_form d)
 
 -- the operation on a line
-abbrev pub op_form : List ℕ → List ℕ → Result Stamped Refusal
-op_form table text = and_then (operation_form table) (json_form text)
+abbrev pub op_form : List ℕ → Result Stamped Refusal
+op_form text = and_then operation_form (json_form text)

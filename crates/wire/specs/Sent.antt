@@ -1,13 +1,11 @@
--- The operations that a line can carry with a table of replicas, and what of that types keep.
+-- The operations that a line can carry, and what of that types keep.
 use Rattle.std.specs.Prelude.{ℕ, ◌<◌, ◌≤◌, ⊤, IsTrue, Bool, true, List, [], ◌∷◌, length}
 use Rattle.std.specs.List.{list_all}
 use Rattle.ids.specs.Configurations.{is_from_one_to}
-use Rattle.ids.specs.Members.{is_member}
 use Rattle.ids.specs.Vectors.{most_named}
 use Rattle.semantics.specs.Limits.{most_counter, most_key_bytes, most_keys, most_replica}
 use Rattle.semantics.specs.Ids.{OpId}
 use Rattle.semantics.specs.Elements.{Place}
-use Rattle.semantics.specs.Faults.{is_of_members}
 use Rattle.semantics.specs.Operations.{Mutation, Assign, Insert, Delete, element_of}
 use Rattle.semantics.specs.Paths.{Hop, FieldHop, ItemHop, hops_from_root}
 use Rattle.semantics.specs.Stamped.{Stamped}
@@ -15,25 +13,24 @@ use Rattle.semantics.specs.Vectors.{Vector}
 use Rattle.operation.specs.cursor.Places.{depth_of}
 use Rattle.operation.specs.value.Forms.{IsWithinLimits}
 
--- the id of a member's operation, whose numbers are within their limits
-abbrev pub IsSentId : List ℕ → OpId → Type 0
-IsSentId table a = IsTrue (is_from_one_to most_counter a.counter) × IsTrue (is_from_one_to most_replica a.replica)
-    × IsTrue (is_member table a.replica)
+-- an id whose numbers are within their limits
+abbrev pub IsSentId : OpId → Type 0
+IsSentId a = IsTrue (is_from_one_to most_counter a.counter) × IsTrue (is_from_one_to most_replica a.replica)
 
 -- such ids, whose replicas rise above p
-abbrev pub IsSentVector : List ℕ → ℕ → Vector → Type 0
-IsSentVector table p [] = ⊤
-IsSentVector table p (a ∷ v) = (p < a.replica) × IsSentId table a × IsSentVector table a.replica v
+abbrev pub IsSentVector : ℕ → Vector → Type 0
+IsSentVector p [] = ⊤
+IsSentVector p (a ∷ v) = (p < a.replica) × IsSentId a × IsSentVector a.replica v
 
--- a field's key of at most 256 bytes, or the id of a member's item
-abbrev pub IsSentKey : List ℕ → Hop → Type 0
-IsSentKey table (FieldHop n) = length n ≤ most_key_bytes
-IsSentKey table (ItemHop a) = IsSentId table a
+-- a field's key of at most 256 bytes, or an item's id within its limits
+abbrev pub IsSentKey : Hop → Type 0
+IsSentKey (FieldHop n) = length n ≤ most_key_bytes
+IsSentKey (ItemHop a) = IsSentId a
 
 -- such keys
-abbrev pub AreSentKeys : List ℕ → List Hop → Type 0
-AreSentKeys table [] = ⊤
-AreSentKeys table (k ∷ ks) = IsSentKey table k × AreSentKeys table ks
+abbrev pub AreSentKeys : List Hop → Type 0
+AreSentKeys [] = ⊤
+AreSentKeys (k ∷ ks) = IsSentKey k × AreSentKeys ks
 
 -- a value within its limits
 abbrev pub IsSentMutation : Mutation → Type 0
@@ -41,12 +38,12 @@ IsSentMutation (Assign v) = IsWithinLimits v
 IsSentMutation (Insert v) = IsWithinLimits v
 IsSentMutation Delete = ⊤
 
--- all names are of members, and all lengths and numbers within their limits
-pub record IsSent (table : List ℕ) (s : Stamped) : Type 0 where
-  pub id : IsSentId table s.id
-  pub vector : IsSentVector table 0 s.vector
+-- all lengths and numbers are within their limits
+pub record IsSent (s : Stamped) : Type 0 where
+  pub id : IsSentId s.id
+  pub vector : IsSentVector 0 s.vector
   pub few_pairs : length s.vector ≤ most_named
-  pub keys : AreSentKeys table (hops_from_root (element_of s.place))
+  pub keys : AreSentKeys (hops_from_root (element_of s.place))
   pub few : depth_of s.place ≤ most_keys
   pub mutation : IsSentMutation s.mutation
 
@@ -65,9 +62,8 @@ abbrev pub key_counted : Hop → Bool
 key_counted (FieldHop n) = true
 key_counted (ItemHop a) = is_counter a.counter
 
--- all names are of members, and all counters are those of the wire: in its id, its vector and its place
-pub record CanBeSent (table : List ℕ) (s : Stamped) : Type 0 where
-  pub members : IsTrue (is_of_members table s)
+-- all counters are those of the wire: in its id, its vector and its place
+pub record CanBeSent (s : Stamped) : Type 0 where
   pub id : IsTrue (is_counter s.id.counter)
   pub vector : IsTrue (are_counters s.vector)
   pub items : IsTrue (list_all key_counted (hops_from_root (element_of s.place)))

@@ -1,5 +1,5 @@
 -- What a VECTOR is in JSON, in both directions.
-use Rattle.std.specs.Prelude.{ℕ, nat_lt, if◌then◌else◌, List, [], ◌∷◌, map, Result, Ok, Err}
+use Rattle.std.specs.Prelude.{ℕ, nat_lt, if◌then◌else◌, [], ◌∷◌, map, Result, Ok, Err}
 use Rattle.ids.specs.declared.refusal.Refusal.{Refusal}
 use Rattle.ids.specs.declared.refusal.Refusal.TheVariants.{BadLine}
 use Rattle.semantics.specs.Ids.{OpId, id_at}
@@ -8,7 +8,7 @@ use Rattle.semantics.specs.Vectors.{Vector}
 use Rattle.serde_json.specs.Data.{Data, Items, no_items, item, number, array, unsigned}
 use Rattle.serde_json.specs.View.{items_of}
 use Rattle.wire.specs.Forms.{and_then, count_parts, list_form}
-use Rattle.wire.specs.Members.{counter_form, member_of, replica_form}
+use Rattle.wire.specs.OpIds.{counter_form, replica_form}
 
 -- ---- reading
 
@@ -22,23 +22,23 @@ pair_of _ = Err BadLine
 abbrev pub pair_form : Data → Result OpId Refusal
 pair_form d = and_then pair_of (list_form d)
 
--- the id, where its replica is above p and one of the table
-abbrev pub next_of : List ℕ → ℕ → OpId → Result OpId Refusal
-next_of table p a = if nat_lt p a.replica then member_of table a else Err BadLine
+-- the id, where its replica is above p
+abbrev pub next_of : ℕ → OpId → Result OpId Refusal
+next_of p a = if nat_lt p a.replica then Ok a else Err BadLine
 
--- the pairs, where the replica of each is above p and those before it, and one of the table
-abbrev pub pairs_above : List ℕ → ℕ → Items → Result Vector Refusal
-pairs_above table p no_items = Ok []
-pairs_above table p (item pair pairs) =
-    and_then (λ a. and_then (λ v. Ok (a ∷ v)) (pairs_above table a.replica pairs)) (and_then (next_of table p) (pair_form pair))
+-- the pairs, where the replica of each is above p and those before it
+abbrev pub pairs_above : ℕ → Items → Result Vector Refusal
+pairs_above p no_items = Ok []
+pairs_above p (item pair pairs) =
+    and_then (λ a. and_then (λ v. Ok (a ∷ v)) (pairs_above a.replica pairs)) (and_then (next_of p) (pair_form pair))
 
--- at most 256 pairs, whose replicas rise and are of the table
-abbrev pub pairs_of : List ℕ → Items → Result Vector Refusal
-pairs_of table pairs = if nat_lt most_named (count_parts pairs) then Err BadLine else pairs_above table 0 pairs
+-- at most 256 pairs, whose replicas rise
+abbrev pub pairs_of : Items → Result Vector Refusal
+pairs_of pairs = if nat_lt most_named (count_parts pairs) then Err BadLine else pairs_above 0 pairs
 
 -- a list of such pairs
-abbrev pub vector_form : List ℕ → Data → Result Vector Refusal
-vector_form table d = and_then (pairs_of table) (list_form d)
+abbrev pub vector_form : Data → Result Vector Refusal
+vector_form d = and_then pairs_of (list_form d)
 
 -- ---- writing
 

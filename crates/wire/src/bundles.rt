@@ -16,20 +16,20 @@ ghost use Rattle.wire.specs.Sent.{CanBeSent};
 use crate::lines::{LINE_END, Lines};
 use crate::messages::read_op;
 use crate::writing::with_line;
-use ids::{Refusal, ReplicaTable};
+use ids::Refusal;
 use operation::{Op, Shared};
 use std::alloc::{AllocError, Global};
 
-/// The lines of the operations, in order. An empty bundle has no byte. Where all names are of members, and all counters those of
-/// the wire, `read_bundle` reads the same operations.
+/// The lines of the operations, in order. An empty bundle has no byte. Where all counters are those of the wire, `read_bundle` reads the
+/// same operations.
 ///
 /// # Errors
 /// `AllocError` if allocation fails.
 pub fn write_bundle(alloc: Global, ops: &[Shared<Op>]) -> Result<Vec<u8>, AllocError>
     ensures text { IfOk result (λ text. text.items ≡ bundle_text (map stamped_of ops.now)) }
     ensures reads_back { IfOk result
-        (λ text. (table : List ℕ) → All (λ o. CanBeSent table (stamped_of o)) ops.now
-        → bundle_form table text.items ≡ Ok (map stamped_of ops.now)) }
+        (λ text. All (λ o. CanBeSent (stamped_of o)) ops.now
+        → bundle_form text.items ≡ Ok (map stamped_of ops.now)) }
 {
     let mut text = Vec::new(alloc);
     // A line is written apart, and copied: the writer clears the room that its text has left, which for a long text is much.
@@ -56,16 +56,16 @@ pub struct LinesRead {
 ///
 /// Reading stops at the first bad line, with the refusal of `read_op`; bytes after the last line feed are a bad line, `BadLine`. It
 /// also stops with `NoMemory` if allocation fails: what was read until then is kept.
-pub fn read_lines(alloc: Global, text: &[u8], table: &ReplicaTable) -> LinesRead
+pub fn read_lines(alloc: Global, text: &[u8]) -> LinesRead
     ensures read { (result.stopped ≡ Some NoMemory)
-        ⊎ ((map stamped_of result.ops.items ≡ (readable table.now text.now).operations)
-        × (result.stopped ≡ (readable table.now text.now).stopped)) }
-    ensures first { map stamped_of result.ops.items ≡ take (length result.ops.items) (readable table.now text.now).operations }
+        ⊎ ((map stamped_of result.ops.items ≡ (readable text.now).operations)
+        × (result.stopped ≡ (readable text.now).stopped)) }
+    ensures first { map stamped_of result.ops.items ≡ take (length result.ops.items) (readable text.now).operations }
 {
     let mut lines = Lines::new(text);
     let mut ops = Vec::new(alloc);
     while let Some(line) = lines.take_line() {
-        match read_op(alloc, line.text, table) {
+        match read_op(alloc, line.text) {
             Ok(op) => {
                 if ops.push(op).is_err() {
                     return LinesRead {
@@ -94,15 +94,11 @@ pub fn read_lines(alloc: Global, text: &[u8], table: &ReplicaTable) -> LinesRead
 /// # Errors
 /// The number of the first bad line, from 1, with the refusal of `read_op`; bytes after the last line feed are a bad line,
 /// `BadLine`. If allocation fails, `NoMemory` with the line that was being read.
-pub fn read_bundle(
-    alloc: Global,
-    text: &[u8],
-    table: &ReplicaTable,
-) -> Result<Vec<Shared<Op>>, (u64, Refusal)>
+pub fn read_bundle(alloc: Global, text: &[u8]) -> Result<Vec<Shared<Op>>, (u64, Refusal)>
     ensures { MatchResult result
-        (λ ops. bundle_form table.now text.now ≡ Ok (map stamped_of ops.items)) (IsBadOf (bundle_form table.now text.now)) }
+        (λ ops. bundle_form text.now ≡ Ok (map stamped_of ops.items)) (IsBadOf (bundle_form text.now)) }
 {
-    let LinesRead { ops, stopped } = read_lines(alloc, text, table);
+    let LinesRead { ops, stopped } = read_lines(alloc, text);
     match stopped {
         Some(why) => Err((ops.len() as u64 + 1, why)),
         None => Ok(ops),
@@ -111,17 +107,17 @@ pub fn read_bundle(
 
 /// If the line of each operation is read as that operation, a bundle is read as its operations, also where more follows it.
 pub fn bundles_are_read_back()
-    ensures bundle { (table : List ℕ) (ss : List Stamped) → All (λ s. op_form table (op_line s) ≡ Ok s) ss
-        → bundle_form table (bundle_text ss) ≡ Ok ss }
-    ensures operations { (table : List ℕ) (ss : List Stamped) (rest : List ℕ) → All (λ s. op_form table (op_line s) ≡ Ok s) ss
-        → (readable table (bundle_text ss ++ rest)).operations ≡ ss ++ (readable table rest).operations }
-    ensures stopped { (table : List ℕ) (ss : List Stamped) (rest : List ℕ) → All (λ s. op_form table (op_line s) ≡ Ok s) ss
-        → (readable table (bundle_text ss ++ rest)).stopped ≡ (readable table rest).stopped }
+    ensures bundle { (ss : List Stamped) → All (λ s. op_form (op_line s) ≡ Ok s) ss
+        → bundle_form (bundle_text ss) ≡ Ok ss }
+    ensures operations { (ss : List Stamped) (rest : List ℕ) → All (λ s. op_form (op_line s) ≡ Ok s) ss
+        → (readable (bundle_text ss ++ rest)).operations ≡ ss ++ (readable rest).operations }
+    ensures stopped { (ss : List Stamped) (rest : List ℕ) → All (λ s. op_form (op_line s) ≡ Ok s) ss
+        → (readable (bundle_text ss ++ rest)).stopped ≡ (readable rest).stopped }
 {}
 
 /// A text that is read as a bundle is whole lines, each with the JSON that writing its operation gives.
 pub fn bundles_are_written_alike()
-    ensures lines { (table text : List ℕ) (ss : List Stamped) → bundle_form table text ≡ Ok ss
+    ensures lines { (text : List ℕ) (ss : List Stamped) → bundle_form text ≡ Ok ss
         → map json_form (cut text).lines ≡ map (λ s. Ok (operation_json s)) ss }
-    ensures tail { (table text : List ℕ) (ss : List Stamped) → bundle_form table text ≡ Ok ss → (cut text).tail ≡ [] }
+    ensures tail { (text : List ℕ) (ss : List Stamped) → bundle_form text ≡ Ok ss → (cut text).tail ≡ [] }
 {}

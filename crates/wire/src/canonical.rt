@@ -11,13 +11,13 @@ ghost use Rattle.semantics.specs.Operations.{element_of};
 ghost use Rattle.semantics.specs.Paths.{hops_from_root};
 ghost use Rattle.operation.specs.Ops.{stamped_of};
 ghost use Rattle.wire.specs.Reading.{op_form};
-ghost use Rattle.wire.specs.Sent.{CanBeSent, are_counters, is_counter, key_counted};
+ghost use Rattle.wire.specs.Sent.{are_counters, is_counter, key_counted};
 ghost use Rattle.operation.specs.cursor.Steps.{hop_of};
 
 use crate::scan::Scan;
 use crate::writing::with_line;
-use ids::{MOST_COUNTER, OpId, ReplicaTable};
-use operation::{Hop, Op, names_members};
+use ids::{MOST_COUNTER, OpId};
+use operation::{Hop, Op};
 use std::alloc::Global;
 
 /// How much more room the writer asks for than the line has bytes.
@@ -30,24 +30,24 @@ const LONGEST: usize = 1 << 15;
 /// The operation on a line in the form in which it is written, or `None` where it has another form, a character that is escaped by its
 /// number or the least whole number, where it is longer than `LONGEST`, or where memory is refused. Time is proportional to the length of
 /// the line at most.
-pub(crate) fn read_canonical(alloc: Global, text: &[u8], table: &ReplicaTable) -> Option<Op>
-    ensures { IfSome result (λ o. op_form table.now text.now ≡ Ok (stamped_of o)) }
+pub(crate) fn read_canonical(alloc: Global, text: &[u8]) -> Option<Op>
+    ensures { IfSome result (λ o. op_form text.now ≡ Ok (stamped_of o)) }
 {
     if text.len() > LONGEST {
         return None;
     }
     let op = Scan::new(text).op(alloc)?;
-    if !writes_back_as(alloc, text, &op, table) {
+    if !writes_back_as(alloc, text, &op) {
         return None;
     }
     Some(op)
 }
 
 /// Whether the text is the line of the operation, which can be sent.
-fn writes_back_as(alloc: Global, text: &[u8], op: &Op, table: &ReplicaTable) -> bool
-    ensures { OnTrue result (op_form table.now text.now ≡ Ok (stamped_of op.now)) }
+fn writes_back_as(alloc: Global, text: &[u8], op: &Op) -> bool
+    ensures { OnTrue result (op_form text.now ≡ Ok (stamped_of op.now)) }
 {
-    if !can_be_sent(op, table) {
+    if !is_counted(op) {
         return false;
     }
     let Ok(room) = Vec::with_capacity(alloc, text.len() + ROOM_AHEAD) else {
@@ -57,13 +57,6 @@ fn writes_back_as(alloc: Global, text: &[u8], op: &Op, table: &ReplicaTable) -> 
         Ok(line) => line.as_slice() == text,
         Err(_) => false,
     }
-}
-
-/// Whether the names are of members, and the counters those of the wire.
-fn can_be_sent(op: &Op, table: &ReplicaTable) -> bool
-    ensures { OnTrue result (CanBeSent table.now (stamped_of op.now)) }
-{
-    names_members(op, table) && is_counted(op)
 }
 
 /// Whether the counters of the id, the vector and the items of the place are those of the wire.

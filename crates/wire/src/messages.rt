@@ -2,7 +2,7 @@
 #![tactic(auto, using(crate::proofs::WrongLengths::wrong_lengths))]
 
 ghost use Rattle.std.specs.Prelude.{◌≡◌, ℕ, List, Ok, OnOk, IfOk, IsTrue, IsUtf8};
-ghost use Rattle.ids.specs.Vectors.{IsNamed, names_only};
+ghost use Rattle.ids.specs.Vectors.{IsNamed};
 ghost use Rattle.serde_json.specs.View.{items_view};
 ghost use Rattle.operation.specs.Ops.{stamped_of};
 ghost use Rattle.wire.specs.Forms.{IsRead, json_form};
@@ -19,7 +19,7 @@ use crate::forms::{json_of, phrase_in};
 use crate::reading::operation_in;
 use crate::vectors::vector_in;
 use crate::writing::{put_vector, with_line};
-use ids::{NamedVector, Refusal, ReplicaTable};
+use ids::{NamedVector, Refusal};
 use json::Writer;
 use operation::{Op, Shared};
 use serde_json::Value;
@@ -28,29 +28,26 @@ use std::alloc::{AllocError, Global};
 /// Room for a line of usual length.
 const LINE_BYTES: usize = 128;
 
-/// The line of an operation. Where its names are of members, and its counters those of the wire, `read_op` reads it as the same
-/// operation.
+/// The line of an operation. Where its counters are those of the wire, `read_op` reads it as the same operation.
 ///
 /// # Errors
 /// `AllocError` if allocation fails.
 pub fn write_op(alloc: Global, op: &Op) -> Result<Vec<u8>, AllocError>
     ensures line { IfOk result (λ text. text.items ≡ op_line (stamped_of op.now)) }
     ensures reads_back { IfOk result
-        (λ text. (table : List ℕ) → CanBeSent table (stamped_of op.now) → op_form table text.items ≡ Ok (stamped_of op.now)) }
+        (λ text. CanBeSent (stamped_of op.now) → op_form text.items ≡ Ok (stamped_of op.now)) }
 {
     with_line(Vec::with_capacity(alloc, LINE_BYTES)?, op)
 }
 
-/// The line of a vector, a hello. Where it names members alone, and its counters are those of the wire, `read_vector` reads it as the
-/// same vector.
+/// The line of a vector, a hello. Where its counters are those of the wire, `read_vector` reads it as the same vector.
 ///
 /// # Errors
 /// `AllocError` if allocation fails.
 pub fn write_vector(alloc: Global, vector: &NamedVector) -> Result<Vec<u8>, AllocError>
     ensures line { IfOk result (λ text. text.items ≡ vector_line vector.now) }
     ensures reads_back { IfOk result
-        (λ text. (table : List ℕ) → IsTrue (names_only table vector.now) → IsTrue (are_counters vector.now)
-        → hello_form table text.items ≡ Ok vector.now) }
+        (λ text. IsTrue (are_counters vector.now) → hello_form text.items ≡ Ok vector.now) }
 {
     let mut out = Writer::new(Vec::with_capacity(alloc, LINE_BYTES)?);
     put_hello(&mut out, vector)?;
@@ -77,71 +74,65 @@ fn put_hello(out: &mut Writer, vector: &NamedVector) -> Result<(), AllocError>
 ///
 /// # Errors
 /// The first fault in this order: `BadLine` if the text is no JSON, or no list of six that begins with `op`; then the faults of the
-/// id, the vector, the path with its last key, and the mutation with its value. A part of another form is `BadLine`; a replica that
-/// isn't a member is `UnknownReplica`; a path of more than 32 parts is `TooDeep`, a key of more than 256 bytes `KeyTooLong`, a text
+/// id, the vector, the path with its last key, and the mutation with its value. A part of another form is `BadLine`, and so is a vector of
+/// more than 256 pairs; a path of more than 32 parts is `TooDeep`, a key of more than 256 bytes `KeyTooLong`, a text
 /// of more than 4,096 bytes `TextTooLong`, and a number as a value that isn't whole `NotWhole`. `NoMemory` if allocation fails.
-pub fn read_op(alloc: Global, text: &[u8], table: &ReplicaTable) -> Result<Shared<Op>, Refusal>
-    ensures { IsRead stamped_of result (op_form table.now text.now) }
+pub fn read_op(alloc: Global, text: &[u8]) -> Result<Shared<Op>, Refusal>
+    ensures { IsRead stamped_of result (op_form text.now) }
 {
-    let op = op_in(alloc, text, table)?;
+    let op = op_in(alloc, text)?;
     Ok(Shared::new(alloc, op)?)
 }
 
 /// The operation on a line: at once where the line is as it would be written, else as that of any JSON.
-fn op_in(alloc: Global, text: &[u8], table: &ReplicaTable) -> Result<Op, Refusal>
-    ensures { IsRead stamped_of result (op_form table.now text.now) }
+fn op_in(alloc: Global, text: &[u8]) -> Result<Op, Refusal>
+    ensures { IsRead stamped_of result (op_form text.now) }
 {
-    if let Some(op) = read_canonical(alloc, text, table) {
+    if let Some(op) = read_canonical(alloc, text) {
         return Ok(op);
     }
     let value = json_of(alloc, text)?;
-    operation_in(alloc, table, &value)
+    operation_in(alloc, &value)
 }
 
 /// The vector on a line.
 ///
 /// # Errors
-/// The first of these: `BadLine` if the text is no JSON or not a hello, or has more than 256 pairs; then the first fault of the vector from
-/// the left, `BadLine` where a pair has another form or doesn't rise, `UnknownReplica` where its replica isn't a member.
+/// `BadLine` if the text is no JSON or not a hello, or if its vector has more than 256 pairs, or one that has another form or doesn't rise.
 /// `NoMemory` if allocation fails.
-pub fn read_vector(alloc: Global, text: &[u8], table: &ReplicaTable) -> Result<NamedVector, Refusal>
-    ensures { IsRead (λ v. v) result (hello_form table.now text.now) }
+pub fn read_vector(alloc: Global, text: &[u8]) -> Result<NamedVector, Refusal>
+    ensures { IsRead (λ v. v) result (hello_form text.now) }
 {
     let value = json_of(alloc, text)?;
     let (word, parts) = phrase_in(&value)?;
     match word {
-        "hello" => only_vector_in(alloc, table, parts),
+        "hello" => only_vector_in(alloc, parts),
         _ => Err(Refusal::BadLine),
     }
 }
 
 /// The vector of a list that holds nothing else.
-fn only_vector_in(
-    alloc: Global,
-    table: &ReplicaTable,
-    parts: &[Value],
-) -> Result<NamedVector, Refusal>
-    ensures { IsRead (λ v. v) result (only_vector table.now (items_view parts.now)) }
+fn only_vector_in(alloc: Global, parts: &[Value]) -> Result<NamedVector, Refusal>
+    ensures { IsRead (λ v. v) result (only_vector (items_view parts.now)) }
 {
     let [vector] = parts else {
         return Err(Refusal::BadLine);
     };
-    vector_in(alloc, table, vector)
+    vector_in(alloc, vector)
 }
 
-/// The JSON of an operation whose names are of members, and whose lengths and numbers are within their limits, is read as that operation.
+/// The JSON of an operation whose lengths and numbers are within their limits is read as that operation.
 pub fn operations_are_read_back()
-    ensures { (table : List ℕ) (s : Stamped) → IsSent table s → operation_form table (operation_json s) ≡ Ok s }
+    ensures { (s : Stamped) → IsSent s → operation_form (operation_json s) ≡ Ok s }
 {}
 
-/// The line of an operation whose names are of members, whose lengths and numbers are within their limits and whose texts are
-/// UTF-8, is read as that operation.
+/// The line of an operation whose lengths and numbers are within their limits and whose texts are UTF-8 is read as that operation.
 pub fn lines_are_read_back()
-    ensures { (table : List ℕ) (s : Stamped) → IsSent table s → IsUtf8 (op_line s) → op_form table (op_line s) ≡ Ok s }
+    ensures { (s : Stamped) → IsSent s → IsUtf8 (op_line s) → op_form (op_line s) ≡ Ok s }
 {}
 
 /// A line that is read as an operation or as a vector has the JSON that writing it gives, whatever its spaces and escapes.
 pub fn what_is_read_is_written_alike()
-    ensures operation { (table text : List ℕ) (s : Stamped) → op_form table text ≡ Ok s → json_form text ≡ Ok (operation_json s) }
-    ensures vector { (table text : List ℕ) (v : Vector) → hello_form table text ≡ Ok v → json_form text ≡ Ok (hello_json v) }
+    ensures operation { (text : List ℕ) (s : Stamped) → op_form text ≡ Ok s → json_form text ≡ Ok (operation_json s) }
+    ensures vector { (text : List ℕ) (v : Vector) → hello_form text ≡ Ok v → json_form text ≡ Ok (hello_json v) }
 {}

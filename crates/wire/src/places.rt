@@ -13,8 +13,8 @@ ghost use Rattle.wire.specs.Places.{element_at, entered_of, is_list_head, key_fo
 ghost use Rattle.wire.specs.Places.{place_at_last, place_below, place_form, tag_form};
 
 use crate::forms::{list_in, number_in, phrase_in};
-use crate::members::{id_of, member_of};
-use ids::{OpId, Refusal, ReplicaTable};
+use crate::op_ids::id_of;
+use ids::{OpId, Refusal};
 use operation::{Hop, Key, MOST_KEYS, Place, Tag};
 use serde_json::Value;
 use std::alloc::Global;
@@ -39,49 +39,44 @@ struct Part {
 ///
 /// # Errors
 /// The first of these: `BadLine` if the path is no list; `TooDeep` if it has more than 32 parts; the first fault of its parts from
-/// the left, and then of the last key: `BadLine` for another form, `KeyTooLong` for a text of more than 256 bytes, `UnknownReplica`
-/// for the id of a replica that isn't a member; `BadLine` if the keys don't fit what is entered.
-pub(crate) fn place_in(
-    alloc: Global,
-    table: &ReplicaTable,
-    path: &Value,
-    last: &Value,
-) -> Result<Place, Refusal>
-    ensures { IsOrNoMemory result (place_form table.now (view path.now) (view last.now)) }
+/// the left, and then of the last key: `BadLine` for another form, `KeyTooLong` for a text of more than 256 bytes; `BadLine` if the
+/// keys don't fit what is entered.
+pub(crate) fn place_in(alloc: Global, path: &Value, last: &Value) -> Result<Place, Refusal>
+    ensures { IsOrNoMemory result (place_form (view path.now) (view last.now)) }
 {
-    let parts = path_in(alloc, table, path)?;
-    let last = key_in(alloc, table, last)?;
+    let parts = path_in(alloc, path)?;
+    let last = key_in(alloc, last)?;
     place_of(alloc, parts, last)
 }
 
-fn path_in(alloc: Global, table: &ReplicaTable, value: &Value) -> Result<Vec<Part>, Refusal>
-    ensures read { IsRead (λ parts. map part_meant parts.items) result (path_form table.now (view value.now)) }
+fn path_in(alloc: Global, value: &Value) -> Result<Vec<Part>, Refusal>
+    ensures read { IsRead (λ parts. map part_meant parts.items) result (path_form (view value.now)) }
     ensures few { IfOk result (λ parts. length parts.items ≤ 32) }
 {
     let values = list_in(value)?;
     if values.len() > MOST_KEYS {
         return Err(Refusal::TooDeep);
     }
-    parts_in(alloc, table, values)
+    parts_in(alloc, values)
 }
 
-fn parts_in(alloc: Global, table: &ReplicaTable, values: &[Value]) -> Result<Vec<Part>, Refusal>
-    ensures read { IsRead (λ parts. map part_meant parts.items) result (parts_of table.now (items_view values.now)) }
+fn parts_in(alloc: Global, values: &[Value]) -> Result<Vec<Part>, Refusal>
+    ensures read { IsRead (λ parts. map part_meant parts.items) result (parts_of (items_view values.now)) }
     ensures length { IfOk result (λ parts. length parts.items ≡ length values.now) }
 {
     let mut parts = Vec::new(alloc);
     for value in values {
-        parts.push(part_in(alloc, table, value)?)?;
+        parts.push(part_in(alloc, value)?)?;
     }
     Ok(parts)
 }
 
-fn part_in(alloc: Global, table: &ReplicaTable, value: &Value) -> Result<Part, Refusal>
-    ensures { IsRead part_meant result (and_then (entered_of table.now) (phrase_form (view value.now))) }
+fn part_in(alloc: Global, value: &Value) -> Result<Part, Refusal>
+    ensures { IsRead part_meant result (and_then entered_of (phrase_form (view value.now))) }
 {
     let (word, keys) = phrase_in(value)?;
     let entered = tag_in(word)?;
-    let key = only_key_in(alloc, table, keys)?;
+    let key = only_key_in(alloc, keys)?;
     Ok(Part { key, entered })
 }
 
@@ -97,24 +92,24 @@ fn tag_in(word: &str) -> Result<Tag, Refusal>
 }
 
 /// The key of a list that holds nothing else.
-fn only_key_in(alloc: Global, table: &ReplicaTable, values: &[Value]) -> Result<WrittenKey, Refusal>
-    ensures { IsRead key_meant result (only_key table.now (items_view values.now)) }
+fn only_key_in(alloc: Global, values: &[Value]) -> Result<WrittenKey, Refusal>
+    ensures { IsRead key_meant result (only_key (items_view values.now)) }
 {
     let [key] = values else {
         return Err(Refusal::BadLine);
     };
-    key_in(alloc, table, key)
+    key_in(alloc, key)
 }
 
 /// A text is a field's key, a list an item's, and a number the root's or a head's.
-fn key_in(alloc: Global, table: &ReplicaTable, value: &Value) -> Result<WrittenKey, Refusal>
-    ensures { IsRead key_meant result (key_form table.now (view value.now)) }
+fn key_in(alloc: Global, value: &Value) -> Result<WrittenKey, Refusal>
+    ensures { IsRead key_meant result (key_form (view value.now)) }
 {
     if let Some(name) = value.as_str() {
         return Ok(WrittenKey::Field(Key::new(alloc, name)?));
     }
     if let Some(parts) = value.as_array() {
-        return Ok(WrittenKey::Item(member_of(table, id_of(parts)?)?));
+        return Ok(WrittenKey::Item(id_of(parts)?));
     }
     numbered_key(number_in(value)?)
 }

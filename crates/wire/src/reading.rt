@@ -8,32 +8,28 @@ ghost use Rattle.operation.specs.value.Values.{value_of};
 ghost use Rattle.operation.specs.Ops.{mutation_of, stamped_of};
 ghost use Rattle.wire.specs.Forms.{IsRead, IsOrNoMemory};
 ghost use Rattle.wire.specs.Parts.{fields_meant};
-ghost use Rattle.wire.specs.Members.{member_form};
+ghost use Rattle.wire.specs.OpIds.{id_form};
 ghost use Rattle.wire.specs.Places.{place_form};
 ghost use Rattle.wire.specs.Reading.{fields_form, five_parts, mutation_form, nothing_more, only_value, operation_form};
 ghost use Rattle.wire.specs.Vectors.{vector_form};
 
 use crate::forms::phrase_in;
-use crate::members::member_in;
+use crate::op_ids::id_in;
 use crate::places::place_in;
 use crate::vectors::vector_in;
-use ids::{NamedVector, OpId, Refusal, ReplicaTable};
+use ids::{NamedVector, OpId, Refusal};
 use operation::{Mutation, Op, Place, Val};
 use serde_json::Value;
 use std::alloc::Global;
 
 /// The operation of a JSON value. The first fault from the left decides.
-pub(crate) fn operation_in(
-    alloc: Global,
-    table: &ReplicaTable,
-    value: &Value,
-) -> Result<Op, Refusal>
-    ensures { IsRead stamped_of result (operation_form table.now (view value.now)) }
+pub(crate) fn operation_in(alloc: Global, value: &Value) -> Result<Op, Refusal>
+    ensures { IsRead stamped_of result (operation_form (view value.now)) }
 {
     let fields = OperationFields::of(value)?;
-    let id = fields.id(table)?;
-    let deps = fields.vector(alloc, table)?;
-    let place = fields.place(alloc, table)?;
+    let id = fields.id()?;
+    let deps = fields.vector(alloc)?;
+    let place = fields.place(alloc)?;
     let mutation = fields.mutation(alloc)?;
     Ok(Op {
         id,
@@ -83,23 +79,23 @@ impl<'a> OperationFields<'a> {
         })
     }
 
-    fn id(&self, table: &ReplicaTable) -> Result<OpId, Refusal>
-        ensures { result ≡ member_form table.now (view self.now.id.now) }
+    fn id(&self) -> Result<OpId, Refusal>
+        ensures { result ≡ id_form (view self.now.id.now) }
     {
-        member_in(table, self.id)
+        id_in(self.id)
     }
 
-    fn vector(&self, alloc: Global, table: &ReplicaTable) -> Result<NamedVector, Refusal>
-        ensures { IsRead (λ v. v) result (vector_form table.now (view self.now.vector.now)) }
+    fn vector(&self, alloc: Global) -> Result<NamedVector, Refusal>
+        ensures { IsRead (λ v. v) result (vector_form (view self.now.vector.now)) }
     {
-        vector_in(alloc, table, self.vector)
+        vector_in(alloc, self.vector)
     }
 
     /// The place of the path and the last key.
-    fn place(&self, alloc: Global, table: &ReplicaTable) -> Result<Place, Refusal>
-        ensures { IsOrNoMemory result (place_form table.now (view self.now.path.now) (view self.now.last.now)) }
+    fn place(&self, alloc: Global) -> Result<Place, Refusal>
+        ensures { IsOrNoMemory result (place_form (view self.now.path.now) (view self.now.last.now)) }
     {
-        place_in(alloc, table, self.path, self.last)
+        place_in(alloc, self.path, self.last)
     }
 
     /// The mutation: a word, and the value that is written.

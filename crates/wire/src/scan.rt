@@ -5,7 +5,7 @@
 
 use crate::escapes::{closed_at, unescaped};
 use ids::{MOST_NAMED, NamedVector, OpId, ReplicaId};
-use memchr::memchr;
+use memchr::{memchr, memmem};
 use operation::{Hop, Key, MOST_KEYS, Mutation, Op, Place, Scalar, Val};
 use std::alloc::Global;
 
@@ -50,10 +50,10 @@ impl<'a> Scan<'a> {
         id_of(counter, replica)
     }
 
-    /// The vector, after its comma.
+    /// The vector, after its comma. Room for its pairs is asked for at once.
     fn vector(&mut self, alloc: Global) -> Option<NamedVector> {
-        let mut vector = NamedVector::new(alloc);
         self.bytes(b",[")?;
+        let mut vector = NamedVector::with_capacity(alloc, self.count_pairs()?).ok()?;
         let mut last = 0;
         for _ in 0..MOST_NAMED {
             if self.peek()? == b']' {
@@ -70,6 +70,19 @@ impl<'a> Scan<'a> {
         }
         self.byte(b']')?;
         Some(vector)
+    }
+
+    /// How many pairs a vector has: as many brackets open before the first two that close together.
+    fn count_pairs(&self) -> Option<usize> {
+        if self.peek()? == b']' {
+            return Some(0);
+        }
+        let end = memmem::find(self.rest, b"]]")?;
+        let opened = self.rest[..end]
+            .iter()
+            .filter(|byte| **byte == b'[')
+            .count();
+        Some(opened.min(MOST_NAMED))
     }
 
     /// Replica and counter.

@@ -8,40 +8,37 @@ ghost use Rattle.wire.specs.Forms.{IsRead};
 ghost use Rattle.wire.specs.Vectors.{pair_form, pairs_above, vector_form};
 
 use crate::forms::list_in;
-use crate::members::{counter_in, replica_in};
-use ids::{MOST_NAMED, NamedVector, OpId, Refusal, ReplicaTable};
+use crate::op_ids::{counter_in, replica_in};
+use ids::{MOST_NAMED, NamedVector, OpId, Refusal};
 use serde_json::Value;
 use std::alloc::Global;
 
-/// A vector whose replicas are members, and rise.
+/// A vector whose replicas rise.
 ///
 /// # Errors
-/// `BadLine` if it is no list, or has more than 256 pairs; then at the first pair from the left that has one: `BadLine` where its form is
-/// wrong or it doesn't rise, `UnknownReplica` where its replica isn't a member. `NoMemory` if allocation fails.
-pub fn vector_in(alloc: Global, table: &ReplicaTable, value: &Value) -> Result<NamedVector, Refusal>
-    ensures { IsRead (λ v. v) result (vector_form table.now (view value.now)) }
+/// `BadLine` if it is no list, has more than 256 pairs, or has one whose form is wrong or which doesn't rise. `NoMemory` if allocation
+/// fails.
+pub fn vector_in(alloc: Global, value: &Value) -> Result<NamedVector, Refusal>
+    ensures { IsRead (λ v. v) result (vector_form (view value.now)) }
 {
     let pairs = list_in(value)?;
     if pairs.len() > MOST_NAMED {
         return Err(Refusal::BadLine);
     }
-    pairs_in(alloc, table, pairs)
+    pairs_in(alloc, pairs)
 }
 
-fn pairs_in(alloc: Global, table: &ReplicaTable, pairs: &[Value]) -> Result<NamedVector, Refusal>
+fn pairs_in(alloc: Global, pairs: &[Value]) -> Result<NamedVector, Refusal>
     requires { length pairs.now ≤ most_named }
-    ensures { IsRead (λ v. v) result (pairs_above table.now 0 (items_view pairs.now)) }
+    ensures { IsRead (λ v. v) result (pairs_above 0 (items_view pairs.now)) }
 {
-    let mut vector = NamedVector::new(alloc);
+    let mut vector = NamedVector::with_capacity(alloc, pairs.len())?;
     let mut last = 0;
     for pair in pairs {
         let id = pair_in(pair)?;
         let replica = id.replica.number();
         if replica <= last {
             return Err(Refusal::BadLine);
-        }
-        if table.index_of(id.replica).is_none() {
-            return Err(Refusal::UnknownReplica);
         }
         vector.push(id)?;
         last = replica;

@@ -29,7 +29,7 @@ use std::alloc::AllocError;
 pub(crate) fn with_line(text: Vec<u8>, op: &Op) -> Result<Vec<u8>, AllocError>
     ensures line { IfOk result (λ t. t.items ≡ text.items ++ op_line (stamped_of op.now)) }
     ensures reads_back { OnOk result
-        ((table : List ℕ) → CanBeSent table (stamped_of op.now) → op_form table (op_line (stamped_of op.now)) ≡ Ok (stamped_of op.now)) }
+        (CanBeSent (stamped_of op.now) → op_form (op_line (stamped_of op.now)) ≡ Ok (stamped_of op.now)) }
 {
     let mut out = Writer::new(text);
     put_op(&mut out, op)?;
@@ -42,7 +42,7 @@ pub(crate) fn with_line(text: Vec<u8>, op: &Op) -> Result<Vec<u8>, AllocError>
 /// `AllocError` if allocation fails.
 pub fn put_op(out: &mut Writer, op: &Op) -> Result<(), AllocError>
     ensures json { OnOk result (IsWritten (tokens_of (operation_json (stamped_of op.now))) out.old out.new) }
-    ensures sent { OnOk result ((table : List ℕ) → CanBeSent table (stamped_of op.now) → IsSent table (stamped_of op.now)) }
+    ensures sent { OnOk result (CanBeSent (stamped_of op.now) → IsSent (stamped_of op.now)) }
 {
     prove!(op.id.replica.number() >= 1);
     out.begin_array()?;

@@ -121,8 +121,8 @@ fn with_part(alloc: Global, around: Around, part: &str) -> Result<String, AllocE
     joined(alloc, &[around.0, part, around.1])
 }
 
-/// How many pairs, and why no vector of them is read with the table 1, 2 or 1, 2, 9: of more than 256 none is looked at.
-const MANY_PAIRS: [(u32, Refusal); 2] = [(256, Refusal::UnknownReplica), (257, Refusal::BadLine)];
+/// How many pairs a vector has at most.
+const MOST_PAIRS: u32 = 256;
 
 /// As many pairs, of the replicas 1, 2 and so on.
 fn pairs(alloc: Global, count: u32) -> Result<String, AllocError> {

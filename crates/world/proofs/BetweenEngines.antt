@@ -25,7 +25,7 @@ use Rattle.semantics.proofs.EngineMoves.{still_published}
 use Rattle.semantics.proofs.GrownEngines.{grown_refl, grown_trans, grown_by_history}
 use Rattle.semantics.proofs.HandledItems.{handled}
 use Rattle.semantics.proofs.ItemsInTurn.{among_cases, among_right}
-use Rattle.semantics.proofs.ReceivedItems.{begins_with_peers, same_entries, same_own}
+use Rattle.semantics.proofs.ReceivedItems.{begins_with_peers, same_entries, same_members, same_own}
 use Rattle.semantics.proofs.SoundEngines.{IsSound}
 use Rattle.semantics.proofs.SoundGiving.{answer_given}
 use Rattle.semantics.proofs.SoundPublishing.{none_due, published}
@@ -62,6 +62,8 @@ left_drains n d h = by (cases_lt (length d.waiting) n)
 record IsWithin (r : Replica) (x : Submitted) (q : Replica) : Type 0 where
   pub own : q.own ≡ r.own
   pub own_after : (after_submission r x).own ≡ q.own
+  pub members : q.members ≡ r.members
+  pub members_after : (after_submission r x).members ≡ q.members
   pub begins : BeginsWith q.entries r.entries
   pub goes_on : BeginsWith (after_submission r x).entries q.entries
   pub waited : (o : Stamped) → IsAmong o q.waiting → IsAmong o r.waiting ⊎ (x.request ≡ OfPeer o)
@@ -86,6 +88,8 @@ within_delivery r x s n h is floor =
     let left_begins = drain_begins (drain_for n d) (drain d) left in record {
       own = part.own ∙ same_own r s (answer_to r s);
       own_after = ap (λ (p : Replica). p.own) all ∙ left.own;
+      members = part.members ∙ same_members r s (answer_to r s);
+      members_after = ap (λ (p : Replica). p.members) all ∙ left.members;
       begins = (part_begins.0, part_begins.1 ∙ ap (λ (G : List Entry). part_begins.0 ++ G) (same_entries r s (answer_to r s)));
       goes_on = (left_begins.0, ap (λ (p : Replica). p.entries) all ∙ left_begins.1);
       waited = λ o m. elim (delivered_waits r s o (part.waits o m)) [ inl e ↦ inr (is ∙ ap OfPeer (sym e)) | inr w ↦ inl w ];
@@ -102,6 +106,8 @@ module _ (E : Engine) (x : Submitted) (queue : List Submitted) (s : IsSound E) (
       let all = handled E.replica x s.running (s.queued x (subst (IsAmong x) (sym oldest) (inl refl))) its_floor in record {
         own = refl;
         own_after = all.own;
+        members = refl;
+        members_after = all.members;
         begins = ([], refl);
         goes_on = all.entries;
         waited = λ o m. inl m;
@@ -113,6 +119,8 @@ module _ (E : Engine) (x : Submitted) (queue : List Submitted) (s : IsSound E) (
       let all = handled E.replica x s.running (s.queued x (subst (IsAmong x) (sym oldest) (inl refl))) its_floor in record {
         own = all.own;
         own_after = refl;
+        members = all.members;
+        members_after = refl;
         begins = all.entries;
         goes_on = ([], refl);
         waited = λ o m. item_waits E.replica x o s.running m;
@@ -149,8 +157,9 @@ module _ (E : Engine) (x : Submitted) (queue : List Submitted) (s : IsSound E) (
 
     between_taken : IsBetween E F (take_submission E).engine
     between_taken = subst (IsBetween E F) (sym taken_is) (record {
-      beyond = grown_by_history E q E.queue E.handled E.due E.published w.own w.begins (omega arith) (λ g m. m);
-      before = grown_by_history F (after_submission E.replica x) queue (E.handled ++ answered ∷ []) E.due E.published w.own_after w.goes_on
+      beyond = grown_by_history E q E.queue E.handled E.due E.published w.own w.members w.begins (omega arith) (λ g m. m);
+      before = grown_by_history F (after_submission E.replica x) queue (E.handled ++ answered ∷ []) E.due E.published w.own_after
+          w.members_after w.goes_on
           (omega arith) stays;
       waited = λ o m. elim (w.waited o m) [ inl a ↦ inl a | inr is ↦ inr (queued o is) ];
       waits = λ o m. elim (w.waits o m) [ inl a ↦ inl a | inr is ↦ inr (queued o is) ];
@@ -188,8 +197,8 @@ published_in_part E F s h =
     let none : E.due ≡ [] = none_due E.due (or_parts (is_any E.due) (not (is_any E.handled)) h.free).0 in
     subst (λ A. IsBetween E A (publish E).engine) (sym h.same)
     (subst (IsBetween E part) (sym all_is) (record {
-      beyond = grown_by_history E E.replica E.queue E.handled E.due F.published refl ([], refl) h.more (λ g m. m);
-      before = grown_by_history part E.replica E.queue [] E.handled (length E.replica.entries) refl ([], refl) h.within
+      beyond = grown_by_history E E.replica E.queue E.handled E.due F.published refl refl ([], refl) h.more (λ g m. m);
+      before = grown_by_history part E.replica E.queue [] E.handled (length E.replica.entries) refl refl ([], refl) h.within
           (λ g m. among_left E.handled [] g (subst (λ (d : List Handled). IsAmong g (d ++ E.handled)) none m));
       waited = λ o m. inl m;
       waits = λ o m. inl m;

@@ -14,8 +14,7 @@ use Rattle.semantics.specs.Engine.{Engine, Client, Message, Hello, Bundle}
 use Rattle.semantics.specs.WriteSteps.{push, after_made, after_request, after_submission, take_oldest, take_submission, take_for, publish}
 use Rattle.semantics.specs.WriteSteps.{give}
 use Rattle.semantics.specs.WriteSteps.{give_for, handle_all, whole_step}
-use Rattle.semantics.specs.PeerSteps.{names_members, answer_hello, refusal_in, unless_refused, submit_all, receive_lines, before_nonmember}
-use Rattle.semantics.specs.PeerSteps.{nonmember_fault, receive_message}
+use Rattle.semantics.specs.PeerSteps.{answer_hello, refusal_in, unless_refused, submit_all, receive_lines, receive_message}
 use Rattle.semantics.specs.World.{WorldAct, Push, Take, Publish, Give, WholeStep, Poll, Ask, Learn, SayHello, AnswerHello, Deliver, Lines}
 use Rattle.semantics.specs.World.{CountDropped, engine_step}
 use Rattle.semantics.proofs.Delivered.{delivered}
@@ -131,16 +130,12 @@ receive_still E c ss bad = at_client (slice_get E.clients c) refl
 message_still : (E : Engine) (c : ℕ) (m : Option Message) → (receive_message E c m).engine.replica ≡ E.replica
 message_still E c None = refl
 message_still E c (Some (Hello v)) = refl
-message_still E c (Some (Bundle ss)) = receive_still E c (before_nonmember E.replica.members ss) (nonmember_fault E.replica.members ss)
+message_still E c (Some (Bundle ss)) = receive_still E c ss None
 
 answer_still : (E : Engine) (t k : ℕ) (m : Option Message) → (answer_hello E t k m).engine.replica ≡ E.replica
 answer_still E t k None = refl
 answer_still E t k (Some (Bundle ss)) = refl
-answer_still E t k (Some (Hello v)) = at_test (names_members E v) refl
-  where
-    at_test : (b : Bool) → names_members E v ≡ b → (answer_hello E t k (Some (Hello v))).engine.replica ≡ E.replica
-    at_test true e = rw e (still_seen E t E.published).0
-    at_test false e = rw e refl
+answer_still E t k (Some (Hello v)) = (still_seen E t E.published).0
 
 -- ---- each step
 

@@ -7,9 +7,7 @@ pub mod WholeSteps
 pub mod SubmittedRequests
 pub mod TakenRequests
 pub mod AnsweredHellos
-pub mod KeptMembers
 pub mod TurnedWorlds
-pub mod BeforeNonmembers
 pub mod ReachedWorlds
 pub mod DrawnWaiting
 pub mod BetweenEngines

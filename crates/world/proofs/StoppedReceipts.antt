@@ -1,10 +1,10 @@
 -- A receipt in which an allocation failed.
-use Rattle.std.proofs.Common.{◌≡◌, ◌≢◌, ◌⊎◌, inl, inr, ℕ, List, [], Option, Some, sym, ap, subst}
+use Rattle.std.proofs.Common.{◌≡◌, ◌≢◌, ◌⊎◌, inl, inr, ℕ, List, [], Option, Some, None, refl, sym, ap, subst}
 use Rattle.ids.specs.declared.refusal.Refusal.{Refusal}
 use Rattle.ids.specs.declared.refusal.Refusal.TheVariants.{NoMemory}
 use Rattle.semantics.specs.Stamped.{Stamped}
 use Rattle.semantics.specs.Engine.{Engine, Message, Bundle}
-use Rattle.semantics.specs.PeerSteps.{before_nonmember, receive_lines, receive_message, nonmember_fault}
+use Rattle.semantics.specs.PeerSteps.{receive_lines, receive_message}
 use Rattle.semantics.specs.World.{Lines}
 use Rattle.semantics.proofs.SoundEngines.{IsSound}
 use Rattle.world.specs.Parts.{IsBetween}
@@ -23,12 +23,10 @@ lines_stopped E F c ss ts bad got sound read (inl same) = subst (λ A. IsBetween
 lines_stopped E F c ss ts bad got sound (inl memory) (inr part) = absurd (part.0 memory)
 lines_stopped E F c ss ts bad got sound (inr read) (inr part) = between_same (λ i. (receive_lines E c (read.0 i) (read.1 i)).engine) part.1
 
--- the same of a message
-pub message_stopped : (E F : Engine) (c : ℕ) (m : Option Message) (ss ts : List Stamped) (got : Option Refusal) → IsSound E
-    → m ≡ Some (Bundle ss)
-    → (got ≡ Some NoMemory) ⊎ ((ts ≡ before_nonmember E.replica.members ss) × (got ≡ nonmember_fault E.replica.members ss))
-    → (F ≡ E) ⊎ ((got ≢ Some NoMemory) × IsBetween E F (receive_lines E c ts got).engine)
+-- the same of a message, all of whose operations were read
+pub message_stopped : (E F : Engine) (c : ℕ) (m : Option Message) (ss ts : List Stamped) → IsSound E → m ≡ Some (Bundle ss) → ts ≡ ss
+    → (F ≡ E) ⊎ ((◌≢◌ {A = Option Refusal} None (Some NoMemory)) × IsBetween E F (receive_lines E c ts None).engine)
     → IsBetween E F (receive_message E c m).engine
-message_stopped E F c m ss ts got sound is read part =
+message_stopped E F c m ss ts sound is read part =
     between_same (ap (λ o. (receive_message E c o).engine) (sym is))
-    (lines_stopped E F c (before_nonmember E.replica.members ss) ts (nonmember_fault E.replica.members ss) got sound read part)
+    (lines_stopped E F c ss ts None None sound (inr (read, refl)) part)

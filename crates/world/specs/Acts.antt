@@ -1,5 +1,4 @@
 -- Steps, replies, clients and messages of the program as those of the definitions.
-use Rattle.std.specs.Prelude.{ℕ, List}
 use Rattle.semantics.specs.Questions.{Refused as NotAnswered}
 use Rattle.semantics.specs.LegalAnswer.{Answered}
 use Rattle.semantics.specs.Engine as engine
@@ -14,25 +13,25 @@ use Rattle.world.specs.declared.step.WorldAct.TheVariants as act
 use Rattle.world.specs.declared.step.WorldReply.{WorldReply}
 use Rattle.world.specs.declared.step.WorldReply.TheVariants as said
 
--- what an engine does, where it has this table
-abbrev pub act_of : List ℕ → WorldAct → world.WorldAct
-act_of table (act.Push c command) = world.Push c (command_of command)
-act_of table act.Take = world.Take
-act_of table act.Publish = world.Publish
-act_of table act.Give = world.Give
-act_of table act.WholeStep = world.WholeStep
-act_of table (act.Poll c serial) = world.Poll c serial
-act_of table (act.Ask t q) = world.Ask t (asked_of q)
-act_of table (act.Learn t c serial) = world.Learn t c serial
-act_of table (act.SayHello t) = world.SayHello t
-act_of table (act.AnswerHello t k) = world.AnswerHello t k
-act_of table (act.Deliver c k) = world.Deliver c k
-act_of table (act.Line c text) = world.Lines c (readable table text.items).operations (readable table text.items).stopped
-act_of table act.Dropped = world.CountDropped
+-- what an engine does
+abbrev pub act_of : WorldAct → world.WorldAct
+act_of (act.Push c command) = world.Push c (command_of command)
+act_of act.Take = world.Take
+act_of act.Publish = world.Publish
+act_of act.Give = world.Give
+act_of act.WholeStep = world.WholeStep
+act_of (act.Poll c serial) = world.Poll c serial
+act_of (act.Ask t q) = world.Ask t (asked_of q)
+act_of (act.Learn t c serial) = world.Learn t c serial
+act_of (act.SayHello t) = world.SayHello t
+act_of (act.AnswerHello t k) = world.AnswerHello t k
+act_of (act.Deliver c k) = world.Deliver c k
+act_of (act.Line c text) = world.Lines c (readable text.items).operations (readable text.items).stopped
+act_of act.Dropped = world.CountDropped
 
--- a step, where its engine has this table
-abbrev pub step_of : List ℕ → WorldStep → world.WorldStep
-step_of table s = record { engine = s.engine; act = act_of table s.act }
+-- a step
+abbrev pub step_of : WorldStep → world.WorldStep
+step_of s = record { engine = s.engine; act = act_of s.act }
 
 -- what a step replies
 abbrev pub step_reply_of : WorldReply → engine.StepReply

@@ -1,12 +1,10 @@
 -- What contracts see of a world of the program.
-use Rattle.std.specs.Prelude.{◌≡◌, ◌≢◌, ℕ, ◌+◌, ◌≤◌, Bool, true, ⊤, List, [], map, take, length, Option, Some, None, slice_get}
-use Rattle.std.specs.Prelude.{slice_index_or, slice_set}
+use Rattle.std.specs.Prelude.{◌≡◌, ◌≢◌, ℕ, ◌+◌, ◌≤◌, Bool, true, ⊤, List, take, length, Option, Some, None, slice_get}
+use Rattle.std.specs.Prelude.{slice_set}
 use Rattle.std.specs.List.{list_all}
 use Rattle.ids.specs.Configurations.{Configuration, is_within_limits}
 use Rattle.semantics.specs.Engine.{Engine, Message}
 use Rattle.semantics.specs.World.{World, WorldStep as TheStep, opened, world_after}
-use Rattle.world.specs.declared.step.WorldStep.{WorldStep}
-use Rattle.world.specs.Acts.{step_of}
 use Rattle.world.specs.Parts.{IsBetween, IsInPart}
 
 -- the engines, the messages, how many steps were done, and whether an allocation failed
@@ -23,18 +21,6 @@ world Es ms = record { engines = Es; messages = ms }
 -- the world of the definitions
 abbrev pub world_of : Running → World
 world_of w = record { engines = w.engines; messages = w.messages }
-
--- the table of each engine's replicas
-abbrev pub tables_of : List Engine → List (List ℕ)
-tables_of Es = map (λ E. E.replica.members) Es
-
--- the table of one engine; it is empty where there is no such engine
-abbrev pub table_at : List (List ℕ) → ℕ → List ℕ
-table_at tables e = slice_index_or tables e []
-
--- a step of engines with these tables
-abbrev pub step_in : List (List ℕ) → WorldStep → TheStep
-step_in tables s = step_of (table_at tables s.engine) s
 
 -- steps lead to the world from a new one, whose configurations are within the limits
 pub record IsReachedWorld (W : World) : Type 0 where

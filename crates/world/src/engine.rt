@@ -18,7 +18,7 @@ use crate::client::Client;
 use crate::message::Message;
 use crate::publisher::Publisher;
 use crate::step::{WorldAct, WorldReply};
-use ids::{Config, ReplicaTable};
+use ids::Config;
 use replica::{Document, Handler, Replica, Reply, Submission};
 use std::alloc::{AllocError, Global};
 use std::collections::VecDeque;
@@ -104,12 +104,6 @@ impl Engine {
         })
     }
 
-    pub fn table(&self) -> &ReplicaTable
-        ensures { result.now ≡ self.now.replica.members }
-    {
-        self.handler.replica.document().table()
-    }
-
     /// Does what a step says. `messages` are all that were sent before; what the act sends is appended to them.
     ///
     /// # Errors
@@ -122,16 +116,16 @@ impl Engine {
     ) -> Result<WorldReply, AllocError>
         requires { IsReachedEngine self.old }
         ensures engine { OnOk result (self.new
-            ≡ (engine_step (map message_of messages.old.items) (act_of self.old.replica.members act.now) self.old).engine) }
+            ≡ (engine_step (map message_of messages.old.items) (act_of act.now) self.old).engine) }
         ensures reply { IfOk result
             (λ r. step_reply_of r
-            ≡ (engine_step (map message_of messages.old.items) (act_of self.old.replica.members act.now) self.old).reply) }
+            ≡ (engine_step (map message_of messages.old.items) (act_of act.now) self.old).reply) }
         ensures sent { OnOk result (map message_of messages.new.items
             ≡ map message_of messages.old.items
-            ++ sent_by (map message_of messages.old.items) (act_of self.old.replica.members act.now) self.old) }
+            ++ sent_by (map message_of messages.old.items) (act_of act.now) self.old) }
         ensures unsent { OnErr result (map message_of messages.new.items ≡ map message_of messages.old.items) }
         ensures stopped { OnErr result
-            (IsInPart (map message_of messages.old.items) (act_of self.old.replica.members act.now) self.old self.new) }
+            (IsInPart (map message_of messages.old.items) (act_of act.now) self.old self.new) }
     {
         match act {
             WorldAct::Push { client, command } => self.push(*client, command),
@@ -150,9 +144,7 @@ impl Engine {
             WorldAct::AnswerHello { token, message } => self.bundle(
                 alloc, messages, *token, *message,
             ),
-            WorldAct::Deliver { client, message } => self.deliver(
-                alloc, messages, *client, *message,
-            ),
+            WorldAct::Deliver { client, message } => self.deliver(messages, *client, *message),
             WorldAct::Line { client, text } => self.line(alloc, *client, text),
             WorldAct::Dropped => Ok(WorldReply::Dropped(self.handler.replica.dropped())),
         }

@@ -3,7 +3,6 @@
 
 mod client;
 mod engine;
-mod members;
 mod message;
 mod publisher;
 mod step;

@@ -1,19 +1,19 @@
 //! Engines on one thread and the messages between them, as a list of steps moves them.
 
-ghost use Rattle.std.specs.Prelude.{◌≡◌, ◌+◌, ℕ, ◌↔◌, ◌⊎◌, OnOk, OnErr, IfOk, IfErr, Err, IsFalse, true, false, min, map, option_map};
-ghost use Rattle.std.specs.Prelude.{slice_get, length, alloc_error};
+ghost use Rattle.std.specs.Prelude.{◌≡◌, ◌+◌, ℕ, ◌↔◌, ◌⊎◌, OnOk, OnErr, IfOk, IfErr, Err, IsFalse, true, false, min, map, length};
+ghost use Rattle.std.specs.Prelude.{alloc_error};
 ghost use Rattle.std.specs.List.{list_all};
 ghost use Rattle.ids.specs.declared.refusal.Refusal.TheVariants.{NoMemory, BadConfig};
 ghost use Rattle.ids.specs.Configurations.{is_within_limits};
 ghost use Rattle.semantics.specs.World.{opened, opened_engine, world_step, world_after, replies_of};
 ghost use Rattle.world.specs.Engines.{message_of};
-ghost use Rattle.world.specs.Acts.{step_reply_of};
-ghost use Rattle.world.specs.Worlds.{IsReachedWorld, MovesInPart, StopsInStep, step_in, tables_of, world, world_of};
+ghost use Rattle.world.specs.Acts.{step_of, step_reply_of};
+ghost use Rattle.world.specs.Worlds.{IsReachedWorld, MovesInPart, StopsInStep, world, world_of};
 
 use crate::engine::Engine;
 use crate::message::Message;
 use crate::step::{WorldReply, WorldStep};
-use ids::{Config, Refusal, ReplicaTable};
+use ids::{Config, Refusal};
 use std::alloc::{AllocError, Global};
 use std::marker::Model;
 
@@ -72,16 +72,6 @@ impl World {
         })
     }
 
-    /// The table of an engine's replicas, or `None` if there is no such engine.
-    pub fn table(&self, engine: usize) -> Option<&ReplicaTable>
-        ensures { option_map (λ table. table.now) result ≡ slice_get (tables_of self.now.engines) engine }
-    {
-        match self.engines.get(engine) {
-            Some(engine) => Some(engine.table()),
-            None => None,
-        }
-    }
-
     /// Runs the steps in order, and returns the reply to each. A step of an engine that isn't there replies `Idle`.
     ///
     /// # Errors
@@ -89,15 +79,15 @@ impl World {
     /// in part, by its engine alone, which is then between what it was and what the whole step makes of it.
     pub fn run(&mut self, alloc: Global, steps: &[WorldStep]) -> Result<Vec<WorldReply>, AllocError>
         ensures replies { IfOk result
-            (λ rs. map step_reply_of rs.items ≡ replies_of (world_of self.old) (map (step_in (tables_of self.old.engines)) steps.now)) }
+            (λ rs. map step_reply_of rs.items ≡ replies_of (world_of self.old) (map step_of steps.now)) }
         ensures world { OnOk result (world_of self.new
-            ≡ world_after (world_of self.old) (map (step_in (tables_of self.old.engines)) steps.now)) }
+            ≡ world_after (world_of self.old) (map step_of steps.now)) }
         ensures done { OnOk result (self.new.done ≡ min (self.old.done + length steps.now) 18446744073709551615) }
         ensures running { OnOk result ((self.old.failed ≡ false) × (self.new.failed ≡ false)) }
         ensures err { OnErr result (self.new.failed ≡ true) }
         ensures stopped { OnErr result (self.old.failed ≡ false
             → (n : ℕ) × (self.new.done ≡ min (self.old.done + n) 18446744073709551615)
-            × StopsInStep (world_of self.old) (map (step_in (tables_of self.old.engines)) steps.now) n (world_of self.new)) }
+            × StopsInStep (world_of self.old) (map step_of steps.now) n (world_of self.new)) }
         ensures failed { self.old.failed ≡ true → (result ≡ Err alloc_error) × (self.new ≡ self.old) }
     {
         if self.failed {
@@ -162,14 +152,14 @@ fn run_all(
     ensures replies { IfOk result
         (λ rs. map step_reply_of rs.items
         ≡ replies_of (world engines.old.items (map message_of messages.old.items))
-        (map (step_in (tables_of engines.old.items)) steps.now)) }
+        (map step_of steps.now)) }
     ensures world { OnOk result (world engines.new.items (map message_of messages.new.items)
         ≡ world_after (world engines.old.items (map message_of messages.old.items))
-        (map (step_in (tables_of engines.old.items)) steps.now)) }
+        (map step_of steps.now)) }
     ensures whole { OnOk result (whole.new ≡ length steps.now) }
     ensures stopped { OnErr result
         (StopsInStep (world engines.old.items (map message_of messages.old.items))
-        (map (step_in (tables_of engines.old.items)) steps.now) whole.new
+        (map step_of steps.now) whole.new
         (world engines.new.items (map message_of messages.new.items))) }
 {
     let mut replies = Vec::with_capacity(alloc, steps.len())?;
@@ -191,16 +181,15 @@ fn turn(
     requires { IsReachedWorld (world engines.old.items (map message_of messages.old.items)) }
     ensures world { OnOk result (world engines.new.items (map message_of messages.new.items)
         ≡ (world_step (world engines.old.items (map message_of messages.old.items))
-        (step_in (tables_of engines.old.items) step.now)).world) }
+        (step_of step.now)).world) }
     ensures reply { IfOk result
         (λ r. step_reply_of r
         ≡ (world_step (world engines.old.items (map message_of messages.old.items))
-        (step_in (tables_of engines.old.items) step.now)).reply) }
-    ensures tables { OnOk result (tables_of engines.new.items ≡ tables_of engines.old.items) }
+        (step_of step.now)).reply) }
     ensures messages { OnErr result (map message_of messages.new.items ≡ map message_of messages.old.items) }
     ensures stopped { OnErr result
         (MovesInPart (map message_of messages.old.items)
-        (step_in (tables_of engines.old.items) step.now) engines.old.items engines.new.items) }
+        (step_of step.now) engines.old.items engines.new.items) }
 {
     if step.engine >= engines.len() {
         return Ok(WorldReply::Idle);

@@ -51,7 +51,7 @@ fn line_of(alloc: Global, vector: &NamedVector) -> Result<Vec<u8>, AllocError> {
 
 /// The lines of what a hello lacks of the world's engine.
 fn world_answer(alloc: Global, world: &mut World, hello: &[u8]) -> Result<Vec<u8>, Fail> {
-    let vector = read_vector(alloc, hello, world.table(0).ok_or("no engine")?)?;
+    let vector = read_vector(alloc, hello)?;
     let act = WorldAct::Ask {
         token: CLIENTS as usize,
         question: Question::Missing(vector),

@@ -8,7 +8,7 @@ ghost use Rattle.wire.specs.Bundles.{bundle_form, bundle_text};
 ghost use Rattle.wire.specs.Sent.{CanBeSent};
 
 use crate::lines::samples::Sample;
-use ids::{Refusal, ReplicaTable};
+use ids::Refusal;
 use operation::{Op, Shared};
 use std::alloc::{AllocError, Global};
 use std::io;
@@ -19,7 +19,7 @@ pub fn compare(rt: &impl Print, alloc: Global, samples: &[Sample]) -> io::Result
     for sample in samples {
         let name = sample.name;
         let count = sample.ops.len();
-        match is_read_back(alloc, sample.ops.as_slice(), &sample.table) {
+        match is_read_back(alloc, sample.ops.as_slice()) {
             Ok(true) => println!(rt; "{name}: all of {count} are read back")?,
             Ok(false) => println!(rt; "{name}: others are read back")?,
             Err(AllocError) => println!(rt; "{name}: no memory")?,
@@ -32,15 +32,15 @@ pub fn compare(rt: &impl Print, alloc: Global, samples: &[Sample]) -> io::Result
 ///
 /// # Errors
 /// `AllocError` if allocation fails.
-fn is_read_back(alloc: Global, ops: &[Shared<Op>], table: &ReplicaTable) -> Result<bool, AllocError>
-    ensures sent { All (λ o. CanBeSent table.now (stamped_of o)) ops.now → IfOk result IsTrue }
+fn is_read_back(alloc: Global, ops: &[Shared<Op>]) -> Result<bool, AllocError>
+    ensures sent { All (λ o. CanBeSent (stamped_of o)) ops.now → IfOk result IsTrue }
     ensures same { IfOk result
         (λ same. IsTrue same
-        → (again : List Stamped) × (bundle_form table.now (bundle_text (map stamped_of ops.now)) ≡ Ok again)
+        → (again : List Stamped) × (bundle_form (bundle_text (map stamped_of ops.now)) ≡ Ok again)
         × (bundle_text again ≡ bundle_text (map stamped_of ops.now))) }
 {
     let text = write_bundle(alloc, ops)?;
-    match read_bundle(alloc, text.as_slice(), table) {
+    match read_bundle(alloc, text.as_slice()) {
         Ok(again) => {
             let rewritten = write_bundle(alloc, again.as_slice())?;
             Ok(rewritten.as_slice() == text.as_slice())

@@ -2,16 +2,15 @@
 
 ghost use Rattle.std.specs.Prelude.{◌≡◌, length, IfOk};
 
-use ids::{Refusal, ReplicaTable};
+use ids::Refusal;
 use operation::{Op, Shared};
 use std::alloc::Global;
 use wire::read_op;
 
-/// Operations with their table of replicas.
+/// Operations of one kind.
 #[derive(Debug, Drop)]
 pub struct Sample {
     pub name: &'static str,
-    pub table: ReplicaTable,
     pub ops: Vec<Shared<Op>>,
 }
 
@@ -24,8 +23,8 @@ const SHOPPING: [&str; 5] = [
     r#"["op",[5,1],[[1,4]],[["m",0],["l","shopping"]],[3,1],["i","milk"]]"#,
 ];
 
-/// The most members that a table may have.
-const MEMBERS: u32 = 64;
+/// How many replicas the longer vector names.
+const REPLICAS: u32 = 64;
 
 /// All samples.
 ///
@@ -44,38 +43,32 @@ pub fn all_samples(alloc: Global) -> Result<Vec<Sample>, Refusal>
 fn shopping_list(alloc: Global) -> Result<Sample, Refusal>
     ensures { IfOk result (λ s. length s.ops.items ≡ 5) }
 {
-    let table = ReplicaTable::new(alloc, &[1, 2])?;
     let mut ops = Vec::new(alloc);
     for line in SHOPPING {
-        ops.push(read_op(alloc, line.as_bytes(), &table)?)?;
+        ops.push(read_op(alloc, line.as_bytes())?)?;
     }
     Ok(Sample {
         name: "a shopping list",
-        table,
         ops,
     })
 }
 
-/// An operation whose vector names a thousand operations of each of 64 members.
+/// An operation whose vector names a thousand operations of each of 64 replicas.
 fn insert_after_all(alloc: Global) -> Result<Sample, Refusal>
     ensures { IfOk result (λ s. length s.ops.items ≡ 1) }
 {
-    let mut members = Vec::new(alloc);
     let mut pairs = String::new(alloc);
-    for number in 1..=MEMBERS {
-        members.push(number)?;
+    for number in 1..=REPLICAS {
         let comma = if number > 1 { "," } else { "" };
         pairs.push_str(format!(in alloc; "{comma}[{number},1000]")?.as_str())?;
     }
-    let table = ReplicaTable::new(alloc, members.as_slice())?;
     let line = format!(in alloc;
         r#"["op",[1001,1],[{pairs}],[["m",0],["l","shopping"]],1,["i","eggs"]]"#
     )?;
     let mut ops = Vec::new(alloc);
-    ops.push(read_op(alloc, line.as_bytes(), &table)?)?;
+    ops.push(read_op(alloc, line.as_bytes())?)?;
     Ok(Sample {
         name: "an insert beside 64 members",
-        table,
         ops,
     })
 }

@@ -22,7 +22,7 @@ pub fn report<R: Print + Clock>(rt: &R, alloc: Global, samples: &[Sample]) -> io
         let written = write_often(alloc, sample);
         let writing = nanos_since(rt, started)?;
         let started = Instant::now(rt)?;
-        let read = read_often(alloc, lines.as_slice(), sample);
+        let read = read_often(alloc, lines.as_slice());
         let reading = nanos_since(rt, started)?;
         let (Ok(bytes), Ok(count)) = (written, read) else {
             return println!(rt; "{}: no memory", sample.name);
@@ -73,11 +73,11 @@ fn write_often(alloc: Global, sample: &Sample) -> Result<u64, Refusal> {
 }
 
 /// Reads the lines again and again, and returns how many operations they were in all.
-fn read_often(alloc: Global, lines: &[Vec<u8>], sample: &Sample) -> Result<u64, Refusal> {
+fn read_often(alloc: Global, lines: &[Vec<u8>]) -> Result<u64, Refusal> {
     let mut count = 0_u64;
     for _ in 0..TURNS {
         for line in lines {
-            let _op = read_op(alloc, line.as_slice(), &sample.table)?;
+            let _op = read_op(alloc, line.as_slice())?;
             count = count.saturating_add(1);
         }
     }

@@ -1,7 +1,8 @@
 //! Hellos, answers and bundles of any origin, as bytes.
 
 use super::playing::Side::{One, Two};
-use super::playing::Turn::{Answer, Hello, Receive, Seen, Step, Write};
+use super::playing::Told::Refused;
+use super::playing::Turn::{Answer, Hello, Receive, Seen, Step, Take, Write};
 use super::playing::Writing::Assign;
 use super::playing::Wrote::Map;
 use super::playing::{Row, on_two};
@@ -37,10 +38,6 @@ fn the_first_fault_of_a_hello_decides(rt: HostRuntime) -> Result<(), Fail> {
             (One, Answer(r#"["op",[]]"#, Err(Refusal::BadLine))),
             (
                 One,
-                Answer(r#"["hello",[[4,1]]]"#, Err(Refusal::UnknownReplica)),
-            ),
-            (
-                One,
                 Answer(r#"["hello",[[2,1],[1,1]]]"#, Err(Refusal::BadLine)),
             ),
             // No refused hello made the token read.
@@ -49,6 +46,7 @@ fn the_first_fault_of_a_hello_decides(rt: HostRuntime) -> Result<(), Fail> {
         &[
             (One, Answer(r#"["hello",[[3,7]]]"#, Ok(FIRST_LINE))),
             (One, Seen(1)),
+            (One, Answer(r#"["hello",[[4,1]]]"#, Ok(FIRST_LINE))),
         ],
     ];
     on_two(&rt, rt.alloc(), 16, ACTS)
@@ -67,12 +65,9 @@ fn what_comes_before_a_bad_line_stays(rt: HostRuntime) -> Result<(), Fail> {
         &[
             (Two, Receive("", 0, 0, None)),
             (Two, Receive("\n", 0, 0, Some((1, Refusal::BadLine)))),
-            (
-                Two,
-                Receive(STRANGER, 0, 0, Some((1, Refusal::UnknownReplica))),
-            ),
             (Two, Step(Idle)),
-            (Two, Receive(FIRST_LINE, 2, 1, None)),
+            (Two, Take(STRANGER, Refused(Refusal::UnknownReplica, 1))),
+            (Two, Receive(FIRST_LINE, 3, 1, None)),
             (Two, Step(Published(1))),
             (Two, Seen(1)),
         ],

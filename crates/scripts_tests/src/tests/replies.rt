@@ -170,10 +170,6 @@ fn what_peers_sent(rt: HostRuntime) -> Result<(), Fail> {
         (Says::Kept(5), r#"["kept",5]"#),
         (Says::Kept(0), r#"["kept",0]"#),
         (Says::Known(5), r#"["known",5]"#),
-        (
-            Says::Denied(Refusal::UnknownReplica),
-            r#"["refused","E13"]"#,
-        ),
         (Says::NoMessage, r#"["none"]"#),
         (Says::Bundle(1, 5), r#"["message",1,5]"#),
         (Says::Received(1, 5, None), r#"["received",1,5]"#),

@@ -1,7 +1,7 @@
 //! Bundles.
 
 use super::{LINES, joined, list_of_five};
-use ids::{Refusal, ReplicaTable};
+use ids::Refusal;
 use operation::{Op, Shared};
 use std::alloc::{AllocError, Global};
 use std::process::Abort;
@@ -18,11 +18,6 @@ fn five_lines(alloc: Global) -> Result<String, AllocError> {
     Ok(text)
 }
 
-/// The table 1, 2.
-fn table(alloc: Global) -> Result<ReplicaTable, Refusal> {
-    ReplicaTable::new(alloc, &[1, 2])
-}
-
 /// Asserts that the operations are written as this text.
 fn are_written(
     rt: &impl Abort,
@@ -37,8 +32,7 @@ fn are_written(
 
 /// The operations of a bundle, or why it isn't one.
 fn read(alloc: Global, text: &str) -> Result<Vec<Shared<Op>>, Refusal> {
-    let table = table(alloc)?;
-    read_bundle(alloc, text.as_bytes(), &table).map_err(|stopped| stopped.1)
+    read_bundle(alloc, text.as_bytes()).map_err(|stopped| stopped.1)
 }
 
 #[test]
@@ -74,17 +68,15 @@ fn lines_are_read(
     count: u32,
     stopped: Option<Refusal>,
 ) -> Result<(), Refusal> {
-    let table = table(alloc)?;
-    let read = read_lines(alloc, text, &table);
+    let read = read_lines(alloc, text);
     assert_eq!(rt; read.ops.len(), count as usize, "{} bytes", text.len());
     assert_eq!(rt; read.stopped, stopped, "{} bytes", text.len());
     Ok(())
 }
 
 /// How many operations are read from the text as a bundle, or the line that stops it and why.
-fn bundle_len(alloc: Global, text: &[u8]) -> Result<Result<usize, (u64, Refusal)>, Refusal> {
-    let table = table(alloc)?;
-    Ok(read_bundle(alloc, text, &table).map(|ops| ops.len()))
+fn bundle_len(alloc: Global, text: &[u8]) -> Result<usize, (u64, Refusal)> {
+    read_bundle(alloc, text).map(|ops| ops.len())
 }
 
 /// Asserts how many operations are read from the text, as lines and as a bundle, and what stops it.
@@ -100,7 +92,7 @@ fn is_read(
         None => Ok(count as usize),
         Some(why) => Err((u64::from(count) + 1, why)),
     };
-    let bundle = bundle_len(alloc, text)?;
+    let bundle = bundle_len(alloc, text);
     assert_eq!(rt; bundle, want, "{} bytes", text.len());
     Ok(())
 }
@@ -130,7 +122,7 @@ type Row<'a> = (&'a [&'a str], u32, Refusal);
 
 const GOOD: &str = r#"["op",[1,1],[],[],0,["a",{}]]"#;
 
-const UNKNOWN: &str = r#"["op",[1,3],[],[],0,["d"]]"#;
+const OTHER: &str = r#"["op",[1,3],[],[],0,["d"]]"#;
 
 const FLOAT: &str = r#"["op",[1,1],[],[],0,["a",1.5]]"#;
 
@@ -141,9 +133,9 @@ const STOPPED: &[Row] = &[
     (&[GOOD, "\n", GOOD], 1, Refusal::BadLine),
     (&[GOOD, "\n "], 1, Refusal::BadLine),
     (&[GOOD, "\r\n\r"], 1, Refusal::BadLine),
-    (&[UNKNOWN, "\n", GOOD, "\n"], 0, Refusal::UnknownReplica),
+    (&[OTHER, "\n", GOOD, "\n{"], 2, Refusal::BadLine),
     (
-        &[GOOD, "\n", GOOD, "\n", FLOAT, "\n\n", UNKNOWN],
+        &[GOOD, "\n", GOOD, "\n", FLOAT, "\n\n", OTHER],
         2,
         Refusal::NotWhole,
     ),

@@ -1,7 +1,7 @@
 //! A line that is as it would be written is read at once, and any other as JSON, as it is after a space. Both ways give the same.
 
 use super::LINES;
-use ids::{Refusal, ReplicaTable};
+use ids::Refusal;
 use operation::{Op, Shared};
 use std::alloc::{AllocError, Global};
 use std::process::Abort;
@@ -109,16 +109,10 @@ fn push_times(line: &mut Vec<u8>, fill: &str, count: usize) -> Result<(), AllocE
     Ok(())
 }
 
-/// What is read with the table 1, 2.
-fn read(alloc: Global, line: &[u8]) -> Result<Shared<Op>, Refusal> {
-    let table = ReplicaTable::new(alloc, &[1, 2])?;
-    read_op(alloc, line, &table)
-}
-
 /// Asserts that the line is read as it is after a space.
 fn is_read_alike(rt: &impl Abort, alloc: Global, line: &[u8]) -> Result<(), AllocError> {
     let spaced = spaced(alloc, line)?;
-    match (read(alloc, line), read(alloc, spaced.as_slice())) {
+    match (read_op(alloc, line), read_op(alloc, spaced.as_slice())) {
         (Ok(op), Ok(other)) => assert!(rt; *op == *other),
         (Err(why), Err(other)) => assert_eq!(rt; why, other),
         _ => panic!(rt; "a space in front changes what is read"),
@@ -153,7 +147,7 @@ fn a_space_in_front_changes_nothing(rt: HostRuntime) -> Result<(), Fail> {
 fn a_space_in_front_changes_nothing_at_the_limits(rt: HostRuntime) -> Result<(), Fail> {
     for (fill, hops, key, text, is_lawful) in LONG {
         let line = long_line(rt.alloc(), fill, *hops, *key, *text)?;
-        assert_eq!(rt; read(rt.alloc(), line.as_slice()).is_ok(), *is_lawful);
+        assert_eq!(rt; read_op(rt.alloc(), line.as_slice()).is_ok(), *is_lawful);
         is_read_alike(&rt, rt.alloc(), line.as_slice())?;
     }
     Ok(())

@@ -1,6 +1,6 @@
 //! Lines of operations.
 
-use super::{Around, LINES, MANY_PAIRS, joined, list_of_five, pairs, with_part};
+use super::{Around, LINES, MOST_PAIRS, joined, list_of_five, pairs, with_part};
 use ids::{Refusal, ReplicaTable};
 use operation::{Op, check_alone};
 use std::alloc::{AllocError, Global};
@@ -25,9 +25,8 @@ fn are_same(rt: &impl Abort, again: &Op, op: &Op, line: &str) {
 
 /// Asserts that this is the operation's line, and that it is read back as the operation.
 fn has_line(rt: &impl Abort, alloc: Global, op: &Op, line: &str) -> Result<(), Refusal> {
-    let table = ReplicaTable::new(alloc, &[1, 2])?;
     is_written(rt, alloc, op, line)?;
-    let again = read_op(alloc, line.as_bytes(), &table)?;
+    let again = read_op(alloc, line.as_bytes())?;
     are_same(rt, &again, op, line);
     is_written(rt, alloc, &again, line)
 }
@@ -45,10 +44,9 @@ fn operations_are_read_as_they_are_written(rt: HostRuntime) -> Result<(), Fail> 
 /// The counter and the replica of an id.
 type Pair = (u64, u32);
 
-/// What is read from a line with the table 1, 2: the id, or why there is no operation.
+/// What is read from a line: the id, or why there is no operation.
 fn read(alloc: Global, line: &[u8]) -> Result<Pair, Refusal> {
-    let table = ReplicaTable::new(alloc, &[2, 1])?;
-    let op = read_op(alloc, line, &table)?;
+    let op = read_op(alloc, line)?;
     let id = op.id;
     Ok((id.counter, id.replica.number()))
 }
@@ -58,16 +56,27 @@ fn is_read(rt: &impl Abort, alloc: Global, line: &str, want: Result<Pair, Refusa
     assert_eq!(rt; read(alloc, line.as_bytes()), want, "{line}");
 }
 
+/// Asserts what is read from the line of an operation whose vector has this many pairs.
+fn is_read_with_pairs(
+    rt: &impl Abort,
+    alloc: Global,
+    count: u32,
+    want: Result<Pair, Refusal>,
+) -> Result<(), AllocError> {
+    let pairs = pairs(alloc, count)?;
+    let line = with_part(
+        alloc,
+        (r#"["op",[2,1],"#, r#",[],0,["a",{}]]"#),
+        pairs.as_str(),
+    )?;
+    is_read(rt, alloc, line.as_str(), want);
+    Ok(())
+}
+
 #[test]
 fn operations_of_many_pairs(rt: HostRuntime) -> Result<(), Fail> {
-    for (count, why) in MANY_PAIRS {
-        let pairs = pairs(rt.alloc(), count)?;
-        let line = joined(
-            rt.alloc(),
-            &[r#"["op",[2,1],"#, pairs.as_str(), r#",[],0,["a",{}]]"#],
-        )?;
-        is_read(&rt, rt.alloc(), line.as_str(), Err(why));
-    }
+    is_read_with_pairs(&rt, rt.alloc(), MOST_PAIRS, Ok((2, 1)))?;
+    is_read_with_pairs(&rt, rt.alloc(), MOST_PAIRS + 1, Err(Refusal::BadLine))?;
     Ok(())
 }
 
@@ -303,40 +312,19 @@ fn mutations_without_form(rt: HostRuntime) -> Result<(), Fail> {
     Ok(())
 }
 
-/// The first fault decides.
+/// Who is a member isn't the line's to know.
 #[test]
-fn faults_in_their_order(rt: HostRuntime) {
+fn operations_of_any_replica(rt: HostRuntime) {
     const ROWS: &[Row] = &[
+        (r#"["op",[1,3],[],[],0,["d"]]"#, Ok((1, 3))),
         (
-            r#"["op",[1,3],[],[],0,["d"]]"#,
-            Err(Refusal::UnknownReplica),
+            r#"["op",[1,4294967295],[],[],0,["d"]]"#,
+            Ok((1, 4294967295)),
         ),
-        (r#"["op",[1,2],[],[],"a",["a",1.5]]"#, Err(Refusal::BadLine)),
-        (r#"["op",[0,3],[],[],0,["d"]]"#, Err(Refusal::BadLine)),
+        (r#"["op",[2,1],[[3,1],[7,1]],[],0,["a",{}]]"#, Ok((2, 1))),
         (
-            r#"["op",[1,3],null,[],"a",["x"]]"#,
-            Err(Refusal::UnknownReplica),
-        ),
-        (
-            r#"["op",[1,1],[[3,1],[2,1]],[],"a",["x"]]"#,
-            Err(Refusal::UnknownReplica),
-        ),
-        (
-            r#"["op",[1,1],[[2,1],[1,1],[3,1]],[],0,["d"]]"#,
-            Err(Refusal::BadLine),
-        ),
-        (
-            r#"["op",[1,1],[],[["l",0]],[1,3],["a",1.5]]"#,
-            Err(Refusal::UnknownReplica),
-        ),
-        (
-            r#"["op",[1,1],[],[["l",0],["m",[1,3]]],null,["a",1.5]]"#,
-            Err(Refusal::UnknownReplica),
-        ),
-        // The keys come before how they fit together.
-        (
-            r#"["op",[1,1],[],[["m",1]],[1,3],["d"]]"#,
-            Err(Refusal::UnknownReplica),
+            r#"["op",[2,1],[[2,1]],[["l",0]],[1,3],["a",1]]"#,
+            Ok((2, 1)),
         ),
     ];
     are_read(&rt, rt.alloc(), ROWS);
@@ -357,6 +345,10 @@ const ALONE: &[(&str, Result<(), Refusal>)] = &[
         r#"["op",[1,2],[],[["l",0]],1,["d"]]"#,
         Err(Refusal::BadPlace),
     ),
+    (
+        r#"["op",[1,3],[],[],0,["d"]]"#,
+        Err(Refusal::UnknownReplica),
+    ),
 ];
 
 /// Asserts what `check_alone` answers about the operation of the line.
@@ -367,7 +359,7 @@ fn is_answered(
     want: Result<(), Refusal>,
 ) -> Result<(), Refusal> {
     let table = ReplicaTable::new(alloc, &[1, 2])?;
-    let op = read_op(alloc, line.as_bytes(), &table)?;
+    let op = read_op(alloc, line.as_bytes())?;
     assert_eq!(rt; check_alone(&op, &table), want, "{line}");
     Ok(())
 }
@@ -399,6 +391,41 @@ const LONG: &[Long] = &[
     (TEXT, "t", 4097, Err(Refusal::TextTooLong)),
 ];
 
+/// Lines with two faults, of which the first decides: of the vector, the path, the last key and the mutation.
+const TWO_FAULTS: &[Long] = &[
+    (
+        (r#"["op",[1,1],[[2,1],[1,1]],[["m",0]"#, r#"],"a",["d"]]"#),
+        r#",["m","k"]"#,
+        32,
+        Err(Refusal::BadLine),
+    ),
+    (
+        (r#"["op",[1,1],[],[["m",0]"#, r#"],"a",["a",1.5]]"#),
+        r#",["m","k"]"#,
+        32,
+        Err(Refusal::TooDeep),
+    ),
+    (
+        (r#"["op",[1,1],[],[["m",0]],""#, r#"",["a",1.5]]"#),
+        "k",
+        257,
+        Err(Refusal::KeyTooLong),
+    ),
+    // The keys come before how they fit together.
+    (
+        (r#"["op",[1,1],[],[["m",1]],""#, r#"",["a",1.5]]"#),
+        "k",
+        257,
+        Err(Refusal::KeyTooLong),
+    ),
+    (
+        (r#"["op",[1,1],[],[["l",0]],"#, r#",["a",1.5]]"#),
+        r#""k""#,
+        1,
+        Err(Refusal::BadLine),
+    ),
+];
+
 /// Asserts what is read from the line of a row.
 fn is_long(rt: &impl Abort, alloc: Global, row: &Long) -> Result<(), AllocError> {
     let (around, part, times, want) = *row;
@@ -416,6 +443,14 @@ fn lengths_are_limited(rt: HostRuntime) -> Result<(), Fail> {
     Ok(())
 }
 
+#[test]
+fn the_first_fault_decides(rt: HostRuntime) -> Result<(), Fail> {
+    for row in TWO_FAULTS {
+        is_long(&rt, rt.alloc(), row)?;
+    }
+    Ok(())
+}
+
 /// This many lists within one another.
 fn nested(alloc: Global, times: usize) -> Result<String, AllocError> {
     let open = "[".repeat(alloc, times)?;
@@ -423,22 +458,28 @@ fn nested(alloc: Global, times: usize) -> Result<String, AllocError> {
     joined(alloc, &[open.as_str(), close.as_str()])
 }
 
-/// Asserts why a line is refused with this many lists inside it, whose replica isn't a member.
+/// Asserts why a line is refused whose path has too many parts, and whose value is this many lists within one another.
 fn is_nested(rt: &impl Abort, alloc: Global, times: usize, why: Refusal) -> Result<(), AllocError> {
+    let parts = r#",0"#.repeat(alloc, 32)?;
     let lists = nested(alloc, times)?;
-    let line = with_part(
+    let line = joined(
         alloc,
-        (r#"["op",[1,3],[],[],0,["a","#, "]]"),
-        lists.as_str(),
+        &[
+            r#"["op",[1,1],[],[0"#,
+            parts.as_str(),
+            r#"],0,["a","#,
+            lists.as_str(),
+            "]]",
+        ],
     )?;
     is_read(rt, alloc, line.as_str(), Err(why));
     Ok(())
 }
 
-/// A line of a replica that isn't a member is refused as such if its text is JSON: with 125 lists inside the mutation's and the line's.
+/// That the path is too long is told only where the text is JSON: with 125 lists inside the mutation's and the line's.
 #[test]
 fn nesting_is_limited(rt: HostRuntime) -> Result<(), Fail> {
-    is_nested(&rt, rt.alloc(), 125, Refusal::UnknownReplica)?;
+    is_nested(&rt, rt.alloc(), 125, Refusal::TooDeep)?;
     is_nested(&rt, rt.alloc(), 126, Refusal::BadLine)?;
     is_nested(&rt, rt.alloc(), 1000, Refusal::BadLine)?;
     Ok(())

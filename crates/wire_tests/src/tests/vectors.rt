@@ -1,16 +1,15 @@
 //! Lines of vectors.
 
-use super::{Around, MANY_PAIRS, joined, pairs, with_part};
-use ids::{Refusal, ReplicaTable};
+use super::{Around, MOST_PAIRS, joined, pairs, with_part};
+use ids::Refusal;
 use std::alloc::{AllocError, Global};
 use std::process::Abort;
 use std::test::Fail;
 use wire::{read_vector, write_vector};
 
-/// What is written of the vector that is read from this line with the table 1, 2, 9, or why none is read.
+/// What is written of the vector that is read from this line, or why none is read.
 fn rewritten(alloc: Global, line: &str) -> Result<Vec<u8>, Refusal> {
-    let table = ReplicaTable::new(alloc, &[9, 1, 2])?;
-    let vector = read_vector(alloc, line.as_bytes(), &table)?;
+    let vector = read_vector(alloc, line.as_bytes())?;
     Ok(write_vector(alloc, &vector)?)
 }
 
@@ -31,6 +30,10 @@ fn vectors_are_written_as_they_are_read(rt: HostRuntime) -> Result<(), Fail> {
             r#"["hello",[[9,4611686018427387904]]]"#,
         ),
         (r#"["\u0068ello",[[2,7]]]"#, r#"["hello",[[2,7]]]"#),
+        (
+            r#"["hello",[[1,1],[3,1],[4294967295,1]]]"#,
+            r#"["hello",[[1,1],[3,1],[4294967295,1]]]"#,
+        ),
     ];
     for (line, written) in ROWS {
         is_written(&rt, rt.alloc(), line, written)?;
@@ -114,9 +117,9 @@ fn vectors_without_form(rt: HostRuntime) -> Result<(), Fail> {
         "[[1,1],[1,1]]",
         "[[2,2],[1,2]]",
         "[[1,1],[9,3],[9,4]]",
-        // Not rising, and not a member: that it doesn't rise comes first.
         "[[9,1],[3,1]]",
         "[[1,1],[0,1],[3,1]]",
+        "[[3,1],null]",
     ];
     for pairs in VECTORS {
         are_refused(&rt, rt.alloc(), pairs, Refusal::BadLine)?;
@@ -124,28 +127,12 @@ fn vectors_without_form(rt: HostRuntime) -> Result<(), Fail> {
     Ok(())
 }
 
-/// Of more than 256 pairs the first isn't looked at; else the third is of no member.
 #[test]
 fn vectors_of_many_pairs(rt: HostRuntime) -> Result<(), Fail> {
-    for (count, why) in MANY_PAIRS {
-        let pairs = pairs(rt.alloc(), count)?;
-        are_refused(&rt, rt.alloc(), pairs.as_str(), why)?;
-    }
-    Ok(())
-}
-
-/// The first pair that has a fault decides.
-#[test]
-fn vectors_of_no_members(rt: HostRuntime) -> Result<(), Fail> {
-    const VECTORS: &[&str] = &[
-        "[[3,1]]",
-        "[[4294967295,1]]",
-        "[[1,1],[3,1],[9,1]]",
-        "[[3,1],[1,1]]",
-        "[[3,1],null]",
-    ];
-    for pairs in VECTORS {
-        are_refused(&rt, rt.alloc(), pairs, Refusal::UnknownReplica)?;
-    }
+    let most = pairs(rt.alloc(), MOST_PAIRS)?;
+    let line = with_part(rt.alloc(), HELLO, most.as_str())?;
+    is_written(&rt, rt.alloc(), line.as_str(), line.as_str())?;
+    let more = pairs(rt.alloc(), MOST_PAIRS + 1)?;
+    are_refused(&rt, rt.alloc(), more.as_str(), Refusal::BadLine)?;
     Ok(())
 }

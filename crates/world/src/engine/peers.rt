@@ -2,11 +2,11 @@
 
 ghost use Rattle.std.specs.Prelude.{◌≡◌, ◌≢◌, ◌⊎◌, ◌++◌, ◌∷◌, [], ◌+◌, ◌<◌, ◌≤◌, ◌^◌, ◌==◌, cond, true, false, OnOk, OnErr, IfOk, IfNone};
 ghost use Rattle.std.specs.Prelude.{IfSome, MatchResult, Option, Some, map, length, slice_get};
-ghost use Rattle.ids.specs.declared.refusal.Refusal.TheVariants.{NoMemory, UnknownReplica};
+ghost use Rattle.ids.specs.declared.refusal.Refusal.TheVariants.{NoMemory};
 ghost use Rattle.ids.specs.declared.refusal.Refusal.{Refusal as TheRefusal};
 ghost use Rattle.semantics.specs.Engine.{Hello as HelloOf};
 ghost use Rattle.semantics.specs.WriteSteps.{push};
-ghost use Rattle.semantics.specs.PeerSteps.{answer_hello, answer_sent, lacked, names_members, published_vector, receive_lines};
+ghost use Rattle.semantics.specs.PeerSteps.{answer_hello, answer_sent, lacked, published_vector, receive_lines};
 ghost use Rattle.semantics.specs.PeerSteps.{receive_message, say_hello, submit_all};
 ghost use Rattle.replica.specs.operation.Ops.{stamped_of};
 ghost use Rattle.wire.specs.Bundles.{readable};
@@ -15,11 +15,10 @@ ghost use Rattle.world.specs.Parts.{IsBetween};
 ghost use Rattle.world.specs.Acts.{step_reply_of};
 
 use crate::engine::Engine;
-use crate::members::before_nonmember;
 use crate::message::Message;
 use crate::step::WorldReply;
 use ids::Refusal;
-use replica::{NamedVector, Op, Request, Shared, names_only};
+use replica::{NamedVector, Op, Request, Shared};
 use std::alloc::{AllocError, Global};
 use wire::{LinesRead, read_lines};
 
@@ -72,13 +71,7 @@ impl Engine {
         let Some(hello) = hello_at(messages, message) else {
             return Ok(WorldReply::NoMessage);
         };
-        let bundle = match self.lacked(alloc, hello) {
-            Ok(bundle) => bundle,
-            Err(Refusal::UnknownReplica) => {
-                return Ok(WorldReply::Denied(Refusal::UnknownReplica));
-            }
-            Err(_) => return Err(AllocError),
-        };
+        let bundle = self.lacked(alloc, hello)?;
         let message = messages.len() as u64;
         let operations = bundle.len() as u64;
         messages.push(Message::Bundle(bundle))?;
@@ -89,19 +82,14 @@ impl Engine {
         })
     }
 
-    /// The published operations that a hello doesn't cover.
+    /// The published operations that a hello doesn't cover, the oldest first.
     ///
     /// # Errors
-    /// `UnknownReplica` if it names a replica that isn't a member, `NoMemory` if allocation fails.
-    fn lacked(&self, alloc: Global, hello: &NamedVector) -> Result<Vec<Shared<Op>>, Refusal>
-        ensures { MatchResult result
-            (λ ops. (map stamped_of ops.items ≡ lacked self.now hello.now) × (names_members self.now hello.now ≡ true))
-            (λ why. (why ≡ NoMemory) ⊎ ((why ≡ UnknownReplica) × (names_members self.now hello.now ≡ false))) }
+    /// `AllocError` if allocation fails.
+    fn lacked(&self, alloc: Global, hello: &NamedVector) -> Result<Vec<Shared<Op>>, AllocError>
+        ensures { IfOk result (λ ops. map stamped_of ops.items ≡ lacked self.now hello.now) }
     {
-        if !names_only(hello.ids(), self.shown().table()) {
-            return Err(Refusal::UnknownReplica);
-        }
-        Ok(self.shown().missing(alloc, hello)?)
+        self.shown().missing(alloc, hello)
     }
 
     /// A client receives a bundle, and submits its operations, which the message and the history share.
@@ -110,7 +98,6 @@ impl Engine {
     /// `AllocError` if allocation fails.
     pub fn deliver(
         &mut self,
-        alloc: Global,
         messages: &[Message],
         client: usize,
         message: usize,
@@ -126,7 +113,8 @@ impl Engine {
         let Some(Message::Bundle(bundle)) = messages.get(message) else {
             return Ok(WorldReply::NoMessage);
         };
-        let read = before_nonmember(alloc, bundle, self.shown().table());
+        let ops = bundle.clone()?;
+        let read = LinesRead { ops, stopped: None };
         self.receive(client, read)
     }
 
@@ -142,18 +130,18 @@ impl Engine {
     ) -> Result<WorldReply, AllocError>
         requires reached { IsReachedEngine self.old }
         ensures engine { OnOk result (self.new
-            ≡ (receive_lines self.old client (readable self.old.replica.members text.now).operations
-            (readable self.old.replica.members text.now).stopped).engine) }
+            ≡ (receive_lines self.old client (readable text.now).operations
+            (readable text.now).stopped).engine) }
         ensures reply { IfOk result
             (λ r. step_reply_of r
-            ≡ (receive_lines self.old client (readable self.old.replica.members text.now).operations
-            (readable self.old.replica.members text.now).stopped).reply) }
+            ≡ (receive_lines self.old client (readable text.now).operations
+            (readable text.now).stopped).reply) }
         ensures stopped { OnErr result
             (IsBetween self.old self.new
-            (receive_lines self.old client (readable self.old.replica.members text.now).operations
-            (readable self.old.replica.members text.now).stopped).engine) }
+            (receive_lines self.old client (readable text.now).operations
+            (readable text.now).stopped).engine) }
     {
-        let read = read_lines(alloc, text, self.shown().table());
+        let read = read_lines(alloc, text);
         self.receive(client, read)
     }
 

@@ -202,9 +202,7 @@ fn hellos_of_nonmembers(rt: HostRuntime) -> Result<(), Fail> {
         (0, Step, "Published(1)"),
         (0, Push(0, "a", 2), "Ticket(2)"),
         (0, Step, "Published(1)"),
-        (0, Bundle(2, 2), "Denied(UnknownReplica)"),
-        (0, Learn(2, 0, 1), "Seen(1)"),
-        (0, Bundle(2, 0), "Bundle 3 of 2"),
+        (0, Bundle(2, 2), "Bundle 3 of 2"),
         (0, Learn(2, 0, 1), "Seen(2)"),
     ];
     engines_reply(&rt, rt.alloc(), (1, &[1, 2]), (3, &[1, 3]), ROWS)
@@ -237,13 +235,14 @@ fn bundles_of_nonmembers(rt: HostRuntime) -> Result<(), Fail> {
         (1, Poll(0, 2), "Made 2@3 at 1"),
         (0, Hello(0), "Hello 0:"),
         (1, Bundle(0, 0), "Bundle 1 of 2"),
-        (0, Deliver(0, 1), "Received 1 from 1, E13 at 2"),
-        (0, Step, "Published(1)"),
+        (0, Deliver(0, 1), "Received 2 from 1"),
+        (0, Step, "Published(2)"),
         (0, Poll(0, 1), "Replied(Kept(1))"),
+        (0, Poll(0, 2), "Refused E13 at 1"),
         (0, Hello(0), "Hello 2: 1@2"),
         (1, Bundle(0, 2), "Bundle 3 of 1"),
-        (0, Deliver(0, 3), "Received 0 from 0, E13 at 1"),
-        (0, Push(0, "a", 1), "Ticket(2)"),
+        (0, Deliver(0, 3), "Received 1 from 3"),
+        (0, Push(0, "a", 1), "Ticket(4)"),
     ];
     engines_reply(&rt, rt.alloc(), (1, &[1, 2]), (3, &[1, 2, 3]), ROWS)
 }
@@ -267,15 +266,10 @@ fn lines_are_submitted(rt: HostRuntime) -> Result<(), Fail> {
 /// A line that is cut before its line feed.
 const CUT: &str = r#"["op",[1,2],[],[["m",0]],"a",["a",7]]"#;
 
-/// An assign of a replica that isn't a member.
-const STRANGE: &str = r#"["op",[1,3],[],[["m",0]],"a",["a",7]]
-"#;
-
 #[test]
 fn a_bad_line_ends_a_receipt(rt: HostRuntime) -> Result<(), Fail> {
     const ROWS: &[Talk] = &[
         (0, Lines(0, CUT), "Received 0 from 0, E22 at 1"),
-        (0, Lines(0, STRANGE), "Received 0 from 0, E13 at 1"),
         (0, Lines(0, "\n"), "Received 0 from 0, E22 at 1"),
         (0, Lines(0, BAD_THIRD), "Received 2 from 1, E22 at 3"),
         (0, Push(0, "d", 1), "Ticket(3)"),

@@ -6,7 +6,6 @@ use Rattle.peer_sync.proofs.receiving.receive.Goals as goal
 
 pub loop-line-preserved : goal.loop-line-preserved
 loop-line-preserved g c =
-    let table = g.N.EngineName.table in
     let before : Client = c.args.client.now in
     let text = c.args.bundle.now in
     let d : Client = c.loop-line.client in
@@ -17,12 +16,12 @@ loop-line-preserved g c =
     let first : c.count.new.self.first_serial
     ≡ cond (n == 0) c.in-Ok.ticket.serial c.loop-line.received.first_serial = ap (λ (r : Received). r.first_serial) c.count.ensures in
     let kept : length d.kept
-    ≡ length before.kept + n = kept_after table before text d c.loop-line.lines.rest.now n c.loop-line.invariant.sent in
+    ≡ length before.kept + n = kept_after before text d c.loop-line.lines.rest.now n c.loop-line.invariant.sent in
     let serial : c.in-Ok.ticket.serial ≡ length before.kept + n + 1 = omega (arith, ok.3, kept) in
     record {
       taken = omega (arith, c.in-Some.ensures.number.0, c.in-Some.ensures.number.1, c.loop-line.invariant.taken, counted);
-      sent = subst (λ m. HasSubmitted table before text e c.take_line.new.self.rest.now m) (sym counted)
-          (submitted-more table before text d e c.loop-line.lines.rest.now c.in-Some.line.text.now c.take_line.new.self.rest.now n ok.0
+      sent = subst (λ m. HasSubmitted before text e c.take_line.new.self.rest.now m) (sym counted)
+          (submitted-more before text d e c.loop-line.lines.rest.now c.in-Some.line.text.now c.take_line.new.self.rest.now n ok.0
           c.loop-line.invariant.sent c.in-Some.ensures.line ok.1 ok.2);
       first = first
           ∙ first_serial-next n c.count.new.self.submitted c.in-Ok.ticket.serial c.loop-line.received.first_serial
@@ -32,18 +31,17 @@ loop-line-preserved g c =
 
 pub returns-in-Err-clause-stopped : goal.returns-in-Err-clause-stopped
 returns-in-Err-clause-stopped g c =
-    let table = g.N.EngineName.table in
     let before : Client = c.args.client.now in
     let text = c.args.bundle.now in
     let n : ℕ = c.loop-line.received.submitted in (
       omega (arith, c.in-Some.ensures.number.0, c.loop-line.invariant.taken),
-      stops table before text c.loop-line.client c.submit_line.new.client c.loop-line.lines.rest.now c.in-Some.line.text.now
+      stops before text c.loop-line.client c.submit_line.new.client c.loop-line.lines.rest.now c.in-Some.line.text.now
           c.take_line.new.self.rest.now n c.in-Err.why c.loop-line.invariant.sent c.in-Some.ensures.line c.in-Err.ensures.err.1,
     )
 
 pub returns-clause-stopped : goal.returns-clause-stopped
 returns-clause-stopped g c =
-    stops-end g.N.EngineName.table c.args.client.now c.args.bundle.now c.loop-line.client c.loop-line.lines.rest.now
+    stops-end c.args.client.now c.args.bundle.now c.loop-line.client c.loop-line.lines.rest.now
     c.take_line.new.self.rest.now
     c.loop-line.received.submitted c.loop-line.lines.taken c.take_line.new.self.taken c.cut_stop-received.result
     c.loop-line.invariant.sent c.loop-line.invariant.taken c.in_default.ensures.none.0 c.in_default.ensures.none.1

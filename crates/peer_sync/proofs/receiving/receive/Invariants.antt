@@ -9,7 +9,7 @@ decreases-loop-line g l = length l.lines.rest.now
 abbrev pub invariant-loop-line : goal.invariant-loop-line
 invariant-loop-line g l = record {
   taken : l.lines.taken ≡ l.received.submitted;
-  sent : HasSubmitted g.N.EngineName.table l.fn.client l.fn.bundle l.client l.lines.rest.now l.received.submitted;
+  sent : HasSubmitted l.fn.client l.fn.bundle l.client l.lines.rest.now l.received.submitted;
   first : l.received.first_serial ≡ cond (l.received.submitted == 0) 0 (length l.fn.client.kept + 1);
   serials : (l.received.submitted ≡ 0) ⊎ (length l.client.kept ≤ l.client.serials);
 }

@@ -8,13 +8,12 @@ use Rattle.peer_sync.proofs.sending.answer.Goals as goal
 
 pub returns-clause-reads_back : goal.returns-clause-reads_back
 returns-clause-reads_back g c v form =
-    let table = g.N.EngineName.table in
     let named : c.in_ok-vector.vector ≡ v =
-    same_vector table c.table.result.now c.in_ok-vector.vector v
-    (without_end c.args.hello.now) c.without_end.result.now c.table.ensures c.without_end.ensures c.in_ok-vector.ensures form in
+    same_vector c.in_ok-vector.vector v (without_end c.args.hello.now) c.without_end.result.now c.without_end.ensures
+    c.in_ok-vector.ensures form in
     let lacked : map stamped_of c.in_ok-ops.ops.items ≡ lacked_of c.missing.new.self.seen v =
     c.in_ok-ops.ensures.ops ∙ ap (lacked_of c.missing.new.self.seen) named in
-    answer_back table c.in_ok-ops.ops.items c.as_slice.result.now _ c.in_ok-lines.lines.items c.as_slice.ensures.value
+    answer_back c.in_ok-ops.ops.items c.as_slice.result.now _ c.in_ok-lines.lines.items c.as_slice.ensures.value
     lacked c.in_ok-lines.ensures.reads_back
-    (lacked_sent g.N.EngineName.own table c.missing.new.self.seen v c.in_ok-ops.ops.items c.seen_len-2.ensures.engine
+    (lacked_sent g.N.EngineName.own g.N.EngineName.table c.missing.new.self.seen v c.in_ok-ops.ops.items c.seen_len-2.ensures.engine
     c.in_ok-ops.ensures.named lacked)

@@ -3,14 +3,12 @@ use Rattle.std.specs.List.{list_all}
 use Rattle.ids.specs.Configurations.{Configuration, is_within_limits}
 use Rattle.ids.specs.declared.refusal.Refusal.{Refusal}
 use Rattle.ids.specs.declared.refusal.Refusal.TheVariants.{NoMemory, BadConfig}
-use Rattle.semantics.specs.World.{World, WorldStep}
-use Rattle.world.specs.Worlds.{tables_of}
+use Rattle.semantics.specs.World.{WorldStep}
 use Rattle.scripts.specs.declared.error.ScriptError.{ScriptError}
 use Rattle.scripts.specs.Engines.{if_within_limits}
 use Rattle.scripts.specs.Errors.{IsErrorOf, error_of}
 use Rattle.world.specs.wire.Lines.{Bad, on_line, unless_bad}
 use Rattle.scripts.specs.Scripts.{steps_left}
-use Rattle.scripts.proofs.AskedTables.{opened_tables}
 use Rattle.scripts.proofs.script.open.Goals as goal
 
 -- a refused world is a bad first line, or a failed allocation
@@ -19,9 +17,6 @@ refused : (gs : List Configuration) (why : Refusal) (f : ScriptError) (next : Li
     → IsErrorOf (unless_bad next (on_line 1 (if_within_limits gs))) f
 refused gs why f next (inl bad) limits e = inr ((1, BadConfig), rw (limits bad) refl, e ∙ ap (error_of 1) bad)
 refused gs why f next (inr none) limits e = inl (e ∙ ap (error_of 1) none)
-
-pub with_steps-requires : goal.with_steps-requires
-with_steps-requires c = ap (λ (W : World). tables_of W.engines) c.in-Ok.ensures.engines ∙ opened_tables c.args.engines.now
 
 pub returns-in-Err-clause-err : goal.returns-in-Err-clause-err
 returns-in-Err-clause-err c =

@@ -7,7 +7,7 @@ pub returns-clause-bundle : goal.returns-clause-bundle
 returns-clause-bundle c = bundle_form-bundle
 
 pub returns-clause-operations : goal.returns-clause-operations
-returns-clause-operations c table ss rest h = ap (λ (r : Readable). r.operations) (readable-bundle table ss rest h)
+returns-clause-operations c ss rest h = ap (λ (r : Readable). r.operations) (readable-bundle ss rest h)
 
 pub returns-clause-stopped : goal.returns-clause-stopped
-returns-clause-stopped c table ss rest h = ap (λ (r : Readable). r.stopped) (readable-bundle table ss rest h)
+returns-clause-stopped c ss rest h = ap (λ (r : Readable). r.stopped) (readable-bundle ss rest h)

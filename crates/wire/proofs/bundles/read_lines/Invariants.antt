@@ -10,5 +10,5 @@ decreases-loop-line l = length l.lines.rest.now
 
 abbrev pub invariant-loop-line : goal.invariant-loop-line
 invariant-loop-line l = record {
-  left : after (map stamped_of l.ops.items) (readable l.fn.table l.lines.rest.now) ≡ readable l.fn.table l.fn.text;
+  left : after (map stamped_of l.ops.items) (readable l.lines.rest.now) ≡ readable l.fn.text;
 }

@@ -37,13 +37,13 @@ loop-op-preserved c =
       back = All-more (λ (x : Op). IsBackIfSent (f x)) ops i o c.loop-op-test.true c.loop-op.invariant.back
           (subst (λ (x : Op). IsBackIfSent (f x)) c.op-item.is
           (record {
-            back = subst (λ (x : Op). (table : List ℕ) → CanBeSent table (f x) → op_form table (op_line (f x)) ≡ Ok (f x))
+            back = subst (λ (x : Op). CanBeSent (f x) → op_form (op_line (f x)) ≡ Ok (f x))
                 c.deref.ensures c.in_ok-line.ensures.reads_back;
           }));
     }
 
 pub returns-clause-reads_back : goal.returns-clause-reads_back
-returns-clause-reads_back c table sent =
+returns-clause-reads_back c sent =
     let f : Op → Stamped = stamped_of in
     let ops = c.args.ops.now in
     let ended : drop c.loop-op.op-index ops ≡ [] = drop_all c.loop-op.op-index ops c.loop-op-test.false in
@@ -52,5 +52,5 @@ returns-clause-reads_back c table sent =
     ∙ c.loop-op.invariant.left in
     let back = subst (All (λ (x : Op). IsBackIfSent (f x)))
     (take_all c.loop-op.op-index ops c.loop-op-test.false) c.loop-op.invariant.back in
-    ap (bundle_form table) text
-    ∙ sent_bundle_back table (map f ops) (All-map (CanBeSent table) f ops sent) (All-map IsBackIfSent f ops back)
+    ap bundle_form text
+    ∙ sent_bundle_back (map f ops) (All-map CanBeSent f ops sent) (All-map IsBackIfSent f ops back)

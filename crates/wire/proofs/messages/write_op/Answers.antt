@@ -9,9 +9,9 @@ use Rattle.wire.proofs.messages.write_op.Goals as goal
 
 -- the text is the line, and the line is read as the operation
 text_back : {V E : Type 0} (items : V → List ℕ) (s : Stamped) (r : Result V E) → IfOk r (λ t. items t ≡ op_line s)
-    → OnOk r ((table : List ℕ) → CanBeSent table s → op_form table (op_line s) ≡ Ok s)
-    → IfOk r (λ t. (table : List ℕ) → CanBeSent table s → op_form table (items t) ≡ Ok s)
-text_back items s (Ok t) is back = λ table sent. ap (op_form table) is ∙ back table sent
+    → OnOk r (CanBeSent s → op_form (op_line s) ≡ Ok s)
+    → IfOk r (λ t. CanBeSent s → op_form (items t) ≡ Ok s)
+text_back items s (Ok t) is back = λ sent. ap op_form is ∙ back sent
 text_back items s (Err e) is back = tt
 
 pub returns-clause-reads_back : goal.returns-clause-reads_back

@@ -18,13 +18,13 @@ returns-clause-line c =
     c.into_inner.ensures.items ∙ (λ i. before i ++ (ap print all ∙ print-outline (hello_json v)) i)
 
 pub returns-clause-reads_back : goal.returns-clause-reads_back
-returns-clause-reads_back c table members counters =
+returns-clause-reads_back c counters =
     let v = c.args.vector.now in
     let named = c.in_ok-put_hello.ensures.named in
     let all : c.put_hello.new.out.tokens ≡ tokens_of (hello_json v) = c.in_ok-put_hello.ensures.json.tokens
     ∙ ap (λ (ts : List Token). ts ++ tokens_of (hello_json v)) c.new-out.ensures.tokens in
     let before : c.put_hello.new.out.before ≡ [] = search rules in
     let text = c.into_inner.ensures.items ∙ (λ i. before i ++ (ap print all ∙ print-outline (hello_json v)) i) in
-    ap (hello_form table) text
-    ∙ hello_form-vector_line table v (sent_named table v named.canonical c.in_ok-put_hello.ensures.typed members counters) named.few
+    ap hello_form text
+    ∙ hello_form-vector_line v (sent_named v named.canonical c.in_ok-put_hello.ensures.typed counters) named.few
     (subst IsUtf8 (ap print all ∙ print-outline (hello_json v)) c.into_inner.ensures.utf8)

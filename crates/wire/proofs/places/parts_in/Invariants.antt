@@ -8,7 +8,7 @@ use Rattle.wire.proofs.places.parts_in.Given as goal
 
 abbrev pub invariant-loop-value : goal.invariant-loop-value
 invariant-loop-value l = record {
-  left : and_then (λ xs. Ok (map part_meant l.parts.items ++ xs)) (parts_of l.table (items_view (drop l.value-index l.values)))
-      ≡ parts_of l.table (items_view l.values);
+  left : and_then (λ xs. Ok (map part_meant l.parts.items ++ xs)) (parts_of (items_view (drop l.value-index l.values)))
+      ≡ parts_of (items_view l.values);
   length : length l.parts.items ≡ l.value-index;
 }

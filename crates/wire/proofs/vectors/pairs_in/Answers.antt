@@ -1,9 +1,8 @@
-use Rattle.std.proofs.Common.{rules, ◌≡◌, ◌<◌, ◌+◌, ℕ, suc, List, [], ◌∷◌, ◌++◌, length, drop, drop-cons, true}
+use Rattle.std.proofs.Common.{◌≡◌, ◌<◌, ◌+◌, ℕ, suc, List, [], ◌∷◌, ◌++◌, length, drop, drop-cons}
 use Rattle.std.proofs.Common.{Result, Ok, Err, refl, sym, ap, ◌∙◌, subst, append_assoc, add-one, arith}
 use Rattle.std.proofs.lemmas.List.{length-append}
 use Rattle.std.proofs.lemmas.Bool.{lt-ltb}
 use Rattle.ids.specs.declared.refusal.Refusal.{Refusal}
-use Rattle.ids.specs.Members.{is_member}
 use Rattle.ids.specs.Vectors.{AreBelow}
 use Rattle.ids.proofs.SearchedVectors.{below_behind, below_more}
 use Rattle.semantics.specs.Ids.{OpId}
@@ -20,11 +19,11 @@ none_before (Ok v) = refl
 none_before (Err why) = refl
 
 -- one pair more
-after_pair : (done : Vector) (a : OpId) (table : List ℕ) (last : ℕ) (x : Value) (xs : List Value) → pair_form (view x) ≡ Ok a
-    → next_of table last a ≡ Ok a
-    → and_then (λ v. Ok (done ++ v)) (pairs_above table last (items_view (x ∷ xs)))
-    ≡ and_then (λ v. Ok ((done ++ a ∷ []) ++ v)) (pairs_above table a.replica (items_view xs))
-after_pair done a table last x xs e n = rw (e, n) (joined (pairs_above table a.replica (items_view xs)))
+after_pair : (done : Vector) (a : OpId) (last : ℕ) (x : Value) (xs : List Value) → pair_form (view x) ≡ Ok a
+    → next_of last a ≡ Ok a
+    → and_then (λ v. Ok (done ++ v)) (pairs_above last (items_view (x ∷ xs)))
+    ≡ and_then (λ v. Ok ((done ++ a ∷ []) ++ v)) (pairs_above a.replica (items_view xs))
+after_pair done a last x xs e n = rw (e, n) (joined (pairs_above a.replica (items_view xs)))
   where
     joined : (r : Result Vector Refusal)
         → and_then (λ v. Ok (done ++ v)) (and_then (λ v. Ok (a ∷ v)) r) ≡ and_then (λ v. Ok ((done ++ a ∷ []) ++ v)) r
@@ -33,12 +32,12 @@ after_pair done a table last x xs e n = rw (e, n) (joined (pairs_above table a.r
 
 pub loop-pair-init : goal.loop-pair-init
 loop-pair-init c =
-    let none : c.new-vector.result ≡ [] = c.new-vector.ensures in
+    let none : c.in_ok-vector.vector ≡ [] = c.in_ok-vector.ensures in
     record {
       below = subst (AreBelow 1) (sym none) tt;
       count = ap length none;
-      left = ap (λ (done : Vector). and_then (λ v. Ok (done ++ v)) (pairs_above c.args.table.now 0 (items_view c.args.pairs.now))) none
-          ∙ none_before (pairs_above c.args.table.now 0 (items_view c.args.pairs.now));
+      left = ap (λ (done : Vector). and_then (λ v. Ok (done ++ v)) (pairs_above 0 (items_view c.args.pairs.now))) none
+          ∙ none_before (pairs_above 0 (items_view c.args.pairs.now));
     }
 
 pub push-requires-clause-above : goal.push-requires-clause-above
@@ -54,15 +53,13 @@ push-requires-clause-room c = omega (arith, c.loop-pair.invariant.count, c.loop-
 -- one more pair, above those before it, and the rest is read after them
 pub loop-pair-preserved : goal.loop-pair-preserved
 loop-pair-preserved c =
-    let ps = c.args.table.now in
     let v : Vector = c.loop-pair.vector in
     let id : OpId = c.in_ok-id.id in
     let xs = c.args.pairs.now in
     let n : ℕ = c.loop-pair.pair-index in
     let last : ℕ = c.loop-pair.last in
     let above : last < id.replica = omega (arith, c.if-replica-last.false, c.number-replica.ensures.number) in
-    let member : is_member ps id.replica ≡ true = search rules in
-    let next : next_of ps last id ≡ Ok id = rw (lt-ltb last id.replica above, member) refl in
+    let next : next_of last id ≡ Ok id = rw (lt-ltb last id.replica above) refl in
     let same : c.number-replica.result ≡ id.replica = c.number-replica.ensures.number in
     let pushed : c.push.new.self ≡ v ++ id ∷ [] = c.in_ok-push.ensures in
     let rest : drop n xs ≡ c.pair-item.result ∷ drop (n + 1) xs = drop-cons xs n c.pair-item.result c.loop-pair-test.true
@@ -74,8 +71,8 @@ loop-pair-preserved c =
           (subst (λ r. AreBelow (suc r) (v ++ id ∷ [])) (sym same) all);
       count = ap length pushed ∙ length-append v (id ∷ []) ∙ ap (λ k. k + 1) c.loop-pair.invariant.count;
       left =
-          (λ i. and_then (λ w. Ok (pushed i ++ w)) (pairs_above ps (same i) (items_view (drop (n + 1) xs))))
-          ∙ sym (after_pair v id ps last c.pair-item.result (drop (n + 1) xs) (sym c.in_ok-id.ensures.form) next)
-          ∙ ap (λ ys. and_then (λ w. Ok (v ++ w)) (pairs_above ps last (items_view ys))) (sym rest)
+          (λ i. and_then (λ w. Ok (pushed i ++ w)) (pairs_above (same i) (items_view (drop (n + 1) xs))))
+          ∙ sym (after_pair v id last c.pair-item.result (drop (n + 1) xs) (sym c.in_ok-id.ensures.form) next)
+          ∙ ap (λ ys. and_then (λ w. Ok (v ++ w)) (pairs_above last (items_view ys))) (sym rest)
           ∙ c.loop-pair.invariant.left;
     }

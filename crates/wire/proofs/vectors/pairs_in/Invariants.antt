@@ -10,6 +10,6 @@ abbrev pub invariant-loop-pair : goal.invariant-loop-pair
 invariant-loop-pair l = record {
   below : AreBelow (suc l.last) l.vector;
   count : length l.vector ≡ l.pair-index;
-  left : and_then (λ v. Ok (l.vector ++ v)) (pairs_above l.table l.last (items_view (drop l.pair-index l.pairs)))
-      ≡ pairs_above l.table 0 (items_view l.pairs);
+  left : and_then (λ v. Ok (l.vector ++ v)) (pairs_above l.last (items_view (drop l.pair-index l.pairs)))
+      ≡ pairs_above 0 (items_view l.pairs);
 }

@@ -1,4 +1,4 @@
-use Rattle.std.proofs.Common.{◌≡◌, ◌≤◌, ◌<◌, ℕ, List, Err, length, inl, refl, sym, ap, ◌∙◌, arith}
+use Rattle.std.proofs.Common.{◌≡◌, ◌≤◌, ◌<◌, List, Err, length, inl, refl, sym, ap, ◌∙◌, arith}
 use Rattle.std.proofs.lemmas.Bool.{lt-ltb, le-ltb}
 use Rattle.ids.specs.declared.refusal.Refusal.TheVariants.{BadLine}
 use Rattle.ids.specs.Vectors.{most_named}
@@ -9,22 +9,22 @@ use Rattle.wire.specs.Vectors.{pairs_above, pairs_of}
 use Rattle.wire.proofs.ReadPlaces.{count_parts-items_view}
 use Rattle.wire.proofs.vectors.vector_in.Goals as goal
 
-pairs_of-many : (table : List ℕ) (vs : List Value) → most_named < length vs → pairs_of table (items_view vs) ≡ Err BadLine
-pairs_of-many table vs h = rw (count_parts-items_view vs, lt-ltb most_named (length vs) h) refl
+pairs_of-many : (vs : List Value) → most_named < length vs → pairs_of (items_view vs) ≡ Err BadLine
+pairs_of-many vs h = rw (count_parts-items_view vs, lt-ltb most_named (length vs) h) refl
 
-pairs_of-few : (table : List ℕ) (vs : List Value) → length vs ≤ most_named
-    → pairs_of table (items_view vs) ≡ pairs_above table 0 (items_view vs)
-pairs_of-few table vs h = rw (count_parts-items_view vs, le-ltb most_named (length vs) h) refl
+pairs_of-few : (vs : List Value) → length vs ≤ most_named
+    → pairs_of (items_view vs) ≡ pairs_above 0 (items_view vs)
+pairs_of-few vs h = rw (count_parts-items_view vs, le-ltb most_named (length vs) h) refl
 
 pub returns-then-pairs-gt-MOST_NAMED : goal.returns-then-pairs-gt-MOST_NAMED
 returns-then-pairs-gt-MOST_NAMED c =
-    inl (sym (ap (and_then (pairs_of c.args.table.now)) c.in_ok-pairs.ensures
-    ∙ pairs_of-many c.args.table.now c.in_ok-pairs.pairs.now (omega (arith, c.if-pairs-gt-MOST_NAMED.true))))
+    inl (sym (ap (and_then pairs_of) c.in_ok-pairs.ensures
+    ∙ pairs_of-many c.in_ok-pairs.pairs.now (omega (arith, c.if-pairs-gt-MOST_NAMED.true))))
 
 pub returns : goal.returns
 returns c =
     rw (
       c.in_ok-pairs.ensures,
-      pairs_of-few c.args.table.now c.in_ok-pairs.pairs.now
+      pairs_of-few c.in_ok-pairs.pairs.now
           (omega (arith, c.if-pairs-gt-MOST_NAMED.false)),
     ) c.pairs_in.ensures

@@ -8,5 +8,5 @@ pub returns-clause-sent : goal.returns-clause-sent
 returns-clause-sent c =
     let own : IsReplicaNumber c.args.op.now.id.replica = search rules in
     let typed : AreReplicaNumbers c.args.op.now.deps = subst AreReplicaNumbers c.ids.ensures.ids c.in_ok-put_vector.ensures.typed in
-    on_ok_weaker c.end_array.result (λ _ table sent. typed_sent table c.args.op.now c.ids.ensures.named own typed
+    on_ok_weaker c.end_array.result (λ _ sent. typed_sent c.args.op.now c.ids.ensures.named own typed
     c.in_ok-put_place.ensures.typed c.in_ok-put_mutation.ensures.within sent) c.end_array.ensures.ok

@@ -18,9 +18,9 @@ returns-clause-line c =
     ∙ (λ i. (wrote.before ∙ c.new-out.ensures.before) i ++ (ap print all ∙ print-outline (operation_json s)) i)
 
 pub returns-clause-reads_back : goal.returns-clause-reads_back
-returns-clause-reads_back c table sent =
+returns-clause-reads_back c sent =
     let s = stamped_of c.args.op.now in
     let all : c.put_op.new.out.tokens ≡ tokens_of (operation_json s) = c.in_ok-put_op.ensures.json.tokens
     ∙ ap (λ (ts : List Token). ts ++ tokens_of (operation_json s)) c.new-out.ensures.tokens in
-    op_form-op_line table s (c.in_ok-put_op.ensures.sent table sent)
+    op_form-op_line s (c.in_ok-put_op.ensures.sent sent)
     (subst IsUtf8 (ap print all ∙ print-outline (operation_json s)) c.into_inner.ensures.utf8)

@@ -2,21 +2,16 @@ use Rattle.std.proofs.Common.{◌≡◌, List, Result, Ok, Err, Some, length, ma
 use Rattle.std.specs.Prelude.{OnOk, IfOk}
 use Rattle.std.proofs.lemmas.Option.{slice_get_read}
 use Rattle.semantics.specs.Engine.{Engine, Message}
-use Rattle.semantics.specs.World.{WorldStep as TheStep, WorldOutcome, engine_step, sent_by, world_step}
+use Rattle.semantics.specs.World.{WorldOutcome, engine_step, sent_by, world_step}
 use Rattle.world.specs.declared.step.WorldStep.{WorldStep}
 use Rattle.world.specs.Acts.{act_of, step_of}
 use Rattle.world.specs.Parts.{IsInPart}
-use Rattle.world.specs.Worlds.{step_in, tables_of, world}
+use Rattle.world.specs.Worlds.{world}
 use Rattle.world.specs.Engines.{message_of}
-use Rattle.world.proofs.KeptMembers.{members_stay}
 use Rattle.world.proofs.ReachedWorlds.{reached_at, reached_sound}
-use Rattle.world.proofs.TurnedWorlds.{own_table, tables_set, world_step-there}
+use Rattle.world.proofs.TurnedWorlds.{world_step-there}
 use Rattle.world.proofs.Results.{then_err}
 use Rattle.world.proofs.world.turn.Goals as goal
-
-then_ok : {X Y P Q : Type 0} (r : Result X Y) → (P → Q) → OnOk r P → OnOk r Q
-then_ok (Ok x) f p = f p
-then_ok (Err e) f p = tt
 
 if_ok : {X Y : Type 0} (r : Result X Y) {P Q : X → Type 0} → ((x : X) → P x → Q x) → IfOk r P → IfOk r Q
 if_ok (Ok x) f p = f x p
@@ -24,16 +19,12 @@ if_ok (Err e) f p = tt
 
 -- the world after a step of an engine that is there as E
 module _ (Es : List Engine) (ms : List Message) (s : WorldStep) (E : Engine) (at : slice_get Es s.engine ≡ Some E) where
-  its_step : step_in (tables_of Es) s ≡ step_of E.replica.members s
-  its_step = ap (λ table. step_of table s) (own_table Es s.engine E at)
-
-  turned : world_step (world Es ms) (step_in (tables_of Es) s)
+  turned : world_step (world Es ms) (step_of s)
       ≡ record {
-        world = world (set Es s.engine (engine_step ms (act_of E.replica.members s.act) E).engine)
-            (ms ++ sent_by ms (act_of E.replica.members s.act) E);
-        reply = (engine_step ms (act_of E.replica.members s.act) E).reply;
+        world = world (set Es s.engine (engine_step ms (act_of s.act) E).engine) (ms ++ sent_by ms (act_of s.act) E);
+        reply = (engine_step ms (act_of s.act) E).reply;
       }
-  turned = ap (world_step (world Es ms)) its_step ∙ world_step-there Es ms (step_of E.replica.members s) E at
+  turned = world_step-there Es ms (step_of s) E at
 
 pub turn-requires : goal.turn-requires
 turn-requires c =
@@ -60,8 +51,8 @@ returns-clause-world c =
     let s = c.args.step.now in
     let E : Engine = c.index_mut-engine.result.now in
     both_ok c.turn.result
-    (λ (e : c.turn.new.self ≡ (engine_step ms (act_of E.replica.members s.act) E).engine)
-    (f : map message_of c.turn.new.messages.items ≡ ms ++ sent_by ms (act_of E.replica.members s.act) E).
+    (λ (e : c.turn.new.self ≡ (engine_step ms (act_of s.act) E).engine)
+    (f : map message_of c.turn.new.messages.items ≡ ms ++ sent_by ms (act_of s.act) E).
     (λ t. world (set Es s.engine (e t)) (f t))
     ∙ sym (ap (λ (t : WorldOutcome). t.world) (turned Es ms s E (there c))))
     c.turn.ensures.engine c.turn.ensures.sent
@@ -76,19 +67,6 @@ returns-clause-reply c =
     (λ r e. e ∙ sym (ap (λ (t : WorldOutcome). t.reply) (turned Es ms s E (there c))))
     c.turn.ensures.reply
 
-pub returns-clause-tables : goal.returns-clause-tables
-returns-clause-tables c =
-    let Es = c.args.engines.now.items in
-    let ms : List Message = map message_of c.args.messages.now.items in
-    let s = c.args.step.now in
-    let E : Engine = c.index_mut-engine.result.now in
-    let sound = reached_sound E (reached_at (world Es ms) c.requires s.engine E (there c)) in
-    then_ok c.turn.result
-    (λ (e : c.turn.new.self ≡ (engine_step ms (act_of E.replica.members s.act) E).engine).
-    tables_set Es s.engine E c.turn.new.self (there c)
-    (ap (λ (F : Engine). F.replica.members) e ∙ members_stay ms (act_of E.replica.members s.act) E sound))
-    c.turn.ensures.engine
-
 pub returns-clause-stopped : goal.returns-clause-stopped
 returns-clause-stopped c =
     let Es : List Engine = c.args.engines.now.items in
@@ -97,11 +75,11 @@ returns-clause-stopped c =
     let E : Engine = c.index_mut-engine.result.now in
     let F : Engine = c.turn.new.self in
     then_err c.turn.result
-    (λ (part : IsInPart ms (act_of E.replica.members s.act) E F). record {
+    (λ (part : IsInPart ms (act_of s.act) E F). record {
       engine = E;
       part = F;
       there = there c;
       moved = refl;
-      begun = subst (λ (t : TheStep). IsInPart ms t.act E F) (sym (its_step Es ms s E (there c))) part;
+      begun = part;
     })
     c.turn.ensures.stopped

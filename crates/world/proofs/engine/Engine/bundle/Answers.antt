@@ -1,4 +1,4 @@
--- The answer to a hello: there is none, it names a replica that isn't a member, or it gets a bundle.
+-- The answer to a hello: there is none, or it gets a bundle.
 use Rattle.std.proofs.Common.{arith, ◌≡◌, [], ◌∷◌, ◌++◌, List, length, map, sym, ap, ◌∙◌, append-nil}
 use Rattle.std.proofs.lemmas.List.{length-map, map-append}
 use Rattle.semantics.specs.Engine.{Message as TheMessage, Bundle as TheBundle, Outcome, SentBundle}
@@ -6,7 +6,7 @@ use Rattle.semantics.specs.Stamped.{Stamped}
 use Rattle.semantics.specs.PeerSteps.{lacked}
 use Rattle.replica.specs.operation.Ops.{stamped_of}
 use Rattle.world.specs.Engines.{message_of}
-use Rattle.world.proofs.AnsweredHellos.{answered-none, answered-foreign, answered-given, names_nonmember}
+use Rattle.world.proofs.AnsweredHellos.{answered-none, answered-given}
 use Rattle.world.proofs.engine.Engine.bundle.Goals as goal
 
 -- nothing more is sent
@@ -31,42 +31,18 @@ returns-in_default-clause-sent c =
     c.in_default.ensures.none in
     none_sent _ _ all.1
 
-pub returns-in-Err-UnknownReplica-clause-engine : goal.returns-in-Err-UnknownReplica-clause-engine
-returns-in-Err-UnknownReplica-clause-engine c =
-    let v = c.in-Some.hello.now in
-    let all = answered-foreign c.args.self.now c.args.token c.args.messages.now.items _ c.args.message c.deref.ensures.value v
-    c.in-Some.ensures.some
-    (names_nonmember c.args.self.now v _ c.in-Err-UnknownReplica.ensures c.in-Err-UnknownReplica.field-0-is) in
-    sym (ap (λ (t : Outcome). t.engine) all.0)
-
-pub returns-in-Err-UnknownReplica-clause-reply : goal.returns-in-Err-UnknownReplica-clause-reply
-returns-in-Err-UnknownReplica-clause-reply c =
-    let v = c.in-Some.hello.now in
-    let all = answered-foreign c.args.self.now c.args.token c.args.messages.now.items _ c.args.message c.deref.ensures.value v
-    c.in-Some.ensures.some
-    (names_nonmember c.args.self.now v _ c.in-Err-UnknownReplica.ensures c.in-Err-UnknownReplica.field-0-is) in
-    sym (ap (λ (t : Outcome). t.reply) all.0)
-
-pub returns-in-Err-UnknownReplica-clause-sent : goal.returns-in-Err-UnknownReplica-clause-sent
-returns-in-Err-UnknownReplica-clause-sent c =
-    let v = c.in-Some.hello.now in
-    let all = answered-foreign c.args.self.now c.args.token c.args.messages.now.items _ c.args.message c.deref.ensures.value v
-    c.in-Some.ensures.some
-    (names_nonmember c.args.self.now v _ c.in-Err-UnknownReplica.ensures c.in-Err-UnknownReplica.field-0-is) in
-    none_sent _ _ all.1
-
 pub returns-clause-engine : goal.returns-clause-engine
 returns-clause-engine c =
     let all = answered-given c.args.self.now c.args.token c.args.messages.now.items _ c.args.message c.deref.ensures.value
-    c.in-Some.hello.now c.in-Some.ensures.some c.in-Ok.ensures.1 in
+    c.in-Some.hello.now c.in-Some.ensures.some in
     c.see_published.ensures ∙ sym (ap (λ (t : Outcome). t.engine) all.0)
 
 pub returns-clause-reply : goal.returns-clause-reply
 returns-clause-reply c =
     let all = answered-given c.args.self.now c.args.token c.args.messages.now.items _ c.args.message c.deref.ensures.value
-    c.in-Some.hello.now c.in-Some.ensures.some c.in-Ok.ensures.1 in
-    let lacks = ap (length {A = Stamped}) c.in-Ok.ensures.0 in
-    let mapped = length-map c.in-Ok.bundle.items stamped_of in
+    c.in-Some.hello.now c.in-Some.ensures.some in
+    let lacks = ap (length {A = Stamped}) c.in_ok-bundle.ensures in
+    let mapped = length-map c.in_ok-bundle.bundle.items stamped_of in
     let operations : c.len-operations.result
     ≡ length (lacked c.args.self.now c.in-Some.hello.now) =
     omega (arith, lacks, mapped, c.len-operations.ensures) in
@@ -76,8 +52,8 @@ returns-clause-reply c =
 pub returns-clause-sent : goal.returns-clause-sent
 returns-clause-sent c =
     let all = answered-given c.args.self.now c.args.token c.args.messages.now.items _ c.args.message c.deref.ensures.value
-    c.in-Some.hello.now c.in-Some.ensures.some c.in-Ok.ensures.1 in
+    c.in-Some.hello.now c.in-Some.ensures.some in
     ap (map message_of) c.in_ok-push.ensures.items
     ∙ map-append message_of c.args.messages.now.items _
-    ∙ ap (λ (ss : List Stamped). map message_of c.args.messages.now.items ++ TheBundle ss ∷ []) c.in-Ok.ensures.0
+    ∙ ap (λ (ss : List Stamped). map message_of c.args.messages.now.items ++ TheBundle ss ∷ []) c.in_ok-bundle.ensures
     ∙ ap (λ (ns : List TheMessage). map message_of c.args.messages.now.items ++ ns) (sym all.1)

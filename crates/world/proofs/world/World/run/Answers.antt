@@ -1,7 +1,8 @@
 use Rattle.std.proofs.Common.{◌≡◌, ◌+◌, ℕ, List, min, map, subst}
 use Rattle.semantics.specs.World.{World, WorldStep as TheStep}
 use Rattle.world.specs.Engines.{message_of}
-use Rattle.world.specs.Worlds.{Running, StopsInStep, step_in, tables_of, world, world_of}
+use Rattle.world.specs.Acts.{step_of}
+use Rattle.world.specs.Worlds.{Running, StopsInStep, world, world_of}
 use Rattle.world.specs.contracts.world.World.{the_view}
 use Rattle.world.proofs.ReachedWorlds.{reached_after}
 use Rattle.world.proofs.Results.{on_err}
@@ -13,16 +14,16 @@ returns-in_err-replies-clause-stopped c =
     let n : ℕ = c.run_all-outcome.new.whole in
     let V : World = world c.run_all-outcome.new.engines.items (map message_of c.run_all-outcome.new.messages.items) in
     let stopped : (n : ℕ) × (c.saturating_add-self-inside.result ≡ min (A.done + n) 18446744073709551615)
-    × StopsInStep (world_of A) (map (step_in (tables_of A.engines)) c.args.steps.now) n V =
+    × StopsInStep (world_of A) (map step_of c.args.steps.now) n V =
     (n, c.saturating_add-self-inside.ensures, c.in_err-replies.ensures.stopped) in
     on_err c.from_residual.result
     (λ running. subst
     (λ (B : Running). (n : ℕ) × (c.saturating_add-self-inside.result ≡ min (B.done + n) 18446744073709551615)
-    × StopsInStep (world_of B) (map (step_in (tables_of B.engines)) c.args.steps.now) n V) c.self.view_is stopped)
+    × StopsInStep (world_of B) (map step_of c.args.steps.now) n V) c.self.view_is stopped)
 
 pub invariant_of-self-2 : goal.invariant_of-self-2
 invariant_of-self-2 c = λ running.
     (let W : World = world c.self.inside.engines.items (map message_of c.self.inside.messages.items) in
     let V : World = world c.run_all-outcome.new.engines.items (map message_of c.run_all-outcome.new.messages.items) in
-    let steps : List TheStep = map (step_in (tables_of c.self.inside.engines.items)) c.args.steps.now in
+    let steps : List TheStep = map step_of c.args.steps.now in
     reached_after W V steps (c.self.invariant c.if-self.false) c.in_ok-replies.ensures.world)

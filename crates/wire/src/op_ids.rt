@@ -1,35 +1,22 @@
-//! Ids of members, as they are read.
+//! Ids of operations, as they are read.
 #![tactic(auto, using(crate::proofs::WrongLengths::wrong_lengths))]
 
 ghost use Rattle.std.specs.Prelude.{◌≡◌, ◌≤◌, IfOk};
 ghost use Rattle.serde_json.specs.View.{view, items_view};
-ghost use Rattle.wire.specs.Members.{counter_form, id_of, limited_form, member_form, member_of, replica_form};
+ghost use Rattle.wire.specs.OpIds.{counter_form, id_form, id_of, limited_form, replica_form};
 
 use crate::forms::{list_in, number_in};
-use ids::{MOST_COUNTER, OpId, Refusal, ReplicaId, ReplicaTable};
+use ids::{MOST_COUNTER, OpId, Refusal, ReplicaId};
 use serde_json::Value;
 
 /// The greatest number of a replica.
 const MOST_REPLICA: u64 = 4_294_967_295;
 
-/// The id of an operation, which has to be a member's.
-///
-/// # Errors
-/// `BadLine` where its form is wrong, then `UnknownReplica` where its replica isn't in the table.
-pub(crate) fn member_in(table: &ReplicaTable, value: &Value) -> Result<OpId, Refusal>
-    ensures { result ≡ member_form table.now (view value.now) }
+/// The id of an operation.
+pub(crate) fn id_in(value: &Value) -> Result<OpId, Refusal>
+    ensures { result ≡ id_form (view value.now) }
 {
-    member_of(table, id_of(list_in(value)?)?)
-}
-
-/// The id, if its replica is a member.
-pub(crate) fn member_of(table: &ReplicaTable, id: OpId) -> Result<OpId, Refusal>
-    ensures { result ≡ member_of table.now id }
-{
-    if table.index_of(id.replica).is_none() {
-        return Err(Refusal::UnknownReplica);
-    }
-    Ok(id)
+    id_of(list_in(value)?)
 }
 
 /// The id of a list of a counter and a replica.

@@ -1,9 +1,8 @@
--- The ids of members' operations, as JSON.
-use Rattle.std.specs.Prelude.{ℕ, List, Result, Ok, Err, if◌then◌else◌}
+-- The ids of operations, as JSON.
+use Rattle.std.specs.Prelude.{ℕ, Result, Ok, Err, if◌then◌else◌}
 use Rattle.ids.specs.Configurations.{is_from_one_to}
-use Rattle.ids.specs.Members.{is_member}
 use Rattle.ids.specs.declared.refusal.Refusal.{Refusal}
-use Rattle.ids.specs.declared.refusal.Refusal.TheVariants.{UnknownReplica, BadLine}
+use Rattle.ids.specs.declared.refusal.Refusal.TheVariants.{BadLine}
 use Rattle.semantics.specs.Limits.{most_counter, most_replica}
 use Rattle.semantics.specs.Ids.{OpId, id_at}
 use Rattle.serde_json.specs.Data.{Data, Items, no_items, item}
@@ -21,15 +20,11 @@ counter_form d = limited_form most_counter d
 abbrev pub replica_form : Data → Result ℕ Refusal
 replica_form d = limited_form most_replica d
 
--- the id, where its replica is one of the table
-abbrev pub member_of : List ℕ → OpId → Result OpId Refusal
-member_of table a = if is_member table a.replica then Ok a else Err UnknownReplica
-
 -- a list of two: a counter, and the number of a replica
 abbrev pub id_of : Items → Result OpId Refusal
 id_of (item counter (item replica no_items)) = and_then (λ c. and_then (λ p. Ok (id_at c p)) (replica_form replica)) (counter_form counter)
 id_of _ = Err BadLine
 
--- the id of a member's operation
-abbrev pub member_form : List ℕ → Data → Result OpId Refusal
-member_form table d = and_then (member_of table) (and_then id_of (list_form d))
+-- the id of an operation
+abbrev pub id_form : Data → Result OpId Refusal
+id_form d = and_then id_of (list_form d)
