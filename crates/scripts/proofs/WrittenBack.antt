@@ -1,6 +1,6 @@
 -- What is read as a command or a question, alone or in its step, is the JSON that writing it gives.
-use Rattle.std.proofs.Common.{◌≡◌, ℕ, nat_lt, length, Bool, true, false, cond, List, [], ◌∷◌, map, Option, Some, None, Result, Ok, Err}
-use Rattle.std.proofs.Common.{refl, sym, ap, ◌∙◌, subst, slice_get}
+use Rattle.std.proofs.Common.{◌≡◌, ℕ, nat_lt, length, Bool, true, false, cond, List, [], ◌∷◌, map, Result, Ok, Err}
+use Rattle.std.proofs.Common.{refl, sym, ap, ◌∙◌, subst}
 use Rattle.std.specs.Prelude.{⊤, codes}
 use Rattle.std.specs.Str.{bytes_eq}
 use Rattle.ids.specs.declared.refusal.Refusal.{Refusal}
@@ -9,7 +9,6 @@ use Rattle.semantics.specs.Elements.{Value}
 use Rattle.semantics.specs.Operations.{Mutation, Assign, Insert, Delete}
 use Rattle.semantics.specs.Making.{Command}
 use Rattle.semantics.specs.Questions.{Step, Get, Idx, Question, Values, Keys, Items as ItemsAt, Conflicts, AppliedVector}
-use Rattle.semantics.specs.Vectors.{Vector}
 use Rattle.semantics.specs.LegalAnswer.{Asked, OfDocument, Missing}
 use Rattle.semantics.specs.World.{WorldAct, WorldStep, step_by, Push, Take, Publish, Give, WholeStep, Poll, Ask, Learn, SayHello}
 use Rattle.semantics.specs.World.{AnswerHello}

@@ -1,4 +1,4 @@
-use Rattle.std.proofs.Common.{◌≡◌, List, Result, Ok, Err, Some, length, map, set, ◌++◌, refl, sym, ap, ◌∙◌, arith, slice_get, subst}
+use Rattle.std.proofs.Common.{◌≡◌, List, Result, Ok, Err, Some, length, map, set, ◌++◌, refl, sym, ap, ◌∙◌, arith, slice_get}
 use Rattle.std.specs.Prelude.{OnOk, IfOk}
 use Rattle.std.proofs.lemmas.Option.{slice_get_read}
 use Rattle.semantics.specs.Engine.{Engine, Message}
@@ -8,7 +8,7 @@ use Rattle.world.specs.Acts.{act_of, step_of}
 use Rattle.world.specs.Parts.{IsInPart}
 use Rattle.world.specs.Worlds.{world}
 use Rattle.world.specs.Engines.{message_of}
-use Rattle.world.proofs.ReachedWorlds.{reached_at, reached_sound}
+use Rattle.world.proofs.ReachedWorlds.{reached_at}
 use Rattle.world.proofs.TurnedWorlds.{world_step-there}
 use Rattle.world.proofs.Results.{then_err}
 use Rattle.world.proofs.world.turn.Goals as goal
