@@ -96,10 +96,6 @@ fn vectors_without_form(rt: HostRuntime) -> Result<(), Fail> {
         "[[1,1],[1,1]]",
         "[[3,1],[1,1]]",
         "[[1,1],[3,1],[3,2]]",
-        // No members.
-        "[[2,1]]",
-        "[[4294967294,1]]",
-        "[[1,1],[2,1],[3,1]]",
     ];
     let missing = (r#"["ask",0,0,["missing","#, "]]");
     are_bad_with(&rt, rt.alloc(), FIRST, missing, VECTORS, "E22")

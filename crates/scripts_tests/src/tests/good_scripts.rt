@@ -142,6 +142,8 @@ fn questions_reply_a_line(rt: HostRuntime) -> Result<(), Fail> {
         r#"["ask",0,0,["conflicts",[1]]]"#,
         r#"["ask",0,0,["missing",[]]]"#,
         r#"["ask",0,0,["missing",[[1,1],[3,4611686018427387904]]]]"#,
+        // Of replicas that are no members.
+        r#"["ask",0,0,["missing",[[2,1],[4294967294,1]]]]"#,
         r#"["ask",0,0,["vector"]]"#,
     ];
     reply_lines(&rt, rt.alloc(), LINES)
