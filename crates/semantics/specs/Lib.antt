@@ -17,7 +17,6 @@ pub mod Stamped
 pub mod Faults
 pub mod Making
 pub mod Entries
-pub mod Joining
 pub mod LegalAnswer
 pub mod Replica
 pub mod Delivery

@@ -16,8 +16,7 @@ pub mod SameViews
 pub mod Grown
 pub mod Widened
 pub mod Pushed
-pub mod Joined
-mod Linked
+pub mod Linked
 pub mod LinkedChildren
 pub mod Slots
 pub mod StandingItems
