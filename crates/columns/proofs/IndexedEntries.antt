@@ -1,5 +1,5 @@
 -- Entries whose replicas are given by their indices in a table.
-use Rattle.std.proofs.Common.{◌≡◌, ℕ, zero, suc, ◌<◌, Bool, true, false, cond, not, nat_lt, nat_le, ◌||◌, IsTrue, List, [], ◌∷◌}
+use Rattle.std.proofs.Common.{◌≡◌, ℕ, zero, suc, ◌<◌, ◌≤◌, Bool, true, false, cond, not, nat_lt, nat_le, ◌||◌, IsTrue, List, [], ◌∷◌}
 use Rattle.std.proofs.Common.{length, get_or, map, Option, Some, slice_get, refl, sym, ap, ◌∙◌, arith}
 use Rattle.std.specs.declared.cmp.Ordering.TheVariants.{Less, Equal, Greater}
 use Rattle.std.specs.Ordering.{is_gt, is_eq}
@@ -29,13 +29,13 @@ abbrev replicas : {X : Type 0} → List (OpId × X) → List (Option ℕ)
 replicas es = map (λ e. Some e.0.replica) es
 
 -- a vector's counter at the index of an id's replica tells whether the vector covers the id
-pub covers-at : (table v : List ℕ) (id : OpId) (index : ℕ) → AreDistinct table → length table ≡ length v
+pub covers-at : (table v : List ℕ) (id : OpId) (index : ℕ) → AreDistinct table → length table ≤ length v
     → slice_get table index ≡ Some id.replica
     → covers (by_table table v) id ≡ nat_le id.counter (get_or v index 0)
 covers-at table v id index d w found =
     ap (λ n. nat_le id.counter n) (at-by_table table v d id.replica
     ∙ ap (component table v) (sym (get_or_from_slice_get table index id.replica 0 found))
-    ∙ component-get table v index d (slice_get_within table index id.replica found) (sym w))
+    ∙ component-get table v index d (slice_get_within table index id.replica found) w)
 
 module _ {X : Type 0} where
   -- a new entry's replica goes where the entry goes; else the replicas stay
@@ -77,7 +77,7 @@ module _ {X : Type 0} where
           ∙ (λ i. insert (h i) (rank id_cmp id (keys_of es)) (at i))
 
   -- where the indices are those of a table, the marks tell what the vector covers
-  pub marks-cover : (table v : List ℕ) (es : List (Entry X)) → AreDistinct table → length table ≡ length v
+  pub marks-cover : (table v : List ℕ) (es : List (Entry X)) → AreDistinct table → length table ≤ length v
       → AreIndicesIn table (entries_of es) (indices_of es)
       → marks_of v es ≡ map (λ (e : OpId × X). not (covers (by_table table v) e.0)) (entries_of es)
   marks-cover table v [] d w s = refl
@@ -94,7 +94,7 @@ module _ {X : Type 0} where
       covered found = turned (get_or v e.index 0) e.counter ∙ ap not (sym (covers-at table v (id_of e) e.index d w found))
 
 -- what a vector leaves of a single entry
-pub single_without : {X : Type 0} (table v : List ℕ) (id : OpId) (index : ℕ) (x : X) → AreDistinct table → length table ≡ length v
+pub single_without : {X : Type 0} (table v : List ℕ) (id : OpId) (index : ℕ) (x : X) → AreDistinct table → length table ≤ length v
     → AreIndicesIn table ((id, x) ∷ []) (index ∷ [])
     → without (covers (by_table table v)) ((id, x) ∷ []) ≡ cond (nat_le id.counter (get_or v index 0)) [] ((id, x) ∷ [])
 single_without {X = X} table v id index x d w stand =

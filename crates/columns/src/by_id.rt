@@ -128,7 +128,7 @@ impl<T: Drop> ById<T> {
         requires { All (λ index. index < length vector.now) self.old.indices }
         ensures kept { zip self.new.entries self.new.indices
             ≡ filter (λ e. is_uncovered vector.now (e.0.0.counter, e.1)) (zip self.old.entries self.old.indices) }
-        ensures without { (table : List ℕ) → AreDistinct table → length table ≡ length vector.now
+        ensures without { (table : List ℕ) → AreDistinct table → length table ≤ length vector.now
             → AreIndicesIn table self.old.entries self.old.indices
             → self.new.entries ≡ without (covers (by_table table vector.now)) self.old.entries }
         ensures indexed { (table : List ℕ) → AreIndicesIn table self.old.entries self.old.indices

@@ -1,9 +1,12 @@
 -- What a document holds at first and after one more entry, and what its vector is.
-use Rattle.std.proofs.Common.{◌≡◌, ℕ, ◌≤◌, true, List, [], ◌∷◌, length, Bool, false, Option, Some, None, refl, sym, ap, ◌∙◌, subst, arith}
+use Rattle.std.proofs.Common.{◌≡◌, ℕ, ◌≤◌, true, cond, List, [], ◌∷◌, ◌++◌, length, Bool, false, Option, Some, None, refl, sym, ap, ◌∙◌, subst, arith}
 use Rattle.std.specs.Prelude.{IsFalse, IsTrue}
+use Rattle.std.proofs.lemmas.List.{length-append}
 use Rattle.ids.specs.Members.{AreDistinct, is_member}
 use Rattle.ids.specs.Vectors.{IsNamed, most_named, names_only}
+use Rattle.ids.specs.Tables.{joined, lacks_room}
 use Rattle.ids.proofs.FewNamed.{few_named}
+use Rattle.ids.proofs.Tables.{distinct_joined, has_room, joined_itself}
 use Rattle.semantics.specs.Ids.{OpId}
 use Rattle.semantics.specs.Elements.{Element}
 use Rattle.semantics.specs.Operations.{slot_of}
@@ -24,6 +27,7 @@ use Rattle.semantics.proofs.LooseApply.{apply_loose}
 use Rattle.semantics.proofs.NamedOperations.{legal}
 use Rattle.semantics.proofs.PlacedItems.{item_among, prev_there}
 use Rattle.tree.specs.Trees.{FitsIn, IsPlaced, Planted, document}
+use Rattle.oplog.proofs.JoinedTables.{members_joined}
 use Rattle.oplog.proofs.KnownMembers.{names_applied, names_known}
 use Rattle.document.specs.Documents.{IsConsistent, MayFollowEntries}
 
@@ -39,24 +43,35 @@ kept_first table v t distinct few none fits content = record {
   content = content;
 }
 
--- the vector after it was raised to the entry's id, and the tree after its operation was applied
-pub kept_next : (table : List ℕ) (v next : Vector) (G : List Entry) (e : Entry) (a : OpId) (t u : Planted) → (stamped_in e).id ≡ a
+-- a table that has room for a replica is still small when it has joined
+few_joined : (p : ℕ) (ps : List ℕ) → lacks_room ps p ≡ false → length ps ≤ most_named → length (joined p ps) ≤ most_named
+few_joined p ps fits few = by (is_member ps p) refl
+  where
+    by : (b : Bool) → is_member ps p ≡ b → length (cond b ps (ps ++ p ∷ [])) ≤ most_named
+    by true e = few
+    by false e = (let room = has_room ps p e fits in let l = length-append ps (p ∷ []) in omega (arith, room, l))
+
+-- the table that the entry's replica joined, the vector after it was raised to the entry's id, and the tree after its operation was applied
+pub kept_next : (table grown : List ℕ) (v next : Vector) (G : List Entry) (e : Entry) (a : OpId) (t u : Planted) → (stamped_in e).id ≡ a
     → IsConsistent table v G t
     → MayFollowEntries G e
-    → IsTrue (is_member table (stamped_in e).id.replica)
-    → u.table ≡ t.table
+    → lacks_room table (stamped_in e).id.replica ≡ false
+    → grown ≡ joined (stamped_in e).id.replica table
+    → u.table ≡ joined a.replica t.table
     → document u ≡ apply (document t) (loose_operation (stamped_in e))
     → next ≡ raise a v
-    → IsConsistent table next (e ∷ G) u
-kept_next table v next G e a t u same h may member kept applied_to raised = record {
-  distinct = h.distinct;
-  few = h.few;
-  members = (h.members, member);
-  vector = raised ∙ ap (λ b. raise b v) (sym same) ∙ ap (raise (stamped_in e).id) h.vector;
-  legal = (h.legal, may);
-  fits = kept ∙ h.fits;
-  content = applied_to ∙ ap (λ C. apply C (loose_operation (stamped_in e))) h.content ∙ sym (apply_loose (applied G) (stamped_in e));
-}
+    → IsConsistent grown next (e ∷ G) u
+kept_next table grown v next G e a t u same h may room joins kept applied_to raised =
+    let p = (stamped_in e).id.replica in
+    subst (λ ps. IsConsistent ps next (e ∷ G) u) (sym joins) (record {
+      distinct = distinct_joined p table h.distinct;
+      few = few_joined p table room h.few;
+      members = (members_joined p table G h.members, joined_itself p table);
+      vector = raised ∙ ap (λ b. raise b v) (sym same) ∙ ap (raise (stamped_in e).id) h.vector;
+      legal = (h.legal, may);
+      fits = kept ∙ (λ i. joined (sym same i).replica (h.fits i));
+      content = applied_to ∙ ap (λ C. apply C (loose_operation (stamped_in e))) h.content ∙ sym (apply_loose (applied G) (stamped_in e));
+    })
 
 -- an operation that may follow fits into the tree
 pub fits : (table : List ℕ) (v : Vector) (G : List Entry) (t : Planted) (s : Stamped) → IsConsistent table v G t → MayFollow (applied G) s

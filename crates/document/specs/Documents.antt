@@ -3,6 +3,7 @@ use Rattle.std.specs.Prelude.{◌≡◌, ℕ, ◌<◌, ◌≤◌, List, map, rev
 use Rattle.ids.specs.Members.{AreDistinct}
 use Rattle.ids.specs.Vectors.{most_named}
 use Rattle.semantics.specs.Context.{doc}
+use Rattle.semantics.specs.Joining.{table_after}
 use Rattle.semantics.specs.NamedIds.{vector_of}
 use Rattle.semantics.specs.Vectors.{Vector as TheVector}
 use Rattle.semantics.specs.Stamped.{Stamped, IsLegalStamped, MayFollow}
@@ -20,9 +21,9 @@ use Rattle.document.specs.declared.question.Question.TheVariants.{Values, Keys, 
 use Rattle.document.specs.declared.question.Reading.{Reading}
 use Rattle.document.specs.declared.question.Reading.TheVariants as reading
 
--- a document: the table of replicas, the entries with the newest first, for how many more there is room, and the tree of what they leave
+-- a document: the members, the entries with the newest first, for how many more there is room, and the tree of what they leave
 pub record Contents : Type 0 where
-  pub table : List ℕ
+  pub members : List ℕ
   pub entries : List TheEntry
   pub room : ℕ
   pub tree : Planted
@@ -30,7 +31,7 @@ pub record Contents : Type 0 where
 -- the operation can be committed with no memory taken
 pub record HasRoomFor (contents : Contents) (s : Stamped) : Type 0 where
   pub room : 0 < contents.room
-  pub reserved : IsReserved contents.tree s
+  pub reserved : IsReserved contents.tree.nodes contents.tree.scalar s
 
 -- the entry's operation may follow the history
 abbrev pub MayFollowEntries : List TheEntry → TheEntry → Type 0
@@ -64,3 +65,8 @@ pub record IsConsistent (table : List ℕ) (v : TheVector) (G : List TheEntry) (
   pub legal : IsLegalStamped (stamped_entries G)
   pub fits : t.table ≡ table
   pub content : document t ≡ doc (applied G)
+
+-- the same, where the table is that of the members and of all who have joined
+pub record IsGrown (members table : List ℕ) (v : TheVector) (G : List TheEntry) (t : Planted) : Type 0 where
+  pub grown : table ≡ table_after members G
+  pub consistent : IsConsistent table v G t

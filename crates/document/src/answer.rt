@@ -12,7 +12,7 @@ ghost use Rattle.document.specs.Documents.{IsConsistent, asked_of, said_by};
 
 use crate::question::{Question, Reading};
 use ids::{MOST_NAMED, NamedVector, Refusal};
-use oplog::{AppliedVector, Log, Op, Shared};
+use oplog::{GrowingVector, Log, Op, Shared};
 use std::alloc::{AllocError, Global};
 use tree::Tree;
 
@@ -20,7 +20,7 @@ use tree::Tree;
 pub fn answer(
     alloc: Global,
     log: &Log,
-    applied: &AppliedVector,
+    applied: &GrowingVector,
     tree: &Tree,
     question: &Question,
 ) -> Result<Reading, Refusal>

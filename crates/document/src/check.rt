@@ -14,11 +14,11 @@ ghost use Rattle.document.specs.Documents.{IsConsistent};
 ghost use Rattle.document.specs.Checks.{opens};
 
 use ids::{NamedVector, OpId, Refusal, counter_of};
-use oplog::{AppliedVector, Log, Op};
+use oplog::{GrowingVector, Log, Op};
 use tree::Tree;
 
 /// The first fault of an operation against the history, where the tree holds its document.
-pub fn check(log: &Log, applied: &AppliedVector, tree: &Tree, op: &Op) -> Result<(), Refusal>
+pub fn check(log: &Log, applied: &GrowingVector, tree: &Tree, op: &Op) -> Result<(), Refusal>
     requires { IsConsistent log.now.table applied.now.ids log.now.entries tree.now }
     ensures { let fault = fault_of (stamped_entries log.now.entries) (stamped_of op.now) in
         MatchResult result (λ _. fault ≡ None) (λ why. fault ≡ Some why) }
@@ -39,14 +39,14 @@ pub fn check(log: &Log, applied: &AppliedVector, tree: &Tree, op: &Op) -> Result
 }
 
 /// Whether the vector names another counter of the operation's own replica than the greatest that was applied.
-fn breaks_chain(applied: &AppliedVector, op: &Op) -> bool
+fn breaks_chain(applied: &GrowingVector, op: &Op) -> bool
     ensures { (H : List Operation) → applied.now.ids ≡ vector_of H → result ≡ breaks_chain H (stamped_of op.now) }
 {
     op.deps.at(op.id.replica) != counter_of(applied.ids(), op.id.replica)
 }
 
 /// Whether the vector names all that was applied. One comparison.
-fn names_all(vector: &NamedVector, applied: &AppliedVector) -> bool
+fn names_all(vector: &NamedVector, applied: &GrowingVector) -> bool
     ensures { result ≡ pointwise is_same_id vector.now applied.now.ids }
 {
     vector.ids() == applied.ids()
@@ -54,7 +54,7 @@ fn names_all(vector: &NamedVector, applied: &AppliedVector) -> bool
 
 /// Whether the vector names a counter of no operation of the log. One comparison where it is that of all that was applied, as each
 /// vector is where nothing was written apart; else a binary search for each counter.
-fn names_nothing(log: &Log, applied: &AppliedVector, vector: &NamedVector) -> bool
+fn names_nothing(log: &Log, applied: &GrowingVector, vector: &NamedVector) -> bool
     requires { applied.now.ids ≡ vector_of (operations_in log.now.entries) }
     ensures { (s : Stamped) → s.vector ≡ vector.now → result ≡ names_nothing (operations_in log.now.entries) s }
 {
@@ -73,7 +73,7 @@ fn is_of_nobody(log: &Log, id: OpId) -> bool
 
 /// Whether an operation that the vector names has a vector that isn't at most this. One comparison where it names all that was
 /// applied; else a binary search for each counter, and a walk beside the vector that is found.
-fn is_open(log: &Log, applied: &AppliedVector, vector: &NamedVector) -> bool
+fn is_open(log: &Log, applied: &GrowingVector, vector: &NamedVector) -> bool
     requires applied { applied.now.ids ≡ vector_of (operations_in log.now.entries) }
     requires legal { IsLegalStamped (stamped_entries log.now.entries) }
     ensures { result ≡ is_open (stamped_entries log.now.entries) vector.now }

@@ -1,12 +1,14 @@
 //! A replica's history and its document, kept together.
 
-ghost use Rattle.std.specs.Prelude.{◌≡◌, ◌≤◌, ◌⊎◌, ◌↔◌, ◌∷◌, [], Ok, None, Some, true, IsTrue, IsFalse, IsOk, MatchResult, length, map};
+ghost use Rattle.std.specs.Prelude.{◌≡◌, ◌≤◌, ◌⊎◌, ◌↔◌, ◌∷◌, [], Ok, None, Some, true, false, IsTrue, IsFalse, IsOk, MatchResult, length, map};
 ghost use Rattle.std.specs.Prelude.{reverse, IfOk, OnOk, IfErr, Err};
 ghost use Rattle.std.specs.List.{All};
 ghost use Rattle.ids.specs.declared.refusal.Refusal.TheVariants.{NoMemory, BadConfig};
-ghost use Rattle.ids.specs.Members.{in_order, is_member};
+ghost use Rattle.ids.specs.Members.{in_order};
+ghost use Rattle.ids.specs.Tables.{lacks_room};
 ghost use Rattle.ids.specs.Configurations.{are_members};
 ghost use Rattle.ids.specs.Vectors.{IsNamed};
+ghost use Rattle.semantics.specs.Joining.{table_after};
 ghost use Rattle.semantics.specs.NamedIds.{vector_of};
 ghost use Rattle.semantics.specs.Vectors.{greatest};
 ghost use Rattle.semantics.specs.LegalHistory.{greatest_of, has_id};
@@ -26,16 +28,17 @@ use crate::answer::{answer, missing};
 use crate::check::check;
 use crate::question::{Question, Reading};
 use ids::{MOST_NAMED, NamedVector, OpId, Refusal, ReplicaTable};
-use oplog::{AppliedVector, Entry, Expr, Log, Op, Place, Shared};
+use oplog::{Entry, Expr, GrowingVector, Log, Op, Place, Shared};
 use std::alloc::{AllocError, Global};
 use std::marker::Model;
 use tree::Tree;
 
-/// A replica's history and its content. Contracts see the table of replicas and the entries, the newest first.
+/// A replica's history and its content. Contracts see the members that it was configured with, and the entries, the newest first.
 #[derive(Debug, Drop)]
 pub struct Document {
+    members: ReplicaTable,
     log: Log,
-    applied: AppliedVector,
+    applied: GrowingVector,
     tree: Tree,
 }
 
@@ -43,20 +46,20 @@ impl Model for Document {
     ghost use Rattle.std.specs.Prelude.{min};
     ghost use Rattle.std.specs.Coded.{codes};
     ghost use Rattle.semantics.specs.Codes.{coded_element};
-    ghost use Rattle.document.specs.Documents.{Contents, IsConsistent};
+    ghost use Rattle.document.specs.Documents.{Contents, IsGrown};
 
     ghost Value = { Contents };
 
     ghost coded = { Prim.hlevel (codes, coded_element) };
 
     ghost view = { λ d. record {
-      table = d.log.table;
+      members = d.members.numbers;
       entries = d.log.entries;
-      room = min d.log.room d.applied.room;
+      room = min (min d.log.room d.applied.room) d.tree.room;
       tree = d.tree;
     } };
 
-    ghost invariant = { λ d. IsConsistent d.log.table d.applied.ids d.log.entries d.tree };
+    ghost invariant = { λ d. IsGrown d.members.numbers d.log.table d.applied.ids d.log.entries d.tree };
 }
 
 impl Document {
@@ -67,24 +70,33 @@ impl Document {
     /// # Errors
     /// `BadConfig` if the members aren't 1 to 64 distinct numbers above 0, else `NoMemory` if allocation fails.
     pub fn new(alloc: Global, members: &[u32]) -> Result<Document, Refusal>
-        ensures new { IfOk result (λ d. (d.table ≡ in_order members.now) × (d.entries ≡ [])) }
+        ensures new { IfOk result (λ d. (d.members ≡ in_order members.now) × (d.entries ≡ [])) }
         ensures members { OnOk result (IsTrue (are_members members.now)) }
         ensures bad_config { (result ≡ Err BadConfig) ↔ IsFalse (are_members members.now) }
         ensures other { IfErr result (λ why. (why ≡ BadConfig) ⊎ (why ≡ NoMemory)) }
     {
-        let table = ReplicaTable::new(alloc, members)?;
-        prove!(table.len() <= MOST_NAMED);
-        let tree = Tree::new(alloc, &table)?;
+        let members = ReplicaTable::new(alloc, members)?;
+        prove!(members.len() <= MOST_NAMED);
+        let tree = Tree::new(alloc, &members)?;
+        let log = Log::new(alloc, members.clone()?)?;
         Ok(Document {
-            log: Log::new(alloc, table)?,
-            applied: AppliedVector::new(alloc),
+            members,
+            log,
+            applied: GrowingVector::new(alloc),
             tree,
         })
     }
 
-    /// The members.
+    /// The members that it was configured with.
+    pub fn members(&self) -> &ReplicaTable
+        ensures { result.now.numbers ≡ self.now.members }
+    {
+        &self.members
+    }
+
+    /// The replicas: the members, and then each other one in the order of its first operation.
     pub fn table(&self) -> &ReplicaTable
-        ensures { result.now ≡ self.now.table }
+        ensures { result.now.numbers ≡ table_after self.now.members self.now.entries }
     {
         self.log.table()
     }
@@ -97,7 +109,7 @@ impl Document {
     }
 
     /// The vector of all that was applied: the greatest counter of each replica.
-    pub fn applied(&self) -> &AppliedVector
+    pub fn applied(&self) -> &GrowingVector
         ensures all { result.now.ids ≡ vector_of (applied self.now.entries) }
         ensures named { IsNamed result.now.ids }
         ensures greatest { greatest result.now.ids ≡ greatest_of (λ a. true) (applied self.now.entries) }
@@ -120,7 +132,7 @@ impl Document {
         op.deps.is_at_most(self.applied.ids())
     }
 
-    /// Tests a causally ready operation against the history. One that passed `check_alone` for this table may follow the
+    /// Tests a causally ready operation against the history. One that passed `check_alone` for these members may follow the
     /// history exactly where this answers `Ok`. Allocates nothing. Costs a binary search for each counter of its vector,
     /// or one comparison where that is all that was applied, and a walk down its place.
     ///
@@ -131,7 +143,7 @@ impl Document {
     pub fn check(&self, op: &Op) -> Result<(), Refusal>
         ensures fault { let fault = fault_of (stamped_entries self.now.entries) (stamped_of op.now) in
             MatchResult result (λ _. fault ≡ None) (λ why. fault ≡ Some why) }
-        ensures lawful { alone_fault_of_op self.now.table op.now ≡ None
+        ensures lawful { alone_fault_of_op self.now.members op.now ≡ None
             → IsOk result ↔ MayFollow (applied self.now.entries) (stamped_of op.now) }
     {
         check(&self.log, &self.applied, &self.tree, op)
@@ -155,21 +167,21 @@ impl Document {
     /// # Errors
     /// `AllocError` if allocation fails.
     pub fn reserve(&mut self, alloc: Global, op: &Op) -> Result<(), AllocError>
-        ensures table { self.new.table ≡ self.old.table }
+        ensures members { self.new.members ≡ self.old.members }
         ensures entries { self.new.entries ≡ self.old.entries }
         ensures room { OnOk result (HasRoomFor self.new (stamped_of op.now)) }
     {
-        self.log.reserve_one()?;
+        self.log.reserve_one(alloc)?;
         self.applied.reserve_one()?;
         self.tree.reserve(alloc, op)
     }
 
-    /// Appends an entry for which there is room. Allocates nothing.
+    /// Appends an entry for which there is room. Its replica joins the table, unless it is there. Allocates nothing.
     pub fn commit(&mut self, entry: Entry)
         requires room { HasRoomFor self.old (stamped_in (entry_of entry)) }
         requires lawful { MayFollowEntries self.old.entries (entry_of entry) }
-        requires member { IsTrue (is_member self.old.table (stamped_in (entry_of entry)).id.replica) }
-        ensures table { self.new.table ≡ self.old.table }
+        requires fits { lacks_room (table_after self.old.members self.old.entries) (stamped_in (entry_of entry)).id.replica ≡ false }
+        ensures members { self.new.members ≡ self.old.members }
         ensures entries { self.new.entries ≡ entry_of entry ∷ self.old.entries }
     {
         let op: &Op = entry.op();

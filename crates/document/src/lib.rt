@@ -11,7 +11,7 @@ pub use question::{Question, Reading};
 
 // Handed on from the crates below, for users of this one.
 pub use oplog::{
-    AppliedVector, Command, Delivered, Entry, Expr, ExprStep, Key, Misplaced, NamedVector, Numbers,
+    Command, Delivered, Entry, Expr, ExprStep, GrowingVector, Key, Misplaced, NamedVector, Numbers,
     Op, Place, Publish, Reply, Request, Scalar, Shared, Submission, Tag, Text, Val, VersionVector,
     check_alone,
 };

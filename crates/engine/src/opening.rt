@@ -34,8 +34,8 @@ pub struct Parts {
     second: Document,
     pub ghost good: { is_within_limits config ≡ true },
     pub ghost numbered: { (own ≡ config.own) × (replica.own ≡ config.own) },
-    pub ghost members: { (replica.document.table ≡ in_order config.members) × (first.table ≡ in_order config.members)
-        × (second.table ≡ in_order config.members) },
+    pub ghost members: { (replica.document.members ≡ in_order config.members) × (first.members ≡ in_order config.members)
+        × (second.members ≡ in_order config.members) },
     pub ghost empty: { (replica.document.entries ≡ []) × (first.entries ≡ [])
         × (second.entries ≡ []) } by { Prim.hlevel (codes, coded_element) },
     pub ghost new: { replica_of replica ≡ (opened_engine config).replica } by { Prim.hlevel (codes, coded_element) },
@@ -81,7 +81,7 @@ fn own_number(config: &Config) -> ReplicaId
 /// # Errors
 /// As `Document::new`.
 fn two_documents(alloc: Global, members: &[u32]) -> Result<(Document, Document), Refusal>
-    ensures tables { IfOk result (λ r. (r.0.table ≡ in_order members.now) × (r.1.table ≡ in_order members.now)) }
+    ensures tables { IfOk result (λ r. (r.0.members ≡ in_order members.now) × (r.1.members ≡ in_order members.now)) }
     ensures empty { IfOk result (λ r. (r.0.entries ≡ []) × (r.1.entries ≡ [])) }
     ensures bad_config { (result ≡ Err BadConfig) ↔ IsFalse (are_members members.now) }
     ensures err { IfErr result (λ why. (why ≡ BadConfig) ⊎ (why ≡ NoMemory)) }

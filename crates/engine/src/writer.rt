@@ -84,7 +84,7 @@ impl<N: EngineName> Writer<N> {
         held: Vec<Handled<N>>,
         batch: usize,
     ) -> Writer<N>
-        requires name { (replica.own ≡ N.own) × (replica.document.table ≡ N.table) }
+        requires name { (replica.own ≡ N.own) × (replica.document.members ≡ N.table) }
         requires none { (publisher.appended ≡ []) × (replica.document.entries ≡ []) × ((view taker.pass).got ≡ [])
             × ((view taker.pass).known ≡ []) × (held.items ≡ []) }
         requires batch { (0 < batch) × (batch ≤ vec_capacity held) }

@@ -1,13 +1,23 @@
 -- Numbers put in order: nothing is lost, and different numbers rise.
 use Rattle.std.proofs.Common.{◌≡◌, ℕ, suc, ◌+◌, ◌<◌, ◌≤◌, Bool, true, false, not, ◌||◌, eqb, ltb, IsTrue, IsFalse, ◌⊎◌, inl, inr, List, []}
 use Rattle.std.proofs.Common.{◌∷◌, length, refl, ◌∙◌, ap, arith}
+use Rattle.std.specs.Prelude.{⊤}
 use Rattle.std.specs.List.Sorted.{IsPermutation, IsSorted}
 use Rattle.std.specs.Ordering.{nat_cmp}
 use Rattle.std.proofs.lemmas.Bool.{cases_Bool, both_ways, not-true, ltb-true, ltb-false, eq-eqb, eqb-true, eqb-false, ne_eqb, and_parts}
 use Rattle.std.proofs.lemmas.Bool.{or_parts, or_left, or_right, false_from_ne_true}
 use Rattle.ids.specs.Members.{is_member, AreDistinct, are_distinct, put_number, put_all, in_order}
-use Rattle.ids.specs.Tables.{IsBelowAll, AreRising}
 use Rattle.ids.proofs.Rising.{AreFrom, Rises, count, count-permutation, rises-sorted, same_rising}
+
+-- p is below each of these
+abbrev pub IsBelowAll : ℕ → List ℕ → Type 0
+IsBelowAll p [] = ⊤
+IsBelowAll p (q ∷ ps) = (p < q) × IsBelowAll p ps
+
+-- each number is below all that come after it
+abbrev pub AreRising : List ℕ → Type 0
+AreRising [] = ⊤
+AreRising (p ∷ ps) = IsBelowAll p ps × AreRising ps
 
 -- ---- distinct numbers
 

@@ -5,4 +5,5 @@ pub mod Configurations
 pub mod Tables
 pub mod Ids
 pub mod Vectors
+pub mod Growing
 pub mod SameVectors

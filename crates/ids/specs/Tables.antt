@@ -1,19 +1,25 @@
 -- What holds of every table of replicas.
-use Rattle.std.specs.Prelude.{ℕ, ◌<◌, ◌≤◌, ⊤, List, [], ◌∷◌, length}
+use Rattle.std.specs.Prelude.{◌≡◌, ℕ, suc, ◌≤◌, not, ◌&&◌, cond, Bool, nat_le, List, [], ◌∷◌, ◌++◌, length, Some, slice_get}
+use Rattle.ids.specs.Members.{AreDistinct, is_member}
+use Rattle.ids.specs.Vectors.{IsCanonical, Vector, at, most_named}
 
--- p is below each of these
-abbrev pub IsBelowAll : ℕ → List ℕ → Type 0
-IsBelowAll p [] = ⊤
-IsBelowAll p (q ∷ ps) = (p < q) × IsBelowAll p ps
+-- a table: the numbers of the replicas, in the order of their indices, and for how many more there is room
+pub record Table : Type 0 where
+  pub numbers : List ℕ
+  pub room : ℕ
 
--- each number is below all that come after it
-abbrev pub AreRising : List ℕ → Type 0
-AreRising [] = ⊤
-AreRising (p ∷ ps) = IsBelowAll p ps × AreRising ps
+-- p is behind the others, unless it is there
+abbrev pub joined : ℕ → List ℕ → List ℕ
+joined p ps = cond (is_member ps p) ps (ps ++ p ∷ [])
 
--- from 1 to 64 rising numbers above 0
-pub record IsTable (ps : List ℕ) : Type 0 where
-  pub rising : AreRising ps
-  pub above_zero : IsBelowAll 0 ps
-  pub any : 1 ≤ length ps
-  pub few : length ps ≤ 64
+-- p isn't in the table, and doesn't fit in
+abbrev pub lacks_room : List ℕ → ℕ → Bool
+lacks_room ps p = not (is_member ps p) && nat_le most_named (length ps)
+
+-- no number stands twice, there are at most 256, and the vector names of each its index plus 1, and nothing else
+pub record IsTable (numbers : List ℕ) (places : Vector) : Type 0 where
+  pub distinct : AreDistinct numbers
+  pub few : length numbers ≤ most_named
+  pub canonical : IsCanonical places
+  pub placed : (k p : ℕ) → slice_get numbers k ≡ Some p → at places p ≡ suc k
+  pub there : (k p : ℕ) → at places p ≡ suc k → slice_get numbers k ≡ Some p

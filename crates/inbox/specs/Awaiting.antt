@@ -11,7 +11,7 @@ use Rattle.semantics.specs.Operations.{Operation}
 use Rattle.semantics.specs.Faults.{is_ready}
 use Rattle.document.specs.operation.declared.op.Op.{Op}
 use Rattle.document.specs.operation.Ops.{stamped_of}
-use Rattle.document.specs.version.Applied.{Growing}
+use Rattle.ids.specs.Growing.{Growing}
 use Rattle.slab.specs.Slab.{Slab, get}
 use Rattle.inbox.specs.declared.awaited.Awaited.{Awaited}
 use Rattle.inbox.specs.declared.waits.Waits.{Waits}

@@ -9,7 +9,7 @@ ghost use Rattle.semantics.specs.Vectors.{IsCanonical};
 ghost use Rattle.inbox.specs.Awaiting.{await_cmp, awaited_by, AreSingle, IsAhead, IsAwaiting};
 ghost use Rattle.inbox.specs.declared.awaited.Awaited.{Awaited as AnAwaited};
 
-use document::{AppliedVector, Op, Shared};
+use document::{GrowingVector, Op, Shared};
 use ids::{OpId, ReplicaId, counter_near};
 use slab::Slab;
 use std::alloc::Global;
@@ -105,7 +105,7 @@ pub fn awaited_by(id: OpId, key: usize) -> Awaited
 
 /// Returns the position of a counter of the operation's vector that is neither applied nor seen, if there is one. That of its own replica
 /// comes first: each operation of an honest replica names the one before it, so of all that wait at most one doesn't wait for that.
-pub fn awaited_position(op: &Op, applied: &[OpId], seen: &AppliedVector) -> Option<usize>
+pub fn awaited_position(op: &Op, applied: &[OpId], seen: &GrowingVector) -> Option<usize>
     requires { IsCanonical applied.now }
     ensures { IfSome result (λ i. IsAhead applied.now seen.now op.now i) }
 {
@@ -124,7 +124,7 @@ pub fn awaited_position(op: &Op, applied: &[OpId], seen: &AppliedVector) -> Opti
 }
 
 /// Whether the counter at a position of the operation's vector is neither applied nor seen.
-fn is_ahead(op: &Op, position: usize, applied: &[OpId], seen: &AppliedVector) -> bool
+fn is_ahead(op: &Op, position: usize, applied: &[OpId], seen: &GrowingVector) -> bool
     requires within { position < length op.now.deps }
     requires canonical { IsCanonical applied.now }
     ensures { IsTrue result → IsAhead applied.now seen.now op.now position }

@@ -10,7 +10,7 @@ pub use inbox::Inbox;
 
 // Handed on from the crates below, for users of this one.
 pub use document::{
-    AppliedVector, Command, Delivered, Document, Entry, Expr, ExprStep, Key, Misplaced,
+    GrowingVector, Command, Delivered, Document, Entry, Expr, ExprStep, Key, Misplaced,
     NamedVector, Op, Place, Publish, Question, Reading, Reply, Request, Scalar, Shared, Submission,
     Tag, Text, Val, VersionVector, check_alone,
 };

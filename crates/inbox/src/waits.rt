@@ -13,7 +13,7 @@ use crate::awaited::{
     Awaited, Waiting, awaited_by, awaited_position, awaits_nothing, first_met, forget, op_at,
     set_position,
 };
-use document::{AppliedVector, Numbers, Op};
+use document::{GrowingVector, Numbers, Op};
 use ids::{OpId, counter_near};
 use slab::Slab;
 use std::alloc::{AllocError, Global};
@@ -27,7 +27,7 @@ pub struct Waits {
     /// The slab's keys of the others, which may be ready, by their ids.
     pub ready: Numbers,
     /// How much was applied of each replica when what waits for it was moved on.
-    pub seen: AppliedVector,
+    pub seen: GrowingVector,
 }
 
 impl Waits {
@@ -39,7 +39,7 @@ impl Waits {
         Waits {
             awaits: BTreeSet::new(alloc),
             ready: Numbers::new(alloc),
-            seen: AppliedVector::new(alloc),
+            seen: GrowingVector::new(alloc),
         }
     }
 

@@ -21,7 +21,8 @@ use ids::{MOST_COUNTER, NamedVector, OpId, Refusal, ReplicaId, ReplicaTable};
 /// counter isn't 1 plus the greatest of its vector, or is past the last; `NotInList` for an insert that stands neither at a head nor at
 /// an item; `BadPlace` for an assign or a delete at a head, or if its vector doesn't cover an item of its place.
 pub fn check_alone(op: &Op, table: &ReplicaTable) -> Result<(), Refusal>
-    ensures { MatchResult result (λ _. alone_fault_of_op table.now op.now ≡ None) (λ why. alone_fault_of_op table.now op.now ≡ Some why) }
+    ensures { MatchResult result (λ _. alone_fault_of_op table.now.numbers op.now ≡ None)
+        (λ why. alone_fault_of_op table.now.numbers op.now ≡ Some why) }
 {
     if !names_members(op, table) {
         return Err(Refusal::UnknownReplica);
@@ -53,7 +54,7 @@ fn has_counter(op: &Op) -> bool
 
 /// Whether the id, the vector and the items of the place name members. A binary search for each.
 fn names_members(op: &Op, table: &ReplicaTable) -> bool
-    ensures { result ≡ is_of_members table.now (stamped_of op.now) }
+    ensures { result ≡ is_of_members table.now.numbers (stamped_of op.now) }
 {
     if table.index_of(op.id.replica).is_none() {
         return false;
@@ -66,7 +67,7 @@ fn names_members(op: &Op, table: &ReplicaTable) -> bool
 
 /// Whether each of these ids is a member's. One look for each while the ids are of the first members; else a binary search.
 pub fn names_only(ids: &[OpId], table: &ReplicaTable) -> bool
-    ensures { result ≡ names_only table.now ids.now }
+    ensures { result ≡ names_only table.now.numbers ids.now }
 {
     for position in 0..ids.len() {
         if !is_member_near(table, position, ids[position].replica) {
@@ -78,7 +79,7 @@ pub fn names_only(ids: &[OpId], table: &ReplicaTable) -> bool
 
 /// Whether this is a member. Looks at this index of the table first; else binary search.
 fn is_member_near(table: &ReplicaTable, index: usize, replica: ReplicaId) -> bool
-    ensures { result ≡ is_member table.now replica }
+    ensures { result ≡ is_member table.now.numbers replica }
 {
     match table.at(index) {
         Some(member) if member == replica => true,
@@ -88,14 +89,14 @@ fn is_member_near(table: &ReplicaTable, index: usize, replica: ReplicaId) -> boo
 
 /// Whether the items of the place are of members.
 fn has_items_of_members(place: &Place, table: &ReplicaTable) -> bool
-    ensures { result ≡ items_of_members table.now (element_of place.now) }
+    ensures { result ≡ items_of_members table.now.numbers (element_of place.now) }
 {
     place.hops().iter().all(|hop| is_of_member(hop, table))
 }
 
 /// Whether the hop is to a field, or to an item of a member's id.
 fn is_of_member(hop: &Hop, table: &ReplicaTable) -> bool
-    ensures { result ≡ key_of_member table.now (hop_of hop.now) }
+    ensures { result ≡ key_of_member table.now.numbers (hop_of hop.now) }
 {
     match hop {
         Hop::Field(_) => true,

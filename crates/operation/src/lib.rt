@@ -19,5 +19,5 @@ pub use submission::{Reply, Request, Submission};
 pub use cursor::{
     Expr, Hop, Key, MOST_KEY_BYTES, MOST_KEYS, Place, Scalar, Step as ExprStep, Tag, Text, Val,
 };
-pub use ids::NamedVector;
-pub use version::{AppliedVector, VersionVector};
+pub use ids::{GrowingVector, NamedVector};
+pub use version::VersionVector;

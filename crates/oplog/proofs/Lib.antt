@@ -3,6 +3,7 @@ pub mod Oldest
 pub mod Missing
 pub mod Found
 pub mod Positions
+pub mod JoinedTables
 pub mod Room
 pub mod KnownMembers
 pub mod LongerHistories

@@ -1,11 +1,11 @@
 -- Where the operations of each replica of a table stand.
-use Rattle.std.proofs.Common.{◌≡◌, refl, sym, ap, ◌∙◌, ℕ, zero, suc, ◌<◌, Bool, true, false, true≢false, cond, ◌==◌, List, [], ◌∷◌, map}
+use Rattle.std.proofs.Common.{◌≡◌, refl, sym, ap, ◌∙◌, ℕ, zero, suc, ◌-◌, ◌<◌, ◌≤◌, Bool, true, false, true≢false, cond, ◌==◌, List, [], ◌∷◌, ◌++◌, map}
 use Rattle.std.proofs.Common.{length, get_or, set, replicate, IsTrue, IsFalse, arith, Some, None, slice_get}
 use Rattle.std.specs.FinMap.{find, put}
 use Rattle.std.specs.FinMap.Entries.{find-put}
 use Rattle.std.proofs.lemmas.Bool.{or_left, or_right, eq-eqb, eqb-false, ne_eqb}
 use Rattle.std.proofs.lemmas.Cmp.{eq_by_cmp_equiv}
-use Rattle.std.proofs.lemmas.List.{length-map}
+use Rattle.std.proofs.lemmas.List.{get_or_append_left, length-append, length-map, length-replicate, length-set}
 use Rattle.std.proofs.lemmas.Option.{slice_get_within}
 use Rattle.ids.specs.declared.id.OpId.{OpId}
 use Rattle.ids.specs.Members.{AreDistinct, is_member}
@@ -13,7 +13,7 @@ use Rattle.semantics.specs.Ids.{id_cmp, is_same_id}
 use Rattle.semantics.specs.Entries.{Entry as TheEntry, stamped_in}
 use Rattle.semantics.proofs.Orders.{id_total, ids_from_test}
 use Rattle.columns.specs.Numbered.{Numbered}
-use Rattle.oplog.specs.Logs.{AreOfMembers, numbers_of, position_of, positions_by}
+use Rattle.oplog.specs.Logs.{AreOfMembers, columns_for, numbers_of, position_of, positions_by}
 
 -- a replica that stands at an index is a member
 pub member_at : (ps : List ℕ) (i p : ℕ) → slice_get ps i ≡ Some p → is_member ps p ≡ true
@@ -83,14 +83,32 @@ pub all_none : (ps : List ℕ) → map (λ p. positions_by p []) ps ≡ replicat
 all_none [] = refl
 all_none (p ∷ ps) = ap (λ l. [] ∷ l) (all_none ps)
 
--- a replica's positions stand among the columns
-pub positions_inside : (G : List TheEntry) (ps : List ℕ) (ns : List (Numbered OpId)) (i p : ℕ) → slice_get ps i ≡ Some p
-    → numbers_of ns ≡ map (λ q. positions_by q G) ps → i < length ns
-positions_inside G ps ns i p at are =
-    let here = slice_get_within ps i p at in
+-- the same numbers are in as many columns
+pub as_many : (ns ms : List (Numbered OpId)) → numbers_of ms ≡ numbers_of ns → length ms ≡ length ns
+as_many ns ms same = sym (length-map ms (λ (n : Numbered OpId). n.entries)) ∙ ap length same ∙ length-map ns (λ (n : Numbered OpId). n.entries)
+
+pub as_many_set : (ns ms : List (Numbered OpId)) (i : ℕ) (m : List (OpId × ℕ)) → numbers_of ms ≡ set (numbers_of ns) i m
+    → length ms ≡ length ns
+as_many_set ns ms i m same = sym (length-map ms (λ (n : Numbered OpId). n.entries)) ∙ ap length same ∙ length-set (numbers_of ns) i m
+    ∙ length-map ns (λ (n : Numbered OpId). n.entries)
+
+-- there is a column for each replica
+pub enough_columns : (G : List TheEntry) (ps : List ℕ) (ns : List (Numbered OpId)) → numbers_of ns ≡ columns_for (length ns) ps G
+    → length ps ≤ length ns
+enough_columns G ps ns are =
     let width = ap length are in
     let same = length-map ns (λ (n : Numbered OpId). n.entries) in
     let long = length-map ps (λ q. positions_by q G) in
+    let both = length-append (map (λ q. positions_by q G) ps) (replicate (length ns - length ps) []) in
+    let rest = length-replicate {A = List (OpId × ℕ)} (length ns - length ps) [] in
+    omega arith
+
+-- a replica's positions stand among the columns
+pub positions_inside : (G : List TheEntry) (ps : List ℕ) (ns : List (Numbered OpId)) (i p : ℕ) → slice_get ps i ≡ Some p
+    → numbers_of ns ≡ columns_for (length ns) ps G → i < length ns
+positions_inside G ps ns i p at are =
+    let here = slice_get_within ps i p at in
+    let enough = enough_columns G ps ns are in
     omega arith
 
 -- the positions at a replica's index in the table are its own
@@ -99,6 +117,12 @@ pub all_at : (G : List TheEntry) (ps : List ℕ) (i p : ℕ) → slice_get ps i 
 all_at G [] i p at = cc
 all_at G (q ∷ ps) zero p at = ap (λ r. positions_by r G) (cc)
 all_at G (q ∷ ps) (suc i) p at = all_at G ps i p at
+
+pub own_column : (G : List TheEntry) (ps : List ℕ) (n i p : ℕ) → slice_get ps i ≡ Some p → get_or (columns_for n ps G) i [] ≡ positions_by p G
+own_column G ps n i p at =
+    let f : ℕ → List (OpId × ℕ) = λ q. positions_by q G in
+    let inside : i < length (map f ps) = (let l = length-map ps f in let h = slice_get_within ps i p at in omega arith) in
+    get_or_append_left (map f ps) (replicate (n - length ps) []) [] i inside ∙ all_at G ps i p at
 
 -- an id of a replica that isn't in the table is nowhere
 pub absent_elsewhere : (table : List ℕ) (G : List TheEntry) (a : OpId) → IsFalse (is_member table a.replica) → AreOfMembers table G

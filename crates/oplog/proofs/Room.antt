@@ -1,9 +1,12 @@
 -- How many more fit into each of several columns.
-use Rattle.std.proofs.Common.{◌≡◌, ◌<◌, ◌≤◌, ◌+◌, ℕ, zero, suc, List, [], ◌∷◌, length, get_or, set, take, ap, ◌∙◌, arith}
+use Rattle.std.proofs.Common.{◌≡◌, ◌<◌, ◌≤◌, ◌+◌, ◌-◌, min, ℕ, zero, suc, List, [], ◌∷◌, length, get_or, set, take, inl, inr, sym, ap, ◌∙◌, subst, arith}
 use Rattle.std.proofs.Math.Seq.{map-set_same}
+use Rattle.std.proofs.lemmas.Bool.{cases_lt}
 use Rattle.semantics.specs.Ids.{OpId}
 use Rattle.columns.specs.Numbered.{Numbered}
-use Rattle.oplog.specs.Logs.{least_room, numbers_of}
+use Rattle.ids.specs.Tables.{Table, joined}
+use Rattle.ids.proofs.Tables.{length_joined}
+use Rattle.oplog.specs.Logs.{least_room, numbers_of, room_beside}
 
 -- at most those beside the columns
 pub least_room-width : (n : ℕ) (ns : List (Numbered OpId)) → least_room n ns ≤ n
@@ -49,6 +52,41 @@ pub least_room-grown : (n : ℕ) (ns : List (Numbered OpId)) (i : ℕ) (m d : Nu
 least_room-grown n [] i m d read grown = omega arith
 least_room-grown n (x ∷ ns) zero m d read grown = let e = ap (λ (k : Numbered OpId). k.room) read in omega arith
 least_room-grown n (x ∷ ns) (suc i) m d read grown = let e = least_room-grown n ns i m d read grown in omega arith
+
+-- where there is room, there is beside the table and the columns, in the table, and a column for a replica that joins
+pub room_parts : (n : ℕ) (t : Table) (ns : List (Numbered OpId)) → 0 < room_beside n t ns
+    → (0 < n) × (0 < t.room) × (length t.numbers < length ns)
+room_parts n t ns room =
+    let least = least_room-width (min n (min t.room (length ns - length t.numbers))) ns in
+    (omega (arith, least, room), omega (arith, least, room), omega (arith, least, room))
+
+-- no less room beside a table and its columns
+pub room_kept : (n m : ℕ) (t u : Table) (ns ms : List (Numbered OpId)) → n ≤ m → u.numbers ≡ t.numbers → t.room ≤ u.room
+    → (length t.numbers < length ns → ms ≡ ns) → room_beside n t ns ≤ room_beside m u ms
+room_kept n m t u ns ms more same room kept =
+    let base = least_room-width (min n (min t.room (length ns - length t.numbers))) ns in
+    let count = ap length same in
+    elim (cases_lt (length t.numbers) (length ns)) [
+      | inl lt ↦
+          let long = ap length (kept lt) in
+          let wider = least_room-wider (min n (min t.room (length ns - length t.numbers)))
+          (min m (min u.room (length ms - length u.numbers))) ns (omega arith) in
+          subst (λ ls. room_beside n t ns ≤ least_room (min m (min u.room (length ms - length u.numbers))) ls) (sym (kept lt)) wider
+      | inr ge ↦ omega arith
+    ]
+
+-- one fewer beside the table, one replica more in it, and one fewer in one of the columns
+pub room_used : (n m : ℕ) (t u : Table) (ns ms : List (Numbered OpId)) (p : ℕ) → n ≤ m + 1 → u.numbers ≡ joined p t.numbers
+    → t.room ≤ u.room + 1 → length ms ≡ length ns → ((k : ℕ) → least_room (k + 1) ns ≤ least_room k ms + 1)
+    → room_beside n t ns ≤ room_beside m u ms + 1
+room_used n m t u ns ms p more joins room long used =
+    let count = ap length joins in
+    let longer = length_joined p t.numbers in
+    let old : ℕ = min n (min t.room (length ns - length t.numbers)) in
+    let new : ℕ = min m (min u.room (length ms - length u.numbers)) in
+    let wider = least_room-wider old (new + 1) ns (omega arith) in
+    let one = used new in
+    omega arith
 
 -- one more column that has room
 pub least_room-more : (n : ℕ) (ns : List (Numbered OpId)) (i : ℕ) (m : Numbered OpId) → i < length ns → 0 < m.room

@@ -1,10 +1,11 @@
 -- The entries of a history, with the table of their replicas.
-use Rattle.std.specs.Prelude.{◌≡◌, ℕ, min, nat_lt, ◌==◌, if◌then◌else◌, ⊤, IsTrue, List, [], ◌∷◌, ◌++◌, map, reverse, length, Option, Some}
+use Rattle.std.specs.Prelude.{◌≡◌, ℕ, ◌-◌, min, nat_lt, ◌==◌, if◌then◌else◌, ⊤, IsTrue, List, [], ◌∷◌, ◌++◌, map, replicate, reverse, length, Option, Some}
 use Rattle.std.specs.Prelude.{None}
 use Rattle.std.specs.List.{filter}
 use Rattle.std.specs.FinMap.{put}
 use Rattle.ids.specs.declared.id.OpId.{OpId}
 use Rattle.ids.specs.Members.{AreDistinct, is_member}
+use Rattle.ids.specs.Tables.{Table}
 use Rattle.semantics.specs.Ids.{id_cmp, is_same_id}
 use Rattle.semantics.specs.Vectors.{Vector, covers}
 use Rattle.semantics.specs.Entries.{Entry as TheEntry, stamped_in}
@@ -47,10 +48,14 @@ abbrev pub AreOfMembers : List ℕ → List TheEntry → Type 0
 AreOfMembers table [] = ⊤
 AreOfMembers table (e ∷ G) = AreOfMembers table G × IsTrue (is_member table (stamped_in e).id.replica)
 
--- for each replica of the table the positions of its operations; the operations are of these replicas, and have ids of their own
+-- n columns: for each replica of the table the positions of its operations, and then columns that are empty
+abbrev pub columns_for : (n : ℕ) (table : List ℕ) (G : List TheEntry) → List (List (OpId × ℕ))
+columns_for n table G = map (λ p. positions_by p G) table ++ replicate (n - length table) []
+
+-- the columns are those of the table; the operations are of its replicas, and have ids of their own
 pub record IsIndexed (table : List ℕ) (positions : List (Numbered OpId)) (entries : List Entry) : Type 0 where
   pub distinct : AreDistinct table
-  pub positions_are : numbers_of positions ≡ map (λ p. positions_by p (history entries)) table
+  pub positions_are : numbers_of positions ≡ columns_for (length positions) table (history entries)
   pub members : AreOfMembers table (history entries)
   pub own_ids : HaveOwnIds (history entries)
 
@@ -69,3 +74,7 @@ missing_positions v (e ∷ G) = missing_positions v G ++ (if covers v (stamped_i
 abbrev pub least_room : ℕ → List (Numbered OpId) → ℕ
 least_room n [] = n
 least_room n (m ∷ ms) = min m.room (least_room n ms)
+
+-- for how many more entries there is room, whose replicas may join, where there is room for n beside the table and the columns
+abbrev pub room_beside : (n : ℕ) → Table → List (Numbered OpId) → ℕ
+room_beside n table positions = least_room (min n (min table.room (length positions - length table.numbers))) positions

@@ -10,7 +10,7 @@ pub use publish::Publish;
 // Handed on from the crates below, for users of this one.
 pub use columns::Numbers;
 pub use operation::{
-    AppliedVector, Command, Delivered, Entry, Expr, ExprStep, Key, Misplaced, Mutation,
+    Command, Delivered, Entry, Expr, ExprStep, GrowingVector, Key, Misplaced, Mutation,
     NamedVector, Op, Place, Reply, Request, Scalar, Shared, Submission, Tag, Text, Val,
     VersionVector, check_alone,
 };

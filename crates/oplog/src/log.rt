@@ -1,10 +1,10 @@
 //! A list of entries, and for each replica of a table the positions of its operations.
 
-ghost use Rattle.std.specs.Prelude.{◌≡◌, ◌≤◌, ◌<◌, ◌+◌, ◌++◌, ◌∷◌, [], IsTrue, ℕ, List, Some, false, nat_lt, option_map, map, replicate};
+ghost use Rattle.std.specs.Prelude.{◌≡◌, ◌≤◌, ◌<◌, ◌+◌, ◌-◌, ◌++◌, ◌∷◌, [], ℕ, List, Some, false, nat_lt, option_map, map, replicate};
 ghost use Rattle.std.specs.Prelude.{reverse, set, length, IfOk, OnOk, slice_index_or};
 ghost use Rattle.std.specs.List.{filter};
 ghost use Rattle.std.specs.FinMap.{put};
-ghost use Rattle.ids.specs.Members.{AreDistinct, is_member};
+ghost use Rattle.ids.specs.Tables.{joined, lacks_room};
 ghost use Rattle.semantics.specs.Ids.{id_cmp};
 ghost use Rattle.semantics.specs.Vectors.{Vector, at};
 ghost use Rattle.semantics.specs.LegalHistory.{has_id};
@@ -25,7 +25,7 @@ use std::marker::Model;
 pub struct Log {
     table: ReplicaTable,
     entries: Vec<Entry>,
-    /// For each replica of the table the positions of its operations, by their ids.
+    /// For each replica of the table the positions of its operations, by their ids; and then a column that is empty, for one that joins.
     positions: Vec<Numbers>,
 }
 
@@ -33,19 +33,19 @@ impl Model for Log {
     ghost use Rattle.std.specs.Prelude.{◌-◌, vec_len, vec_capacity};
     ghost use Rattle.std.specs.Coded.{codes};
     ghost use Rattle.semantics.specs.Codes.{coded_element};
-    ghost use Rattle.oplog.specs.Logs.{Logged, IsIndexed, history, least_room};
+    ghost use Rattle.oplog.specs.Logs.{Logged, IsIndexed, history, room_beside};
 
     ghost Value = { Logged };
 
     ghost coded = { Prim.hlevel (codes, coded_element) };
 
     ghost view = { λ l. record {
-      table = l.table;
+      table = l.table.numbers;
       entries = history l.entries.items;
-      room = least_room (vec_capacity l.entries - vec_len l.entries) l.positions.items;
+      room = room_beside (vec_capacity l.entries - vec_len l.entries) l.table l.positions.items;
     } };
 
-    ghost invariant = { λ l. IsIndexed l.table l.positions.items l.entries.items };
+    ghost invariant = { λ l. IsIndexed l.table.numbers l.positions.items l.entries.items };
 }
 
 impl Log {
@@ -54,8 +54,7 @@ impl Log {
     /// # Errors
     /// `AllocError` if allocation fails.
     pub fn new(alloc: Global, table: ReplicaTable) -> Result<Log, AllocError>
-        requires { AreDistinct table }
-        ensures table { IfOk result (λ l. l.table ≡ table) }
+        ensures table { IfOk result (λ l. l.table ≡ table.numbers) }
         ensures entries { IfOk result (λ l. l.entries ≡ []) }
     {
         let positions = no_positions(alloc, table.len())?;
@@ -66,9 +65,9 @@ impl Log {
         })
     }
 
-    /// The members.
+    /// The table of the replicas.
     pub fn table(&self) -> &ReplicaTable
-        ensures { result.now ≡ self.now.table }
+        ensures { result.now.numbers ≡ self.now.table }
     {
         &self.table
     }
@@ -103,42 +102,43 @@ impl Log {
     pub fn missing(&self, alloc: Global, vector: &NamedVector) -> Result<Vec<usize>, AllocError>
         ensures { IfOk result (λ positions. positions.items ≡ missing_positions vector.now self.now.entries) }
     {
-        let mut positions = positions_above(alloc, &self.table, &self.positions, vector)?;
+        let columns = &self.positions[..self.table.len()];
+        let mut positions = positions_above(alloc, &self.table, columns, vector)?;
         positions.sort_unstable();
         Ok(positions)
     }
 
-    /// Makes room for one more entry, of any replica. Looks at the room for each replica's positions.
+    /// Makes room for one more entry, of any replica, which may join the table. Looks at the room for each replica's positions.
     ///
     /// # Errors
     /// `AllocError` if allocation fails.
-    pub fn reserve_one(&mut self) -> Result<(), AllocError>
+    pub fn reserve_one(&mut self, alloc: Global) -> Result<(), AllocError>
         ensures table { self.new.table ≡ self.old.table }
         ensures entries { self.new.entries ≡ self.old.entries }
         ensures room { OnOk result (0 < self.new.room) }
         ensures kept { self.old.room ≤ self.new.room }
     {
         self.entries.reserve(1)?;
+        self.table.reserve_one()?;
+        reserve_column(&mut self.positions, self.table.len(), alloc)?;
         reserve_positions(&mut self.positions)
     }
 
     /// Appends an entry, for which there is room. Allocates nothing. Moves the positions of its replica's greater ids, of which a
-    /// legal history has none.
+    /// legal history has none. A replica that isn't in the table joins it.
     ///
-    /// Its id must be new, as that of an operation that may follow is (`what_may_follow_is_new`). That its replica is a member is nothing
-    /// that a history knows.
+    /// Its id must be new, as that of an operation that may follow is (`what_may_follow_is_new`). That the table has a place for its
+    /// replica is nothing that a history knows.
     pub fn push(&mut self, entry: Entry)
         requires room { 0 < self.old.room }
-        requires member { IsTrue (is_member self.old.table (stamped_in (entry_of entry)).id.replica) }
+        requires fits { lacks_room self.old.table (stamped_in (entry_of entry)).id.replica ≡ false }
         requires new { has_id (applied self.old.entries) (stamped_in (entry_of entry)).id ≡ false }
-        ensures table { self.new.table ≡ self.old.table }
+        ensures table { self.new.table ≡ joined (stamped_in (entry_of entry)).id.replica self.old.table }
         ensures entries { self.new.entries ≡ entry_of entry ∷ self.old.entries }
         ensures room { self.old.room ≤ self.new.room + 1 }
     {
         let OpId { counter, replica } = entry.op().id;
-        let Some(index) = self.table.index_of(replica) else {
-            unreachable!()
-        };
+        let index = self.table.index_or_join(replica);
         let id = OpId { counter, replica };
         let position = self.entries.len();
         put_position(&mut self.positions, index, id, position);
@@ -164,7 +164,25 @@ fn no_positions(alloc: Global, count: usize) -> Result<Vec<Numbers>, AllocError>
     Ok(positions)
 }
 
-/// Makes room for one more position of each replica.
+/// Makes a column of positions beside this many, if there is none.
+fn reserve_column(
+    positions: &mut Vec<Numbers>,
+    count: usize,
+    alloc: Global,
+) -> Result<(), AllocError>
+    requires { count ≤ length positions.old.items }
+    ensures numbers { numbers_of positions.new.items
+        ≡ numbers_of positions.old.items ++ replicate (length positions.new.items - length positions.old.items) [] }
+    ensures column { OnOk result (count < length positions.new.items) }
+    ensures kept { count < length positions.old.items → positions.new.items ≡ positions.old.items }
+{
+    if positions.len() == count {
+        positions.push(Numbers::new(alloc))?;
+    }
+    Ok(())
+}
+
+/// Makes room for one more position in each column.
 fn reserve_positions(positions: &mut Vec<Numbers>) -> Result<(), AllocError>
     ensures same { numbers_of positions.new.items ≡ numbers_of positions.old.items }
     ensures room { (n : ℕ) → 0 < n → OnOk result (0 < least_room n positions.new.items) }
@@ -196,8 +214,8 @@ fn positions_above(
     positions: &[Numbers],
     vector: &NamedVector,
 ) -> Result<Vec<usize>, AllocError>
-    requires { length positions.now ≡ length table.now }
-    ensures { IfOk result (λ v. v.items ≡ numbers_above (map (at vector.now) table.now) (numbers_of positions.now)) }
+    requires { length positions.now ≡ length table.now.numbers }
+    ensures { IfOk result (λ v. v.items ≡ numbers_above (map (at vector.now) table.now.numbers) (numbers_of positions.now)) }
 {
     let mut above = Vec::new(alloc);
     for (index, numbers) in positions.iter().enumerate() {

@@ -32,7 +32,7 @@ impl Model for Copy {
 
     ghost coded = { Prim.hlevel (codes, coded_element) };
 
-    ghost view = { λ c. record { table = c.document.table; entries = c.document.entries; log = c.point.log; book = c.point.book } };
+    ghost view = { λ c. record { table = c.document.members; entries = c.document.entries; log = c.point.log; book = c.point.book } };
 }
 
 /// An entry that is appended and not yet published, and the point after it.
@@ -95,20 +95,20 @@ impl Absorb<Pending> for Copy {
 /// Whether the operation passes every test of a received one. Absorbing can't rest on a caller's promise: the crate of the copies
 /// calls it with whatever was appended. The publisher's invariant shows that each entry passes.
 fn is_lawful(document: &Document, op: &Op) -> bool
-    ensures tests { result ≡ is_lawful document.now.table document.now.entries op.now }
+    ensures tests { result ≡ is_lawful document.now.members document.now.entries op.now }
     ensures lawful { IsTrue result → MayFollow (applied document.now.entries) (stamped_of op.now) }
-    ensures member { IsTrue result → IsTrue (is_member document.now.table op.now.id.replica) }
+    ensures member { IsTrue result → IsTrue (is_member document.now.members op.now.id.replica) }
 {
     stands_alone(document, op) && document.ready(op) && document.check(op).is_ok()
 }
 
 /// Whether the operation passes the tests that need no history.
 fn stands_alone(document: &Document, op: &Op) -> bool
-    ensures tests { result ≡ is_none (alone_fault_of_op document.now.table op.now) }
+    ensures tests { result ≡ is_none (alone_fault_of_op document.now.members op.now) }
     ensures alone { IsTrue result → StandsAlone (stamped_of op.now) }
-    ensures member { IsTrue result → IsTrue (is_member document.now.table op.now.id.replica) }
+    ensures member { IsTrue result → IsTrue (is_member document.now.members op.now.id.replica) }
 {
-    check_alone(op, document.table()).is_ok()
+    check_alone(op, document.members()).is_ok()
 }
 
 /// Appends an entry whose operation may follow.
@@ -117,8 +117,8 @@ fn stands_alone(document: &Document, op: &Op) -> bool
 /// The entry comes back if allocation fails, and the document is as before.
 fn append(alloc: Global, document: &mut Document, entry: Entry) -> Result<(), Entry>
     requires lawful { MayFollow (applied document.old.entries) (stamped_of (op_in entry)) }
-    requires member { IsTrue (is_member document.old.table (op_in entry).id.replica) }
-    ensures table { document.new.table ≡ document.old.table }
+    requires member { IsTrue (is_member document.old.members (op_in entry).id.replica) }
+    ensures members { document.new.members ≡ document.old.members }
     ensures entries { MatchResult result (λ _. document.new.entries ≡ entry_of entry ∷ document.old.entries)
         (λ e. (e ≡ entry) × (document.new.entries ≡ document.old.entries)) }
 {

@@ -73,7 +73,7 @@ pub fn open<N: EngineName>(
     readers: usize,
 ) -> Result<(Publisher<N>, Vec<ReaderToken<N>>), Refusal>
     requires name { opened.seen.book ≡ N.book }
-    requires tables { (first.table ≡ N.table) × (second.table ≡ N.table) }
+    requires tables { (first.members ≡ N.table) × (second.members ≡ N.table) }
     requires new { (first.entries ≡ []) × (second.entries ≡ []) }
     requires readers { (0 < readers) × (readers < 2 ^ 32) }
     ensures publisher { IfOk result (λ r. (r.0.published ≡ []) × (r.0.appended ≡ [])) }
@@ -263,7 +263,7 @@ impl<N: EngineName> Publisher<N> {
     /// Ends the copies and returns the published document, with a notice of it. Waits for readers that still read.
     /// What is pending is dropped.
     pub fn end(self, rt: &impl Wait) -> (Document, Notice<N>)
-        ensures document { (result.0.table ≡ N.table) × (result.0.entries ≡ self.published) }
+        ensures document { (result.0.members ≡ N.table) × (result.0.entries ≡ self.published) }
         ensures notice { result.1 ≡ self.published }
     {
         let Publisher {

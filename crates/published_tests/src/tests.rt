@@ -1,8 +1,10 @@
 //! A publisher and its tokens: what is asked before and after a publish, and what is learnt.
 
-ghost use Rattle.std.specs.Prelude.{◌≡◌, ◌≢◌, ◌∷◌, [], None, IsTrue, IfOk, OnOk};
+ghost use Rattle.std.specs.Prelude.{◌≡◌, ◌≢◌, ◌∷◌, [], false, None, IsTrue, IfOk, OnOk};
 ghost use Rattle.ids.specs.Members.{in_order, is_member};
+ghost use Rattle.ids.specs.Tables.{lacks_room};
 ghost use Rattle.semantics.specs.Entries.{IsEntryHistory, applied};
+ghost use Rattle.semantics.specs.Joining.{table_after};
 ghost use Rattle.semantics.specs.Stamped.{MayFollow};
 ghost use Rattle.operation.specs.Alone.{alone_fault_of_op};
 ghost use Rattle.operation.specs.Ops.{stamped_of};
@@ -12,7 +14,7 @@ mod of_command;
 use cursor::{Expr, Step};
 use document::{Document, Question, Reading};
 use fixtures::{field, id_of};
-use ids::{NamedVector, Refusal};
+use ids::{MOST_NAMED, NamedVector, Refusal};
 use operation::{Entry, Mutation, Op, Shared, check_alone};
 use published::*;
 use std::alloc::Global;
@@ -170,7 +172,7 @@ fn token_state<N: EngineName, R: Wait + Abort>(
     tokens: &mut Vec<ReaderToken<N>>,
 ) -> Result<(), Refusal>
     requires own { N.own ≡ 9 }
-    requires table { N.table ≡ mirror.old.table }
+    requires table { N.table ≡ mirror.old.members }
     requires mirror { publisher.old.appended ≡ mirror.old.entries }
     requires legal { IsEntryHistory N.own mirror.old.entries }
 {
@@ -188,7 +190,7 @@ fn session<N: EngineName, R: Wait + Abort>(
     late: &mut ReaderToken<N>,
 ) -> Result<(), Refusal>
     requires own { N.own ≡ 9 }
-    requires table { N.table ≡ mirror.old.table }
+    requires table { N.table ≡ mirror.old.members }
     requires mirror { publisher.old.appended ≡ mirror.old.entries }
     requires legal { IsEntryHistory N.own mirror.old.entries }
 {
@@ -259,10 +261,10 @@ fn write_two<N: EngineName, R: Abort>(
     publisher: &mut Publisher<N>,
 ) -> Result<(), Refusal>
     requires own { N.own ≡ 9 }
-    requires table { N.table ≡ mirror.old.table }
+    requires table { N.table ≡ mirror.old.members }
     requires mirror { publisher.old.appended ≡ mirror.old.entries }
     requires legal { IsEntryHistory N.own mirror.old.entries }
-    ensures table { OnOk result (N.table ≡ mirror.new.table) }
+    ensures table { OnOk result (N.table ≡ mirror.new.members) }
     ensures mirror { OnOk result (publisher.new.appended ≡ mirror.new.entries) }
     ensures legal { OnOk result (IsEntryHistory N.own mirror.new.entries) }
 {
@@ -308,10 +310,10 @@ fn write<N: EngineName, R: Abort>(
     number: i64,
 ) -> Result<(), Refusal>
     requires own { N.own ≡ 9 }
-    requires table { N.table ≡ mirror.old.table }
+    requires table { N.table ≡ mirror.old.members }
     requires mirror { publisher.old.appended ≡ mirror.old.entries }
     requires legal { IsEntryHistory N.own mirror.old.entries }
-    ensures table { N.table ≡ mirror.new.table }
+    ensures table { N.table ≡ mirror.new.members }
     ensures mirror { OnOk result (publisher.new.appended ≡ mirror.new.entries) }
     ensures legal { OnOk result (IsEntryHistory N.own mirror.new.entries) }
 {
@@ -344,20 +346,30 @@ fn assign(
 
 /// Whether the operation has no fault alone.
 fn stands_alone(document: &Document, op: &Op) -> bool
-    ensures alone { IsTrue result → alone_fault_of_op document.now.table op.now ≡ None }
-    ensures member { IsTrue result → IsTrue (is_member document.now.table op.now.id.replica) }
+    ensures alone { IsTrue result → alone_fault_of_op document.now.members op.now ≡ None }
+    ensures member { IsTrue result → IsTrue (is_member document.now.members op.now.id.replica) }
 {
-    check_alone(op, document.table()).is_ok()
+    check_alone(op, document.members()).is_ok()
 }
 
-/// The fault of an operation of a peer that is ready and has none alone.
+/// Whether there is room in the table for the operation's replica.
+fn has_room(document: &Document, op: &Op) -> bool
+    ensures { IsTrue result → lacks_room (table_after document.now.members document.now.entries) op.now.id.replica ≡ false }
+{
+    let table = document.table();
+    table.index_of(op.id.replica).is_some() || table.len() < MOST_NAMED
+}
+
+/// The fault of an operation of a peer that is ready, has none alone, and has room.
 fn check(rt: &impl Abort, document: &Document, op: &Op) -> Result<(), Refusal>
     ensures lawful { OnOk result (MayFollow (applied document.now.entries) (stamped_of op.now)) }
-    ensures member { IsTrue (is_member document.now.table op.now.id.replica) }
+    ensures member { IsTrue (is_member document.now.members op.now.id.replica) }
+    ensures fits { lacks_room (table_after document.now.members document.now.entries) op.now.id.replica ≡ false }
     ensures peer { op.now.id.replica ≢ 9 }
 {
     assert!(rt; op.id.replica.number() != 9);
     assert!(rt; stands_alone(document, op));
+    assert!(rt; has_room(document, op));
     assert!(rt; document.ready(op));
     document.check(op)
 }

@@ -38,7 +38,7 @@ none_dropped r h = record {
     all = let c = h.count in omega arith
 
 -- what is reserved changes nothing of it
-pub reserved : (r q : Running) → IsDropping r q → (k : Contents) → k.table ≡ q.document.table → k.entries ≡ q.document.entries
+pub reserved : (r q : Running) → IsDropping r q → (k : Contents) → k.members ≡ q.document.members → k.entries ≡ q.document.entries
     → IsDropping r (record q { document = k })
 reserved r q d k table entries = record {
   turns = d.turns;
@@ -76,7 +76,7 @@ module _ (r q : Running) (d : IsDropping r q) (a : OpId) (t : IsDropped q.docume
 
   after_turn : replica_of (record q { waiting = ws; dropped = count }) ≡ counted (drain_for 1 (replica_of q))
   after_turn =
-      (λ i. record { own = q.own; members = q.document.table; entries = q.document.entries; waiting = without i; dropped = counts i })
+      (λ i. record { own = q.own; members = q.document.members; entries = q.document.entries; waiting = without i; dropped = counts i })
       ∙ sym (dropping (replica_of q) s t.why t.is_next t.fault)
 
   -- one more is dropped

@@ -27,7 +27,7 @@ passed r s none unapplied unknown new =
 
 -- a replica after an operation that passed all tests was put, or not
 pub after_put : (r : Running) (o : Op) (next : List Op) (result : Result Delivered Refusal) → IsReplica r
-    → alone_fault_of_op r.document.table o ≡ None → has_id (operations (replica_of r)) o.id ≡ false
+    → alone_fault_of_op r.document.members o ≡ None → has_id (operations (replica_of r)) o.id ≡ false
     → is_waiting (waiting_in r.waiting) o.id ≡ false
     → answer_to_new (replica_of r) (stamped_of o) ≡ IsKept
     → (result ≡ Ok answer.Kept
@@ -38,7 +38,7 @@ pub after_put : (r : Running) (o : Op) (next : List Op) (result : Result Deliver
 after_put r o next result h none unapplied unknown new put among same = by result refl
   where
     table : List ℕ
-    table = r.document.table
+    table = r.document.members
 
     unchanged : next ≡ r.waiting → IsReplica (record r { waiting = next })
     unchanged e = subst (λ ws. IsReplica (record r { waiting = ws })) (sym e) h

@@ -41,7 +41,7 @@ next_among r s h next = (ready_first (operations (replica_of r)) (waiting_in r.w
 
 -- what stood alone still does where others left
 pub still_alone : (r : Running) (ws : List Op) → IsReplica r → ((o : Op) → IsAmong o ws → IsAmong o r.waiting)
-    → StandAlone r.document.table ws
+    → StandAlone r.document.members ws
 still_alone r ws h left o m = h.alone o (left o m)
 
 -- q is r after one turn, and a replica
@@ -81,7 +81,7 @@ module _ (r q : Running) (h : IsReplica r) (is : r ≡ q) (a : OpId) (n : (s : S
   -- where it was taken and appended, one turn was made
   pub appended : (o : Op) → (o.id ≡ a) × IsAmong o r.waiting → (d : Contents) (ws : List Op)
       → waiting_in ws ≡ without_waiting a (waiting_in r.waiting)
-      → ((o : Op) → IsAmong o ws → IsAmong o r.waiting) → d.table ≡ r.document.table
+      → ((o : Op) → IsAmong o ws → IsAmong o r.waiting) → d.members ≡ r.document.members
       → d.entries ≡ Peer (stamped_of o) ∷ r.document.entries → IsTurned q (record r { document = d; waiting = ws })
   appended o got d ws left kept table entries =
       record { after = turned ∙ ap (λ (r : Running). drain_for 1 (replica_of r)) is; good = good }

@@ -23,7 +23,7 @@ none_opened ps p why = by (are_members ps) refl why where
   by true e (inr absent) = absent
 
 -- a replica with no history and nothing that waits
-pub opened : (r : Running) → r.document.entries ≡ [] → r.waiting ≡ [] → r.dropped ≡ 0 → IsTrue (is_member r.document.table r.own)
+pub opened : (r : Running) → r.document.entries ≡ [] → r.waiting ≡ [] → r.dropped ≡ 0 → IsTrue (is_member r.document.members r.own)
     → IsReplica r
 opened r entries waiting none member = record {
   running = record {

@@ -41,7 +41,7 @@ module _ (p client serial : ℕ) (c : Command) (G : List Entry) (s : Stamped) (h
 -- the replica after its document got an own entry
 pub own_appended : (r : Running) (d : Contents) (client serial : ℕ) (c : Command) (s : Stamped) → IsReplica r
     → IsMade r.document.entries r.own c s → IsAbove client serial r.document.entries
-    → d.table ≡ r.document.table → d.entries ≡ Own client serial c s ∷ r.document.entries → IsReplica (record r { document = d })
+    → d.members ≡ r.document.members → d.entries ≡ Own client serial c s ∷ r.document.entries → IsReplica (record r { document = d })
 own_appended r d client serial c s h made above table entries =
     let stamped = made_as_stamped r.own client serial c r.document.entries s h.running.history above made in
     let next : replica_of (record r { document = d })
@@ -73,13 +73,13 @@ module _ (r : Running) where
   own_follows h (entry.Peer o) n = absurd n
 
   pub own_member : IsReplica r → (e : AnEntry) → IsNextOwn r e
-      → IsTrue (is_member r.document.table (stamped_in (entry_of e)).id.replica)
-  own_member h (entry.Own client serial c o) n = subst (λ q. IsTrue (is_member r.document.table q))
+      → IsTrue (is_member r.document.members (stamped_in (entry_of e)).id.replica)
+  own_member h (entry.Own client serial c o) n = subst (λ q. IsTrue (is_member r.document.members q))
       (sym (made_by r.own client serial (command_of c) r.document.entries (stamped_of o) h.running.history n.above n.made))
       h.member
   own_member h (entry.Peer o) n = absurd n
 
-  pub own_next : IsReplica r → (e : AnEntry) → IsNextOwn r e → (d : Contents) → d.table ≡ r.document.table
+  pub own_next : IsReplica r → (e : AnEntry) → IsNextOwn r e → (d : Contents) → d.members ≡ r.document.members
       → d.entries ≡ entry_of e ∷ r.document.entries → IsReplica (record r { document = d })
   own_next h (entry.Own client serial c o) n d table entries =
       own_appended r d client serial (command_of c) (stamped_of o) h n.made n.above table entries

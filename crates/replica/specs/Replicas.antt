@@ -28,7 +28,7 @@ pub record Running : Type 0 where
 abbrev pub replica_of : Running → TheReplica
 replica_of r = record {
   own = r.own;
-  members = r.document.table;
+  members = r.document.members;
   entries = r.document.entries;
   waiting = waiting_in r.waiting;
   dropped = r.dropped;
@@ -38,8 +38,8 @@ replica_of r = record {
 -- that need no history, and the count is a u64's
 pub record IsReplica (r : Running) : Type 0 where
   pub running : IsRunning (replica_of r)
-  pub member : IsTrue (is_member r.document.table r.own)
-  pub alone : StandAlone r.document.table r.waiting
+  pub member : IsTrue (is_member r.document.members r.own)
+  pub alone : StandAlone r.document.members r.waiting
   pub count : r.dropped ≤ 18446744073709551615
 
 -- s is what replica p makes of the command after G, with the vector of all that was applied

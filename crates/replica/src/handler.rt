@@ -178,7 +178,7 @@ fn append_own<P: Publish>(
     requires above { IsAbove client serial replica.old.document.entries }
     requires made { IsMade replica.old.document.entries replica.old.own (command_of command.now)
         (stamped_of op) }
-    requires member { IsTrue (is_member replica.old.document.table op.id.replica) }
+    requires member { IsTrue (is_member replica.old.document.members op.id.replica) }
     requires room { HasRoomFor replica.old.document (stamped_of op) }
     ensures replica { OnOk result (replica_of replica.new
         ≡ commit_own (replica_of replica.old) client serial (command_of command.now) (stamped_of op)) }

@@ -11,7 +11,7 @@ pub use replica::Replica;
 
 // Handed on from the crates below, for users of this one.
 pub use inbox::{
-    AppliedVector, Command, Delivered, Document, Entry, Expr, ExprStep, Key, NamedVector, Op,
+    Command, Delivered, Document, Entry, Expr, ExprStep, GrowingVector, Key, NamedVector, Op,
     Publish, Question, Reading, Reply, Request, Scalar, Shared, Submission, Tag, Text, Val,
     VersionVector,
 };

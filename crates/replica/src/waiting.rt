@@ -66,8 +66,8 @@ pub fn next_turn(
     document: &mut Document,
     inbox: &Inbox,
 ) -> Result<Option<Turn>, AllocError>
-    requires { StandAlone document.old.table inbox.now }
-    ensures table { document.new.table ≡ document.old.table }
+    requires { StandAlone document.old.members inbox.now }
+    ensures members { document.new.members ≡ document.old.members }
     ensures entries { document.new.entries ≡ document.old.entries }
     ensures turn { IfOk result (λ t. IsNextTurn document.new inbox.now t) }
 {

@@ -7,7 +7,8 @@ use Rattle.std.proofs.lemmas.Option.{slice_get_within}
 use Rattle.semantics.specs.Engine.{Cell, Client, Given}
 use Rattle.semantics.specs.WriteSteps.{with_answer}
 use Rattle.semantics.specs.ReadSteps.{cell_at}
-use Rattle.semantics.proofs.SetElements.{get-set_same, get-set_other, get-append, get-append_last, get-append_cases}
+use Rattle.ids.proofs.LongerLists.{get-append, get-append_last, get-append_cases}
+use Rattle.semantics.proofs.SetElements.{get-set_same, get-set_other}
 
 -- serials count from 1, indices from 0
 pub cell_at-suc : (cells : List Cell) (n : ℕ) → cell_at cells (suc n) ≡ slice_get cells n

@@ -6,7 +6,8 @@ use Rattle.semantics.specs.Stamped.{Stamped}
 use Rattle.semantics.specs.Engine.{Engine, Hello, Bundle, SentHello, SentBundle, Received}
 use Rattle.semantics.specs.PeerSteps.{published_vector, lacked, receive_message}
 use Rattle.semantics.specs.World.{World, SayHello, AnswerHello, Deliver, world_step, step_by}
-use Rattle.semantics.proofs.SetElements.{get-set_same, get-append_last}
+use Rattle.ids.proofs.LongerLists.{get-append_last}
+use Rattle.semantics.proofs.SetElements.{get-set_same}
 use Rattle.semantics.proofs.ReceivedBundles.{HasReceivedAll, bundle_received}
 
 pub said_hello : (W : World) (a t h : ℕ) (v : Vector) → (world_step W (step_by a (SayHello t))).reply ≡ SentHello h v

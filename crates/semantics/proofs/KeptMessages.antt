@@ -3,7 +3,7 @@ use Rattle.std.proofs.Common.{◌≡◌, ℕ, List, [], ◌∷◌, ◌++◌, Opt
 use Rattle.ids.specs.Configurations.{Configuration}
 use Rattle.semantics.specs.Engine.{Engine, Message}
 use Rattle.semantics.specs.World.{World, WorldStep, sent_by, opened, world_step, world_after}
-use Rattle.semantics.proofs.SetElements.{get-append}
+use Rattle.ids.proofs.LongerLists.{get-append}
 use Rattle.semantics.proofs.SoundWorlds.{after_more}
 
 pub message_kept : (W : World) (w : WorldStep) (k : ℕ) (m : Message) → slice_get W.messages k ≡ Some m

@@ -7,7 +7,8 @@ use Rattle.semantics.specs.LegalAnswer.{Request, Submitted}
 use Rattle.semantics.specs.Engine.{Engine, Client, Cell}
 use Rattle.semantics.specs.WriteSteps.{next_submission, with_cell, submit, push}
 use Rattle.semantics.specs.WorldHistory.{of_client, unanswered, cells_of, HasAllSubmitted}
-use Rattle.semantics.proofs.SetElements.{get-set_same, get-set_other, get-append_cases}
+use Rattle.ids.proofs.LongerLists.{get-append_cases}
+use Rattle.semantics.proofs.SetElements.{get-set_same, get-set_other}
 use Rattle.semantics.proofs.SoundEngines.{open_cell}
 use Rattle.semantics.proofs.ItemsInTurn.{waiting-submitted}
 use Rattle.semantics.proofs.KeptSubmissions.{IsComplete, of_client-append, of_client-own, of_client-other, cells_in}

@@ -145,5 +145,6 @@ pub mod FullInbox
 pub mod NextIds
 pub mod OneEngineWorld
 pub mod PlacedItems
+pub mod JoinedReplicas
 pub mod SingleSteps
 pub mod LostItem

@@ -17,6 +17,7 @@ pub mod Stamped
 pub mod Faults
 pub mod Making
 pub mod Entries
+pub mod Joining
 pub mod LegalAnswer
 pub mod Replica
 pub mod Delivery

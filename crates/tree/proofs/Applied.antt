@@ -10,15 +10,17 @@ use Rattle.semantics.specs.Vectors.{covers}
 use Rattle.semantics.specs.Context.{Context, clear, apply}
 use Rattle.semantics.specs.Stamped.{loose_operation}
 use Rattle.semantics.proofs.ElementPaths.{down-hops_from_root}
+use Rattle.operation.specs.value.declared.value.Scalar.{Scalar}
 use Rattle.operation.specs.value.declared.value.Val.{Val}
 use Rattle.operation.specs.value.Values.{scalar_of, value_of as meaning_of}
 use Rattle.operation.specs.declared.op.Mutation.TheVariants as mutation
 use Rattle.operation.specs.declared.op.Op.{Op}
 use Rattle.operation.specs.Ops.{mutation_of, stamped_of}
+use Rattle.tree.specs.declared.node.Node.{Node}
 use Rattle.tree.specs.declared.stamp.Stamp.{Stamp}
 use Rattle.tree.specs.Nodes.{context, node_at, register_room}
 use Rattle.tree.specs.Writes.{assigned, deps_of, end_of, linked}
-use Rattle.tree.specs.Trees.{CanInsert, FitsIn, IsPlaced, IsReserved, Planted, RoomToLink, RoomToWrite}
+use Rattle.tree.specs.Trees.{CanInsert, FitsIn, IsPlaced, IsReserved, RoomToLink, RoomToWrite}
 use Rattle.tree.proofs.Writes.{assign_is, delete_is, insert_is}
 use Rattle.tree.proofs.Slots.{formed_slot, slot_of_any}
 
@@ -76,35 +78,35 @@ some_mapped f None h = h
 some_mapped f (Some x) h = refl
 
 -- what is there where the operation is reserved
-module _ (o : Op) (t : Planted) (reserved : IsReserved t (stamped_of o)) (v : Val) where
-  pub assign_reserved : o.mutation ≡ mutation.Assign v → RoomToWrite t (element_of o.place) (Some (meaning_of v))
+module _ (o : Op) (ns : List Node) (copy : Option Scalar) (reserved : IsReserved ns copy (stamped_of o)) (v : Val) where
+  pub assign_reserved : o.mutation ≡ mutation.Assign v → RoomToWrite ns copy (element_of o.place) (Some (meaning_of v))
   assign_reserved m = subst
-      (λ c. RoomToWrite t (target_in (slot_of (mutation_of c) o.place) o.id o.place) (value_of (mutation_of c))) m reserved.write
+      (λ c. RoomToWrite ns copy (target_in (slot_of (mutation_of c) o.place) o.id o.place) (value_of (mutation_of c))) m reserved.write
 
   insert_reserved : o.mutation ≡ mutation.Insert v → (l : Element) (p : Option OpId) → slot_of (Insert EmptyMap) o.place ≡ Some (l, p)
-      → RoomToWrite t (Item l o.id) (Some (meaning_of v))
+      → RoomToWrite ns copy (Item l o.id) (Some (meaning_of v))
   insert_reserved m l p q =
-      subst (λ x. RoomToWrite t (target_in x o.id o.place) (Some (meaning_of v))) (slot_of_any (meaning_of v) o.place ∙ q)
-      (subst (λ c. RoomToWrite t (target_in (slot_of (mutation_of c) o.place) o.id o.place) (value_of (mutation_of c))) m reserved.write)
+      subst (λ x. RoomToWrite ns copy (target_in x o.id o.place) (Some (meaning_of v))) (slot_of_any (meaning_of v) o.place ∙ q)
+      (subst (λ c. RoomToWrite ns copy (target_in (slot_of (mutation_of c) o.place) o.id o.place) (value_of (mutation_of c))) m reserved.write)
 
-  pub scalar_reserved : o.mutation ≡ mutation.Insert v → option_map scalar_of t.scalar ≡ scalar_in (Some (meaning_of v))
-  scalar_reserved m = (subst (λ c. RoomToWrite t (target_in (slot_of (mutation_of c) o.place) o.id o.place)
+  pub scalar_reserved : o.mutation ≡ mutation.Insert v → option_map scalar_of copy ≡ scalar_in (Some (meaning_of v))
+  scalar_reserved m = (subst (λ c. RoomToWrite ns copy (target_in (slot_of (mutation_of c) o.place) o.id o.place)
       (value_of (mutation_of c))) m reserved.write).1
 
-  pub register_reserved : (e : Element) → RoomToWrite t e (Some (meaning_of v)) → IsSome t.scalar → 0 < register_room (node_at t.nodes e)
-  register_reserved e write some = write.2 (subst IsSome write.1 (some_mapped scalar_of t.scalar some))
+  pub register_reserved : (e : Element) → RoomToWrite ns copy e (Some (meaning_of v)) → IsSome copy → 0 < register_room (node_at ns e)
+  register_reserved e write some = write.2 (subst IsSome write.1 (some_mapped scalar_of copy some))
 
-  pub can_insert : (a : OpId) → a ≡ o.id → o.mutation ≡ mutation.Insert v → IsPlaced (context t.nodes) (stamped_of o)
-      → (l : Element) (p : Option OpId) → slot_of (Insert EmptyMap) o.place ≡ Some (l, p) → CanInsert t.nodes l p a t.scalar
+  pub can_insert : (a : OpId) → a ≡ o.id → o.mutation ≡ mutation.Insert v → IsPlaced (context ns) (stamped_of o)
+      → (l : Element) (p : Option OpId) → slot_of (Insert EmptyMap) o.place ≡ Some (l, p) → CanInsert ns l p a copy
   can_insert a same m placed l p q =
       let write = insert_reserved m l p q in
       let slot : slot_of (mutation_of o.mutation) o.place ≡ Some (l, p) = ap (λ c. slot_of (mutation_of c) o.place) m
       ∙ slot_of_any (meaning_of v) o.place ∙ q in
-      let fits : FitsIn (context t.nodes) o.id (Some (l, p)) = subst (FitsIn (context t.nodes) o.id) slot placed in
-      subst (λ b. CanInsert t.nodes l p b t.scalar) (sym same) (record {
+      let fits : FitsIn (context ns) o.id (Some (l, p)) = subst (FitsIn (context ns) o.id) slot placed in
+      subst (λ b. CanInsert ns l p b copy) (sym same) (record {
         room = write.0;
         register = register_reserved (Item l o.id) write;
-        order = subst (RoomToLink t.nodes) slot reserved.link;
+        order = subst (RoomToLink ns) slot reserved.link;
         position = fits.0;
         fresh = fits.1;
       })

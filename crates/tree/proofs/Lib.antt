@@ -16,7 +16,8 @@ pub mod SameViews
 pub mod Grown
 pub mod Widened
 pub mod Pushed
-pub mod Linked
+pub mod Joined
+mod Linked
 pub mod LinkedChildren
 pub mod Slots
 pub mod StandingItems

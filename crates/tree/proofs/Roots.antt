@@ -1,5 +1,5 @@
 -- One empty node is the tree of the empty document.
-use Rattle.std.proofs.Common.{◌≡◌, ℕ, List, [], ◌∷◌, length, Option, Some, None, refl, sym, ap, ◌∙◌, subst, arith}
+use Rattle.std.proofs.Common.{◌≡◌, ◌≤◌, ℕ, List, [], ◌∷◌, length, Option, Some, None, refl, sym, ap, ◌∙◌, subst, arith}
 use Rattle.std.specs.Prelude.{IsTrue}
 use Rattle.std.specs.FinMap.{is_sorted}
 use Rattle.std.proofs.lemmas.Option.{none-some}
@@ -9,7 +9,6 @@ use Rattle.semantics.specs.Elements.{Field, Item, name_cmp}
 use Rattle.semantics.specs.Paths.{Hop, FieldHop, ItemHop}
 use Rattle.semantics.specs.Context.{empty}
 use Rattle.semantics.specs.DocumentAnswer.{is_any, visible_items}
-use Rattle.operation.specs.value.declared.value.Scalar.{Scalar}
 use Rattle.tree.specs.declared.node.Node.{Node}
 use Rattle.tree.specs.Nodes.{IsEmptyNode, IsTree, Links, IsIndexedNode, child_number, context, linked_by, links, links_of, names_in}
 use Rattle.tree.specs.Nodes.{node_in, number, order_of, presence_of, register_of, visible_of}
@@ -51,9 +50,8 @@ module _ (n : Node) (e : IsEmptyNode n) where
     sorted_ids = λ i. subst (λ (l : Links). IsTrue (is_sorted id_cmp l.1)) (no_links i) refl;
   }
 
-  pub root_planted : (table column : List ℕ) (s : Option Scalar) → AreDistinct table → length column ≡ length table
-      → IsPlanted (record { table = table; nodes = n ∷ []; scalar = s }) column
-  root_planted table column s d wide = record {
+  pub root_planted : (table column : List ℕ) → AreDistinct table → length table ≤ length column → IsPlanted table (n ∷ []) column
+  root_planted table column d wide = record {
     distinct = d;
     tree = root_tree;
     nested = subst IsNested (sym root_empty) nested_empty;

@@ -1,6 +1,7 @@
 -- A tree as contracts see it, and what an operation needs of it.
-use Rattle.std.specs.Prelude.{◌≡◌, ℕ, ◌<◌, Bool, true, ◌&&◌, IsTrue, IsFalse, List, Option, Some, None, IsSome, length, option_map, map}
+use Rattle.std.specs.Prelude.{◌≡◌, ℕ, ◌<◌, ◌≤◌, ◌-◌, min, Bool, true, ◌&&◌, IsTrue, IsFalse, List, Option, Some, None, IsSome, length, option_map, map}
 use Rattle.ids.specs.Members.{AreDistinct}
+use Rattle.ids.specs.Tables.{Table}
 use Rattle.semantics.specs.Ids.{OpId}
 use Rattle.semantics.specs.Elements.{Element, Doc, Field, Item, Value}
 use Rattle.semantics.specs.Operations.{scalar_in, slot_of, target_in, value_of}
@@ -17,11 +18,21 @@ use Rattle.operation.specs.cursor.Steps.{hop_of}
 use Rattle.tree.specs.declared.insert.Slot.{Slot}
 use Rattle.tree.specs.Writes.{RoomTo, end_of}
 
--- a tree: the table of replicas, the nodes, and the copy of a scalar that the next operation writes
+-- a tree: the table of replicas, for how many more there is room, the nodes, and the copy of a scalar that the next operation writes
 pub record Planted : Type 0 where
   pub table : List ℕ
+  pub room : ℕ
   pub nodes : List Node
   pub scalar : Option Scalar
+
+-- what a tree keeps as contracts see it: there is room for another replica where the table has it, and the column is wider
+abbrev pub planted_of : Table → List Node → Option Scalar → List ℕ → Planted
+planted_of table nodes scalar column = record {
+  table = table.numbers;
+  room = min table.room (length column - length table.numbers);
+  nodes = nodes;
+  scalar = scalar;
+}
 
 -- the document that a tree holds
 abbrev pub document : Planted → Context
@@ -29,25 +40,25 @@ document t = context t.nodes
 
 -- the numbers of the table differ, the nodes are a tree, what stands beneath an element stands at it too, lists show their visible
 -- items, nothing stands at items below their list's bound nor at fields whose flag is lowered, and each id's index is its
--- replica's in the table; a column for what an operation depends on has the table's width
-pub record IsPlanted (t : Planted) (column : List ℕ) : Type 0 where
-  pub distinct : AreDistinct t.table
-  pub tree : IsTree t.nodes
-  pub nested : IsNested (context t.nodes)
-  pub shown : AreShown t.nodes
-  pub empty : AreEmpty t.nodes
-  pub indexed : AreIndexedNodes t.table t.nodes
-  pub wide : length column ≡ length t.table
+-- replica's in the table; a column for what an operation depends on is as wide as the table at least
+pub record IsPlanted (table : List ℕ) (nodes : List Node) (column : List ℕ) : Type 0 where
+  pub distinct : AreDistinct table
+  pub tree : IsTree nodes
+  pub nested : IsNested (context nodes)
+  pub shown : AreShown nodes
+  pub empty : AreEmpty nodes
+  pub indexed : AreIndexedNodes table nodes
+  pub wide : length table ≤ length column
 
 -- the element that s writes at
 abbrev pub target_of : Stamped → Element
 target_of s = target_in (slot_of s.mutation s.place) s.id s.place
 
 -- room for what a value writes at t, and the copy of its scalar
-abbrev pub RoomToWrite : Planted → Element → Option Value → Type 0
-RoomToWrite p t None = Unit {0}
-RoomToWrite p t (Some v) = RoomTo p.nodes t × (option_map scalar_of p.scalar ≡ scalar_in (Some v))
-    × (IsSome (scalar_in (Some v)) → 0 < register_room (node_at p.nodes t))
+abbrev pub RoomToWrite : List Node → (copy : Option Scalar) → Element → Option Value → Type 0
+RoomToWrite ns copy t None = Unit {0}
+RoomToWrite ns copy t (Some v) = RoomTo ns t × (option_map scalar_of copy ≡ scalar_in (Some v))
+    × (IsSome (scalar_in (Some v)) → 0 < register_room (node_at ns t))
 
 -- room for a new item in the order of a slot's list
 abbrev pub RoomToLink : List Node → Option (Element × Option OpId) → Type 0
@@ -55,9 +66,9 @@ RoomToLink ns None = Unit {0}
 RoomToLink ns (Some slot) = 0 < order_room (node_at ns slot.0)
 
 -- all the memory that the operation needs is there
-pub record IsReserved (t : Planted) (s : Stamped) : Type 0 where
-  pub write : RoomToWrite t (target_of s) (value_of s.mutation)
-  pub link : RoomToLink t.nodes (slot_of s.mutation s.place)
+pub record IsReserved (ns : List Node) (copy : Option Scalar) (s : Stamped) : Type 0 where
+  pub write : RoomToWrite ns copy (target_of s) (value_of s.mutation)
+  pub link : RoomToLink ns (slot_of s.mutation s.place)
 
 -- what an insert goes after is in its list, and its own id isn't
 abbrev pub FitsIn : Context → OpId → Option (Element × Option OpId) → Type 0

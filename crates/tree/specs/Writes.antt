@@ -1,5 +1,5 @@
 -- What an operation writes along a path, step by step.
-use Rattle.std.specs.Prelude.{◌≡◌, ℕ, ◌<◌, ◌≤◌, IsTrue, cond, List, length, take, map, Option, Some, None}
+use Rattle.std.specs.Prelude.{◌≡◌, ℕ, ◌<◌, ◌≤◌, IsTrue, cond, List, length, take, map, Option, Some, None, slice_get}
 use Rattle.std.specs.FinMap.{put}
 use Rattle.ids.specs.Members.{AreDistinct, is_member}
 use Rattle.ids.specs.Vectors.{names_only}
@@ -14,24 +14,24 @@ use Rattle.tree.specs.declared.stamp.Covered.{Covered}
 use Rattle.tree.specs.declared.stamp.Stamp.{Stamp}
 use Rattle.tree.specs.Nodes.{node_at, presence_room}
 
--- an id and a vector of replicas of the table
+-- an id with its replica's index, and a vector of replicas of the table
 pub record IsStamp (s : Stamp) : Type 0 where
-  pub distinct : AreDistinct s.table.now
-  pub member : IsTrue (is_member s.table.now s.id.replica)
-  pub known : IsTrue (names_only s.table.now s.vector.now)
+  pub distinct : AreDistinct s.table.now.numbers
+  pub index : slice_get s.table.now.numbers s.index ≡ Some s.id.replica
+  pub known : IsTrue (names_only s.table.now.numbers s.vector.now)
 
 -- the ids that the vector covers
 abbrev pub deps_of : Stamp → IdSet
 deps_of s = covers s.vector.now
 
--- a column as wide as the table
+-- a column for each replica of the table
 pub record IsCovered (c : Covered) : Type 0 where
-  pub distinct : AreDistinct c.table.now
-  pub width : length c.column.now ≡ length c.table.now
+  pub distinct : AreDistinct c.table.now.numbers
+  pub width : length c.table.now.numbers ≤ length c.column.now
 
 -- the ids that the column covers
 abbrev pub covered_by : Covered → IdSet
-covered_by c = covers (by_table c.table.now c.column.now)
+covered_by c = covers (by_table c.table.now.numbers c.column.now)
 
 -- the element at the end of a path
 abbrev pub end_of : List Hop → Element

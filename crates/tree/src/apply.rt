@@ -1,6 +1,6 @@
 //! What each kind of operation does.
 
-ghost use Rattle.std.specs.Prelude.{◌≡◌, Option, Some, IsSome, length, option_map};
+ghost use Rattle.std.specs.Prelude.{◌≡◌, ◌≤◌, Option, Some, IsSome, length, option_map};
 ghost use Rattle.semantics.specs.Ids.{OpId as TheId};
 ghost use Rattle.semantics.specs.Elements.{Element, Item, EmptyMap, is_under};
 ghost use Rattle.semantics.specs.LegalHistory.{IsFormed};
@@ -33,22 +33,22 @@ pub fn apply(
     scalar: Option<Scalar>,
 )
     requires stamp { IsStamp stamp.now }
-    requires width { length column.old ≡ length stamp.now.table.now }
+    requires width { length stamp.now.table.now.numbers ≤ length column.old }
     requires id { stamp.now.id ≡ op.now.id }
     requires vector { stamp.now.vector.now ≡ op.now.deps }
     requires tree { IsTree nodes.old }
-    requires indexed { AreIndexedNodes stamp.now.table.now nodes.old }
+    requires indexed { AreIndexedNodes stamp.now.table.now.numbers nodes.old }
     requires nested { IsNested (context nodes.old) }
     requires shown { AreShown nodes.old }
     requires empty { AreEmpty nodes.old }
-    requires reserved { IsReserved (record { table = stamp.now.table.now; nodes = nodes.old; scalar = scalar })
+    requires reserved { IsReserved nodes.old scalar
         (stamped_of op.now) }
     requires placed { IsPlaced (context nodes.old) (stamped_of op.now) }
     requires formed { IsFormed (mutation_of op.now.mutation) op.now.place }
     ensures width { length column.new ≡ length column.old }
     ensures tree { IsTree nodes.new }
     ensures nested { IsNested (context nodes.new) }
-    ensures indexed { AreIndexedNodes stamp.now.table.now nodes.new }
+    ensures indexed { AreIndexedNodes stamp.now.table.now.numbers nodes.new }
     ensures shown { AreShown nodes.new }
     ensures empty { AreEmpty nodes.new }
     ensures applied { context nodes.new ≡ apply (context nodes.old) (loose_operation (stamped_of op.now)) }
@@ -67,20 +67,20 @@ fn run(
     scalar: Option<Scalar>,
 )
     requires stamp { IsStamp stamp.now }
-    requires width { length column.old ≡ length stamp.now.table.now }
+    requires width { length stamp.now.table.now.numbers ≤ length column.old }
     requires id { stamp.now.id ≡ op.now.id }
     requires vector { stamp.now.vector.now ≡ op.now.deps }
     requires tree { IsTree nodes.old }
-    requires indexed { AreIndexedNodes stamp.now.table.now nodes.old }
+    requires indexed { AreIndexedNodes stamp.now.table.now.numbers nodes.old }
     requires nested { IsNested (context nodes.old) }
     requires empty { AreEmpty nodes.old }
-    requires reserved { IsReserved (record { table = stamp.now.table.now; nodes = nodes.old; scalar = scalar })
+    requires reserved { IsReserved nodes.old scalar
         (stamped_of op.now) }
     requires placed { IsPlaced (context nodes.old) (stamped_of op.now) }
     requires formed { IsFormed (mutation_of op.now.mutation) op.now.place }
     ensures width { length column.new ≡ length column.old }
     ensures tree { IsTree nodes.new }
-    ensures indexed { AreIndexedNodes stamp.now.table.now nodes.new }
+    ensures indexed { AreIndexedNodes stamp.now.table.now.numbers nodes.new }
     ensures shown { AreShown nodes.old
         → ShownBut nodes.new
         (is_under (target_in (slot_of (mutation_of op.now.mutation) op.now.place) op.now.id op.now.place)) }
@@ -117,9 +117,9 @@ fn insert_at(
     scalar: Option<Scalar>,
 )
     requires stamp { IsStamp stamp.now }
-    requires width { length column.old ≡ length stamp.now.table.now }
+    requires width { length stamp.now.table.now.numbers ≤ length column.old }
     requires tree { IsTree nodes.old }
-    requires indexed { AreIndexedNodes stamp.now.table.now nodes.old }
+    requires indexed { AreIndexedNodes stamp.now.table.now.numbers nodes.old }
     requires nested { IsNested (context nodes.old) }
     requires empty { AreEmpty nodes.old }
     requires slot { IsSome (slot_of (Insert EmptyMap) place.now) }
@@ -127,7 +127,7 @@ fn insert_at(
         → CanInsert nodes.old l p stamp.now.id scalar }
     ensures width { length column.new ≡ length column.old }
     ensures tree { IsTree nodes.new }
-    ensures indexed { AreIndexedNodes stamp.now.table.now nodes.new }
+    ensures indexed { AreIndexedNodes stamp.now.table.now.numbers nodes.new }
     ensures shown { (l : Element) (p : Option TheId) → slot_of (Insert EmptyMap) place.now ≡ Some (l, p) → AreShown nodes.old
         → ShownBut nodes.new (is_under (Item l stamp.now.id)) }
     ensures inserted { (l : Element) (p : Option TheId) → slot_of (Insert EmptyMap) place.now ≡ Some (l, p)

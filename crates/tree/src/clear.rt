@@ -25,11 +25,11 @@ use operation::{Hop, VersionVector};
 fn clear_node(nodes: &mut [Node], at: NodeNumber, covered: &Covered)
     requires tree { IsTree nodes.old }
     requires covered { IsCovered covered.now }
-    requires indexed { AreIndexedNodes covered.now.table.now nodes.old }
+    requires indexed { AreIndexedNodes covered.now.table.now.numbers nodes.old }
     requires inside { at < length nodes.old }
     ensures links { SameLinks nodes.old nodes.new }
     ensures room { MoreRoom nodes.old nodes.new }
-    ensures indexed { AreIndexedNodes covered.now.table.now nodes.new }
+    ensures indexed { AreIndexedNodes covered.now.table.now.numbers nodes.new }
     ensures cleared { (e : Element) → number nodes.old e ≡ Some at
         → context nodes.new ≡ clear_own (context nodes.old) e (covered_by covered.now) }
 {
@@ -112,14 +112,14 @@ fn set_empty_below(nodes: &mut [Node], at: NodeNumber, empty_below: u64)
 fn clear_below(nodes: &mut [Node], at: NodeNumber, covered: &Covered)
     requires tree { IsTree nodes.old }
     requires covered { IsCovered covered.now }
-    requires indexed { AreIndexedNodes covered.now.table.now nodes.old }
+    requires indexed { AreIndexedNodes covered.now.table.now.numbers nodes.old }
     requires nested { IsNested (context nodes.old) }
     requires empty { AreEmpty nodes.old }
     requires there { (e : Element) × (number nodes.old e ≡ Some at) }
     requires inside { at < length nodes.old }
     ensures children { SameChildren nodes.old nodes.new }
     ensures room { MoreRoom nodes.old nodes.new }
-    ensures indexed { AreIndexedNodes covered.now.table.now nodes.new }
+    ensures indexed { AreIndexedNodes covered.now.table.now.numbers nodes.new }
     ensures cleared { (e : Element) → number nodes.old e ≡ Some at
         → context nodes.new ≡ clear (context nodes.old) e (covered_by covered.now) }
     ensures shown { (e : Element) (off : Element → Bool) → number nodes.old e ≡ Some at → ShownBut nodes.old off
@@ -157,8 +157,8 @@ fn clear_below(nodes: &mut [Node], at: NodeNumber, covered: &Covered)
 pub fn clear_of(nodes: &mut [Node], at: NodeNumber, stamp: &Stamp, column: &mut VersionVector)
     requires tree { IsTree nodes.old }
     requires stamp { IsStamp stamp.now }
-    requires width { length column.old ≡ length stamp.now.table.now }
-    requires indexed { AreIndexedNodes stamp.now.table.now nodes.old }
+    requires width { length stamp.now.table.now.numbers ≤ length column.old }
+    requires indexed { AreIndexedNodes stamp.now.table.now.numbers nodes.old }
     requires nested { IsNested (context nodes.old) }
     requires empty { AreEmpty nodes.old }
     requires there { (e : Element) × (number nodes.old e ≡ Some at) }
@@ -166,7 +166,7 @@ pub fn clear_of(nodes: &mut [Node], at: NodeNumber, stamp: &Stamp, column: &mut 
     ensures width { length column.new ≡ length column.old }
     ensures children { SameChildren nodes.old nodes.new }
     ensures room { MoreRoom nodes.old nodes.new }
-    ensures indexed { AreIndexedNodes stamp.now.table.now nodes.new }
+    ensures indexed { AreIndexedNodes stamp.now.table.now.numbers nodes.new }
     ensures cleared { (e : Element) → number nodes.old e ≡ Some at → context nodes.new ≡ clear (context nodes.old) e (deps_of stamp.now) }
     ensures shown { (e : Element) (off : Element → Bool) → number nodes.old e ≡ Some at → ShownBut nodes.old off
         → ShownBut nodes.new (λ x. (is_any (presence_of (slice_get nodes.old at)) && is_same x e) || off x) }
@@ -188,14 +188,14 @@ pub fn clear_of(nodes: &mut [Node], at: NodeNumber, stamp: &Stamp, column: &mut 
 pub fn clear_at(nodes: &mut [Node], path: &[Hop], stamp: &Stamp, column: &mut VersionVector)
     requires tree { IsTree nodes.old }
     requires stamp { IsStamp stamp.now }
-    requires width { length column.old ≡ length stamp.now.table.now }
-    requires indexed { AreIndexedNodes stamp.now.table.now nodes.old }
+    requires width { length stamp.now.table.now.numbers ≤ length column.old }
+    requires indexed { AreIndexedNodes stamp.now.table.now.numbers nodes.old }
     requires nested { IsNested (context nodes.old) }
     requires empty { AreEmpty nodes.old }
     ensures width { length column.new ≡ length column.old }
     ensures children { SameChildren nodes.old nodes.new }
     ensures room { MoreRoom nodes.old nodes.new }
-    ensures indexed { AreIndexedNodes stamp.now.table.now nodes.new }
+    ensures indexed { AreIndexedNodes stamp.now.table.now.numbers nodes.new }
     ensures cleared { context nodes.new ≡ clear (context nodes.old) (end_of (map hop_of path.now)) (deps_of stamp.now) }
     ensures shown { (off : Element → Bool) → ShownBut nodes.old off
         → ShownBut nodes.new (λ x. is_same x (end_of (map hop_of path.now)) || off x) }

@@ -1,6 +1,6 @@
 //! Inserting a new item into a list, and writing it.
 
-ghost use Rattle.std.specs.Prelude.{◌≡◌, ◌<◌, ℕ, List, Option, Some, None, IsTrue, IsFalse, IsSome, length, map, option_map, slice_get};
+ghost use Rattle.std.specs.Prelude.{◌≡◌, ◌<◌, ◌≤◌, ℕ, List, Option, Some, None, IsTrue, IsFalse, IsSome, length, map, option_map, slice_get};
 ghost use Rattle.semantics.specs.Elements.{Element, Item, EmptyMap, is_under};
 ghost use Rattle.semantics.specs.Operations.{Insert, slot_of};
 ghost use Rattle.operation.specs.value.Values.{scalar_of};
@@ -94,14 +94,14 @@ pub fn insert(
 )
     requires tree { IsTree nodes.old }
     requires stamp { IsStamp stamp.now }
-    requires width { length column.old ≡ length stamp.now.table.now }
-    requires indexed { AreIndexedNodes stamp.now.table.now nodes.old }
+    requires width { length stamp.now.table.now.numbers ≤ length column.old }
+    requires indexed { AreIndexedNodes stamp.now.table.now.numbers nodes.old }
     requires nested { IsNested (context nodes.old) }
     requires empty { AreEmpty nodes.old }
     requires fits { CanInsert nodes.old (end_of (map hop_of slot.now.list.now)) slot.now.prev stamp.now.id scalar }
     ensures width { length column.new ≡ length column.old }
     ensures tree { IsTree nodes.new }
-    ensures indexed { AreIndexedNodes stamp.now.table.now nodes.new }
+    ensures indexed { AreIndexedNodes stamp.now.table.now.numbers nodes.new }
     ensures shown { AreShown nodes.old
         → ShownBut nodes.new (is_under (Item (end_of (map hop_of slot.now.list.now)) stamp.now.id)) }
     ensures inserted { context nodes.new

@@ -1,6 +1,6 @@
 //! Making all nodes and room that an operation needs along its path.
 
-ghost use Rattle.std.specs.Prelude.{◌≡◌, ◌<◌, ℕ, List, Some, IfOk, OnOk, length, map, option_map};
+ghost use Rattle.std.specs.Prelude.{◌≡◌, ◌<◌, Some, IfOk, OnOk, length, map, option_map};
 ghost use Rattle.semantics.specs.Elements.{Element, Item};
 ghost use Rattle.semantics.specs.Operations.{Insert, scalar_in};
 ghost use Rattle.operation.specs.value.Values.{scalar_of, value_of};
@@ -119,7 +119,7 @@ fn reserve_slot(
     requires insert { mutation_of op.now.mutation ≡ Insert (value_of value.now) }
     ensures kept { Kept nodes.old.items nodes.new.items }
     ensures reserved { IfOk result
-        (λ s. (table : List ℕ) → IsReserved (record { table = table; nodes = nodes.new.items; scalar = s }) (stamped_of op.now)) }
+        (λ s. IsReserved nodes.new.items s (stamped_of op.now)) }
 {
     match slot_of(&op.place) {
         Some(slot) => reserve_insert(nodes, slot.list, op.id, value, alloc),
@@ -136,7 +136,7 @@ pub fn reserve_operation(
     requires { IsTree nodes.old.items }
     ensures kept { Kept nodes.old.items nodes.new.items }
     ensures reserved { IfOk result
-        (λ s. (table : List ℕ) → IsReserved (record { table = table; nodes = nodes.new.items; scalar = s }) (stamped_of op.now)) }
+        (λ s. IsReserved nodes.new.items s (stamped_of op.now)) }
 {
     match &op.mutation {
         Mutation::Assign(value) => reserve_assign(nodes, op.place.hops(), value, alloc),

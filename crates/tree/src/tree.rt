@@ -1,8 +1,8 @@
 //! A tree: the nodes, with the table of the replicas that stand in them.
 
-ghost use Rattle.std.specs.Prelude.{◌≡◌, ◌⊎◌, IsTrue, IfOk, IfErr, OnOk, Ok, Err};
+ghost use Rattle.std.specs.Prelude.{◌≡◌, ◌<◌, ◌⊎◌, false, IsTrue, IfOk, IfErr, OnOk, Ok, Err};
 ghost use Rattle.ids.specs.declared.refusal.Refusal.TheVariants.{NoMemory};
-ghost use Rattle.ids.specs.Members.{is_member};
+ghost use Rattle.ids.specs.Tables.{joined, lacks_room};
 ghost use Rattle.ids.specs.Vectors.{names_only};
 ghost use Rattle.semantics.specs.LegalHistory.{IsFormed};
 ghost use Rattle.semantics.specs.Operations.{element_of};
@@ -40,22 +40,22 @@ pub struct Tree {
 }
 
 impl Model for Tree {
-    ghost use Rattle.tree.specs.Trees.{IsPlanted, Planted};
+    ghost use Rattle.tree.specs.Trees.{IsPlanted, Planted, planted_of};
 
     ghost Value = { Planted };
 
-    ghost view = { λ t. record { table = t.table; nodes = t.nodes.items; scalar = t.scalar } };
+    ghost view = { λ t. planted_of t.table t.nodes.items t.scalar t.column };
 
-    ghost invariant = { λ t. IsPlanted (record { table = t.table; nodes = t.nodes.items; scalar = t.scalar }) t.column };
+    ghost invariant = { λ t. IsPlanted t.table.numbers t.nodes.items t.column };
 }
 
 impl Tree {
-    /// An empty document of a replica with this table, whose numbers it shares.
+    /// An empty document, with these replicas.
     ///
     /// # Errors
     /// `AllocError` if allocation fails.
     pub fn new(alloc: Global, table: &ReplicaTable) -> Result<Tree, AllocError>
-        ensures table { IfOk result (λ t. t.table ≡ table.now) }
+        ensures table { IfOk result (λ t. t.table ≡ table.now.numbers) }
         ensures empty { IfOk result (λ t. document t ≡ empty) }
     {
         let table = table.clone()?;
@@ -70,38 +70,44 @@ impl Tree {
         })
     }
 
-    /// Makes all that applying this operation needs: nodes, room, and clones of keys and of the scalar. The content stays, whatever
-    /// the answer.
+    /// Makes all that applying this operation needs: nodes, room, and clones of keys and of the scalar; and room for one more replica.
+    /// The content stays, whatever the answer.
     ///
     /// # Errors
     /// `AllocError` if allocation fails.
     pub fn reserve(&mut self, alloc: Global, op: &Op) -> Result<(), AllocError>
         ensures table { self.new.table ≡ self.old.table }
         ensures same { document self.new ≡ document self.old }
-        ensures reserved { OnOk result (IsReserved self.new (stamped_of op.now)) }
+        ensures reserved { OnOk result (IsReserved self.new.nodes self.new.scalar (stamped_of op.now)) }
+        ensures room { OnOk result (0 < self.new.room) }
     {
         let scalar = reserve_operation(&mut self.nodes, op, alloc)?;
         self.scalar = scalar;
-        Ok(())
+        self.table.reserve_one()?;
+        self.column.widen(self.table.len() + 1)
     }
 
     /// Applies an operation that was reserved. Allocates nothing. Beneath an assign's or a delete's element it visits each node at
     /// which something stands, and of the children of those the fields whose flags are raised, and the items from the first on that
     /// stood after the list was last cleared, or that was written to since. It writes at each element of the path, and then sets the
-    /// flags of the fields there, and whether the lists show the items there. The replicas that the operation names are all in the table.
+    /// flags of the fields there, and whether the lists show the items there. A replica that isn't in the table joins it; the replicas that the
+    /// operation names are in it.
     pub fn apply(&mut self, op: &Op)
-        requires reserved { IsReserved self.old (stamped_of op.now) }
+        requires reserved { IsReserved self.old.nodes self.old.scalar (stamped_of op.now) }
         requires placed { IsPlaced (document self.old) (stamped_of op.now) }
         requires formed { IsFormed (mutation_of op.now.mutation) op.now.place }
-        requires member { IsTrue (is_member self.old.table op.now.id.replica) }
+        requires fits { lacks_room self.old.table op.now.id.replica ≡ false }
+        requires room { 0 < self.old.room }
         requires known { IsTrue (names_only self.old.table op.now.deps) }
-        ensures table { self.new.table ≡ self.old.table }
+        ensures table { self.new.table ≡ joined op.now.id.replica self.old.table }
         ensures applied { document self.new ≡ apply (document self.old) (loose_operation (stamped_of op.now)) }
     {
+        let index = self.table.index_or_join(op.id.replica);
         let scalar = self.scalar.take();
         let stamp = Stamp {
             table: &self.table,
             id: op.id,
+            index,
             vector: &op.deps,
         };
         apply(&mut self.nodes, op, &stamp, &mut self.column, scalar);

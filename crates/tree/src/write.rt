@@ -25,12 +25,12 @@ fn mark_node(nodes: &mut [Node], at: NodeNumber, stamp: &Stamp, tag: Tag)
     requires room { 0 < presence_room (slice_get nodes.old at) }
     ensures links { SameLinks nodes.old nodes.new }
     ensures room { RoomElse at nodes.old nodes.new }
-    ensures indexed { AreIndexedNodes stamp.now.table.now nodes.old → AreIndexedNodes stamp.now.table.now nodes.new }
+    ensures indexed { AreIndexedNodes stamp.now.table.now.numbers nodes.old → AreIndexedNodes stamp.now.table.now.numbers nodes.new }
     ensures marked { (e : Element) → number nodes.old e ≡ Some at
         → context nodes.new ≡ mark (context nodes.old) e stamp.now.id (tag_of tag) }
 {
     let node = node_at_mut(nodes, at);
-    node.presence.put(stamp.id, stamp.index(), tag);
+    node.presence.put(stamp.id, stamp.index, tag);
 }
 
 /// Notes that a field was written to.
@@ -56,7 +56,7 @@ fn enter(nodes: &mut [Node], at: NodeNumber, hop: &Hop, stamp: &Stamp) -> NodeNu
     requires child { IsSome (child_number nodes.old at (hop_of hop.now)) }
     ensures links { SameLinks nodes.old nodes.new }
     ensures room { RoomElse at nodes.old nodes.new }
-    ensures indexed { AreIndexedNodes stamp.now.table.now nodes.old → AreIndexedNodes stamp.now.table.now nodes.new }
+    ensures indexed { AreIndexedNodes stamp.now.table.now.numbers nodes.old → AreIndexedNodes stamp.now.table.now.numbers nodes.new }
     ensures child { child_number nodes.old at (hop_of hop.now) ≡ Some result }
     ensures entered { (e : Element) → number nodes.old e ≡ Some at
         → context nodes.new ≡ entered_by (context nodes.old) e (hop_of hop.now) stamp.now.id }
@@ -81,7 +81,7 @@ pub fn write_path(nodes: &mut [Node], path: &[Hop], stamp: &Stamp, tag: Tag) -> 
     ensures register_room { (i : ℕ) → register_room (slice_get nodes.old i) ≤ register_room (slice_get nodes.new i) }
     ensures deeper { (e : Element) → length path.now < depth e → 0 < presence_room (node_at nodes.old e)
         → 0 < presence_room (node_at nodes.new e) }
-    ensures indexed { AreIndexedNodes stamp.now.table.now nodes.old → AreIndexedNodes stamp.now.table.now nodes.new }
+    ensures indexed { AreIndexedNodes stamp.now.table.now.numbers nodes.old → AreIndexedNodes stamp.now.table.now.numbers nodes.new }
     ensures inside { result < length nodes.new }
     ensures at { number nodes.old (end_of (map hop_of path.now)) ≡ Some result }
     ensures written { context nodes.new
@@ -103,24 +103,24 @@ fn put_register(nodes: &mut [Node], at: NodeNumber, stamp: &Stamp, scalar: Scala
     requires inside { at < length nodes.old }
     requires room { 0 < register_room (slice_get nodes.old at) }
     ensures links { SameLinks nodes.old nodes.new }
-    ensures indexed { AreIndexedNodes stamp.now.table.now nodes.old → AreIndexedNodes stamp.now.table.now nodes.new }
+    ensures indexed { AreIndexedNodes stamp.now.table.now.numbers nodes.old → AreIndexedNodes stamp.now.table.now.numbers nodes.new }
     ensures written { (e : Element) → number nodes.old e ≡ Some at
         → context nodes.new ≡ registered (context nodes.old) e stamp.now.id (Some (scalar_of scalar)) }
 {
     let node = node_at_mut(nodes, at);
-    node.register.put(stamp.id, stamp.index(), scalar);
+    node.register.put(stamp.id, stamp.index, scalar);
 }
 
 /// Puts a scalar, if there is one, into a node's register.
 fn put_scalar(nodes: &mut [Node], at: NodeNumber, stamp: &Stamp, scalar: Option<Scalar>)
     requires tree { IsTree nodes.old }
     requires stamp { IsStamp stamp.now }
-    requires indexed { AreIndexedNodes stamp.now.table.now nodes.old }
+    requires indexed { AreIndexedNodes stamp.now.table.now.numbers nodes.old }
     requires inside { at < length nodes.old }
     requires room { IsSome scalar → 0 < register_room (slice_get nodes.old at) }
     ensures tree { IsTree nodes.new }
     ensures links { SameLinks nodes.old nodes.new }
-    ensures indexed { AreIndexedNodes stamp.now.table.now nodes.new }
+    ensures indexed { AreIndexedNodes stamp.now.table.now.numbers nodes.new }
     ensures written { (e : Element) → number nodes.old e ≡ Some at
         → context nodes.new ≡ registered (context nodes.old) e stamp.now.id (option_map scalar_of scalar) }
 {
@@ -133,13 +133,13 @@ fn put_scalar(nodes: &mut [Node], at: NodeNumber, stamp: &Stamp, scalar: Option<
 pub fn settle(nodes: &mut [Node], at: NodeNumber, stamp: &Stamp, tag: Tag, scalar: Option<Scalar>)
     requires tree { IsTree nodes.old }
     requires stamp { IsStamp stamp.now }
-    requires indexed { AreIndexedNodes stamp.now.table.now nodes.old }
+    requires indexed { AreIndexedNodes stamp.now.table.now.numbers nodes.old }
     requires inside { at < length nodes.old }
     requires room { 0 < presence_room (slice_get nodes.old at) }
     requires register { IsSome scalar → 0 < register_room (slice_get nodes.old at) }
     ensures tree { IsTree nodes.new }
     ensures links { SameLinks nodes.old nodes.new }
-    ensures indexed { AreIndexedNodes stamp.now.table.now nodes.new }
+    ensures indexed { AreIndexedNodes stamp.now.table.now.numbers nodes.new }
     ensures settled { (e : Element) → number nodes.old e ≡ Some at
         → context nodes.new
         ≡ registered (mark (context nodes.old) e stamp.now.id (tag_of tag)) e stamp.now.id (option_map scalar_of scalar) }
@@ -160,15 +160,15 @@ pub fn assign(
 )
     requires tree { IsTree nodes.old }
     requires stamp { IsStamp stamp.now }
-    requires width { length column.old ≡ length stamp.now.table.now }
-    requires indexed { AreIndexedNodes stamp.now.table.now nodes.old }
+    requires width { length stamp.now.table.now.numbers ≤ length column.old }
+    requires indexed { AreIndexedNodes stamp.now.table.now.numbers nodes.old }
     requires nested { IsNested (context nodes.old) }
     requires empty { AreEmpty nodes.old }
     requires room { HasRoom nodes.old (map hop_of path.now) }
     requires register { IsSome scalar → 0 < register_room (node_at nodes.old (end_of (map hop_of path.now))) }
     ensures width { length column.new ≡ length column.old }
     ensures tree { IsTree nodes.new }
-    ensures indexed { AreIndexedNodes stamp.now.table.now nodes.new }
+    ensures indexed { AreIndexedNodes stamp.now.table.now.numbers nodes.new }
     ensures shown { AreShown nodes.old → ShownBut nodes.new (is_under (end_of (map hop_of path.now))) }
     ensures assigned { context nodes.new
         ≡ assigned (context nodes.old) stamp.now.id (deps_of stamp.now) (end_of (map hop_of path.now)) (tag_of tag)

@@ -1,12 +1,14 @@
 -- Columns of the counters that a vector names of the replicas of a table.
-use Rattle.std.proofs.Common.{◌≡◌, ℕ, suc, ◌<◌, ◌||◌, ◌==◌, Bool, true, false, true≢false, cond, List, [], ◌∷◌, map, length}
-use Rattle.std.proofs.Common.{get_or}
+use Rattle.std.proofs.Common.{◌≡◌, ℕ, suc, ◌<◌, ◌≤◌, ◌||◌, ◌==◌, Bool, true, false, true≢false, cond, List, [], ◌∷◌, map, length}
+use Rattle.std.proofs.Common.{get_or, take}
 use Rattle.std.proofs.Common.{max, refl, sym, ap, ◌∙◌, arith}
 use Rattle.std.proofs.lemmas.Bool.{and_parts, eqb-true}
+use Rattle.std.proofs.lemmas.List.{get_or-take, length-take}
 use Rattle.ids.specs.Members.{is_member, AreDistinct}
 use Rattle.ids.specs.Vectors.{names_only}
 use Rattle.ids.proofs.CanonicalVectors.{same_vectors}
-use Rattle.semantics.specs.Vectors.{Vector, at, IsCanonical}
+use Rattle.semantics.specs.Ids.{id_at}
+use Rattle.semantics.specs.Vectors.{Vector, at, raise, IsCanonical}
 use Rattle.semantics.specs.Tables.{by_table, component}
 use Rattle.semantics.proofs.TableVectors.{at-by_table, canonical-by_table}
 
@@ -51,3 +53,17 @@ named_column ps v distinct canonical all =
     at_test : (p : ℕ) (b : Bool) → is_member ps p ≡ b → cond b (at v p) 0 ≡ at v p
     at_test p true e = refl
     at_test p false e = sym (at-others ps v p all e)
+
+-- the same of a column that may be wider than the table
+pub wide_column : (ps cs : List ℕ) (v : Vector) → AreDistinct ps → IsCanonical v → names_only ps v ≡ true → length ps ≤ length cs
+    → ((i : ℕ) → i < length ps → get_or cs i 0 ≡ at v (get_or ps i 0)) → by_table ps cs ≡ v
+wide_column ps cs v distinct canonical all wide named =
+    within ps cs wide
+    ∙ ap (by_table ps) (by_indices (at v) ps (take (length ps) cs) (let l = length-take (length ps) cs in omega (arith, l, wide))
+    (λ i lt. get_or-take (length ps) cs i 0 lt ∙ named i lt))
+    ∙ named_column ps v distinct canonical all
+  where
+    within : (qs ds : List ℕ) → length qs ≤ length ds → by_table qs ds ≡ by_table qs (take (length qs) ds)
+    within [] ds w = refl
+    within (q ∷ qs) [] w = absurd (omega arith)
+    within (q ∷ qs) (d ∷ ds) w = ap (λ u. cond (d == 0) u (raise (id_at d q) u)) (within qs ds (omega arith))

@@ -1,18 +1,22 @@
 -- How pending entries are published, the oldest first.
-use Rattle.std.proofs.Common.{◌≡◌, ℕ, List, [], ◌∷◌, ◌++◌, map, length, sym, ap, ◌∙◌, subst, append_assoc, arith}
+use Rattle.std.proofs.Common.{◌≡◌, false, ℕ, List, [], ◌∷◌, ◌++◌, map, length, sym, ap, ◌∙◌, subst, append_assoc, arith}
 use Rattle.std.specs.Prelude.{IsTrue}
 use Rattle.std.specs.List.{All}
 use Rattle.std.proofs.lemmas.List.{reverse-append}
-use Rattle.std.proofs.lemmas.List.Elements.{All-push, All-tail}
+use Rattle.std.proofs.lemmas.List.Elements.{All-head, All-push, All-tail}
 use Rattle.ids.specs.Members.{is_member}
-use Rattle.semantics.specs.Entries.{Entry as TheEntry, IsEntryHistory, first_entries, stamped_entries}
-use Rattle.semantics.specs.Stamped.{IsLegalStamped}
+use Rattle.ids.specs.Tables.{lacks_room}
+use Rattle.semantics.specs.Joining.{table_after}
+use Rattle.semantics.specs.Entries.{Entry as TheEntry, IsEntryHistory, first_entries, stamped_entries, stamped_in}
+use Rattle.semantics.specs.Stamped.{IsLegalStamped, Stamped}
 use Rattle.semantics.specs.Publication.{Publication}
 use Rattle.semantics.specs.WorldHistory.{BeginsWith}
 use Rattle.semantics.proofs.Beginnings.{first_of_longer}
 use Rattle.semantics.proofs.OwnReplies.{all_first}
 use Rattle.semantics.proofs.EntryHistories.{entries_legal}
 use Rattle.semantics.proofs.GrownEngines.{begins_trans}
+use Rattle.semantics.proofs.JoinedReplicas.{room_after}
+use Rattle.replica.proofs.operation.StandingAlone.{stamped_same}
 use Rattle.replica.specs.operation.declared.command.Entry.{Entry}
 use Rattle.replica.specs.operation.Ops.{entry_of, op_in}
 use Rattle.replica.specs.oplog.Logs.{history}
@@ -38,42 +42,49 @@ module _ (d : Contents) (e : Entry) (left : List Entry) (h : CanPublish d (e ∷
   pub oldest_follows : MayFollowEntries d.entries (entry_of e)
   oldest_follows = (legal_begun (history left) (entry_of e ∷ d.entries) longer_legal).1
 
+  -- there is room for its replica
+  pub oldest_fits : lacks_room (table_after d.members d.entries) (stamped_in (entry_of e)).id.replica ≡ false
+  oldest_fits =
+      room_after d.members (stamped_in (entry_of e)).id.replica
+      (ap (λ (s : Stamped). is_member d.members s.id.replica) (stamped_same e)
+      ∙ All-head (λ (f : Entry). IsTrue (is_member d.members (op_in f).id.replica)) e left h.members) d.entries
+
   -- it is published
-  pub one_published : (k : Contents) → k.table ≡ d.table → k.entries ≡ entry_of e ∷ d.entries → PublishesMore d (e ∷ left) k left
+  pub one_published : (k : Contents) → k.members ≡ d.members → k.entries ≡ entry_of e ∷ d.entries → PublishesMore d (e ∷ left) k left
   one_published k table entries =
       let appended : appended_of k left
       ≡ history left ++ entry_of e ∷ d.entries = λ i. history left ++ entries i in
       record {
-        table = table;
+        members = table;
         appended = appended ∙ sym (oldest_next e left d.entries);
         more = (entry_of e ∷ [], entries);
         publisher = record {
           legal = subst (λ (G : List TheEntry). IsLegalStamped (stamped_entries G)) (sym appended) longer_legal;
           members = subst (λ (ps : List ℕ). All (λ (f : Entry). IsTrue (is_member ps (op_in f).id.replica)) left) (sym table)
-              (All-tail (λ (f : Entry). IsTrue (is_member d.table (op_in f).id.replica)) e left h.members);
+              (All-tail (λ (f : Entry). IsTrue (is_member d.members (op_in f).id.replica)) e left h.members);
         };
       }
 
 -- nothing is published
-pub none_published : (d k : Contents) (pending left : List Entry) → CanPublish d pending → k.table ≡ d.table → k.entries ≡ d.entries
+pub none_published : (d k : Contents) (pending left : List Entry) → CanPublish d pending → k.members ≡ d.members → k.entries ≡ d.entries
     → left ≡ pending → PublishesMore d pending k left
 none_published d k pending left h table entries same =
     let appended : appended_of k left ≡ appended_of d pending = λ i. history (same i) ++ entries i in
     record {
-      table = table;
+      members = table;
       appended = appended;
       more = ([], entries);
       publisher = record {
         legal = subst (λ (G : List TheEntry). IsLegalStamped (stamped_entries G)) (sym appended) h.legal;
         members = subst (λ (ps : List ℕ). All (λ (f : Entry). IsTrue (is_member ps (op_in f).id.replica)) left) (sym table)
-            (subst (All (λ (f : Entry). IsTrue (is_member d.table (op_in f).id.replica))) (sym same) h.members);
+            (subst (All (λ (f : Entry). IsTrue (is_member d.members (op_in f).id.replica))) (sym same) h.members);
       };
     }
 
 pub published_on : (d k m : Contents) (pending left last : List Entry) → PublishesMore d pending k left → PublishesMore k left m last
     → PublishesMore d pending m last
 published_on d k m pending left last f g = record {
-  table = g.table ∙ f.table;
+  members = g.members ∙ f.members;
   appended = g.appended ∙ f.appended;
   more = begins_trans m.entries k.entries d.entries g.more f.more;
   publisher = g.publisher;
@@ -81,7 +92,7 @@ published_on d k m pending left last f g = record {
 
 -- one more entry is appended
 pub one_appended : (own : ℕ) (d : Contents) (pending : List Entry) (e : Entry) → CanPublish d pending
-    → IsEntryHistory own (entry_of e ∷ appended_of d pending) → IsTrue (is_member d.table (op_in e).id.replica)
+    → IsEntryHistory own (entry_of e ∷ appended_of d pending) → IsTrue (is_member d.members (op_in e).id.replica)
     → (appended_of d (pending ++ e ∷ []) ≡ entry_of e ∷ appended_of d pending) × CanPublish d (pending ++ e ∷ [])
 one_appended own d pending e h lawful member =
     let appended : appended_of d (pending ++ e ∷ [])
@@ -90,12 +101,12 @@ one_appended own d pending e h lawful member =
       record {
         legal = subst (λ (G : List TheEntry). IsLegalStamped (stamped_entries G)) (sym appended)
             (entries_legal own (entry_of e ∷ appended_of d pending) lawful);
-        members = All-push (λ (f : Entry). IsTrue (is_member d.table (op_in f).id.replica)) pending e h.members member;
+        members = All-push (λ (f : Entry). IsTrue (is_member d.members (op_in f).id.replica)) pending e h.members member;
       },
     )
 
 pub added : (own : ℕ) (d : Contents) (pending : List Entry) (e : Entry) → CanPublish d pending → (z : Publication)
-    → record { own = own; members = d.table; published = d.entries; appended = appended_of d pending } ≡ z
+    → record { own = own; members = d.members; published = d.entries; appended = appended_of d pending } ≡ z
     → IsEntryHistory z.own (entry_of e ∷ z.appended) → IsTrue (is_member z.members (op_in e).id.replica)
     → (all : List Entry) → all ≡ pending ++ e ∷ [] → CanPublish d all
 added own d pending e h z is lawful member all more =

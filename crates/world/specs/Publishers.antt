@@ -17,11 +17,11 @@ appended_of published pending = history pending ++ published.entries
 -- each pending entry may be published in its turn: what was appended is a legal history, and the operations are of members
 pub record CanPublish (published : Contents) (pending : List Entry) : Type 0 where
   pub legal : IsLegalStamped (stamped_entries (appended_of published pending))
-  pub members : All (λ e. IsTrue (is_member published.table (op_in e).id.replica)) pending
+  pub members : All (λ e. IsTrue (is_member published.members (op_in e).id.replica)) pending
 
 -- some pending entries were published, so that these are left
 pub record PublishesMore (published : Contents) (pending : List Entry) (after : Contents) (left : List Entry) : Type 0 where
-  pub table : after.table ≡ published.table
+  pub members : after.members ≡ published.members
   pub appended : appended_of after left ≡ appended_of published pending
   pub more : BeginsWith after.entries published.entries
   pub publisher : CanPublish after left

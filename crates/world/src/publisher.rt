@@ -31,7 +31,7 @@ impl Model for Publisher {
 
     ghost view = { λ p. record {
       own = p.own;
-      members = p.published.table;
+      members = p.published.members;
       published = p.published.entries;
       appended = appended_of p.published p.pending.items;
     } };
@@ -43,7 +43,7 @@ impl Publisher {
     /// A publisher of the replica with this number, whose history is empty.
     pub fn new(alloc: Global, own: u32, empty: Document) -> Publisher
         requires { empty.entries ≡ [] }
-        ensures { result ≡ record { own = own; members = empty.table; published = []; appended = [] } }
+        ensures { result ≡ record { own = own; members = empty.members; published = []; appended = [] } }
     {
         Publisher {
             own,
@@ -54,7 +54,7 @@ impl Publisher {
 
     /// The document of what is published.
     pub fn published(&self) -> &Document
-        ensures table { result.now.table ≡ self.now.members }
+        ensures members { result.now.members ≡ self.now.members }
         ensures entries { result.now.entries ≡ self.now.published }
         ensures begins { BeginsWith self.now.appended self.now.published }
     {

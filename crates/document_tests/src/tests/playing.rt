@@ -3,9 +3,10 @@
 //! A call whose allocation is refused leaves the document as it was, and is made once more. So such a test passes whichever single
 //! allocation is refused; with none refused, nothing is called again.
 
-ghost use Rattle.std.specs.Prelude.{◌≡◌, None, IsTrue, OnOk};
-ghost use Rattle.ids.specs.Members.{is_member};
+ghost use Rattle.std.specs.Prelude.{◌≡◌, false, None, IsTrue, OnOk};
+ghost use Rattle.ids.specs.Tables.{lacks_room};
 ghost use Rattle.semantics.specs.Entries.{applied};
+ghost use Rattle.semantics.specs.Joining.{table_after};
 ghost use Rattle.semantics.specs.Stamped.{MayFollow};
 ghost use Rattle.operation.specs.Alone.{alone_fault_of_op};
 ghost use Rattle.operation.specs.Ops.{stamped_of};
@@ -14,7 +15,7 @@ ghost use Rattle.document.specs.Documents.{HasRoomFor};
 use cursor::{Expr, Place, Tag};
 use document::{Document, Question, Reading};
 use fixtures::{Pair, counted, id_of, pair_of};
-use ids::{OpId, Refusal};
+use ids::{MOST_NAMED, OpId, Refusal};
 use operation::{Entry, Mutation, Op, Shared, check_alone};
 use std::alloc::{AllocError, Global};
 use std::process::Abort;
@@ -143,18 +144,26 @@ fn op(alloc: Global, sent: Sent) -> Result<Shared<Op>, Refusal> {
 
 /// Whether the operation has no fault alone.
 fn stands_alone(document: &Document, op: &Op) -> bool
-    ensures alone { IsTrue result → alone_fault_of_op document.now.table op.now ≡ None }
-    ensures member { IsTrue result → IsTrue (is_member document.now.table op.now.id.replica) }
+    ensures alone { IsTrue result → alone_fault_of_op document.now.members op.now ≡ None }
 {
-    check_alone(op, document.table()).is_ok()
+    check_alone(op, document.members()).is_ok()
 }
 
-/// The fault of an operation that is ready and has none alone.
+/// Whether there is room in the table for the operation's replica.
+fn has_room(document: &Document, op: &Op) -> bool
+    ensures { IsTrue result → lacks_room (table_after document.now.members document.now.entries) op.now.id.replica ≡ false }
+{
+    let table = document.table();
+    table.index_of(op.id.replica).is_some() || table.len() < MOST_NAMED
+}
+
+/// The fault of an operation that is ready, has none alone, and has room.
 fn check(rt: &impl Abort, document: &Document, op: &Op) -> Result<(), Refusal>
     ensures lawful { OnOk result (MayFollow (applied document.now.entries) (stamped_of op.now)) }
-    ensures member { IsTrue (is_member document.now.table op.now.id.replica) }
+    ensures fits { lacks_room (table_after document.now.members document.now.entries) op.now.id.replica ≡ false }
 {
     assert!(rt; stands_alone(document, op));
+    assert!(rt; has_room(document, op));
     assert!(rt; document.ready(op));
     document.check(op)
 }
@@ -166,7 +175,7 @@ fn reserve(
     document: &mut Document,
     op: &Op,
 ) -> Result<(), AllocError>
-    ensures table { document.new.table ≡ document.old.table }
+    ensures members { document.new.members ≡ document.old.members }
     ensures entries { document.new.entries ≡ document.old.entries }
     ensures room { OnOk result (HasRoomFor document.new (stamped_of op.now)) }
 {

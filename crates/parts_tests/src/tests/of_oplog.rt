@@ -1,13 +1,13 @@
 //! The tests of `oplog`: the entries of a log, and the positions of what a vector lacks.
 
 ghost use Rattle.std.specs.Prelude.{◌≡◌, false, IsTrue};
-ghost use Rattle.ids.specs.Members.{is_member};
+ghost use Rattle.ids.specs.Tables.{lacks_room};
 ghost use Rattle.semantics.specs.LegalHistory.{has_id};
 ghost use Rattle.semantics.specs.Entries.{applied};
 
 use cursor::{Expr, Place};
 use fixtures::{Pair, counted, id_of, pair_of};
-use ids::{OpId, Refusal, ReplicaTable};
+use ids::{MOST_NAMED, OpId, Refusal, ReplicaId, ReplicaTable};
 use operation::{Command, Entry, Mutation, Op, Shared};
 use oplog::Log;
 use std::alloc::Global;
@@ -56,17 +56,19 @@ fn has(log: &Log, id: OpId) -> bool
     log.find(id).is_some()
 }
 
-/// Whether the operation is a member's and wasn't applied.
+/// Whether there is room in the table for the operation's replica, and the operation wasn't applied.
 fn fits(log: &Log, op: &Op) -> bool
-    ensures member { IsTrue result → IsTrue (is_member log.now.table op.now.id.replica) }
+    ensures fits { IsTrue result → lacks_room log.now.table op.now.id.replica ≡ false }
     ensures new { IsTrue result → has_id (applied log.now.entries) op.now.id ≡ false }
 {
-    log.table().index_of(op.id.replica).is_some() && !has(log, op.id)
+    let table = log.table();
+    let there = table.index_of(op.id.replica).is_some();
+    (there || table.len() < MOST_NAMED) && !has(log, op.id)
 }
 
 /// Appends an entry whose operation fits.
-fn append(log: &mut Log, entry: Entry) -> Result<(), Fail> {
-    log.reserve_one()?;
+fn append(alloc: Global, log: &mut Log, entry: Entry) -> Result<(), Fail> {
+    log.reserve_one(alloc)?;
     if !fits(log, entry.op()) {
         return Err("an operation that doesn't fit".into());
     }
@@ -83,9 +85,9 @@ fn missing(alloc: Global, log: &Log, counters: &[u64; 3]) -> Result<Vec<usize>, 
 /// Replica 1 assigned, both saw it, and then each assigned: 1@1, 2@1 and 2@2, with the table 1, 2, 3.
 fn log(alloc: Global) -> Result<Log, Fail> {
     let mut log = new_log(alloc)?;
-    append(&mut log, own(alloc, 1, (1, 1), &[0, 0, 0])?)?;
-    append(&mut log, own(alloc, 2, (2, 1), &[1, 0, 0])?)?;
-    append(&mut log, peer(alloc, (2, 2), &[1, 0, 0])?)?;
+    append(alloc, &mut log, own(alloc, 1, (1, 1), &[0, 0, 0])?)?;
+    append(alloc, &mut log, own(alloc, 2, (2, 1), &[1, 0, 0])?)?;
+    append(alloc, &mut log, peer(alloc, (2, 2), &[1, 0, 0])?)?;
     Ok(log)
 }
 
@@ -129,6 +131,25 @@ fn entries_stand_in_order(rt: HostRuntime) -> Result<(), Fail> {
     Ok(())
 }
 
+#[test]
+fn others_join_behind_the_members(rt: HostRuntime) -> Result<(), Fail> {
+    let alloc = rt.alloc();
+    let mut log = log(alloc)?;
+    append(alloc, &mut log, peer(alloc, (1, 9), &[0, 0, 0])?)?;
+    append(alloc, &mut log, peer(alloc, (1, 5), &[2, 0, 0])?)?;
+    append(alloc, &mut log, peer(alloc, (3, 3), &[2, 2, 0])?)?;
+    assert_ids(&rt, &log, &[(1, 1), (2, 1), (2, 2), (1, 9), (1, 5), (3, 3)])?;
+    assert_absent(&rt, &log, &[(2, 9), (1, 4), (1, 10)])?;
+    assert_eq!(rt; log.table().len(), 5);
+    assert_eq!(rt; log.table().at(3), ReplicaId::new(9));
+    assert_eq!(rt; log.table().at(4), ReplicaId::new(5));
+    assert_eq!(rt;
+        missing(alloc, &log, &[2, 2, 0])?.as_slice(),
+        [3, 4, 5].as_slice()
+    );
+    Ok(())
+}
+
 /// The client and the serial of an own entry, `None` for a peer's.
 fn client_of(entry: &Entry) -> Option<(usize, u64)> {
     match entry {
@@ -167,7 +188,7 @@ const INTERLEAVED: &[Pair] = &[
 fn interleaved(alloc: Global) -> Result<Log, Fail> {
     let mut log = new_log(alloc)?;
     for pair in INTERLEAVED {
-        append(&mut log, peer(alloc, *pair, &[0, 0, 0])?)?;
+        append(alloc, &mut log, peer(alloc, *pair, &[0, 0, 0])?)?;
     }
     Ok(log)
 }
@@ -253,7 +274,11 @@ fn what_a_vector_lacks_of_each(rt: HostRuntime) -> Result<(), Fail> {
 fn log_of(alloc: Global, count: u64) -> Result<Log, Fail> {
     let mut log = new_log(alloc)?;
     for known in 0..count {
-        append(&mut log, peer(alloc, (known + 1, 2), &[0, known, 0])?)?;
+        append(
+            alloc,
+            &mut log,
+            peer(alloc, (known + 1, 2), &[0, known, 0])?,
+        )?;
     }
     Ok(log)
 }

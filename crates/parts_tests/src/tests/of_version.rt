@@ -4,10 +4,11 @@ ghost use Rattle.std.specs.Prelude.{◌≡◌, ◌<◌, length, IfOk};
 ghost use Rattle.std.specs.List.{All};
 
 use fixtures::{Pair, id_of, pair_of, vector};
+use ids::GrowingVector;
 use std::alloc::Global;
 use std::process::Abort;
 use std::test::Fail;
-use version::{AppliedVector, IdColumns, VersionVector};
+use version::{IdColumns, VersionVector};
 
 /// The greatest counter, and the one after it.
 fn greatest(vector: &VersionVector) -> (u64, Option<u64>) {
@@ -301,8 +302,8 @@ fn columns_of_many_words(rt: HostRuntime) -> Result<(), Fail> {
 }
 
 /// A vector that is raised to these ids, one after another.
-fn raised_to(alloc: Global, pairs: &[Pair]) -> Result<AppliedVector, Fail> {
-    let mut vector = AppliedVector::new(alloc);
+fn raised_to(alloc: Global, pairs: &[Pair]) -> Result<GrowingVector, Fail> {
+    let mut vector = GrowingVector::new(alloc);
     for pair in pairs {
         let id = id_of(*pair)?;
         vector.reserve_one()?;

@@ -86,7 +86,7 @@ impl Engine {
 
     /// The document of what is published.
     pub(super) fn shown(&self) -> &Document
-        ensures table { result.now.table ≡ self.now.replica.members }
+        ensures members { result.now.members ≡ self.now.replica.members }
         ensures entries { result.now.entries ≡ published_entries self.now }
         ensures length { length result.now.entries ≡ self.now.published }
     {

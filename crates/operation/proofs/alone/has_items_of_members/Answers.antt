@@ -11,7 +11,7 @@ use Rattle.operation.proofs.alone.has_items_of_members.Goals as goal
 
 pub returns : goal.returns
 returns c =
-    let ps = c.args.table.now in
+    let ps = c.args.table.now.numbers in
     let all : c.all.result ≡ list_all (λ h. key_of_member ps (hop_of h)) c.hops.result.now =
     all_from_yields_List (λ h. key_of_member ps (hop_of h)) _ _ c.all.result c.all.ensures.ran (YieldsList-from_slice c.hops.result.now cc)
     (λ x b q k. search (rules, tests)) in

@@ -12,15 +12,15 @@ loop-index-init c = search rules
 
 pub unreachable-requires : goal.unreachable-requires
 unreachable-requires c =
-    let inside : c.loop-index.index < length c.args.table.now = omega (arith, c.requires) in
-    none-some (get_or c.args.table.now c.loop-index.index 0)
-    (sym c.in_default.is ∙ c.at.ensures ∙ slice_get-get_or c.args.table.now c.loop-index.index 0 inside)
+    let inside : c.loop-index.index < length c.args.table.now.numbers = omega (arith, c.requires) in
+    none-some (get_or c.args.table.now.numbers c.loop-index.index 0)
+    (sym c.in_default.is ∙ c.at.ensures ∙ slice_get-get_or c.args.table.now.numbers c.loop-index.index 0 inside)
 
 pub loop-index-preserved : goal.loop-index-preserved
 loop-index-preserved c =
     let i = c.loop-index.index in
     let v = c.args.vector.now in
-    let table = c.args.table.now in
+    let table = c.args.table.now.numbers in
     let cs = map (at v) table in
     let wide : length cs ≡ length c.args.positions.now = length-map table (at v) ∙ sym c.requires in
     let inside : i < length table = omega (arith, c.requires) in
@@ -47,6 +47,6 @@ returns c =
     sym (append-nil c.loop-index.above.items)
     ∙ ap
     (λ l. c.loop-index.above.items
-    ++ numbers_above (drop c.loop-index.index (map (at c.args.vector.now) c.args.table.now)) (numbers_of l))
+    ++ numbers_above (drop c.loop-index.index (map (at c.args.vector.now) c.args.table.now.numbers)) (numbers_of l))
     (sym (ap (λ i. drop i ns) last ∙ drop-length ns))
     ∙ c.loop-index.invariant

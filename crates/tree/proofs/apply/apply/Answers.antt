@@ -17,7 +17,7 @@ returns-clause-nested c =
     (nested_apply (context c.args.nodes.now) (loose_operation (stamped_of c.args.op.now)) c.requires.nested)
 
 pub returns-clause-indexed : goal.returns-clause-indexed
-returns-clause-indexed c = c.show.ensures.same.indexed c.args.stamp.now.table.now c.run.ensures.indexed
+returns-clause-indexed c = c.show.ensures.same.indexed c.args.stamp.now.table.now.numbers c.run.ensures.indexed
 
 pub returns-clause-shown : goal.returns-clause-shown
 returns-clause-shown c = (c.show.ensures.shown (c.run.ensures.shown c.requires.shown)).0

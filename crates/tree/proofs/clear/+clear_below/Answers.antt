@@ -115,7 +115,7 @@ fields-preserved t c =
     record {
       shape = whole;
       room = room_trans old mid new (room_trans old now mid inv.room one.room) two.room;
-      indexed = two.same.indexed c.args.covered.now.table.now one.indexed;
+      indexed = two.same.indexed c.args.covered.now.table.now.numbers one.indexed;
       nested = nested;
       empty = empty;
       rest = λ e p.
@@ -216,7 +216,7 @@ items-preserved t c =
     record {
       shape = whole;
       room = room_trans old mid new (room_trans old now mid inv.room one.room) two.room;
-      indexed = two.same.indexed c.args.covered.now.table.now one.indexed;
+      indexed = two.same.indexed c.args.covered.now.table.now.numbers one.indexed;
       nested = subst IsNested (sym (one.cleared x (child e p)) ∙ same) (nested_clear (context now) x S inv.nested);
       empty = two.empty e (sym (children_number old mid shape e) ∙ p) one.empty;
       rest = λ e p. ap (λ C. clear_each C (items_of e (drop (k + 1) xs)) S)
@@ -266,7 +266,7 @@ clear_node-requires-clause-tree t c = flags_tree c.items.nodes c.set_empty_below
     (children_tree c.args.nodes.now c.items.nodes c.items.invariant.shape c.requires.tree)
 
 pub clear_node-requires-clause-indexed : goal.clear_node-requires-clause-indexed
-clear_node-requires-clause-indexed t c = c.set_empty_below.ensures.same.indexed c.args.covered.now.table.now c.items.invariant.indexed
+clear_node-requires-clause-indexed t c = c.set_empty_below.ensures.same.indexed c.args.covered.now.table.now.numbers c.items.invariant.indexed
 
 pub returns-clause-children : goal.returns-clause-children
 returns-clause-children t c =

@@ -20,7 +20,7 @@ abbrev pub invariant-fields : goal.invariant-fields
 invariant-fields l = record {
   shape : SameChildren l.fn.nodes l.nodes;
   room : MoreRoom l.fn.nodes l.nodes;
-  indexed : AreIndexedNodes l.covered.table.now l.nodes;
+  indexed : AreIndexedNodes l.covered.table.now.numbers l.nodes;
   nested : IsNested (context l.nodes);
   empty : AreEmpty l.nodes;
   rest : (e : Element) → number l.fn.nodes e ≡ Some l.at →
@@ -33,7 +33,7 @@ abbrev pub invariant-items : goal.invariant-items
 invariant-items l = record {
   shape : SameChildren l.fn.nodes l.nodes;
   room : MoreRoom l.fn.nodes l.nodes;
-  indexed : AreIndexedNodes l.covered.table.now l.nodes;
+  indexed : AreIndexedNodes l.covered.table.now.numbers l.nodes;
   nested : IsNested (context l.nodes);
   empty : AreEmpty l.nodes;
   rest : (e : Element) → number l.fn.nodes e ≡ Some l.at →

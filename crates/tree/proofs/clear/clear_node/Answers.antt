@@ -14,15 +14,15 @@ use Rattle.tree.proofs.clear.clear_node.Goals as goal
 pub clear-requires : goal.clear-requires
 clear-requires c = λ k d h.
     let n : Node = c.node_at_mut-node.result.now in
-    let stands = indexed_at c.args.covered.now.table.now c.args.nodes.now c.args.at n c.node_at_mut-node.ensures.node c.requires.indexed in
-    let within = indices_within c.args.covered.now.table.now n.presence.entries n.presence.indices stands.0 k d h in
+    let stands = indexed_at c.args.covered.now.table.now.numbers c.args.nodes.now c.args.at n c.node_at_mut-node.ensures.node c.requires.indexed in
+    let within = indices_within c.args.covered.now.table.now.numbers n.presence.entries n.presence.indices stands.0 k d h in
     let width = c.requires.covered.width in omega arith
 
 pub clear-requires-2 : goal.clear-requires-2
 clear-requires-2 c = λ k d h.
     let n : Node = c.node_at_mut-node.result.now in
-    let stands = indexed_at c.args.covered.now.table.now c.args.nodes.now c.args.at n c.node_at_mut-node.ensures.node c.requires.indexed in
-    let within = indices_within c.args.covered.now.table.now n.register.entries n.register.indices stands.1 k d h in
+    let stands = indexed_at c.args.covered.now.table.now.numbers c.args.nodes.now c.args.at n c.node_at_mut-node.ensures.node c.requires.indexed in
+    let within = indices_within c.args.covered.now.table.now.numbers n.register.entries n.register.indices stands.1 k d h in
     let width = c.requires.covered.width in omega arith
 
 pub returns-clause-links : goal.returns-clause-links
@@ -42,7 +42,7 @@ returns-clause-room c =
 pub returns-clause-indexed : goal.returns-clause-indexed
 returns-clause-indexed c =
     let ns = c.args.nodes.now in
-    let table = c.args.covered.now.table.now in
+    let table = c.args.covered.now.table.now.numbers in
     let n : Node = c.node_at_mut-node.result.now in
     let m : Node = record n { presence = c.clear.new.self; register = c.clear-2.new.self } in
     let g = c.node_at_mut-node.ensures.node in
@@ -57,12 +57,12 @@ returns-clause-cleared c = λ e at.
     let n : Node = c.node_at_mut-node.result.now in
     let m : Node = record n { presence = c.clear.new.self; register = c.clear-2.new.self } in
     let g = c.node_at_mut-node.ensures.node in
-    let stands = indexed_at s.table.now ns c.args.at n g c.requires.indexed in
-    let width = sym c.requires.covered.width in
+    let stands = indexed_at s.table.now.numbers ns c.args.at n g c.requires.indexed in
+    let width = c.requires.covered.width in
     context_set ns c.requires.tree e c.args.at n m at g refl refl
     ∙ cleared_with ns e c.args.at n m (covered_by s) at g
-    (ap tagged (c.clear.ensures.without s.table.now c.requires.covered.distinct width stands.0)
+    (ap tagged (c.clear.ensures.without s.table.now.numbers c.requires.covered.distinct width stands.0)
     ∙ without-mapped tag_of (covered_by s) n.presence.entries)
-    (ap valued (c.clear-2.ensures.without s.table.now c.requires.covered.distinct width stands.1)
+    (ap valued (c.clear-2.ensures.without s.table.now.numbers c.requires.covered.distinct width stands.1)
     ∙ without-mapped scalar_of (covered_by s) n.register.entries)
     refl

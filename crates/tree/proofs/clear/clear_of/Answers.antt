@@ -1,8 +1,8 @@
-use Rattle.std.proofs.Common.{◌≡◌, ℕ, List, map, sym, ap, ◌∙◌, subst}
+use Rattle.std.proofs.Common.{◌≡◌, ◌≤◌, get_or, length, sym, ap, ◌∙◌, subst}
 use Rattle.semantics.specs.Context.{clear}
 use Rattle.semantics.specs.Tables.{by_table}
 use Rattle.semantics.specs.Vectors.{IsCanonical, at, covers}
-use Rattle.operation.proofs.version.NamedColumns.{named_column}
+use Rattle.operation.proofs.version.NamedColumns.{wide_column}
 use Rattle.tree.specs.Nodes.{context, node_in, presence_of}
 use Rattle.tree.specs.Writes.{deps_of}
 use Rattle.tree.proofs.EmptyBelow.{none_any}
@@ -22,8 +22,8 @@ name-requires-clause-canonical c = subst IsCanonical (sym c.ids.ensures.ids) c.i
 pub returns-clause-cleared : goal.returns-clause-cleared
 returns-clause-cleared c = λ e p.
     let s = c.args.stamp.now in
-    let table : List ℕ = s.table.now in
-    let is : by_table table c.name.new.self ≡ s.vector.now = ap (by_table table)
-    (c.name.ensures ∙ ap (λ v. map (at v) table) c.ids.ensures.ids)
-    ∙ named_column table s.vector.now c.requires.stamp.distinct c.ids.ensures.named.canonical c.requires.stamp.known in
+    let table = s.table.now.numbers in
+    let is : by_table table c.name.new.self ≡ s.vector.now = wide_column table c.name.new.self s.vector.now
+    c.requires.stamp.distinct c.ids.ensures.named.canonical c.requires.stamp.known (subst (λ n. length table ≤ n) (sym c.name.ensures.width) c.requires.width)
+    (λ i lt. c.name.ensures.named i lt ∙ ap (λ v. at v (get_or table i 0)) c.ids.ensures.ids) in
     c.clear_below.ensures.cleared e p ∙ ap (λ v. clear (context c.args.nodes.now) e (covers v)) is

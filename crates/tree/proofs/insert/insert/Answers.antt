@@ -19,7 +19,7 @@ use Rattle.tree.proofs.Rooms.{depth_whole, more_room, path_room, room_along}
 use Rattle.tree.proofs.insert.insert.Goals as goal
 
 pub clear_of-requires-clause-indexed : goal.clear_of-requires-clause-indexed
-clear_of-requires-clause-indexed c = c.link_list-item.ensures.indexed c.args.stamp.now.table.now c.requires.indexed
+clear_of-requires-clause-indexed c = c.link_list-item.ensures.indexed c.args.stamp.now.table.now.numbers c.requires.indexed
 
 pub clear_of-requires-clause-inside : goal.clear_of-requires-clause-inside
 clear_of-requires-clause-inside c =

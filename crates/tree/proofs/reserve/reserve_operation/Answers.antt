@@ -10,7 +10,7 @@ pub returns-in-Assign-clause-reserved : goal.returns-in-Assign-clause-reserved
 returns-in-Assign-clause-reserved c =
     let op = c.args.op.now in
     if_ok_three c.reserve_assign.result _ _ _ _
-    (λ s room register scalar table. place_ready op table c.reserve_assign.new.nodes.items s (meaning_of c.in-Assign.value)
+    (λ s room register scalar. place_ready op c.reserve_assign.new.nodes.items s (meaning_of c.in-Assign.value)
     (map hop_of c.hops.result.now)
     (ap (λ m. value_of (mutation_of m)) c.in-Assign.is)
     (ap (λ m. slot_of (mutation_of m) op.place) c.in-Assign.is) c.hops.ensures room register scalar)

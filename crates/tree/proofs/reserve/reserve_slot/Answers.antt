@@ -14,6 +14,6 @@ returns-in-None-clause-reserved c =
     let slot : slot_of (mutation_of op.mutation) op.place ≡ None = ap (λ m. slot_of m op.place) c.requires.insert ∙ slot_of_any v op.place
     ∙ sym c.in-None.ensures in
     if_ok_three c.reserve_assign.result _ _ _ _
-    (λ s room register scalar table. place_ready op table c.reserve_assign.new.nodes.items s v (map hop_of c.hops.result.now)
+    (λ s room register scalar. place_ready op c.reserve_assign.new.nodes.items s v (map hop_of c.hops.result.now)
     (ap value_of c.requires.insert) slot c.hops.ensures room register scalar)
     c.reserve_assign.ensures.room c.reserve_assign.ensures.register c.reserve_assign.ensures.scalar

@@ -8,7 +8,7 @@ use Rattle.tree.proofs.Shape.{number_child, number_same}
 use Rattle.tree.proofs.write.enter.Goals as goal
 
 pub returns-in-Field-clause-indexed : goal.returns-in-Field-clause-indexed
-returns-in-Field-clause-indexed c = λ b. c.name_node.ensures.indexed c.args.stamp.now.table.now (c.mark_node.ensures.indexed b)
+returns-in-Field-clause-indexed c = λ b. c.name_node.ensures.indexed c.args.stamp.now.table.now.numbers (c.mark_node.ensures.indexed b)
 
 pub returns-in-Field-clause-entered : goal.returns-in-Field-clause-entered
 returns-in-Field-clause-entered c = λ e at.

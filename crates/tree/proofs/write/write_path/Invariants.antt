@@ -10,7 +10,7 @@ abbrev pub invariant-loop-hop : goal.invariant-loop-hop
 invariant-loop-hop l = record {
   shape : SameLinks l.fn.nodes l.nodes;
   registers : (i : ℕ) → register_room (slice_get l.fn.nodes i) ≤ register_room (slice_get l.nodes i);
-  kept : AreIndexedNodes l.stamp.table.now l.fn.nodes → AreIndexedNodes l.stamp.table.now l.nodes;
+  kept : AreIndexedNodes l.stamp.table.now.numbers l.fn.nodes → AreIndexedNodes l.stamp.table.now.numbers l.nodes;
   here : number l.fn.nodes (end_of (take l.hop-index (map hop_of l.path))) ≡ Some l.at;
   inside : l.at < length l.nodes;
   room : (k : ℕ) → l.hop-index ≤ k → k ≤ length l.path → 0 < presence_room (node_at l.nodes (end_of (take k (map hop_of l.path))));

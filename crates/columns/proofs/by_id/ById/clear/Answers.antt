@@ -1,4 +1,4 @@
-use Rattle.std.proofs.Common.{◌≡◌, ◌∙◌, ◌∷◌, [], ℕ, Bool, cond, nat_le, List, length, ap, sym, subst}
+use Rattle.std.proofs.Common.{◌≡◌, ◌≤◌, ◌∙◌, ◌∷◌, [], ℕ, Bool, cond, nat_le, List, length, ap, sym, subst}
 use Rattle.std.specs.Prelude.{slice_index}
 use Rattle.ids.specs.Members.{AreDistinct}
 use Rattle.semantics.specs.Context.{without}
@@ -14,7 +14,7 @@ use Rattle.columns.proofs.by_id.ById.clear.Goals as goal
 -- what is left of a map with a single entry, by the test of its index
 left : {X : Type 0} (table v : List ℕ) (e : Entry X) (m : Entries X) (is_covered : Bool) → held_entries (Single e) ≡ m
     → is_covered ≡ nat_le e.counter (slice_index v e.index)
-    → AreDistinct table → length table ≡ length v → AreIndicesIn table m.entries m.indices
+    → AreDistinct table → length table ≤ length v → AreIndicesIn table m.entries m.indices
     → cond is_covered [] ((id_of e, e.value) ∷ []) ≡ without (covers (by_table table v)) m.entries
 left {X = X} table v e m is_covered seen is distinct wide stand =
     let alone : AreIndicesIn table ((id_of e, e.value) ∷ []) (e.index ∷ []) = subst

@@ -7,5 +7,5 @@ pub returns-clause-lawful : goal.returns-clause-lawful
 returns-clause-lawful c =
     let d = c.self.inside in
     rw (← c.self.view_is)
-    (λ passed. lawful d.log.entries (stamped_of c.args.op.now) c.self.invariant.legal c.check.result c.check.ensures
-    (passed_alone d.log.table c.args.op.now passed))
+    (λ passed. lawful d.log.entries (stamped_of c.args.op.now) c.self.invariant.consistent.legal c.check.result c.check.ensures
+    (passed_alone d.members.numbers c.args.op.now passed))

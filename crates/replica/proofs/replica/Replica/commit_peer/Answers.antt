@@ -1,4 +1,6 @@
 use Rattle.std.proofs.Common.{sym, ◌∙◌, true≢false}
+use Rattle.semantics.proofs.JoinedReplicas.{room_after}
+use Rattle.inbox.proofs.operation.StandingAlone.{alone_member}
 use Rattle.replica.proofs.Leaving.{appended, next_may_follow, next_room, next_waits}
 use Rattle.replica.proofs.replica.Replica.commit_peer.Goals as goal
 
@@ -14,10 +16,17 @@ pub commit-requires-clause-lawful : goal.commit-requires-clause-lawful
 commit-requires-clause-lawful c =
     next_may_follow _ _ c.self.invariant c.self.view_is c.args.id c.requires c.in-Some.op c.in-Some.ensures.some
 
+pub commit-requires-clause-fits : goal.commit-requires-clause-fits
+commit-requires-clause-fits c =
+    let d = c.self.inside.document in
+    let op = c.in-Some.op in
+    room_after d.members op.id.replica
+    (alone_member d.members op (c.self.invariant.alone op c.in-Some.ensures.some.1)) d.entries
+
 pub invariant_of-self : goal.invariant_of-self
 invariant_of-self c = (appended _ _ c.self.invariant c.self.view_is c.args.id c.requires c.in-Some.op c.in-Some.ensures.some
-    c.commit.new.self c.take.new.self c.take.ensures.left c.take.ensures.among c.commit.ensures.table c.commit.ensures.entries).good
+    c.commit.new.self c.take.new.self c.take.ensures.left c.take.ensures.among c.commit.ensures.members c.commit.ensures.entries).good
 
 pub returns : goal.returns
 returns c = (appended _ _ c.self.invariant c.self.view_is c.args.id c.requires c.in-Some.op c.in-Some.ensures.some
-    c.commit.new.self c.take.new.self c.take.ensures.left c.take.ensures.among c.commit.ensures.table c.commit.ensures.entries).after
+    c.commit.new.self c.take.new.self c.take.ensures.left c.take.ensures.among c.commit.ensures.members c.commit.ensures.entries).after

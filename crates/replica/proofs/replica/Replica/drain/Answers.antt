@@ -78,8 +78,8 @@ pub add-requires-clause-member : goal.add-requires-clause-member
 add-requires-clause-member g c =
     let w = dropping_on c.loop.invariant (running c.self.view_is c.self.invariant) c.next_ready.ensures.dropped in
     let new = c.next_ready.new.self in
-    let alone = there (λ op. alone_fault_of_op new.document.table op ≡ None) c.in-Some.is c.in_ok-op.ensures.alone in
-    subst (λ ps. IsTrue (is_member ps c.in-Some.op.id.replica)) (sym w.holds.members) (alone_member new.document.table c.in-Some.op alone)
+    let alone = there (λ op. alone_fault_of_op new.document.members op ≡ None) c.in-Some.is c.in_ok-op.ensures.alone in
+    subst (λ ps. IsTrue (is_member ps c.in-Some.op.id.replica)) (sym w.holds.members) (alone_member new.document.members c.in-Some.op alone)
 
 pub returns-in_err-add-clause-partly : goal.returns-in_err-add-clause-partly
 returns-in_err-add-clause-partly g c =

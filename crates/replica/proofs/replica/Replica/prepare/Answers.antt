@@ -15,7 +15,7 @@ loop-turn-smaller c =
     let d = c.next_turn.new.document in
     let turn = subst (IsNextTurn d q.inbox) (c.in-Some.is ∙ ap Some c.in-Drop.is) c.in_ok-turn.ensures.turn in
     fewer _ _
-    (reserved _ _ c.loop-turn.invariant d c.next_turn.ensures.table c.next_turn.ensures.entries) c.in-Drop.id turn c.take.new.self
+    (reserved _ _ c.loop-turn.invariant d c.next_turn.ensures.members c.next_turn.ensures.entries) c.in-Drop.id turn c.take.new.self
     c.saturating_add-self-inside.result
     c.take.ensures.left c.take.ensures.among
     (c.saturating_add-self-inside.ensures ∙ ap (λ n. min n 18446744073709551615) (add-one q.dropped))
@@ -26,7 +26,7 @@ loop-turn-preserved c =
     let d = c.next_turn.new.document in
     let turn = subst (IsNextTurn d q.inbox) (c.in-Some.is ∙ ap Some c.in-Drop.is) c.in_ok-turn.ensures.turn in
     dropped_one _ _
-    (reserved _ _ c.loop-turn.invariant d c.next_turn.ensures.table c.next_turn.ensures.entries) c.in-Drop.id turn c.take.new.self
+    (reserved _ _ c.loop-turn.invariant d c.next_turn.ensures.members c.next_turn.ensures.entries) c.in-Drop.id turn c.take.new.self
     c.saturating_add-self-inside.result
     c.take.ensures.left c.take.ensures.among
     (c.saturating_add-self-inside.ensures ∙ ap (λ n. min n 18446744073709551615) (add-one q.dropped))

@@ -5,6 +5,6 @@ use Rattle.version.proofs.vector.VersionVector.name.Given as goal
 
 abbrev pub invariant-loop-index : goal.invariant-loop-index
 invariant-loop-index l = record {
-  width : length l.counters.items ≡ length l.table;
-  named : (i : ℕ) → i < l.index → get_or l.counters.items i 0 ≡ at l.ids (get_or l.table i 0);
+  width : length l.counters.items ≡ length l.fn.self;
+  named : (i : ℕ) → i < l.index → get_or l.counters.items i 0 ≡ at l.ids (get_or l.table.numbers i 0);
 }

@@ -1,24 +1,24 @@
-//! The vector of all that was applied, which grows.
+//! A version vector that grows.
 
 ghost use Rattle.std.specs.Prelude.{◌≡◌, ◌<◌, ◌≤◌, ◌+◌, [], OnOk};
-ghost use Rattle.semantics.specs.Vectors.{greatest, raise};
-ghost use Rattle.ids.specs.Vectors.{IsCanonical};
+ghost use Rattle.ids.specs.Vectors.{IsCanonical, greatest, raise};
 
-use ids::{OpId, greatest_counter};
+use crate::OpId;
+use crate::named_vector::greatest_counter;
 use std::alloc::{AllocError, Global};
 use std::marker::Model;
 
-/// Of each replica of which something was applied the greatest counter. Contracts see the pairs as ids, whose replicas rise, and for how
-/// many more replicas there is room.
+/// Of each replica that it names the greatest counter, which is above 0: as that of all that was applied. Contracts see the pairs as ids,
+/// whose replicas rise, and for how many more replicas there is room.
 #[derive(Debug, Drop)]
-pub struct AppliedVector {
+pub struct GrowingVector {
     ids: Vec<OpId>,
 }
 
-impl Model for AppliedVector {
+impl Model for GrowingVector {
     ghost use Rattle.std.specs.Prelude.{◌-◌, vec_capacity, vec_len};
     ghost use Rattle.ids.specs.Vectors.{IsCanonical};
-    ghost use Rattle.version.specs.Applied.{Growing};
+    ghost use Rattle.ids.specs.Growing.{Growing};
 
     ghost Value = { Growing };
 
@@ -27,12 +27,12 @@ impl Model for AppliedVector {
     ghost invariant = { λ v. IsCanonical v.ids.items };
 }
 
-impl AppliedVector {
+impl GrowingVector {
     /// The vector that names nothing. Allocates nothing.
-    pub fn new(alloc: Global) -> AppliedVector
+    pub fn new(alloc: Global) -> GrowingVector
         ensures { result.ids ≡ [] }
     {
-        AppliedVector {
+        GrowingVector {
             ids: Vec::new(alloc),
         }
     }
@@ -86,5 +86,15 @@ impl AppliedVector {
                 }
             }
         }
+    }
+}
+
+impl Clone for GrowingVector {
+    ghost is_clone = { λ s t. t.ids ≡ s.ids };
+
+    fn clone(&self) -> Result<GrowingVector, AllocError> {
+        Ok(GrowingVector {
+            ids: self.ids.clone()?,
+        })
     }
 }

@@ -1,6 +1,6 @@
 -- What contracts see of a vector that grows.
 use Rattle.std.specs.Prelude.{ℕ}
-use Rattle.semantics.specs.Vectors.{Vector}
+use Rattle.ids.specs.Vectors.{Vector}
 
 -- the pairs, and for how many more replicas there is room
 pub record Growing : Type 0 where

@@ -4,13 +4,12 @@ use Rattle.std.specs.List.{insert}
 use Rattle.std.specs.List.Sorted.{IsBinarySearchResult}
 use Rattle.std.specs.Ordering.{nat_cmp}
 use Rattle.std.proofs.lemmas.Fn.{always_returns_same}
-use Rattle.ids.specs.Vectors.{IsCanonical}
 use Rattle.ids.proofs.RaisedVectors.{canonical_raise, raise_in_place, raise_searched}
-use Rattle.semantics.specs.Ids.{OpId}
-use Rattle.semantics.specs.Vectors.{Vector, raise}
-use Rattle.version.specs.Applied.{Growing}
-use Rattle.version.proofs.applied.AppliedVector.raise.Goals as goal
-use Rattle.version.proofs.applied.AppliedVector.raise.Goals.{After-binary_search_by_key, Else-is_err}
+use Rattle.ids.specs.Ids.{OpId}
+use Rattle.ids.specs.Vectors.{IsCanonical, Vector, raise}
+use Rattle.ids.specs.Growing.{Growing}
+use Rattle.ids.proofs.growing.GrowingVector.raise.Goals as goal
+use Rattle.ids.proofs.growing.GrowingVector.raise.Goals.{After-binary_search_by_key, Else-is_err}
 
 raised : (c : After-binary_search_by_key) → IsCanonical (raise c.args.id c.self.inside.ids.items)
 raised c = canonical_raise c.args.id c.self.inside.ids.items (λ e. omega (arith, e, c.requires.counted)) c.self.invariant
