@@ -4,6 +4,7 @@ pub mod MissingOps
 pub mod AmongNamed
 pub mod PositionsOfIds
 pub mod ReceivedFaults
+pub mod CheckedOperations
 pub mod AllApplied
 pub mod LawfulNext
 -- Handed on from the crates below, for users of this one.

@@ -1,6 +1,7 @@
 //! A replica's history and its document, kept together.
 
-ghost use Rattle.std.specs.Prelude.{◌≡◌, ◌≤◌, ◌⊎◌, ◌↔◌, ◌∷◌, [], Ok, None, Some, true, false, IsTrue, IsFalse, IsOk, MatchResult, length, map};
+ghost use Rattle.std.specs.Prelude.{◌≡◌, ◌≤◌, ◌⊎◌, ◌↔◌, ◌∷◌, [], Ok, None, Some, true, false, IsTrue, IsFalse, IsOk, MatchResult, length};
+ghost use Rattle.std.specs.Prelude.{map};
 ghost use Rattle.std.specs.Prelude.{reverse, IfOk, OnOk, IfErr, Err};
 ghost use Rattle.std.specs.List.{All};
 ghost use Rattle.ids.specs.declared.refusal.Refusal.TheVariants.{NoMemory, BadConfig};
@@ -8,12 +9,12 @@ ghost use Rattle.ids.specs.Members.{in_order};
 ghost use Rattle.ids.specs.Tables.{lacks_room};
 ghost use Rattle.ids.specs.Configurations.{are_members};
 ghost use Rattle.ids.specs.Vectors.{IsNamed};
-ghost use Rattle.semantics.specs.Joining.{table_after};
+ghost use Rattle.semantics.specs.Joining.{check_fault, table_after};
 ghost use Rattle.semantics.specs.NamedIds.{vector_of};
 ghost use Rattle.semantics.specs.Vectors.{greatest};
 ghost use Rattle.semantics.specs.LegalHistory.{greatest_of, has_id};
 ghost use Rattle.semantics.specs.Stamped.{MayFollow};
-ghost use Rattle.semantics.specs.Faults.{fault_of, is_ready};
+ghost use Rattle.semantics.specs.Faults.{is_ready};
 ghost use Rattle.semantics.specs.Context.{doc};
 ghost use Rattle.semantics.specs.Entries.{applied, missing, stamped_in, stamped_entries};
 ghost use Rattle.semantics.specs.DocumentAnswer.{visible_items};
@@ -94,7 +95,7 @@ impl Document {
         &self.members
     }
 
-    /// The replicas: the members, and then each other one in the order of its first operation.
+    /// The replicas: the members, and then each other one in the order of its first operation, at most 256 in all.
     pub fn table(&self) -> &ReplicaTable
         ensures { result.now.numbers ≡ table_after self.now.members self.now.entries }
     {
@@ -132,20 +133,25 @@ impl Document {
         op.deps.is_at_most(self.applied.ids())
     }
 
-    /// Tests a causally ready operation against the history. One that passed `check_alone` for these members may follow the
-    /// history exactly where this answers `Ok`. Allocates nothing. Costs a binary search for each counter of its vector,
-    /// or one comparison where that is all that was applied, and a walk down its place.
+    /// Tests a causally ready operation against the table and the history. One that passed `check_alone` may follow the history, and
+    /// has room in the table, exactly where this answers `Ok`. Allocates nothing. Costs a binary search for each counter of its
+    /// vector, or one comparison where that is all that was applied, and a walk down its place.
     ///
     /// # Errors
-    /// In this order: `BrokenChain` where its vector doesn't name all that was applied of its own replica; `NamesNothing` where a
-    /// counter of its vector that is above 0 is that of no applied operation; `NotClosed` where an operation that its vector names
-    /// has a vector that isn't at most this; `BadPlace` where an item of its place was not inserted into that very list.
+    /// In this order: `UnknownReplica` where its replica isn't in the table, and the table is full; `BrokenChain` where its vector
+    /// doesn't name all that was applied of its own replica; `NamesNothing` where a counter of its vector that is above 0 is that of
+    /// no applied operation; `NotClosed` where an operation that its vector names has a vector that isn't at most this; `BadPlace`
+    /// where an item of its place was not inserted into that very list.
     pub fn check(&self, op: &Op) -> Result<(), Refusal>
-        ensures fault { let fault = fault_of (stamped_entries self.now.entries) (stamped_of op.now) in
+        ensures fault { let fault = check_fault self.now.members (stamped_entries self.now.entries) (stamped_of op.now) in
             MatchResult result (λ _. fault ≡ None) (λ why. fault ≡ Some why) }
-        ensures lawful { alone_fault_of_op self.now.members op.now ≡ None
-            → IsOk result ↔ MayFollow (applied self.now.entries) (stamped_of op.now) }
+        ensures lawful { alone_fault_of_op op.now ≡ None → IsOk result
+            ↔ (IsFalse (lacks_room (table_after self.now.members self.now.entries) op.now.id.replica)
+            × MayFollow (applied self.now.entries) (stamped_of op.now)) }
     {
+        if self.log.table().lacks_room_for(op.id.replica) {
+            return Err(Refusal::UnknownReplica);
+        }
         check(&self.log, &self.applied, &self.tree, op)
     }
 

@@ -1,6 +1,7 @@
 //! Documents before their first entry, and as the operations of peers leave them.
 
 mod checks;
+mod newcomers;
 mod playing;
 mod refused_memory;
 
@@ -16,6 +17,7 @@ use playing::Turn::{Conflicts, Items, Keys, Values};
 use playing::Value::{List, Map, Whole};
 use playing::{Hop, Sent, Turn, on_new};
 use std::alloc::Global;
+use std::process::Abort;
 use std::test::Fail;
 use value::Val;
 
@@ -85,9 +87,9 @@ fn a_map_stands_in_a_list(rt: HostRuntime) -> Result<(), Fail> {
     const HEAD: &[Hop] = &[Field("l"), Head];
     const WITHIN: &[Hop] = &[Field("l"), Item((2, 1)), Field("t")];
     const OPS: &[Sent] = &[
-        ((1, 1), [0, 0, 0], &[Field("l")], Assign(List)),
-        ((2, 1), [1, 0, 0], HEAD, Insert(Map)),
-        ((3, 1), [2, 0, 0], WITHIN, Assign(Whole(7))),
+        ((1, 1), &[0, 0, 0], &[Field("l")], Assign(List)),
+        ((2, 1), &[1, 0, 0], HEAD, Insert(Map)),
+        ((3, 1), &[2, 0, 0], WITHIN, Assign(Whole(7))),
     ];
     const IN_ITEM: &[(Pair, Tag)] = &[((2, 1), Tag::Map), ((3, 1), Tag::Map)];
     const IN_LIST: &[(Pair, Tag)] = &[

@@ -1,6 +1,6 @@
 //! Opening an engine.
 
-ghost use Rattle.std.specs.Prelude.{◌≡◌, ◌+◌, ◌<◌, ◌≤◌, ◌⊎◌, ◌↔◌, [], length, true, Err, IfOk, IfErr, IsTrue, IsFalse, vec_capacity};
+ghost use Rattle.std.specs.Prelude.{◌≡◌, ◌+◌, ◌<◌, ◌≤◌, ◌⊎◌, ◌↔◌, [], length, true, Err, IfOk, IfErr, IsFalse, vec_capacity};
 ghost use Rattle.std.specs.List.{All};
 ghost use Rattle.std.specs.Coded.{codes};
 ghost use Rattle.semantics.specs.Codes.{coded_element};

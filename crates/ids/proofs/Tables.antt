@@ -1,19 +1,19 @@
 -- Members make a table, what a search in a table finds, and one more replica.
-use Rattle.std.proofs.Common.{◌≡◌, ℕ, zero, suc, ◌+◌, ◌<◌, ◌≤◌, Bool, true, false, true≢false, cond, not, max, ◌&&◌, ◌||◌, ◌==◌, leb, IsTrue, IsFalse, ◌↔◌}
-use Rattle.std.proofs.Common.{◌⊎◌, inl, inr, List, [], ◌∷◌, ◌++◌, length, get_or, slice_get, take, Option, Some, None, IsNone, refl, ap, sym}
+use Rattle.std.proofs.Common.{◌≡◌, ℕ, zero, suc, ◌+◌, ◌<◌, ◌≤◌, Bool, true, false, true≢false, cond, not, max, ◌&&◌, ◌||◌, ◌==◌, leb}
+use Rattle.std.proofs.Common.{IsTrue, IsFalse}
+use Rattle.std.proofs.Common.{inl, inr, List, [], ◌∷◌, ◌++◌, length, get_or, slice_get, take, Some, refl, ap, sym}
 use Rattle.std.proofs.Common.{◌∙◌, arith}
-use Rattle.std.specs.List.{list_all, list_any}
+use Rattle.std.specs.List.{list_all}
 use Rattle.std.proofs.lemmas.Bool.{and_parts, leb-true, eq-eqb, eqb-true, eqb-false, ne_eqb, or_cases, or_left, or_right, or_parts}
 use Rattle.std.proofs.lemmas.Bool.{and_from, cond-false, false_from_ne_true, leb-false}
 use Rattle.std.proofs.lemmas.List.{length-append}
 use Rattle.std.proofs.lemmas.List.Folds.{list_any-append}
-use Rattle.std.proofs.lemmas.Option.{slice_get_within}
 use Rattle.ids.specs.Configurations.{is_from_one_to, are_members}
 use Rattle.ids.specs.Ids.{id_at}
 use Rattle.ids.specs.Members.{AreDistinct, are_distinct, in_order, is_member}
 use Rattle.ids.specs.Tables.{IsTable, joined, lacks_room}
 use Rattle.ids.specs.Vectors.{Vector, at, most_named, names_only, raise}
-use Rattle.ids.proofs.InOrder.{AreDistinct-in_order, AreRising, IsBelowAll, IsBelowAll-in_order, distinct_from_test, length-in_order}
+use Rattle.ids.proofs.InOrder.{AreDistinct-in_order, IsBelowAll, IsBelowAll-in_order, distinct_from_test, length-in_order}
 use Rattle.ids.proofs.LongerLists.{get-append, get-append_last, get-append_cases}
 use Rattle.ids.proofs.RaisedVectors.{at-raise, canonical_raise}
 

@@ -34,7 +34,7 @@ pub enum Refusal {
     Foreign = 11,
     /// The history is shorter than what the client had seen.
     BadFloor = 12,
-    /// The replica is not a member.
+    /// The replica isn't in the table of replicas, which is full.
     UnknownReplica = 13,
     /// The counter isn't 1 plus the greatest of the vector.
     BadCounter = 14,

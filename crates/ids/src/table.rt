@@ -10,7 +10,7 @@ ghost use Rattle.ids.specs.Vectors.{most_named};
 use crate::growing::GrowingVector;
 use crate::members::are_members;
 use crate::named_vector::counter_of;
-use crate::{OpId, Refusal, ReplicaId};
+use crate::{MOST_NAMED, OpId, Refusal, ReplicaId};
 use std::alloc::{AllocError, Global};
 use std::marker::Model;
 
@@ -84,6 +84,13 @@ impl ReplicaTable {
         ensures distinct { AreDistinct self.now.numbers }
     {
         self.replicas.len()
+    }
+
+    /// Whether the replica isn't in the table, and the table is full. Binary search in a full table.
+    pub fn lacks_room_for(&self, replica: ReplicaId) -> bool
+        ensures { result ≡ lacks_room self.now.numbers replica }
+    {
+        self.replicas.len() >= MOST_NAMED && self.index_of(replica).is_none()
     }
 
     /// Makes room for one more replica.

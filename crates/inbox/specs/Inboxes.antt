@@ -19,8 +19,8 @@ use Rattle.inbox.specs.declared.waits.Waits.{Waits}
 use Rattle.inbox.specs.Awaiting.{AreAwaiting}
 
 -- no fault of these can be seen without the history
-abbrev pub StandAlone : List ℕ → List Op → Type 0
-StandAlone table ops = (o : Op) → IsAmong o ops → alone_fault_of_op table o ≡ None
+abbrev pub StandAlone : List Op → Type 0
+StandAlone ops = (o : Op) → IsAmong o ops → alone_fault_of_op o ≡ None
 
 -- the answer to a delivery
 abbrev pub delivered_of : Delivered → delivery.Delivered

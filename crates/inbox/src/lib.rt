@@ -10,7 +10,7 @@ pub use inbox::Inbox;
 
 // Handed on from the crates below, for users of this one.
 pub use document::{
-    GrowingVector, Command, Delivered, Document, Entry, Expr, ExprStep, Key, Misplaced,
+    Command, Delivered, Document, Entry, Expr, ExprStep, GrowingVector, Key, Misplaced,
     NamedVector, Op, Place, Publish, Question, Reading, Reply, Request, Scalar, Shared, Submission,
     Tag, Text, Val, VersionVector, check_alone,
 };

@@ -1,13 +1,12 @@
 -- What holds of each item on the way down to an element, as what holds of each key of its path.
-use Rattle.std.proofs.Common.{◌≡◌, refl, sym, ap, ◌∙◌, ℕ, Bool, true, false, ◌&&◌, List, [], ◌∷◌, ◌++◌}
+use Rattle.std.proofs.Common.{◌≡◌, refl, sym, ap, ◌∙◌, Bool, true, false, ◌&&◌, List, [], ◌∷◌, ◌++◌}
 use Rattle.std.specs.List.{list_all}
 use Rattle.std.proofs.lemmas.List.Folds.{list_all-append}
-use Rattle.ids.specs.Members.{is_member}
 use Rattle.semantics.specs.Elements.{Element, Doc, Field, Item}
 use Rattle.semantics.specs.Paths.{Hop, FieldHop, ItemHop, hops_from_root}
 use Rattle.semantics.specs.Vectors.{Vector, covers}
-use Rattle.semantics.specs.Faults.{items_covered, items_of_members}
-use Rattle.operation.specs.Alone.{key_covered, key_of_member}
+use Rattle.semantics.specs.Faults.{items_covered}
+use Rattle.operation.specs.Alone.{key_covered}
 
 last_first : (p : Hop → Bool) (ks : List Hop) (k : Hop) → list_all p (ks ++ k ∷ []) ≡ (p k && list_all p ks)
 last_first p ks k = list_all-append p ks (k ∷ []) ∙ turned (list_all p ks) (p k)
@@ -17,12 +16,6 @@ last_first p ks k = list_all-append p ks (k ∷ []) ∙ turned (list_all p ks) (
     turned true false = refl
     turned false true = refl
     turned false false = refl
-
-pub items_of_members-keys : (ps : List ℕ) (e : Element) → items_of_members ps e ≡ list_all (key_of_member ps) (hops_from_root e)
-items_of_members-keys ps Doc = refl
-items_of_members-keys ps (Field e n) = items_of_members-keys ps e ∙ sym (last_first (key_of_member ps) (hops_from_root e) (FieldHop n))
-items_of_members-keys ps (Item e a) = ap (λ b. is_member ps a.replica && b) (items_of_members-keys ps e)
-    ∙ sym (last_first (key_of_member ps) (hops_from_root e) (ItemHop a))
 
 pub items_covered-keys : (v : Vector) (e : Element) → items_covered v e ≡ list_all (key_covered v) (hops_from_root e)
 items_covered-keys v Doc = refl

@@ -8,7 +8,7 @@ mod op;
 mod shared;
 mod submission;
 
-pub use alone::{check_alone, names_only};
+pub use alone::check_alone;
 pub use command::{Command, Delivered, Entry};
 pub use misplaced::Misplaced;
 pub use op::{Mutation, Op};

@@ -1,14 +1,16 @@
 -- A replica joins the table of a log: an empty column becomes its own.
-use Rattle.std.proofs.Common.{◌≡◌, ◌≢◌, refl, sym, ap, ◌∙◌, ℕ, suc, ◌+◌, ◌-◌, ◌<◌, ◌≤◌, Bool, true, false, true≢false, cond, List, [], ◌∷◌, ◌++◌}
+use Rattle.std.proofs.Common.{◌≡◌, ◌≢◌, refl, sym, ap, ◌∙◌, ℕ, suc, ◌+◌, ◌-◌, ◌<◌, ◌≤◌, Bool, true, false, true≢false, cond, List, [], ◌∷◌}
+use Rattle.std.proofs.Common.{◌++◌}
 use Rattle.std.proofs.Common.{map, length, get_or, set, take, replicate, Some, slice_get, arith, append_assoc}
 use Rattle.std.specs.FinMap.{put}
 use Rattle.std.proofs.Math.Seq.{take-append_seam}
-use Rattle.std.proofs.lemmas.List.{append-nil, get_or_append_left, length-append, length-map, map-append, replicate-append-replicate, set-append_left}
+use Rattle.std.proofs.lemmas.List.{append-nil, get_or_append_left, length-append, length-map, map-append, replicate-append-replicate}
+use Rattle.std.proofs.lemmas.List.{set-append_left}
 use Rattle.std.proofs.lemmas.Option.{slice_get_within}
 use Rattle.ids.specs.declared.id.OpId.{OpId}
 use Rattle.ids.specs.Members.{AreDistinct, is_member}
 use Rattle.ids.specs.Tables.{joined}
-use Rattle.ids.proofs.Tables.{joined_itself, length_joined, member_joined}
+use Rattle.ids.proofs.Tables.{member_joined}
 use Rattle.semantics.specs.Ids.{id_cmp}
 use Rattle.semantics.specs.Entries.{Entry as TheEntry, stamped_in}
 use Rattle.oplog.specs.Logs.{AreOfMembers, columns_for, positions_by}
@@ -44,7 +46,8 @@ pub columns_more : (G : List TheEntry) (x : TheEntry) (ps : List ℕ) (i n : ℕ
 columns_more G x ps i n distinct at =
     let f : ℕ → List (OpId × ℕ) = λ q. positions_by q G in
     let rest : List (List (OpId × ℕ)) = replicate (n - length ps) [] in
-    let inside : i < length (map f ps) = (let l = length-map ps f in let h = slice_get_within ps i (stamped_in x).id.replica at in omega arith) in
+    let inside : i < length
+    (map f ps) = (let l = length-map ps f in let h = slice_get_within ps i (stamped_in x).id.replica at in omega arith) in
     set-append_left (map f ps) rest i _ inside
     ∙ (λ t. set (map f ps) i (put id_cmp (stamped_in x).id (length G) (get_or_append_left (map f ps) rest [] i inside t)) ++ rest)
     ∙ ap (λ l. l ++ rest) (all_more G x ps i distinct at)

@@ -1,24 +1,19 @@
 -- What is named after a history of members' operations: members alone.
-use Rattle.std.proofs.Common.{◌≡◌, ◌≢◌, ◌<◌, inl, inr, ℕ, Bool, true, ◌&&◌, cond, max, List, [], ◌∷◌, refl, sym, ap, subst, ◌∙◌, arith}
+use Rattle.std.proofs.Common.{◌≡◌, ◌≢◌, ◌<◌, inl, inr, ℕ, Bool, true, cond, max, List, [], ◌∷◌, refl, sym, ap, subst, ◌∙◌, arith}
 use Rattle.std.specs.List.{list_all}
 use Rattle.std.proofs.lemmas.Bool.{and_from, ne_eqb}
 use Rattle.ids.specs.Members.{is_member}
 use Rattle.ids.specs.Vectors.{names_only}
 use Rattle.ids.proofs.CanonicalVectors.{at_first}
 use Rattle.semantics.specs.Ids.{OpId, id_at}
-use Rattle.semantics.specs.Operations.{Operation, element_of}
+use Rattle.semantics.specs.Operations.{Operation}
 use Rattle.semantics.specs.LegalHistory.{IsAmong, IsLegal, has_id}
-use Rattle.semantics.specs.NamedIds.{IsAttained, names, vector_of}
-use Rattle.semantics.specs.Stamped.{MayFollow}
-use Rattle.semantics.specs.Faults.{is_of_members, items_of_members}
+use Rattle.semantics.specs.NamedIds.{IsAttained, vector_of}
 use Rattle.semantics.specs.Vectors.{Vector, AreAbove, IsCanonical, at}
 use Rattle.semantics.specs.Entries.{Entry, applied}
 use Rattle.semantics.proofs.AppliedVectors.{at-vector_of, canonical-vector_of, legal_counters}
 use Rattle.semantics.proofs.EntryHistories.{all_named}
-use Rattle.semantics.proofs.KnownItems.{items_known}
 use Rattle.semantics.proofs.LegalFacts.{among_from}
-use Rattle.operation.specs.declared.op.Op.{Op}
-use Rattle.operation.specs.Ops.{stamped_of}
 use Rattle.oplog.specs.Logs.{AreOfMembers}
 
 -- ---- what a canonical vector names
@@ -70,11 +65,3 @@ pub names_applied : (ps : List ℕ) (G : List Entry) → AreOfMembers ps G → I
 names_applied ps G all legal =
     names_known ps G (vector_of (applied G)) all (canonical-vector_of (applied G) (legal_counters (applied G) legal))
     (all_named (applied G) (vector_of (applied G)) (at-vector_of (applied G))).attained
-
--- an operation that may follow
-pub known_members : (ps : List ℕ) (G : List Entry) (o : Op) → AreOfMembers ps G → is_member ps o.id.replica ≡ true → IsCanonical o.deps
-    → MayFollow (applied G) (stamped_of o) → is_of_members ps (stamped_of o) ≡ true
-known_members ps G o all own canonical may =
-    and_from (is_member ps o.id.replica && names_only ps o.deps) (items_of_members ps (element_of o.place))
-    (and_from (is_member ps o.id.replica) (names_only ps o.deps) own (names_known ps G o.deps all canonical may.attained))
-    (items_known ps (applied G) (names (applied G) o.deps) (element_of o.place) (among_members ps G all) may.follows.items)

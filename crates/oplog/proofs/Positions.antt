@@ -1,5 +1,6 @@
 -- Where the operations of each replica of a table stand.
-use Rattle.std.proofs.Common.{◌≡◌, refl, sym, ap, ◌∙◌, ℕ, zero, suc, ◌-◌, ◌<◌, ◌≤◌, Bool, true, false, true≢false, cond, ◌==◌, List, [], ◌∷◌, ◌++◌, map}
+use Rattle.std.proofs.Common.{◌≡◌, refl, sym, ap, ◌∙◌, ℕ, zero, suc, ◌-◌, ◌<◌, ◌≤◌, Bool, true, false, true≢false, cond, ◌==◌, List, []}
+use Rattle.std.proofs.Common.{◌∷◌, map}
 use Rattle.std.proofs.Common.{length, get_or, set, replicate, IsTrue, IsFalse, arith, Some, None, slice_get}
 use Rattle.std.specs.FinMap.{find, put}
 use Rattle.std.specs.FinMap.Entries.{find-put}
@@ -85,7 +86,8 @@ all_none (p ∷ ps) = ap (λ l. [] ∷ l) (all_none ps)
 
 -- the same numbers are in as many columns
 pub as_many : (ns ms : List (Numbered OpId)) → numbers_of ms ≡ numbers_of ns → length ms ≡ length ns
-as_many ns ms same = sym (length-map ms (λ (n : Numbered OpId). n.entries)) ∙ ap length same ∙ length-map ns (λ (n : Numbered OpId). n.entries)
+as_many ns ms same = sym (length-map ms (λ (n : Numbered OpId). n.entries)) ∙ ap length same
+    ∙ length-map ns (λ (n : Numbered OpId). n.entries)
 
 pub as_many_set : (ns ms : List (Numbered OpId)) (i : ℕ) (m : List (OpId × ℕ)) → numbers_of ms ≡ set (numbers_of ns) i m
     → length ms ≡ length ns
@@ -118,7 +120,8 @@ all_at G [] i p at = cc
 all_at G (q ∷ ps) zero p at = ap (λ r. positions_by r G) (cc)
 all_at G (q ∷ ps) (suc i) p at = all_at G ps i p at
 
-pub own_column : (G : List TheEntry) (ps : List ℕ) (n i p : ℕ) → slice_get ps i ≡ Some p → get_or (columns_for n ps G) i [] ≡ positions_by p G
+pub own_column : (G : List TheEntry) (ps : List ℕ) (n i p : ℕ) → slice_get ps i ≡ Some p
+    → get_or (columns_for n ps G) i [] ≡ positions_by p G
 own_column G ps n i p at =
     let f : ℕ → List (OpId × ℕ) = λ q. positions_by q G in
     let inside : i < length (map f ps) = (let l = length-map ps f in let h = slice_get_within ps i p at in omega arith) in

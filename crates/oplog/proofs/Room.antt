@@ -1,5 +1,7 @@
 -- How many more fit into each of several columns.
-use Rattle.std.proofs.Common.{◌≡◌, ◌<◌, ◌≤◌, ◌+◌, ◌-◌, min, ℕ, zero, suc, List, [], ◌∷◌, length, get_or, set, take, inl, inr, sym, ap, ◌∙◌, subst, arith}
+use Rattle.std.proofs.Common.{◌≡◌, ◌<◌, ◌≤◌, ◌+◌, ◌-◌, min, ℕ, zero, suc, List, [], ◌∷◌, ◌++◌, length, get_or, set, inl, inr, refl, sym, ap}
+use Rattle.std.proofs.Common.{◌∙◌}
+use Rattle.std.proofs.Common.{subst, arith}
 use Rattle.std.proofs.Math.Seq.{map-set_same}
 use Rattle.std.proofs.lemmas.Bool.{cases_lt}
 use Rattle.semantics.specs.Ids.{OpId}
@@ -53,14 +55,14 @@ least_room-grown n [] i m d read grown = omega arith
 least_room-grown n (x ∷ ns) zero m d read grown = let e = ap (λ (k : Numbered OpId). k.room) read in omega arith
 least_room-grown n (x ∷ ns) (suc i) m d read grown = let e = least_room-grown n ns i m d read grown in omega arith
 
--- where there is room, there is beside the table and the columns, in the table, and a column for a replica that joins
+-- where there is room, there is in the rest and in the table, and a column for a replica that joins
 pub room_parts : (n : ℕ) (t : Table) (ns : List (Numbered OpId)) → 0 < room_beside n t ns
     → (0 < n) × (0 < t.room) × (length t.numbers < length ns)
 room_parts n t ns room =
     let least = least_room-width (min n (min t.room (length ns - length t.numbers))) ns in
     (omega (arith, least, room), omega (arith, least, room), omega (arith, least, room))
 
--- no less room beside a table and its columns
+-- no less room in the rest, the table and its columns
 pub room_kept : (n m : ℕ) (t u : Table) (ns ms : List (Numbered OpId)) → n ≤ m → u.numbers ≡ t.numbers → t.room ≤ u.room
     → (length t.numbers < length ns → ms ≡ ns) → room_beside n t ns ≤ room_beside m u ms
 room_kept n m t u ns ms more same room kept =
@@ -75,7 +77,7 @@ room_kept n m t u ns ms more same room kept =
       | inr ge ↦ omega arith
     ]
 
--- one fewer beside the table, one replica more in it, and one fewer in one of the columns
+-- one fewer in the rest, one replica more in the table, and one fewer in one of the columns
 pub room_used : (n m : ℕ) (t u : Table) (ns ms : List (Numbered OpId)) (p : ℕ) → n ≤ m + 1 → u.numbers ≡ joined p t.numbers
     → t.room ≤ u.room + 1 → length ms ≡ length ns → ((k : ℕ) → least_room (k + 1) ns ≤ least_room k ms + 1)
     → room_beside n t ns ≤ room_beside m u ms + 1
@@ -88,9 +90,31 @@ room_used n m t u ns ms p more joins room long used =
     let one = used new in
     omega arith
 
--- one more column that has room
-pub least_room-more : (n : ℕ) (ns : List (Numbered OpId)) (i : ℕ) (m : Numbered OpId) → i < length ns → 0 < m.room
-    → 0 < least_room n (take i ns) → 0 < least_room n (take (suc i) (set ns i m))
-least_room-more n [] i m h some before = absurd (omega arith)
-least_room-more n (x ∷ ns) zero m h some before = omega arith
-least_room-more n (x ∷ ns) (suc i) m h some before = let e = least_room-more n ns i m (omega arith) some (omega arith) in omega arith
+-- ---- the column that was written to last
+
+-- one of the columns in place of another, where each has room
+pub least_room-set : (n : ℕ) (ns : List (Numbered OpId)) (i : ℕ) (m : Numbered OpId) → 0 < least_room n ns → 0 < m.room
+    → 0 < least_room n (set ns i m)
+least_room-set n [] i m room some = room
+least_room-set n (x ∷ ns) zero m room some = omega arith
+least_room-set n (x ∷ ns) (suc i) m room some = let e = least_room-set n ns i m (omega arith) some in omega arith
+
+-- the last that is put at an index stands there
+pub set_again : (ns : List (Numbered OpId)) (i : ℕ) (k m : Numbered OpId) → set (set ns i k) i m ≡ set ns i m
+set_again [] i k m = refl
+set_again (x ∷ ns) zero k m = refl
+set_again (x ∷ ns) (suc i) k m = ap (λ ms. x ∷ ms) (set_again ns i k m)
+
+-- one column more that has room
+pub least_room-last : (n : ℕ) (ns : List (Numbered OpId)) (c : Numbered OpId) → 0 < least_room n ns → 0 < c.room
+    → 0 < least_room n (ns ++ c ∷ [])
+least_room-last n [] c room some = omega arith
+least_room-last n (x ∷ ns) c room some = let e = least_room-last n ns c (omega arith) some in omega arith
+
+pub least_room-behind : (n : ℕ) (ns : List (Numbered OpId)) (i : ℕ) (m c : Numbered OpId) → 0 < least_room n (set ns i m) → 0 < m.room
+    → 0 < c.room
+    → 0 < least_room n (set (ns ++ c ∷ []) i m)
+least_room-behind n [] zero m c room some more = omega arith
+least_room-behind n [] (suc i) m c room some more = omega arith
+least_room-behind n (x ∷ ns) zero m c room some more = let e = least_room-last n ns c (omega arith) more in omega arith
+least_room-behind n (x ∷ ns) (suc i) m c room some more = let e = least_room-behind n ns i m c (omega arith) some more in omega arith

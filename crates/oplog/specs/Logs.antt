@@ -1,5 +1,7 @@
 -- The entries of a history, with the table of their replicas.
-use Rattle.std.specs.Prelude.{◌≡◌, ℕ, ◌-◌, min, nat_lt, ◌==◌, if◌then◌else◌, ⊤, IsTrue, List, [], ◌∷◌, ◌++◌, map, replicate, reverse, length, Option, Some}
+use Rattle.std.specs.Prelude.{◌≡◌, ℕ, ◌-◌, min, nat_lt, ◌==◌, if◌then◌else◌, ⊤, IsTrue, List, [], ◌∷◌, ◌++◌, map, replicate, reverse, set}
+use Rattle.std.specs.Prelude.{◌<◌, ◌≤◌}
+use Rattle.std.specs.Prelude.{length, Option, Some}
 use Rattle.std.specs.Prelude.{None}
 use Rattle.std.specs.List.{filter}
 use Rattle.std.specs.FinMap.{put}
@@ -52,12 +54,24 @@ AreOfMembers table (e ∷ G) = AreOfMembers table G × IsTrue (is_member table (
 abbrev pub columns_for : (n : ℕ) (table : List ℕ) (G : List TheEntry) → List (List (OpId × ℕ))
 columns_for n table G = map (λ p. positions_by p G) table ++ replicate (n - length table) []
 
--- the columns are those of the table; the operations are of its replicas, and have ids of their own
-pub record IsIndexed (table : List ℕ) (positions : List (Numbered OpId)) (entries : List Entry) : Type 0 where
+-- the least of n and of the room in each of these columns
+abbrev pub least_room : ℕ → List (Numbered OpId) → ℕ
+least_room n [] = n
+least_room n (m ∷ ms) = min m.room (least_room n ms)
+
+-- each column has room, once the one at this index has
+abbrev pub HaveRoomBut : (last : ℕ) → List (Numbered OpId) → Type 0
+HaveRoomBut last ns = (m : Numbered OpId) → 0 < m.room → 0 < least_room 1 (set ns last m)
+
+-- the columns are those of the table; the operations are of its replicas, and have ids of their own; only the column that was written
+-- to last may lack room
+pub record IsIndexed (table : List ℕ) (positions : List (Numbered OpId)) (entries : List Entry) (last : ℕ) : Type 0 where
   pub distinct : AreDistinct table
   pub positions_are : numbers_of positions ≡ columns_for (length positions) table (history entries)
   pub members : AreOfMembers table (history entries)
   pub own_ids : HaveOwnIds (history entries)
+  pub roomy : HaveRoomBut last positions
+  pub within : last ≤ length table
 
 -- the numbers of the ids above the counter beside each of these maps, one map after the other
 abbrev pub numbers_above : List ℕ → List (List (OpId × ℕ)) → List ℕ
@@ -70,11 +84,6 @@ abbrev pub missing_positions : Vector → List TheEntry → List ℕ
 missing_positions v [] = []
 missing_positions v (e ∷ G) = missing_positions v G ++ (if covers v (stamped_in e).id then [] else length G ∷ [])
 
--- the least of n and of the room in each of these columns
-abbrev pub least_room : ℕ → List (Numbered OpId) → ℕ
-least_room n [] = n
-least_room n (m ∷ ms) = min m.room (least_room n ms)
-
--- for how many more entries there is room, whose replicas may join, where there is room for n beside the table and the columns
+-- for how many more entries there is room, whose replicas may join, where the rest has room for n
 abbrev pub room_beside : (n : ℕ) → Table → List (Numbered OpId) → ℕ
 room_beside n table positions = least_room (min n (min table.room (length positions - length table.numbers))) positions

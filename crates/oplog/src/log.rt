@@ -11,7 +11,7 @@ ghost use Rattle.semantics.specs.LegalHistory.{has_id};
 ghost use Rattle.semantics.specs.Stamped.{MayFollow, Stamped};
 ghost use Rattle.semantics.specs.Entries.{Entry as TheEntry, applied, entry_at, missing, stamped_in, stamped_entries};
 ghost use Rattle.operation.specs.Ops.{entry_of};
-ghost use Rattle.oplog.specs.Logs.{history, least_room, missing_positions, numbers_above, numbers_of, position_of};
+ghost use Rattle.oplog.specs.Logs.{HaveRoomBut, history, least_room, missing_positions, numbers_above, numbers_of, position_of};
 
 use columns::Numbers;
 use ids::{NamedVector, OpId, ReplicaTable, counter_near};
@@ -27,6 +27,8 @@ pub struct Log {
     entries: Vec<Entry>,
     /// For each replica of the table the positions of its operations, by their ids; and then a column that is empty, for one that joins.
     positions: Vec<Numbers>,
+    /// The index of the column that was written to last: the only one that may lack room.
+    last: usize,
 }
 
 impl Model for Log {
@@ -45,7 +47,7 @@ impl Model for Log {
       room = room_beside (vec_capacity l.entries - vec_len l.entries) l.table l.positions.items;
     } };
 
-    ghost invariant = { λ l. IsIndexed l.table.numbers l.positions.items l.entries.items };
+    ghost invariant = { λ l. IsIndexed l.table.numbers l.positions.items l.entries.items l.last };
 }
 
 impl Log {
@@ -62,6 +64,7 @@ impl Log {
             table,
             entries: Vec::new(alloc),
             positions,
+            last: 0,
         })
     }
 
@@ -108,7 +111,7 @@ impl Log {
         Ok(positions)
     }
 
-    /// Makes room for one more entry, of any replica, which may join the table. Looks at the room for each replica's positions.
+    /// Makes room for one more entry, of any replica, which may join the table. Amortized O(1).
     ///
     /// # Errors
     /// `AllocError` if allocation fails.
@@ -121,7 +124,7 @@ impl Log {
         self.entries.reserve(1)?;
         self.table.reserve_one()?;
         reserve_column(&mut self.positions, self.table.len(), alloc)?;
-        reserve_positions(&mut self.positions)
+        reserve_last(&mut self.positions, self.last)
     }
 
     /// Appends an entry, for which there is room. Allocates nothing. Moves the positions of its replica's greater ids, of which a
@@ -142,6 +145,7 @@ impl Log {
         let id = OpId { counter, replica };
         let position = self.entries.len();
         put_position(&mut self.positions, index, id, position);
+        self.last = index;
         self.entries.push_reserved(entry);
     }
 
@@ -153,18 +157,28 @@ impl Log {
     }
 }
 
-/// Empty columns of positions, one for each replica.
+/// Empty columns of positions, one for each replica, with room in each.
 fn no_positions(alloc: Global, count: usize) -> Result<Vec<Numbers>, AllocError>
-    ensures { IfOk result (λ v. numbers_of v.items ≡ replicate count []) }
+    ensures numbers { IfOk result (λ v. numbers_of v.items ≡ replicate count []) }
+    ensures room { IfOk result (λ v. 0 < least_room 1 v.items) }
 {
     let mut positions = Vec::with_capacity(alloc, count)?;
     for _ in 0..count {
-        positions.push(Numbers::new(alloc))?;
+        positions.push(column_with_room(alloc)?)?;
     }
     Ok(positions)
 }
 
-/// Makes a column of positions beside this many, if there is none.
+/// An empty column of positions, with room for one.
+fn column_with_room(alloc: Global) -> Result<Numbers, AllocError>
+    ensures { IfOk result (λ n. (n.entries ≡ []) × (0 < n.room)) }
+{
+    let mut column = Numbers::new(alloc);
+    column.reserve_one()?;
+    Ok(column)
+}
+
+/// Makes a column of positions behind this many, if there is none.
 fn reserve_column(
     positions: &mut Vec<Numbers>,
     count: usize,
@@ -175,24 +189,25 @@ fn reserve_column(
         ≡ numbers_of positions.old.items ++ replicate (length positions.new.items - length positions.old.items) [] }
     ensures column { OnOk result (count < length positions.new.items) }
     ensures kept { count < length positions.old.items → positions.new.items ≡ positions.old.items }
+    ensures roomy { (last : ℕ) → HaveRoomBut last positions.old.items → HaveRoomBut last positions.new.items }
 {
     if positions.len() == count {
-        positions.push(Numbers::new(alloc))?;
+        positions.push(column_with_room(alloc)?)?;
     }
     Ok(())
 }
 
-/// Makes room for one more position in each column.
-fn reserve_positions(positions: &mut Vec<Numbers>) -> Result<(), AllocError>
+/// Makes room for one more position in the column that was written to last. Each other one has it.
+fn reserve_last(positions: &mut Vec<Numbers>, last: usize) -> Result<(), AllocError>
+    requires inside { last < length positions.old.items }
+    requires roomy { HaveRoomBut last positions.old.items }
     ensures same { numbers_of positions.new.items ≡ numbers_of positions.old.items }
-    ensures room { (n : ℕ) → 0 < n → OnOk result (0 < least_room n positions.new.items) }
+    ensures room { OnOk result (0 < least_room 1 positions.new.items) }
+    ensures roomy { HaveRoomBut last positions.new.items }
     ensures kept { (n : ℕ) → least_room n positions.old.items ≤ least_room n positions.new.items }
 {
-    for index in 0..positions.len() {
-        let numbers = &mut positions[index];
-        numbers.reserve_one()?;
-    }
-    Ok(())
+    let numbers = &mut positions[last];
+    numbers.reserve_one()
 }
 
 /// Puts the position of an operation among those of its replica. Moves none if its id is the greatest of them.
@@ -202,6 +217,7 @@ fn put_position(positions: &mut Vec<Numbers>, index: usize, id: OpId, position: 
     ensures numbers { numbers_of positions.new.items
         ≡ set (numbers_of positions.old.items) index (put id_cmp id position (slice_index_or (numbers_of positions.old.items) index [])) }
     ensures room { (n : ℕ) → least_room (n + 1) positions.old.items ≤ least_room n positions.new.items + 1 }
+    ensures roomy { HaveRoomBut index positions.new.items }
 {
     let numbers = &mut positions[index];
     numbers.put(id, position);

@@ -5,6 +5,8 @@ mod early;
 mod exchanges;
 mod forged;
 mod lines;
+mod nonmembers;
+mod opening;
 mod playing;
 mod refused_memory;
 mod showing;
@@ -26,7 +28,7 @@ const FIRST_LINE: &str = r#"["op",[1,1],[],[],0,["a",{}]]
 "#;
 
 /// The line of a replica that isn't a member.
-const STRANGER: &str = r#"["op",[1,4],[],[],0,["d"]]
+const NEWCOMER: &str = r#"["op",[1,4],[],[],0,["d"]]
 "#;
 
 /// The hello of an engine that has nothing.

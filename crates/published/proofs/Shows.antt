@@ -2,7 +2,7 @@
 use Rattle.std.proofs.Common.{Option, None, Some, option_to_list, ◌≡◌, ◌≢◌, ℕ, ◌+◌, Bool, true, false, cond, List, [], ◌∷◌, ◌++◌, fold}
 use Rattle.std.proofs.Common.{refl}
 use Rattle.std.proofs.Common.{sym, ap, ◌∙◌, subst, ⊎_elim, arith}
-use Rattle.std.specs.Prelude.{IsTrue, IsFalse, length}
+use Rattle.std.specs.Prelude.{IsFalse, length}
 use Rattle.std.proofs.lemmas.Bool.{leb-false}
 use Rattle.std.proofs.lemmas.List.{append-nil}
 use mathlib.Core.Option.{some}
@@ -10,17 +10,18 @@ use lib.ListN.{get_elem?}
 use Rattle.crossbeam_utils.specs.Register.{Admits, Turns, TurnsAt}
 use Rattle.atomic_table.proofs.Lists.{at_set, at_snoc}
 use Rattle.logbook.specs.Pages.{Book, Named}
-use Rattle.ids.specs.Members.{is_member}
+use Rattle.ids.specs.Tables.{lacks_room}
 use Rattle.semantics.specs.Making.{is_full}
 use Rattle.semantics.specs.Entries.{Entry as TheEntry, IsEntryHistory, stamped_in}
+use Rattle.semantics.specs.Joining.{table_after, HadRoom}
 use Rattle.semantics.specs.Limits.{most_entries}
 use Rattle.semantics.specs.WorldHistory.{BeginsWith}
 use Rattle.semantics.proofs.Beginnings.{no_shorter}
 use Rattle.semantics.proofs.GrownEngines.{begins_trans}
+use Rattle.semantics.proofs.JoinedReplicas.{had_room_before}
 use Rattle.document.specs.operation.declared.command.Entry.{Entry}
-use Rattle.semantics.specs.Vectors.{IsCanonical}
 use Rattle.document.specs.operation.Ops.{entry_of, op_in}
-use Rattle.document.specs.oplog.Logs.{AreOfMembers, history}
+use Rattle.document.specs.oplog.Logs.{history}
 use Rattle.document.proofs.oplog.Oldest.{history-more}
 use Rattle.published.specs.declared.seen.View.{View}
 use Rattle.published.specs.Beginnings.{Beginning, IsHistoryOfEngine}
@@ -34,16 +35,12 @@ use Rattle.document.proofs.LawfulNext.{lawful_next}
 pub no_history : (own : ℕ) (table : List ℕ) → IsHistoryOfEngine own table []
 no_history own table = record { legal = tt; known = tt; few = omega arith }
 
-members_before : (table : List ℕ) (more F : List TheEntry) → AreOfMembers table (more ++ F) → AreOfMembers table F
-members_before table [] F h = h
-members_before table (e ∷ more) F h = members_before table more F h.0
-
 -- a beginning of a history of the engine is one
 engine_begun : (own : ℕ) (table : List ℕ) (G F : List TheEntry) → BeginsWith G F → IsHistoryOfEngine own table G
     → IsHistoryOfEngine own table F
 engine_begun own table G F b h = record {
   legal = history_begun own G F b h.legal;
-  known = members_before table b.0 F (subst (AreOfMembers table) b.1 h.known);
+  known = had_room_before table b.0 F (subst (HadRoom table) b.1 h.known);
   few = (let l = no_shorter G F b in omega (arith, h.few));
 }
 
@@ -168,13 +165,13 @@ module _ (book : Book) (own : ℕ) (table : List ℕ) (s : Snapshot) (ws : List 
   pub one_pending : (w : Pending) (after : Beginning) → after.log ≡ all.log ++ w.entry ∷ [] → after.book ≡ all.book → w.log ≡ after.log
       → w.book ≡ after.book
       → IsEntryHistory own (entry_of w.entry ∷ history all.log) → IsFalse (is_full (history all.log))
-      → IsTrue (is_member table (stamped_in (entry_of w.entry)).id.replica) → IsCanonical (op_in w.entry).deps
+      → IsFalse (lacks_room (table_after table (history all.log)) (stamped_in (entry_of w.entry)).id.replica)
       → (t : Snapshot) (vs : List Pending) (m : Option Pending) → t ≡ s → vs ≡ ws → m ≡ Some w
       → IsPublisher book own table t (vs ++ option_to_list m) head after
-  one_pending w after log name wlog wbook follows room member canonical t vs m same moved one =
+  one_pending w after log name wlog wbook follows room fits t vs m same moved one =
       let longer : history after.log ≡ entry_of w.entry ∷ history all.log = ap history log
       ∙ history-more all.log w.entry in
-      let lawful = lawful_next own table (history all.log) w.entry follows room h.all_is.known member canonical in
+      let lawful = lawful_next own table (history all.log) w.entry follows room fits in
       let k = pending_moved t vs same moved in
       let becomes : appended_to (snapshot book table all.log) w ≡ snapshot book table after.log =
       λ i. record { table = table; entries = sym longer i; log = wlog i; book = (wbook ∙ name ∙ h.book_is) i } in
@@ -189,7 +186,7 @@ module _ (book : Book) (own : ℕ) (table : List ℕ) (s : Snapshot) (ws : List 
         all_is = subst (IsHistoryOfEngine own table) (sym longer)
             (record {
               legal = follows;
-              known = (h.all_is.known, member);
+              known = (h.all_is.known, fits);
               few = leb-false most_entries (length (history all.log)) room;
             });
         head_is = h.head_is;

@@ -1,7 +1,8 @@
 //! What each of the two copies holds, and how an entry gets there.
 
-ghost use Rattle.std.specs.Prelude.{◌≡◌, ◌∷◌, IsTrue, MatchResult, is_none};
-ghost use Rattle.ids.specs.Members.{is_member};
+ghost use Rattle.std.specs.Prelude.{◌≡◌, ◌∷◌, IsTrue, IsFalse, MatchResult, is_none};
+ghost use Rattle.ids.specs.Tables.{lacks_room};
+ghost use Rattle.semantics.specs.Joining.{table_after};
 ghost use Rattle.semantics.specs.Faults.{StandsAlone};
 ghost use Rattle.semantics.specs.Stamped.{MayFollow};
 ghost use Rattle.semantics.specs.Entries.{applied};
@@ -97,18 +98,17 @@ impl Absorb<Pending> for Copy {
 fn is_lawful(document: &Document, op: &Op) -> bool
     ensures tests { result ≡ is_lawful document.now.members document.now.entries op.now }
     ensures lawful { IsTrue result → MayFollow (applied document.now.entries) (stamped_of op.now) }
-    ensures member { IsTrue result → IsTrue (is_member document.now.members op.now.id.replica) }
+    ensures fits { IsTrue result → IsFalse (lacks_room (table_after document.now.members document.now.entries) op.now.id.replica) }
 {
-    stands_alone(document, op) && document.ready(op) && document.check(op).is_ok()
+    stands_alone(op) && document.ready(op) && document.check(op).is_ok()
 }
 
 /// Whether the operation passes the tests that need no history.
-fn stands_alone(document: &Document, op: &Op) -> bool
-    ensures tests { result ≡ is_none (alone_fault_of_op document.now.members op.now) }
+fn stands_alone(op: &Op) -> bool
+    ensures tests { result ≡ is_none (alone_fault_of_op op.now) }
     ensures alone { IsTrue result → StandsAlone (stamped_of op.now) }
-    ensures member { IsTrue result → IsTrue (is_member document.now.members op.now.id.replica) }
 {
-    check_alone(op, document.members()).is_ok()
+    check_alone(op).is_ok()
 }
 
 /// Appends an entry whose operation may follow.
@@ -117,7 +117,7 @@ fn stands_alone(document: &Document, op: &Op) -> bool
 /// The entry comes back if allocation fails, and the document is as before.
 fn append(alloc: Global, document: &mut Document, entry: Entry) -> Result<(), Entry>
     requires lawful { MayFollow (applied document.old.entries) (stamped_of (op_in entry)) }
-    requires member { IsTrue (is_member document.old.members (op_in entry).id.replica) }
+    requires fits { IsFalse (lacks_room (table_after document.old.members document.old.entries) (op_in entry).id.replica) }
     ensures members { document.new.members ≡ document.old.members }
     ensures entries { MatchResult result (λ _. document.new.entries ≡ entry_of entry ∷ document.old.entries)
         (λ e. (e ≡ entry) × (document.new.entries ≡ document.old.entries)) }

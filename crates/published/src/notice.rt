@@ -8,7 +8,7 @@ ghost use Rattle.published.specs.Beginnings.{IsHistoryOfEngine};
 use crate::book::Point;
 use std::marker::{Brand, Model, PhantomData};
 
-/// The name of an engine, in proofs alone: the logbook of its history, its own replica number, and its table of members.
+/// The name of an engine, in proofs alone: the logbook of its history, its own replica number, and its members, rising.
 /// Whoever opens an engine picks a type for it; what carries the same name is of the same engine.
 pub trait EngineName {
     ghost use Rattle.std.specs.Prelude.{ℕ, List};

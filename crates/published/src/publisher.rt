@@ -4,7 +4,8 @@ ghost use Rattle.std.specs.Prelude.{◌≡◌, ◌^◌, ◌<◌, ◌⊎◌, ◌+
 ghost use Rattle.std.specs.Prelude.{Some, None, option_to_list};
 ghost use Rattle.std.specs.List.{All};
 ghost use Rattle.ids.specs.declared.refusal.Refusal.TheVariants.{NoMemory, NoReaderPlace};
-ghost use Rattle.ids.specs.Members.{is_member};
+ghost use Rattle.ids.specs.Tables.{lacks_room};
+ghost use Rattle.semantics.specs.Joining.{table_after};
 ghost use Rattle.semantics.specs.Making.{is_full};
 ghost use Rattle.semantics.specs.Entries.{IsEntryHistory, stamped_in};
 ghost use Rattle.semantics.specs.WorldHistory.{BeginsWith};
@@ -21,7 +22,7 @@ use crate::seen::View;
 use crate::token::{ReaderToken, Sees, Shown};
 use core::mem::replace_with;
 use document::{Document, Entry};
-use ids::{MOST_NAMED, Refusal};
+use ids::Refusal;
 use left_right::writer::Writer;
 use logbook::Word;
 use std::alloc::{AllocError, Global};
@@ -221,7 +222,7 @@ impl<N: EngineName> Publisher<N> {
     pub fn append(&mut self, entry: Entry) -> Result<(), AllocError>
         requires follows { IsEntryHistory N.own (entry_of entry ∷ self.old.appended) }
         requires room { IsFalse (is_full self.old.appended) }
-        requires member { IsTrue (is_member N.table (stamped_in (entry_of entry)).id.replica) }
+        requires fits { IsFalse (lacks_room (table_after N.table self.old.appended) (stamped_in (entry_of entry)).id.replica) }
         ensures published { self.new.published ≡ self.old.published }
         ensures appended { MatchResult result (λ _. self.new.appended ≡ entry_of entry ∷ self.old.appended)
             (λ _. self.new.appended ≡ self.old.appended) }
@@ -229,8 +230,6 @@ impl<N: EngineName> Publisher<N> {
         if !flush::<N>(&mut self.writer, &mut self.next) {
             return Err(AllocError);
         }
-        // Each vector is canonical, so what may follow the history passes the tests of the copies.
-        prove!(entry.op().deps.ids().len() <= MOST_NAMED);
         let mut after = self.all.again();
         // Never: only this publisher extends the history. No contract of the logbook says so.
         if !after.extend(&self.head, &entry) {

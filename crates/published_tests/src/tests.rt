@@ -1,7 +1,7 @@
 //! A publisher and its tokens: what is asked before and after a publish, and what is learnt.
 
 ghost use Rattle.std.specs.Prelude.{◌≡◌, ◌≢◌, ◌∷◌, [], false, None, IsTrue, IfOk, OnOk};
-ghost use Rattle.ids.specs.Members.{in_order, is_member};
+ghost use Rattle.ids.specs.Members.{in_order};
 ghost use Rattle.ids.specs.Tables.{lacks_room};
 ghost use Rattle.semantics.specs.Entries.{IsEntryHistory, applied};
 ghost use Rattle.semantics.specs.Joining.{table_after};
@@ -13,8 +13,8 @@ mod of_command;
 
 use cursor::{Expr, Step};
 use document::{Document, Question, Reading};
-use fixtures::{field, id_of};
-use ids::{MOST_NAMED, NamedVector, Refusal};
+use fixtures::{Pair, field, id_of};
+use ids::{NamedVector, Refusal};
 use operation::{Entry, Mutation, Op, Shared, check_alone};
 use published::*;
 use std::alloc::Global;
@@ -202,7 +202,8 @@ fn session<N: EngineName, R: Wait + Abort>(
     check_value(rt, alloc, token, Some(8), 2)?;
     // A token that has read nothing learns what it is told.
     check_lessons(rt, late, &opening, &publisher.notice());
-    write(rt, alloc, mirror, publisher, 3, 9)?;
+    // Replica 5 is no member.
+    write(rt, alloc, mirror, publisher, (3, 5), 9)?;
     publish(rt, publisher, 3)?;
     check_value(rt, alloc, late, Some(9), 3)?;
     assert!(rt; token.seen_len() == 2);
@@ -268,8 +269,8 @@ fn write_two<N: EngineName, R: Abort>(
     ensures mirror { OnOk result (publisher.new.appended ≡ mirror.new.entries) }
     ensures legal { OnOk result (IsEntryHistory N.own mirror.new.entries) }
 {
-    write(rt, alloc, mirror, publisher, 1, 7)?;
-    write(rt, alloc, mirror, publisher, 2, 8)?;
+    write(rt, alloc, mirror, publisher, (1, 1), 7)?;
+    write(rt, alloc, mirror, publisher, (2, 1), 8)?;
     Ok(())
 }
 
@@ -300,13 +301,14 @@ fn value<N: EngineName>(alloc: Global, token: &mut ReaderToken<N>) -> Result<Opt
     first_number(&reading)
 }
 
-/// Appends that replica 1 assigned the number at the key `a`, to the publisher and to a document that holds the same.
+/// Appends that the number was assigned at the key `a` by an operation with this id, to the publisher and to a document that holds
+/// the same.
 fn write<N: EngineName, R: Abort>(
     rt: &R,
     alloc: Global,
     mirror: &mut Document,
     publisher: &mut Publisher<N>,
-    counter: u64,
+    id: Pair,
     number: i64,
 ) -> Result<(), Refusal>
     requires own { N.own ≡ 9 }
@@ -317,7 +319,7 @@ fn write<N: EngineName, R: Abort>(
     ensures mirror { OnOk result (publisher.new.appended ≡ mirror.new.entries) }
     ensures legal { OnOk result (IsEntryHistory N.own mirror.new.entries) }
 {
-    let op = assign(alloc, mirror, counter, number)?;
+    let op = assign(alloc, mirror, id, number)?;
     check(rt, mirror, &op)?;
     assert!(rt; mirror.len() < 1_048_576);
     mirror.reserve(alloc, &op)?;
@@ -326,14 +328,14 @@ fn write<N: EngineName, R: Abort>(
     Ok(())
 }
 
-/// Replica 1 assigns the number at the key `a`, after all that was applied.
+/// The operation with this id that assigns the number at the key `a`, after all that was applied.
 fn assign(
     alloc: Global,
     document: &Document,
-    counter: u64,
+    id: Pair,
     number: i64,
 ) -> Result<Shared<Op>, Refusal> {
-    let id = id_of((counter, 1))?;
+    let id = id_of(id)?;
     let place = field(alloc, "a")?;
     let op = Op {
         id,
@@ -345,31 +347,20 @@ fn assign(
 }
 
 /// Whether the operation has no fault alone.
-fn stands_alone(document: &Document, op: &Op) -> bool
-    ensures alone { IsTrue result → alone_fault_of_op document.now.members op.now ≡ None }
-    ensures member { IsTrue result → IsTrue (is_member document.now.members op.now.id.replica) }
+fn stands_alone(op: &Op) -> bool
+    ensures { IsTrue result → alone_fault_of_op op.now ≡ None }
 {
-    check_alone(op, document.members()).is_ok()
+    check_alone(op).is_ok()
 }
 
-/// Whether there is room in the table for the operation's replica.
-fn has_room(document: &Document, op: &Op) -> bool
-    ensures { IsTrue result → lacks_room (table_after document.now.members document.now.entries) op.now.id.replica ≡ false }
-{
-    let table = document.table();
-    table.index_of(op.id.replica).is_some() || table.len() < MOST_NAMED
-}
-
-/// The fault of an operation of a peer that is ready, has none alone, and has room.
+/// The fault of an operation of a peer that is ready and has none alone.
 fn check(rt: &impl Abort, document: &Document, op: &Op) -> Result<(), Refusal>
     ensures lawful { OnOk result (MayFollow (applied document.now.entries) (stamped_of op.now)) }
-    ensures member { IsTrue (is_member document.now.members op.now.id.replica) }
-    ensures fits { lacks_room (table_after document.now.members document.now.entries) op.now.id.replica ≡ false }
+    ensures fits { OnOk result (lacks_room (table_after document.now.members document.now.entries) op.now.id.replica ≡ false) }
     ensures peer { op.now.id.replica ≢ 9 }
 {
     assert!(rt; op.id.replica.number() != 9);
-    assert!(rt; stands_alone(document, op));
-    assert!(rt; has_room(document, op));
+    assert!(rt; stands_alone(op));
     assert!(rt; document.ready(op));
     document.check(op)
 }

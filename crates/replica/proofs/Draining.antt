@@ -1,11 +1,13 @@
 -- A drain each of whose entries is published.
-use Rattle.std.proofs.Common.{◌≡◌, ℕ, ◌+◌, ◌≤◌, false, ◌∷◌, length, Some, None, refl, sym, ap, ◌∙◌, subst, arith}
+use Rattle.std.proofs.Common.{◌≡◌, ℕ, ◌+◌, ◌≤◌, false, List, ◌∷◌, length, Some, None, refl, sym, ap, ◌∙◌, subst, arith}
+use Rattle.ids.specs.Tables.{lacks_room}
 use Rattle.semantics.specs.Stamped.{Stamped}
-use Rattle.semantics.specs.Faults.{fault_of}
+use Rattle.semantics.specs.Joining.{check_fault, table_after}
 use Rattle.semantics.specs.Making.{is_full}
 use Rattle.semantics.specs.Entries.{Entry, Peer, IsEntryHistory, stamped_entries}
 use Rattle.semantics.specs.Replica.{Replica, IsRunning, operations}
 use Rattle.semantics.specs.Drain.{counted, drain, drain_for, taken_with}
+use Rattle.semantics.proofs.CheckedFaults.{faultless_parts}
 use Rattle.semantics.proofs.Taken.{taken_running}
 use Rattle.semantics.proofs.Waiting.{ready_first}
 use Rattle.semantics.specs.Publication.{Publication, Holds, with_entry}
@@ -41,7 +43,7 @@ module _ {r : Replica} {h0 h : Publication} {q : Replica} {least : ℕ} (w : IsU
         published = w.published;
       }
 
-  module _ {s : Stamped} (next : next_of q ≡ Some s) (faultless : fault_of (stamped_entries q.entries) s ≡ None) where
+  module _ {s : Stamped} (next : next_of q ≡ Some s) (faultless : check_fault q.members (stamped_entries q.entries) s ≡ None) where
     pub may_follow : IsRunning r → IsEntryHistory h.own (Peer s ∷ h.appended)
     may_follow k =
         let run = running k in
@@ -53,6 +55,13 @@ module _ {r : Replica} {h0 h : Publication} {q : Replica} {least : ℕ} (w : IsU
 
     pub has_room : is_full h.appended ≡ false
     has_room = ap (is_full {X = Entry}) w.holds.appended ∙ (next_some q s next).0
+
+    -- and its replica fits into the table
+    pub fits : lacks_room (table_after h.members h.appended) s.id.replica ≡ false
+    fits =
+        ap (λ ps. lacks_room (table_after ps h.appended) s.id.replica) w.holds.members
+        ∙ ap (λ (G : List Entry). lacks_room (table_after q.members G) s.id.replica) w.holds.appended
+        ∙ (faultless_parts q.members (stamped_entries q.entries) s faultless).0
 
     -- one more is appended
     pub appending_on : (g : Publication) (t : Replica) → g ≡ with_entry h (Peer s) → t ≡ drain_for 1 q → IsUnderWay r h0 g t (least + 1)

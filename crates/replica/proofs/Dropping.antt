@@ -12,7 +12,7 @@ use Rattle.semantics.proofs.Waiting.{without_one}
 use Rattle.inbox.specs.operation.declared.op.Op.{Op}
 use Rattle.inbox.specs.operation.Ops.{stamped_of}
 use Rattle.inbox.specs.document.Documents.{Contents}
-use Rattle.inbox.specs.Inboxes.{StandAlone, waiting_in}
+use Rattle.inbox.specs.Inboxes.{waiting_in}
 use Rattle.replica.specs.Replicas.{Running, IsReplica, replica_of}
 use Rattle.replica.specs.Turns.{IsDropped}
 use Rattle.replica.proofs.Leaving.{next_among, still_alone}
@@ -47,7 +47,7 @@ reserved r q d k table entries = record {
   good = record {
     running = subst IsRunning (sym same) d.good.running;
     member = ap (λ ps. is_member ps q.own) table ∙ d.good.member;
-    alone = subst (λ ps. StandAlone ps q.waiting) (sym table) d.good.alone;
+    alone = d.good.alone;
     count = d.good.count;
   };
 }

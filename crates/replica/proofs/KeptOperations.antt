@@ -16,7 +16,7 @@ use Rattle.inbox.specs.Inboxes.{waiting_in}
 use Rattle.replica.specs.Replicas.{Running, IsReplica, replica_of}
 
 -- an operation that passed all tests is kept
-passed : (r : Replica) (s : Stamped) → alone_fault r.members s ≡ None → has_id (operations r) s.id ≡ false
+passed : (r : Replica) (s : Stamped) → alone_fault s ≡ None → has_id (operations r) s.id ≡ false
     → is_waiting r.waiting s.id ≡ false → answer_to_new r s ≡ IsKept → deliver r s ≡ record r { waiting = put_waiting s r.waiting }
 passed r s none unapplied unknown new =
     ap (kept_by r s)
@@ -27,7 +27,7 @@ passed r s none unapplied unknown new =
 
 -- a replica after an operation that passed all tests was put, or not
 pub after_put : (r : Running) (o : Op) (next : List Op) (result : Result Delivered Refusal) → IsReplica r
-    → alone_fault_of_op r.document.members o ≡ None → has_id (operations (replica_of r)) o.id ≡ false
+    → alone_fault_of_op o ≡ None → has_id (operations (replica_of r)) o.id ≡ false
     → is_waiting (waiting_in r.waiting) o.id ≡ false
     → answer_to_new (replica_of r) (stamped_of o) ≡ IsKept
     → (result ≡ Ok answer.Kept
@@ -52,7 +52,7 @@ after_put r o next result h none unapplied unknown new put among same = by resul
         record {
           running = subst IsRunning (sym is) (delivered (replica_of r) s h.running);
           member = h.member;
-          alone = λ p m. elim (among p m) [ inl e ↦ ap (alone_fault_of_op table) e ∙ none | inr k ↦ h.alone p k ];
+          alone = λ p m. elim (among p m) [ inl e ↦ ap alone_fault_of_op e ∙ none | inr k ↦ h.alone p k ];
           count = h.count;
         }
     by (Ok answer.Known) e = unchanged (same (λ f. absurd (let g = sym e ∙ f in cc)))

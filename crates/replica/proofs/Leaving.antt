@@ -1,6 +1,7 @@
 -- What leaves the inbox of a replica, and what the replica holds then.
-use Rattle.std.proofs.Common.{◌≡◌, ◌∷◌, inl, inr, true, List, [], Some, sym, ap, ◌∙◌, subst, true≢false}
+use Rattle.std.proofs.Common.{◌≡◌, ◌∷◌, inl, inr, true, false, List, [], Some, sym, ap, ◌∙◌, subst, true≢false}
 use Rattle.ids.specs.Members.{is_member}
+use Rattle.ids.specs.Tables.{lacks_room}
 use Rattle.semantics.specs.Ids.{OpId, is_smaller_id}
 use Rattle.semantics.specs.LegalHistory.{IsAmong}
 use Rattle.semantics.specs.Stamped.{Stamped, MayFollow}
@@ -8,6 +9,8 @@ use Rattle.semantics.specs.Entries.{Peer, applied, stamped_entries}
 use Rattle.semantics.specs.Replica.{IsRunning, IsRising, operations}
 use Rattle.semantics.specs.Delivery.{is_waiting}
 use Rattle.semantics.specs.Drain.{drain_for, without_waiting}
+use Rattle.semantics.specs.Joining.{table_after}
+use Rattle.semantics.proofs.CheckedFaults.{faultless_parts}
 use Rattle.semantics.proofs.EntryHistories.{entries_legal}
 use Rattle.semantics.proofs.FaultlessFollows.{follows_without_fault}
 use Rattle.semantics.proofs.SkipOrder.{not_itself}
@@ -41,7 +44,7 @@ next_among r s h next = (ready_first (operations (replica_of r)) (waiting_in r.w
 
 -- what stood alone still does where others left
 pub still_alone : (r : Running) (ws : List Op) → IsReplica r → ((o : Op) → IsAmong o ws → IsAmong o r.waiting)
-    → StandAlone r.document.members ws
+    → StandAlone ws
 still_alone r ws h left o m = h.alone o (left o m)
 
 -- q is r after one turn, and a replica
@@ -76,7 +79,14 @@ module _ (r q : Running) (h : IsReplica r) (is : r ≡ q) (a : OpId) (n : (s : S
       → MayFollow (applied r.document.entries) (stamped_of o)
   next_may_follow o got = subst (MayFollow (applied r.document.entries)) (sym (has_its_id o got))
       (follows_without_fault (stamped_entries r.document.entries) n.0 (entries_legal r.own r.document.entries h.running.history)
-      (h.running.alone n.0 among) here.faultless)
+      (h.running.alone n.0 among)
+      (faultless_parts r.document.members (stamped_entries r.document.entries) n.0 here.faultless).1)
+
+  -- and its replica fits into the table
+  pub next_fits : (o : Op) → (o.id ≡ a) × IsAmong o r.waiting
+      → lacks_room (table_after r.document.members r.document.entries) o.id.replica ≡ false
+  next_fits o got = subst (λ (s : Stamped). lacks_room (table_after r.document.members r.document.entries) s.id.replica ≡ false)
+      (sym (has_its_id o got)) (faultless_parts r.document.members (stamped_entries r.document.entries) n.0 here.faultless).0
 
   -- where it was taken and appended, one turn was made
   pub appended : (o : Op) → (o.id ≡ a) × IsAmong o r.waiting → (d : Contents) (ws : List Op)
@@ -99,6 +109,6 @@ module _ (r q : Running) (h : IsReplica r) (is : r ≡ q) (a : OpId) (n : (s : S
       good = record {
         running = subst IsRunning (sym (turned ∙ turn (replica_of r) n.0 here.next)) (taken_running (replica_of r) n.0 h.running among);
         member = ap (λ ps. is_member ps r.own) table ∙ h.member;
-        alone = rw table (still_alone r ws h kept);
+        alone = still_alone r ws h kept;
         count = h.count;
       }

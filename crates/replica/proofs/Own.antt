@@ -8,6 +8,10 @@ use Rattle.semantics.specs.Stamped.{Stamped, operation_after}
 use Rattle.semantics.specs.Making.{Command, is_full, make}
 use Rattle.semantics.specs.Entries.{Entry, Own, applied, IsAbove, IsEntryHistory}
 use Rattle.semantics.specs.Replica.{Replica, IsRunning}
+use Rattle.ids.specs.Members.{is_member}
+use Rattle.ids.specs.Tables.{lacks_room}
+use Rattle.semantics.specs.Joining.{table_after}
+use Rattle.semantics.proofs.JoinedReplicas.{room_after}
 use Rattle.semantics.proofs.AppliedVectors.{at-vector_of}
 use Rattle.semantics.proofs.EntryHistories.{length-applied}
 use Rattle.semantics.proofs.HandledItems.{as_stamped}
@@ -60,3 +64,7 @@ module _ (h : Publication) (r : Running) (k : Holds h (replica_of r)) where
       by true e x is = absurd (let z : ⊥ = cc in z)
       by false e x is = e
   room (entry.Peer o) n = absurd n
+
+  -- a member always fits into the table
+  pub fits : (p : ℕ) → is_member r.document.members p ≡ true → lacks_room (table_after h.members h.appended) p ≡ false
+  fits p member = ap (λ ps. lacks_room (table_after ps h.appended) p) k.members ∙ room_after r.document.members p member h.appended

@@ -56,7 +56,7 @@ own_appended r d client serial c s h made above table entries =
     record {
       running = subst IsRunning (sym next) (own_committed (replica_of r) client serial c s h.running stamped.0 stamped.1 above);
       member = ap (λ ps. is_member ps r.own) table ∙ h.member;
-      alone = rw table h.alone;
+      alone = h.alone;
       count = h.count;
     }
 

@@ -4,7 +4,7 @@ use Rattle.std.proofs.Common.{None, refl, sym, ap, ◌∙◌, arith, true≢fals
 use Rattle.std.proofs.lemmas.Bool.{cases_lt}
 use Rattle.ids.specs.declared.refusal.Refusal.{Refusal}
 use Rattle.semantics.specs.Stamped.{Stamped}
-use Rattle.semantics.specs.Faults.{fault_of}
+use Rattle.semantics.specs.Joining.{check_fault}
 use Rattle.semantics.specs.Making.{is_full}
 use Rattle.semantics.specs.Entries.{Peer, stamped_entries}
 use Rattle.semantics.specs.Replica.{Replica, operations, IsRunning}
@@ -105,7 +105,7 @@ alike_for (suc n) r x y e = at_full (λ q u v f. alike_for n q u v f) (is_full r
         → counted (at_ready w (with_dropped r x) (λ s. drain_for n (taken (with_dropped r x) s)))
         ≡ counted (at_ready w (with_dropped r y) (λ s. drain_for n (taken (with_dropped r y) s)))
     at_first rest None = ap (with_dropped r) e
-    at_first rest (Some s) = at_fault rest s (fault_of (stamped_entries r.entries) s)
+    at_first rest (Some s) = at_fault rest s (check_fault r.members (stamped_entries r.entries) s)
 
     at_full : ((q : Replica) (u v : ℕ) → min u 18446744073709551615 ≡ min v 18446744073709551615
         → counted (drain_for n (with_dropped q u)) ≡ counted (drain_for n (with_dropped q v)))
@@ -135,17 +135,18 @@ pub counted_running : (r : Replica) (n : ℕ) → IsRunning r → IsRunning (wit
 counted_running r n h = record { history = h.history; alone = h.alone; foreign = h.foreign; unapplied = h.unapplied; rising = h.rising }
 
 -- one turn at an unlawful one drops and counts it
-pub dropping : (r : Replica) (s : Stamped) (f : Refusal) → next_of r ≡ Some s → fault_of (stamped_entries r.entries) s ≡ Some f
+pub dropping : (r : Replica) (s : Stamped) (f : Refusal) → next_of r ≡ Some s → check_fault r.members (stamped_entries r.entries) s ≡ Some f
     → counted (drain_for 1 r) ≡ record r { waiting = without_waiting s.id r.waiting; dropped = min (suc r.dropped) 18446744073709551615 }
 dropping r s f e fault = ap counted (turn r s e ∙ ap (taken_with r s) fault)
 
 -- one turn at a lawful one appends it
-pub appending : (r : Replica) (s : Stamped) → next_of r ≡ Some s → fault_of (stamped_entries r.entries) s ≡ None
+pub appending : (r : Replica) (s : Stamped) → next_of r ≡ Some s → check_fault r.members (stamped_entries r.entries) s ≡ None
     → drain_for 1 r ≡ record r { entries = Peer s ∷ r.entries; waiting = without_waiting s.id r.waiting }
 appending r s e fault = turn r s e ∙ ap (taken_with r s) fault
 
 -- and changes no count
-pub count_stays : (p q : Replica) (s : Stamped) → q ≡ counted p → next_of q ≡ Some s → fault_of (stamped_entries q.entries) s ≡ None
+pub count_stays : (p q : Replica) (s : Stamped) → q ≡ counted p → next_of q ≡ Some s
+    → check_fault q.members (stamped_entries q.entries) s ≡ None
     → drain_for 1 q ≡ counted (drain_for 1 q)
 count_stays p q s e next fault =
     let is = appending q s next fault in

@@ -3,7 +3,7 @@ use Rattle.std.specs.Prelude.{◌≡◌, ◌≤◌, ℕ, cond, IsTrue, List, Ok,
 use Rattle.ids.specs.Members.{is_member}
 use Rattle.semantics.specs.Operations.{Operation}
 use Rattle.semantics.specs.Stamped.{Stamped}
-use Rattle.semantics.specs.Faults.{fault_of}
+use Rattle.semantics.specs.Joining.{check_fault}
 use Rattle.semantics.specs.Making.{Command as TheCommand, is_full, make}
 use Rattle.semantics.specs.Entries.{Entry as TheEntry, IsAbove, applied, stamped_entries}
 use Rattle.semantics.specs.Replica.{Replica as TheReplica, IsRunning, operations}
@@ -39,7 +39,7 @@ replica_of r = record {
 pub record IsReplica (r : Running) : Type 0 where
   pub running : IsRunning (replica_of r)
   pub member : IsTrue (is_member r.document.members r.own)
-  pub alone : StandAlone r.document.members r.waiting
+  pub alone : StandAlone r.waiting
   pub count : r.dropped ≤ 18446744073709551615
 
 -- s is what replica p makes of the command after G, with the vector of all that was applied
@@ -64,7 +64,7 @@ next_of r = cond (is_full r.entries) None (first_ready (operations r) r.waiting)
 -- the next ready one has no fault, and can be appended with no memory taken
 pub record IsNextReady (r : Running) (s : Stamped) : Type 0 where
   pub next : next_of (replica_of r) ≡ Some s
-  pub faultless : fault_of (stamped_entries r.document.entries) s ≡ None
+  pub faultless : check_fault r.document.members (stamped_entries r.document.entries) s ≡ None
   pub room : HasRoomFor r.document s
 
 -- the replica of these parts

@@ -3,7 +3,7 @@ use Rattle.std.specs.Prelude.{◌≡◌, Option, Some, None, List}
 use Rattle.ids.specs.declared.refusal.Refusal.{Refusal}
 use Rattle.semantics.specs.Ids.{OpId}
 use Rattle.semantics.specs.Stamped.{Stamped}
-use Rattle.semantics.specs.Faults.{fault_of}
+use Rattle.semantics.specs.Joining.{check_fault}
 use Rattle.semantics.specs.Entries.{stamped_entries}
 use Rattle.inbox.specs.operation.declared.op.Op.{Op}
 use Rattle.inbox.specs.document.Documents.{HasRoomFor, Contents}
@@ -16,7 +16,7 @@ pub record IsAppended (d : Contents) (ws : List Op) (a : OpId) : Type 0 where
   pub next : Stamped
   pub is_next : next_in d ws ≡ Some next
   pub id : next.id ≡ a
-  pub faultless : fault_of (stamped_entries d.entries) next ≡ None
+  pub faultless : check_fault d.members (stamped_entries d.entries) next ≡ None
   pub room : HasRoomFor d next
 
 -- the next one that leaves has this id and a fault
@@ -25,7 +25,7 @@ pub record IsDropped (d : Contents) (ws : List Op) (a : OpId) : Type 0 where
   pub is_next : next_in d ws ≡ Some next
   pub id : next.id ≡ a
   pub why : Refusal
-  pub fault : fault_of (stamped_entries d.entries) next ≡ Some why
+  pub fault : check_fault d.members (stamped_entries d.entries) next ≡ Some why
 
 -- what a turn does where these wait beside the document
 abbrev pub IsNextTurn : Contents → List Op → Option Turn → Type 0

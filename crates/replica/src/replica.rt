@@ -164,7 +164,7 @@ impl Replica {
         ensures delivered { OnOk result (replica_of self.new ≡ deliver (replica_of self.old) (stamped_of op)) }
         ensures same { OnErr result (replica_of self.new ≡ replica_of self.old) }
     {
-        check_alone(&op, self.document.members())?;
+        check_alone(&op)?;
         if self.document.contains(op.id) || self.inbox.contains(op.id) {
             return Ok(Delivered::Known);
         }
@@ -182,7 +182,7 @@ impl Replica {
         ensures dropped { (n : ℕ) × (replica_of self.new ≡ counted (drain_for n (replica_of self.old)))
             × (self.new.document.entries ≡ self.old.document.entries) }
         ensures next { IfOk result (λ o. option_map stamped_of o ≡ next_of (replica_of self.new)) }
-        ensures alone { IfOk result (λ o. IfSome o (λ op. alone_fault_of_op self.new.document.members op ≡ None)) }
+        ensures alone { IfOk result (λ o. IfSome o (λ op. alone_fault_of_op op ≡ None)) }
         ensures ready { IfOk result (λ o. IfSome o (λ op. IsNextReady self.new (stamped_of op))) }
     {
         let Some(id) = self.prepare(alloc)? else {

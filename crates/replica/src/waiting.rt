@@ -2,10 +2,9 @@
 
 ghost use Rattle.std.specs.Prelude.{◌≡◌, Some, None, IfOk, MatchResult};
 ghost use Rattle.semantics.specs.Entries.{stamped_entries};
-ghost use Rattle.semantics.specs.Faults.{fault_of};
+ghost use Rattle.semantics.specs.Joining.{check_fault};
 ghost use Rattle.semantics.specs.Delivery.{Kept as IsKept, NotKept, answer_to_new};
 ghost use Rattle.inbox.specs.operation.Ops.{stamped_of};
-ghost use Rattle.inbox.specs.Inboxes.{StandAlone};
 ghost use Rattle.replica.specs.Replicas.{replica_with};
 ghost use Rattle.replica.specs.Turns.{IsNextTurn};
 
@@ -42,7 +41,7 @@ pub fn check_wanted(
 
 /// The one test of a ready operation, when it is delivered and when it leaves.
 fn check_ready(document: &Document, op: &Op) -> Result<(), Refusal>
-    ensures { let fault = fault_of (stamped_entries document.now.entries) (stamped_of op.now) in
+    ensures { let fault = check_fault document.now.members (stamped_entries document.now.entries) (stamped_of op.now) in
         MatchResult result (λ _. fault ≡ None) (λ why. fault ≡ Some why) }
 {
     document.check(op)
@@ -66,7 +65,6 @@ pub fn next_turn(
     document: &mut Document,
     inbox: &Inbox,
 ) -> Result<Option<Turn>, AllocError>
-    requires { StandAlone document.old.members inbox.now }
     ensures members { document.new.members ≡ document.old.members }
     ensures entries { document.new.entries ≡ document.old.entries }
     ensures turn { IfOk result (λ t. IsNextTurn document.new inbox.now t) }

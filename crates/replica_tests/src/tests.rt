@@ -2,7 +2,9 @@
 //! history that they leave.
 
 mod deliveries;
+mod full;
 mod leaving;
+mod newcomers;
 mod playing;
 mod recorder;
 mod refused_memory;
@@ -17,6 +19,12 @@ use std::process::Abort;
 use std::test::Fail;
 
 const KEPT: Answer = Ok(Delivered::Kept);
+
+const KNOWN: Answer = Ok(Delivered::Known);
+
+const BAD_COUNTER: Answer = Err(Refusal::BadCounter);
+
+const BAD_PLACE: Answer = Err(Refusal::BadPlace);
 
 const NAMES_NOTHING: Answer = Err(Refusal::NamesNothing);
 

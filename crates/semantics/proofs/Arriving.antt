@@ -1,16 +1,19 @@
--- An operation whose dependencies are there is applied by its delivery.
+-- An operation whose dependencies are there is applied by its delivery, where there is room for its replica.
 use Rattle.std.proofs.Common.{◌≡◌, ◌⊎◌, inl, inr, ℕ, ◌≤◌, true, false, ◌||◌, ◌==◌, nat_lt, List, [], ◌∷◌, None, refl, sym, ap, ◌∙◌, subst}
 use Rattle.std.proofs.Common.{true≢false, arith, length}
-use Rattle.std.proofs.lemmas.Bool.{and_parts, or_cases, or_from, or_left, or_right, ltb-false, le-ltb, false_from_ne_true, eqb-true}
+use Rattle.std.proofs.lemmas.Bool.{and_parts, cases_Bool, or_cases, or_from, or_left, or_right, ltb-false, le-ltb, false_from_ne_true}
+use Rattle.std.proofs.lemmas.Bool.{eqb-true}
 use Rattle.semantics.specs.Ids.{OpId, is_same_id}
 use Rattle.semantics.specs.Operations.{Operation}
 use Rattle.semantics.specs.LegalHistory.{IsLegal, has_id, IsAmong}
 use Rattle.semantics.specs.Vectors.{covers}
 use Rattle.semantics.specs.Stamped.{Stamped, operation_after, operations_of, MayFollow, IsLegalStamped, Means}
-use Rattle.semantics.specs.Faults.{is_ready, fault_of, is_of_members, alone_fault}
+use Rattle.semantics.specs.Faults.{is_ready, alone_fault}
 use Rattle.semantics.specs.Making.{is_full}
 use Rattle.semantics.specs.Entries.{Entry, stamped_entries}
-use Rattle.semantics.specs.Replica.{Replica, operations, IsRunning}
+use Rattle.ids.specs.Tables.{lacks_room}
+use Rattle.semantics.specs.Joining.{table_after, check_fault}
+use Rattle.semantics.specs.Replica.{Replica, operations, table_of, IsRunning}
 use Rattle.semantics.specs.Delivery.{Kept, is_waiting, put_waiting, answer_after, answer_to, kept_by}
 use Rattle.semantics.specs.Drain.{drain, receive, IsDrained}
 use Rattle.semantics.specs.OneWorld.{AreWithin, IsOfWorld, IsReplicaOf}
@@ -26,7 +29,10 @@ use Rattle.semantics.proofs.Delivered.{delivered}
 use Rattle.semantics.proofs.Waiting.{in_put}
 use Rattle.semantics.proofs.LawfulAlone.{no_fault_alone, length_operations, length_stamped}
 use Rattle.semantics.proofs.OneDelivery.{kept_by_tests}
+use Rattle.semantics.proofs.CheckedFaults.{fitting_fault}
 use Rattle.semantics.proofs.GrowingWorld.{legal_entries}
+use Rattle.semantics.proofs.JoinedReplicas.{lacks_later}
+use Rattle.semantics.proofs.ReceivedItems.{received}
 use Rattle.semantics.proofs.NoneDropped.{keeps_for}
 use Rattle.semantics.proofs.ReachedWorlds.{has_more}
 use Rattle.semantics.proofs.Room.{in_put_itself}
@@ -46,14 +52,24 @@ waiting_under (y ∷ W) s (inl e) =
     or_left (is_same_id y.id s.id) (is_waiting W s.id) (ap (λ (z : Stamped). is_same_id z.id s.id) (sym e) ∙ id_itself s.id)
 waiting_under (y ∷ W) s (inr m) = or_right (is_same_id y.id s.id) (is_waiting W s.id) (waiting_under W s m)
 
--- the operation is applied, or the history is full and the operation waits
+-- the history is full and the operation waits, or it is applied, or the table lacks room for its replica
 abbrev pub HasCome : Replica → Stamped → Type 0
-HasCome r s = ((is_full r.entries ≡ true) × (is_waiting r.waiting s.id ≡ true)) ⊎ (has_id (operations r) s.id ≡ true)
+HasCome r s =
+    ((is_full r.entries ≡ true) × (is_waiting r.waiting s.id ≡ true))
+    ⊎ (has_id (operations r) s.id ≡ true)
+    ⊎ (lacks_room (table_of r) s.id.replica ≡ true)
+
+-- who lacks room lacks it after a delivery too
+pub lacks_received : (r : Replica) (s : Stamped) → IsRunning r → (p : ℕ) → lacks_room (table_of r) p ≡ true
+    → lacks_room (table_of (receive r s)) p ≡ true
+lacks_received r s h p lacks =
+    let got = received r s h in
+    ap (λ ms. lacks_room (table_after ms (receive r s).entries) p) got.members
+    ∙ lacks_later r.members p (receive r s).entries r.entries got.entries lacks
 
 module _ (K : List Operation) (lk : IsLegal K) (p : ℕ) (r : Replica) (w : IsReplicaOf K p r) (end : IsDrained r)
     (le : length r.waiting ≤ 4096)
     (s : Stamped) (F : List Stamped) (l : IsLegalStamped (s ∷ F)) (wf : AreWithin (operations_of (s ∷ F)) K)
-    (known : is_of_members r.members s ≡ true)
     (there : (a : OpId) → has_id (operations_of F) a ≡ true → has_id (operations r) a ≡ true) (few : is_full r.entries ≡ false)
     (new : has_id (operations r) s.id ≡ false) where
   abbrev o : Operation
@@ -79,27 +95,28 @@ module _ (K : List Operation) (lk : IsLegal K) (p : ℕ) (r : Replica) (w : IsRe
   may : MayFollow (operations r) s
   may = may_follow_in K lk (operations r) (operations_of (s ∷ F)) (legal_entries r w.running) w.within wf s o means new before
 
-  is_kept : answer_to r s ≡ Kept
-  is_kept =
+  is_kept : lacks_room (table_of r) s.id.replica ≡ false → answer_to r s ≡ Kept
+  is_kept fits =
       let ld : IsLegal (operations r) = legal_entries r w.running in
       let n : length (operations r) ≡ length r.entries = length_operations (stamped_entries r.entries) ∙ length_stamped r.entries in
       let room : length r.entries ≤ 1048575 = ltb-false 1048575 (length r.entries) few in
-      let alone : alone_fault r.members s ≡ None = no_fault_alone r.members (operations r) s ld (omega (arith, n, room)) may known in
+      let alone : alone_fault s ≡ None = no_fault_alone (operations r) s ld (omega (arith, n, room)) may in
       let other : (s.id.replica == r.own) ≡ false =
       false_from_ne_true (s.id.replica == r.own)
       (λ t. true≢false (sym (w.made o (wf o means.among) (eqb-true s.id.replica r.own t ∙ w.own)) ∙ new)) in
       ap (answer_after r s) alone
       ∙ kept_by_tests (has_id (operations r) s.id || is_waiting r.waiting s.id) (s.id.replica == r.own) (is_full r.entries)
-      (is_ready (operations r) s) (nat_lt 4096 (length r.waiting)) (fault_of (stamped_entries r.entries) s) _
+      (is_ready (operations r) s) (nat_lt 4096 (length r.waiting)) (check_fault r.members (stamped_entries r.entries) s) _
       (or_from (has_id (operations r) s.id) (is_waiting r.waiting s.id) new none_under_id) other few
       (ready-from (operations r) s (ready_where_follows may)) (le-ltb 4096 (length r.waiting) (omega (arith, le)))
-      (no_fault_where_follows (stamped_entries r.entries) s (entries_legal r.own r.entries w.running.history) may)
+      (fitting_fault r.members (stamped_entries r.entries) s fits
+      ∙ no_fault_where_follows (stamped_entries r.entries) s (entries_legal r.own r.entries w.running.history) may)
 
-  pub comes_in : HasCome (receive r s) s
-  comes_in =
+  comes_fitting : lacks_room (table_of r) s.id.replica ≡ false → HasCome (receive r s) s
+  comes_fitting fits =
       let q : Replica = record r { waiting = put_waiting s r.waiting } in
-      let same : receive r s ≡ drain q = ap (λ a. drain (kept_by r s a)) is_kept in
-      let run : IsRunning q = subst IsRunning (ap (kept_by r s) is_kept) (delivered r s w.running) in
+      let same : receive r s ≡ drain q = ap (λ a. drain (kept_by r s a)) (is_kept fits) in
+      let run : IsRunning q = subst IsRunning (ap (kept_by r s) (is_kept fits)) (delivered r s w.running) in
       let of : (x : Stamped) → IsAmong x q.waiting → IsOfWorld K x = λ x m. elim (in_put s r.waiting x m) [
         | inl e ↦ subst (IsOfWorld K) (sym e)
             (record { history = s ∷ F; legal = l; within = wf; there = inl refl })
@@ -113,7 +130,7 @@ module _ (K : List Operation) (lk : IsLegal K) (p : ℕ) (r : Replica) (w : IsRe
       (has_more done.1.appended r.entries a t) in
       subst (λ (d : Replica). HasCome d s) (sym same)
       (elim stay [
-        | inr t ↦ inr t
+        | inr k ↦ inr k
         | inl m ↦ elim done.2 [
           | inl f ↦ inl (f, waiting_under (drain q).waiting s m)
           | inr f ↦ absurd
@@ -122,3 +139,9 @@ module _ (K : List Operation) (lk : IsLegal K) (p : ℕ) (r : Replica) (w : IsRe
               ∙ f s m))
         ]
       ])
+
+  pub comes_in : HasCome (receive r s) s
+  comes_in = elim (cases_Bool (lacks_room (table_of r) s.id.replica)) [
+    | inl e ↦ inr (inr (lacks_received r s w.running s.id.replica e))
+    | inr e ↦ comes_fitting e
+  ]

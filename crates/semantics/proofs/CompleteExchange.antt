@@ -1,13 +1,12 @@
--- In one world each history that came is applied.
+-- In one world each history that came is applied, where there is room for it.
 use Rattle.std.proofs.Common.{◌≡◌, inl, inr, ℕ, ◌≤◌, Bool, true, false, not, cond, List, [], ◌∷◌, refl, sym, ap, ◌∙◌, true≢false, length}
 use Rattle.std.proofs.lemmas.Bool.{or_cases, cases_Bool}
 use Rattle.semantics.specs.Ids.{OpId, is_same_id}
 use Rattle.semantics.specs.Operations.{Operation}
-use Rattle.semantics.specs.LegalHistory.{IsLegal, has_id, IsAmong}
+use Rattle.semantics.specs.LegalHistory.{IsLegal, has_id}
 use Rattle.semantics.specs.NamedIds.{greatest_counter}
 use Rattle.semantics.specs.Vectors.{Vector, at, covers}
 use Rattle.semantics.specs.Stamped.{Stamped, operation_after, operations_of, IsLegalStamped}
-use Rattle.semantics.specs.Faults.{is_of_members}
 use Rattle.semantics.specs.Making.{is_full}
 use Rattle.semantics.specs.Entries.{missing}
 use Rattle.semantics.specs.Replica.{Replica, operations, IsRunning}
@@ -23,7 +22,7 @@ use Rattle.semantics.proofs.GrowingWorld.{legal_entries}
 use Rattle.semantics.proofs.ReachedWorlds.{received}
 use Rattle.semantics.proofs.Room.{bounded}
 use Rattle.semantics.proofs.Growing.{receive_grows, still_full}
-use Rattle.semantics.proofs.Arriving.{comes_in}
+use Rattle.semantics.proofs.Arriving.{comes_in, lacks_received}
 use Rattle.semantics.proofs.ReceivedItems.{same_members}
 
 pub settled_next : (K : List Operation) → IsLegal K → (p : ℕ) (r : Replica) (s : Stamped) → IsSettled K p r → IsOfWorld K s
@@ -43,19 +42,21 @@ one_more s F d t h a e = elim (or_cases (is_same_id s.id a) (has_id (operations_
 ]
 
 all_next : (K : List Operation) → IsLegal K → (p : ℕ) (r d : Replica) (s : Stamped) (F : List Stamped) → IsSettled K p d → HasAll r d F
-    → IsLegalStamped (s ∷ F) → AreWithin (operations_of (s ∷ F)) K → is_of_members r.members s ≡ true → HasAll r (receive d s) (s ∷ F)
-all_next K lk p r d s F h a l wf known = record {
+    → IsLegalStamped (s ∷ F) → AreWithin (operations_of (s ∷ F)) K → HasAll r (receive d s) (s ∷ F)
+all_next K lk p r d s F h a l wf = record {
   members = (drained (deliver d s) (delivered d s run)).1.members ∙ same_members d s (answer_to d s) ∙ a.members;
   kept = λ b t. grows.1 b (a.kept b t);
   complete = elim (cases_Bool (is_full d.entries)) [
     | inl e ↦ inl (still_full d s run e)
     | inr e ↦ elim a.complete [
       | inl f ↦ absurd (true≢false (sym f ∙ e))
-      | inr f ↦ elim (cases_Bool (has_id (operations d) s.id)) [
-        | inl t ↦ inr (one_more s F (receive d s) (grows.1 s.id t) (λ b u. grows.1 b (f b u)))
-        | inr t ↦ elim (comes_in K lk p d h.world h.end h.few s F l wf (ap (λ ps. is_of_members ps s) a.members ∙ known) f e t) [
+      | inr (inl k) ↦ inr (inl (k.0, inr k.1, lacks_received d s run k.0.id.replica k.2))
+      | inr (inr f) ↦ elim (cases_Bool (has_id (operations d) s.id)) [
+        | inl t ↦ inr (inr (one_more s F (receive d s) (grows.1 s.id t) (λ b u. grows.1 b (f b u))))
+        | inr t ↦ elim (comes_in K lk p d h.world h.end h.few s F l wf f e t) [
           | inl g ↦ inl g.0
-          | inr g ↦ inr (one_more s F (receive d s) g (λ b u. grows.1 b (f b u)))
+          | inr (inl g) ↦ inr (inr (one_more s F (receive d s) g (λ b u. grows.1 b (f b u))))
+          | inr (inr k) ↦ inr (inl (s, inl refl, k))
         ]
       ]
     ]
@@ -73,16 +74,18 @@ all_skip : (r d : Replica) (s : Stamped) (F : List Stamped) → HasAll r d F →
 all_skip r d s F a t = record {
   members = a.members;
   kept = a.kept;
-  complete = elim a.complete [ inl f ↦ inl f | inr f ↦ inr (one_more s F d t f) ];
+  complete = elim a.complete [
+    | inl f ↦ inl f
+    | inr (inl k) ↦ inr (inl (k.0, inr k.1, k.2))
+    | inr (inr f) ↦ inr (inr (one_more s F d t f))
+  ];
 }
 
 pub complete : (K : List Operation) → IsLegal K → (p : ℕ) (r : Replica) (v : Vector) → IsSettled K p r
     → ((q : ℕ) → at v q ≤ greatest_counter (operations r) q) → (F : List Stamped) → IsLegalStamped F → AreWithin (operations_of F) K
-    → ((s : Stamped) → IsAmong s F → is_of_members r.members s ≡ true)
     → IsSettled K p (receive_all r (missing v F)) × HasAll r (receive_all r (missing v F)) F
-complete K lk p r v h n [] l wf known = (h, record { members = refl; kept = λ a t. t; complete = inr (λ a e. absurd (true≢false (sym e))) })
-complete K lk p r v h n (s ∷ F) l wf known = at_test (complete K lk p r v h n F l.0 (λ x m. wf x (inr m)) (λ x m. known x (inr m)))
-    (covers v s.id) refl
+complete K lk p r v h n [] l wf = (h, record { members = refl; kept = λ a t. t; complete = inr (inr (λ a e. absurd (true≢false (sym e)))) })
+complete K lk p r v h n (s ∷ F) l wf = at_test (complete K lk p r v h n F l.0 (λ x m. wf x (inr m))) (covers v s.id) refl
   where
     at_test : IsSettled K p (receive_all r (missing v F)) × HasAll r (receive_all r (missing v F)) F → (b : Bool) → covers v s.id ≡ b
         → (let d : Replica = receive_all r (cond (not b) (s ∷ missing v F) (missing v F)) in IsSettled K p d × HasAll r d (s ∷ F))
@@ -95,5 +98,5 @@ complete K lk p r v h n (s ∷ F) l wf known = at_test (complete K lk p r v h n 
     )
     at_test rest false e = (
       settled_next K lk p (receive_all r (missing v F)) s rest.0 (record { history = s ∷ F; legal = l; within = wf; there = inl refl }),
-      all_next K lk p r (receive_all r (missing v F)) s F rest.0 rest.1 l wf (known s (inl refl)),
+      all_next K lk p r (receive_all r (missing v F)) s F rest.0 rest.1 l wf,
     )

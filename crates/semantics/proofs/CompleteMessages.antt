@@ -1,13 +1,12 @@
 -- An engine that said hello and received the answer has each operation of it in the end, or its history is full,
--- and the operation waits or was refused for that.
-use Rattle.std.proofs.Common.{◌≡◌, inl, inr, true, ℕ, suc, ◌+◌, ◌≤◌, List, [], ◌∷◌, ◌++◌, reverse, length, None, Some, sym, subst, arith}
+-- and the operation waits or was refused for that, or its table has no room for a replica of the answer.
+use Rattle.std.proofs.Common.{◌≡◌, inl, inr, ℕ, suc, ◌+◌, ◌≤◌, List, [], ◌∷◌, ◌++◌, reverse, length, None, Some, sym, subst, arith}
 use Rattle.std.proofs.Common.{slice_get}
 use Rattle.semantics.specs.Operations.{Operation}
 use Rattle.semantics.specs.LegalHistory.{IsAmong}
 use Rattle.semantics.specs.NamedIds.{greatest_counter}
 use Rattle.semantics.specs.Vectors.{Vector, at}
 use Rattle.semantics.specs.Stamped.{Stamped, IsLegalStamped}
-use Rattle.semantics.specs.Faults.{is_of_members}
 use Rattle.semantics.specs.Entries.{stamped_entries, applied, missing}
 use Rattle.semantics.specs.Replica.{operations}
 use Rattle.semantics.specs.OneWorld.{AreWithin}
@@ -63,22 +62,20 @@ pub received_through : (K : List Operation) (W : World) (after : List WorldStep)
     → ((E : Engine) → slice_get W.engines a ≡ Some E → (q : ℕ) → at v q ≤ greatest_counter (operations E.replica) q)
     → slice_get W.messages k ≡ Some (Bundle (lacked B v)) → (world_step W (step_by a (Deliver c k))).reply ≡ Received serial count None
     → (A : Engine) → slice_get (world_after W (step_by a (Deliver c k) ∷ after)).engines a ≡ Some A → IsHandledBelow A c (serial + count)
-    → ((s : Stamped) → IsAmong s (stamped_entries (published_entries B)) → is_of_members A.replica.members s ≡ true)
-    → AllAre (HasArrived c serial (serial + count) A) (stamped_entries (published_entries B))
-received_through K W after sound is a c k serial count v B known legal short within named bundle receipt A e handled members =
+    → AllAre (HasArrived (stamped_entries (published_entries B)) c serial (serial + count) A) (stamped_entries (published_entries B))
+received_through K W after sound is a c k serial count v B known legal short within named bundle receipt A e handled =
     let F : List Stamped = stamped_entries (published_entries B) in
     let got = bundle_delivered W a c k serial count (reverse (missing v F)) bundle receipt in
     let E : Engine = got.0 in
     let G : Engine = got.1 in
     let r : HasReceivedAll E c (reverse (missing v F)) serial count G = got.4 in
     let next = one_world_after K W (step_by a (Deliver c k) ∷ []) sound first_known is in
-    let grown = grown_after W (step_by a (Deliver c k) ∷ after) sound a E A got.2 e in
     let first : ℕ = suc (length r.client.cells) in
     let many : ℕ = length (reverse (missing v F)) in
     let started = receipt_started K is.legal E G (sound a E got.2) (is.engines a E got.2) v F legal short within c serial count r
-    (named E got.2) (λ s m. subst (λ ms. is_of_members ms s ≡ true) grown.members (members s m)) in
-    let coming = coming_wider c first (first + many) E.replica.members (operations E.replica) F K next.0 G next.1 started in
-    came_through c first many serial count E.replica.members (operations E.replica) F r.first r.all next.0
+    (named E got.2) in
+    let coming = coming_wider c first (first + many) (operations E.replica) F K next.0 G next.1 started in
+    came_through c first many serial count (operations E.replica) F r.first r.all next.0
     (world_step W (step_by a (Deliver c k))).world after
     (sound_after W (step_by a (Deliver c k) ∷ []) sound) (λ s m. known s (inr m)) next.2 a G got.3 coming A e handled
   where
@@ -105,10 +102,9 @@ pub exchanged_through : (K : List Operation) (W : World) (between later after : 
     (step_by a (Deliver c k) ∷ after)).engines a
     ≡ Some A
     → IsHandledBelow A c (serial + count)
-    → ((s : Stamped) → IsAmong s (stamped_entries (published_entries B)) → is_of_members A.replica.members s ≡ true)
-    → AllAre (HasArrived c serial (serial + count) A) (stamped_entries (published_entries B))
+    → AllAre (HasArrived (stamped_entries (published_entries B)) c serial (serial + count) A) (stamped_entries (published_entries B))
 exchanged_through K W between later after sound is a b c t h u k sent serial count v B known_between known_later known_after hello there
-    answer receipt A e handled members =
+    answer receipt A e handled =
     let asked : World = world_after W (step_by a (SayHello t) ∷ between) in
     let arrived : World = world_after asked (step_by b (AnswerHello u h) ∷ later) in
     let said = said_hello W a t h v hello in
@@ -125,7 +121,7 @@ exchanged_through K W between later after sound is a b c t h u k sent serial cou
     (λ E at_receipt q. subst (λ (x : Vector). at x q ≤ greatest_counter (operations E.replica) q) (sym said.2)
     (named_later said.0 E (grown said.0 said.1 E at_receipt) q))
     (message_kept_after (world_step asked (step_by b (AnswerHello u h))).world later k (Bundle (lacked B v)) bundle) receipt A e
-    handled members
+    handled
   where
     grown : (D : Engine) → slice_get W.engines a ≡ Some D → (E : Engine)
         → slice_get (world_after (world_after W (step_by a (SayHello t) ∷ between)) (step_by b (AnswerHello u h) ∷ later)).engines a

@@ -34,7 +34,7 @@ kept_running r s h alone other new lone = record {
 -- What a peer delivers leaves a replica that runs. Nothing changes unless it is kept; and what is kept passed each test of the delivery, in
 -- their order, which is what `kept_running` asks of it.
 pub delivered : (r : Replica) (s : Stamped) → IsRunning r → IsRunning (deliver r s)
-delivered r s h = at_alone (alone_fault r.members s) refl
+delivered r s h = at_alone (alone_fault s) refl
   where
     at_answer : StandsAlone s → s.id.replica ≢ r.own → has_id (operations r) s.id ≡ false → is_waiting r.waiting s.id ≡ false
         → (a : Delivered) → IsRunning (kept_by r s a)
@@ -63,9 +63,9 @@ delivered r s h = at_alone (alone_fault r.members s) refl
         let parts = or_parts (has_id (operations r) s.id) (is_waiting r.waiting s.id) e in
         at_own alone parts.0 parts.1 (s.id.replica == r.own) refl
 
-    at_alone : (w : Option Refusal) → alone_fault r.members s ≡ w → IsRunning (kept_by r s (answer_after r s w))
+    at_alone : (w : Option Refusal) → alone_fault s ≡ w → IsRunning (kept_by r s (answer_after r s w))
     at_alone (Some f) e = h
-    at_alone None e = at_known (stands_alone r.members s e) (has_id (operations r) s.id || is_waiting r.waiting s.id) refl
+    at_alone None e = at_known (stands_alone s e) (has_id (operations r) s.id || is_waiting r.waiting s.id) refl
 
 -- ---- an own operation
 

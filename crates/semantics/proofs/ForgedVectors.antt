@@ -1,12 +1,13 @@
 -- Deliveries that no replica could have made, and why each is refused.
-use Rattle.std.specs.Prelude.{◌≡◌, ℕ, [], ◌∷◌, codes, refl}
+use Rattle.std.specs.Prelude.{◌≡◌, ℕ, zero, suc, List, [], ◌∷◌, codes, refl}
 use Rattle.ids.specs.declared.refusal.Refusal.TheVariants.{NotInList, UnknownReplica, BadCounter, BrokenChain, NotClosed, BadPlace, OwnName}
 use Rattle.semantics.specs.Ids.{id_at}
 use Rattle.semantics.specs.Elements.{Element, Item, At, HeadOf}
 use Rattle.semantics.specs.Operations.{Assign, Insert, Delete}
 use Rattle.semantics.specs.Vectors.{Vector}
 use Rattle.semantics.specs.Stamped.{Stamped}
-use Rattle.semantics.specs.Delivery.{NotKept, answer_to}
+use Rattle.semantics.specs.Replica.{Replica}
+use Rattle.semantics.specs.Delivery.{Kept, NotKept, answer_to}
 use Rattle.semantics.proofs.ExampleWords.{text, field, sent, new}
 use Rattle.semantics.proofs.ConcurrentAssigns.{first, second}
 
@@ -16,21 +17,38 @@ key = field (codes "key")
 abbrev deletes_key : ℕ → ℕ → Vector → Stamped
 deletes_key c p v = sent c p v (At key) Delete
 
+-- the numbers from n down to 1
+abbrev numbers_to : ℕ → List ℕ
+numbers_to zero = []
+numbers_to (suc n) = suc n ∷ numbers_to n
+
+-- a new replica 1 with 256 numbers in its table
+abbrev crowded : Replica
+crowded = record (new 1) { members = numbers_to 256 }
+
 -- ---- to a new replica
 
 -- the counter is one more than the greatest of the vector
 wrong_counter : answer_to (new 1) (deletes_key 9 2 (id_at 7 1 ∷ [])) ≡ NotKept BadCounter
 wrong_counter = refl
 
--- each replica that is named is a member
-unknown_sender : answer_to (new 1) (deletes_key 1 4 []) ≡ NotKept UnknownReplica
-unknown_sender = refl
+-- who isn't a member is kept too, and what names one waits for it
+new_sender : answer_to (new 1) (deletes_key 1 4 []) ≡ Kept
+new_sender = refl
 
-unknown_in_vector : answer_to (new 1) (deletes_key 8 2 (id_at 7 4 ∷ [])) ≡ NotKept UnknownReplica
-unknown_in_vector = refl
+waits_for_new : answer_to (new 1) (deletes_key 8 2 (id_at 7 4 ∷ [])) ≡ Kept
+waits_for_new = refl
 
-unknown_in_place : answer_to (new 1) (sent 8 2 (id_at 7 1 ∷ []) (At (Item key (id_at 1 4))) Delete) ≡ NotKept UnknownReplica
-unknown_in_place = refl
+-- unless the table has 256 numbers already
+no_room : answer_to crowded (deletes_key 1 257 []) ≡ NotKept UnknownReplica
+no_room = refl
+
+member_of_many : answer_to crowded (deletes_key 1 256 []) ≡ Kept
+member_of_many = refl
+
+-- what isn't ready isn't tested for room
+waits_without_room : answer_to crowded (deletes_key 8 257 (id_at 7 4 ∷ [])) ≡ Kept
+waits_without_room = refl
 
 -- ---- after two concurrent assigns of one field, which each depend on the assign before
 

@@ -7,9 +7,10 @@ use Rattle.ids.specs.declared.refusal.Refusal.TheVariants.{HistoryFull, OwnName}
 use Rattle.semantics.specs.Operations.{Operation}
 use Rattle.semantics.specs.LegalHistory.{IsLegal, has_id}
 use Rattle.semantics.specs.Stamped.{Stamped, operations_of, operation_after, IsLegalStamped}
-use Rattle.semantics.specs.Faults.{is_of_members, alone_fault, fault_of}
+use Rattle.semantics.specs.Faults.{alone_fault}
 use Rattle.semantics.specs.Making.{Command, make, is_full}
 use Rattle.semantics.specs.Entries.{stamped_entries}
+use Rattle.semantics.specs.Joining.{check_fault}
 use Rattle.semantics.specs.LegalAnswer.{Request, OfCommand, OfPeer, Submitted, RefusedAt}
 use Rattle.semantics.specs.Replica.{Replica, operations}
 use Rattle.semantics.specs.Delivery.{Delivered, Known, NotKept, is_waiting, room_answer, answer_after, answer_to, kept_by, deliver}
@@ -28,7 +29,7 @@ abbrev pub IsShort : Replica → Type 0
 IsShort r = length r.entries ≤ 1048576
 
 taken_short : (r : Replica) (s : Stamped) → is_full r.entries ≡ false → IsShort (taken r s)
-taken_short r s few = at_fault (fault_of (stamped_entries r.entries) s)
+taken_short r s few = at_fault (check_fault r.members (stamped_entries r.entries) s)
   where
     room : length r.entries ≤ 1048575
     room = ltb-false 1048575 (length r.entries) few
@@ -84,7 +85,7 @@ drained_full zero r e = refl
 drained_full (suc n) r e = ap (λ b. cond b r (at_ready (first_ready (operations r) r.waiting) r (λ s. drain_for n (taken r s)))) e
 
 delivered_full : (r : Replica) (s : Stamped) → is_full r.entries ≡ true → deliver r s ≡ r
-delivered_full r s e = at_alone (alone_fault r.members s)
+delivered_full r s e = at_alone (alone_fault s)
   where
     at_tests : (known own : Bool)
         → kept_by r s (cond known Known (cond own (NotKept OwnName) (cond (is_full r.entries) (NotKept HistoryFull) (room_answer r s)))) ≡ r
@@ -133,13 +134,13 @@ IsMetFull r x s =
 -- An operation of the world that comes to a full history is applied, or waits, or is refused for that.
 pub item_full : (K : List Operation) → IsLegal K → (p : ℕ) (r : Replica) (x : Submitted) (s : Stamped) (F : List Stamped)
     → IsSettled K p r → x.floor ≤ length r.entries → x.request ≡ OfPeer s
-    → IsLegalStamped (s ∷ F) → length F < 1048576 → AreWithin (operations_of (s ∷ F)) K → is_of_members r.members s ≡ true
+    → IsLegalStamped (s ∷ F) → length F < 1048576 → AreWithin (operations_of (s ∷ F)) K
     → is_full r.entries ≡ true
     → IsMetFull r x s
-item_full K lk p r x s F h floor is l few w known full = at_applied (has_id (operations r) s.id) refl
+item_full K lk p r x s F h floor is l few w full = at_applied (has_id (operations r) s.id) refl
   where
-    alone : alone_fault r.members s ≡ None
-    alone = no_fault_alone r.members (operations_of F) s (legal F l.0) (let n = length_operations F in omega (arith, n, few)) l.1 known
+    alone : alone_fault s ≡ None
+    alone = no_fault_alone (operations_of F) s (legal F l.0) (let n = length_operations F in omega (arith, n, few)) l.1
 
     -- it isn't the replica's own, which would be there
     other : has_id (operations r) s.id ≡ false → (s.id.replica == r.own) ≡ false

@@ -1,5 +1,5 @@
 -- Once all of a receipt is handled, each operation of the history that came in it is applied, or the engine's own history is full,
--- and the operation waits or was refused for that.
+-- and the operation waits or was refused for that, or its table has no room for a replica of the history.
 use Rattle.std.proofs.Common.{◌≡◌, inl, inr, ℕ, ◌+◌, ◌<◌, ◌≤◌, false, cond, ◌&&◌, ◌==◌, nat_le, nat_lt, List, [], Some, sym, ap, ◌∙◌, subst}
 use Rattle.std.proofs.Common.{arith, slice_get}
 use Rattle.std.proofs.lemmas.Bool.{and_parts, false_from_ne_true, eqb-true, leb-true, ltb-true, ne_eqb}
@@ -43,20 +43,22 @@ refused_named A c first many serial count start all s x =
     let end : first + many ≡ serial + count = omega (arith, is, all) in
     subst (λ n. WasRefusedFull A c serial n s) end (subst (λ n. WasRefusedFull A c n (first + many) s) (sym is) x)
 
-pub came_through : (c first many serial count : ℕ) (ms : List ℕ) (base : List Operation) (F : List Stamped)
+pub came_through : (c first many serial count : ℕ) (base : List Operation) (F : List Stamped)
     → serial ≡ cond (count == 0) 0 first → count ≡ many
     → (K : List Operation) (W : World) (steps : List WorldStep) → IsSoundWorld W → AreWithoutLines steps → IsWorldOf K W
-    → (a : ℕ) (G : Engine) → slice_get W.engines a ≡ Some G → IsComing c first (first + many) ms base F K G
+    → (a : ℕ) (G : Engine) → slice_get W.engines a ≡ Some G → IsComing c first (first + many) base F K G
     → (A : Engine) → slice_get (world_after W steps).engines a ≡ Some A → IsHandledBelow A c (serial + count)
-    → AllAre (HasArrived c serial (serial + count) A) F
-came_through c first many serial count ms base F start all K W steps sound known is a G there coming A e handled =
-    let claim : List Operation → Engine → Type 0 = IsComing c first (first + many) ms base F in
-    let later = further_by_run claim (coming_kept c first (first + many) ms base F) a K W steps sound known is
+    → AllAre (HasArrived F c serial (serial + count) A) F
+came_through c first many serial count base F start all K W steps sound known is a G there coming A e handled =
+    let claim : List Operation → Engine → Type 0 = IsComing c first (first + many) base F in
+    let later = further_by_run claim (coming_kept c first (first + many) base F) a K W steps sound known is
     (λ X q. (let same : G ≡ X = cc in subst (claim K) same coming)) in
     let x = later.claim A e in
-    let came = all_came ms base F (HasArrived c first (first + many) A) (λ s t. inl (x.based s.id t)) x.there
+    let came = all_came base F (HasArrived F c first (first + many) A) (λ s t. inl (x.based s.id t)) x.there
     (awaited c first (first + many) A.queue) x.comes x.came (none_awaited A c first many serial count start all handled) in
     λ s m. elim (came s m) [
       | inl t ↦ inl t
-      | inr f ↦ inr (f.0, elim f.1 [ inl w ↦ inl w | inr r ↦ inr (refused_named A c first many serial count start all s r) ])
+      | inr (inl f) ↦ inr
+          (inl (f.0, elim f.1 [ inl w ↦ inl w | inr r ↦ inr (refused_named A c first many serial count start all s r) ]))
+      | inr (inr k) ↦ inr (inr k)
     ]

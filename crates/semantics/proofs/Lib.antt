@@ -32,7 +32,6 @@ pub mod FaultlessFollows
 pub mod FollowsFaultless
 pub mod AloneTests
 pub mod LawfulAlone
-pub mod KnownItems
 -- what is made, and entry histories
 pub mod ListedItems
 pub mod MadeLawful
@@ -146,5 +145,6 @@ pub mod NextIds
 pub mod OneEngineWorld
 pub mod PlacedItems
 pub mod JoinedReplicas
+pub mod CheckedFaults
 pub mod SingleSteps
 pub mod LostItem

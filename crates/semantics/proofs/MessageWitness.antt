@@ -1,12 +1,12 @@
 -- The premises of an exchange of messages are met: one engine writes, and another one gets what it lacks.
-use Rattle.std.proofs.Common.{◌≡◌, ℕ, zero, suc, Bool, true, false, not, List, [], ◌∷◌, Some, refl, sym, ap, arith}
+use Rattle.std.proofs.Common.{◌≡◌, ◌⊎◌, ℕ, zero, suc, Bool, true, false, not, List, [], ◌∷◌, Some, refl, sym, ap, arith}
 use Rattle.std.specs.Prelude.{codes}
 use Rattle.ids.specs.Configurations.{Configuration}
 use Rattle.semantics.specs.Questions.{Get}
 use Rattle.semantics.specs.LegalHistory.{IsAmong}
 use Rattle.semantics.specs.Stamped.{Stamped}
-use Rattle.semantics.specs.Faults.{is_of_members}
 use Rattle.semantics.specs.Entries.{stamped_entries}
+use Rattle.semantics.specs.Exchange.{LacksRoomFor}
 use Rattle.semantics.specs.LegalAnswer.{OfCommand}
 use Rattle.semantics.specs.Engine.{Engine, Bundle, published_entries}
 use Rattle.semantics.specs.WriteSteps.{push, take_submission, whole_step}
@@ -86,9 +86,6 @@ exchange = record {
 handled : IsHandledBelow reader 0 2
 handled x m = absurd m
 
-of_members : (s : Stamped) → IsAmong s (stamped_entries (published_entries writer)) → is_of_members reader.replica.members s ≡ true
-of_members s m = all_pass (is_of_members reader.replica.members) (stamped_entries (published_entries writer)) s refl m
-
-complete : (s : Stamped) → IsAmong s (stamped_entries (published_entries writer)) → IsAppliedUnlessFull reader 0 1 2 s
+complete : (s : Stamped) → IsAmong s (stamped_entries (published_entries writer))
+    → IsAppliedUnlessFull reader 0 1 2 s ⊎ LacksRoomFor reader.replica (stamped_entries (published_entries writer))
 complete = messages_complete both steps own_numbers without_lines 1 0 0 1 2 (published_entries writer) reader exchange refl handled
-    of_members

@@ -6,9 +6,10 @@ use Rattle.semantics.specs.LegalHistory.{has_id}
 use Rattle.semantics.specs.Stamped.{Stamped}
 use Rattle.ids.specs.declared.refusal.Refusal.{Refusal}
 use Rattle.ids.specs.declared.refusal.Refusal.TheVariants.{HistoryFull, InboxFull, OwnName}
-use Rattle.semantics.specs.Faults.{is_ready, fault_of, alone_fault}
+use Rattle.semantics.specs.Faults.{is_ready, alone_fault}
 use Rattle.semantics.specs.Making.{is_full}
 use Rattle.semantics.specs.Entries.{Peer, stamped_entries}
+use Rattle.semantics.specs.Joining.{check_fault}
 use Rattle.semantics.specs.Replica.{Replica, operations}
 use Rattle.semantics.specs.Delivery.{Delivered, Kept, Known, NotKept, is_waiting, answer_after, answer_to, kept_unless, kept_by}
 use Rattle.semantics.specs.Drain.{taken_with, taken, at_ready, drain_for, drain, receive}
@@ -38,23 +39,24 @@ emptied r = record r { waiting = [] }
 abbrev pub appended : Replica → Stamped → Replica
 appended r s = record r { entries = Peer s ∷ r.entries; waiting = [] }
 
-received_empty : (r : Replica) (s : Stamped) → alone_fault r.members s ≡ None → has_id (operations r) s.id ≡ false
+received_empty : (r : Replica) (s : Stamped) → alone_fault s ≡ None → has_id (operations r) s.id ≡ false
     → (s.id.replica == r.own) ≡ false → is_full r.entries ≡ false
-    → is_ready (operations r) s ≡ true → fault_of (stamped_entries r.entries) s ≡ None → receive (emptied r) s ≡ appended r s
+    → is_ready (operations r) s ≡ true → check_fault r.members (stamped_entries r.entries) s ≡ None → receive (emptied r) s ≡ appended r s
 received_empty r s alone new other few ready none =
     let kept : answer_to (emptied r) s ≡ Kept =
     ap (answer_after (emptied r) s) alone
     ∙ kept_by_tests (has_id (operations r) s.id || false) (s.id.replica == r.own) (is_full r.entries) (is_ready (operations r) s) false
-    (fault_of (stamped_entries r.entries) s) _ (or_from (has_id (operations r) s.id) false new refl) other few ready refl none in
+    (check_fault r.members (stamped_entries r.entries) s) _
+    (or_from (has_id (operations r) s.id) false new refl) other few ready refl none in
     let q : Replica = record r { waiting = s ∷ [] } in
     ap (λ a. drain (kept_by (emptied r) s a)) kept
     ∙ drained_by_tests q s (is_full r.entries) (is_ready (operations r) s) few ready
     ∙ ap (taken_with q s) none
     ∙ ap (λ b. record r { entries = Peer s ∷ r.entries; waiting = cond (not b) (s ∷ []) [] }) (id_itself s.id)
 
-pub received_new : (r : Replica) (s : Stamped) → r.waiting ≡ [] → alone_fault r.members s ≡ None → has_id (operations r) s.id ≡ false
+pub received_new : (r : Replica) (s : Stamped) → r.waiting ≡ [] → alone_fault s ≡ None → has_id (operations r) s.id ≡ false
     → (s.id.replica == r.own) ≡ false → is_full r.entries ≡ false
-    → is_ready (operations r) s ≡ true → fault_of (stamped_entries r.entries) s ≡ None → receive r s ≡ appended r s
+    → is_ready (operations r) s ≡ true → check_fault r.members (stamped_entries r.entries) s ≡ None → receive r s ≡ appended r s
 received_new r s e alone new other few ready none =
     let here : r ≡ emptied r = λ i. record { own = r.own; members = r.members; entries = r.entries; waiting = e i; dropped = r.dropped } in
     ap (λ (q : Replica). receive q s) here ∙ received_empty r s alone new other few ready none
@@ -64,7 +66,7 @@ known_by_test r s true d e = refl
 known_by_test r s false d e = absurd (true≢false (sym e))
 
 pub received_known : (r : Replica) (s : Stamped) → r.waiting ≡ [] → has_id (operations r) s.id ≡ true → receive r s ≡ r
-received_known r s e known = ap drain (same (alone_fault r.members s)) ∙ ap (λ W. drain_for (length W) r) e
+received_known r s e known = ap drain (same (alone_fault s)) ∙ ap (λ W. drain_for (length W) r) e
   where
     same : (w : Option Refusal) → kept_by r s (answer_after r s w) ≡ r
     same (Some f) = refl

@@ -33,7 +33,7 @@ new_engine c = record {
       within = λ x m. m;
       made = λ x m e. absurd m;
       waits = λ s m. absurd m;
-      none_dropped = refl;
+      none_dropped = λ f. refl;
     };
     end = inr (λ s m. absurd m);
     few = omega arith;

@@ -3,8 +3,9 @@ use Rattle.std.proofs.Common.{◌≡◌, inl, inr, ℕ, zero, suc, ◌<◌, Bool
 use Rattle.std.proofs.Common.{Option, Some, None, Result, Ok, Err, refl, sym, ap, ◌∙◌, subst, arith, true≢false, slice_get}
 use Rattle.std.specs.Bool.{⊤}
 use Rattle.std.proofs.lemmas.Bool.{ltb-true, ltb-false}
+use Rattle.ids.specs.Tables.{lacks_room}
 use Rattle.ids.specs.declared.refusal.Refusal.{Refusal}
-use Rattle.ids.specs.declared.refusal.Refusal.TheVariants.{NoMemory, BadFloor, OwnName, HistoryFull, InboxFull, TooDeep}
+use Rattle.ids.specs.declared.refusal.Refusal.TheVariants.{NoMemory, BadFloor, UnknownReplica, OwnName, HistoryFull, InboxFull, TooDeep}
 use Rattle.semantics.specs.Ids.{OpId}
 use Rattle.semantics.specs.Elements.{Element, Doc, Field, Item, Place, At, HeadOf, depth}
 use Rattle.semantics.specs.Operations.{Operation, Mutation, Assign, Insert, Delete, Misplaced, OutsideList, OnHead, misplaced}
@@ -16,6 +17,7 @@ use Rattle.semantics.specs.Stamped.{Stamped}
 use Rattle.semantics.specs.Faults.{first_failed, first_fault, alone_fault, fault_of, is_ready}
 use Rattle.semantics.specs.Making.{Command, is_full, place_unless, then_place, operation_at, make}
 use Rattle.semantics.specs.Entries.{stamped_entries}
+use Rattle.semantics.specs.Joining.{table_with, check_fault}
 use Rattle.semantics.specs.LegalAnswer.{Request, OfCommand, OfPeer, Submitted, Reply, Made, RefusedAt, KeptAt, KnownAt}
 use Rattle.semantics.specs.Replica.{Replica, operations}
 use Rattle.semantics.specs.Delivery.{Delivered, Kept, Known, NotKept, is_waiting, kept_unless, room_answer, answer_after, answer_to}
@@ -36,13 +38,12 @@ abbrev FineResult : {X : Type 0} → Result X Refusal → Type 0
 FineResult (Ok x) = ⊤
 FineResult (Err f) = is_outside_rules f ≡ false
 
-alone_fine : (a b : Bool) (c : Option Misplaced) (d : Bool) → FineFault (first_failed a b c d)
-alone_fine false b c d = refl
-alone_fine true false c d = refl
-alone_fine true true (Some OutsideList) d = refl
-alone_fine true true (Some OnHead) d = refl
-alone_fine true true None false = refl
-alone_fine true true None true = tt
+alone_fine : (b : Bool) (c : Option Misplaced) (d : Bool) → FineFault (first_failed b c d)
+alone_fine false c d = refl
+alone_fine true (Some OutsideList) d = refl
+alone_fine true (Some OnHead) d = refl
+alone_fine true None false = refl
+alone_fine true None true = tt
 
 fault_fine : (a b c d : Bool) → FineFault (first_fault a b c d)
 fault_fine true b c d = refl
@@ -50,6 +51,12 @@ fault_fine false true c d = refl
 fault_fine false false true d = refl
 fault_fine false false false true = refl
 fault_fine false false false false = tt
+
+check_fine : (ms : List ℕ) (F : List Stamped) (s : Stamped) → FineFault (check_fault ms F s)
+check_fine ms F s = elim (lacks_room (table_with ms F) s.id.replica) as (λ b. FineFault (cond b (Some UnknownReplica) (fault_of F s))) [
+  | true ↦ refl
+  | false ↦ fault_fine _ _ _ _
+]
 
 kept_fine : (o : Option Refusal) → FineFault o → FineAnswer (kept_unless o)
 kept_fine None f = tt
@@ -62,8 +69,8 @@ cond_fine false x y f g = g
 room_fine : (r : Replica) (s : Stamped) → FineAnswer (room_answer r s)
 room_fine r s =
     cond_fine (is_ready (operations r) s) _ _
-    (cond_fine (nat_lt 4096 (length r.waiting)) (NotKept InboxFull) (kept_unless (fault_of (stamped_entries r.entries) s)) refl
-    (kept_fine (fault_of (stamped_entries r.entries) s) (fault_fine _ _ _ _)))
+    (cond_fine (nat_lt 4096 (length r.waiting)) (NotKept InboxFull) (kept_unless (check_fault r.members (stamped_entries r.entries) s)) refl
+    (kept_fine (check_fault r.members (stamped_entries r.entries) s) (check_fine r.members (stamped_entries r.entries) s)))
     (cond_fine (nat_lt 4095 (length r.waiting)) (NotKept InboxFull) Kept refl tt)
 
 after_fine : (r : Replica) (s : Stamped) (o : Option Refusal) → FineFault o → FineAnswer (answer_after r s o)
@@ -74,7 +81,7 @@ after_fine r s None k =
     (cond_fine (is_full r.entries) (NotKept HistoryFull) (room_answer r s) refl (room_fine r s)))
 
 pub answer_fine : (r : Replica) (s : Stamped) → FineAnswer (answer_to r s)
-answer_fine r s = after_fine r s (alone_fault r.members s) (alone_fine _ _ _ _)
+answer_fine r s = after_fine r s (alone_fault s) (alone_fine _ _ _)
 
 -- ---- what is made
 

@@ -1,7 +1,7 @@
 -- Every world that is reached is one world.
 use Rattle.std.proofs.Common.{◌≡◌, ◌≢◌, ◌⊎◌, inl, inr, ℕ, Bool, true, false, cond, ◌==◌, List, [], ◌∷◌, Ok, refl, sym, ap, ◌∙◌, subst}
-use Rattle.std.proofs.Common.{length}
-use Rattle.std.proofs.lemmas.Bool.{or_right, or_left, eqb-true, eqb-false}
+use Rattle.std.proofs.Common.{length, nat_le, true≢false}
+use Rattle.std.proofs.lemmas.Bool.{or_right, or_left, eqb-true, eqb-false, false_from_ne_true}
 use Rattle.semantics.specs.Ids.{OpId, is_same_id}
 use Rattle.semantics.specs.Operations.{Operation}
 use Rattle.semantics.specs.LegalHistory.{IsLegal, IsAmong, has_id}
@@ -9,7 +9,7 @@ use Rattle.semantics.specs.NamedIds.{NamesAll}
 use Rattle.semantics.specs.Stamped.{Stamped, operations_of, operation_after}
 use Rattle.semantics.specs.Making.{Command, make}
 use Rattle.semantics.specs.Entries.{IsAbove, Entry, stamped_entries}
-use Rattle.semantics.specs.Replica.{Replica, operations, commit_own, IsRunning}
+use Rattle.semantics.specs.Replica.{Replica, operations, commit_own, table_of, has_full_table, IsRunning}
 use Rattle.semantics.specs.Delivery.{kept_by, Delivered, Kept, Known, NotKept, answer_to, deliver}
 use Rattle.semantics.specs.Drain.{receive, with_peers}
 use Rattle.semantics.specs.OneWorld.{AreWithin, IsOfWorld, IsReplicaOf}
@@ -23,6 +23,7 @@ use Rattle.semantics.proofs.Drained.{drained}
 use Rattle.semantics.proofs.Waiting.{in_put}
 use Rattle.semantics.proofs.NoneDropped.{keeps_for}
 use Rattle.semantics.proofs.Settled.{made_grows_world}
+use Rattle.semantics.proofs.JoinedReplicas.{full_within}
 
 at_each : (P : ℕ → Replica → Type 0) (W : Replicas) (p : ℕ) (r : Replica) → ((q : ℕ) → q ≢ p → P q (W q)) → P p r → (q : ℕ)
     → P q (put_replica p r W q)
@@ -42,6 +43,16 @@ pub kept_same : (r : Replica) (s : Stamped) (a : Delivered)
 kept_same r s Kept = (refl, refl, refl, λ x m. in_put s r.waiting x m)
 kept_same r s Known = (refl, refl, refl, λ x m. inr m)
 kept_same r s (NotKept f) = (refl, refl, refl, λ x m. inr m)
+
+-- and the table stays
+table_kept : (r : Replica) (s : Stamped) (a : Delivered) → table_of (kept_by r s a) ≡ table_of r
+table_kept r s Kept = refl
+table_kept r s Known = refl
+table_kept r s (NotKept f) = refl
+
+-- what isn't full was not so before
+pub free_before : (a b : Bool) → (a ≡ true → b ≡ true) → b ≡ false → a ≡ false
+free_before a b h f = false_from_ne_true a (λ t. true≢false (sym (h t) ∙ f))
 
 pub has_more : (M : List Stamped) (G : List Entry) (a : OpId) → has_id (operations_of (stamped_entries G)) a ≡ true
     → has_id (operations_of (stamped_entries (with_peers M G))) a ≡ true
@@ -68,7 +79,11 @@ received K lk p r s h of =
           (has_more end.1.appended d.entries x.id
           (subst (λ (G : List Entry). has_id (operations_of (stamped_entries G)) x.id ≡ true) (sym same.2) (h.made x m e)));
       waits = λ x m. waits x (end.1.waits x m);
-      none_dropped = keeps.none_dropped ∙ same.1 ∙ h.none_dropped;
+      none_dropped = λ f.
+          keeps.none_dropped f ∙ same.1
+          ∙ h.none_dropped
+          (sym (ap (λ t. nat_le 256 (length t)) (table_kept r s (answer_to r s)))
+          ∙ free_before (has_full_table d) (has_full_table (receive r s)) keeps.full f);
     }
 
 pub committed : (K : List Operation) → IsLegal K → (p client serial : ℕ) (c : Command) (r : Replica) (s : Stamped) → IsReplicaOf K p r
@@ -80,7 +95,9 @@ committed K lk p client serial c r s h n e above = record {
   within = next;
   made = made;
   waits = λ x m. grown K (operation_after (operations r) s) x (h.waits x m);
-  none_dropped = h.none_dropped;
+  none_dropped = λ f. h.none_dropped
+      (free_before (has_full_table r) (has_full_table (commit_own r client serial c s))
+      (λ t. ap (λ ps. nat_le 256 (length ps)) (full_within s.id.replica (table_of r) t) ∙ t) f);
 }
   where
     next : AreWithin (operation_after (operations r) s ∷ operations r) (operation_after (operations r) s ∷ K)
@@ -122,7 +139,7 @@ one_world members W Opened = (
     within = λ x m. m;
     made = λ x m e. absurd m;
     waits = λ s m. absurd m;
-    none_dropped = refl;
+    none_dropped = λ f. refl;
   },
 )
 one_world members W (Makes V reached p client serial c s n e above) =

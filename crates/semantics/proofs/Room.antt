@@ -7,9 +7,10 @@ use Rattle.semantics.specs.LegalHistory.{has_id, IsAmong}
 use Rattle.semantics.specs.Stamped.{Stamped}
 use Rattle.ids.specs.declared.refusal.Refusal.{Refusal}
 use Rattle.ids.specs.declared.refusal.Refusal.TheVariants.{HistoryFull, InboxFull, OwnName}
-use Rattle.semantics.specs.Faults.{is_ready, fault_of, alone_fault}
+use Rattle.semantics.specs.Faults.{is_ready, alone_fault}
 use Rattle.semantics.specs.Making.{is_full}
 use Rattle.semantics.specs.Entries.{stamped_entries}
+use Rattle.semantics.specs.Joining.{check_fault}
 use Rattle.semantics.specs.Replica.{Replica, operations, IsRunning}
 use Rattle.semantics.specs.Delivery.{Kept, Known, NotKept, is_waiting, put_waiting, kept_unless, room_answer, answer_after, kept_by}
 use Rattle.semantics.specs.Delivery.{deliver}
@@ -81,7 +82,7 @@ drain_shorter r s h few m ready = at_length (length r.waiting) refl
 
 -- at most 4096 wait after a delivery and its drain
 pub bounded : (r : Replica) (s : Stamped) → IsRunning r → length r.waiting ≤ 4096 → length (receive r s).waiting ≤ 4096
-bounded r s h le = at_alone (alone_fault r.members s) refl
+bounded r s h le = at_alone (alone_fault s) refl
   where
     stays : length (drain r).waiting ≤ 4096
     stays = let k = shorter_for (length r.waiting) r h in omega (arith, k, le)
@@ -93,9 +94,10 @@ bounded r s h le = at_alone (alone_fault r.members s) refl
         → is_ready (operations r) s ≡ b
         → length
         (drain (kept_by r s
-        (cond b (cond (nat_lt 4096 (length r.waiting)) (NotKept InboxFull) (kept_unless (fault_of (stamped_entries r.entries) s)))
+        (cond b
+        (cond (nat_lt 4096 (length r.waiting)) (NotKept InboxFull) (kept_unless (check_fault r.members (stamped_entries r.entries) s)))
         (cond (nat_lt 4095 (length r.waiting)) (NotKept InboxFull) Kept)))).waiting ≤ 4096
-    after_kept k few true e = at_many (nat_lt 4096 (length r.waiting)) (fault_of (stamped_entries r.entries) s)
+    after_kept k few true e = at_many (nat_lt 4096 (length r.waiting)) (check_fault r.members (stamped_entries r.entries) s)
       where
         at_many : (b : Bool) (f : Option Refusal) → length (drain (kept_by r s (cond b (NotKept InboxFull) (kept_unless f)))).waiting ≤ 4096
         at_many true f = stays
@@ -140,10 +142,10 @@ bounded r s h le = at_alone (alone_fault r.members s) refl
     at_known true e k = stays
     at_known false e k = at_own (λ n. k n refl) (s.id.replica == r.own) refl
 
-    at_alone : (w : Option Refusal) → alone_fault r.members s ≡ w → length (drain (kept_by r s (answer_after r s w))).waiting ≤ 4096
+    at_alone : (w : Option Refusal) → alone_fault s ≡ w → length (drain (kept_by r s (answer_after r s w))).waiting ≤ 4096
     at_alone (Some f) e = stays
     at_alone None e =
         let known : Bool = has_id (operations r) s.id || is_waiting r.waiting s.id in
         at_known (has_id (operations r) s.id || is_waiting r.waiting s.id) refl (λ n t.
         let parts = or_parts (has_id (operations r) s.id) (is_waiting r.waiting s.id) t in
-        kept_running r s h (stands_alone r.members s e) n parts.0 parts.1)
+        kept_running r s h (stands_alone s e) n parts.0 parts.1)

@@ -115,7 +115,7 @@ module _ (K : List Operation) (lk : IsLegal K) (p : ℕ) (r : Replica) (h : IsSe
             within = next.world.within;
             made = next.world.made;
             waits = next.world.waits;
-            none_dropped = omega (arith, next.world.none_dropped);
+            none_dropped = λ f. (let none = next.world.none_dropped f in omega (arith, none));
           };
           end = next.end;
           few = next.few;

@@ -9,7 +9,6 @@ use Rattle.semantics.specs.LegalHistory.{IsLegal, IsAmong, has_id}
 use Rattle.semantics.specs.NamedIds.{greatest_counter}
 use Rattle.semantics.specs.Vectors.{Vector, at, covers}
 use Rattle.semantics.specs.Stamped.{Stamped, operations_of, IsLegalStamped}
-use Rattle.semantics.specs.Faults.{is_of_members}
 use Rattle.semantics.specs.Entries.{missing}
 use Rattle.semantics.specs.LegalAnswer.{OfPeer, Submitted}
 use Rattle.semantics.specs.Replica.{Replica, operations}
@@ -42,8 +41,7 @@ awaited_after c start end (x ∷ queue) more none =
 module _ (K : List Operation) (lk : IsLegal K) (A G : Engine) (sound : IsSound A) (is : IsEngineOf K A) (v : Vector) (F : List Stamped)
     (l : IsLegalStamped F) (short : length F ≤ 1048576) (w : AreWithin (operations_of F) K) (c serial count : ℕ)
     (r : HasReceivedAll A c (reverse (missing v F)) serial count G)
-    (named : (q : ℕ) → at v q ≤ greatest_counter (operations A.replica) q)
-    (known : (s : Stamped) → IsAmong s F → is_of_members A.replica.members s ≡ true) where
+    (named : (q : ℕ) → at v q ≤ greatest_counter (operations A.replica) q) where
   -- the serials of the receipt
   abbrev pub first_serial : ℕ
   first_serial = suc (length r.client.cells)
@@ -78,10 +76,10 @@ module _ (K : List Operation) (lk : IsLegal K) (A G : Engine) (sound : IsSound A
       ∙ covered_there K lk A.replica v named (legal_entries A.replica is.settled.world.running) is.settled.world.within o.0
       (w o.0 o.1.among) (ap (covers v) o.1.id ∙ e)
 
-  all_come : Comes A.replica.members (operations A.replica) F [] (awaited c first_serial end_serial G.queue)
-  all_come = subst (Comes A.replica.members (operations A.replica) F []) (append-nil (map OfPeer (reverse (missing v F))) ∙ sym all_awaited)
-      (comes_from A.replica.members (operations A.replica) F v F [] [] had (λ s m e. known s m)
-      (subst (λ (H : List Stamped). Comes A.replica.members (operations A.replica) F H []) (sym (append-nil F)) End))
+  all_come : Comes (operations A.replica) F [] (awaited c first_serial end_serial G.queue)
+  all_come = subst (Comes (operations A.replica) F []) (append-nil (map OfPeer (reverse (missing v F))) ∙ sym all_awaited)
+      (comes_from (operations A.replica) F v F [] [] had
+      (subst (λ (H : List Stamped). Comes (operations A.replica) F H []) (sym (append-nil F)) End))
 
   used : (n : ℕ) → first_serial ≤ n → n < end_serial → (x : Submitted) × WasSubmitted G c n x
   used zero from below = absurd (omega arith)
@@ -94,12 +92,11 @@ module _ (K : List Operation) (lk : IsLegal K) (A G : Engine) (sound : IsSound A
       there : slice_get G.clients c ≡ Some r.whole.client
       there = sym (ap (λ (X : Engine). slice_get X.clients c) r.engine) ∙ r.whole.is_client
 
-  pub receipt_started : IsComing c first_serial end_serial A.replica.members (operations A.replica) F K G
+  pub receipt_started : IsComing c first_serial end_serial (operations A.replica) F K G
   receipt_started = record {
     legal = l;
     short = short;
     within = w;
-    members = ap (λ (x : Replica). x.members) same_replica;
     based = λ i t. ap (λ (x : Replica). has_id (operations x) i) same_replica ∙ t;
     there = [];
     came = λ s m. absurd m;

@@ -1,5 +1,5 @@
--- In one world what waits stays or is applied.
-use Rattle.std.proofs.Common.{◌≡◌, ◌⊎◌, inl, inr, ℕ, zero, suc, Bool, true, false, not, cond, ◌||◌, List, [], ◌∷◌, Option, Some, None, refl}
+-- In one world what waits stays or is applied, or the table lacks room for its replica.
+use Rattle.std.proofs.Common.{◌≡◌, ◌⊎◌, inl, inr, ℕ, zero, suc, Bool, true, false, not, cond, List, [], ◌∷◌, Option, Some, None, refl}
 use Rattle.std.proofs.Common.{sym, ap, ◌∙◌, subst, true≢false}
 use Rattle.std.proofs.lemmas.Bool.{or_left, or_right, cases_Bool}
 use Rattle.semantics.specs.Ids.{OpId, is_same_id}
@@ -9,10 +9,14 @@ use Rattle.semantics.specs.Stamped.{Stamped}
 use Rattle.semantics.specs.Faults.{fault_of}
 use Rattle.semantics.specs.Making.{is_full}
 use Rattle.semantics.specs.Entries.{stamped_entries}
-use Rattle.semantics.specs.Replica.{Replica, operations, IsRunning}
+use Rattle.ids.specs.Tables.{lacks_room}
+use Rattle.ids.specs.declared.refusal.Refusal.TheVariants.{UnknownReplica}
+use Rattle.semantics.specs.Replica.{Replica, operations, table_of, IsRunning}
 use Rattle.semantics.specs.Drain.{first_ready, without_waiting, taken_with, taken, at_ready, drain_for}
 use Rattle.semantics.specs.OneWorld.{AreWithin, IsOfWorld}
 use Rattle.semantics.proofs.Orders.{ids_from_test, id_tested}
+use Rattle.semantics.proofs.CheckedFaults.{lacking_fault, fitting_fault}
+use Rattle.semantics.proofs.JoinedReplicas.{lacks_within}
 use Rattle.semantics.proofs.FollowsFaultless.{no_fault_where_follows}
 use Rattle.semantics.proofs.EntryHistories.{entries_legal}
 use Rattle.semantics.proofs.Taken.{taken_running}
@@ -30,32 +34,44 @@ in_without_other a (y ∷ W) x m n = at_test (λ k. in_without_other a W x k n) 
     at_test rest false e (inl f) = inl f
     at_test rest false e (inr k) = inr (rest k)
 
--- where one leaves without a fault, each other stays
-stays_taken : (r : Replica) (s x : Stamped) → fault_of (stamped_entries r.entries) s ≡ None
-    → IsAmong x r.waiting ⊎ (has_id (operations r) x.id ≡ true)
-    → IsAmong x (taken r s).waiting ⊎ (has_id (operations (taken r s)) x.id ≡ true)
-stays_taken r s x none h = subst (λ (d : Replica). IsAmong x d.waiting ⊎ (has_id (operations d) x.id ≡ true))
-    (sym (ap (taken_with r s) none)) (at_case h)
+-- the operation waits, or is applied, or the table lacks room for its replica
+abbrev pub Stays : Replica → Stamped → Type 0
+Stays r x = IsAmong x r.waiting ⊎ (has_id (operations r) x.id ≡ true) ⊎ (lacks_room (table_of r) x.id.replica ≡ true)
+
+-- where one leaves with no fault against the history, each other stays
+stays_taken : (r : Replica) (s x : Stamped) → fault_of (stamped_entries r.entries) s ≡ None → Stays r x → Stays (taken r s) x
+stays_taken r s x none h = by (lacks_room (table_of r) s.id.replica) refl
   where
-    at_case : IsAmong x r.waiting ⊎ (has_id (operations r) x.id ≡ true)
-        → IsAmong x (without_waiting s.id r.waiting) ⊎ ((is_same_id s.id x.id || has_id (operations r) x.id) ≡ true)
-    at_case (inr t) = inr (or_right (is_same_id s.id x.id) (has_id (operations r) x.id) t)
-    at_case (inl m) = elim (cases_Bool (is_same_id x.id s.id)) [
-      | inl e ↦ inr (or_left (is_same_id s.id x.id) (has_id (operations r) x.id) (id_tested s.id x.id (sym (ids_from_test x.id s.id e))))
+    dropped : lacks_room (table_of r) s.id.replica ≡ true → Stays r x → Stays (taken_with r s (Some UnknownReplica)) x
+    dropped e (inr k) = inr k
+    dropped e (inl m) = elim (cases_Bool (is_same_id x.id s.id)) [
+      | inl f ↦ inr (inr (ap (λ (a : OpId). lacks_room (table_of r) a.replica) (ids_from_test x.id s.id f) ∙ e))
+      | inr f ↦ inl (in_without_other s.id r.waiting x m f)
+    ]
+
+    appended : Stays r x → Stays (taken_with r s None) x
+    appended (inr (inr l)) = inr (inr (lacks_within s.id.replica (table_of r) x.id.replica l))
+    appended (inr (inl t)) = inr (inl (or_right (is_same_id s.id x.id) (has_id (operations r) x.id) t))
+    appended (inl m) = elim (cases_Bool (is_same_id x.id s.id)) [
+      | inl e ↦
+          inr (inl (or_left (is_same_id s.id x.id) (has_id (operations r) x.id) (id_tested s.id x.id (sym (ids_from_test x.id s.id e)))))
       | inr e ↦ inl (in_without_other s.id r.waiting x m e)
     ]
 
+    by : (b : Bool) → lacks_room (table_of r) s.id.replica ≡ b → Stays (taken r s) x
+    by true e = subst (λ (d : Replica). Stays d x)
+        (sym (ap (taken_with r s) (lacking_fault r.members (stamped_entries r.entries) s e))) (dropped e h)
+    by false e = subst (λ (d : Replica). Stays d x)
+        (sym (ap (taken_with r s) (fitting_fault r.members (stamped_entries r.entries) s e ∙ none))) (appended h)
+
 pub stay_for : (K : List Operation) → IsLegal K → (n : ℕ) (r : Replica) → IsRunning r → AreWithin (operations r) K
-    → ((s : Stamped) → IsAmong s r.waiting → IsOfWorld K s) → (x : Stamped) → IsAmong x r.waiting ⊎ (has_id (operations r) x.id ≡ true)
-    → IsAmong x (drain_for n r).waiting ⊎ (has_id (operations (drain_for n r)) x.id ≡ true)
+    → ((s : Stamped) → IsAmong s r.waiting → IsOfWorld K s) → (x : Stamped) → Stays r x → Stays (drain_for n r) x
 stay_for K lk zero r h w of x m = m
 stay_for K lk (suc n) r h w of x m = at_full (λ q k u v t. stay_for K lk n q k u v x t) (is_full r.entries)
   where
     at_first : ((q : Replica) → IsRunning q → AreWithin (operations q) K → ((s : Stamped) → IsAmong s q.waiting → IsOfWorld K s)
-        → IsAmong x q.waiting ⊎ (has_id (operations q) x.id ≡ true)
-        → IsAmong x (drain_for n q).waiting ⊎ (has_id (operations (drain_for n q)) x.id ≡ true))
-        → (f : Option Stamped) → first_ready (operations r) r.waiting ≡ f
-        → (let d : Replica = at_ready f r (λ s. drain_for n (taken r s)) in IsAmong x d.waiting ⊎ (has_id (operations d) x.id ≡ true))
+        → Stays q x → Stays (drain_for n q) x)
+        → (f : Option Stamped) → first_ready (operations r) r.waiting ≡ f → Stays (at_ready f r (λ s. drain_for n (taken r s))) x
     at_first rest None e = m
     at_first rest (Some s) e =
         let got = ready_first (operations r) r.waiting h.rising s e in
@@ -66,10 +82,7 @@ stay_for K lk (suc n) r h w of x m = at_full (λ q k u v t. stay_for K lk n q k 
         rest (taken r s) (taken_running r s h got.0) one.0.within (λ y k. of y (one.1 y k)) (stays_taken r s x none m)
 
     at_full : ((q : Replica) → IsRunning q → AreWithin (operations q) K → ((s : Stamped) → IsAmong s q.waiting → IsOfWorld K s)
-        → IsAmong x q.waiting ⊎ (has_id (operations q) x.id ≡ true)
-        → IsAmong x (drain_for n q).waiting ⊎ (has_id (operations (drain_for n q)) x.id ≡ true))
-        → (b : Bool)
-        → (let d : Replica = cond b r (at_ready (first_ready (operations r) r.waiting) r (λ s. drain_for n (taken r s))) in
-        IsAmong x d.waiting ⊎ (has_id (operations d) x.id ≡ true))
+        → Stays q x → Stays (drain_for n q) x)
+        → (b : Bool) → Stays (cond b r (at_ready (first_ready (operations r) r.waiting) r (λ s. drain_for n (taken r s)))) x
     at_full rest true = m
     at_full rest false = at_first rest (first_ready (operations r) r.waiting) refl

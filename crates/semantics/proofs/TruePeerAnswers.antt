@@ -7,9 +7,10 @@ use Rattle.ids.specs.declared.refusal.Refusal.TheVariants.{HistoryFull, InboxFul
 use Rattle.semantics.specs.Ids.{OpId, is_same_id}
 use Rattle.semantics.specs.LegalHistory.{has_id}
 use Rattle.semantics.specs.Stamped.{Stamped}
-use Rattle.semantics.specs.Faults.{alone_fault, fault_of, is_ready}
+use Rattle.semantics.specs.Faults.{alone_fault, is_ready}
 use Rattle.semantics.specs.Making.{Command, is_full}
 use Rattle.semantics.specs.Entries.{Entry, Own, applied, first_entries, stamped_entries, stamped_in}
+use Rattle.semantics.specs.Joining.{check_fault}
 use Rattle.semantics.specs.LegalAnswer.{Request, OfCommand, OfPeer, Submitted, Reply, Made, RefusedAt, KeptAt, KnownAt, IsLegalAnswer}
 use Rattle.semantics.specs.Replica.{Replica, operations}
 use Rattle.semantics.specs.Delivery.{Delivered, Kept, Known, NotKept, is_waiting, kept_unless, room_answer, answer_after, answer_to}
@@ -31,7 +32,7 @@ module _ (r : Replica) (s : Stamped) (e : Refusal) where
   by_test true P x y f g is = f refl is
   by_test false P x y f g is = g refl is
 
-  of_fault : (o : Option Refusal) → fault_of (stamped_entries r.entries) s ≡ o → kept_unless o ≡ NotKept e → Told
+  of_fault : (o : Option Refusal) → check_fault r.members (stamped_entries r.entries) s ≡ o → kept_unless o ≡ NotKept e → Told
   of_fault None f is = absurd (no is)
     where
       no : Kept ≡ NotKept e → ⊥
@@ -48,7 +49,7 @@ module _ (r : Replica) (s : Stamped) (e : Refusal) where
   of_room is =
       by_test (is_ready (operations r) s) Told _ _
       (λ t. by_test (nat_lt 4096 (length r.waiting)) Told (NotKept InboxFull) _ (λ u. full_inbox)
-      (λ u. of_fault (fault_of (stamped_entries r.entries) s) refl))
+      (λ u. of_fault (check_fault r.members (stamped_entries r.entries) s) refl))
       (λ t. by_test (nat_lt 4095 (length r.waiting)) Told (NotKept InboxFull) Kept (λ u. full_inbox) (λ u. no_kept))
       is
 
@@ -59,7 +60,7 @@ module _ (r : Replica) (s : Stamped) (e : Refusal) where
   left_false false b h = refl
   left_false true b h = h
 
-  of_tests : (o : Option Refusal) → alone_fault r.members s ≡ o → answer_after r s o ≡ NotKept e → Told
+  of_tests : (o : Option Refusal) → alone_fault s ≡ o → answer_after r s o ≡ NotKept e → Told
   of_tests (Some f) a is = inl (a ∙ ap Some (same_cause e f is))
   of_tests None a is =
       by_test (has_id (operations r) s.id || is_waiting r.waiting s.id) Told Known _ (λ t. of_known)
@@ -76,7 +77,7 @@ module _ (r : Replica) (s : Stamped) (e : Refusal) where
       is
 
   pub told : answer_to r s ≡ NotKept e → Told
-  told = of_tests (alone_fault r.members s) refl
+  told = of_tests (alone_fault s) refl
 
 -- a refusal is true of the operation and the first k entries
 pub refused_truly : (p : ℕ) (ps : List ℕ) (G : List Entry) (s : Stamped) (floor m : ℕ) (e : Refusal)
@@ -93,7 +94,7 @@ refused_truly p ps G s floor m e a = (
 -- ---- what was kept was new
 
 kept_new : (r : Replica) (s : Stamped) → answer_to r s ≡ Kept → has_id (operations r) s.id ≡ false
-kept_new r s is = of_tests (alone_fault r.members s) is
+kept_new r s is = of_tests (alone_fault s) is
   where
     at_known : (a b : Bool) (y : Delivered) → cond (a || b) Known y ≡ Kept → a ≡ false
     at_known false b y k = refl

@@ -8,21 +8,26 @@ use Rattle.semantics.specs.LegalHistory.{IsLegal, IsAmong, has_id}
 use Rattle.semantics.specs.NamedIds.{greatest_counter}
 use Rattle.semantics.specs.Vectors.{Vector, at, covers}
 use Rattle.semantics.specs.Stamped.{Stamped, operation_after, operations_of, MayFollow, IsLegalStamped, Means}
-use Rattle.semantics.specs.Faults.{is_ready, fault_of, is_of_members, alone_fault}
+use Rattle.semantics.specs.Faults.{is_ready, alone_fault}
 use Rattle.semantics.specs.Entries.{stamped_entries, missing}
-use Rattle.semantics.specs.Replica.{Replica, operations, IsRunning}
+use Rattle.ids.specs.Members.{is_member}
+use Rattle.ids.specs.Tables.{lacks_room}
+use Rattle.semantics.specs.Joining.{joined_within, table_with, check_fault}
+use Rattle.semantics.specs.Replica.{Replica, operations, table_of, IsRunning}
 use Rattle.semantics.specs.Delivery.{deliver}
 use Rattle.semantics.specs.Drain.{receive, receive_all}
 use Rattle.semantics.specs.OneWorld.{AreWithin}
 use Rattle.semantics.specs.Exchange.{lacking, CanReceive, HasReceived}
 use Rattle.semantics.proofs.Orders.{ids_from_test}
 use Rattle.semantics.proofs.AbsentIds.{has_id-among}
-use Rattle.semantics.proofs.LegalFacts.{chain, deps_there, counter_pos}
+use Rattle.semantics.proofs.LegalFacts.{among_from, chain, deps_there, counter_pos}
 use Rattle.semantics.proofs.VectorCounters.{covers-at, ready-from}
 use Rattle.semantics.proofs.NamedOperations.{vector_cases, legal, means_first, ready_where_follows}
 use Rattle.semantics.proofs.FollowsFaultless.{no_fault_where_follows}
 use Rattle.semantics.proofs.ReadyThere.{may_follow_in, same_meaning}
+use Rattle.semantics.proofs.CheckedFaults.{fitting_fault}
 use Rattle.semantics.proofs.EntryHistories.{entries_legal}
+use Rattle.semantics.proofs.JoinedReplicas.{fits_before, member_within, within_itself, within_known}
 use Rattle.semantics.proofs.Delivered.{delivered}
 use Rattle.semantics.proofs.Drained.{drained}
 use Rattle.semantics.proofs.LawfulAlone.{length_operations, length_stamped, no_fault_alone}
@@ -37,6 +42,9 @@ record Along (r d : Replica) (K : List Operation) (F : List Stamped) : Type 0 wh
   pub union : (a : OpId) → has_id (operations d) a ≡ (has_id (operations r) a || has_id (operations_of F) a)
   pub within : AreWithin (operations d) K
   pub room : length d.entries ≤ length r.entries + length (lacking (operations r) F)
+  -- the table has the replicas of all that d has, and is r's with those of F
+  pub there : (x : Operation) → IsAmong x (operations d) → is_member (table_of d) x.id.replica ≡ true
+  pub table : table_of d ≡ table_with (table_of r) F
 
 or_none : (g : Bool) → g ≡ (g || false)
 or_none true = refl
@@ -74,7 +82,15 @@ along_skip r d K s F h known = record {
       (λ e. ap (has_id (operations d)) (sym (ids_from_test s.id a e)) ∙ known);
   within = h.within;
   room = le_trans h.room (let k = longer (not (has_id (operations r) s.id)) s (lacking (operations r) F) in omega (arith, k));
+  there = h.there;
+  table = h.table
+      ∙ sym (within_known s.id.replica (table_with (table_of r) F) (ap (λ t. is_member t s.id.replica) (sym h.table) ∙ known_there));
 }
+  where
+    known_there : is_member (table_of d) s.id.replica ≡ true
+    known_there =
+        let x = among_from (operations d) s.id known in
+        ap (λ (a : OpId). is_member (table_of d) a.replica) (sym x.2) ∙ h.there x.0 x.1
 
 module _ (K : List Operation) (lk : IsLegal K) (r : Replica) (v : Vector) (named : (p : ℕ) → at v p ≤ greatest_counter (operations r) p)
     (lr : IsLegal (operations r)) (wr : AreWithin (operations r) K) where
@@ -95,7 +111,7 @@ module _ (K : List Operation) (lk : IsLegal K) (r : Replica) (v : Vector) (named
       ]
 
   along_next : (d : Replica) (s : Stamped) (F : List Stamped) → IsLegalStamped (s ∷ F) → AreWithin (operations_of (s ∷ F)) K
-      → (s.id.replica ≡ r.own → has_id (operations r) s.id ≡ true) → is_of_members r.members s ≡ true
+      → (s.id.replica ≡ r.own → has_id (operations r) s.id ≡ true) → lacks_room (table_with (table_of r) F) s.id.replica ≡ false
       → length r.entries + length (lacking (operations r) (s ∷ F)) ≤ 1048576
       → Along r d K F → Along r (receive d s) K (s ∷ F)
   along_next d s F l w own known room h =
@@ -122,13 +138,14 @@ module _ (K : List Operation) (lk : IsLegal K) (r : Replica) (v : Vector) (named
           let small : length d.entries ≤ length r.entries + length (lacking (operations r) F) = h.room in
           let few : length d.entries < 1048576 = omega (arith, room, grown, small) in
           let there : length (operations d) ≡ length d.entries = length_operations (stamped_entries d.entries) ∙ length_stamped d.entries in
-          let alone : alone_fault d.members s ≡ None =
-          no_fault_alone d.members (operations d) s ld (omega (arith, there, few)) may (ap (λ ps. is_of_members ps s) h.members ∙ known) in
+          let alone : alone_fault s ≡ None = no_fault_alone (operations d) s ld (omega (arith, there, few)) may in
+          let fits : lacks_room (table_of d) s.id.replica ≡ false = ap (λ t. lacks_room t s.id.replica) h.table ∙ known in
           let other : (s.id.replica == d.own) ≡ false =
           false_from_ne_true (s.id.replica == d.own) (λ t. true≢false (sym (own (eqb-true s.id.replica d.own t ∙ h.own)) ∙ none_here)) in
           let ready : is_ready (operations d) s ≡ true = ready-from (operations d) s (ready_where_follows may) in
-          let none : fault_of (stamped_entries d.entries) s
-          ≡ None = no_fault_where_follows (stamped_entries d.entries) s (entries_legal d.own d.entries h.running.history) may in
+          let none : check_fault d.members (stamped_entries d.entries) s ≡ None =
+          fitting_fault d.members (stamped_entries d.entries) s fits
+          ∙ no_fault_where_follows (stamped_entries d.entries) s (entries_legal d.own d.entries h.running.history) may in
           let end : receive d s ≡ appended d s =
           received_new d s h.none_waits alone e other (le-ltb 1048575 (length d.entries) (omega (arith, few))) ready none in
           let running : IsRunning (receive d s) = (drained (deliver d s) (delivered d s h.running)).0 in
@@ -143,17 +160,26 @@ module _ (K : List Operation) (lk : IsLegal K) (r : Replica) (v : Vector) (named
                 (h.union a);
             within = within_next o (same_meaning K lk (operations d) (operations_of (s ∷ F)) ld h.within w s o m before) (w o (inl refl));
             room = omega (arith, small, grown);
+            there = there_next fits;
+            table = ap (joined_within s.id.replica) h.table;
           })
         where
+          there_next : lacks_room (table_of d) s.id.replica ≡ false → (x : Operation) → IsAmong x (operations (appended d s))
+              → is_member (table_of (appended d s)) x.id.replica ≡ true
+          there_next fits x (inl f) = ap (λ (y : Operation). is_member (table_of (appended d s)) y.id.replica) f
+              ∙ within_itself s.id.replica (table_of d) fits
+          there_next fits x (inr n) = member_within s.id.replica (table_of d) x.id.replica (h.there x n)
+
           within_next : (o : Operation) → operation_after (operations d) s ≡ o → IsAmong o K → AreWithin (operations (appended d s)) K
           within_next o same m x (inl f) = subst (λ (y : Operation). IsAmong y K) (sym (f ∙ same)) m
           within_next o same m x (inr n) = h.within x n
 
   along : (F : List Stamped) → IsRunning r → r.waiting ≡ [] → IsLegalStamped F → AreWithin (operations_of F) K
       → ((s : Stamped) → IsAmong s F → s.id.replica ≡ r.own → has_id (operations r) s.id ≡ true)
-      → ((s : Stamped) → IsAmong s F → is_of_members r.members s ≡ true)
+      → ((x : Operation) → IsAmong x (operations r) → is_member (table_of r) x.id.replica ≡ true)
+      → ((s : Stamped) → IsAmong s F → lacks_room (table_with (table_of r) F) s.id.replica ≡ false)
       → length r.entries + length (lacking (operations r) F) ≤ 1048576 → Along r (receive_all r (missing v F)) K F
-  along [] run none l w own known room = record {
+  along [] run none l w own there known room = record {
     running = run;
     none_waits = none;
     own = refl;
@@ -162,9 +188,12 @@ module _ (K : List Operation) (lk : IsLegal K) (r : Replica) (v : Vector) (named
     union = λ a. or_none (has_id (operations r) a);
     within = wr;
     room = omega arith;
+    there = there;
+    table = refl;
   }
-  along (s ∷ F) run none l w own known room =
-      at_test (along F run none l.0 (λ x n. w x (inr n)) (λ x n. own x (inr n)) (λ x n. known x (inr n))
+  along (s ∷ F) run none l w own there known room =
+      at_test (along F run none l.0 (λ x n. w x (inr n)) (λ x n. own x (inr n)) there
+      (λ x n. fits_before s.id.replica (table_with (table_of r) F) x.id.replica (known x (inr n)))
       (let k = longer (not (has_id (operations r) s.id)) s (lacking (operations r) F) in omega (arith, k, room))) (covers v s.id) refl
     where
       at_test : Along r (receive_all r (missing v F)) K F → (b : Bool) → covers v s.id ≡ b
@@ -173,13 +202,14 @@ module _ (K : List Operation) (lk : IsLegal K) (r : Replica) (v : Vector) (named
           (h.union s.id
           ∙ or_left (has_id (operations r) s.id) (has_id (operations_of F) s.id)
           (covered_there (operation_after (operations_of F) s) (w (operation_after (operations_of F) s) (inl refl)) e))
-      at_test h false e = along_next (receive_all r (missing v F)) s F l w (own s (inl refl)) (known s (inl refl)) room h
+      at_test h false e = along_next (receive_all r (missing v F)) s F l w (own s (inl refl))
+          (fits_before s.id.replica (table_with (table_of r) F) s.id.replica (known s (inl refl))) room h
 
 pub exchanged : (r : Replica) (F : List Stamped) (v : Vector) → CanReceive r F v → HasReceived r (receive_all r (missing v F)) F
 exchanged r F v c =
     let h = along c.world.all c.world.legal r v c.vector
     (legal (stamped_entries r.entries) (entries_legal r.own r.entries c.running.history)) c.world.first
-    F c.running c.none_waits c.legal c.world.second c.own c.members c.room in
+    F c.running c.none_waits c.legal c.world.second c.own c.there c.fits c.room in
     record {
       running = h.running;
       none_waits = h.none_waits;

@@ -1,12 +1,12 @@
 -- In a run without lines of any origin an exchange of messages is complete.
-use Rattle.std.proofs.Common.{◌≡◌, inl, inr, ℕ, true, false, List, ◌∷◌, ◌++◌, None, Some, sym, ap, ◌∙◌, subst, true≢false, slice_get}
+use Rattle.std.proofs.Common.{◌≡◌, ◌⊎◌, inl, inr, ℕ, true, false, List, ◌∷◌, ◌++◌, None, Some, sym, ap, ◌∙◌, subst, true≢false, slice_get}
 use Rattle.std.proofs.lemmas.Bool.{false_from_ne_true}
 use Rattle.ids.specs.Configurations.{Configuration}
 use Rattle.semantics.specs.Ids.{OpId}
 use Rattle.semantics.specs.LegalHistory.{IsAmong, has_id}
 use Rattle.semantics.specs.Stamped.{Stamped}
-use Rattle.semantics.specs.Faults.{is_of_members}
 use Rattle.semantics.specs.Entries.{Entry, stamped_entries}
+use Rattle.semantics.specs.Exchange.{LacksRoomFor}
 use Rattle.semantics.specs.Replica.{Replica, operations, IsRunning}
 use Rattle.semantics.specs.Delivery.{is_waiting}
 use Rattle.semantics.specs.Engine.{Engine, published_entries, SentBundle, Received}
@@ -61,9 +61,8 @@ module _ (cs : List Configuration) (steps : List WorldStep) (a b c first end : �
       ∙ ap (λ W. world_after W receiving) to_receipt
 
   exchanged : HaveOwnNumbers cs → AreWithoutLines steps → (A : Engine) → IsEngineAfter cs steps a A → IsHandledBelow A c end
-      → ((s : Stamped) → IsAmong s (stamped_entries published) → is_of_members A.replica.members s ≡ true)
-      → AllAre (HasArrived c first end A) (stamped_entries published)
-  exchanged own known A e handled members =
+      → AllAre (HasArrived (stamped_entries published) c first end A) (stamped_entries published)
+  exchanged own known A e handled =
       let all : AreWithoutLines (x.before ++ asking ++ answering ++ receiving) = subst AreWithoutLines x.all known in
       let to_third = front_known (x.before ++ asking ++ answering) receiving all in
       let to_second = front_known (x.before ++ asking) answering to_third in
@@ -75,18 +74,20 @@ module _ (cs : List Configuration) (steps : List WorldStep) (a b c first end : �
       (subst (λ (W : World). slice_get W.engines b ≡ Some x.answerer) to_answer x.there)
       (subst (λ (W : World). (world_step W (step_by b (AnswerHello x.u x.h))).reply ≡ SentBundle x.k x.sent) to_answer x.answer)
       (subst (λ (W : World). (world_step W (step_by a (Deliver c x.k))).reply ≡ Received first x.count None) to_receipt x.receipt)
-      A (subst (λ (W : World). slice_get W.engines a ≡ Some A) to_end e) (subst (IsHandledBelow A c) x.last handled)
-      (λ s m. members s (subst (λ (G : List Entry). IsAmong s (stamped_entries G)) x.had m)) in
-      subst (λ (G : List Entry). AllAre (HasArrived c first end A) (stamped_entries G)) x.had
-      (subst (λ n. AllAre (HasArrived c first n A) (stamped_entries (published_entries x.answerer))) (sym x.last) through)
+      A (subst (λ (W : World). slice_get W.engines a ≡ Some A) to_end e) (subst (IsHandledBelow A c) x.last handled) in
+      subst (λ (G : List Entry). AllAre (HasArrived (stamped_entries G) c first end A) (stamped_entries G)) x.had
+      (subst (λ n. AllAre (HasArrived (stamped_entries (published_entries x.answerer)) c first n A)
+      (stamped_entries (published_entries x.answerer)))
+      (sym x.last) through)
 
 pub messages_complete : (cs : List Configuration) (steps : List WorldStep) → HaveOwnNumbers cs → AreWithoutLines steps
     → (a b c first end : ℕ) (published : List Entry) (A : Engine) → IsExchange cs steps a b c first end published
     → IsEngineAfter cs steps a A → IsHandledBelow A c end
-    → ((s : Stamped) → IsAmong s (stamped_entries published) → is_of_members A.replica.members s ≡ true)
-    → (s : Stamped) → IsAmong s (stamped_entries published) → IsAppliedUnlessFull A c first end s
-messages_complete cs steps own known a b c first end published A x e handled members s m =
-    elim (exchanged cs steps a b c first end published x own known A e handled members s m) [
-      | inl t ↦ inl (t, none_waits A.replica (sound_engine cs steps a A e).running s.id t)
-      | inr f ↦ inr f
+    → (s : Stamped) → IsAmong s (stamped_entries published)
+    → IsAppliedUnlessFull A c first end s ⊎ LacksRoomFor A.replica (stamped_entries published)
+messages_complete cs steps own known a b c first end published A x e handled s m =
+    elim (exchanged cs steps a b c first end published x own known A e handled s m) [
+      | inl t ↦ inl (inl (t, none_waits A.replica (sound_engine cs steps a A e).running s.id t))
+      | inr (inl f) ↦ inl (inr f)
+      | inr (inr k) ↦ inr k
     ]

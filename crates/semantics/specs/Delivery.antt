@@ -7,9 +7,10 @@ use Rattle.ids.specs.declared.refusal.Refusal.TheVariants.{HistoryFull, InboxFul
 use Rattle.semantics.specs.Limits.{most_waiting}
 use Rattle.semantics.specs.LegalHistory.{has_id}
 use Rattle.semantics.specs.Stamped.{Stamped}
-use Rattle.semantics.specs.Faults.{alone_fault, is_ready, fault_of}
+use Rattle.semantics.specs.Faults.{alone_fault, is_ready}
 use Rattle.semantics.specs.Making.{is_full}
 use Rattle.semantics.specs.Entries.{stamped_entries}
+use Rattle.semantics.specs.Joining.{check_fault}
 use Rattle.semantics.specs.Replica.{Replica, operations}
 
 -- the answer to a delivery
@@ -39,7 +40,7 @@ is_crowded ready n = nat_lt (cond ready most_waiting (most_waiting - 1)) n
 -- the answer to what is ready, and to what is not
 abbrev pub room_answer : Replica → Stamped → Delivered
 room_answer r s = cond (is_ready (operations r) s)
-    (cond (is_crowded true (length r.waiting)) (NotKept InboxFull) (kept_unless (fault_of (stamped_entries r.entries) s)))
+    (cond (is_crowded true (length r.waiting)) (NotKept InboxFull) (kept_unless (check_fault r.members (stamped_entries r.entries) s)))
     (cond (is_crowded false (length r.waiting)) (NotKept InboxFull) Kept)
 
 -- the answer to an operation that passed the tests that need no history, and is neither applied nor waits
@@ -55,7 +56,7 @@ answer_after r s None = cond (has_id (operations r) s.id || is_waiting r.waiting
 
 -- the first that holds, in the order of the tests
 abbrev pub answer_to : Replica → Stamped → Delivered
-answer_to r s = answer_after r s (alone_fault r.members s)
+answer_to r s = answer_after r s (alone_fault s)
 
 -- what is kept waits; every other answer leaves the replica as it was
 abbrev pub kept_by : Replica → Stamped → Delivered → Replica

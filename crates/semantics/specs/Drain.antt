@@ -6,9 +6,10 @@ use Rattle.semantics.specs.Operations.{Operation}
 use Rattle.ids.specs.declared.refusal.Refusal.{Refusal}
 use Rattle.semantics.specs.LegalHistory.{IsAmong}
 use Rattle.semantics.specs.Stamped.{Stamped}
-use Rattle.semantics.specs.Faults.{is_ready, fault_of}
+use Rattle.semantics.specs.Faults.{is_ready}
 use Rattle.semantics.specs.Making.{is_full}
 use Rattle.semantics.specs.Entries.{Entry, Peer, stamped_entries}
+use Rattle.semantics.specs.Joining.{check_fault}
 use Rattle.semantics.specs.Replica.{Replica, operations}
 use Rattle.semantics.specs.Delivery.{deliver}
 
@@ -28,7 +29,7 @@ taken_with r s (Some f) = record r { waiting = without_waiting s.id r.waiting; d
 
 -- the replica after a ready one left
 abbrev pub taken : Replica → Stamped → Replica
-taken r s = taken_with r s (fault_of (stamped_entries r.entries) s)
+taken r s = taken_with r s (check_fault r.members (stamped_entries r.entries) s)
 
 -- r where none is ready
 abbrev pub at_ready : Option Stamped → Replica → (Stamped → Replica) → Replica

@@ -59,7 +59,7 @@ pub data Message : Type 0 where
 pub data StepReply : Type 0 where
   -- a command was submitted under this serial
   Ticket : (serial : ℕ) → StepReply
-  -- a command wasn't taken, a serial isn't the client's, or a hello names a replica that isn't a member
+  -- a command wasn't taken, or a serial isn't the client's
   Denied : Refusal → StepReply
   -- a submission was taken and handled
   Took : StepReply

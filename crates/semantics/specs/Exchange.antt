@@ -1,5 +1,5 @@
 -- What a whole exchange needs, and what it leaves.
-use Rattle.std.specs.Prelude.{◌≡◌, ◌⊎◌, ℕ, ◌+◌, ◌≤◌, not, ◌||◌, IsTrue, List, [], length}
+use Rattle.std.specs.Prelude.{◌≡◌, ◌⊎◌, ℕ, ◌+◌, ◌≤◌, not, ◌||◌, IsTrue, IsFalse, List, [], length}
 use Rattle.std.specs.List.{filter}
 use Rattle.semantics.specs.Limits.{most_entries, most_waiting}
 use Rattle.semantics.specs.Ids.{OpId}
@@ -8,15 +8,21 @@ use Rattle.semantics.specs.LegalHistory.{IsAmong, has_id}
 use Rattle.semantics.specs.NamedIds.{greatest_counter}
 use Rattle.semantics.specs.Vectors.{Vector, at}
 use Rattle.semantics.specs.Stamped.{Stamped, operations_of, IsLegalStamped}
-use Rattle.semantics.specs.Faults.{is_of_members}
+use Rattle.ids.specs.Members.{is_member}
+use Rattle.ids.specs.Tables.{lacks_room}
 use Rattle.semantics.specs.Making.{is_full}
-use Rattle.semantics.specs.Replica.{Replica, operations, IsRunning}
+use Rattle.semantics.specs.Joining.{table_with}
+use Rattle.semantics.specs.Replica.{Replica, operations, table_of, IsRunning}
 use Rattle.semantics.specs.Drain.{IsDrained}
 use Rattle.semantics.specs.OneWorld.{AreOfOneWorld, IsReplicaOf}
 
 -- the operations of F that the history lacks
 abbrev pub lacking : List Operation → List Stamped → List Stamped
 lacking H F = filter (λ s. not (has_id H s.id)) F
+
+-- the table has no room for the replica of one of these operations
+abbrev pub LacksRoomFor : Replica → List Stamped → Type 0
+LacksRoomFor r F = (s : Stamped) × IsAmong s F × IsTrue (lacks_room (table_of r) s.id.replica)
 
 -- r can be sent what the history F has above the vector v
 pub record CanReceive (r : Replica) (F : List Stamped) (v : Vector) : Type 0 where
@@ -26,7 +32,9 @@ pub record CanReceive (r : Replica) (F : List Stamped) (v : Vector) : Type 0 whe
   pub world : AreOfOneWorld (operations r) (operations_of F)
   -- it lacks nothing of its own
   pub own : (s : Stamped) → IsAmong s F → s.id.replica ≡ r.own → IsTrue (has_id (operations r) s.id)
-  pub members : (s : Stamped) → IsAmong s F → IsTrue (is_of_members r.members s)
+  -- the table has the replicas of all that it has, and room for those of F
+  pub there : (x : Operation) → IsAmong x (operations r) → IsTrue (is_member (table_of r) x.id.replica)
+  pub fits : (s : Stamped) → IsAmong s F → IsFalse (lacks_room (table_with (table_of r) F) s.id.replica)
   -- the vector names no more than r has applied
   pub vector : (p : ℕ) → at v p ≤ greatest_counter (operations r) p
   pub room : length r.entries + length (lacking (operations r) F) ≤ most_entries
@@ -45,8 +53,9 @@ pub record IsSettled (K : List Operation) (p : ℕ) (r : Replica) : Type 0 where
   pub end : IsDrained r
   pub few : length r.waiting ≤ most_waiting
 
--- d has all that r had, and all of F, unless it is full
+-- d has all that r had, and all of F, unless its history is full or its table has no room for a replica of F
 pub record HasAll (r d : Replica) (F : List Stamped) : Type 0 where
   pub members : d.members ≡ r.members
   pub kept : (a : OpId) → IsTrue (has_id (operations r) a) → IsTrue (has_id (operations d) a)
-  pub complete : IsTrue (is_full d.entries) ⊎ ((a : OpId) → IsTrue (has_id (operations_of F) a) → IsTrue (has_id (operations d) a))
+  pub complete : IsTrue (is_full d.entries) ⊎ LacksRoomFor d F
+      ⊎ ((a : OpId) → IsTrue (has_id (operations_of F) a) → IsTrue (has_id (operations d) a))

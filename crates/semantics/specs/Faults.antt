@@ -4,14 +4,12 @@ use Rattle.std.specs.List.{list_all, list_any}
 use Rattle.semantics.specs.Ids.{OpId, id_at, is_same_id}
 use Rattle.semantics.specs.Elements.{Element, Doc, Field, Item}
 use Rattle.semantics.specs.Operations.{Operation, Misplaced, OutsideList, OnHead, element_of, inserted_after, misplaced}
-use Rattle.ids.specs.Vectors.{names_only}
 use Rattle.ids.specs.declared.refusal.Refusal.{Refusal}
-use Rattle.ids.specs.declared.refusal.Refusal.TheVariants.{NotInList, UnknownReplica, BadCounter, BrokenChain, NamesNothing, NotClosed}
+use Rattle.ids.specs.declared.refusal.Refusal.TheVariants.{NotInList, BadCounter, BrokenChain, NamesNothing, NotClosed}
 use Rattle.ids.specs.declared.refusal.Refusal.TheVariants.{BadPlace}
 use Rattle.semantics.specs.LegalHistory.{IsFormed, has_id}
 use Rattle.semantics.specs.NamedIds.{greatest_counter}
 use Rattle.semantics.specs.Vectors.{Vector, at, greatest, covers, is_at_most}
-use Rattle.ids.specs.Members.{is_member}
 use Rattle.semantics.specs.Limits.{most_counter}
 use Rattle.semantics.specs.Stamped.{Stamped, operations_of}
 
@@ -27,16 +25,6 @@ pub record StandsAlone (s : Stamped) : Type 0 where
   pub form : IsFormed s.mutation s.place
   pub covered : IsTrue (items_covered s.vector (element_of s.place))
 
--- each id on the way down to e is a member's
-abbrev pub items_of_members : List ℕ → Element → Bool
-items_of_members ps Doc = true
-items_of_members ps (Field e n) = items_of_members ps e
-items_of_members ps (Item l a) = is_member ps a.replica && items_of_members ps l
-
--- s names only members, in its id, its vector and its place
-abbrev pub is_of_members : List ℕ → Stamped → Bool
-is_of_members ps s = is_member ps s.id.replica && names_only ps s.vector && items_of_members ps (element_of s.place)
-
 -- the counter is 1 plus the greatest, and isn't past the last one
 abbrev pub is_next_counter : (greatest counter : ℕ) → Bool
 is_next_counter g counter = (counter == suc g) && nat_lt g most_counter
@@ -45,19 +33,17 @@ is_next_counter g counter = (counter == suc g) && nat_lt g most_counter
 abbrev pub has_counter : Stamped → Bool
 has_counter s = is_next_counter (greatest s.vector) s.id.counter
 
--- the first of these tests that fails: the names, the counter, what may stand at the place, and the ids on the way to it
-abbrev pub first_failed : Bool → Bool → Option Misplaced → Bool → Option Refusal
-first_failed false b c d = Some UnknownReplica
-first_failed true false c d = Some BadCounter
-first_failed true true (Some OutsideList) d = Some NotInList
-first_failed true true (Some OnHead) d = Some BadPlace
-first_failed true true None false = Some BadPlace
-first_failed true true None true = None
+-- the first of these tests that fails: the counter, what may stand at the place, and the ids on the way to it
+abbrev pub first_failed : Bool → Option Misplaced → Bool → Option Refusal
+first_failed false c d = Some BadCounter
+first_failed true (Some OutsideList) d = Some NotInList
+first_failed true (Some OnHead) d = Some BadPlace
+first_failed true None false = Some BadPlace
+first_failed true None true = None
 
 -- the first fault that can be seen of s alone
-abbrev pub alone_fault : List ℕ → Stamped → Option Refusal
-alone_fault ps s = first_failed (is_of_members ps s) (has_counter s) (misplaced s.mutation s.place)
-    (items_covered s.vector (element_of s.place))
+abbrev pub alone_fault : Stamped → Option Refusal
+alone_fault s = first_failed (has_counter s) (misplaced s.mutation s.place) (items_covered s.vector (element_of s.place))
 
 -- all that the vector names is at most what was applied
 abbrev pub is_ready : List Operation → Stamped → Bool

@@ -4,9 +4,10 @@ use Rattle.ids.specs.declared.refusal.Refusal.{Refusal}
 use Rattle.ids.specs.declared.refusal.Refusal.TheVariants.{NoMemory, BadFloor, HistoryFull, InboxFull, OwnName}
 use Rattle.semantics.specs.Stamped.{Stamped}
 use Rattle.semantics.specs.LegalHistory.{has_id}
-use Rattle.semantics.specs.Faults.{alone_fault, fault_of}
+use Rattle.semantics.specs.Faults.{alone_fault}
 use Rattle.semantics.specs.Making.{is_full}
 use Rattle.semantics.specs.Entries.{Entry, applied, first_entries, stamped_entries}
+use Rattle.semantics.specs.Joining.{check_fault}
 use Rattle.semantics.specs.LegalAnswer.{Request, OfCommand, OfPeer, Submitted, Reply, Made, RefusedAt, KeptAt, KnownAt, IsLegalAnswer}
 use Rattle.semantics.specs.LegalAnswer.{LacksSerial}
 use Rattle.semantics.specs.Delivery.{Delivered, Kept, Known, NotKept, answer_to}
@@ -69,8 +70,8 @@ IsWithin G (KnownAt m) = m ≤ length G
 -- the refusal is true of the operation and of these entries of replica p, or it is InboxFull, of which nothing is said
 abbrev pub IsTrueOf : (own : ℕ) (members : List ℕ) → List Entry → Stamped → Refusal → Type 0
 IsTrueOf p ps G s e =
-    (alone_fault ps s ≡ Some e)
+    (alone_fault s ≡ Some e)
     ⊎ ((e ≡ OwnName) × (s.id.replica ≡ p) × (has_id (applied G) s.id ≡ false))
     ⊎ ((e ≡ HistoryFull) × (is_full G ≡ true))
     ⊎ (e ≡ InboxFull)
-    ⊎ (fault_of (stamped_entries G) s ≡ Some e)
+    ⊎ (check_fault ps (stamped_entries G) s ≡ Some e)

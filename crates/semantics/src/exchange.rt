@@ -1,12 +1,11 @@
-//! An exchange leaves all that the other history had, unless the receiver's is full.
+//! An exchange leaves all that the other history had, unless the receiver's is full or its table has no room.
 
-ghost use Rattle.std.specs.Prelude.{◌≤◌, ℕ, List, IsTrue};
+ghost use Rattle.std.specs.Prelude.{◌≤◌, ℕ, List};
 ghost use Rattle.semantics.specs.Operations.{Operation};
-ghost use Rattle.semantics.specs.LegalHistory.{IsLegal, IsAmong};
+ghost use Rattle.semantics.specs.LegalHistory.{IsLegal};
 ghost use Rattle.semantics.specs.NamedIds.{greatest_counter};
 ghost use Rattle.semantics.specs.Vectors.{Vector, at};
 ghost use Rattle.semantics.specs.Stamped.{Stamped};
-ghost use Rattle.semantics.specs.Faults.{is_of_members};
 ghost use Rattle.semantics.specs.Entries.{missing};
 ghost use Rattle.semantics.specs.Replica.{Replica, operations};
 ghost use Rattle.semantics.specs.Drain.{receive_all};
@@ -20,10 +19,9 @@ pub fn an_exchange_leaves_the_union()
 {}
 
 /// In one world, whatever waits: delivering what a history has above a vector, in order, each followed by a drain, leaves all of
-/// it, unless the history is full.
+/// it, unless the history is full or the table has no room for one of its replicas.
 pub fn an_exchange_is_complete()
     ensures { (K : List Operation) (p : ℕ) (r : Replica) (v : Vector) (F : List Stamped) → IsLegal K → IsSettled K p r →
         ((q : ℕ) → at v q ≤ greatest_counter (operations r) q) → IsHistoryOf K F →
-        ((s : Stamped) → IsAmong s F → IsTrue (is_of_members r.members s)) →
         IsSettled K p (receive_all r (missing v F)) × HasAll r (receive_all r (missing v F)) F }
 {}

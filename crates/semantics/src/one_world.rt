@@ -10,13 +10,13 @@ ghost use Rattle.semantics.specs.Vectors.{at};
 ghost use Rattle.semantics.specs.Stamped.{Stamped, IsLegalStamped, Means, operations_of};
 ghost use Rattle.semantics.specs.Faults.{is_ready};
 ghost use Rattle.semantics.specs.Making.{Command, make, is_full};
-ghost use Rattle.semantics.specs.Replica.{Replica, operations, IsRunning};
+ghost use Rattle.semantics.specs.Replica.{Replica, operations, has_full_table, IsRunning};
 ghost use Rattle.semantics.specs.Drain.{drain, IsDrained};
 ghost use Rattle.semantics.specs.OneWorld.{AreWithin, AreOfOneWorld, IsHistoryOf, IsOfWorld, IsReplicaOf};
 ghost use Rattle.semantics.specs.Runs.{Replicas, IsReached};
 
-/// In every run of replicas of their own numbers, whatever comes in whatever order, all histories are of one legal history and
-/// nothing is dropped.
+/// In every run of replicas of their own numbers, whatever comes in whatever order, all histories are of one legal history, and a
+/// replica drops nothing unless its table is full.
 pub fn every_run_is_one_world()
     ensures { (members : ℕ → List ℕ) (W : Replicas) → IsReached members W →
         (K : List Operation) × IsLegal K × ((p : ℕ) → IsReplicaOf K p (W p)) }
@@ -50,11 +50,11 @@ pub fn made_grows_the_world()
         make H p c ≡ Ok o → ((x : Operation) → IsAmong x K → x.id.replica ≡ p → IsTrue (has_id H x.id)) → Follows K o }
 {}
 
-/// In one world a drain drops nothing.
+/// In one world a drain drops nothing, unless the table is full then.
 pub fn drains_drop_nothing()
     ensures { (K : List Operation) (r : Replica) → IsLegal K → IsRunning r → AreWithin (operations r) K →
         ((s : Stamped) → IsAmong s r.waiting → IsOfWorld K s) →
-        ((drain r).dropped ≡ r.dropped) × AreWithin (operations (drain r)) K }
+        (IsFalse (has_full_table (drain r)) → (drain r).dropped ≡ r.dropped) × AreWithin (operations (drain r)) K }
 {}
 
 /// In one world each operation of a history that was delivered, in whatever order, is applied after a drain, unless the history is full.

@@ -1,6 +1,6 @@
 //! What holds of every run of a world in which all that is received was sent by its engines, and no two have one own number.
 
-ghost use Rattle.std.specs.Prelude.{◌≡◌, ℕ, IsTrue, List, ◌++◌, Some, slice_get};
+ghost use Rattle.std.specs.Prelude.{◌≡◌, ◌⊎◌, ℕ, List, ◌++◌, Some, slice_get};
 ghost use Rattle.ids.specs.Configurations.{Configuration};
 ghost use Rattle.semantics.specs.Ids.{OpId};
 ghost use Rattle.semantics.specs.Operations.{Operation};
@@ -8,15 +8,15 @@ ghost use Rattle.semantics.specs.LegalHistory.{IsLegal, IsAmong, has_id};
 ghost use Rattle.semantics.specs.Questions.{Question};
 ghost use Rattle.semantics.specs.DocumentAnswer.{document_answer};
 ghost use Rattle.semantics.specs.Stamped.{Stamped};
-ghost use Rattle.semantics.specs.Faults.{is_of_members};
 ghost use Rattle.semantics.specs.Entries.{Entry, applied, stamped_entries};
 ghost use Rattle.semantics.specs.OneWorld.{IsReplicaOf};
+ghost use Rattle.semantics.specs.Exchange.{LacksRoomFor};
 ghost use Rattle.semantics.specs.Engine.{Engine, Message, published_entries};
 ghost use Rattle.semantics.specs.World.{WorldStep, opened, world_after};
 ghost use Rattle.semantics.specs.WorldHistory.{IsEngineAfter};
 ghost use Rattle.semantics.specs.WorldExchange.{HaveOwnNumbers, AreWithoutLines, IsExchange, IsHandledBelow, IsAppliedUnlessFull};
 
-/// All histories are of one legal history, and no engine drops anything.
+/// All histories are of one legal history, and an engine drops nothing unless its table is full.
 pub fn histories_are_of_one_world()
     ensures { (cs : List Configuration) (steps : List WorldStep) → HaveOwnNumbers cs → AreWithoutLines steps →
         (K : List Operation) × IsLegal K
@@ -39,12 +39,12 @@ pub fn messages_stay()
 {}
 
 /// An engine that said hello and received the answer has, once what came is handled, all that its peer had published when it
-/// answered, where that is of its members, and none of it waits. Only where its history is full may an operation wait, or have been
-/// refused with HistoryFull when it was delivered.
+/// answered, and none of it waits. Only where its history is full may an operation wait, or have been refused with HistoryFull when it
+/// was delivered; and only where its table has no room for a replica that wrote some of it may anything else be lacking.
 pub fn an_exchange_of_messages_is_complete()
     ensures { (cs : List Configuration) (steps : List WorldStep) → HaveOwnNumbers cs → AreWithoutLines steps →
         (a b c first end : ℕ) (published : List Entry) (A : Engine) → IsExchange cs steps a b c first end published →
         IsEngineAfter cs steps a A → IsHandledBelow A c end →
-        ((s : Stamped) → IsAmong s (stamped_entries published) → IsTrue (is_of_members A.replica.members s)) →
-        (s : Stamped) → IsAmong s (stamped_entries published) → IsAppliedUnlessFull A c first end s }
+        (s : Stamped) → IsAmong s (stamped_entries published) →
+        IsAppliedUnlessFull A c first end s ⊎ LacksRoomFor A.replica (stamped_entries published) }
 {}

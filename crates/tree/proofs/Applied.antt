@@ -87,7 +87,8 @@ module _ (o : Op) (ns : List Node) (copy : Option Scalar) (reserved : IsReserved
       → RoomToWrite ns copy (Item l o.id) (Some (meaning_of v))
   insert_reserved m l p q =
       subst (λ x. RoomToWrite ns copy (target_in x o.id o.place) (Some (meaning_of v))) (slot_of_any (meaning_of v) o.place ∙ q)
-      (subst (λ c. RoomToWrite ns copy (target_in (slot_of (mutation_of c) o.place) o.id o.place) (value_of (mutation_of c))) m reserved.write)
+      (subst (λ c. RoomToWrite ns copy (target_in (slot_of (mutation_of c) o.place) o.id o.place)
+      (value_of (mutation_of c))) m reserved.write)
 
   pub scalar_reserved : o.mutation ≡ mutation.Insert v → option_map scalar_of copy ≡ scalar_in (Some (meaning_of v))
   scalar_reserved m = (subst (λ c. RoomToWrite ns copy (target_in (slot_of (mutation_of c) o.place) o.id o.place)

@@ -1,5 +1,6 @@
 -- A tree as contracts see it, and what an operation needs of it.
-use Rattle.std.specs.Prelude.{◌≡◌, ℕ, ◌<◌, ◌≤◌, ◌-◌, min, Bool, true, ◌&&◌, IsTrue, IsFalse, List, Option, Some, None, IsSome, length, option_map, map}
+use Rattle.std.specs.Prelude.{◌≡◌, ℕ, ◌<◌, ◌≤◌, ◌-◌, min, Bool, true, ◌&&◌, IsTrue, IsFalse, List, Option, Some, None, IsSome, length}
+use Rattle.std.specs.Prelude.{option_map, map}
 use Rattle.ids.specs.Members.{AreDistinct}
 use Rattle.ids.specs.Tables.{Table}
 use Rattle.semantics.specs.Ids.{OpId}

@@ -1,7 +1,7 @@
 -- What an operation writes along a path, step by step.
 use Rattle.std.specs.Prelude.{◌≡◌, ℕ, ◌<◌, ◌≤◌, IsTrue, cond, List, length, take, map, Option, Some, None, slice_get}
 use Rattle.std.specs.FinMap.{put}
-use Rattle.ids.specs.Members.{AreDistinct, is_member}
+use Rattle.ids.specs.Members.{AreDistinct}
 use Rattle.ids.specs.Vectors.{names_only}
 use Rattle.semantics.specs.Ids.{OpId, IdSet, id_cmp}
 use Rattle.semantics.specs.Elements.{Element, Doc, Field, Item, Name, Scalar, Tag, AsMap, AsList, name_cmp, is_same}

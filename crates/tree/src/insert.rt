@@ -1,6 +1,7 @@
 //! Inserting a new item into a list, and writing it.
 
-ghost use Rattle.std.specs.Prelude.{◌≡◌, ◌<◌, ◌≤◌, ℕ, List, Option, Some, None, IsTrue, IsFalse, IsSome, length, map, option_map, slice_get};
+ghost use Rattle.std.specs.Prelude.{◌≡◌, ◌<◌, ◌≤◌, ℕ, List, Option, Some, None, IsTrue, IsFalse, IsSome, length, map, option_map};
+ghost use Rattle.std.specs.Prelude.{slice_get};
 ghost use Rattle.semantics.specs.Elements.{Element, Item, EmptyMap, is_under};
 ghost use Rattle.semantics.specs.Operations.{Insert, slot_of};
 ghost use Rattle.operation.specs.value.Values.{scalar_of};

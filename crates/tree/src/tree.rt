@@ -90,8 +90,8 @@ impl Tree {
     /// Applies an operation that was reserved. Allocates nothing. Beneath an assign's or a delete's element it visits each node at
     /// which something stands, and of the children of those the fields whose flags are raised, and the items from the first on that
     /// stood after the list was last cleared, or that was written to since. It writes at each element of the path, and then sets the
-    /// flags of the fields there, and whether the lists show the items there. A replica that isn't in the table joins it; the replicas that the
-    /// operation names are in it.
+    /// flags of the fields there, and whether the lists show the items there. A replica that isn't in the table joins it; the replicas
+    /// that the operation names are in it.
     pub fn apply(&mut self, op: &Op)
         requires reserved { IsReserved self.old.nodes self.old.scalar (stamped_of op.now) }
         requires placed { IsPlaced (document self.old) (stamped_of op.now) }

@@ -18,9 +18,9 @@ use std::sync::Wait;
 /// What an engine does in a day.
 #[derive(Clone, Copy)]
 pub struct Day<'a> {
-    /// Its number, among the members 1, 2 and so on.
+    /// Its number, and the first and the last of its members' numbers.
     pub own: u32,
-    pub members: u32,
+    pub members: (u32, u32),
     /// What it receives before it writes, which may be nothing.
     pub before: &'a [u8],
     /// What it writes, how many commands at a time, and how many in all.
@@ -47,8 +47,9 @@ pub fn play_day<R: Wait>(
 }
 
 fn configuration(alloc: Global, day: &Day) -> Result<Config, Refusal> {
+    let (first, last) = day.members;
     let mut members = Vec::new(alloc);
-    for member in 1..=day.members {
+    for member in first..=last {
         members.push(member)?;
     }
     Ok(Config {

@@ -34,7 +34,8 @@ pub fn play<R: Wait>(
         "typing" => alone(rt, alloc, hands, Work::Typing, 1, count),
         "saves" => alone(rt, alloc, hands, Work::Saves, 256, count),
         "lost" => lose(rt, alloc, hands, count),
-        "devices" => devices(rt, alloc, hands, count),
+        "devices" => devices(rt, alloc, hands, count, true),
+        "newcomers" => devices(rt, alloc, hands, count, false),
         _ => Ok(()),
     }
 }
@@ -43,7 +44,7 @@ pub fn play<R: Wait>(
 fn day_of<'a>(work: Work, batch: u32, count: u32) -> Day<'a> {
     Day {
         own: 1,
-        members: 2,
+        members: (1, 2),
         before: &[],
         work,
         batch,
@@ -87,7 +88,7 @@ fn history<R: Wait>(rt: &R, alloc: Global, hands: &mut Hands, count: u32) -> Res
 /// Engines that share a beginning write apart, and each takes what those before it wrote behind what it wrote itself.
 fn apart<R: Wait>(rt: &R, alloc: Global, hands: &mut Hands, count: u32) -> Result<(), Refusal> {
     let first = Day {
-        members: PEERS,
+        members: (1, PEERS),
         shows: false,
         ..day_of(Work::Mixed, 256, count)
     };
@@ -96,7 +97,7 @@ fn apart<R: Wait>(rt: &R, alloc: Global, hands: &mut Hands, count: u32) -> Resul
     for own in 2..=PEERS {
         let day = Day {
             own,
-            members: PEERS,
+            members: (1, PEERS),
             before: shared.as_slice(),
             after: others.as_slice(),
             shows: own == PEERS,
@@ -120,14 +121,14 @@ fn lose<R: Wait>(rt: &R, alloc: Global, hands: &mut Hands, count: u32) -> Result
 fn lose_a_line<R: Wait>(rt: &R, alloc: Global, hands: &mut Hands) -> Result<(), Refusal> {
     let waiting = Day {
         own: 2,
-        members: 3,
+        members: (1, 3),
         shows: false,
         ..day_of(Work::Fields, 64, WAITING)
     };
     let held = play_day(rt, alloc, hands, &waiting)?;
     let going = Day {
         own: 3,
-        members: 3,
+        members: (1, 3),
         shows: false,
         ..day_of(Work::Mixed, 64, OTHERS)
     };
@@ -137,7 +138,7 @@ fn lose_a_line<R: Wait>(rt: &R, alloc: Global, hands: &mut Hands) -> Result<(), 
     before.extend_from_slice(rest)?;
     before.extend_from_slice(&others)?;
     let taken = Day {
-        members: 3,
+        members: (1, 3),
         before: before.as_slice(),
         after: line,
         answers_all: false,
@@ -147,13 +148,21 @@ fn lose_a_line<R: Wait>(rt: &R, alloc: Global, hands: &mut Hands) -> Result<(), 
     Ok(())
 }
 
-/// Many devices, one after another: each takes all that was written before, and writes.
-fn devices<R: Wait>(rt: &R, alloc: Global, hands: &mut Hands, count: u32) -> Result<(), Refusal> {
+/// Many devices, one after another: each takes all that was written before, and writes. Each knows all of them from the start, or
+/// itself alone.
+fn devices<R: Wait>(
+    rt: &R,
+    alloc: Global,
+    hands: &mut Hands,
+    count: u32,
+    know_all: bool,
+) -> Result<(), Refusal> {
     let mut all = Vec::new(alloc);
     for own in 1..=DEVICES {
+        let members = if know_all { (1, DEVICES) } else { (own, own) };
         let day = Day {
             own,
-            members: DEVICES,
+            members,
             before: all.as_slice(),
             shows: own == DEVICES,
             ..day_of(Work::Mixed, 64, count)

@@ -1,24 +1,19 @@
 -- How pending entries are published, the oldest first.
 use Rattle.std.proofs.Common.{◌≡◌, false, ℕ, List, [], ◌∷◌, ◌++◌, map, length, sym, ap, ◌∙◌, subst, append_assoc, arith}
-use Rattle.std.specs.Prelude.{IsTrue}
-use Rattle.std.specs.List.{All}
 use Rattle.std.proofs.lemmas.List.{reverse-append}
-use Rattle.std.proofs.lemmas.List.Elements.{All-head, All-push, All-tail}
-use Rattle.ids.specs.Members.{is_member}
 use Rattle.ids.specs.Tables.{lacks_room}
-use Rattle.semantics.specs.Joining.{table_after}
+use Rattle.semantics.specs.Joining.{table_after, HadRoom}
 use Rattle.semantics.specs.Entries.{Entry as TheEntry, IsEntryHistory, first_entries, stamped_entries, stamped_in}
-use Rattle.semantics.specs.Stamped.{IsLegalStamped, Stamped}
+use Rattle.semantics.specs.Stamped.{IsLegalStamped}
 use Rattle.semantics.specs.Publication.{Publication}
 use Rattle.semantics.specs.WorldHistory.{BeginsWith}
 use Rattle.semantics.proofs.Beginnings.{first_of_longer}
 use Rattle.semantics.proofs.OwnReplies.{all_first}
 use Rattle.semantics.proofs.EntryHistories.{entries_legal}
 use Rattle.semantics.proofs.GrownEngines.{begins_trans}
-use Rattle.semantics.proofs.JoinedReplicas.{room_after}
-use Rattle.replica.proofs.operation.StandingAlone.{stamped_same}
+use Rattle.semantics.proofs.JoinedReplicas.{had_room_before}
 use Rattle.replica.specs.operation.declared.command.Entry.{Entry}
-use Rattle.replica.specs.operation.Ops.{entry_of, op_in}
+use Rattle.replica.specs.operation.Ops.{entry_of}
 use Rattle.replica.specs.oplog.Logs.{history}
 use Rattle.replica.proofs.oplog.Oldest.{history-more}
 use Rattle.replica.specs.document.Documents.{Contents, MayFollowEntries}
@@ -39,15 +34,15 @@ module _ (d : Contents) (e : Entry) (left : List Entry) (h : CanPublish d (e ∷
   longer_legal : IsLegalStamped (stamped_entries (history left ++ entry_of e ∷ d.entries))
   longer_legal = subst (λ (G : List TheEntry). IsLegalStamped (stamped_entries G)) (oldest_next e left d.entries) h.legal
 
+  longer_fits : HadRoom d.members (history left ++ entry_of e ∷ d.entries)
+  longer_fits = subst (HadRoom d.members) (oldest_next e left d.entries) h.fits
+
   pub oldest_follows : MayFollowEntries d.entries (entry_of e)
   oldest_follows = (legal_begun (history left) (entry_of e ∷ d.entries) longer_legal).1
 
   -- there is room for its replica
   pub oldest_fits : lacks_room (table_after d.members d.entries) (stamped_in (entry_of e)).id.replica ≡ false
-  oldest_fits =
-      room_after d.members (stamped_in (entry_of e)).id.replica
-      (ap (λ (s : Stamped). is_member d.members s.id.replica) (stamped_same e)
-      ∙ All-head (λ (f : Entry). IsTrue (is_member d.members (op_in f).id.replica)) e left h.members) d.entries
+  oldest_fits = (had_room_before d.members (history left) (entry_of e ∷ d.entries) longer_fits).1
 
   -- it is published
   pub one_published : (k : Contents) → k.members ≡ d.members → k.entries ≡ entry_of e ∷ d.entries → PublishesMore d (e ∷ left) k left
@@ -60,8 +55,8 @@ module _ (d : Contents) (e : Entry) (left : List Entry) (h : CanPublish d (e ∷
         more = (entry_of e ∷ [], entries);
         publisher = record {
           legal = subst (λ (G : List TheEntry). IsLegalStamped (stamped_entries G)) (sym appended) longer_legal;
-          members = subst (λ (ps : List ℕ). All (λ (f : Entry). IsTrue (is_member ps (op_in f).id.replica)) left) (sym table)
-              (All-tail (λ (f : Entry). IsTrue (is_member d.members (op_in f).id.replica)) e left h.members);
+          fits = subst (HadRoom k.members) (sym appended)
+              (subst (λ ps. HadRoom ps (history left ++ entry_of e ∷ d.entries)) (sym table) longer_fits);
         };
       }
 
@@ -76,8 +71,7 @@ none_published d k pending left h table entries same =
       more = ([], entries);
       publisher = record {
         legal = subst (λ (G : List TheEntry). IsLegalStamped (stamped_entries G)) (sym appended) h.legal;
-        members = subst (λ (ps : List ℕ). All (λ (f : Entry). IsTrue (is_member ps (op_in f).id.replica)) left) (sym table)
-            (subst (All (λ (f : Entry). IsTrue (is_member d.members (op_in f).id.replica))) (sym same) h.members);
+        fits = subst (HadRoom k.members) (sym appended) (subst (λ ps. HadRoom ps (appended_of d pending)) (sym table) h.fits);
       };
     }
 
@@ -92,27 +86,30 @@ published_on d k m pending left last f g = record {
 
 -- one more entry is appended
 pub one_appended : (own : ℕ) (d : Contents) (pending : List Entry) (e : Entry) → CanPublish d pending
-    → IsEntryHistory own (entry_of e ∷ appended_of d pending) → IsTrue (is_member d.members (op_in e).id.replica)
+    → IsEntryHistory own (entry_of e ∷ appended_of d pending)
+    → lacks_room (table_after d.members (appended_of d pending)) (stamped_in (entry_of e)).id.replica ≡ false
     → (appended_of d (pending ++ e ∷ []) ≡ entry_of e ∷ appended_of d pending) × CanPublish d (pending ++ e ∷ [])
-one_appended own d pending e h lawful member =
+one_appended own d pending e h lawful fits =
     let appended : appended_of d (pending ++ e ∷ [])
     ≡ entry_of e ∷ appended_of d pending = ap (λ (G : List TheEntry). G ++ d.entries) (history-more pending e) in (
       appended,
       record {
         legal = subst (λ (G : List TheEntry). IsLegalStamped (stamped_entries G)) (sym appended)
             (entries_legal own (entry_of e ∷ appended_of d pending) lawful);
-        members = All-push (λ (f : Entry). IsTrue (is_member d.members (op_in f).id.replica)) pending e h.members member;
+        fits = subst (HadRoom d.members) (sym appended) (h.fits, fits);
       },
     )
 
 pub added : (own : ℕ) (d : Contents) (pending : List Entry) (e : Entry) → CanPublish d pending → (z : Publication)
     → record { own = own; members = d.members; published = d.entries; appended = appended_of d pending } ≡ z
-    → IsEntryHistory z.own (entry_of e ∷ z.appended) → IsTrue (is_member z.members (op_in e).id.replica)
+    → IsEntryHistory z.own (entry_of e ∷ z.appended)
+    → lacks_room (table_after z.members z.appended) (stamped_in (entry_of e)).id.replica ≡ false
     → (all : List Entry) → all ≡ pending ++ e ∷ [] → CanPublish d all
-added own d pending e h z is lawful member all more =
+added own d pending e h z is lawful fits all more =
     subst (CanPublish d) (sym more) (one_appended own d pending e h
     (subst (λ (p : Publication). IsEntryHistory p.own (entry_of e ∷ p.appended)) (sym is) lawful)
-    (subst (λ (p : Publication). IsTrue (is_member p.members (op_in e).id.replica)) (sym is) member)).1
+    (subst (λ (p : Publication). lacks_room (table_after p.members p.appended) (stamped_in (entry_of e)).id.replica ≡ false) (sym is)
+    fits)).1
 
 -- what is published of a history are its first entries
 pub published_first : (p : Publication) (G : List TheEntry) → BeginsWith p.appended p.published → p.appended ≡ G

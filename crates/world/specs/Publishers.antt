@@ -1,12 +1,10 @@
 -- What a publisher has published, and what it will.
-use Rattle.std.specs.Prelude.{◌≡◌, ◌++◌, List, IsTrue}
-use Rattle.std.specs.List.{All}
-use Rattle.ids.specs.Members.{is_member}
+use Rattle.std.specs.Prelude.{◌≡◌, ◌++◌, List}
 use Rattle.semantics.specs.Stamped.{IsLegalStamped}
 use Rattle.semantics.specs.Entries.{Entry as TheEntry, stamped_entries}
+use Rattle.semantics.specs.Joining.{HadRoom}
 use Rattle.semantics.specs.WorldHistory.{BeginsWith}
 use Rattle.replica.specs.operation.declared.command.Entry.{Entry}
-use Rattle.replica.specs.operation.Ops.{op_in}
 use Rattle.replica.specs.oplog.Logs.{history}
 use Rattle.replica.specs.document.Documents.{Contents}
 
@@ -14,10 +12,10 @@ use Rattle.replica.specs.document.Documents.{Contents}
 abbrev pub appended_of : Contents → List Entry → List TheEntry
 appended_of published pending = history pending ++ published.entries
 
--- each pending entry may be published in its turn: what was appended is a legal history, and the operations are of members
+-- each pending entry may be published in its turn: what was appended is a legal history, and its replicas fit into the table
 pub record CanPublish (published : Contents) (pending : List Entry) : Type 0 where
   pub legal : IsLegalStamped (stamped_entries (appended_of published pending))
-  pub members : All (λ e. IsTrue (is_member published.members (op_in e).id.replica)) pending
+  pub fits : HadRoom published.members (appended_of published pending)
 
 -- some pending entries were published, so that these are left
 pub record PublishesMore (published : Contents) (pending : List Entry) (after : Contents) (left : List Entry) : Type 0 where

@@ -71,7 +71,7 @@ pub enum WorldAct {
 pub enum WorldReply {
     /// The command was submitted under this serial.
     Ticket(u64),
-    /// The command wasn't taken, the serial isn't the client's, or the hello names a replica that isn't a member.
+    /// The command wasn't taken, or the serial isn't the client's.
     Denied(Refusal),
     /// A submission was taken and handled.
     Took,

@@ -8,10 +8,14 @@ use operation::{Command, Mutation, Op, Shared};
 use std::alloc::Global;
 use value::{Key, Scalar, Text, Val};
 
-/// How many clients and replicas there are. The engine is of replica 1.
+/// How many clients there are.
 pub const CLIENTS: u64 = 2;
 
-pub const REPLICAS: u64 = 3;
+/// The members. The engine is of replica 1.
+pub const MEMBERS: &[u32] = &[1, 3, 4];
+
+/// How many replicas write: the members, and replica 2, whose place in the table is behind theirs.
+const REPLICAS: u64 = 4;
 
 /// Something that is done with an engine. Tokens are the clients', then the reader's.
 #[derive(Debug, Drop)]
@@ -170,15 +174,25 @@ fn next_probe(alloc: Global, dice: &mut Dice) -> Result<Probe, Refusal> {
     Ok(Probe { kind, place })
 }
 
+/// A counter of at most 2, most often 0.
+fn low_counter(dice: &mut Dice) -> u64 {
+    dice.roll(4).saturating_sub(1)
+}
+
 /// The counters of a vector that names at most two operations of each replica.
-fn counters(dice: &mut Dice) -> [u64; 3] {
-    [dice.roll(3), dice.roll(3), dice.roll(3)]
+fn counters(dice: &mut Dice) -> [u64; 4] {
+    [
+        low_counter(dice),
+        low_counter(dice),
+        low_counter(dice),
+        low_counter(dice),
+    ]
 }
 
 /// The counter after these operations, or sometimes a greater one.
-fn counter_after(deps: [u64; 3], dice: &mut Dice) -> u64 {
-    let [first, second, third] = deps;
-    let next = first.max(second).max(third).saturating_add(1);
+fn counter_after(deps: [u64; 4], dice: &mut Dice) -> u64 {
+    let [first, second, third, fourth] = deps;
+    let next = first.max(second).max(third).max(fourth).saturating_add(1);
     if dice.roll(8) == 0 {
         next.saturating_add(1)
     } else {

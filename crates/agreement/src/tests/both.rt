@@ -3,7 +3,7 @@
 ghost use Rattle.std.specs.Prelude.{◌≡◌};
 ghost use Rattle.ids.specs.Members.{in_order};
 
-use super::acts::{Act, CLIENTS, Probe, REPLICAS};
+use super::acts::{Act, CLIENTS, MEMBERS, Probe};
 use super::peers::send_the_same;
 use document::Reading;
 use engine::{
@@ -21,13 +21,9 @@ use world::{World, WorldAct, WorldReply, WorldStep};
 
 /// An engine of replica 1 with a queue of this capacity, whose steps take a batch of this size.
 fn config(alloc: Global, queue: u32, batch: u32) -> Result<Config, Fail> {
-    let mut members = Vec::new(alloc);
-    for replica in 1..=REPLICAS as u32 {
-        members.push(replica)?;
-    }
     Ok(Config {
         own: 1,
-        members,
+        members: MEMBERS.to_vec(alloc)?,
         clients: CLIENTS as u32,
         readers: 1,
         queue,

@@ -11,11 +11,11 @@ use std::test::Fail;
 use wire::{read_vector, write_bundle, write_vector};
 use world::{World, WorldAct, WorldReply};
 
-/// The hellos of a peer that has nothing, of one that has a little, and of one that has all that there may be.
+/// The hellos of a peer that has nothing, of one that has a little, and of one that has all that the members may have written.
 const HELLOS: [&[u8]; 3] = [
     br#"["hello",[]]"#,
     br#"["hello",[[1,2],[3,1]]]"#,
-    br#"["hello",[[1,1000],[2,1000],[3,1000]]]"#,
+    br#"["hello",[[1,1000],[3,1000],[4,1000]]]"#,
 ];
 
 /// Whether both send the same hello, and answer each of the hellos alike; the answer to the first of them is the whole history.

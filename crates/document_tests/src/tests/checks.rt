@@ -13,11 +13,11 @@ use std::test::Fail;
 const KEY: &[Hop] = &[Field("key")];
 
 /// Replica 1 writes at the key, and once both have seen that, replica 1 and replica 2 write there apart.
-const A: Sent = ((1, 1), [0, 0, 0], KEY, Assign(Text("A")));
+const A: Sent = ((1, 1), &[0, 0, 0], KEY, Assign(Text("A")));
 
-const B: Sent = ((2, 1), [1, 0, 0], KEY, Assign(Text("B")));
+const B: Sent = ((2, 1), &[1, 0, 0], KEY, Assign(Text("B")));
 
-const C: Sent = ((2, 2), [1, 0, 0], KEY, Assign(Text("C")));
+const C: Sent = ((2, 2), &[1, 0, 0], KEY, Assign(Text("C")));
 
 #[test]
 fn concurrent_values_stand_side_by_side(rt: HostRuntime) -> Result<(), Fail> {
@@ -42,14 +42,14 @@ fn applied_operations_are_found_by_their_ids(rt: HostRuntime) -> Result<(), Fail
 
 #[test]
 fn a_replica_names_all_its_own(rt: HostRuntime) -> Result<(), Fail> {
-    const OP: Sent = ((3, 1), [1, 2, 0], KEY, Delete);
+    const OP: Sent = ((3, 1), &[1, 2, 0], KEY, Delete);
     const WANTED: &[Turn] = &[Check(OP, Err(Refusal::BrokenChain))];
     on_new(&rt, rt.alloc(), &[A, B, C], WANTED)
 }
 
 #[test]
 fn what_is_named_names_no_more(rt: HostRuntime) -> Result<(), Fail> {
-    const OP: Sent = ((3, 3), [0, 2, 0], KEY, Delete);
+    const OP: Sent = ((3, 3), &[0, 2, 0], KEY, Delete);
     const WANTED: &[Turn] = &[Check(OP, Err(Refusal::NotClosed))];
     on_new(&rt, rt.alloc(), &[A, B, C], WANTED)
 }
@@ -57,37 +57,37 @@ fn what_is_named_names_no_more(rt: HostRuntime) -> Result<(), Fail> {
 #[test]
 fn items_are_those_of_their_list(rt: HostRuntime) -> Result<(), Fail> {
     const ITEM: &[Hop] = &[Field("key"), Item((2, 2))];
-    const OP: Sent = ((3, 3), [2, 2, 0], ITEM, Assign(Text("D")));
+    const OP: Sent = ((3, 3), &[2, 2, 0], ITEM, Assign(Text("D")));
     const WANTED: &[Turn] = &[Check(OP, Err(Refusal::BadPlace))];
     on_new(&rt, rt.alloc(), &[A, B, C], WANTED)
 }
 
 #[test]
 fn what_names_all_may_follow(rt: HostRuntime) -> Result<(), Fail> {
-    const OP: Sent = ((3, 3), [2, 2, 0], KEY, Delete);
+    const OP: Sent = ((3, 3), &[2, 2, 0], KEY, Delete);
     const TURNS: &[Turn] = &[Check(OP, Ok(())), Take(OP), Values(&[Get("key")], &[])];
     on_new(&rt, rt.alloc(), &[A, B, C], TURNS)
 }
 
 #[test]
 fn what_was_not_applied_is_waited_for(rt: HostRuntime) -> Result<(), Fail> {
-    const OP: Sent = ((9, 3), [8, 0, 0], KEY, Delete);
+    const OP: Sent = ((9, 3), &[8, 0, 0], KEY, Delete);
     on_new(&rt, rt.alloc(), &[A, B, C], &[Waits(OP)])
 }
 
 /// Operations of two replicas, each of which has seen all before it; the last has the counter 6.
 const IN_TURNS: &[Sent] = &[
-    ((1, 1), [0, 0, 0], KEY, Assign(Text("A"))),
-    ((2, 1), [1, 0, 0], KEY, Assign(Text("B"))),
-    ((3, 2), [2, 0, 0], KEY, Assign(Text("C"))),
-    ((4, 1), [2, 3, 0], KEY, Assign(Text("D"))),
-    ((5, 1), [4, 3, 0], KEY, Assign(Text("E"))),
-    ((6, 2), [5, 3, 0], KEY, Assign(Text("F"))),
+    ((1, 1), &[0, 0, 0], KEY, Assign(Text("A"))),
+    ((2, 1), &[1, 0, 0], KEY, Assign(Text("B"))),
+    ((3, 2), &[2, 0, 0], KEY, Assign(Text("C"))),
+    ((4, 1), &[2, 3, 0], KEY, Assign(Text("D"))),
+    ((5, 1), &[4, 3, 0], KEY, Assign(Text("E"))),
+    ((6, 2), &[5, 3, 0], KEY, Assign(Text("F"))),
 ];
 
 #[test]
 fn counters_between_two_operations_name_nothing(rt: HostRuntime) -> Result<(), Fail> {
-    const OP: Sent = ((6, 3), [5, 4, 0], KEY, Delete);
+    const OP: Sent = ((6, 3), &[5, 4, 0], KEY, Delete);
     const WANTED: &[Turn] = &[Check(OP, Err(Refusal::NamesNothing))];
     on_new(&rt, rt.alloc(), IN_TURNS, WANTED)
 }

@@ -15,7 +15,7 @@ ghost use Rattle.document.specs.Documents.{HasRoomFor};
 use cursor::{Expr, Place, Tag};
 use document::{Document, Question, Reading};
 use fixtures::{Pair, counted, id_of, pair_of};
-use ids::{MOST_NAMED, OpId, Refusal};
+use ids::{OpId, Refusal, ReplicaId, ReplicaTable};
 use operation::{Entry, Mutation, Op, Shared, check_alone};
 use std::alloc::{AllocError, Global};
 use std::process::Abort;
@@ -59,8 +59,8 @@ pub enum Does<'a> {
     Delete,
 }
 
-/// A peer's operation: its id, the counters of the replicas 1, 2 and 3 in its vector, its place, and what it does there.
-pub type Sent<'a> = (Pair, [u64; 3], &'a [Hop<'a>], Does<'a>);
+/// A peer's operation: its id, the counters of the replicas 1, 2 and so on in its vector, its place, and what it does there.
+pub type Sent<'a> = (Pair, &'a [u64], &'a [Hop<'a>], Does<'a>);
 
 /// One turn: something that is done with a document, or a question with its answer.
 #[derive(Clone, Copy)]
@@ -84,9 +84,11 @@ pub enum Turn<'a> {
     /// The ids of what stands there, each with its tag.
     Conflicts(&'a [Step<'a>], &'a [(Pair, Tag)]),
     /// The operations that a vector of these counters doesn't cover, by `missing` and by a question.
-    Missing([u64; 3], &'a [Pair]),
-    /// The greatest counter that was applied.
-    Greatest(u64),
+    Missing(&'a [u64], &'a [Pair]),
+    /// The greatest counter of each replica that was applied.
+    Vector(&'a [Pair]),
+    /// The replicas, in the order of their indices.
+    Table(&'a [u32]),
 }
 
 /// The place that a hop leads to from here.
@@ -131,7 +133,7 @@ fn try_op(alloc: Global, sent: Sent) -> Result<Shared<Op>, Refusal> {
     let (pair, counters, hops, does) = sent;
     let place = place(alloc, hops)?;
     let mutation = mutation(alloc, does)?;
-    fixtures::op(alloc, pair, &counters, place, mutation)
+    fixtures::op(alloc, pair, counters, place, mutation)
 }
 
 /// The operation, at the second attempt if an allocation of the first is refused.
@@ -143,29 +145,39 @@ fn op(alloc: Global, sent: Sent) -> Result<Shared<Op>, Refusal> {
 }
 
 /// Whether the operation has no fault alone.
-fn stands_alone(document: &Document, op: &Op) -> bool
-    ensures alone { IsTrue result → alone_fault_of_op document.now.members op.now ≡ None }
+fn stands_alone(op: &Op) -> bool
+    ensures { IsTrue result → alone_fault_of_op op.now ≡ None }
 {
-    check_alone(op, document.members()).is_ok()
+    check_alone(op).is_ok()
 }
 
-/// Whether there is room in the table for the operation's replica.
-fn has_room(document: &Document, op: &Op) -> bool
-    ensures { IsTrue result → lacks_room (table_after document.now.members document.now.entries) op.now.id.replica ≡ false }
-{
-    let table = document.table();
-    table.index_of(op.id.replica).is_some() || table.len() < MOST_NAMED
-}
-
-/// The fault of an operation that is ready, has none alone, and has room.
+/// The fault of an operation that is ready and has none alone.
 fn check(rt: &impl Abort, document: &Document, op: &Op) -> Result<(), Refusal>
     ensures lawful { OnOk result (MayFollow (applied document.now.entries) (stamped_of op.now)) }
-    ensures fits { lacks_room (table_after document.now.members document.now.entries) op.now.id.replica ≡ false }
+    ensures fits { OnOk result (lacks_room (table_after document.now.members document.now.entries) op.now.id.replica ≡ false) }
 {
-    assert!(rt; stands_alone(document, op));
-    assert!(rt; has_room(document, op));
+    assert!(rt; stands_alone(op));
     assert!(rt; document.ready(op));
     document.check(op)
+}
+
+/// Whether the table has these numbers in this order.
+fn is_table(table: &ReplicaTable, numbers: &[u32]) -> bool {
+    for (index, number) in numbers.iter().enumerate() {
+        if table.at(index) != ReplicaId::new(*number) {
+            return false;
+        }
+    }
+    table.len() == numbers.len()
+}
+
+/// What a refused call must leave: how many entries and replicas there are, and the greatest counter.
+fn measures(document: &Document) -> (usize, usize, u64) {
+    (
+        document.len(),
+        document.table().len(),
+        document.applied().greatest(),
+    )
 }
 
 /// Reserves an operation, at the second attempt if an allocation of the first is refused. A refusal changes no content.
@@ -179,16 +191,16 @@ fn reserve(
     ensures entries { document.new.entries ≡ document.old.entries }
     ensures room { OnOk result (HasRoomFor document.new (stamped_of op.now)) }
 {
-    let before = (document.len(), document.applied().greatest());
+    let before = measures(document);
     if document.reserve(alloc, op).is_ok() {
         return Ok(());
     }
-    assert_eq!(rt; (document.len(), document.applied().greatest()), before);
+    assert_eq!(rt; measures(document), before);
     document.reserve(alloc, op)
 }
 
 /// Takes an operation that passes each test.
-fn take(
+pub fn take(
     rt: &impl Abort,
     alloc: Global,
     document: &mut Document,
@@ -240,7 +252,7 @@ fn question(alloc: Global, turn: Turn) -> Result<Question, Refusal> {
         Turn::Keys(path, _) => Question::Keys(expr(alloc, path)?),
         Turn::Items(path, _) => Question::Items(expr(alloc, path)?),
         Turn::Conflicts(path, _) => Question::Conflicts(expr(alloc, path)?),
-        Turn::Missing(counters, _) => Question::Missing(counted(alloc, &counters)?),
+        Turn::Missing(counters, _) => Question::Missing(counted(alloc, counters)?),
         _ => Question::Vector,
     })
 }
@@ -326,7 +338,7 @@ fn is_wanted(reading: &Reading, turn: Turn) -> bool {
         (Reading::Items(items), Turn::Items(_, wanted)) => are_ids(items, wanted),
         (Reading::Conflicts(pairs), Turn::Conflicts(_, wanted)) => are_conflicts(pairs, wanted),
         (Reading::Missing(ops), Turn::Missing(_, wanted)) => are_ops(ops, wanted),
-        (Reading::Vector(vector), Turn::Greatest(wanted)) => vector.greatest() == wanted,
+        (Reading::Vector(vector), Turn::Vector(wanted)) => are_ids(vector.ids(), wanted),
         _ => false,
     }
 }
@@ -347,9 +359,9 @@ fn assert_answer(
 fn try_missing(
     alloc: Global,
     document: &Document,
-    counters: [u64; 3],
+    counters: &[u64],
 ) -> Result<Vec<Shared<Op>>, Refusal> {
-    let vector = counted(alloc, &counters)?;
+    let vector = counted(alloc, counters)?;
     Ok(document.missing(alloc, &vector)?)
 }
 
@@ -357,7 +369,7 @@ fn try_missing(
 fn missing(
     alloc: Global,
     document: &Document,
-    counters: [u64; 3],
+    counters: &[u64],
 ) -> Result<Vec<Shared<Op>>, Refusal> {
     match try_missing(alloc, document, counters) {
         Err(Refusal::NoMemory) => try_missing(alloc, document, counters),
@@ -371,7 +383,7 @@ fn assert_missing(
     alloc: Global,
     document: &Document,
     turn: Turn,
-    counters: [u64; 3],
+    counters: &[u64],
     wanted: &[Pair],
 ) -> Result<(), Refusal> {
     let ops = missing(alloc, document, counters)?;
@@ -403,6 +415,14 @@ fn take_turn(
             assert_eq!(rt; document.len(), wanted);
             Ok(())
         }
+        Turn::Table(wanted) => {
+            assert!(rt;
+                is_table(document.table(), wanted),
+                "{:?}",
+                document.table()
+            );
+            Ok(())
+        }
         Turn::Missing(counters, wanted) => assert_missing(
             rt, alloc, document, turn, counters, wanted,
         ),
@@ -411,7 +431,7 @@ fn take_turn(
 }
 
 /// Takes these operations, and then plays these turns.
-fn play(
+pub fn play(
     rt: &impl Abort,
     alloc: Global,
     document: &mut Document,
@@ -427,17 +447,28 @@ fn play(
     Ok(())
 }
 
-/// A document of the replicas 1, 2 and 3, at the second attempt if an allocation of the first is refused.
-fn empty(alloc: Global) -> Result<Document, Refusal> {
-    match Document::new(alloc, &[1, 2, 3]) {
-        Err(Refusal::NoMemory) => Document::new(alloc, &[1, 2, 3]),
+/// A new document with these members, at the second attempt if an allocation of the first is refused.
+fn empty(alloc: Global, members: &[u32]) -> Result<Document, Refusal> {
+    match Document::new(alloc, members) {
+        Err(Refusal::NoMemory) => Document::new(alloc, members),
         made => made,
     }
 }
 
-/// A new document of the replicas 1, 2 and 3 takes these operations; then these turns are played.
-pub fn on_new(rt: &impl Abort, alloc: Global, ops: &[Sent], turns: &[Turn]) -> Result<(), Fail> {
-    let mut document = empty(alloc)?;
+/// A new document with these members takes these operations; then these turns are played.
+pub fn on_new_of(
+    rt: &impl Abort,
+    alloc: Global,
+    members: &[u32],
+    ops: &[Sent],
+    turns: &[Turn],
+) -> Result<(), Fail> {
+    let mut document = empty(alloc, members)?;
     play(rt, alloc, &mut document, ops, turns)?;
     Ok(())
+}
+
+/// A new document of the replicas 1, 2 and 3 takes these operations; then these turns are played.
+pub fn on_new(rt: &impl Abort, alloc: Global, ops: &[Sent], turns: &[Turn]) -> Result<(), Fail> {
+    on_new_of(rt, alloc, &[1, 2, 3], ops, turns)
 }

@@ -6,7 +6,7 @@
 use super::playing::Does::{Assign, Delete, Insert};
 use super::playing::Hop::{Field, Head, Item};
 use super::playing::Step::{Get, Idx};
-use super::playing::Turn::{Conflicts, Greatest, Items, Keys, Missing, Take, Values};
+use super::playing::Turn::{Conflicts, Items, Keys, Missing, Table, Take, Values, Vector};
 use super::playing::Value::{List, Map, Text};
 use super::playing::{Hop, Sent, Turn, on_new};
 use super::*;
@@ -17,16 +17,16 @@ const X: &[Hop] = &[Field("l"), Item((2, 1))];
 
 /// Makes a list, and inserts x and y after one another.
 const LIST: &[Sent] = &[
-    ((1, 1), [0, 0, 0], &[Field("l")], Assign(List)),
-    ((2, 1), [1, 0, 0], &[Field("l"), Head], Insert(Text("x"))),
-    ((3, 1), [2, 0, 0], X, Insert(Text("y"))),
+    ((1, 1), &[0, 0, 0], &[Field("l")], Assign(List)),
+    ((2, 1), &[1, 0, 0], &[Field("l"), Head], Insert(Text("x"))),
+    ((3, 1), &[2, 0, 0], X, Insert(Text("y"))),
 ];
 
 #[test]
 fn lists_grow(rt: HostRuntime) -> Result<(), Fail> {
     const TURNS: &[Turn] = &[
         Items(&[Get("l")], &[(2, 1), (3, 1)]),
-        Take(((4, 1), [3, 0, 0], X, Delete)),
+        Take(((4, 1), &[3, 0, 0], X, Delete)),
         Items(&[Get("l")], &[(3, 1)]),
         Values(&[Get("l"), Idx(1)], &[((3, 1), Text("y"))]),
     ];
@@ -37,7 +37,7 @@ fn lists_grow(rt: HostRuntime) -> Result<(), Fail> {
 fn items_are_entered(rt: HostRuntime) -> Result<(), Fail> {
     const WITHIN: &[Hop] = &[Field("l"), Item((3, 1)), Field("f")];
     const TURNS: &[Turn] = &[
-        Take(((4, 1), [3, 0, 0], WITHIN, Assign(Text("z")))),
+        Take(((4, 1), &[3, 0, 0], WITHIN, Assign(Text("z")))),
         Keys(&[], &["l"]),
         Items(&[Get("l")], &[(2, 1), (3, 1)]),
     ];
@@ -48,8 +48,8 @@ const DEEP: &[Hop] = &[Field("m"), Field("a"), Field("b")];
 
 /// Makes a map, and writes a text two fields below.
 const MAP: &[Sent] = &[
-    ((1, 1), [0, 0, 0], &[Field("m")], Assign(Map)),
-    ((2, 1), [1, 0, 0], DEEP, Assign(Text("B"))),
+    ((1, 1), &[0, 0, 0], &[Field("m")], Assign(Map)),
+    ((2, 1), &[1, 0, 0], DEEP, Assign(Text("B"))),
 ];
 
 #[test]
@@ -64,7 +64,7 @@ fn maps_grow(rt: HostRuntime) -> Result<(), Fail> {
 #[test]
 fn maps_are_emptied(rt: HostRuntime) -> Result<(), Fail> {
     const TURNS: &[Turn] = &[
-        Take(((3, 1), [2, 0, 0], &[Field("m")], Delete)),
+        Take(((3, 1), &[2, 0, 0], &[Field("m")], Delete)),
         Keys(&[], &[]),
     ];
     on_new(&rt, rt.alloc(), MAP, TURNS)
@@ -73,13 +73,35 @@ fn maps_are_emptied(rt: HostRuntime) -> Result<(), Fail> {
 #[test]
 fn both_kinds_stand(rt: HostRuntime) -> Result<(), Fail> {
     const BOTH: &[Sent] = &[
-        ((1, 1), [0, 0, 0], &[Field("k")], Assign(Map)),
-        ((1, 2), [0, 0, 0], &[Field("k")], Assign(List)),
+        ((1, 1), &[0, 0, 0], &[Field("k")], Assign(Map)),
+        ((1, 2), &[0, 0, 0], &[Field("k")], Assign(List)),
     ];
     const WANTED: &[Turn] = &[
         Conflicts(&[Get("k")], &[((1, 1), Tag::Map), ((1, 2), Tag::List)]),
-        Missing([0, 0, 0], &[(1, 1), (1, 2)]),
-        Greatest(1),
+        Missing(&[0, 0, 0], &[(1, 1), (1, 2)]),
+        Vector(&[(1, 1), (1, 2)]),
     ];
     on_new(&rt, rt.alloc(), BOTH, WANTED)
+}
+
+/// Two that are no members write at the key that a member wrote at: 9, which has seen nothing, and then 5, which has seen the member's.
+#[test]
+fn newcomers_join(rt: HostRuntime) -> Result<(), Fail> {
+    const K: &[Hop] = &[Field("k")];
+    const OPS: &[Sent] = &[
+        ((1, 2), &[0, 0, 0], K, Assign(Text("A"))),
+        ((1, 9), &[0, 0, 0], K, Assign(Text("B"))),
+        ((2, 5), &[0, 1, 0], K, Assign(Text("C"))),
+    ];
+    const TURNS: &[Turn] = &[
+        Table(&[1, 2, 3, 9, 5]),
+        Values(&[Get("k")], &[((1, 9), Text("B")), ((2, 5), Text("C"))]),
+        Vector(&[(1, 2), (2, 5), (1, 9)]),
+        Missing(&[0, 1, 0, 0, 0, 0, 0, 0, 0], &[(1, 9), (2, 5)]),
+        Missing(&[0, 0, 0, 0, 2, 0, 0, 0, 1], &[(1, 2)]),
+        Take(((3, 9), &[0, 1, 0, 0, 2, 0, 0, 0, 1], K, Delete)),
+        Table(&[1, 2, 3, 9, 5]),
+        Values(&[Get("k")], &[]),
+    ];
+    on_new(&rt, rt.alloc(), OPS, TURNS)
 }

@@ -4,7 +4,7 @@ use At::{Field, HeadOfField, ItemOfField, Root};
 use Does::{Assign, Delete, Insert};
 use cursor::{Expr, Place, Step};
 use fixtures::{Pair, counted, id_of};
-use ids::{Refusal, ReplicaTable};
+use ids::Refusal;
 use operation::{Command, Entry, Mutation, Op, Shared, check_alone};
 use std::alloc::Global;
 use std::process::Abort;
@@ -100,36 +100,26 @@ const COUNTERS: &[Row] = &[
     ),
 ];
 
-/// Operations that name a replica which isn't a member: by their id, their vector or an item of their place.
-const MEMBERS: &[Row] = &[
-    (
-        (1, 4),
-        &[0, 0, 0],
-        Field,
-        Delete,
-        Err(Refusal::UnknownReplica),
-    ),
+/// Operations of replicas, or with vectors and places that name them, of which no table is asked: their faults are those of any other.
+const ANY_REPLICA: &[Row] = &[
+    ((1, 4), &[0, 0, 0], Field, Delete, Ok(())),
+    ((1, 4_294_967_295), &[0, 0, 0], Field, Delete, Ok(())),
+    ((2, 1), &[0, 0, 0, 1], Field, Delete, Ok(())),
     (
         (2, 1),
-        &[0, 0, 0, 1],
-        Field,
-        Delete,
-        Err(Refusal::UnknownReplica),
+        &[0, 0, 0, 0, 0, 0, 0, 0, 1],
+        ItemOfField(1, 9),
+        Assign,
+        Ok(()),
     ),
     (
         (2, 1),
         &[0, 0, 1],
         ItemOfField(1, 9),
         Assign,
-        Err(Refusal::UnknownReplica),
+        Err(Refusal::BadPlace),
     ),
-    (
-        (9, 4),
-        &[7, 0, 0],
-        Field,
-        Insert,
-        Err(Refusal::UnknownReplica),
-    ),
+    ((9, 4), &[7, 0, 0], Field, Insert, Err(Refusal::BadCounter)),
 ];
 
 /// Operations at places where they may not stand.
@@ -180,30 +170,24 @@ const PLACES: &[Row] = &[
 ];
 
 /// Asserts what `check_alone` answers.
-fn is_answered(rt: &impl Abort, table: &ReplicaTable, op: &Op, want: Result<(), Refusal>) {
-    assert_eq!(rt; check_alone(op, table), want, "{op:?}");
+fn is_answered(rt: &impl Abort, op: &Op, want: Result<(), Refusal>) {
+    assert_eq!(rt; check_alone(op), want, "{op:?}");
 }
 
 /// Asserts what `check_alone` answers about the operation of a row and about its copy.
-fn both_are_answered(
-    rt: &impl Abort,
-    alloc: Global,
-    table: &ReplicaTable,
-    row: &Row,
-) -> Result<(), Refusal> {
+fn both_are_answered(rt: &impl Abort, alloc: Global, row: &Row) -> Result<(), Refusal> {
     let (pair, counters, at, does, want) = *row;
     let op = op(alloc, pair, counters, at, does)?;
-    is_answered(rt, table, &op, want);
+    is_answered(rt, &op, want);
     let copy = op.clone()?;
-    is_answered(rt, table, &copy, want);
+    is_answered(rt, &copy, want);
     Ok(())
 }
 
-/// Asserts the answers of these rows, for the table 1, 2, 3.
+/// Asserts the answers of these rows.
 fn are_answered(rt: &impl Abort, alloc: Global, rows: &[Row]) -> Result<(), Fail> {
-    let table = ReplicaTable::new(alloc, &[1, 2, 3])?;
     for row in rows {
-        both_are_answered(rt, alloc, &table, row)?;
+        both_are_answered(rt, alloc, row)?;
     }
     Ok(())
 }
@@ -214,8 +198,8 @@ fn counters_follow_vectors(rt: HostRuntime) -> Result<(), Fail> {
 }
 
 #[test]
-fn members_alone_are_named(rt: HostRuntime) -> Result<(), Fail> {
-    are_answered(&rt, rt.alloc(), MEMBERS)
+fn any_replica_may_be_named(rt: HostRuntime) -> Result<(), Fail> {
+    are_answered(&rt, rt.alloc(), ANY_REPLICA)
 }
 
 #[test]

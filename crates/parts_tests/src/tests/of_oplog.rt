@@ -7,7 +7,7 @@ ghost use Rattle.semantics.specs.Entries.{applied};
 
 use cursor::{Expr, Place};
 use fixtures::{Pair, counted, id_of, pair_of};
-use ids::{MOST_NAMED, OpId, Refusal, ReplicaId, ReplicaTable};
+use ids::{OpId, Refusal, ReplicaId, ReplicaTable};
 use operation::{Command, Entry, Mutation, Op, Shared};
 use oplog::Log;
 use std::alloc::Global;
@@ -61,9 +61,7 @@ fn fits(log: &Log, op: &Op) -> bool
     ensures fits { IsTrue result → lacks_room log.now.table op.now.id.replica ≡ false }
     ensures new { IsTrue result → has_id (applied log.now.entries) op.now.id ≡ false }
 {
-    let table = log.table();
-    let there = table.index_of(op.id.replica).is_some();
-    (there || table.len() < MOST_NAMED) && !has(log, op.id)
+    !log.table().lacks_room_for(op.id.replica) && !has(log, op.id)
 }
 
 /// Appends an entry whose operation fits.

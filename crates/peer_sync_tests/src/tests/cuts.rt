@@ -1,8 +1,8 @@
 //! A bundle that is cut after any of its bytes.
 
+use super::opening::on_two;
 use super::playing::Side::Two;
 use super::playing::Turn::{Hello, Receive, Seen, Step};
-use super::playing::on_two;
 use super::*;
 use std::alloc::Global;
 use std::process::Abort;

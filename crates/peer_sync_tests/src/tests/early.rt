@@ -1,9 +1,9 @@
-//! Operations that come before what they depend on.
+//! Operations that come before what they depend on, and those that depend on nothing.
 
 use fixtures::{counted, field, id_of};
 use ids::Refusal;
 use operation::{Mutation, Op, Shared};
-use std::alloc::Global;
+use std::alloc::{AllocError, Global};
 
 /// The operation of replica 2 with this counter that deletes a key and depends on replica 3's operation of the counter before.
 pub fn early_op(alloc: Global, counter: u64) -> Result<Shared<Op>, Refusal> {
@@ -14,4 +14,12 @@ pub fn early_op(alloc: Global, counter: u64) -> Result<Shared<Op>, Refusal> {
         mutation: Mutation::Delete,
     };
     Ok(Shared::new(alloc, op)?)
+}
+
+/// The line of the first operation of this replica, which deletes a key.
+pub fn first_line(alloc: Global, replica: u32) -> Result<String, AllocError> {
+    format!(in alloc;
+        r#"["op",[1,{replica}],[],[["m",0]],"a",["d"]]
+"#
+    )
 }

@@ -1,10 +1,11 @@
 //! Two engines that write apart, and exchange what they wrote, byte for byte.
 
+use super::opening::on_two;
 use super::playing::Side::{One, Two};
 use super::playing::Turn::{Answer, Hello, Pull, Show, Write};
 use super::playing::Writing::{Assign, Delete, Insert};
 use super::playing::Wrote::{List, Map, Words};
-use super::playing::{Row, Turn, on_two};
+use super::playing::{Row, Turn};
 use super::showing::Shown::{Conflicts, Items, Keys, NoValues, Values};
 use super::showing::To;
 use super::showing::To::{Index, Key};

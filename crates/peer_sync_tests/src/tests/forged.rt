@@ -1,9 +1,10 @@
 //! Operations that no engine made, and more of them than an inbox holds.
 
+use super::opening::on_two;
+use super::playing::Row;
 use super::playing::Side::One;
 use super::playing::Told::{Kept, Known, Refused};
 use super::playing::Turn::{Dropped, Take, TakeAllEarly, TakeEarly};
-use super::playing::{Row, on_two};
 use super::*;
 
 #[test]

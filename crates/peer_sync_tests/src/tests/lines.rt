@@ -1,11 +1,12 @@
 //! Hellos, answers and bundles of any origin, as bytes.
 
+use super::opening::on_two;
+use super::playing::Row;
 use super::playing::Side::{One, Two};
-use super::playing::Told::Refused;
+use super::playing::Told::Kept;
 use super::playing::Turn::{Answer, Hello, Receive, Seen, Step, Take, Write};
 use super::playing::Writing::Assign;
 use super::playing::Wrote::Map;
-use super::playing::{Row, on_two};
 use super::*;
 use engine::Step::{Idle, Published};
 
@@ -66,10 +67,12 @@ fn what_comes_before_a_bad_line_stays(rt: HostRuntime) -> Result<(), Fail> {
             (Two, Receive("", 0, 0, None)),
             (Two, Receive("\n", 0, 0, Some((1, Refusal::BadLine)))),
             (Two, Step(Idle)),
-            (Two, Take(STRANGER, Refused(Refusal::UnknownReplica, 1))),
+            (Two, Take(NEWCOMER, Kept(2))),
             (Two, Receive(FIRST_LINE, 3, 1, None)),
             (Two, Step(Published(1))),
             (Two, Seen(1)),
+            (Two, Hello("[\"hello\",[[1,1],[4,1]]]\n")),
+            (Two, Seen(2)),
         ],
     ];
     on_two(&rt, rt.alloc(), 16, ACTS)

@@ -1,16 +1,12 @@
 //! What is done with two engines in a test, as a table of turns, and what plays it.
 
-ghost use Rattle.std.specs.Prelude.{◌≡◌};
-ghost use Rattle.ids.specs.Members.{in_order};
-
-use super::early::early_op;
+use super::early::{early_op, first_line};
 use super::showing::{Shown, To, assert_shown, expr};
 use super::*;
-use engine::{Client, EngineName, Parts, ReaderToken, Step, Ticket, Writer, close, open, prepare};
-use ids::{Config, ReplicaId};
+use engine::{Client, EngineName, ReaderToken, Step, Ticket, Writer};
+use ids::ReplicaId;
 use operation::{Command, Reply};
 use std::alloc::Global;
-use std::marker::Brand;
 use std::process::Abort;
 use std::sync::Wait;
 use value::Val;
@@ -61,6 +57,10 @@ pub enum Turn {
     Receive(&'static str, u64, u64, Option<(u64, Refusal)>),
     /// Its client receives this line, its writer steps, and the client polls.
     Take(&'static str, Told),
+    /// The same for the first line of this replica.
+    TakeFirst(u32, Told),
+    /// The same for each of these replicas, from the first to the last: each is kept, in a history that was empty.
+    TakeFirsts(u32, u32),
     /// Its client delivers the operation of replica 2 with this counter, which depends on replica 3's one before, and polls after a step.
     TakeEarly(u64, Told),
     /// The same for each of these counters, from the first to the last.
@@ -108,131 +108,8 @@ pub struct Stage<'a, N: EngineName> {
     pub reader: &'a mut ReaderToken<N>,
 }
 
-/// An engine of this replica among 1, 2 and 3, with one client and one reader, and a queue of this capacity.
-pub fn config(alloc: Global, own: u32, queue: u32) -> Result<Config, Refusal> {
-    Ok(Config {
-        own,
-        members: vec![in alloc; 1, 2, 3]?,
-        clients: 1,
-        readers: 1,
-        queue,
-        batch: 256,
-        serials: 4_294_967_295,
-    })
-}
-
-/// Opens engines 1 and 2 with queues of this capacity, and plays these rows on them in order.
-pub fn on_two<R: Wait + Abort>(
-    rt: &R,
-    alloc: Global,
-    queue: u32,
-    acts: &[&[Row]],
-) -> Result<(), Fail> {
-    let parts = prepare_engine(alloc, 1, queue)?;
-    open_first::<Brand, R>(rt, alloc, parts, queue, acts)
-}
-
-/// What the engine of this replica is opened with.
-pub fn prepare_engine(alloc: Global, own: u32, queue: u32) -> Result<Parts, Refusal> {
-    prepare(alloc, config(alloc, own, queue)?)
-}
-
-fn open_first<N: EngineName, R: Wait + Abort>(
-    rt: &R,
-    alloc: Global,
-    parts: Parts,
-    queue: u32,
-    acts: &[&[Row]],
-) -> Result<(), Fail>
-    requires book { parts.opened.seen.book ≡ N.book }
-    requires own { parts.config.own ≡ N.own }
-    requires table { in_order parts.config.members ≡ N.table }
-{
-    let (mut writer, mut clients, mut readers) = open::<N>(rt, alloc, parts)?;
-    let result = match (clients.first_mut(), readers.first_mut()) {
-        (Some(client), Some(reader)) => with_first(
-            rt,
-            alloc,
-            &mut writer,
-            client,
-            reader,
-            queue,
-            acts,
-        ),
-        _ => Err("no client".into()),
-    };
-    let _final = close(rt, writer, Vec::new(alloc));
-    result
-}
-
-fn with_first<N: EngineName, R: Wait + Abort>(
-    rt: &R,
-    alloc: Global,
-    writer: &mut Writer<N>,
-    client: &mut Client<N>,
-    reader: &mut ReaderToken<N>,
-    queue: u32,
-    acts: &[&[Row]],
-) -> Result<(), Fail> {
-    let mut one = Stage {
-        own: 1,
-        writer,
-        client,
-        reader,
-    };
-    with_second(rt, alloc, &mut one, queue, acts)
-}
-
-fn with_second<N: EngineName, R: Wait + Abort>(
-    rt: &R,
-    alloc: Global,
-    one: &mut Stage<N>,
-    queue: u32,
-    acts: &[&[Row]],
-) -> Result<(), Fail> {
-    let parts = prepare_engine(alloc, 2, queue)?;
-    open_second::<N, Brand, R>(rt, alloc, one, parts, acts)
-}
-
-fn open_second<N: EngineName, M: EngineName, R: Wait + Abort>(
-    rt: &R,
-    alloc: Global,
-    one: &mut Stage<N>,
-    parts: Parts,
-    acts: &[&[Row]],
-) -> Result<(), Fail>
-    requires book { parts.opened.seen.book ≡ M.book }
-    requires own { parts.config.own ≡ M.own }
-    requires table { in_order parts.config.members ≡ M.table }
-{
-    let (mut writer, mut clients, mut readers) = open::<M>(rt, alloc, parts)?;
-    let result = match (clients.first_mut(), readers.first_mut()) {
-        (Some(client), Some(reader)) => on_both(rt, alloc, one, &mut writer, client, reader, acts),
-        _ => Err("no client".into()),
-    };
-    let _final = close(rt, writer, Vec::new(alloc));
-    result
-}
-
-fn on_both<N: EngineName, M: EngineName, R: Wait + Abort>(
-    rt: &R,
-    alloc: Global,
-    one: &mut Stage<N>,
-    writer: &mut Writer<M>,
-    client: &mut Client<M>,
-    reader: &mut ReaderToken<M>,
-    acts: &[&[Row]],
-) -> Result<(), Fail> {
-    let mut two = Stage {
-        own: 2,
-        writer,
-        client,
-        reader,
-    };
-    play(rt, alloc, one, &mut two, acts)
-}
-
-fn play<N: EngineName, M: EngineName, R: Wait + Abort>(
+/// Plays these rows on two engines in order.
+pub fn play<N: EngineName, M: EngineName, R: Wait + Abort>(
     rt: &R,
     alloc: Global,
     one: &mut Stage<N>,
@@ -315,6 +192,8 @@ fn take_turn<N: EngineName, R: Wait + Abort>(
             assert_received(rt, alloc, stage.client, text, want);
         }
         Turn::Take(line, want) => take_line(rt, alloc, stage, line, want)?,
+        Turn::TakeFirst(replica, want) => take_first(rt, alloc, stage, replica, want)?,
+        Turn::TakeFirsts(first, last) => take_firsts(rt, alloc, stage, first, last)?,
         Turn::TakeEarly(counter, want) => take_early(rt, alloc, stage, counter, want)?,
         Turn::TakeAllEarly(first, last, want) => take_all_early(
             rt, alloc, stage, first, last, want,
@@ -356,6 +235,34 @@ fn take_line<N: EngineName, R: Wait + Abort>(
         "of {line}"
     );
     handle(rt, alloc, stage, received.first_serial, want)
+}
+
+/// Receives the first line of this replica, and asserts how the writer answers it.
+fn take_first<N: EngineName, R: Wait + Abort>(
+    rt: &R,
+    alloc: Global,
+    stage: &mut Stage<N>,
+    replica: u32,
+    want: Told,
+) -> Result<(), Fail> {
+    let line = first_line(alloc, replica)?;
+    take_line(rt, alloc, stage, line.as_str(), want)
+}
+
+/// Receives the first lines of these replicas, of which each makes the history longer by one.
+fn take_firsts<N: EngineName, R: Wait + Abort>(
+    rt: &R,
+    alloc: Global,
+    stage: &mut Stage<N>,
+    first: u32,
+    last: u32,
+) -> Result<(), Fail> {
+    let mut length: u64 = 0;
+    for replica in first..=last {
+        length = length.saturating_add(1);
+        take_first(rt, alloc, stage, replica, Told::Kept(length))?;
+    }
+    Ok(())
 }
 
 /// Delivers the operations of these counters, as `take_early` does each.

@@ -1,4 +1,4 @@
-//! An exchange in which an allocation fails goes on, and ends as it would have.
+//! An exchange in which an allocation fails goes on, and ends as it would have. Engine 2 knows only itself.
 //!
 //! To be run with each allocation refused in turn (`tests/refused_memory.sh`): what is refused is called once more and counted, so each
 //! run passes, and each answer that isn't refused is that of a run in which no allocation fails.
@@ -6,9 +6,10 @@
 ghost use Rattle.std.specs.Prelude.{◌≡◌};
 ghost use Rattle.ids.specs.Members.{in_order};
 
+use super::opening::prepare_engine;
 use super::playing::Writing::{Assign, Delete, Insert};
 use super::playing::Wrote::{List, Map, Words};
-use super::playing::{Stage, Writing, command, poll, prepare_engine};
+use super::playing::{Stage, Writing, command, poll};
 use super::showing::Shown::{Items, Values};
 use super::showing::To::{Index, Key};
 use super::showing::{Shown, To, expr, is_wanted, question};
@@ -91,7 +92,7 @@ fn an_exchange_goes_on(rt: HostRuntime) -> Result<(), Fail> {
     let alloc = rt.alloc();
     let mut refused = Refused { times: 0 };
     for _ in 0..2 {
-        let parts = again(&mut refused, || prepare_engine(alloc, 1, 16))?;
+        let parts = again(&mut refused, || prepare_engine(alloc, 1, &[1, 2, 3], 16))?;
         if with_one::<Brand, _>(&rt, alloc, &mut refused, parts)? {
             assert!(rt; refused.times < 2);
             return Ok(());
@@ -156,7 +157,7 @@ fn open_two<N: EngineName, R: Wait + Abort>(
     one: &mut Stage<N>,
 ) -> Result<(), Fail> {
     for _ in 0..2 {
-        let parts = again(refused, || prepare_engine(alloc, 2, 16))?;
+        let parts = again(refused, || prepare_engine(alloc, 2, &[2], 16))?;
         if with_two::<N, Brand, R>(rt, alloc, refused, one, parts)? {
             return Ok(());
         }

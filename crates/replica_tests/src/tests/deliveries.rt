@@ -1,26 +1,12 @@
 //! Deliveries in any order, repeated and forged.
 
-ghost use Rattle.std.specs.Prelude.{IfOk};
-ghost use Rattle.semantics.specs.Entries.{IsAbove};
-
-use super::playing::{expect_history, new_replica, play};
 use super::*;
 
-const KNOWN: Answer = Ok(Delivered::Known);
-
 const OWN_NAME: Answer = Err(Refusal::OwnName);
-
-const BAD_COUNTER: Answer = Err(Refusal::BadCounter);
-
-const UNKNOWN: Answer = Err(Refusal::UnknownReplica);
 
 const BROKEN_CHAIN: Answer = Err(Refusal::BrokenChain);
 
 const NOT_CLOSED: Answer = Err(Refusal::NotClosed);
-
-const BAD_PLACE: Answer = Err(Refusal::BadPlace);
-
-const FULL: Answer = Err(Refusal::InboxFull);
 
 /// What each operation of replica 1 writes, made one after another.
 const LINK: Writes<'static> = Writes::Text("a", "x");
@@ -132,19 +118,6 @@ fn counters_are_tested_before_names(rt: HostRuntime) -> Result<(), Fail> {
 }
 
 #[test]
-fn replicas_are_members(rt: HostRuntime) -> Result<(), Fail> {
-    const TURNS: &[Turn<'static>] = &[
-        Turn::Deliver((2, 2), &[0, 0, 0, 1], Writes::Delete, UNKNOWN),
-        Turn::Drain(0, 0),
-        Turn::Deliver((1, 4), &[0, 0, 0], Writes::Delete, UNKNOWN),
-        Turn::Drain(0, 0),
-    ];
-    on_new(&rt, rt.alloc(), 1, TURNS, &[])?;
-    let item = Writes::DeleteItem((1, 4));
-    expect_refused_first(&rt, rt.alloc(), (2, 2), &[1, 0, 0], item, UNKNOWN)
-}
-
-#[test]
 fn what_turns_out_unlawful_is_dropped(rt: HostRuntime) -> Result<(), Fail> {
     const TURNS: &[Turn<'static>] = &[
         Turn::Assign("a", "1", (1, 1)),
@@ -224,64 +197,4 @@ fn the_first_fault_is_answered(rt: HostRuntime) -> Result<(), Fail> {
     expect_refused_first(&rt, alloc, (9, 2), &[7, 0, 0], Writes::Insert, BAD_COUNTER)?;
     expect_refused_first(&rt, alloc, (1, 2), &[0, 0, 0], Writes::Insert, not_in_list)?;
     expect_refused_first(&rt, alloc, (2, 2), &[1, 0, 0], item, BAD_PLACE)
-}
-
-/// Delivers 2@2 to 4097@2, each of which waits for replica 3. Returns the serial that the client goes on with.
-fn fill(rt: &impl Abort, alloc: Global, replica: &mut Replica, serial: u64) -> Result<u64, Refusal>
-    requires { IsAbove 0 serial replica.old.document.entries }
-    ensures { IfOk result (λ next. IsAbove 0 next replica.new.document.entries) }
-{
-    let mut serial = serial;
-    for counter in 1..=4096 {
-        let stuck = [
-            Turn::Deliver((counter + 1, 2), &[0, 0, counter], Writes::Delete, KEPT),
-            Turn::Drain(0, 0),
-        ];
-        serial = play(rt, alloc, replica, serial, &stuck)?;
-    }
-    Ok(serial)
-}
-
-/// Takes these turns once 4,096 operations wait.
-fn fill_and_play(
-    rt: &impl Abort,
-    alloc: Global,
-    replica: &mut Replica,
-    turns: &[Turn<'_>],
-) -> Result<(), Refusal>
-    requires { IsAbove 0 1 replica.old.document.entries }
-{
-    let serial = fill(rt, alloc, replica, 1)?;
-    play(rt, alloc, replica, serial, turns)?;
-    Ok(())
-}
-
-/// Plays these turns on replica 1, once 4,096 operations wait there, none of which is ready. Asserts the ids of the history then.
-fn on_full(
-    rt: &impl Abort,
-    alloc: Global,
-    turns: &[Turn<'_>],
-    history: &[Pair],
-) -> Result<(), Fail> {
-    let mut replica = new_replica(alloc, 1)?;
-    fill_and_play(rt, alloc, &mut replica, turns)?;
-    expect_history(rt, replica, history);
-    Ok(())
-}
-
-#[test]
-fn one_slot_is_held_for_what_is_ready(rt: HostRuntime) -> Result<(), Fail> {
-    const TURNS: &[Turn<'static>] = &[
-        Turn::Deliver((4098, 2), &[0, 0, 4097], Writes::Delete, FULL),
-        Turn::Drain(0, 0),
-        Turn::Deliver((2, 2), &[0, 0, 1], Writes::Delete, KNOWN),
-        Turn::Drain(0, 0),
-        Turn::Deliver((1, 2), &[0, 0, 0], Writes::Delete, KEPT),
-        Turn::Drain(1, 0),
-        Turn::Deliver((1, 3), &[0, 0, 0], Writes::Delete, KEPT),
-        Turn::Drain(2, 1),
-        Turn::Deliver((4098, 2), &[0, 0, 4097], Writes::Delete, KEPT),
-        Turn::Drain(2, 1),
-    ];
-    on_full(&rt, rt.alloc(), TURNS, &[(1, 2), (1, 3)])
 }

@@ -11,7 +11,7 @@ use super::*;
 use cursor::{Expr, Place, Step};
 use document::{Question, Reading};
 use fixtures::{Pair, field, id_of, pair_of};
-use ids::Refusal;
+use ids::{Refusal, ReplicaId, ReplicaTable};
 use operation::{Command, Mutation, Op, Shared};
 use std::alloc::Global;
 use std::marker::Brand;
@@ -54,6 +54,8 @@ pub enum Turn<'a> {
     Lengths(usize, u64),
     /// The ids of the values at the field `key` of the root.
     Values(&'a [Pair]),
+    /// The replicas of the document, in the order of their indices.
+    Table(&'a [u32]),
 }
 
 /// How many operations are applied, and how many were dropped.
@@ -168,7 +170,7 @@ fn drain(alloc: Global, replica: &mut Replica) -> Result<(), Refusal>
 
 /// Drains after a history that has this name.
 fn drain_after<B: Before>(alloc: Global, replica: &mut Replica) -> Result<(), Refusal>
-    requires before { (replica.old.own ≡ B.own) × (replica.old.document.table ≡ B.members) × (replica.old.document.entries ≡ B.entries) }
+    requires before { (replica.old.own ≡ B.own) × (replica.old.document.members ≡ B.members) × (replica.old.document.entries ≡ B.entries) }
     ensures { (serial : ℕ) → IsAbove 0 serial replica.old.document.entries → IsAbove 0 serial replica.new.document.entries }
 {
     let _running = replica.document();
@@ -215,6 +217,14 @@ fn expect_values(
     Ok(())
 }
 
+/// Asserts that the table has these numbers in this order.
+fn expect_table(rt: &impl Abort, table: &ReplicaTable, numbers: &[u32]) {
+    assert_eq!(rt; table.len(), numbers.len());
+    for (index, number) in numbers.iter().enumerate() {
+        assert_eq!(rt; table.at(index), ReplicaId::new(*number));
+    }
+}
+
 /// Takes a turn. A client assigns under this serial. Returns the serial that it goes on with.
 fn try_turn(
     rt: &impl Abort,
@@ -243,6 +253,7 @@ fn try_turn(
         Turn::Next(want) => assert_eq!(rt; append_next(alloc, replica)?, want),
         Turn::Copy(want) => assert_eq!(rt; copy(alloc, replica)?, want),
         Turn::Values(pairs) => expect_values(rt, alloc, replica, pairs)?,
+        Turn::Table(numbers) => expect_table(rt, replica.document().table(), numbers),
         Turn::Lengths(len, dropped) => assert_eq!(rt; lengths(replica), (len, dropped)),
     }
     Ok(serial)
@@ -297,12 +308,12 @@ pub fn play(
     Ok(serial)
 }
 
-/// A replica with this number among 1, 2 and 3.
-pub fn new_replica(alloc: Global, own: u32) -> Result<Replica, Refusal>
+/// A replica with this number among these members.
+pub fn new_replica(alloc: Global, own: u32, members: &[u32]) -> Result<Replica, Refusal>
     ensures { IfOk result (λ r. (serial : ℕ) → IsAbove 0 serial r.document.entries) }
 {
-    match Replica::new(alloc, own, &[1, 2, 3]) {
-        Err(Refusal::NoMemory) => Replica::new(alloc, own, &[1, 2, 3]),
+    match Replica::new(alloc, own, members) {
+        Err(Refusal::NoMemory) => Replica::new(alloc, own, members),
         made => made,
     }
 }
@@ -340,7 +351,7 @@ pub fn on_new_after(
     second: &[Turn<'_>],
     history: &[Pair],
 ) -> Result<(), Fail> {
-    let mut replica = new_replica(alloc, own)?;
+    let mut replica = new_replica(alloc, own, &[1, 2, 3])?;
     play_both(rt, alloc, &mut replica, first, second)?;
     expect_history(rt, replica, history);
     Ok(())
@@ -355,4 +366,18 @@ pub fn on_new(
     history: &[Pair],
 ) -> Result<(), Fail> {
     on_new_after(rt, alloc, own, &[], turns, history)
+}
+
+/// Plays these turns on a new replica of this number that is the one member. Asserts the ids of its history then.
+pub fn on_lone(
+    rt: &impl Abort,
+    alloc: Global,
+    own: u32,
+    turns: &[Turn<'_>],
+    history: &[Pair],
+) -> Result<(), Fail> {
+    let mut replica = new_replica(alloc, own, &[own])?;
+    play_both(rt, alloc, &mut replica, &[], turns)?;
+    expect_history(rt, replica, history);
+    Ok(())
 }

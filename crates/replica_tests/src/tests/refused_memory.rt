@@ -59,3 +59,21 @@ fn what_waits_twice_goes_on(rt: HostRuntime) -> Result<(), Fail> {
     ];
     on_new(&rt, rt.alloc(), 2, TURNS, &[(1, 3), (1, 1), (2, 1), (3, 3)])
 }
+
+/// 2@9 waits for 1@1, and 3@4 for 2@9. Neither is of a member.
+#[test]
+fn newcomers_join(rt: HostRuntime) -> Result<(), Fail> {
+    const TURNS: &[Turn<'static>] = &[
+        Turn::Deliver((3, 4), &[1, 0, 0, 0, 0, 0, 0, 0, 2], Writes::Delete, KEPT),
+        Turn::Deliver((2, 9), &[1], Writes::Text("key", "x"), KEPT),
+        Turn::Assign("key", "1", (1, 1)),
+        Turn::Table(&[1, 2, 3]),
+        Turn::Next(Some((2, 9))),
+        Turn::Values(&[(2, 9)]),
+        Turn::Table(&[1, 2, 3, 9]),
+        Turn::Drain(3, 0),
+        Turn::Table(&[1, 2, 3, 9, 4]),
+        Turn::Values(&[]),
+    ];
+    on_new(&rt, rt.alloc(), 1, TURNS, &[(1, 1), (2, 9), (3, 4)])
+}

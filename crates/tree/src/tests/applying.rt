@@ -1,6 +1,6 @@
 //! Reserves and applies an operation after testing what the contracts require of it.
 
-ghost use Rattle.std.specs.Prelude.{IsTrue};
+ghost use Rattle.std.specs.Prelude.{◌≡◌, IsTrue};
 ghost use Rattle.ids.specs.Members.{is_member};
 ghost use Rattle.ids.specs.Vectors.{names_only};
 ghost use Rattle.semantics.specs.LegalHistory.{IsFormed};
@@ -13,7 +13,8 @@ use crate::insert::slot_of;
 use crate::node::{Node, node_at};
 use crate::tree::Tree;
 use crate::walk::walk;
-use operation::{Mutation, Op, names_only};
+use ids::{OpId, ReplicaTable};
+use operation::{Mutation, Op};
 use std::alloc::Global;
 use std::process::Abort;
 use std::test::Fail;
@@ -37,6 +38,20 @@ fn may_apply(tree: &Tree, op: &Op) -> bool
         && fits(&tree.nodes, op)
         && tree.table.index_of(op.id.replica).is_some()
         && names_only(op.deps.ids(), &tree.table)
+}
+
+/// Whether each of these ids is of a replica of the table.
+fn names_only(ids: &[OpId], table: &ReplicaTable) -> bool
+    ensures { result ≡ names_only table.now.numbers ids.now }
+{
+    ids.iter().all(|id| is_there(table, *id))
+}
+
+/// Whether the id is of a replica of the table.
+fn is_there(table: &ReplicaTable, id: OpId) -> bool
+    ensures { result ≡ is_member table.now.numbers id.replica }
+{
+    table.index_of(id.replica).is_some()
 }
 
 /// Whether an insert stands at a head or an item, and anything else at an element.

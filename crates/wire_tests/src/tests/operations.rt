@@ -1,7 +1,7 @@
 //! Lines of operations.
 
 use super::{Around, LINES, MOST_PAIRS, joined, list_of_five, pairs, with_part};
-use ids::{Refusal, ReplicaTable};
+use ids::Refusal;
 use operation::{Op, check_alone};
 use std::alloc::{AllocError, Global};
 use std::process::Abort;
@@ -345,10 +345,7 @@ const ALONE: &[(&str, Result<(), Refusal>)] = &[
         r#"["op",[1,2],[],[["l",0]],1,["d"]]"#,
         Err(Refusal::BadPlace),
     ),
-    (
-        r#"["op",[1,3],[],[],0,["d"]]"#,
-        Err(Refusal::UnknownReplica),
-    ),
+    (r#"["op",[1,3],[],[],0,["d"]]"#, Ok(())),
 ];
 
 /// Asserts what `check_alone` answers about the operation of the line.
@@ -358,9 +355,8 @@ fn is_answered(
     line: &str,
     want: Result<(), Refusal>,
 ) -> Result<(), Refusal> {
-    let table = ReplicaTable::new(alloc, &[1, 2])?;
     let op = read_op(alloc, line.as_bytes())?;
-    assert_eq!(rt; check_alone(&op, &table), want, "{line}");
+    assert_eq!(rt; check_alone(&op), want, "{line}");
     Ok(())
 }
 

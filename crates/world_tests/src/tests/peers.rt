@@ -238,13 +238,76 @@ fn bundles_of_nonmembers(rt: HostRuntime) -> Result<(), Fail> {
         (0, Deliver(0, 1), "Received 2 from 1"),
         (0, Step, "Published(2)"),
         (0, Poll(0, 1), "Replied(Kept(1))"),
-        (0, Poll(0, 2), "Refused E13 at 1"),
-        (0, Hello(0), "Hello 2: 1@2"),
-        (1, Bundle(0, 2), "Bundle 3 of 1"),
-        (0, Deliver(0, 3), "Received 1 from 3"),
-        (0, Push(0, "a", 1), "Ticket(4)"),
+        (0, Poll(0, 2), "Replied(Kept(2))"),
+        (0, Hello(0), "Hello 2: 1@2 2@3"),
+        (1, Bundle(0, 2), "Bundle 3 of 0"),
+        (0, Deliver(0, 3), "Received 0 from 0"),
+        (0, Push(0, "a", 1), "Ticket(3)"),
+        (0, Step, "Published(1)"),
+        (0, Poll(0, 3), "Made 3@1 at 2"),
     ];
     engines_reply(&rt, rt.alloc(), (1, &[1, 2]), (3, &[1, 2, 3]), ROWS)
+}
+
+#[test]
+fn engines_that_know_only_themselves(rt: HostRuntime) -> Result<(), Fail> {
+    const ROWS: &[Talk] = &[
+        (0, Push(0, "k", 1), "Ticket(1)"),
+        (0, Step, "Published(1)"),
+        (1, Push(0, "k", 2), "Ticket(1)"),
+        (1, Step, "Published(1)"),
+        (0, Hello(0), "Hello 0: 1@5"),
+        (1, Bundle(0, 0), "Bundle 1 of 1"),
+        (0, Deliver(1, 1), "Received 1 from 1"),
+        (0, Step, "Published(1)"),
+        (0, Poll(1, 1), "Replied(Kept(2))"),
+        (0, Ask(0, "k"), "Read 2: 1@2 wrote 2 1@5 wrote 1"),
+        (0, Vector(0), "Read 2: 1@2 1@5"),
+        (0, Push(0, "k", 3), "Ticket(2)"),
+        (0, Step, "Published(1)"),
+        (0, Poll(0, 2), "Made 2@5 at 2"),
+        (1, Hello(0), "Hello 2: 1@2"),
+        (0, Bundle(0, 2), "Bundle 3 of 2"),
+        (1, Deliver(1, 3), "Received 2 from 1"),
+        (1, Step, "Published(2)"),
+        (1, Poll(1, 2), "Replied(Kept(3))"),
+        (1, Hello(0), "Hello 4: 1@2 2@5"),
+        (0, Bundle(0, 4), "Bundle 5 of 0"),
+        (0, Hello(0), "Hello 6: 1@2 2@5"),
+        (1, Bundle(0, 6), "Bundle 7 of 0"),
+        (0, Ask(0, "k"), "Read 3: 2@5 wrote 3"),
+        (1, Ask(0, "k"), "Read 3: 2@5 wrote 3"),
+    ];
+    engines_reply(&rt, rt.alloc(), (5, &[5]), (2, &[2]), ROWS)
+}
+
+#[test]
+fn items_of_nonmembers(rt: HostRuntime) -> Result<(), Fail> {
+    const L: &[To] = &[AtKey("l")];
+    const HEAD: &[To] = &[AtKey("l"), Place(0)];
+    const ROWS: &[Talk] = &[
+        (0, Assign(0, L, List), "Ticket(1)"),
+        (0, Step, "Published(1)"),
+        (1, Hello(0), "Hello 0:"),
+        (0, Bundle(0, 0), "Bundle 1 of 1"),
+        (1, Deliver(0, 1), "Received 1 from 1"),
+        (1, Step, "Published(1)"),
+        (0, Insert(0, HEAD, Map), "Ticket(2)"),
+        (0, Step, "Published(1)"),
+        (1, Insert(0, HEAD, Map), "Ticket(2)"),
+        (1, Step, "Published(1)"),
+        (0, Hello(0), "Hello 2: 2@5"),
+        (1, Bundle(0, 2), "Bundle 3 of 1"),
+        (0, Deliver(0, 3), "Received 1 from 3"),
+        (0, Step, "Published(1)"),
+        (1, Hello(0), "Hello 4: 2@2 1@5"),
+        (0, Bundle(0, 4), "Bundle 5 of 1"),
+        (1, Deliver(0, 5), "Received 1 from 3"),
+        (1, Step, "Published(1)"),
+        (0, Items(0, L), "Read 3: 2@5 2@2"),
+        (1, Items(0, L), "Read 3: 2@5 2@2"),
+    ];
+    engines_reply(&rt, rt.alloc(), (5, &[5]), (2, &[2]), ROWS)
 }
 
 #[test]
@@ -317,6 +380,25 @@ fn operations_wait(rt: HostRuntime) -> Result<(), Fail> {
         (0, Dropped, "Dropped(0)"),
     ];
     two_reply(&rt, rt.alloc(), ROWS)
+}
+
+/// An assign of replica 3 that depends on the first one of replica 2.
+const AFTER: &str = r#"["op",[2,3],[[2,1]],[["m",0]],"b",["a",8]]
+"#;
+
+#[test]
+fn nonmembers_wait_for_one_another(rt: HostRuntime) -> Result<(), Fail> {
+    const ROWS: &[Row] = &[
+        (Lines(0, AFTER), "Received 1 from 1"),
+        (Step, "Published(1)"),
+        (Poll(0, 1), "Replied(Kept(0))"),
+        (Lines(0, FIRST), "Received 1 from 2"),
+        (Step, "Published(1)"),
+        (Poll(0, 2), "Replied(Kept(2))"),
+        (Vector(1), "Read 2: 1@2 2@3"),
+        (Dropped, "Dropped(0)"),
+    ];
+    one_replies(&rt, rt.alloc(), &[1], (1, 1, 8, 8, 8), ROWS)
 }
 
 /// An assign at an item of the list at `a`, under the id of an assign.

@@ -1,4 +1,4 @@
-use Rattle.std.proofs.Common.{◌≡◌, ℕ, List, take, false, get_or, sym, ap, ◌∙◌}
+use Rattle.std.proofs.Common.{◌≡◌, ℕ, List, get_or, ◌∙◌}
 use Rattle.ids.specs.Members.{is_member}
 use Rattle.ids.proofs.Tables.{distinct_before}
 use Rattle.ids.proofs.table.table_of.Goals as goal

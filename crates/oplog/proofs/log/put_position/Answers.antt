@@ -1,10 +1,10 @@
-use Rattle.std.proofs.Common.{[], ap, ◌∙◌, sym, set, arith}
+use Rattle.std.proofs.Common.{[], ap, ◌∙◌, sym, set, subst, List, ◌<◌, arith}
 use Rattle.std.specs.FinMap.{put}
 use Rattle.std.proofs.lemmas.List.{map-set, get_or-map}
 use Rattle.semantics.specs.Ids.{OpId, id_cmp}
 use Rattle.columns.specs.Numbered.{Numbered}
-use Rattle.oplog.specs.Logs.{numbers_of}
-use Rattle.oplog.proofs.Room.{least_room-at, least_room-used}
+use Rattle.oplog.specs.Logs.{least_room, numbers_of}
+use Rattle.oplog.proofs.Room.{least_room-at, least_room-set, least_room-used, set_again}
 use Rattle.oplog.proofs.log.put_position.Goals as goal
 
 pub put-requires : goal.put-requires
@@ -30,3 +30,9 @@ returns-clause-room c = λ n.
     let numbers = c.index_mut-numbers.result.now in
     let read = ap (λ (m : Numbered OpId). m.room) c.index_mut-numbers.ensures.value in
     least_room-used n ns c.args.index c.put.new.self numbers c.requires.inside (omega arith)
+
+pub returns-clause-roomy : goal.returns-clause-roomy
+returns-clause-roomy c = λ m some.
+    let ns = c.args.positions.now.items in
+    subst (λ (ms : List (Numbered OpId)). 0 < least_room 1 ms) (sym (set_again ns c.args.index c.put.new.self m))
+    (least_room-set 1 ns c.args.index m c.requires.room some)

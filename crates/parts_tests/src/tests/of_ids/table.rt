@@ -1,4 +1,4 @@
-//! The order and the limits of tables.
+//! The order and the limits of tables, of their members and of those that join.
 
 use ids::{Refusal, ReplicaId, ReplicaTable};
 use std::alloc::Global;
@@ -66,4 +66,87 @@ fn members_are_different_and_above_zero(rt: HostRuntime) {
     for members in [[0, 1], [3, 3]] {
         assert_eq!(rt; made(rt.alloc(), &members), Err(Refusal::BadConfig));
     }
+}
+
+/// Takes in a replica where there is room, unless it is there. Returns its index.
+fn join(table: &mut ReplicaTable, number: u32) -> Result<usize, Refusal> {
+    let replica = ReplicaId::new(number).ok_or(Refusal::UnknownReplica)?;
+    if table.lacks_room_for(replica) {
+        return Err(Refusal::UnknownReplica);
+    }
+    table.reserve_one()?;
+    Ok(table.index_or_join(replica))
+}
+
+/// A number that is to join, and its index then.
+type Joins = (u32, usize);
+
+/// Asserts the indices that these numbers have, one after another.
+fn assert_joins(rt: &impl Abort, table: &mut ReplicaTable, joins: &[Joins]) -> Result<(), Refusal> {
+    for (number, index) in joins {
+        assert_eq!(rt; join(table, *number)?, *index, "of {number}");
+    }
+    Ok(())
+}
+
+/// Asserts that the table has these numbers in this order, and no others.
+fn assert_numbers(rt: &impl Abort, table: &ReplicaTable, numbers: &[u32]) {
+    assert_eq!(rt; table.len(), numbers.len());
+    for (index, number) in numbers.iter().enumerate() {
+        assert_eq!(rt; table.at(index), ReplicaId::new(*number));
+        assert_eq!(rt; index_of(table, *number), Some(index));
+    }
+    assert_eq!(rt; table.at(numbers.len()), None);
+}
+
+#[test]
+fn others_join_behind_the_members(rt: HostRuntime) -> Result<(), Fail> {
+    const JOINS: &[Joins] = &[(6, 2), (2, 3), (9, 1), (6, 2), (5, 0), (1, 4), (2, 3)];
+    const NUMBERS: &[u32] = &[5, 9, 6, 2, 1];
+    let mut table = ReplicaTable::new(rt.alloc(), &[9, 5])?;
+    assert_joins(&rt, &mut table, JOINS)?;
+    assert_numbers(&rt, &table, NUMBERS);
+    let copy = table.clone()?;
+    assert_numbers(&rt, &copy, NUMBERS);
+    Ok(())
+}
+
+/// The numbers 101 to 164.
+fn sixty_four(alloc: Global) -> Result<ReplicaTable, Refusal> {
+    let mut members = Vec::new(alloc);
+    for number in 101..=164 {
+        members.push(number)?;
+    }
+    ReplicaTable::new(alloc, &members)
+}
+
+/// Lets 1001 to 1192 join behind 64 members.
+fn fill(rt: &impl Abort, table: &mut ReplicaTable) -> Result<(), Refusal> {
+    for number in 1001..=1192 {
+        let index = number as usize - 937;
+        assert_joins(rt, table, &[(number, index)])?;
+    }
+    Ok(())
+}
+
+/// Asserts that the table has room for these numbers, and none for those.
+fn assert_room(rt: &impl Abort, table: &ReplicaTable, has: &[u32], lacks: &[u32]) {
+    for (numbers, want) in [(has, Some(false)), (lacks, Some(true))] {
+        for number in numbers {
+            let lack = ReplicaId::new(*number).map(|replica| table.lacks_room_for(replica));
+            assert_eq!(rt; lack, want, "for {number}");
+        }
+    }
+}
+
+#[test]
+fn at_most_256_are_in_a_table(rt: HostRuntime) -> Result<(), Fail> {
+    let mut table = sixty_four(rt.alloc())?;
+    assert_room(&rt, &table, &[1, 101, 1192], &[]);
+    fill(&rt, &mut table)?;
+    assert_eq!(rt; table.len(), 256);
+    assert_room(&rt, &table, &[101, 164, 1001, 1192], &[1, 100, 165, 1193]);
+    let copy = table.clone()?;
+    assert_room(&rt, &copy, &[101, 164, 1001, 1192], &[1, 100, 165, 1193]);
+    Ok(())
 }

@@ -1,17 +1,16 @@
-use Rattle.std.proofs.Common.{ap, ◌∙◌}
-use Rattle.ids.specs.Members.{is_member}
-use Rattle.semantics.specs.Entries.{stamped_in}
+use Rattle.std.proofs.Common.{◌≡◌, false, sym, ◌∙◌, subst}
+use Rattle.ids.specs.Tables.{lacks_room}
+use Rattle.semantics.specs.Joining.{table_after}
 use Rattle.semantics.specs.Stamped.{Stamped}
-use Rattle.semantics.proofs.JoinedReplicas.{room_after}
 use Rattle.document.proofs.operation.StandingAlone.{stamped_same}
-use Rattle.document.specs.operation.Ops.{entry_of, op_in}
+use Rattle.document.specs.operation.Ops.{op_in}
 use Rattle.published.proofs.copy.append.Goals as goal
 
 pub commit-requires-clause-fits : goal.commit-requires-clause-fits
 commit-requires-clause-fits c =
     let e = c.args.entry in
-    let d = c.reserve.new.self in
-    room_after d.members (stamped_in (entry_of e)).id.replica
-    (ap (λ (s : Stamped). is_member d.members s.id.replica) (stamped_same e)
-    ∙ ap (λ ps. is_member ps (op_in e).id.replica) c.reserve.ensures.members ∙ c.requires.member)
-    d.entries
+    let p = (op_in e).id.replica in
+    let fits : lacks_room (table_after c.reserve.new.self.members c.reserve.new.self.entries) p ≡ false =
+    (λ i. lacks_room (table_after (c.reserve.ensures.members i) (c.reserve.ensures.entries i)) p) ∙ c.requires.fits in
+    subst (λ (s : Stamped). lacks_room (table_after c.reserve.new.self.members c.reserve.new.self.entries) s.id.replica ≡ false)
+    (sym (stamped_same e)) fits

@@ -1,6 +1,6 @@
 use Rattle.std.proofs.Common.{◌≡◌, Bool, false, cond, Option, Some, None, sym, ap, ◌∙◌, subst}
 use Rattle.semantics.specs.Entries.{stamped_entries}
-use Rattle.semantics.specs.Faults.{fault_of}
+use Rattle.semantics.specs.Joining.{check_fault}
 use Rattle.semantics.specs.Making.{is_full}
 use Rattle.semantics.specs.Stamped.{Stamped}
 use Rattle.inbox.specs.operation.declared.op.Op.{Op}
@@ -19,6 +19,6 @@ returns-in-Err-clause-turn c =
       is_next = with_room (is_full d.entries) _ _ (sym c.is_full.ensures ∙ c.if-is_full.false) c.in-Some.ensures.first;
       id = ap (λ (o : Op). o.id) (sym c.deref-in-Err.ensures);
       why = c.in-Err.field-0;
-      fault = subst (λ (o : Op). fault_of (stamped_entries d.entries) (stamped_of o) ≡ Some c.in-Err.field-0)
+      fault = subst (λ (o : Op). check_fault d.members (stamped_entries d.entries) (stamped_of o) ≡ Some c.in-Err.field-0)
           c.deref.ensures c.in-Err.ensures;
     }

@@ -31,7 +31,8 @@ assign-requires-clause-register c = λ some.
     let o = c.args.op.now in
     let v = c.in-Assign.value in
     subst (λ e. 0 < register_room (node_at c.args.nodes.now e)) (sym (end_is o.place (map hop_of c.hops.result.now) c.hops.ensures))
-    (register_reserved o c.args.nodes.now c.args.scalar c.requires.reserved v (element_of o.place) (assign_reserved o c.args.nodes.now c.args.scalar c.requires.reserved v c.in-Assign.is) some)
+    (register_reserved o c.args.nodes.now c.args.scalar c.requires.reserved v (element_of o.place)
+    (assign_reserved o c.args.nodes.now c.args.scalar c.requires.reserved v c.in-Assign.is) some)
 
 pub returns-in-Assign-clause-applied : goal.returns-in-Assign-clause-applied
 returns-in-Assign-clause-applied c =
@@ -40,11 +41,13 @@ returns-in-Assign-clause-applied c =
     assign_applied o c.args.stamp.now c.requires.id c.requires.vector c.requires.formed (context c.args.nodes.now)
     (context c.assign.new.nodes)
     v c.in-Assign.is (map hop_of c.hops.result.now) c.hops.ensures (tag_of c.of.result) c.of.ensures
-    (option_map scalar_of c.args.scalar) (assign_reserved o c.args.nodes.now c.args.scalar c.requires.reserved v c.in-Assign.is).1 c.assign.ensures.assigned
+    (option_map scalar_of c.args.scalar)
+    (assign_reserved o c.args.nodes.now c.args.scalar c.requires.reserved v c.in-Assign.is).1 c.assign.ensures.assigned
 
 pub insert_at-requires-clause-fits : goal.insert_at-requires-clause-fits
 insert_at-requires-clause-fits c =
-    can_insert c.args.op.now c.args.nodes.now c.args.scalar c.requires.reserved c.in-Insert.value c.args.stamp.now.id c.requires.id c.in-Insert.is c.requires.placed
+    can_insert c.args.op.now c.args.nodes.now c.args.scalar c.requires.reserved c.in-Insert.value c.args.stamp.now.id c.requires.id
+    c.in-Insert.is c.requires.placed
 
 pub returns-in-Insert-clause-applied : goal.returns-in-Insert-clause-applied
 returns-in-Insert-clause-applied c =

@@ -266,7 +266,8 @@ clear_node-requires-clause-tree t c = flags_tree c.items.nodes c.set_empty_below
     (children_tree c.args.nodes.now c.items.nodes c.items.invariant.shape c.requires.tree)
 
 pub clear_node-requires-clause-indexed : goal.clear_node-requires-clause-indexed
-clear_node-requires-clause-indexed t c = c.set_empty_below.ensures.same.indexed c.args.covered.now.table.now.numbers c.items.invariant.indexed
+clear_node-requires-clause-indexed t c =
+    c.set_empty_below.ensures.same.indexed c.args.covered.now.table.now.numbers c.items.invariant.indexed
 
 pub returns-clause-children : goal.returns-clause-children
 returns-clause-children t c =

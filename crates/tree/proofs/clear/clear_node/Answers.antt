@@ -1,4 +1,4 @@
-use Rattle.std.proofs.Common.{refl, sym, ap, ◌∙◌, arith}
+use Rattle.std.proofs.Common.{refl, ap, ◌∙◌, arith}
 use Rattle.operation.specs.cursor.Steps.{tag_of}
 use Rattle.operation.specs.value.Values.{scalar_of}
 use Rattle.columns.proofs.IndexedEntries.{indices_within}
@@ -14,14 +14,16 @@ use Rattle.tree.proofs.clear.clear_node.Goals as goal
 pub clear-requires : goal.clear-requires
 clear-requires c = λ k d h.
     let n : Node = c.node_at_mut-node.result.now in
-    let stands = indexed_at c.args.covered.now.table.now.numbers c.args.nodes.now c.args.at n c.node_at_mut-node.ensures.node c.requires.indexed in
+    let stands = indexed_at c.args.covered.now.table.now.numbers c.args.nodes.now c.args.at n c.node_at_mut-node.ensures.node
+    c.requires.indexed in
     let within = indices_within c.args.covered.now.table.now.numbers n.presence.entries n.presence.indices stands.0 k d h in
     let width = c.requires.covered.width in omega arith
 
 pub clear-requires-2 : goal.clear-requires-2
 clear-requires-2 c = λ k d h.
     let n : Node = c.node_at_mut-node.result.now in
-    let stands = indexed_at c.args.covered.now.table.now.numbers c.args.nodes.now c.args.at n c.node_at_mut-node.ensures.node c.requires.indexed in
+    let stands = indexed_at c.args.covered.now.table.now.numbers c.args.nodes.now c.args.at n c.node_at_mut-node.ensures.node
+    c.requires.indexed in
     let within = indices_within c.args.covered.now.table.now.numbers n.register.entries n.register.indices stands.1 k d h in
     let width = c.requires.covered.width in omega arith
 

@@ -24,6 +24,7 @@ returns-clause-cleared c = λ e p.
     let s = c.args.stamp.now in
     let table = s.table.now.numbers in
     let is : by_table table c.name.new.self ≡ s.vector.now = wide_column table c.name.new.self s.vector.now
-    c.requires.stamp.distinct c.ids.ensures.named.canonical c.requires.stamp.known (subst (λ n. length table ≤ n) (sym c.name.ensures.width) c.requires.width)
+    c.requires.stamp.distinct c.ids.ensures.named.canonical c.requires.stamp.known
+    (subst (λ n. length table ≤ n) (sym c.name.ensures.width) c.requires.width)
     (λ i lt. c.name.ensures.named i lt ∙ ap (λ v. at v (get_or table i 0)) c.ids.ensures.ids) in
     c.clear_below.ensures.cleared e p ∙ ap (λ v. clear (context c.args.nodes.now) e (covers v)) is

@@ -5,6 +5,7 @@ use Rattle.semantics.specs.Entries.{applied, stamped_in, stamped_entries}
 use Rattle.semantics.specs.Joining.{table_after}
 use Rattle.semantics.specs.Stamped.{Stamped, MayFollow, loose_operation, operation_after}
 use Rattle.semantics.proofs.AbsentIds.{fresh}
+use Rattle.semantics.proofs.JoinedReplicas.{within_room}
 use Rattle.semantics.proofs.LegalFacts.{counter_pos}
 use Rattle.semantics.proofs.NamedOperations.{legal}
 use Rattle.oplog.specs.operation.declared.command.Entry.{Entry}
@@ -32,7 +33,8 @@ pub apply-requires-clause-placed : goal.apply-requires-clause-placed
 apply-requires-clause-placed c =
     let d = c.self.inside in
     let s : After-deref-op = (goal.at.apply-requires-clause-placed c).After-deref-op in
-    fits d.log.table d.applied.ids d.log.entries d.tree (stamped_of c.deref-op.result.now) c.self.invariant.consistent (may s _ c.self.view_is)
+    fits d.log.table d.applied.ids d.log.entries d.tree (stamped_of c.deref-op.result.now) c.self.invariant.consistent
+    (may s _ c.self.view_is)
 
 pub apply-requires-clause-known : goal.apply-requires-clause-known
 apply-requires-clause-known c =
@@ -46,7 +48,8 @@ raise-requires-clause-counted c =
     let G = c.self.inside.log.entries in
     let s : After-deref-op = (goal.at.raise-requires-clause-counted c).After-deref-op in
     let mine = operation_after (applied G) (stamped_of c.deref-op.result.now) in
-    counter_pos (mine ∷ applied G) (legal (stamped_entries G) c.self.invariant.consistent.legal, (may s _ c.self.view_is).follows) mine (inl refl)
+    counter_pos (mine ∷ applied G) (legal (stamped_entries G) c.self.invariant.consistent.legal, (may s _ c.self.view_is).follows) mine
+    (inl refl)
 
 pub raise-requires-clause-room : goal.raise-requires-clause-room
 raise-requires-clause-room c =
@@ -86,9 +89,12 @@ invariant_of-self c =
     let same : stamped_of c.deref-op.result.now ≡ stamped_in e = is_it s in
     rw (c.push.ensures.entries)
     (record {
-      grown = c.push.ensures.table ∙ ap (joined (stamped_in e).id.replica) c.self.invariant.grown;
-      consistent = kept_next d.log.table c.push.new.self.table d.applied.ids c.raise.new.self.ids d.log.entries e c.deref-op.result.now.id d.tree
-          c.apply.new.self (sym (ap (λ (s : Stamped). s.id) same)) c.self.invariant.consistent
+      grown = c.push.ensures.table ∙ ap (joined (stamped_in e).id.replica) c.self.invariant.grown
+          ∙ sym (within_room (stamped_in e).id.replica (table_after d.members.numbers d.log.entries)
+          (ap (λ ps. lacks_room ps (stamped_in e).id.replica) (sym c.self.invariant.grown)
+          ∙ room _ d.log.table (stamped_in e).id.replica _ c.self.view_is c.self.invariant.grown c.requires.fits));
+      consistent = kept_next d.log.table c.push.new.self.table d.applied.ids c.raise.new.self.ids d.log.entries e
+          c.deref-op.result.now.id d.tree c.apply.new.self (sym (ap (λ (s : Stamped). s.id) same)) c.self.invariant.consistent
           (lawful _ _ c.args.entry c.self.view_is c.requires.lawful)
           (room _ d.log.table (stamped_in e).id.replica _ c.self.view_is c.self.invariant.grown c.requires.fits)
           c.push.ensures.table

@@ -19,4 +19,5 @@ returns c =
     let d = c.self.inside in
     let v : Vector = c.args.op.now.deps in
     rw (← c.self.view_is)
-    (c.is_at_most.ensures ∙ ap (is_at_most v) (c.ids.ensures.ids ∙ c.self.invariant.consistent.vector) ∙ at_most_all (applied d.log.entries) v)
+    (c.is_at_most.ensures ∙ ap (is_at_most v) (c.ids.ensures.ids ∙ c.self.invariant.consistent.vector)
+    ∙ at_most_all (applied d.log.entries) v)

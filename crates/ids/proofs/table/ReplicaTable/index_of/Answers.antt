@@ -1,4 +1,4 @@
-use Rattle.std.proofs.Common.{◌≡◌, ◌-◌, suc, true, false, true≢false, IsTrue, IsFalse, refl, sym, ap, ◌∙◌, arith}
+use Rattle.std.proofs.Common.{◌≡◌, ◌-◌, suc, true, true≢false, IsTrue, IsFalse, refl, sym, ap, ◌∙◌, arith}
 use Rattle.ids.specs.Members.{is_member}
 use Rattle.ids.specs.Vectors.{Vector, at}
 use Rattle.ids.proofs.Tables.{placed_nowhere, placed_there}

@@ -27,7 +27,8 @@ returns c =
     let positions = c.sort_unstable.new.self.items in
     let above = c.in_ok-positions.ensures
     ∙ ap (numbers_above (map (at v) ps)) ((λ t. numbers_of (take (c.len.ensures.length t) (c.deref.ensures.value t)))
-    ∙ sym (take-map (λ (n : Numbered OpId). n.entries) (length ps) d.positions.items) ∙ ap (take (length ps)) c.self.invariant.positions_are ∙ own_columns (history d.entries.items) ps _) in
+    ∙ sym (take-map (λ (n : Numbered OpId). n.entries) (length ps) d.positions.items) ∙ ap (take (length ps)) c.self.invariant.positions_are
+    ∙ own_columns (history d.entries.items) ps _) in
     sorted-missing ps v
     (history d.entries.items) positions c.self.invariant.distinct c.self.invariant.members c.self.invariant.own_ids
     (subst (λ l. IsPermutation l positions) above c.sort_unstable.ensures.permutation) c.sort_unstable.ensures.sorted

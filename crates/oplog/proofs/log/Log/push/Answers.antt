@@ -76,7 +76,8 @@ invariant_of-self c =
     ∙ (λ t. set (before t) i (put id_cmp (own t) (position t) (get_or (before t) i [])))
     ∙ columns_more G x (joined p d.table.numbers) i n distinct
     (ap (λ ps. slice_get ps i) (sym table) ∙ c.index_or_join-index.ensures.index ∙ ap (λ (a : OpId). Some a.replica) own) in
-    subst (λ ps. IsIndexed ps c.put_position.new.positions.items c.push_reserved.new.self.items) (sym table) (record {
+    subst (λ ps. IsIndexed ps c.put_position.new.positions.items c.push_reserved.new.self.items
+    c.index_or_join-index.result) (sym table) (record {
       distinct = distinct;
       positions_are = after ∙ (λ t. columns_for (sym long t) (joined p d.table.numbers) (sym more t));
       members = subst (AreOfMembers (joined p d.table.numbers)) (sym more)
@@ -88,6 +89,10 @@ invariant_of-self c =
                 (subst (λ (l : Logged). has_id (applied l.entries) (stamped_in (entry_of e)).id ≡ false)
                 (sym c.self.view_is) c.requires.new),
           );
+      roomy = c.put_position.ensures.roomy;
+      within =
+          (let here = slice_get_within c.index_or_join-index.new.self.numbers i _ c.index_or_join-index.ensures.index in
+          let count = ap length table in omega (arith, here, count));
     })
 
 pub returns-clause-room : goal.returns-clause-room
@@ -96,7 +101,8 @@ returns-clause-room c =
     let long = as_many_set d.positions.items c.put_position.new.positions.items c.index_or_join-index.result _
     c.put_position.ensures.numbers in
     let room = ap (λ (l : Logged). l.room) c.self.view_is in
-    let used = room_used (vec_capacity d.entries - vec_len d.entries) (vec_capacity c.push_reserved.new.self - vec_len c.push_reserved.new.self)
+    let used = room_used (vec_capacity d.entries - vec_len d.entries)
+    (vec_capacity c.push_reserved.new.self - vec_len c.push_reserved.new.self)
     d.table c.index_or_join-index.new.self d.positions.items c.put_position.new.positions.items c.deref.result.now.id.replica (omega arith)
     c.index_or_join-index.ensures.numbers c.index_or_join-index.ensures.room long c.put_position.ensures.room in
     omega (arith, room, used)

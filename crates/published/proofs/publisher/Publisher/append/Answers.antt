@@ -1,8 +1,8 @@
 use Rattle.std.proofs.Common.{◌≡◌, List, ◌∷◌, ◌++◌, [], drop, MatchBool, IsFalse, ap, sym, ◌∙◌, subst}
 use Rattle.semantics.specs.Making.{is_full}
-use Rattle.semantics.specs.Entries.{Entry as TheEntry, IsEntryHistory}
-use Rattle.semantics.specs.Vectors.{IsCanonical}
-use Rattle.document.specs.operation.declared.op.Op.{Op}
+use Rattle.ids.specs.Tables.{lacks_room}
+use Rattle.semantics.specs.Entries.{Entry as TheEntry, IsEntryHistory, stamped_in}
+use Rattle.semantics.specs.Joining.{table_after}
 use Rattle.document.specs.operation.Ops.{entry_of}
 use Rattle.document.specs.oplog.Logs.{history}
 use Rattle.published.specs.Beginnings.{Beginning}
@@ -25,8 +25,8 @@ invariant_of-self-2 g c =
     (ap (λ (p : Beginning). p.book) c.again.ensures)
     (subst (λ (G : List TheEntry). IsEntryHistory g.N.EngineName.own (entry_of e ∷ G)) (sym now) c.requires.follows)
     (subst (λ (G : List TheEntry). IsFalse (is_full G)) (sym now) c.requires.room)
-    c.requires.member
-    (subst IsCanonical (ap (λ (o : Op). o.deps) (c.deref.ensures ∙ c.op.ensures.op)) c.ids.ensures.named.canonical)
+    (subst (λ (G : List TheEntry). IsFalse (lacks_room (table_after g.N.EngineName.table G) (stamped_in (entry_of e)).id.replica)) (sym now)
+    c.requires.fits)
     c.flush.new.writer.desk.shown.value
     (drop c.flush.new.writer.behind c.flush.new.writer.log.items)
     c.put.new.next

@@ -1,7 +1,5 @@
 use Rattle.std.proofs.Common.{sym, ◌∙◌, true≢false}
-use Rattle.semantics.proofs.JoinedReplicas.{room_after}
-use Rattle.inbox.proofs.operation.StandingAlone.{alone_member}
-use Rattle.replica.proofs.Leaving.{appended, next_may_follow, next_room, next_waits}
+use Rattle.replica.proofs.Leaving.{appended, next_fits, next_may_follow, next_room, next_waits}
 use Rattle.replica.proofs.replica.Replica.commit_peer.Goals as goal
 
 pub unreachable-requires : goal.unreachable-requires
@@ -18,10 +16,7 @@ commit-requires-clause-lawful c =
 
 pub commit-requires-clause-fits : goal.commit-requires-clause-fits
 commit-requires-clause-fits c =
-    let d = c.self.inside.document in
-    let op = c.in-Some.op in
-    room_after d.members op.id.replica
-    (alone_member d.members op (c.self.invariant.alone op c.in-Some.ensures.some.1)) d.entries
+    next_fits _ _ c.self.invariant c.self.view_is c.args.id c.requires c.in-Some.op c.in-Some.ensures.some
 
 pub invariant_of-self : goal.invariant_of-self
 invariant_of-self c = (appended _ _ c.self.invariant c.self.view_is c.args.id c.requires c.in-Some.op c.in-Some.ensures.some

@@ -1,4 +1,4 @@
-use Rattle.std.proofs.Common.{◌≡◌, None, false, sym, ap, ◌∙◌, subst}
+use Rattle.std.proofs.Common.{◌≡◌, None, false, sym, ◌∙◌, subst}
 use Rattle.semantics.specs.Entries.{applied}
 use Rattle.semantics.specs.LegalHistory.{has_id}
 use Rattle.semantics.specs.Delivery.{Kept as IsKept, answer_to_new, is_waiting}
@@ -14,8 +14,7 @@ pub invariant_of-self : goal.invariant_of-self
 invariant_of-self c =
     let d = c.self.inside.document in
     after_put _ c.args.op c.put.new.self c.put.result c.self.invariant
-    (ap (λ table. alone_fault_of_op table c.args.op) (sym c.members.ensures)
-    ∙ subst (λ (o : Op). alone_fault_of_op c.members.result.now.numbers o ≡ None) c.deref.ensures c.in_ok-check_alone.ensures)
+    (subst (λ (o : Op). alone_fault_of_op o ≡ None) c.deref.ensures c.in_ok-check_alone.ensures)
     (subst (λ (o : Op). has_id (applied d.entries) o.id ≡ false) c.deref-2.ensures (sym c.contains.ensures ∙ c.if-contains.false))
     (subst (λ (o : Op). is_waiting (waiting_in c.self.inside.inbox) o.id ≡ false) c.deref-else-contains.ensures
     (sym c.contains-else-contains.ensures ∙ c.if-contains-2.false))

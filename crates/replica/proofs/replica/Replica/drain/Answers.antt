@@ -1,18 +1,15 @@
 use Rattle.std.proofs.Common.{◌≡◌, ◌∷◌, Option, Some, None, rules, sym, ap, ◌∙◌, subst, length, min, arith}
-use Rattle.std.specs.Prelude.{IfSome, IsTrue}
+use Rattle.std.specs.Prelude.{IfSome}
 use Rattle.std.proofs.lemmas.List.{length-map}
-use Rattle.ids.specs.Members.{is_member}
 use Rattle.semantics.specs.Entries.{IsEntryHistory, Peer}
 use Rattle.semantics.specs.Publication.{with_entry}
 use Rattle.semantics.specs.Replica.{Replica, IsRunning}
 use Rattle.semantics.specs.Drain.{counted, IsDrained, drain}
 use Rattle.semantics.proofs.Drained.{drained}
 use Rattle.inbox.specs.operation.declared.op.Op.{Op}
-use Rattle.inbox.specs.operation.Alone.{alone_fault_of_op}
 use Rattle.inbox.specs.operation.Ops.{stamped_of}
-use Rattle.inbox.proofs.operation.StandingAlone.{alone_member}
 use Rattle.replica.specs.Replicas.{Running, IsReplica, IsNextReady, next_of, replica_of}
-use Rattle.replica.proofs.Draining.{begun, dropping_on, may_follow, has_room, appending_on, renamed, whole_where_none, whole_by_count}
+use Rattle.replica.proofs.Draining.{begun, dropping_on, may_follow, has_room, fits, appending_on, renamed, whole_where_none, whole_by_count}
 use Rattle.replica.proofs.replica.Replica.drain.Goals as goal
 
 running : {r q : Running} → r ≡ q → IsReplica r → IsRunning (replica_of q)
@@ -74,12 +71,10 @@ add-requires-clause-room g c =
     let w = dropping_on c.loop.invariant (running c.self.view_is c.self.invariant) c.next_ready.ensures.dropped in
     let n = next c.in-Some.is c.in_ok-op.ensures.ready in has_room w n.next n.faultless
 
-pub add-requires-clause-member : goal.add-requires-clause-member
-add-requires-clause-member g c =
+pub add-requires-clause-fits : goal.add-requires-clause-fits
+add-requires-clause-fits g c =
     let w = dropping_on c.loop.invariant (running c.self.view_is c.self.invariant) c.next_ready.ensures.dropped in
-    let new = c.next_ready.new.self in
-    let alone = there (λ op. alone_fault_of_op new.document.members op ≡ None) c.in-Some.is c.in_ok-op.ensures.alone in
-    subst (λ ps. IsTrue (is_member ps c.in-Some.op.id.replica)) (sym w.holds.members) (alone_member new.document.members c.in-Some.op alone)
+    let n = next c.in-Some.is c.in_ok-op.ensures.ready in fits w n.next n.faultless
 
 pub returns-in_err-add-clause-partly : goal.returns-in_err-add-clause-partly
 returns-in_err-add-clause-partly g c =

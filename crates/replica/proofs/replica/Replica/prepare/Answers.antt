@@ -6,9 +6,6 @@ use Rattle.replica.proofs.replica.Replica.prepare.Goals as goal
 pub loop-turn-init : goal.loop-turn-init
 loop-turn-init c = none_dropped _ c.self.invariant
 
-pub next_turn-requires : goal.next_turn-requires
-next_turn-requires c = c.loop-turn.invariant.good.alone
-
 pub loop-turn-smaller : goal.loop-turn-smaller
 loop-turn-smaller c =
     let q = c.loop-turn.self-inside in

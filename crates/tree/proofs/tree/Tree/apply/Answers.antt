@@ -1,4 +1,4 @@
-use Rattle.std.proofs.Common.{◌≡◌, ◌<◌, ◌≤◌, length, sym, ap, ◌∙◌, subst}
+use Rattle.std.proofs.Common.{◌≤◌, length, sym, ap, ◌∙◌, subst}
 use Rattle.std.specs.Prelude.{IsTrue}
 use Rattle.std.proofs.lemmas.List.{with_items_is}
 use Rattle.ids.specs.Members.{AreDistinct}
@@ -15,7 +15,8 @@ use Rattle.tree.proofs.tree.Tree.apply.Goals as goal
 pub apply-requires-clause-stamp : goal.apply-requires-clause-stamp
 apply-requires-clause-stamp c =
     let op = c.args.op.now in
-    let known = names_joined op.id.replica _ op.deps (subst (λ t. IsTrue (names_only t.table op.deps)) (sym c.self.view_is) c.requires.known) in
+    let known = names_joined op.id.replica _ op.deps
+    (subst (λ t. IsTrue (names_only t.table op.deps)) (sym c.self.view_is) c.requires.known) in
     record {
       distinct = subst AreDistinct (sym c.index_or_join-index.ensures.numbers) (distinct_joined op.id.replica _ c.self.invariant.distinct);
       index = c.index_or_join-index.ensures.index;

@@ -1,5 +1,5 @@
 use Rattle.ids.specs.Members.{in_order}
-use Rattle.peer_sync_tests.proofs.tests.playing.on_two.Given as goal
+use Rattle.peer_sync_tests.proofs.tests.opening.on_opened.Given as goal
 
 -- the first engine is that of these parts
 abbrev pub ghosts-open_first : goal.ghosts-open_first

@@ -1,5 +1,5 @@
 use Rattle.ids.specs.Members.{in_order}
-use Rattle.peer_sync_tests.proofs.tests.playing.with_second.Given as goal
+use Rattle.peer_sync_tests.proofs.tests.opening.with_second.Given as goal
 
 -- the second engine is that of these parts
 abbrev pub ghosts-open_second : goal.ghosts-open_second
