@@ -1,5 +1,6 @@
 //! Lines with values from the rules, and each call once where it succeeds.
 
+mod beside_lines;
 mod bundles;
 mod canonical_lines;
 mod operations;
