@@ -14,12 +14,3 @@ pub mod WholeOperations
 pub mod SentOperations
 pub mod OrNoMemory
 pub mod JsonTexts
-pub mod DeltaSteps
-pub mod DeltaLaws
-pub mod FirstOfLeft
-pub mod RisingVectors
-pub mod ToldDeltas
-pub mod CountedReplicas
-pub mod SentDeltas
-pub mod ReadBeside
-pub mod BesideBack

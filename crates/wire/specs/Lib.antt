@@ -3,7 +3,6 @@ pub mod Forms
 pub mod Lines
 pub mod OpIds
 pub mod Vectors
-pub mod Deltas
 pub mod Places
 pub mod Operations
 pub mod Reading
@@ -12,4 +11,3 @@ pub mod Sent
 pub mod Writing
 pub mod Messages
 pub mod Bundles
-pub mod Profiles

@@ -1,13 +1,8 @@
-//! The bytes of a line, taken apart in the one form in which an operation is written, of either profile.
+//! The bytes of a line, taken apart in the one form in which an operation is written.
 //!
 //! Nothing is asked of what these methods find, since it is written again and compared: commas, tags and the end of a line are passed
 //! without much care. Each takes a number of steps that its part of the line bounds, and none calls itself.
 
-ghost use Rattle.std.specs.Prelude.{IfSome};
-ghost use Rattle.ids.specs.Vectors.{IsCanonical};
-ghost use Rattle.wire.specs.Deltas.{IsRising};
-
-use crate::deltas::changed;
 use crate::escapes::{closed_at, unescaped};
 use ids::{MOST_NAMED, NamedVector, OpId, ReplicaId};
 use memchr::{memchr, memmem};
@@ -16,9 +11,6 @@ use std::alloc::Global;
 
 /// The most digits that a number of 64 bits has.
 const MOST_DIGITS: usize = 20;
-
-/// The most pairs that can differ between two vectors.
-const MOST_CHANGES: usize = 2 * MOST_NAMED;
 
 /// The bytes of a line that are left. Each method takes its part off the front, or gives up.
 #[derive(Drop)]
@@ -37,26 +29,11 @@ impl<'a> Scan<'a> {
         }
     }
 
-    /// The operation with its whole vector. `None` where the line has another form, or where memory is refused.
+    /// The operation. `None` where the line has another form, or where memory is refused.
     pub(crate) fn op(&mut self, alloc: Global) -> Option<Op> {
         self.bytes(b"[\"op\",")?;
         let id = self.id()?;
         let deps = self.vector(alloc)?;
-        self.op_with(alloc, id, deps)
-    }
-
-    /// The operation whose vector stands as what changed from a base. `None` as above.
-    pub(crate) fn op_beside(&mut self, alloc: Global, base: &[OpId]) -> Option<Op>
-        requires { IsCanonical base.now }
-    {
-        self.bytes(b"[\"op2\",")?;
-        let id = self.id()?;
-        let deps = self.changed_vector(alloc, base)?;
-        self.op_with(alloc, id, deps)
-    }
-
-    /// The operation with this id and vector.
-    fn op_with(&mut self, alloc: Global, id: OpId, deps: NamedVector) -> Option<Op> {
         let place = self.place(alloc)?;
         let mutation = self.mutation(alloc)?;
         Some(Op {
@@ -93,38 +70,6 @@ impl<'a> Scan<'a> {
         }
         self.byte(b']')?;
         Some(vector)
-    }
-
-    /// The vector that a base becomes by the changes after a comma.
-    fn changed_vector(&mut self, alloc: Global, base: &[OpId]) -> Option<NamedVector>
-        requires { IsCanonical base.now }
-    {
-        let changes = self.changes(alloc)?;
-        changed(alloc, base, changes.as_slice()).ok()
-    }
-
-    /// The changes, after their comma: pairs whose counter may be 0. Room for them is asked for at once.
-    fn changes(&mut self, alloc: Global) -> Option<Vec<OpId>>
-        ensures { IfSome result (λ changes. IsRising changes.items) }
-    {
-        self.bytes(b",[")?;
-        let mut changes = Vec::with_capacity(alloc, self.count_pairs()?).ok()?;
-        let mut last = 0;
-        for _ in 0..MOST_CHANGES {
-            if self.peek()? == b']' {
-                break;
-            }
-            let change = self.pair()?;
-            let replica = change.replica.number();
-            if replica <= last {
-                return None;
-            }
-            changes.push(change).ok()?;
-            last = replica;
-            self.takes(b',');
-        }
-        self.byte(b']')?;
-        Some(changes)
     }
 
     /// How many pairs a vector has: as many brackets open before the first two that close together.

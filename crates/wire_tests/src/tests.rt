@@ -1,6 +1,5 @@
 //! Lines with values from the rules, and each call once where it succeeds.
 
-mod beside_lines;
 mod bundles;
 mod canonical_lines;
 mod operations;

@@ -59,10 +59,10 @@ const LONG: &[(&str, usize, usize, usize, bool)] = &[
 ];
 
 /// What stands in place of a byte of a line.
-pub(super) const BYTES: [u8; 7] = *b"09\" ],\\";
+const BYTES: [u8; 7] = *b"09\" ],\\";
 
 /// The line after a space.
-pub(super) fn spaced(alloc: Global, line: &[u8]) -> Result<Vec<u8>, AllocError> {
+fn spaced(alloc: Global, line: &[u8]) -> Result<Vec<u8>, AllocError> {
     let mut text = Vec::new(alloc);
     text.push(b' ')?;
     text.extend_from_slice(line)?;
@@ -70,12 +70,7 @@ pub(super) fn spaced(alloc: Global, line: &[u8]) -> Result<Vec<u8>, AllocError> 
 }
 
 /// The line with another byte at this index.
-pub(super) fn changed(
-    alloc: Global,
-    line: &[u8],
-    index: usize,
-    byte: u8,
-) -> Result<Vec<u8>, AllocError> {
+fn changed(alloc: Global, line: &[u8], index: usize, byte: u8) -> Result<Vec<u8>, AllocError> {
     let mut text = Vec::new(alloc);
     text.extend_from_slice(line)?;
     if let Some(place) = text.get_mut(index) {
