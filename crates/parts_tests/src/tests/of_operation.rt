@@ -100,7 +100,7 @@ const COUNTERS: &[Row] = &[
     ),
 ];
 
-/// Operations of replicas, or with vectors and places that name them, of which no table is asked: their faults are those of any other.
+/// Any replica may send, and be named by a vector or a place: no table is asked.
 const ANY_REPLICA: &[Row] = &[
     ((1, 4), &[0, 0, 0], Field, Delete, Ok(())),
     ((1, 4_294_967_295), &[0, 0, 0], Field, Delete, Ok(())),

@@ -64,7 +64,7 @@ fn the_first_that_is_applied_joins_first(rt: HostRuntime) -> Result<(), Fail> {
     on_lone(&rt, rt.alloc(), 1, TURNS, HISTORY)
 }
 
-/// Replica 2 is greater than none of the members, and its write stands beside that of replica 5.
+/// The values stand in the order of their ids, though the index of replica 2 is the greater one.
 #[test]
 fn a_newcomer_writes_beside_the_own_replica(rt: HostRuntime) -> Result<(), Fail> {
     const TURNS: &[Turn<'static>] = &[
