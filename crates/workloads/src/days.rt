@@ -15,23 +15,26 @@ use std::alloc::Global;
 use std::marker::Brand;
 use std::sync::Wait;
 
+/// The lines of the longest bundle: a receipt ends where the queue is full.
+const MOST_LINES: u32 = 65_536;
+
 /// What an engine does in a day.
 #[derive(Clone, Copy)]
 pub struct Day<'a> {
     /// Its number, and the first and the last of its members' numbers.
     pub own: u32,
     pub members: (u32, u32),
-    /// What it receives before it writes, which may be nothing.
-    pub before: &'a [u8],
+    /// The bundles that it receives before it writes.
+    pub before: &'a [&'a [u8]],
     /// What it writes, how many commands at a time, and how many in all.
     pub work: Work,
     pub batch: u32,
     pub count: u32,
-    /// What it receives after that.
+    /// The bundle that it receives after that, which may be empty.
     pub after: &'a [u8],
     /// Whether it shows the whole document at the end.
     pub shows: bool,
-    /// Whether its answer is the whole history; else it is what came after the first receipt.
+    /// Whether its answer is the whole history; else it is what came after the first receipts.
     pub answers_all: bool,
 }
 
@@ -57,7 +60,7 @@ fn configuration(alloc: Global, day: &Day) -> Result<Config, Refusal> {
         members,
         clients: 1,
         readers: 1,
-        queue: 4_096,
+        queue: MOST_LINES,
         batch: day.batch,
         serials: u32::MAX,
     })
@@ -113,7 +116,9 @@ fn play_on<N: EngineName, R: Wait>(
     day: &Day,
 ) -> Result<Vec<u8>, Refusal> {
     let empty = say_hello(alloc, stage, hands)?;
-    stage.take(rt, alloc, hands, day.before)?;
+    for bundle in day.before {
+        stage.take(rt, alloc, hands, bundle)?;
+    }
     let first = say_hello(alloc, stage, hands)?;
     write(rt, alloc, stage, hands, day.work, day.count)?;
     stage.take(rt, alloc, hands, day.after)?;
@@ -122,8 +127,13 @@ fn play_on<N: EngineName, R: Wait>(
     }
     let asked = if day.answers_all { &empty } else { &first };
     let lines = answer(alloc, stage.reader, asked.as_slice())?;
-    hands.digest.bytes(lines.as_slice());
+    // Engines may write the same operations in other bytes: what a line says is shown by the engine that receives it.
+    hands.digest.number(count_lines(&lines));
     Ok(lines)
+}
+
+fn count_lines(text: &[u8]) -> u64 {
+    text.iter().filter(|byte| **byte == b'\n').count() as u64
 }
 
 fn say_hello<N: EngineName>(

@@ -1,8 +1,9 @@
 //! The jobs: what users wait for.
 
+ghost use Rattle.std.specs.Prelude.{◌≤◌, length};
+
 use crate::days::{Day, play_day};
 use crate::draws::Hands;
-use crate::stage::end_of_lines;
 use crate::writing::Work;
 use engine::Refusal;
 use std::alloc::Global;
@@ -11,8 +12,8 @@ use std::sync::Wait;
 /// How many engines catch up with one another.
 const PEERS: u32 = 4;
 
-/// How many devices write into one document.
-const DEVICES: u32 = 32;
+/// How many devices write into one document, if nothing else is said.
+pub const DEVICES: u32 = 32;
 
 /// How many operations wait for the one that was lost.
 const WAITING: u32 = 4_000;
@@ -20,13 +21,14 @@ const WAITING: u32 = 4_000;
 /// About how many operations of another engine come in meanwhile.
 const OTHERS: u32 = 10_000;
 
-/// Plays the job of this name; an unknown one is nothing to do.
+/// Plays the job of this name, with so many devices where there are many; an unknown job is nothing to do.
 pub fn play<R: Wait>(
     rt: &R,
     alloc: Global,
     hands: &mut Hands,
     job: &str,
     count: u32,
+    number: u32,
 ) -> Result<(), Refusal> {
     match job {
         "history" => history(rt, alloc, hands, count),
@@ -34,8 +36,8 @@ pub fn play<R: Wait>(
         "typing" => alone(rt, alloc, hands, Work::Typing, 1, count),
         "saves" => alone(rt, alloc, hands, Work::Saves, 256, count),
         "lost" => lose(rt, alloc, hands, count),
-        "devices" => devices(rt, alloc, hands, count, true),
-        "newcomers" => devices(rt, alloc, hands, count, false),
+        "devices" => devices(rt, alloc, hands, count, number, true),
+        "newcomers" => devices(rt, alloc, hands, count, number, false),
         _ => Ok(()),
     }
 }
@@ -77,7 +79,7 @@ fn history<R: Wait>(rt: &R, alloc: Global, hands: &mut Hands, count: u32) -> Res
     let lines = play_day(rt, alloc, hands, &written)?;
     let taken = Day {
         own: 2,
-        before: lines.as_slice(),
+        before: &[lines.as_slice()],
         answers_all: false,
         ..day_of(Work::Mixed, 256, 0)
     };
@@ -98,7 +100,7 @@ fn apart<R: Wait>(rt: &R, alloc: Global, hands: &mut Hands, count: u32) -> Resul
         let day = Day {
             own,
             members: (1, PEERS),
-            before: shared.as_slice(),
+            before: &[shared.as_slice()],
             after: others.as_slice(),
             shows: own == PEERS,
             answers_all: false,
@@ -133,13 +135,10 @@ fn lose_a_line<R: Wait>(rt: &R, alloc: Global, hands: &mut Hands) -> Result<(), 
         ..day_of(Work::Mixed, 64, OTHERS)
     };
     let others = play_day(rt, alloc, hands, &going)?;
-    let (line, rest) = held.as_slice().split_at(end_of_lines(&held, 1));
-    let mut before = Vec::new(alloc);
-    before.extend_from_slice(rest)?;
-    before.extend_from_slice(&others)?;
+    let (line, rest) = held.as_slice().split_at(end_of_line(&held));
     let taken = Day {
         members: (1, 3),
-        before: before.as_slice(),
+        before: &[rest, others.as_slice()],
         after: line,
         answers_all: false,
         ..day_of(Work::Mixed, 64, 0)
@@ -155,19 +154,31 @@ fn devices<R: Wait>(
     alloc: Global,
     hands: &mut Hands,
     count: u32,
+    number: u32,
     know_all: bool,
 ) -> Result<(), Refusal> {
     let mut all = Vec::new(alloc);
-    for own in 1..=DEVICES {
-        let members = if know_all { (1, DEVICES) } else { (own, own) };
+    for own in 1..=number {
+        let members = if know_all { (1, number) } else { (own, own) };
         let day = Day {
             own,
             members,
-            before: all.as_slice(),
-            shows: own == DEVICES,
+            before: &[all.as_slice()],
+            shows: own == number,
             ..day_of(Work::Mixed, 64, count)
         };
         all = play_day(rt, alloc, hands, &day)?;
     }
     Ok(())
+}
+
+/// Where the first line of the text ends, or the text. What stands behind the first line of a history is a bundle too: nothing is before
+/// the first operation, so the second line stands beside as little as the first one.
+fn end_of_line(text: &[u8]) -> usize
+    ensures { result ≤ length text.now }
+{
+    match text.iter().position(|byte| *byte == b'\n') {
+        Some(position) => position + 1,
+        None => text.len(),
+    }
 }

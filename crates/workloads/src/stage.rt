@@ -1,15 +1,10 @@
 //! An engine's ends, and what is done with them.
 
-ghost use Rattle.std.specs.Prelude.{◌≤◌, length};
-
 use crate::draws::Hands;
 use engine::{Client, Command, EngineName, ReaderToken, Refusal, Step, Writer};
 use peer_sync::{Received, receive};
 use std::alloc::Global;
 use std::sync::Wait;
-
-/// How many lines are received before the writer steps.
-const PIECE: usize = 2_000;
 
 /// An engine with one client and one reader.
 #[derive(Drop)]
@@ -74,26 +69,20 @@ impl<N: EngineName> Stage<'_, N> {
         Ok(())
     }
 
-    /// Receives a text of operations, some lines at a time, and handles all of it.
+    /// Receives a bundle, and handles all of it.
     pub fn take<R: Wait>(
         &mut self,
         rt: &R,
         alloc: Global,
         hands: &mut Hands,
-        text: &[u8],
+        bundle: &[u8],
     ) -> Result<(), Refusal> {
-        let mut rest = text;
-        for _ in rt.forever() {
-            if rest.is_empty() {
-                break;
-            }
-            let (piece, behind) = rest.split_at(end_of_lines(rest, PIECE));
-            rest = behind;
-            let received = receive(rt, alloc, self.client, piece);
-            self.keep_received(hands, &received)?;
-            self.settle(rt, alloc, hands)?;
+        if bundle.is_empty() {
+            return Ok(());
         }
-        Ok(())
+        let received = receive(rt, alloc, self.client, bundle);
+        self.keep_received(hands, &received)?;
+        self.settle(rt, alloc, hands)
     }
 
     /// Keeps the tickets of what was received, whose serials and number go into the digest.
@@ -111,20 +100,4 @@ impl<N: EngineName> Stage<'_, N> {
         }
         Ok(())
     }
-}
-
-/// Where that many lines of the text end, or the text.
-pub fn end_of_lines(text: &[u8], count: usize) -> usize
-    ensures { result ≤ length text.now }
-{
-    let mut lines = 0usize;
-    for (position, byte) in text.iter().enumerate() {
-        if *byte == b'\n' {
-            lines = lines.saturating_add(1);
-            if lines == count {
-                return position + 1;
-            }
-        }
-    }
-    text.len()
 }
