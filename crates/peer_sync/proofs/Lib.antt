@@ -4,3 +4,4 @@ pub mod SentBack
 pub mod SentHistories
 pub mod Submissions
 pub mod AlikeReadings
+pub mod TakenLines

@@ -33,8 +33,8 @@ unmapped P f (y ∷ ys) h = All-cons (λ x. P (f x)) y ys (All-head P (f y) (map
 
 -- a bundle, where it is read as its operations
 pub answer_back : (xs ys : List Op) (ss : List Stamped) (text : List ℕ) → ys ≡ xs → map stamped_of xs ≡ ss
-    → (All (λ (o : Op). CanBeSent (stamped_of o)) ys → bundle_form text ≡ Ok (map stamped_of ys)) → All CanBeSent ss
-    → bundle_form text ≡ Ok ss
+    → (All (λ (o : Op). CanBeSent (stamped_of o)) ys → bundle_form [] text ≡ Ok (map stamped_of ys)) → All CanBeSent ss
+    → bundle_form [] text ≡ Ok ss
 answer_back xs ys ss text slice is back sent =
     let all : map stamped_of ys ≡ ss = ap (map stamped_of) slice ∙ is in
     back (unmapped CanBeSent stamped_of ys (subst (λ (rs : List Stamped). All CanBeSent rs) (sym all) sent)) ∙ ap Ok all

@@ -5,13 +5,14 @@ use Rattle.std.proofs.lemmas.List.{length-append, length-map, map-append, take_a
 use Rattle.ids.specs.declared.refusal.Refusal.{Refusal}
 use Rattle.ids.specs.declared.refusal.Refusal.TheVariants.{BadLine, NoMemory}
 use Rattle.semantics.specs.Stamped.{Stamped}
+use Rattle.semantics.specs.Vectors.{Vector}
 use Rattle.engine.specs.operation.declared.op.Op.{Op}
 use Rattle.engine.specs.operation.Ops.{stamped_of}
 use Rattle.engine.specs.operation.declared.submission.Request.TheVariants.{Peer}
 use Rattle.engine.specs.Clients.{Client}
 use Rattle.wire.specs.Bundles.{Readable, readable}
 use Rattle.wire.specs.Lines.{HasNoEnd, IsFirstLine}
-use Rattle.wire.specs.Reading.{op_form}
+use Rattle.wire.specs.Profiles.{line_form}
 use Rattle.wire.proofs.BundleLines.{after, after-bad, after-cut, after-none, after-op}
 use Rattle.peer_sync.specs.Receiving.{EndsAfter, IsDenied, StopsAfter, all_submitted, submitted}
 
@@ -40,115 +41,123 @@ full_kept c (o ∷ ops) = full_kept (submitted c o) ops
 but_for_full : (d e : Client) → d ≡ e → d ≡ record e { found_full = d.found_full }
 but_for_full d e is = is ∙ ap (λ n. record e { found_full = n }) (sym (ap (λ (k : Client). k.found_full) is))
 
--- client d is c after it submitted the first n operations of the text, of which the rest isn't read yet
-pub record HasSubmitted (c : Client) (text : List ℕ) (d : Client) (rest : List ℕ) (n : ℕ) : Type 0 where
+-- client d is c after it submitted the first n operations of the text, of which the rest isn't read yet, and stands beside the base
+pub record HasSubmitted (c : Client) (text : List ℕ) (d : Client) (base : Vector) (rest : List ℕ) (n : ℕ) : Type 0 where
   pub ops : List Op
   pub count : length ops ≡ n
   pub client : d ≡ all_submitted c ops
-  pub read : after (map stamped_of ops) (readable rest) ≡ readable text
+  pub read : after (map stamped_of ops) (readable base rest) ≡ readable [] text
 
 module _ (c : Client) (text : List ℕ) where
-  pub submitted-none : HasSubmitted c text c text 0
+  pub submitted-none : HasSubmitted c text c [] text 0
   submitted-none = record { ops = []; count = refl; client = refl; read = refl }
 
   -- the next line is an operation, which is submitted
-  pub submitted-more : (d e : Client) (rest line left : List ℕ) (n : ℕ) (op : Op) → HasSubmitted c text d rest n
+  pub submitted-more : (d e : Client) (base : Vector) (rest line left : List ℕ) (n : ℕ) (op : Op) → HasSubmitted c text d base rest n
       → IsFirstLine rest line left
-      → op_form line ≡ Ok (stamped_of op) → e ≡ submitted d op
-      → HasSubmitted c text e left (n + 1)
-  submitted-more d e rest line left n op h first form is = record {
+      → line_form base line ≡ Ok (stamped_of op) → e ≡ submitted d op
+      → HasSubmitted c text e op.deps left (n + 1)
+  submitted-more d e base rest line left n op h first form is = record {
     ops = h.ops ++ op ∷ [];
     count = (let l = length-append h.ops (op ∷ []) in omega (arith, l, h.count));
     client = is ∙ ap (λ (k : Client). submitted k op) h.client ∙ sym (all_submitted-last c h.ops op);
     read =
-        ap (λ (ss : List Stamped). after ss (readable left)) (map-append stamped_of h.ops (op ∷ []))
-        ∙ sym (after-op rest line left (map stamped_of h.ops) (stamped_of op) first form)
+        ap (λ (ss : List Stamped). after ss (readable op.deps left)) (map-append stamped_of h.ops (op ∷ []))
+        ∙ sym (after-op base rest line left (map stamped_of h.ops) (stamped_of op) first form)
         ∙ h.read;
   }
 
   -- what was submitted are the first operations of the text
-  pub first_operations : (d : Client) (rest : List ℕ) (n : ℕ) (h : HasSubmitted c text d rest n)
-      → map stamped_of h.ops ≡ take n (readable text).operations
-  first_operations d rest n h =
-      sym (take_at (map stamped_of h.ops) (readable rest).operations n (length-map h.ops stamped_of ∙ h.count))
+  pub first_operations : (d : Client) (base : Vector) (rest : List ℕ) (n : ℕ) (h : HasSubmitted c text d base rest n)
+      → map stamped_of h.ops ≡ take n (readable [] text).operations
+  first_operations d base rest n h =
+      sym (take_at (map stamped_of h.ops) (readable base rest).operations n (length-map h.ops stamped_of ∙ h.count))
       ∙ ap (λ (r : Readable). take n r.operations) h.read
 
   -- so far it found the queue full as often as before
-  full_as_before : (d : Client) (rest : List ℕ) (n : ℕ) → HasSubmitted c text d rest n → d.found_full ≡ c.found_full
-  full_as_before d rest n h = ap (λ (k : Client). k.found_full) h.client ∙ full_kept c h.ops
+  full_as_before : (d : Client) (base : Vector) (rest : List ℕ) (n : ℕ) → HasSubmitted c text d base rest n → d.found_full ≡ c.found_full
+  full_as_before d base rest n h = ap (λ (k : Client). k.found_full) h.client ∙ full_kept c h.ops
 
-  pub kept_after : (d : Client) (rest : List ℕ) (n : ℕ) → HasSubmitted c text d rest n → length d.kept ≡ length c.kept + n
-  kept_after d rest n h = ap (λ (k : Client). length k.kept) h.client ∙ kept_count c h.ops ∙ ap (λ m. length c.kept + m) h.count
+  pub kept_after : (d : Client) (base : Vector) (rest : List ℕ) (n : ℕ) → HasSubmitted c text d base rest n
+      → length d.kept ≡ length c.kept + n
+  kept_after d base rest n h = ap (λ (k : Client). length k.kept) h.client ∙ kept_count c h.ops ∙ ap (λ m. length c.kept + m) h.count
 
   -- a line that is bad
-  stops-bad : (d e : Client) (rest line left : List ℕ) (n : ℕ) (why : Refusal) → HasSubmitted c text d rest n
+  stops-bad : (d e : Client) (base : Vector) (rest line left : List ℕ) (n : ℕ) (why : Refusal) → HasSubmitted c text d base rest n
       → IsFirstLine rest line left
-      → op_form line ≡ Err why → e.found_full ≡ c.found_full → StopsAfter (readable text) n c.found_full e why
-  stops-bad d e rest line left n why h first form full =
-      let all = sym (after-bad rest line left (map stamped_of h.ops) why first form) ∙ h.read in
+      → line_form base line ≡ Err why → e.found_full ≡ c.found_full → StopsAfter (readable [] text) n c.found_full e why
+  stops-bad d e base rest line left n why h first form full =
+      let all = sym (after-bad base rest line left (map stamped_of h.ops) why first form) ∙ h.read in
       let count = ap (λ (r : Readable). length r.operations) all in
       let mapped = length-map h.ops stamped_of in
       inr (inl (omega (arith, count, mapped, h.count), sym (ap (λ (r : Readable). r.stopped) all), full))
 
   -- a line whose operation the client doesn't submit
-  stops-denied : (d e : Client) (rest line left : List ℕ) (n : ℕ) (why : Refusal) (op : Op) → HasSubmitted c text d rest n
+  stops-denied : (d e : Client) (base : Vector) (rest line left : List ℕ) (n : ℕ) (why : Refusal) (op : Op)
+      → HasSubmitted c text d base rest n
       → IsFirstLine rest line left
-      → op_form line ≡ Ok (stamped_of op) → IsDenied c.found_full e why
-      → StopsAfter (readable text) n c.found_full e why
-  stops-denied d e rest line left n why op h first form denied =
-      let all = sym (after-op rest line left (map stamped_of h.ops) (stamped_of op) first form) ∙ h.read in
+      → line_form base line ≡ Ok (stamped_of op) → IsDenied c.found_full e why
+      → StopsAfter (readable [] text) n c.found_full e why
+  stops-denied d e base rest line left n why op h first form denied =
+      let all = sym (after-op base rest line left (map stamped_of h.ops) (stamped_of op) first form) ∙ h.read in
       let count = ap (λ (r : Readable). length r.operations) all in
-      let more = length-append (map stamped_of h.ops ++ stamped_of op ∷ []) (readable left).operations in
+      let more = length-append (map stamped_of h.ops ++ stamped_of op ∷ []) (readable op.deps left).operations in
       let one = length-append (map stamped_of h.ops) (stamped_of op ∷ []) in
       let mapped = length-map h.ops stamped_of in
       inr (inr (omega (arith, count, more, one, mapped, h.count), denied))
 
   -- a line that isn't submitted
-  pub stops : (d e : Client) (rest line left : List ℕ) (n : ℕ) (why : Refusal) → HasSubmitted c text d rest n
+  pub stops : (d e : Client) (base : Vector) (rest line left : List ℕ) (n : ℕ) (why : Refusal) → HasSubmitted c text d base rest n
       → IsFirstLine rest line left
-      → ((why ≡ NoMemory) × (e.found_full ≡ d.found_full)) ⊎ ((op_form line ≡ Err why) × (e.found_full ≡ d.found_full))
-      ⊎ ((op : Op) × (op_form line ≡ Ok (stamped_of op)) × IsDenied d.found_full e why)
-      → StopsAfter (readable text) n c.found_full e why
-  stops d e rest line left n why h first (inl memory) = inl (memory.0, memory.1 ∙ full_as_before d rest n h)
-  stops d e rest line left n why h first (inr (inl bad)) =
-      stops-bad d e rest line left n why h first bad.0 (bad.1 ∙ full_as_before d rest n h)
-  stops d e rest line left n why h first (inr (inr denied)) =
-      stops-denied d e rest line left n why denied.0 h first denied.1
-      (subst (λ k. IsDenied k e why) (full_as_before d rest n h) denied.2)
+      → ((why ≡ NoMemory) × (e.found_full ≡ d.found_full)) ⊎ ((line_form base line ≡ Err why) × (e.found_full ≡ d.found_full))
+      ⊎ ((op : Op) × (line_form base line ≡ Ok (stamped_of op)) × IsDenied d.found_full e why)
+      → StopsAfter (readable [] text) n c.found_full e why
+  stops d e base rest line left n why h first (inl memory) = inl (memory.0, memory.1 ∙ full_as_before d base rest n h)
+  stops d e base rest line left n why h first (inr (inl bad)) =
+      stops-bad d e base rest line left n why h first bad.0 (bad.1 ∙ full_as_before d base rest n h)
+  stops d e base rest line left n why h first (inr (inr denied)) =
+      stops-denied d e base rest line left n why denied.0 h first denied.1
+      (subst (λ k. IsDenied k e why) (full_as_before d base rest n h) denied.2)
 
   -- bytes that no line feed ends
-  stops-cut : (d : Client) (rest : List ℕ) (n : ℕ) → HasSubmitted c text d rest n → HasNoEnd rest → rest ≢ []
-      → StopsAfter (readable text) n c.found_full d BadLine
-  stops-cut d rest n h whole some =
-      let all = sym (after-cut rest (map stamped_of h.ops) whole some) ∙ h.read in
+  stops-cut : (d : Client) (base : Vector) (rest : List ℕ) (n : ℕ) → HasSubmitted c text d base rest n → HasNoEnd rest → rest ≢ []
+      → StopsAfter (readable [] text) n c.found_full d BadLine
+  stops-cut d base rest n h whole some =
+      let all = sym (after-cut base rest (map stamped_of h.ops) whole some) ∙ h.read in
       let count = ap (λ (r : Readable). length r.operations) all in
       let mapped = length-map h.ops stamped_of in
       inr
       (inl (
         omega (arith, count, mapped, h.count),
         sym (ap (λ (r : Readable). r.stopped) all),
-        full_as_before d rest n h,
+        full_as_before d base rest n h,
       ))
 
   -- no byte is left
-  ends : (d : Client) (rest : List ℕ) (n : ℕ) → HasSubmitted c text d rest n → rest ≡ [] → EndsAfter (readable text) n
-  ends d rest n h none =
-      let all = sym (after-none rest (map stamped_of h.ops) none) ∙ h.read in
+  ends : (d : Client) (base : Vector) (rest : List ℕ) (n : ℕ) → HasSubmitted c text d base rest n → rest ≡ []
+      → EndsAfter (readable [] text) n
+  ends d base rest n h none =
+      let all = sym (after-none base rest (map stamped_of h.ops) none) ∙ h.read in
       let count = ap (λ (r : Readable). length r.operations) all in
       let mapped = length-map h.ops stamped_of in
       (omega (arith, count, mapped, h.count), sym (ap (λ (r : Readable). r.stopped) all))
 
   -- the end of the lines: all was read, or bytes are left that no line feed ends
-  pub stops-end : (d : Client) (rest left : List ℕ) (n taken later : ℕ) (stop : Option (ℕ × Refusal)) → HasSubmitted c text d rest n
+  pub stops-end : (d : Client) (base : Vector) (rest left : List ℕ) (n taken later : ℕ) (stop : Option (ℕ × Refusal))
+      → HasSubmitted c text d base rest n
       → taken ≡ n → HasNoEnd rest → left ≡ rest → later ≡ taken
       → MatchOption stop (left ≡ []) (λ s. (s.0 ≡ later + 1) × (s.1 ≡ BadLine) × (left ≢ []))
-      → MatchOption stop (EndsAfter (readable text) n × (d.found_full ≡ c.found_full))
-      (λ s. (s.0 ≡ n + 1) × StopsAfter (readable text) n c.found_full d s.1)
-  stops-end d rest left n taken later None h same whole still count none = (ends d rest n h (sym still ∙ none), full_as_before d rest n h)
-  stops-end d rest left n taken later (Some s) h same whole still count cut = (
+      → MatchOption stop (EndsAfter (readable [] text) n × (d.found_full ≡ c.found_full))
+      (λ s. (s.0 ≡ n + 1) × StopsAfter (readable [] text) n c.found_full d s.1)
+  stops-end d base rest left n taken later None h same whole still count none = (
+    ends d base rest n h
+        (sym still ∙ none),
+    full_as_before d base rest n h,
+  )
+  stops-end d base rest left n taken later (Some s) h same whole still count cut = (
     omega (arith, cut.0, same, count),
-    subst (λ (why : Refusal). StopsAfter (readable text) n c.found_full d why) (sym cut.1)
-        (stops-cut d rest n h whole (λ e. cut.2 (still ∙ e))),
+    subst (λ (why : Refusal). StopsAfter (readable [] text) n c.found_full d why) (sym cut.1)
+        (stops-cut d base rest n h whole (λ e. cut.2 (still ∙ e))),
   )
 
 other_than_zero : (n : ℕ) → n ≢ 0 → (n == 0) ≡ false

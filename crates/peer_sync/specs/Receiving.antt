@@ -1,5 +1,5 @@
 -- What a client does with the lines that it receives.
-use Rattle.std.specs.Prelude.{ℕ, ◌≡◌, ◌<◌, ◌≤◌, ◌⊎◌, List, [], ◌∷◌, length, Some, None}
+use Rattle.std.specs.Prelude.{ℕ, ◌+◌, ◌≡◌, ◌<◌, ◌≤◌, ◌⊎◌, List, [], ◌∷◌, length, Some, None}
 use Rattle.ids.specs.declared.refusal.Refusal.{Refusal}
 use Rattle.ids.specs.declared.refusal.Refusal.TheVariants.{NoMemory, QueueFull, SerialEnd}
 use Rattle.engine.specs.operation.declared.op.Op.{Op}
@@ -35,3 +35,8 @@ StopsAfter r n found c why =
 -- nothing follows n operations: all of the text was read
 abbrev pub EndsAfter : Readable → ℕ → Type 0
 EndsAfter r n = (n ≡ length r.operations) × (r.stopped ≡ None)
+
+-- how many bytes these lines have, each with its line feed
+abbrev pub bytes_of : List (List ℕ) → ℕ
+bytes_of [] = 0
+bytes_of (l ∷ ls) = length l + 1 + bytes_of ls

@@ -18,3 +18,4 @@ pub use engine::{
     Client, Command, EngineName, Expr, ExprStep, Key, Parts, Question, ReaderToken, Reading, Reply,
     Scalar, Step, Ticket, Val, Writer, close, open, prepare,
 };
+pub use wire::BundleReader;

@@ -6,14 +6,15 @@ ghost use Rattle.ids.specs.declared.refusal.Refusal.TheVariants.{BadLine, NoMemo
 ghost use Rattle.engine.specs.operation.declared.op.Op.{Op};
 ghost use Rattle.engine.specs.operation.Ops.{stamped_of};
 ghost use Rattle.wire.specs.Bundles.{readable};
-ghost use Rattle.wire.specs.Reading.{op_form};
-ghost use Rattle.peer_sync.specs.Receiving.{EndsAfter, IsDenied, StopsAfter, all_submitted, submitted};
+ghost use Rattle.wire.specs.Lines.{cut};
+ghost use Rattle.wire.specs.Profiles.{line_form};
+ghost use Rattle.peer_sync.specs.Receiving.{EndsAfter, IsDenied, StopsAfter, all_submitted, bytes_of, submitted};
 
 use engine::{Client, EngineName, Ticket};
 use ids::Refusal;
 use std::alloc::Global;
 use std::sync::Wait;
-use wire::{Lines, read_op};
+use wire::{BundleReader, Lines};
 
 /// The result of a receipt.
 #[derive(Clone, Copy, Debug, PartialEq, Eq)]
@@ -22,19 +23,24 @@ pub struct Received {
     pub first_serial: u64,
     /// How many operations were submitted: those of the lines before the stop.
     pub submitted: u64,
+    /// How many bytes those lines have, each with its line feed.
+    pub bytes: usize,
     /// The line, counted from 1, at which it stopped, and why; `None` if all lines were submitted.
     pub stopped: Option<(u64, Refusal)>,
 }
 
-/// Submits the operations of a bundle, line by line, and stops at the first line that is bad or that the client refuses. What
-/// came before that line stays submitted. The bytes may be of any origin. May spin behind another thread that is in the queue, as
-/// `Client::deliver`; never waits for room.
+/// Submits the operations of a bundle, lines of either profile, line by line, and stops at the first line that is bad or that the client
+/// refuses. What came before that line stays submitted. The bytes may be of any origin. May spin behind another thread that is in the
+/// queue, as `Client::deliver`; never waits for room.
+///
+/// A line of profile 2 tells what changed since the line before it, and the first one since the empty vector: give bundles whole. The
+/// first lines of a bundle are a bundle, and what is behind them is none: given all the same, it may be refused, or be kept under the
+/// true id as an operation that nobody made, which no exchange mends. To go on after a stop, say hello again.
 ///
 /// The result's stop is a fault of the line itself: `BadLine`, also for bytes after the last line feed, `TooDeep`, `KeyTooLong`,
-/// `TextTooLong` or `NotWhole`; such a line is refused each time. Or it is a refusal of `Client::deliver`: `QueueFull` (give
-/// what is left once the writer has stepped), for which the queue was full at one moment of this call, or `SerialEnd`; or `NoMemory` if
-/// allocation fails (give what is left again). Reads each line
-/// whole before it is judged: bound its length. The reply alone says what becomes of each operation.
+/// `TextTooLong` or `NotWhole`; such a line is refused each time. Or it is a refusal of `Client::deliver`: `QueueFull`, for which the
+/// queue was full at one moment of this call, or `SerialEnd`; or `NoMemory` if allocation fails. Reads each line whole before it is
+/// judged: bound its length. The reply alone says what becomes of each operation.
 pub fn receive<N: EngineName>(
     rt: &impl Wait,
     alloc: Global,
@@ -43,23 +49,26 @@ pub fn receive<N: EngineName>(
 ) -> Received
     ensures submitted { (ops : List Op) × (length ops ≡ result.submitted)
         × (client.new ≡ record (all_submitted client.old ops) { found_full = client.new.found_full })
-        × (map stamped_of ops ≡ take result.submitted (readable bundle.now).operations) }
+        × (map stamped_of ops ≡ take result.submitted (readable [] bundle.now).operations) }
+    ensures bytes { result.bytes ≡ bytes_of (take result.submitted (cut bundle.now).lines) }
     ensures first { result.first_serial ≡ cond (result.submitted == 0) 0 (length client.old.kept + 1) }
     ensures serials { (result.submitted ≡ 0) ⊎ (length client.new.kept ≤ client.new.serials) }
     ensures stopped { MatchOption result.stopped
-        (EndsAfter (readable bundle.now) result.submitted × (client.new.found_full ≡ client.old.found_full))
+        (EndsAfter (readable [] bundle.now) result.submitted × (client.new.found_full ≡ client.old.found_full))
         (λ stop. (stop.0 ≡ result.submitted + 1)
-        × StopsAfter (readable bundle.now) result.submitted client.old.found_full client.new stop.1) }
+        × StopsAfter (readable [] bundle.now) result.submitted client.old.found_full client.new stop.1) }
 {
     let mut lines = Lines::new(bundle);
+    let mut reader = BundleReader::new();
     let mut received = Received {
         first_serial: 0,
         submitted: 0,
+        bytes: 0,
         stopped: None,
     };
     while let Some(line) = lines.take_line() {
-        match submit_line(rt, alloc, client, line.text) {
-            Ok(ticket) => received.count(ticket.serial),
+        match submit_line(rt, alloc, client, &mut reader, line.text) {
+            Ok(ticket) => received.count(ticket.serial, line.text.len() + 1),
             Err(why) => {
                 received.stopped = Some((line.number, why));
                 return received;
@@ -79,7 +88,7 @@ fn cut_stop(lines: &Lines) -> Option<(u64, Refusal)>
     Some((number, Refusal::BadLine))
 }
 
-/// Submits the operation on a line.
+/// Submits the operation on a line, which the reader has read then.
 ///
 /// # Errors
 /// Those of the line, else those of `Client::deliver`. The client is as before then, but that it may have found the queue full.
@@ -87,35 +96,39 @@ fn submit_line<N: EngineName>(
     rt: &impl Wait,
     alloc: Global,
     client: &mut Client<N>,
+    reader: &mut BundleReader,
     line: &[u8],
 ) -> Result<Ticket, Refusal>
     ensures ok { IfOk result
-        (λ ticket. (op : Op) × (op_form line.now ≡ Ok (stamped_of op))
-        × (client.new ≡ submitted client.old op) × (ticket.serial ≡ length client.old.kept + 1)
+        (λ ticket. (op : Op) × (line_form reader.old line.now ≡ Ok (stamped_of op))
+        × (reader.new ≡ op.deps) × (client.new ≡ submitted client.old op) × (ticket.serial ≡ length client.old.kept + 1)
         × (length client.new.kept ≤ client.new.serials)) }
     ensures err { IfErr result
         (λ why. (client.new ≡ record client.old { found_full = client.new.found_full })
         × (((why ≡ NoMemory) × (client.new.found_full ≡ client.old.found_full))
-        ⊎ ((op_form line.now ≡ Err why) × (client.new.found_full ≡ client.old.found_full))
-        ⊎ ((op : Op) × (op_form line.now ≡ Ok (stamped_of op)) × IsDenied client.old.found_full client.new why))) }
+        ⊎ ((line_form reader.old line.now ≡ Err why) × (client.new.found_full ≡ client.old.found_full))
+        ⊎ ((op : Op) × (line_form reader.old line.now ≡ Ok (stamped_of op)) × IsDenied client.old.found_full client.new why))) }
 {
-    let op = read_op(alloc, line)?;
+    let op = reader.read(alloc, line)?;
     client.deliver(rt, alloc, op)
 }
 
 impl Received {
-    /// Counts an operation that was submitted under this serial.
-    fn count(&mut self, serial: u64)
-        requires { self.old.submitted + 1 < 2 ^ 64 }
+    /// Counts an operation that was submitted under this serial, and the bytes of its line.
+    fn count(&mut self, serial: u64, bytes: usize)
+        requires submitted { self.old.submitted + 1 < 2 ^ 64 }
+        requires bytes { self.old.bytes + bytes < 2 ^ 64 }
         ensures { self.new
             ≡ record self.old {
               first_serial = cond (self.old.submitted == 0) serial self.old.first_serial;
               submitted = self.old.submitted + 1;
+              bytes = self.old.bytes + bytes;
             } }
     {
         if self.submitted == 0 {
             self.first_serial = serial;
         }
         self.submitted += 1;
+        self.bytes += bytes;
     }
 }

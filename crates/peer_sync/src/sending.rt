@@ -1,6 +1,6 @@
 //! What an engine sends to a peer: its hello, and answers to the hellos of others.
 
-ghost use Rattle.std.specs.Prelude.{◌≡◌, ◌⊎◌, IfOk, IfErr, Ok, Err};
+ghost use Rattle.std.specs.Prelude.{◌≡◌, ◌⊎◌, [], IfOk, IfErr, Ok, Err};
 ghost use Rattle.ids.specs.declared.refusal.Refusal.TheVariants.{NoMemory, NoReading};
 ghost use Rattle.semantics.specs.Entries.{IsEntryHistory, applied, lacked_of};
 ghost use Rattle.semantics.specs.NamedIds.{vector_of};
@@ -54,10 +54,10 @@ pub fn answer<N: EngineName>(
     ensures legal { IsEntryHistory N.own token.new.seen }
     ensures lines { IfOk result
         (λ text. (v : Vector) × (hello_form (without_end hello.now) ≡ Ok v)
-        × (text.items ≡ bundle_text (lacked_of token.new.seen v))) }
+        × (text.items ≡ bundle_text [] (lacked_of token.new.seen v))) }
     ensures reads_back { IfOk result
         (λ text. (v : Vector) → hello_form (without_end hello.now) ≡ Ok v
-        → bundle_form text.items ≡ Ok (lacked_of token.new.seen v)) }
+        → bundle_form [] text.items ≡ Ok (lacked_of token.new.seen v)) }
     ensures published { IfOk result (λ _. token.new.read ≡ token.new.seen) }
     ensures err { IfErr result (λ why. (why ≡ NoMemory) ⊎ (why ≡ NoReading) ⊎ (hello_form (without_end hello.now) ≡ Err why)) }
     ensures bad { IfErr (hello_form (without_end hello.now))

@@ -210,11 +210,11 @@ other_in d f r s none h = let x = made_of (λ x. Ok (f x)) r s h in subst (HasJs
 line_in : (d : Data) (xs : Items) (s : WorldStep) → line_of xs ≡ Ok s → HasJson d s
 line_in d (item a (item b (item t no_items))) s h =
     let e = made_of
-    (λ e. and_then (λ c. and_then (λ bytes. Ok (lines_step e c (readable bytes))) (text_form t)) (number_form b))
+    (λ e. and_then (λ c. and_then (λ bytes. Ok (lines_step e c (readable [] bytes))) (text_form t)) (number_form b))
     (number_form a) s h in
-    let c = made_of (λ c. and_then (λ bytes. Ok (lines_step e.0 c (readable bytes))) (text_form t))
+    let c = made_of (λ c. and_then (λ bytes. Ok (lines_step e.0 c (readable [] bytes))) (text_form t))
     (number_form b) s e.2 in
-    other_in d (λ bytes. lines_step e.0 c.0 (readable bytes)) (text_form t) s (λ bytes. tt) c.2
+    other_in d (λ bytes. lines_step e.0 c.0 (readable [] bytes)) (text_form t) s (λ bytes. tt) c.2
 line_in d no_items s h = absurd (cc)
 line_in d (item a no_items) s h = absurd (cc)
 line_in d (item a (item b no_items)) s h = absurd (cc)

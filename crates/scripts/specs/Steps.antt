@@ -1,5 +1,5 @@
 -- What a line of a script is as a step.
-use Rattle.std.specs.Prelude.{ℕ, List, codes, Result, Ok, Err, if◌then◌else◌}
+use Rattle.std.specs.Prelude.{ℕ, List, [], codes, Result, Ok, Err, if◌then◌else◌}
 use Rattle.std.specs.Str.{bytes_eq}
 use Rattle.ids.specs.Configurations.{Configuration}
 use Rattle.ids.specs.declared.refusal.Refusal.{Refusal}
@@ -32,13 +32,13 @@ ask_of _ = Err BadLine
 abbrev pub lines_step : ℕ → ℕ → Readable → WorldStep
 lines_step e c r = step_by e (Lines c r.operations r.stopped)
 
--- an engine, a client and a text of any lines
+-- an engine, a client and a text of any lines, whose first one stands beside the empty vector
 abbrev pub line_of : Items → Result WorldStep Refusal
 line_of (item engine (item client (item text no_items))) =
     and_then
     (λ e. and_then
     (λ c. and_then
-    (λ bytes. Ok (lines_step e c (readable bytes))) (text_form text)) (number_form client))
+    (λ bytes. Ok (lines_step e c (readable [] bytes))) (text_form text)) (number_form client))
     (number_form engine)
 line_of _ = Err BadLine
 

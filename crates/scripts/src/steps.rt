@@ -71,7 +71,7 @@ fn ask_in(alloc: Global, parts: &[Value]) -> Result<WorldStep, Refusal>
     })
 }
 
-/// An engine, a client of it, and a text of lines.
+/// An engine, a client of it, and a text of lines, of either profile.
 fn line_in(alloc: Global, parts: &[Value]) -> Result<WorldStep, Refusal>
     ensures { IsRead step_meant result (line_of (items_view parts.now)) }
 {

@@ -34,7 +34,7 @@ use Rattle.wire.specs.Vectors.{pair_json, pairs_above}
 
 -- ---- ids and vectors
 
-id_back : (a : OpId) → IsSentId a → id_form (id_json a) ≡ Ok a
+pub id_back : (a : OpId) → IsSentId a → id_form (id_json a) ≡ Ok a
 id_back a h = rw (h.0, h.1) refl
 
 pairs_back : (p : ℕ) (v : Vector) → IsSentVector p v → pairs_above p (items_of (map pair_json v)) ≡ Ok v
@@ -131,7 +131,7 @@ length_keys Doc = refl
 length_keys (Field e n) = omega (arith, length-append (hops_from_root e) (FieldHop n ∷ []), length_keys e)
 length_keys (Item e a) = omega (arith, length-append (hops_from_root e) (ItemHop a ∷ []), length_keys e)
 
-place_back : (p : Place) → AreSentKeys (hops_from_root (element_of p)) → depth_of p ≤ 32
+pub place_back : (p : Place) → AreSentKeys (hops_from_root (element_of p)) → depth_of p ≤ 32
     → place_form (path_json p) (last_json p) ≡ Ok p
 place_back (At e) h few =
     let ks = hops_from_root e in
@@ -163,7 +163,7 @@ value_back (Plain (Text s)) h = rw (le-ltb 4096 (length s) h) refl
 value_back EmptyMap h = refl
 value_back EmptyList h = refl
 
-mutation_back : (m : Mutation) → IsSentMutation m → mutation_form (mutation_json m) ≡ Ok m
+pub mutation_back : (m : Mutation) → IsSentMutation m → mutation_form (mutation_json m) ≡ Ok m
 mutation_back (Assign v) h = rw (value_back v h) refl
 mutation_back (Insert v) h = rw (value_back v h) refl
 mutation_back Delete h = refl
@@ -193,7 +193,7 @@ sent_vector p (a ∷ v) rising above typed counters =
     let n = and_parts (is_counter a.counter) (are_counters v) counters in
     (above.0, (n.0, typed.0), sent_vector a.replica v rising.2 rising.1 typed.1 n.1)
 
-above_zero : (v : Vector) → AreReplicaNumbers v → AreAbove 0 v
+pub above_zero : (v : Vector) → AreReplicaNumbers v → AreAbove 0 v
 above_zero [] h = tt
 above_zero (a ∷ v) h =
     let some = and_parts (nat_le 1 a.replica) (nat_le a.replica 4294967295) h.0 in
@@ -203,7 +203,7 @@ above_zero (a ∷ v) h =
 pub sent_named : (v : Vector) → IsCanonical v → AreReplicaNumbers v → are_counters v ≡ true → IsSentVector 0 v
 sent_named v canonical typed counters = sent_vector 0 v canonical (above_zero v typed) typed counters
 
-sent_keys : (ks : List Hop) → AreTypedKeys ks → list_all key_counted ks ≡ true → AreSentKeys ks
+pub sent_keys : (ks : List Hop) → AreTypedKeys ks → list_all key_counted ks ≡ true → AreSentKeys ks
 sent_keys [] typed counters = tt
 sent_keys (FieldHop n ∷ ks) typed counters = (typed.0, sent_keys ks typed.1 counters)
 sent_keys (ItemHop a ∷ ks) typed counters =

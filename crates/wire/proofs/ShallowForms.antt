@@ -9,9 +9,11 @@ use Rattle.semantics.specs.Vectors.{Vector}
 use Rattle.serde_json.specs.Data.{Data, depth, items_depth}
 use Rattle.serde_json.specs.View.{items_of}
 use Rattle.operation.specs.value.Forms.{json_of}
+use Rattle.wire.specs.Deltas.{delta}
 use Rattle.wire.specs.Messages.{hello_json}
 use Rattle.wire.specs.Operations.{entered_json, key_json, last_from, last_json, mutation_json, operation_json, parts_from, parts_of}
 use Rattle.wire.specs.Operations.{root_json}
+use Rattle.wire.specs.Profiles.{op2_json}
 use Rattle.wire.specs.Vectors.{pair_json}
 
 depth-json_of : (v : Value) → depth (json_of v) ≤ 1
@@ -66,6 +68,10 @@ depth-mutation_json Delete = omega arith
 pub depth-operation_json : (s : Stamped) → depth (operation_json s) ≤ 4
 depth-operation_json s = omega
     (arith, depth-pairs s.vector, depth-parts_of s.place, depth-last_json s.place, depth-mutation_json s.mutation)
+
+pub depth-op2_json : (base : Vector) (s : Stamped) → depth (op2_json base s) ≤ 4
+depth-op2_json base s = omega
+    (arith, depth-pairs (delta base s.vector), depth-parts_of s.place, depth-last_json s.place, depth-mutation_json s.mutation)
 
 pub depth-hello_json : (v : Vector) → depth (hello_json v) ≤ 4
 depth-hello_json v = omega (arith, depth-pairs v)

@@ -27,10 +27,10 @@ use Rattle.wire.proofs.WholeTexts.{HasWhole, ItemsHaveWhole, read-compact_text}
 limited : (limit n : ℕ) → limit < 2 ^ 64 → is_from_one_to limit n ≡ true → n < 2 ^ 64
 limited limit n l t = let p : (nat_le 1 n ≡ true) × (nat_le n limit ≡ true) = and_parts _ _ t in omega (arith, l, leb-true n limit p.1)
 
-counter : (a : OpId) → IsSentId a → a.counter < 2 ^ 64
+pub counter : (a : OpId) → IsSentId a → a.counter < 2 ^ 64
 counter a h = limited 4611686018427387904 a.counter (omega arith) h.0
 
-replica : (a : OpId) → IsSentId a → a.replica < 2 ^ 64
+pub replica : (a : OpId) → IsSentId a → a.replica < 2 ^ 64
 replica a h = limited 4294967295 a.replica (omega arith) h.1
 
 pairs : (p : ℕ) (v : Vector) → IsSentVector p v → ItemsHaveWhole (items_of (map pair_json v))
@@ -61,14 +61,14 @@ one_more (x ∷ ds) d h k = (h.0, one_more ds d h.1 k)
 root : HasWhole root_json
 root = omega arith
 
-place : (p : Place) → AreSentKeys (hops_from_root (element_of p)) → ItemsHaveWhole (items_of (parts_of p))
+pub place : (p : Place) → AreSentKeys (hops_from_root (element_of p)) → ItemsHaveWhole (items_of (parts_of p))
 place (At e) h = parts root_json (hops_from_root e) root h
 place (HeadOf l) h =
     one_more (parts_from root_json (hops_from_root l)) (phrase (codes "l") (last_from root_json (hops_from_root l) ∷ []))
     (parts root_json (hops_from_root l) root h)
     (tt, (last root_json (hops_from_root l) root h, tt))
 
-last_key : (p : Place) → AreSentKeys (hops_from_root (element_of p)) → HasWhole (last_json p)
+pub last_key : (p : Place) → AreSentKeys (hops_from_root (element_of p)) → HasWhole (last_json p)
 last_key (At e) h = last root_json (hops_from_root e) root h
 last_key (HeadOf l) h = omega arith
 
@@ -81,7 +81,7 @@ value (Plain (Text s)) h = tt
 value EmptyMap h = tt
 value EmptyList h = tt
 
-mutation : (m : Mutation) → IsSentMutation m → HasWhole (mutation_json m)
+pub mutation : (m : Mutation) → IsSentMutation m → HasWhole (mutation_json m)
 mutation (Assign v) h = (tt, (value v h, tt))
 mutation (Insert v) h = (tt, (value v h, tt))
 mutation Delete h = (tt, tt)

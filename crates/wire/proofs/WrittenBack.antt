@@ -29,7 +29,8 @@ use Rattle.wire.specs.Operations.{head_json, id_json, last_from, last_json, muta
 use Rattle.wire.specs.Operations.{root_json}
 use Rattle.wire.specs.Places.{Entered, element_at, entered_of, key_form, numbered_key, only_key, path_form, path_of, parts_of}
 use Rattle.wire.specs.Places.{place_at_last, place_below, place_form, tag_form}
-use Rattle.wire.specs.Reading.{Fields, fields_form, fields_of, five_parts, mutation_form, mutation_of, nothing_more, only_value}
+use Rattle.wire.specs.Reading.{Fields, fields_form, fields_of, fields_with, five_parts, mutation_form, mutation_of, nothing_more}
+use Rattle.wire.specs.Reading.{only_value}
 use Rattle.wire.specs.Reading.{operation_form, parts_after}
 use Rattle.wire.specs.Vectors.{count, next_of, pair_form, pair_json, pair_of, pairs_above, vector_form, vector_json, pairs_of}
 use Rattle.wire.proofs.NormalNumbers.{AreNormal, IsNormal}
@@ -85,7 +86,7 @@ phrase_in d p h = let xs = made_of phrase_of (list_form d) p h in list_in d xs.0
 pub word_is : (word want : List ℕ) → bytes_eq word want ≡ true → word ≡ want
 word_is word want h = (bytes_eq-Decides word want).0 h
 
-limited_in : (limit : ℕ) (d : Data) (n : ℕ) → limited_form limit d ≡ Ok n → d ≡ count n
+pub limited_in : (limit : ℕ) (d : Data) (n : ℕ) → limited_form limit d ≡ Ok n → d ≡ count n
 limited_in limit d n h =
     let m = made_of (λ k. cond (is_from_one_to limit k) (Ok k) (Err BadLine)) (number_form d) n h in
     number_in d m.0 m.1 ∙ ap count (within (is_from_one_to limit m.0) m.0 m.2)
@@ -425,10 +426,10 @@ mutation_in d m normal h =
 -- ---- operations
 
 -- the fields as they are written
-abbrev fields_data : Fields → Items
+abbrev pub fields_data : Fields → Items
 fields_data f = item f.id (item f.vector (item f.path (item f.last (item f.mutation no_items))))
 
-five_in : (xs : Items) (f : Fields) → five_parts xs ≡ Ok f → xs ≡ fields_data f
+pub five_in : (xs : Items) (f : Fields) → five_parts xs ≡ Ok f → xs ≡ fields_data f
 five_in (item a (item b (item c (item d (item e no_items))))) f h = ap fields_data
     (same_ok (record { id = a; vector = b; path = c; last = d; mutation = e }) f h)
 five_in no_items f h = absurd (cc)
@@ -447,30 +448,50 @@ fields_in d f h =
     by word xs true is e = λ i. array (item (string (word_is word (codes "op") is i)) (five_in xs f e i))
     by word xs false is e = absurd (cc)
 
+-- what the fields are of an operation that was read of them, where its vector was read in this way
+pub record AreOf (read : Data → Result Vector Refusal) (f : Fields) (s : Stamped) : Type 0 where
+  pub id : f.id ≡ id_json s.id
+  pub vector : read f.vector ≡ Ok s.vector
+  pub path : f.path ≡ path_json s.place
+  pub last : f.last ≡ last_json s.place
+  pub mutation : f.mutation ≡ mutation_json s.mutation
+
+pub fields_of_in : (read : Data → Result Vector Refusal) (f : Fields) (s : Stamped) → IsNormal f.mutation → fields_with read f ≡ Ok s
+    → AreOf read f s
+fields_of_in read f s normal h =
+    let a = made_of
+    (λ a. and_then
+    (λ v. and_then (λ p. and_then (λ m. Ok (record { id = a; vector = v; place = p; mutation = m })) (mutation_form f.mutation))
+    (place_form f.path f.last))
+    (read f.vector))
+    (id_form f.id) s h in
+    let v = made_of
+    (λ v. and_then (λ p. and_then (λ m. Ok (record { id = a.0; vector = v; place = p; mutation = m })) (mutation_form f.mutation))
+    (place_form f.path f.last))
+    (read f.vector) s a.2 in
+    let p = made_of (λ p. and_then (λ m. Ok (record { id = a.0; vector = v.0; place = p; mutation = m })) (mutation_form f.mutation))
+    (place_form f.path f.last) s v.2 in
+    let m = made_of (λ m. Ok (record { id = a.0; vector = v.0; place = p.0; mutation = m })) (mutation_form f.mutation) s p.2 in
+    let it : Stamped = record { id = a.0; vector = v.0; place = p.0; mutation = m.0 } in
+    let place = place_in f.path f.last p.0 p.1 in
+    subst (AreOf read f) (same_ok it s m.2)
+    (record {
+      id = id_form_in f.id a.0 a.1;
+      vector = v.1;
+      path = place.0;
+      last = place.1;
+      mutation = mutation_in f.mutation m.0 normal m.1;
+    })
+
 pub operation_in : (d : Data) (s : Stamped) → IsNormal d → operation_form d ≡ Ok s → d ≡ operation_json s
 operation_in d s normal h =
     let f = made_of fields_of (fields_form d) s h in
     let is = fields_in d f.0 f.1 in
     let n = subst IsNormal is normal in
-    let a = made_of
-    (λ a. and_then
-    (λ v. and_then (λ p. and_then (λ m. Ok (record { id = a; vector = v; place = p; mutation = m })) (mutation_form f.0.mutation))
-    (place_form f.0.path f.0.last))
-    (vector_form f.0.vector))
-    (id_form f.0.id) s f.2 in
-    let v = made_of
-    (λ v. and_then (λ p. and_then (λ m. Ok (record { id = a.0; vector = v; place = p; mutation = m })) (mutation_form f.0.mutation))
-    (place_form f.0.path f.0.last))
-    (vector_form f.0.vector) s a.2 in
-    let p = made_of (λ p. and_then (λ m. Ok (record { id = a.0; vector = v.0; place = p; mutation = m })) (mutation_form f.0.mutation))
-    (place_form f.0.path f.0.last) s v.2 in
-    let m = made_of (λ m. Ok (record { id = a.0; vector = v.0; place = p.0; mutation = m })) (mutation_form f.0.mutation) s p.2 in
-    let it : Stamped = record { id = a.0; vector = v.0; place = p.0; mutation = m.0 } in
-    let place = place_in f.0.path f.0.last p.0 p.1 in
+    let of = fields_of_in vector_form f.0 s n.1.1.1.1.1.0 f.2 in
     is
     ∙ (λ i. array
     (item (string (codes "op"))
-    (item (id_form_in f.0.id a.0 a.1 i)
-    (item (vector_in f.0.vector v.0 v.1 i)
-    (item (place.0 i) (item (place.1 i) (item (mutation_in f.0.mutation m.0 n.1.1.1.1.1.0 m.1 i) no_items)))))))
-    ∙ ap operation_json (same_ok it s m.2)
+    (item (of.id i)
+    (item (vector_in f.0.vector s.vector of.vector i)
+    (item (of.path i) (item (of.last i) (item (of.mutation i) no_items)))))))

@@ -6,17 +6,20 @@ use Rattle.std.specs.Str.{is_utf8}
 use Rattle.ids.specs.declared.refusal.Refusal.{Refusal}
 use Rattle.ids.specs.declared.refusal.Refusal.TheVariants.{BadLine}
 use Rattle.semantics.specs.Stamped.{Stamped}
-use Rattle.semantics.specs.Vectors.{Vector}
+use Rattle.semantics.specs.Vectors.{IsCanonical, Vector}
 use Rattle.serde_json.specs.Data.{Data}
 use Rattle.serde_json.specs.Read.{read}
-use Rattle.wire.specs.Bundles.{Readable, all_or_bad, bundle_form, line_readable, lines_readable, tail_readable}
+use Rattle.wire.specs.Bundles.{Readable, all_or_bad, bundle_form, jsons_in, line_readable, lines_readable, tail_readable}
 use Rattle.wire.specs.Forms.{and_then, json_form, phrase_form}
 use Rattle.wire.specs.Lines.{Bad, cut}
 use Rattle.wire.specs.Messages.{hello_form, hello_json, hello_of}
 use Rattle.wire.specs.Operations.{operation_json}
+use Rattle.wire.specs.Profiles.{Profile, json_in, line_form, operation_beside}
 use Rattle.wire.specs.Reading.{op_form, operation_form}
+use Rattle.wire.proofs.BundleBack.{operations_of}
 use Rattle.wire.proofs.NormalNumbers.{IsNormal, read_normal}
 use Rattle.wire.proofs.WrittenBack.{hello_in, made_of, operation_in}
+use Rattle.wire.proofs.WrittenBeside.{beside_in}
 
 pub json_normal : (text : List ℕ) (d : Data) → json_form text ≡ Ok d → IsNormal d
 json_normal text d h = by (is_utf8 text) (read text) refl h
@@ -54,25 +57,64 @@ ended : (tail : List ℕ) → (tail_readable tail).stopped ≡ None → tail ≡
 ended [] h = refl
 ended (b ∷ tail) h = absurd (cc)
 
-lines_in : (ls : List (List ℕ)) (tail : List ℕ) → (lines_readable ls tail).stopped ≡ None
-    → (map json_form ls ≡ map (λ s. Ok (operation_json s)) (lines_readable ls tail).operations) × (tail ≡ [])
-lines_in [] [] h = (refl, refl)
-lines_in [] (b ∷ tail) h = absurd (cc)
-lines_in (l ∷ ls) tail h = by (op_form l) refl (λ e. lines_in ls tail e) h
+-- a line that is read beside a base: JSON of its operation in one of the profiles, whose vector is a base in turn
+record IsLine (base : Vector) (line : List ℕ) (s : Stamped) : Type 0 where
+  profile : Profile
+  is : json_form line ≡ Ok (json_in profile base s)
+  canonical : IsCanonical s.vector
+
+line_in : (base : Vector) (line : List ℕ) (s : Stamped) → IsCanonical base → line_form base line ≡ Ok s → IsLine base line s
+line_in base line s h e =
+    let d = made_of (operation_beside base) (json_form line) s e in
+    let of = beside_in base d.0 s h (json_normal line d.0 d.1) d.2 in
+    record { profile = of.profile; is = d.1 ∙ ap Ok of.is; canonical = of.canonical }
+
+-- lines that are read as these operations
+record AreLines (base : Vector) (ls : List (List ℕ)) (ss : List Stamped) : Type 0 where
+  told : List (Profile × Stamped)
+  operations : operations_of told ≡ ss
+  are : map json_form ls ≡ map (λ d. Ok d) (jsons_in base told)
+
+lines_in : (base : Vector) (ls : List (List ℕ)) (tail : List ℕ) → IsCanonical base → (lines_readable base ls tail).stopped ≡ None
+    → AreLines base ls (lines_readable base ls tail).operations
+lines_in base [] [] canonical h = record { told = []; operations = refl; are = refl }
+lines_in base [] (b ∷ tail) canonical h = absurd (cc)
+lines_in base (l ∷ ls) tail canonical h = by (line_form base l) refl (λ s more e. lines_in s.vector ls tail more e) h
   where
-    by : (r : Result Stamped Refusal) → op_form l ≡ r
-        → ((lines_readable ls tail).stopped ≡ None
-        → (map json_form ls ≡ map (λ s. Ok (operation_json s)) (lines_readable ls tail).operations) × (tail ≡ []))
-        → (line_readable (lines_readable ls tail) r).stopped ≡ None
-        → (map json_form (l ∷ ls) ≡ map (λ s. Ok (operation_json s)) (line_readable (lines_readable ls tail) r).operations)
-        × (tail ≡ [])
-    by (Ok s) is rest e = (let more = rest e in ((λ i. op_line_in l s is i ∷ more.0 i), more.1))
+    by : (r : Result Stamped Refusal) → line_form base l ≡ r
+        → ((s : Stamped) → IsCanonical s.vector → (lines_readable s.vector ls tail).stopped ≡ None
+        → AreLines s.vector ls (lines_readable s.vector ls tail).operations)
+        → (line_readable (λ v. lines_readable v ls tail) r).stopped ≡ None
+        → AreLines base (l ∷ ls) (line_readable (λ v. lines_readable v ls tail) r).operations
+    by (Ok s) is rest e =
+        let line = line_in base l s canonical is in
+        let more = rest s line.canonical e in
+        record {
+          told = (line.profile, s) ∷ more.told;
+          operations = ap (λ (ss : List Stamped). s ∷ ss) more.operations;
+          are = λ i. line.is i ∷ more.are i;
+        }
     by (Err why) is rest e = absurd (cc)
 
-pub bundle_in : (text : List ℕ) (ss : List Stamped) → bundle_form text ≡ Ok ss
-    → (map json_form (cut text).lines ≡ map (λ s. Ok (operation_json s)) ss) × ((cut text).tail ≡ [])
-bundle_in text ss h =
-    let r = lines_readable (cut text).lines (cut text).tail in
+lines_ended : (base : Vector) (ls : List (List ℕ)) (tail : List ℕ) → (lines_readable base ls tail).stopped ≡ None → tail ≡ []
+lines_ended base [] tail h = ended tail h
+lines_ended base (l ∷ ls) tail h = by (line_form base l) (λ v more. lines_ended v ls tail more) h
+  where
+    by : (r : Result Stamped Refusal) → ((v : Vector) → (lines_readable v ls tail).stopped ≡ None → tail ≡ [])
+        → (line_readable (λ v. lines_readable v ls tail) r).stopped ≡ None → tail ≡ []
+    by (Ok s) rest e = rest s.vector e
+    by (Err why) rest e = absurd (cc)
+
+pub bundle_in : (base : Vector) (text : List ℕ) (ss : List Stamped) → IsCanonical base → bundle_form base text ≡ Ok ss
+    → (told : List (Profile × Stamped)) × (operations_of told ≡ ss)
+    × (map json_form (cut text).lines ≡ map (λ d. Ok d) (jsons_in base told))
+bundle_in base text ss canonical h =
+    let r = lines_readable base (cut text).lines (cut text).tail in
     let all = whole r ss h in
-    let read = lines_in (cut text).lines (cut text).tail all.unstopped in
-    (read.0 ∙ ap (map (λ s. Ok (operation_json s))) all.operations, read.1)
+    let read = lines_in base (cut text).lines (cut text).tail canonical all.unstopped in
+    (read.told, read.operations ∙ all.operations, read.are)
+
+pub bundle_ended : (base : Vector) (text : List ℕ) (ss : List Stamped) → bundle_form base text ≡ Ok ss → (cut text).tail ≡ []
+bundle_ended base text ss h =
+    lines_ended base (cut text).lines (cut text).tail
+    (whole (lines_readable base (cut text).lines (cut text).tail) ss h).unstopped

@@ -4,6 +4,7 @@ use Rattle.std.proofs.lemmas.Bool.{ltb-true, ltb-false}
 use Rattle.ids.specs.declared.refusal.Refusal.TheVariants.{BadLine}
 use Rattle.serde_json.specs.declared.value.Value.{Value}
 use Rattle.serde_json.specs.View.{items_view}
+use Rattle.wire.specs.Deltas.{change_of}
 use Rattle.wire.specs.Messages.{only_vector}
 use Rattle.wire.specs.OpIds.{id_of}
 use Rattle.wire.specs.Places.{only_key}
@@ -15,6 +16,12 @@ pair_of-wrong_length [] h = refl
 pair_of-wrong_length (a ∷ []) h = refl
 pair_of-wrong_length (a ∷ b ∷ []) h = absurd (h refl)
 pair_of-wrong_length (a ∷ b ∷ d ∷ xs) h = refl
+
+pub change_of-wrong_length : (xs : List Value) → length xs ≢ 2 → change_of (items_view xs) ≡ Err BadLine
+change_of-wrong_length [] h = refl
+change_of-wrong_length (a ∷ []) h = refl
+change_of-wrong_length (a ∷ b ∷ []) h = absurd (h refl)
+change_of-wrong_length (a ∷ b ∷ d ∷ xs) h = refl
 
 pub only_vector-wrong_length : (xs : List Value) → length xs ≢ 1 → only_vector (items_view xs) ≡ Err BadLine
 only_vector-wrong_length [] h = refl
@@ -55,6 +62,7 @@ pub ruleset wrong_lengths = (
   ltb-true,
   ltb-false,
   pair_of-wrong_length,
+  change_of-wrong_length,
   only_vector-wrong_length,
   id_of-wrong_length,
   only_key-wrong_length,

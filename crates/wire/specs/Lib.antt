@@ -3,6 +3,7 @@ pub mod Forms
 pub mod Lines
 pub mod OpIds
 pub mod Vectors
+pub mod Deltas
 pub mod Places
 pub mod Operations
 pub mod Reading
@@ -10,4 +11,5 @@ pub mod Parts
 pub mod Sent
 pub mod Writing
 pub mod Messages
+pub mod Profiles
 pub mod Bundles

@@ -6,6 +6,7 @@ use Rattle.ids.specs.declared.refusal.Refusal.TheVariants.{BadLine}
 use Rattle.semantics.specs.Elements.{Value}
 use Rattle.semantics.specs.Operations.{Mutation, Assign, Insert, Delete}
 use Rattle.semantics.specs.Stamped.{Stamped}
+use Rattle.semantics.specs.Vectors.{Vector}
 use Rattle.serde_json.specs.Data.{Data, Items, no_items, item}
 use Rattle.operation.specs.value.Forms.{value_form}
 use Rattle.wire.specs.Forms.{and_then, json_form, phrase_form}
@@ -55,11 +56,15 @@ parts_after p = if bytes_eq p.0 (codes "op") then five_parts p.1 else Err BadLin
 abbrev pub fields_form : Data → Result Fields Refusal
 fields_form d = and_then parts_after (phrase_form d)
 
--- what they are: an id, a vector, a path with its last key, and what is done
-abbrev pub fields_of : Fields → Result Stamped Refusal
-fields_of f =
+-- what they are, where the vector is read in this way: an id, a vector, a path with its last key, and what is done
+abbrev pub fields_with : (Data → Result Vector Refusal) → Fields → Result Stamped Refusal
+fields_with read_vector f =
     and_then (λ a. and_then (λ v. and_then (λ p. and_then (λ m. Ok (record { id = a; vector = v; place = p; mutation = m }))
-    (mutation_form f.mutation)) (place_form f.path f.last)) (vector_form f.vector)) (id_form f.id)
+    (mutation_form f.mutation)) (place_form f.path f.last)) (read_vector f.vector)) (id_form f.id)
+
+-- what they are, with their whole vector
+abbrev pub fields_of : Fields → Result Stamped Refusal
+fields_of f = fields_with vector_form f
 
 -- the operation that JSON stands for
 abbrev pub operation_form : Data → Result Stamped Refusal

@@ -1,4 +1,4 @@
-//! A quick way to read the lines that `write_op` writes, with no JSON value in between.
+//! A quick way to read the lines that `write_op` and `BundleWriter` write, with no JSON value in between.
 //!
 //! The bytes of a line are taken apart in the one form in which operations are written, and anything else is given up (`Scan`). The
 //! operation that this leads to is written again, and only where that gives the very same bytes is it the line's. So what is read
@@ -7,15 +7,17 @@
 ghost use Rattle.std.specs.Prelude.{◌≡◌, ◌&&◌, Ok, IfSome, map};
 ghost use Rattle.std.specs.Bool.{OnTrue};
 ghost use Rattle.std.specs.List.{list_all};
+ghost use Rattle.ids.specs.Vectors.{IsCanonical};
 ghost use Rattle.semantics.specs.Operations.{element_of};
 ghost use Rattle.semantics.specs.Paths.{hops_from_root};
 ghost use Rattle.operation.specs.Ops.{stamped_of};
+ghost use Rattle.wire.specs.Profiles.{line_form};
 ghost use Rattle.wire.specs.Reading.{op_form};
 ghost use Rattle.wire.specs.Sent.{are_counters, is_counter, key_counted};
 ghost use Rattle.operation.specs.cursor.Steps.{hop_of};
 
 use crate::scan::Scan;
-use crate::writing::with_line;
+use crate::writing::{with_line, with_line_beside};
 use ids::{MOST_COUNTER, OpId};
 use operation::{Hop, Op};
 use std::alloc::Global;
@@ -23,7 +25,7 @@ use std::alloc::Global;
 /// How much more room the writer asks for than the line has bytes.
 const ROOM_AHEAD: usize = 8;
 
-/// No line without an escape is longer: it has at most 256 pairs of 33 bytes, 33 keys of 265, and a text of 4,096. Longer ones are left to
+/// No line without an escape is longer: it has at most 512 pairs of 33 bytes, 33 keys of 265, and a text of 4,096. Longer ones are left to
 /// the JSON reader, before anything is asked for.
 const LONGEST: usize = 1 << 15;
 
@@ -43,6 +45,21 @@ pub(crate) fn read_canonical(alloc: Global, text: &[u8]) -> Option<Op>
     Some(op)
 }
 
+/// The operation on a line of profile 2 beside a base, in the form in which it is written there. `None` as above.
+pub(crate) fn read_canonical_beside(alloc: Global, base: &[OpId], text: &[u8]) -> Option<Op>
+    requires { IsCanonical base.now }
+    ensures { IfSome result (λ o. line_form base.now text.now ≡ Ok (stamped_of o)) }
+{
+    if text.len() > LONGEST {
+        return None;
+    }
+    let op = Scan::new(text).op_beside(alloc, base)?;
+    if !writes_back_beside(alloc, base, text, &op) {
+        return None;
+    }
+    Some(op)
+}
+
 /// Whether the text is the line of the operation, which can be sent.
 fn writes_back_as(alloc: Global, text: &[u8], op: &Op) -> bool
     ensures { OnTrue result (op_form text.now ≡ Ok (stamped_of op.now)) }
@@ -57,6 +74,23 @@ fn writes_back_as(alloc: Global, text: &[u8], op: &Op) -> bool
         Ok(line) => line.as_slice() == text,
         Err(_) => false,
     }
+}
+
+/// Whether the text is the line of the operation beside a base, where it can be sent.
+fn writes_back_beside(alloc: Global, base: &[OpId], text: &[u8], op: &Op) -> bool
+    requires { IsCanonical base.now }
+    ensures { OnTrue result (line_form base.now text.now ≡ Ok (stamped_of op.now)) }
+{
+    if !is_counted(op) {
+        return false;
+    }
+    let Ok(room) = Vec::with_capacity(alloc, text.len() + ROOM_AHEAD) else {
+        return false;
+    };
+    let Ok(line) = with_line_beside(room, base, op) else {
+        return false;
+    };
+    line.as_slice() == text
 }
 
 /// Whether the counters of the id, the vector and the items of the place are those of the wire.

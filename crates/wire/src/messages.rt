@@ -26,7 +26,7 @@ use serde_json::Value;
 use std::alloc::{AllocError, Global};
 
 /// Room for a line of usual length.
-const LINE_BYTES: usize = 128;
+pub(crate) const LINE_BYTES: usize = 128;
 
 /// The line of an operation. Where its counters are those of the wire, `read_op` reads it as the same operation.
 ///

@@ -2,6 +2,7 @@
 #![tactic(auto, using(crate::proofs::WrongLengths::wrong_lengths))]
 
 ghost use Rattle.std.specs.Prelude.{◌≡◌, MatchResult, Ok, Err};
+ghost use Rattle.ids.specs.Vectors.{IsCanonical};
 ghost use Rattle.serde_json.specs.View.{view, items_view};
 ghost use Rattle.semantics.specs.Operations.{Delete};
 ghost use Rattle.operation.specs.value.Values.{value_of};
@@ -10,9 +11,11 @@ ghost use Rattle.wire.specs.Forms.{IsRead, IsOrNoMemory};
 ghost use Rattle.wire.specs.Parts.{fields_meant};
 ghost use Rattle.wire.specs.OpIds.{id_form};
 ghost use Rattle.wire.specs.Places.{place_form};
-ghost use Rattle.wire.specs.Reading.{fields_form, five_parts, mutation_form, nothing_more, only_value, operation_form};
+ghost use Rattle.wire.specs.Profiles.{fields_beside, operation_beside};
+ghost use Rattle.wire.specs.Reading.{fields_form, fields_of, five_parts, mutation_form, nothing_more, only_value, operation_form};
 ghost use Rattle.wire.specs.Vectors.{vector_form};
 
+use crate::changes::delta_in;
 use crate::forms::phrase_in;
 use crate::op_ids::id_in;
 use crate::places::place_in;
@@ -26,17 +29,20 @@ use std::alloc::Global;
 pub(crate) fn operation_in(alloc: Global, value: &Value) -> Result<Op, Refusal>
     ensures { IsRead stamped_of result (operation_form (view value.now)) }
 {
-    let fields = OperationFields::of(value)?;
-    let id = fields.id()?;
-    let deps = fields.vector(alloc)?;
-    let place = fields.place(alloc)?;
-    let mutation = fields.mutation(alloc)?;
-    Ok(Op {
-        id,
-        deps,
-        place,
-        mutation,
-    })
+    OperationFields::of(value)?.operation(alloc)
+}
+
+/// The operation of a JSON value of either profile, beside a base. The first fault from the left decides.
+pub(crate) fn operation_beside(alloc: Global, base: &[OpId], value: &Value) -> Result<Op, Refusal>
+    requires { IsCanonical base.now }
+    ensures { IsRead stamped_of result (operation_beside base.now (view value.now)) }
+{
+    let (word, parts) = phrase_in(value)?;
+    match word {
+        "op" => OperationFields::of_parts(parts)?.operation(alloc),
+        "op2" => OperationFields::of_parts(parts)?.operation_beside(alloc, base),
+        _ => Err(Refusal::BadLine),
+    }
 }
 
 /// The fields of an operation, unread. Each method reads its own field and gives that field's refusals alone, so another way to
@@ -75,6 +81,39 @@ impl<'a> OperationFields<'a> {
             vector,
             path,
             last,
+            mutation,
+        })
+    }
+
+    /// The operation with its whole vector.
+    fn operation(&self, alloc: Global) -> Result<Op, Refusal>
+        ensures { IsRead stamped_of result (fields_of (fields_meant self.now)) }
+    {
+        let id = self.id()?;
+        let deps = self.vector(alloc)?;
+        let place = self.place(alloc)?;
+        let mutation = self.mutation(alloc)?;
+        Ok(Op {
+            id,
+            deps,
+            place,
+            mutation,
+        })
+    }
+
+    /// The operation whose vector stands as what changed from a base.
+    fn operation_beside(&self, alloc: Global, base: &[OpId]) -> Result<Op, Refusal>
+        requires { IsCanonical base.now }
+        ensures { IsRead stamped_of result (fields_beside base.now (fields_meant self.now)) }
+    {
+        let id = self.id()?;
+        let deps = delta_in(alloc, base, self.vector)?;
+        let place = self.place(alloc)?;
+        let mutation = self.mutation(alloc)?;
+        Ok(Op {
+            id,
+            deps,
+            place,
             mutation,
         })
     }

@@ -1,8 +1,12 @@
-//! The bytes of a line, taken apart in the one form in which an operation is written.
+//! The bytes of a line, taken apart in the one form in which an operation is written, of either profile.
 //!
 //! Nothing is asked of what these methods find, since it is written again and compared: commas, tags and the end of a line are passed
 //! without much care. Each takes a number of steps that its part of the line bounds, and none calls itself.
 
+ghost use Rattle.std.specs.Bool.{OnTrue};
+ghost use Rattle.ids.specs.Vectors.{AreBelow, IsCanonical};
+
+use crate::deltas::behind;
 use crate::escapes::{closed_at, unescaped};
 use ids::{MOST_NAMED, NamedVector, OpId, ReplicaId};
 use memchr::{memchr, memmem};
@@ -11,6 +15,9 @@ use std::alloc::Global;
 
 /// The most digits that a number of 64 bits has.
 const MOST_DIGITS: usize = 20;
+
+/// The most pairs that can differ between two vectors.
+const MOST_CHANGES: usize = 2 * MOST_NAMED;
 
 /// The bytes of a line that are left. Each method takes its part off the front, or gives up.
 #[derive(Drop)]
@@ -29,11 +36,26 @@ impl<'a> Scan<'a> {
         }
     }
 
-    /// The operation. `None` where the line has another form, or where memory is refused.
+    /// The operation with its whole vector. `None` where the line has another form, or where memory is refused.
     pub(crate) fn op(&mut self, alloc: Global) -> Option<Op> {
         self.bytes(b"[\"op\",")?;
         let id = self.id()?;
         let deps = self.vector(alloc)?;
+        self.op_with(alloc, id, deps)
+    }
+
+    /// The operation whose vector stands as what changed from a base. `None` as above.
+    pub(crate) fn op_beside(&mut self, alloc: Global, base: &[OpId]) -> Option<Op>
+        requires { IsCanonical base.now }
+    {
+        self.bytes(b"[\"op2\",")?;
+        let id = self.id()?;
+        let deps = self.changed_vector(alloc, base)?;
+        self.op_with(alloc, id, deps)
+    }
+
+    /// The operation with this id and vector.
+    fn op_with(&mut self, alloc: Global, id: OpId, deps: NamedVector) -> Option<Op> {
         let place = self.place(alloc)?;
         let mutation = self.mutation(alloc)?;
         Some(Op {
@@ -69,6 +91,27 @@ impl<'a> Scan<'a> {
             self.takes(b',');
         }
         self.byte(b']')?;
+        Some(vector)
+    }
+
+    /// The vector that a base becomes by the changes after their comma: pairs whose counter may be 0. Passes both once, and asks for room
+    /// once.
+    fn changed_vector(&mut self, alloc: Global, base: &[OpId]) -> Option<NamedVector> {
+        self.bytes(b",[")?;
+        let most = base.len().saturating_add(self.count_pairs()?);
+        let mut vector = NamedVector::with_capacity(alloc, most.min(MOST_NAMED)).ok()?;
+        let mut rest = base;
+        for _ in 0..MOST_CHANGES {
+            if self.peek()? == b']' {
+                break;
+            }
+            let change = self.pair()?;
+            rest = put_before(&mut vector, rest, change.replica)?;
+            put(&mut vector, change)?;
+            self.takes(b',');
+        }
+        self.byte(b']')?;
+        put_all(&mut vector, rest)?;
         Some(vector)
     }
 
@@ -279,4 +322,52 @@ impl<'a> Scan<'a> {
 fn id_of(counter: u64, replica: u64) -> Option<OpId> {
     let replica = ReplicaId::new(u32::try_from(replica).ok()?)?;
     Some(OpId { counter, replica })
+}
+
+/// Puts the pairs of the replicas below this one behind those of the vector. What is behind them and that replica is left.
+fn put_before<'a>(
+    vector: &mut NamedVector,
+    pairs: &'a [OpId],
+    replica: ReplicaId,
+) -> Option<&'a [OpId]> {
+    let mut rest = pairs;
+    while let Some((first, others)) = rest.split_first() {
+        if first.replica >= replica {
+            break;
+        }
+        put(vector, *first)?;
+        rest = others;
+    }
+    Some(behind(rest, replica))
+}
+
+/// Puts pairs behind those of the vector.
+fn put_all(vector: &mut NamedVector, pairs: &[OpId]) -> Option<()> {
+    for pair in pairs {
+        put(vector, *pair)?;
+    }
+    Some(())
+}
+
+/// Puts a pair behind those of the vector, unless its counter is 0. `None` if the vector has no room, or its replica isn't above theirs.
+fn put(vector: &mut NamedVector, pair: OpId) -> Option<()> {
+    if pair.counter == 0 {
+        return Some(());
+    }
+    let ids = vector.ids();
+    if ids.len() >= MOST_NAMED || !is_above(ids, pair.replica) {
+        return None;
+    }
+    vector.push(pair).ok()
+}
+
+/// Whether a replica is above all that these pairs name.
+fn is_above(pairs: &[OpId], replica: ReplicaId) -> bool
+    requires { IsCanonical pairs.now }
+    ensures { OnTrue result (AreBelow replica pairs.now) }
+{
+    match pairs.split_last() {
+        None => true,
+        Some((last, _)) => last.replica < replica,
+    }
 }

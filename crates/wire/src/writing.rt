@@ -1,21 +1,25 @@
 //! Operations, their ids, vectors and values, as they are written: token by token into a text, with no JSON value in between.
 
 ghost use Rattle.std.specs.Prelude.{◌≡◌, ◌++◌, ◌∷◌, [], ℕ, List, map, IfOk, Ok, OnOk};
+ghost use Rattle.ids.specs.Vectors.{IsCanonical};
 ghost use Rattle.serde_json.specs.Data.{Data};
 ghost use Rattle.semantics.specs.Elements.{Plain};
 ghost use Rattle.operation.specs.cursor.Steps.{hop_of};
 ghost use Rattle.operation.specs.value.Forms.{IsWithinLimits, json_of, scalar_json};
 ghost use Rattle.operation.specs.value.Values.{scalar_of, value_of};
 ghost use Rattle.operation.specs.Ops.{mutation_of, stamped_of};
+ghost use Rattle.wire.specs.Deltas.{delta};
 ghost use Rattle.wire.specs.Messages.{op_line};
 ghost use Rattle.wire.specs.Operations.{entered_json, id_json, last_from, last_json, mutation_json, operation_json, parts_from};
 ghost use Rattle.wire.specs.Operations.{path_json, phrase, root_json};
+ghost use Rattle.wire.specs.Profiles.{IsSentBeside, line_form, op2_json, op2_line};
 ghost use Rattle.wire.specs.Reading.{op_form};
 ghost use Rattle.wire.specs.Sent.{AreReplicaNumbers, AreTypedKeys, CanBeSent, IsReplicaNumber, IsSent, IsSentMutation, IsTypedKey};
 ghost use Rattle.wire.specs.Sent.{IsTypedPlace};
 ghost use Rattle.wire.specs.Vectors.{pair_json, vector_json};
 ghost use Rattle.wire.specs.Writing.{IsWritten, key_before, key_of, tokens_of, tokens_of_all};
 
+use crate::deltas::Differences;
 use ids::OpId;
 use json::Writer;
 use operation::{Hop, MOST_KEY_BYTES, MOST_KEYS, Mutation, Op, Place, Scalar, Val};
@@ -36,6 +40,21 @@ pub(crate) fn with_line(text: Vec<u8>, op: &Op) -> Result<Vec<u8>, AllocError>
     Ok(out.into_inner())
 }
 
+/// The text with the line of the operation beside a base after what it holds, as `with_line`.
+///
+/// # Errors
+/// `AllocError` if allocation fails.
+pub(crate) fn with_line_beside(text: Vec<u8>, base: &[OpId], op: &Op) -> Result<Vec<u8>, AllocError>
+    requires { IsCanonical base.now }
+    ensures line { IfOk result (λ t. t.items ≡ text.items ++ op2_line base.now (stamped_of op.now)) }
+    ensures reads_back { OnOk result
+        (CanBeSent (stamped_of op.now) → line_form base.now (op2_line base.now (stamped_of op.now)) ≡ Ok (stamped_of op.now)) }
+{
+    let mut out = Writer::new(text);
+    put_op_beside(&mut out, base, op)?;
+    Ok(out.into_inner())
+}
+
 /// Writes an operation.
 ///
 /// # Errors
@@ -49,6 +68,22 @@ pub fn put_op(out: &mut Writer, op: &Op) -> Result<(), AllocError>
     out.string("op")?;
     put_id(out, op.id)?;
     put_vector(out, op.deps.ids())?;
+    put_place(out, &op.place)?;
+    put_mutation(out, &op.mutation)?;
+    out.end_array()
+}
+
+/// Writes an operation, whose vector stands as its differences from a base.
+fn put_op_beside(out: &mut Writer, base: &[OpId], op: &Op) -> Result<(), AllocError>
+    requires { IsCanonical base.now }
+    ensures json { OnOk result (IsWritten (tokens_of (op2_json base.now (stamped_of op.now))) out.old out.new) }
+    ensures sent { OnOk result (CanBeSent (stamped_of op.now) → IsSentBeside base.now (stamped_of op.now)) }
+{
+    prove!(op.id.replica.number() >= 1);
+    out.begin_array()?;
+    out.string("op2")?;
+    put_id(out, op.id)?;
+    put_differences(out, base, op.deps.ids())?;
     put_place(out, &op.place)?;
     put_mutation(out, &op.mutation)?;
     out.end_array()
@@ -89,6 +124,20 @@ pub fn put_vector(out: &mut Writer, ids: &[OpId]) -> Result<(), AllocError>
     out.begin_array()?;
     for id in ids {
         put_pair(out, *id)?;
+    }
+    out.end_array()
+}
+
+/// Writes a pair for each difference of these ids from a base.
+fn put_differences(out: &mut Writer, base: &[OpId], ids: &[OpId]) -> Result<(), AllocError>
+    requires base { IsCanonical base.now }
+    requires ids { IsCanonical ids.now }
+    ensures json { OnOk result (IsWritten (tokens_of (vector_json (delta base.now ids.now))) out.old out.new) }
+    ensures typed { OnOk result (AreReplicaNumbers (delta base.now ids.now)) }
+{
+    out.begin_array()?;
+    for id in Differences::new(base, ids) {
+        put_pair(out, id)?;
     }
     out.end_array()
 }

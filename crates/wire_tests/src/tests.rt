@@ -1,8 +1,12 @@
 //! Lines with values from the rules, and each call once where it succeeds.
 
+mod beside_lines;
 mod bundles;
 mod canonical_lines;
+mod many_pairs;
+mod mixtures;
 mod operations;
+mod refused_memory;
 mod vectors;
 
 use cursor::Place;
@@ -10,15 +14,26 @@ use fixtures::{field, id_of};
 use ids::Refusal;
 use operation::{Mutation, Op, Shared};
 use std::alloc::{AllocError, Global};
-use value::Val;
+use std::process::Abort;
+use value::{Scalar, Val};
+use wire::write_op;
 
-/// The operations of a shopping list: a map, a list in it, and three items.
+/// The operations of a shopping list: a map, a list in it, and three items. In profile 1.
 const LINES: [&str; 5] = [
     r#"["op",[1,1],[],[],0,["a",{}]]"#,
     r#"["op",[2,1],[[1,1]],[["m",0]],"shopping",["a",[]]]"#,
     r#"["op",[3,1],[[1,2]],[["m",0],["l","shopping"]],1,["i","eggs"]]"#,
     r#"["op",[4,1],[[1,3]],[["m",0],["l","shopping"]],1,["i","cheese"]]"#,
     r#"["op",[5,1],[[1,4]],[["m",0],["l","shopping"]],[3,1],["i","milk"]]"#,
+];
+
+/// The same in profile 2, each beside the one before. All are replica 1's, so each vector differs from the one before in its only pair.
+const BESIDE: [&str; 5] = [
+    r#"["op2",[1,1],[],[],0,["a",{}]]"#,
+    r#"["op2",[2,1],[[1,1]],[["m",0]],"shopping",["a",[]]]"#,
+    r#"["op2",[3,1],[[1,2]],[["m",0],["l","shopping"]],1,["i","eggs"]]"#,
+    r#"["op2",[4,1],[[1,3]],[["m",0],["l","shopping"]],1,["i","cheese"]]"#,
+    r#"["op2",[5,1],[[1,4]],[["m",0],["l","shopping"]],[3,1],["i","milk"]]"#,
 ];
 
 /// The key of the list.
@@ -38,7 +53,9 @@ enum At {
 enum Does<'a> {
     Map,
     List,
+    Number(i64),
     Insert(&'a str),
+    Delete,
 }
 
 /// How many operations of replica 1 come before an operation of it, where it stands, and what it does.
@@ -77,7 +94,9 @@ fn mutation(alloc: Global, does: Does) -> Result<Mutation, Refusal> {
     match does {
         Does::Map => Ok(Mutation::Assign(Val::EmptyMap)),
         Does::List => Ok(Mutation::Assign(Val::EmptyList)),
+        Does::Number(number) => Ok(Mutation::Assign(Val::Scalar(Scalar::Whole(number)))),
         Does::Insert(words) => Ok(Mutation::Insert(Val::text(alloc, words)?)),
+        Does::Delete => Ok(Mutation::Delete),
     }
 }
 
@@ -102,6 +121,13 @@ fn list_of_five(alloc: Global) -> Result<Vec<Shared<Op>>, Refusal> {
         ops.push(op(alloc, row)?)?;
     }
     Ok(ops)
+}
+
+/// Asserts that the line of profile 1 is the operation's.
+fn is_op(rt: &impl Abort, alloc: Global, op: &Op, want: &str) -> Result<(), Refusal> {
+    let whole = write_op(alloc, op)?;
+    assert_eq!(rt; whole.as_slice(), want.as_bytes());
+    Ok(())
 }
 
 /// The parts of a text, joined.

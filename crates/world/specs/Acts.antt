@@ -1,4 +1,5 @@
 -- Steps, replies, clients and messages of the program as those of the definitions.
+use Rattle.std.specs.Prelude.{[]}
 use Rattle.semantics.specs.Questions.{Refused as NotAnswered}
 use Rattle.semantics.specs.LegalAnswer.{Answered}
 use Rattle.semantics.specs.Engine as engine
@@ -26,7 +27,7 @@ act_of (act.Learn t c serial) = world.Learn t c serial
 act_of (act.SayHello t) = world.SayHello t
 act_of (act.AnswerHello t k) = world.AnswerHello t k
 act_of (act.Deliver c k) = world.Deliver c k
-act_of (act.Line c text) = world.Lines c (readable text.items).operations (readable text.items).stopped
+act_of (act.Line c text) = world.Lines c (readable [] text.items).operations (readable [] text.items).stopped
 act_of act.Dropped = world.CountDropped
 
 -- a step

@@ -57,7 +57,7 @@ pub enum WorldAct {
         client: usize,
         message: usize,
     },
-    /// A client receives bytes of any origin, as lines of operations.
+    /// A client receives bytes of any origin, as lines of operations in either profile.
     Line {
         client: usize,
         text: Vec<u8>,

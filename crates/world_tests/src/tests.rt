@@ -1,5 +1,6 @@
 //! What worlds reply, by examples.
 
+mod differences;
 mod documents;
 mod lives;
 mod peers;

@@ -1,10 +1,12 @@
 //! Whether what was written is read as the same. It is proved that it is: a run tests what a compiler made of it.
 
-ghost use Rattle.std.specs.Prelude.{◌≡◌, List, map, Ok, IfOk, IsTrue};
+ghost use Rattle.std.specs.Prelude.{◌≡◌, List, [], map, Ok, IfOk, IsTrue};
 ghost use Rattle.std.specs.List.{All};
 ghost use Rattle.semantics.specs.Stamped.{Stamped};
 ghost use Rattle.operation.specs.Ops.{stamped_of};
 ghost use Rattle.wire.specs.Bundles.{bundle_form, bundle_text};
+ghost use Rattle.wire.specs.Messages.{op_line};
+ghost use Rattle.wire.specs.Reading.{op_form};
 ghost use Rattle.wire.specs.Sent.{CanBeSent};
 
 use crate::lines::samples::Sample;
@@ -12,14 +14,14 @@ use ids::Refusal;
 use operation::{Op, Shared};
 use std::alloc::{AllocError, Global};
 use std::io;
-use wire::{read_bundle, write_bundle};
+use wire::{read_bundle, read_op, write_bundle, write_op};
 
-/// Prints for each sample whether what is written of it is read back.
+/// Prints for each sample whether what is written of it in each profile is read back.
 pub fn compare(rt: &impl Print, alloc: Global, samples: &[Sample]) -> io::Result<()> {
     for sample in samples {
         let name = sample.name;
         let count = sample.ops.len();
-        match is_read_back(alloc, sample.ops.as_slice()) {
+        match are_read_back(alloc, sample.ops.as_slice()) {
             Ok(true) => println!(rt; "{name}: all of {count} are read back")?,
             Ok(false) => println!(rt; "{name}: others are read back")?,
             Err(AllocError) => println!(rt; "{name}: no memory")?,
@@ -28,16 +30,26 @@ pub fn compare(rt: &impl Print, alloc: Global, samples: &[Sample]) -> io::Result
     Ok(())
 }
 
+/// Whether the operations are read back, of a bundle in profile 2 and of a line each in profile 1.
+///
+/// # Errors
+/// `AllocError` if allocation fails.
+fn are_read_back(alloc: Global, ops: &[Shared<Op>]) -> Result<bool, AllocError>
+    ensures sent { All (λ o. CanBeSent (stamped_of o)) ops.now → IfOk result IsTrue }
+{
+    Ok(is_bundle_read_back(alloc, ops)? && are_lines_read_back(alloc, ops)?)
+}
+
 /// Whether a bundle of the operations is read back, and what is read is written as the same bundle.
 ///
 /// # Errors
 /// `AllocError` if allocation fails.
-fn is_read_back(alloc: Global, ops: &[Shared<Op>]) -> Result<bool, AllocError>
+fn is_bundle_read_back(alloc: Global, ops: &[Shared<Op>]) -> Result<bool, AllocError>
     ensures sent { All (λ o. CanBeSent (stamped_of o)) ops.now → IfOk result IsTrue }
     ensures same { IfOk result
         (λ same. IsTrue same
-        → (again : List Stamped) × (bundle_form (bundle_text (map stamped_of ops.now)) ≡ Ok again)
-        × (bundle_text again ≡ bundle_text (map stamped_of ops.now))) }
+        → (again : List Stamped) × (bundle_form [] (bundle_text [] (map stamped_of ops.now)) ≡ Ok again)
+        × (bundle_text [] again ≡ bundle_text [] (map stamped_of ops.now))) }
 {
     let text = write_bundle(alloc, ops)?;
     match read_bundle(alloc, text.as_slice()) {
@@ -46,6 +58,39 @@ fn is_read_back(alloc: Global, ops: &[Shared<Op>]) -> Result<bool, AllocError>
             Ok(rewritten.as_slice() == text.as_slice())
         }
         Err((_, Refusal::NoMemory)) => Err(AllocError),
+        Err(_) => Ok(false),
+    }
+}
+
+/// Whether the line of each operation is read back, and what is read is written as the same line.
+///
+/// # Errors
+/// `AllocError` if allocation fails.
+fn are_lines_read_back(alloc: Global, ops: &[Shared<Op>]) -> Result<bool, AllocError>
+    ensures sent { All (λ o. CanBeSent (stamped_of o)) ops.now → IfOk result IsTrue }
+{
+    for op in ops {
+        if !is_line_read_back(alloc, op)? {
+            return Ok(false);
+        }
+    }
+    Ok(true)
+}
+
+/// The same of one operation.
+fn is_line_read_back(alloc: Global, op: &Op) -> Result<bool, AllocError>
+    ensures sent { CanBeSent (stamped_of op.now) → IfOk result IsTrue }
+    ensures same { IfOk result
+        (λ same. IsTrue same
+        → (again : Stamped) × (op_form (op_line (stamped_of op.now)) ≡ Ok again) × (op_line again ≡ op_line (stamped_of op.now))) }
+{
+    let line = write_op(alloc, op)?;
+    match read_op(alloc, line.as_slice()) {
+        Ok(again) => {
+            let rewritten = write_op(alloc, &again)?;
+            Ok(rewritten.as_slice() == line.as_slice())
+        }
+        Err(Refusal::NoMemory) => Err(AllocError),
         Err(_) => Ok(false),
     }
 }

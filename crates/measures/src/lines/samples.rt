@@ -1,6 +1,6 @@
 //! The operations that are written and read.
 
-ghost use Rattle.std.specs.Prelude.{◌≡◌, length, IfOk};
+ghost use Rattle.std.specs.Prelude.{◌≡◌, ◌<◌, length, IfOk};
 
 use ids::Refusal;
 use operation::{Op, Shared};
@@ -23,19 +23,25 @@ const SHOPPING: [&str; 5] = [
     r#"["op",[5,1],[[1,4]],[["m",0],["l","shopping"]],[3,1],["i","milk"]]"#,
 ];
 
-/// How many replicas the longer vector names.
-const REPLICAS: u32 = 64;
+/// How many operations one of many replicas makes.
+const INSERTS: u32 = 50;
+
+/// How many operations of each replica came before them.
+const BEFORE: u32 = 1_000;
 
 /// All samples.
 ///
 /// # Errors
 /// `NoMemory` if allocation fails, or the refusal of `read_op` for a line.
 pub fn all_samples(alloc: Global) -> Result<Vec<Sample>, Refusal>
-    ensures { IfOk result (λ samples. length samples.items ≡ 2) }
+    ensures { IfOk result (λ samples. length samples.items ≡ 5) }
 {
     let mut samples = Vec::new(alloc);
     samples.push(shopping_list(alloc)?)?;
-    samples.push(insert_after_all(alloc)?)?;
+    samples.push(inserts_after_all(alloc, "inserts of one of 2 replicas", 2)?)?;
+    samples.push(inserts_after_all(alloc, "inserts of one of 4 replicas", 4)?)?;
+    samples.push(inserts_after_all(alloc, "inserts of one of 32 replicas", 32)?)?;
+    samples.push(inserts_after_all(alloc, "inserts of one of 256 replicas", 256)?)?;
     Ok(samples)
 }
 
@@ -53,22 +59,34 @@ fn shopping_list(alloc: Global) -> Result<Sample, Refusal>
     })
 }
 
-/// An operation whose vector names a thousand operations of each of 64 replicas.
-fn insert_after_all(alloc: Global) -> Result<Sample, Refusal>
-    ensures { IfOk result (λ s. length s.ops.items ≡ 1) }
+/// Operations of one of so many replicas, whose vectors name all that came before.
+fn inserts_after_all(alloc: Global, name: &'static str, replicas: u32) -> Result<Sample, Refusal>
+    ensures { IfOk result (λ s. length s.ops.items ≡ 50) }
 {
-    let mut pairs = String::new(alloc);
-    for number in 1..=REPLICAS {
-        let comma = if number > 1 { "," } else { "" };
-        pairs.push_str(format!(in alloc; "{comma}[{number},1000]")?.as_str())?;
-    }
-    let line = format!(in alloc;
-        r#"["op",[1001,1],[{pairs}],[["m",0],["l","shopping"]],1,["i","eggs"]]"#
-    )?;
+    let others = other_pairs(alloc, replicas)?;
     let mut ops = Vec::new(alloc);
-    ops.push(read_op(alloc, line.as_bytes())?)?;
-    Ok(Sample {
-        name: "an insert beside 64 members",
-        ops,
-    })
+    for number in 0..INSERTS {
+        ops.push(insert_after(alloc, BEFORE + number, others.as_str())?)?;
+    }
+    Ok(Sample { name, ops })
+}
+
+/// The pairs of a vector for the other replicas, each with a comma before it.
+fn other_pairs(alloc: Global, replicas: u32) -> Result<String, Refusal> {
+    let mut pairs = String::new(alloc);
+    for number in 2..=replicas {
+        pairs.push_str(format!(in alloc; ",[{number},{BEFORE}]")?.as_str())?;
+    }
+    Ok(pairs)
+}
+
+/// The insert of replica 1 after its operation with this counter and those of the others.
+fn insert_after(alloc: Global, counter: u32, others: &str) -> Result<Shared<Op>, Refusal>
+    requires { counter < 2000 }
+{
+    let next = counter + 1;
+    let line = format!(in alloc;
+        r#"["op",[{next},1],[[1,{counter}]{others}],[["m",0],["l","shopping"]],1,["i","eggs"]]"#
+    )?;
+    read_op(alloc, line.as_bytes())
 }

@@ -8,8 +8,25 @@ use std::alloc::Global;
 use std::process::Abort;
 use std::sync::Wait;
 
-/// How many bytes its first lines have, line feeds included: none of them, the first, the first two, and so on.
-const WHOLE: [usize; 6] = [0, 30, 81, 144, 209, 276];
+/// The five lines of a profile, and how many bytes the first ones have, line feeds included: none of them, the first, the first two, and
+/// so on.
+#[derive(Clone, Copy)]
+struct Bundle {
+    text: &'static str,
+    whole: [usize; 6],
+}
+
+/// As an engine sends them.
+const SENT: Bundle = Bundle {
+    text: FIVE,
+    whole: [0, 31, 83, 147, 213, 281],
+};
+
+/// In profile 1.
+const ALONE: Bundle = Bundle {
+    text: FIVE_ALONE,
+    whole: [0, 30, 81, 144, 209, 276],
+};
 
 /// The hello of an engine that has handled none of them, the first, the first two, and so on.
 const HELLOS: [&str; 6] = [
@@ -21,20 +38,36 @@ const HELLOS: [&str; 6] = [
     "[\"hello\",[[1,5]]]\n",
 ];
 
+/// A cut within a line stops there, and what is whole before it is received, of a bundle as it is sent.
 #[test]
 fn a_cut_stops_after_the_last_whole_line(rt: HostRuntime) -> Result<(), Fail> {
-    assert_eq!(rt; FIVE.len(), 276);
+    assert_eq!(rt; SENT.text.len(), 281);
+    for length in 0..=281 {
+        receive_cut(&rt, rt.alloc(), &SENT, length)?;
+    }
+    Ok(())
+}
+
+/// The same of a bundle of profile 1.
+#[test]
+fn a_cut_stops_in_profile_1_too(rt: HostRuntime) -> Result<(), Fail> {
+    assert_eq!(rt; ALONE.text.len(), 276);
     for length in 0..=276 {
-        receive_cut(&rt, rt.alloc(), length)?;
+        receive_cut(&rt, rt.alloc(), &ALONE, length)?;
     }
     Ok(())
 }
 
 /// Asserts what a new engine receives of the first `length` bytes of the five lines.
-fn receive_cut<R: Wait + Abort>(rt: &R, alloc: Global, length: usize) -> Result<(), Fail> {
-    let cut = FIVE.get(..length).ok_or("no such cut")?;
-    let whole = whole_lines(length);
-    let stopped = if WHOLE.contains(&length) {
+fn receive_cut<R: Wait + Abort>(
+    rt: &R,
+    alloc: Global,
+    bundle: &Bundle,
+    length: usize,
+) -> Result<(), Fail> {
+    let cut = bundle.text.get(..length).ok_or("no such cut")?;
+    let (whole, bytes) = whole_lines(bundle, length);
+    let stopped = if bytes == length {
         None
     } else {
         Some(((whole as u64).saturating_add(1), Refusal::BadLine))
@@ -49,7 +82,7 @@ fn receive_cut<R: Wait + Abort>(rt: &R, alloc: Global, length: usize) -> Result<
         alloc,
         16,
         &[&[
-            (Two, Receive(cut, first, whole as u64, stopped)),
+            (Two, Receive(cut, first, whole as u64, bytes, stopped)),
             (Two, Step(handled)),
             (Two, Hello(said)),
             (Two, Seen(whole)),
@@ -57,13 +90,15 @@ fn receive_cut<R: Wait + Abort>(rt: &R, alloc: Global, length: usize) -> Result<
     )
 }
 
-/// How many whole lines there are in this many bytes.
-fn whole_lines(length: usize) -> usize {
+/// How many whole lines there are in this many bytes, and how many bytes they have.
+fn whole_lines(bundle: &Bundle, length: usize) -> (usize, usize) {
     let mut whole = 0;
-    for (lines, end) in WHOLE.iter().enumerate() {
+    let mut bytes = 0;
+    for (lines, end) in bundle.whole.iter().enumerate() {
         if *end <= length {
             whole = lines;
+            bytes = *end;
         }
     }
-    whole
+    (whole, bytes)
 }

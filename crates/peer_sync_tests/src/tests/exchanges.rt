@@ -24,13 +24,13 @@ const SECOND: &str = r#"["hello",[[1,2]]]
 
 const KEY: &[To] = &[Key("key")];
 
-const A: &str = r#"["op",[1,1],[],[["m",0]],"key",["a","A"]]
+const A: &str = r#"["op2",[1,1],[],[["m",0]],"key",["a","A"]]
 "#;
 
-const B: &str = r#"["op",[2,1],[[1,1]],[["m",0]],"key",["a","B"]]
+const B: &str = r#"["op2",[2,1],[[1,1]],[["m",0]],"key",["a","B"]]
 "#;
 
-const C: &str = r#"["op",[2,2],[[1,1]],[["m",0]],"key",["a","C"]]
+const C: &str = r#"["op2",[2,2],[[1,1]],[["m",0]],"key",["a","C"]]
 "#;
 
 /// Engine 1 writes at the key; once both have seen that, engine 1 and engine 2 write there apart, and exchange that.
@@ -64,21 +64,17 @@ fn concurrent_values_stand_side_by_side(rt: HostRuntime) -> Result<(), Fail> {
 #[test]
 fn answers_leave_out_what_the_hello_covers(rt: HostRuntime) -> Result<(), Fail> {
     // The history of engine 1 is A, B, C; that of engine 2 is A, C, B.
-    const A_B_C: &str = r#"["op",[1,1],[],[["m",0]],"key",["a","A"]]
-["op",[2,1],[[1,1]],[["m",0]],"key",["a","B"]]
-["op",[2,2],[[1,1]],[["m",0]],"key",["a","C"]]
+    const A_C_B: &str = r#"["op2",[1,1],[],[["m",0]],"key",["a","A"]]
+["op2",[2,2],[[1,1]],[["m",0]],"key",["a","C"]]
+["op2",[2,1],[],[["m",0]],"key",["a","B"]]
 "#;
-    const A_C_B: &str = r#"["op",[1,1],[],[["m",0]],"key",["a","A"]]
-["op",[2,2],[[1,1]],[["m",0]],"key",["a","C"]]
-["op",[2,1],[[1,1]],[["m",0]],"key",["a","B"]]
-"#;
-    const B_C: &str = r#"["op",[2,1],[[1,1]],[["m",0]],"key",["a","B"]]
-["op",[2,2],[[1,1]],[["m",0]],"key",["a","C"]]
+    const B_C: &str = r#"["op2",[2,1],[[1,1]],[["m",0]],"key",["a","B"]]
+["op2",[2,2],[],[["m",0]],"key",["a","C"]]
 "#;
     const ACTS: &[&[Row]] = &[
         APART,
         &[
-            (One, Answer(NEW, Ok(A_B_C))),
+            (One, Answer(NEW, Ok(THREE))),
             (Two, Answer(NEW, Ok(A_C_B))),
             (One, Answer(r#"["hello",[[1,2],[2,2]]]"#, Ok(""))),
             (One, Answer(r#"["hello",[[1,1]]]"#, Ok(B_C))),
@@ -93,13 +89,13 @@ fn runs_of_concurrent_inserts_stay_together(rt: HostRuntime) -> Result<(), Fail>
     const L: &[To] = &[Key("l")];
     const HEAD: &[To] = &[Key("l"), Index(0)];
     const ONE: &[To] = &[Key("l"), Index(1)];
-    const LIST_LINE: &str = r#"["op",[1,1],[],[["m",0]],"l",["a",[]]]
+    const LIST_LINE: &str = r#"["op2",[1,1],[],[["m",0]],"l",["a",[]]]
 "#;
-    const X_Y: &str = r#"["op",[2,1],[[1,1]],[["m",0],["l","l"]],1,["i","x"]]
-["op",[3,1],[[1,2]],[["m",0],["l","l"]],[2,1],["i","y"]]
+    const X_Y: &str = r#"["op2",[2,1],[[1,1]],[["m",0],["l","l"]],1,["i","x"]]
+["op2",[3,1],[[1,2]],[["m",0],["l","l"]],[2,1],["i","y"]]
 "#;
-    const A_B: &str = r#"["op",[2,2],[[1,1]],[["m",0],["l","l"]],1,["i","a"]]
-["op",[3,2],[[1,1],[2,2]],[["m",0],["l","l"]],[2,2],["i","b"]]
+    const A_B: &str = r#"["op2",[2,2],[[1,1]],[["m",0],["l","l"]],1,["i","a"]]
+["op2",[3,2],[[2,2]],[["m",0],["l","l"]],[2,2],["i","b"]]
 "#;
     const BOTH: Turn = Show(L, Items(&[(2, 2), (3, 2), (2, 1), (3, 1)]));
     const ACTS: &[&[Row]] = &[
@@ -126,12 +122,12 @@ fn what_is_written_beneath_a_deleted_map_stays(rt: HostRuntime) -> Result<(), Fa
     const COLORS: &[To] = &[Key("colors")];
     const BLUE: &[To] = &[Key("colors"), Key("blue")];
     const GREEN: &[To] = &[Key("colors"), Key("green")];
-    const MAP_AND_BLUE: &str = r##"["op",[1,1],[],[["m",0]],"colors",["a",{}]]
-["op",[2,1],[[1,1]],[["m",0],["m","colors"]],"blue",["a","#00f"]]
+    const MAP_AND_BLUE: &str = r##"["op2",[1,1],[],[["m",0]],"colors",["a",{}]]
+["op2",[2,1],[[1,1]],[["m",0],["m","colors"]],"blue",["a","#00f"]]
 "##;
-    const DELETED: &str = r#"["op",[3,1],[[1,2]],[["m",0]],"colors",["d"]]
+    const DELETED: &str = r#"["op2",[3,1],[[1,2]],[["m",0]],"colors",["d"]]
 "#;
-    const GREEN_LINE: &str = r##"["op",[3,2],[[1,2]],[["m",0],["m","colors"]],"green",["a","#0f0"]]
+    const GREEN_LINE: &str = r##"["op2",[3,2],[[1,2]],[["m",0],["m","colors"]],"green",["a","#0f0"]]
 "##;
     const ROOT: Turn = Show(&[], Keys(&["colors"]));
     const FIELDS: Turn = Show(COLORS, Keys(&["green"]));
@@ -164,11 +160,11 @@ fn what_is_written_beneath_a_deleted_map_stays(rt: HostRuntime) -> Result<(), Fa
 #[test]
 fn a_map_and_a_list_stand_under_one_key(rt: HostRuntime) -> Result<(), Fail> {
     const K: &[To] = &[Key("k")];
-    const ROOT_LINE: &str = r#"["op",[1,1],[],[],0,["a",{}]]
+    const ROOT_LINE: &str = r#"["op2",[1,1],[],[],0,["a",{}]]
 "#;
-    const MAP_LINE: &str = r#"["op",[2,1],[[1,1]],[["m",0]],"k",["a",{}]]
+    const MAP_LINE: &str = r#"["op2",[2,1],[[1,1]],[["m",0]],"k",["a",{}]]
 "#;
-    const LIST_LINE: &str = r#"["op",[2,2],[[1,1]],[["m",0]],"k",["a",[]]]
+    const LIST_LINE: &str = r#"["op2",[2,2],[[1,1]],[["m",0]],"k",["a",[]]]
 "#;
     const BOTH: Turn = Show(K, Conflicts(&[((2, 1), Tag::Map), ((2, 2), Tag::List)]));
     const ACTS: &[&[Row]] = &[

@@ -55,20 +55,22 @@ fn the_first_fault_of_a_hello_decides(rt: HostRuntime) -> Result<(), Fail> {
 
 #[test]
 fn what_comes_before_a_bad_line_stays(rt: HostRuntime) -> Result<(), Fail> {
+    const FIRST_ALONE: &str = r#"["op",[1,1],[],[],0,["a",{}]]
+"#;
     const CUT: &str = r#"["op",[1,1],[],[],0,["a",{}]]
 ["op",[2,1],[[1,1]],[["m",0]],"shopping",["a",[]]]"#;
     const ACTS: &[&[Row]] = &[
         &[
-            (Two, Receive(CUT, 1, 1, Some((2, Refusal::BadLine)))),
+            (Two, Receive(CUT, 1, 1, 30, Some((2, Refusal::BadLine)))),
             (Two, Step(Published(1))),
             (Two, Hello("[\"hello\",[[1,1]]]\n")),
         ],
         &[
-            (Two, Receive("", 0, 0, None)),
-            (Two, Receive("\n", 0, 0, Some((1, Refusal::BadLine)))),
+            (Two, Receive("", 0, 0, 0, None)),
+            (Two, Receive("\n", 0, 0, 0, Some((1, Refusal::BadLine)))),
             (Two, Step(Idle)),
             (Two, Take(NEWCOMER, Kept(2))),
-            (Two, Receive(FIRST_LINE, 3, 1, None)),
+            (Two, Receive(FIRST_ALONE, 3, 1, 30, None)),
             (Two, Step(Published(1))),
             (Two, Seen(1)),
             (Two, Hello("[\"hello\",[[1,1],[4,1]]]\n")),
@@ -76,22 +78,4 @@ fn what_comes_before_a_bad_line_stays(rt: HostRuntime) -> Result<(), Fail> {
         ],
     ];
     on_two(&rt, rt.alloc(), 16, ACTS)
-}
-
-#[test]
-fn a_full_queue_stops_at_its_line(rt: HostRuntime) -> Result<(), Fail> {
-    const ACTS: &[&[Row]] = &[
-        &[
-            (Two, Receive(FIVE, 1, 2, Some((3, Refusal::QueueFull)))),
-            (Two, Step(Published(2))),
-            (Two, Hello("[\"hello\",[[1,2]]]\n")),
-        ],
-        &[
-            // The two that are known already fill the queue again.
-            (Two, Receive(FIVE, 3, 2, Some((3, Refusal::QueueFull)))),
-            (Two, Step(Published(2))),
-            (Two, Hello("[\"hello\",[[1,2]]]\n")),
-        ],
-    ];
-    on_two(&rt, rt.alloc(), 2, ACTS)
 }

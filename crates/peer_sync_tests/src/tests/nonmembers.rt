@@ -1,6 +1,6 @@
 //! Replicas outside the members: engines that know only themselves, and how many others there may be.
 
-use super::opening::{Opening, on_opened};
+use super::opening::{Numbers, Opening, on_opened};
 use super::playing::Side::{One, Two};
 use super::playing::Told::{Kept, Refused};
 use super::playing::Turn::{Answer, Dropped, Pull, Show, TakeFirst, TakeFirsts, Write};
@@ -12,19 +12,25 @@ use super::showing::To;
 use super::showing::To::Key;
 use super::*;
 
+/// Replica 2, which knows only itself.
+const TWO: Numbers = Numbers {
+    own: 2,
+    members: &[2],
+};
+
 #[test]
 fn engines_that_know_only_themselves(rt: HostRuntime) -> Result<(), Fail> {
     const KEY: &[To] = &[Key("key")];
-    const A: &str = r#"["op",[1,1],[],[["m",0]],"key",["a","A"]]
+    const A: &str = r#"["op2",[1,1],[],[["m",0]],"key",["a","A"]]
 "#;
-    const B: &str = r#"["op",[1,2],[],[["m",0]],"key",["a","B"]]
+    const B: &str = r#"["op2",[1,2],[],[["m",0]],"key",["a","B"]]
 "#;
-    const C: &str = r#"["op",[2,1],[[1,1],[2,1]],[["m",0]],"key",["a","C"]]
+    const C: &str = r#"["op2",[2,1],[[1,1],[2,1]],[["m",0]],"key",["a","C"]]
 "#;
     // The history of engine 2 is B, A, C.
-    const B_A_C: &str = r#"["op",[1,2],[],[["m",0]],"key",["a","B"]]
-["op",[1,1],[],[["m",0]],"key",["a","A"]]
-["op",[2,1],[[1,1],[2,1]],[["m",0]],"key",["a","C"]]
+    const B_A_C: &str = r#"["op2",[1,2],[],[["m",0]],"key",["a","B"]]
+["op2",[1,1],[],[["m",0]],"key",["a","A"]]
+["op2",[2,1],[[1,1],[2,1]],[["m",0]],"key",["a","C"]]
 "#;
     const APART: Turn = Show(KEY, Values(&[((1, 1), "A"), ((1, 2), "B")]));
     const OVER: Turn = Show(KEY, Values(&[((2, 1), "C")]));
@@ -48,8 +54,11 @@ fn engines_that_know_only_themselves(rt: HostRuntime) -> Result<(), Fail> {
         ],
     ];
     const OPENING: Opening = Opening {
-        one: &[1],
-        two: &[2],
+        one: Numbers {
+            own: 1,
+            members: &[1],
+        },
+        two: TWO,
         queue: 16,
     };
     on_opened(&rt, rt.alloc(), OPENING, ACTS)
@@ -73,8 +82,11 @@ fn no_more_than_256_replicas_write(rt: HostRuntime) -> Result<(), Fail> {
         (One, Dropped(0)),
     ]];
     const OPENING: Opening = Opening {
-        one: MOST_MEMBERS,
-        two: &[2],
+        one: Numbers {
+            own: 1,
+            members: MOST_MEMBERS,
+        },
+        two: TWO,
         queue: 16,
     };
     on_opened(&rt, rt.alloc(), OPENING, ACTS)

@@ -12,11 +12,18 @@ use std::marker::Brand;
 use std::process::Abort;
 use std::sync::Wait;
 
-/// What the engines 1 and 2 are opened with: the members of each, and the capacity of both queues.
+/// The own number of an engine, and its members.
+#[derive(Clone, Copy)]
+pub struct Numbers {
+    pub own: u32,
+    pub members: &'static [u32],
+}
+
+/// What both engines are opened with: the numbers of each, and the capacity of both queues.
 #[derive(Clone, Copy)]
 pub struct Opening {
-    pub one: &'static [u32],
-    pub two: &'static [u32],
+    pub one: Numbers,
+    pub two: Numbers,
     pub queue: u32,
 }
 
@@ -44,8 +51,35 @@ pub fn on_two<R: Wait + Abort>(
     acts: &[&[Row]],
 ) -> Result<(), Fail> {
     let opening = Opening {
-        one: MEMBERS,
-        two: MEMBERS,
+        one: Numbers {
+            own: 1,
+            members: MEMBERS,
+        },
+        two: Numbers {
+            own: 2,
+            members: MEMBERS,
+        },
+        queue,
+    };
+    on_opened(rt, alloc, opening, acts)
+}
+
+/// The same with the engines 4 and 5, which know only themselves.
+pub fn on_others<R: Wait + Abort>(
+    rt: &R,
+    alloc: Global,
+    queue: u32,
+    acts: &[&[Row]],
+) -> Result<(), Fail> {
+    let opening = Opening {
+        one: Numbers {
+            own: 4,
+            members: &[4],
+        },
+        two: Numbers {
+            own: 5,
+            members: &[5],
+        },
         queue,
     };
     on_opened(rt, alloc, opening, acts)
@@ -58,7 +92,7 @@ pub fn on_opened<R: Wait + Abort>(
     opening: Opening,
     acts: &[&[Row]],
 ) -> Result<(), Fail> {
-    let parts = prepare_engine(alloc, 1, opening.one, opening.queue)?;
+    let parts = prepare_engine(alloc, opening.one.own, opening.one.members, opening.queue)?;
     open_first::<Brand, R>(rt, alloc, parts, opening, acts)
 }
 
@@ -110,7 +144,7 @@ fn with_first<N: EngineName, R: Wait + Abort>(
     acts: &[&[Row]],
 ) -> Result<(), Fail> {
     let mut one = Stage {
-        own: 1,
+        own: opening.one.own,
         writer,
         client,
         reader,
@@ -125,8 +159,8 @@ fn with_second<N: EngineName, R: Wait + Abort>(
     opening: Opening,
     acts: &[&[Row]],
 ) -> Result<(), Fail> {
-    let parts = prepare_engine(alloc, 2, opening.two, opening.queue)?;
-    open_second::<N, Brand, R>(rt, alloc, one, parts, acts)
+    let parts = prepare_engine(alloc, opening.two.own, opening.two.members, opening.queue)?;
+    open_second::<N, Brand, R>(rt, alloc, one, parts, opening.two.own, acts)
 }
 
 fn open_second<N: EngineName, M: EngineName, R: Wait + Abort>(
@@ -134,6 +168,7 @@ fn open_second<N: EngineName, M: EngineName, R: Wait + Abort>(
     alloc: Global,
     one: &mut Stage<N>,
     parts: Parts,
+    own: u32,
     acts: &[&[Row]],
 ) -> Result<(), Fail>
     requires book { parts.opened.seen.book ≡ M.book }
@@ -142,7 +177,16 @@ fn open_second<N: EngineName, M: EngineName, R: Wait + Abort>(
 {
     let (mut writer, mut clients, mut readers) = open::<M>(rt, alloc, parts)?;
     let result = match (clients.first_mut(), readers.first_mut()) {
-        (Some(client), Some(reader)) => on_both(rt, alloc, one, &mut writer, client, reader, acts),
+        (Some(client), Some(reader)) => on_both(
+            rt,
+            alloc,
+            one,
+            &mut writer,
+            client,
+            reader,
+            own,
+            acts,
+        ),
         _ => Err("no client".into()),
     };
     let _final = close(rt, writer, Vec::new(alloc));
@@ -156,10 +200,11 @@ fn on_both<N: EngineName, M: EngineName, R: Wait + Abort>(
     writer: &mut Writer<M>,
     client: &mut Client<M>,
     reader: &mut ReaderToken<M>,
+    own: u32,
     acts: &[&[Row]],
 ) -> Result<(), Fail> {
     let mut two = Stage {
-        own: 2,
+        own,
         writer,
         client,
         reader,

@@ -1,7 +1,9 @@
 //! What is done with two engines in a test, as a table of turns, and what plays it.
 
 use super::early::{early_op, first_line};
+use super::full::deliver_all;
 use super::showing::{Shown, To, assert_shown, expr};
+use super::store::{assert_kept, read_back};
 use super::*;
 use engine::{Client, EngineName, ReaderToken, Step, Ticket, Writer};
 use ids::ReplicaId;
@@ -53,8 +55,15 @@ pub enum Turn {
     Hello(&'static str),
     /// Its reader answers this hello.
     Answer(&'static str, Result<&'static str, Refusal>),
-    /// Its client receives these bytes: the first serial, how many were submitted, and the stop.
-    Receive(&'static str, u64, u64, Option<(u64, Refusal)>),
+    /// Its client receives these bytes: the first serial, how many were submitted, how many bytes their lines have, and the stop.
+    Receive(&'static str, u64, u64, usize, Option<(u64, Refusal)>),
+    /// Its client delivers the operations of these lines one by one, and its writer steps each time that the queue is full: how often.
+    DeliverAll(&'static str, u32),
+    /// Its client receives the answers of this file, and its writer steps until idle after each: how many operations were submitted, and
+    /// the stop of the last answer.
+    ReadBack(&'static str, u64, Option<(u64, Refusal)>),
+    /// Its reader answers this hello, which is kept in the file from this byte to that one.
+    Keep(&'static str, usize, usize),
     /// Its client receives this line, its writer steps, and the client polls.
     Take(&'static str, Told),
     /// The same for the first line of this replica.
@@ -165,6 +174,7 @@ fn pull<N: EngineName, M: EngineName, R: Wait + Abort>(
     assert_answer(rt, alloc, from.reader, want_hello, Ok(want_bundle));
     let received = receive(rt, alloc, to.client, want_bundle.as_bytes());
     assert_eq!(rt; received.stopped, None);
+    assert_eq!(rt; received.bytes, want_bundle.len());
     let handled = match received.submitted {
         0 => Step::Idle,
         count => Step::Published(count as usize),
@@ -183,13 +193,26 @@ fn take_turn<N: EngineName, R: Wait + Abort>(
     match turn {
         Turn::Write(writing) => write(rt, alloc, stage, writing)?,
         Turn::Step(want) => step(rt, alloc, stage.writer, want),
-        Turn::Receive(text, first_serial, submitted, stopped) => {
+        Turn::Receive(text, first_serial, submitted, bytes, stopped) => {
             let want = Received {
                 first_serial,
                 submitted,
+                bytes,
                 stopped,
             };
             assert_received(rt, alloc, stage.client, text, want);
+        }
+        Turn::DeliverAll(bundle, full) => deliver_all(
+            rt,
+            alloc,
+            stage.writer,
+            stage.client,
+            bundle,
+            full,
+        )?,
+        Turn::ReadBack(file, submitted, stopped) => {
+            let want = (submitted, stopped);
+            read_back(rt, alloc, stage.writer, stage.client, file, want)?;
         }
         Turn::Take(line, want) => take_line(rt, alloc, stage, line, want)?,
         Turn::TakeFirst(replica, want) => take_first(rt, alloc, stage, replica, want)?,
@@ -361,6 +384,7 @@ fn read<N: EngineName>(
     match turn {
         Turn::Hello(want) => assert_hello(rt, alloc, reader, want)?,
         Turn::Answer(said, want) => assert_answer(rt, alloc, reader, said, want),
+        Turn::Keep(said, from, to) => assert_kept(rt, alloc, reader, said, from, to)?,
         Turn::Seen(want) => assert_eq!(rt; reader.seen_len(), want),
         Turn::Show(path, want) => assert_shown(rt, alloc, reader, path, want)?,
         _ => return Err("no turn of a reader".into()),

@@ -47,6 +47,13 @@ const SHOWN: &[(&[To], Shown)] = &[
 const ALL: &str = r#"["hello",[[1,6],[2,6]]]
 "#;
 
+/// What one wrote while the other deleted, beside that: both have the same vector.
+const HAM_NEXT: &str = r#"["op2",[6,2],[],[["m",0],["l","shopping"]],[3,1],["a","ham"]]
+"#;
+
+const DELETED_NEXT: &str = r#"["op2",[6,1],[],[["m",0],["l","shopping"]],[3,1],["d"]]
+"#;
+
 /// How often memory was refused, in answers of engines and where a test makes its own values.
 #[derive(Drop)]
 struct Refused {
@@ -231,8 +238,8 @@ fn play<N: EngineName, M: EngineName, R: Wait + Abort>(
     write(rt, alloc, refused, two, Assign(ITEM, Words("ham")), (6, 2))?;
     pull(rt, alloc, refused, one, two, HAM)?;
     pull(rt, alloc, refused, two, one, DELETED)?;
-    end(rt, alloc, refused, one, &[FIVE, DELETED, HAM])?;
-    end(rt, alloc, refused, two, &[FIVE, HAM, DELETED])
+    end(rt, alloc, refused, one, &[FIVE, DELETED, HAM_NEXT])?;
+    end(rt, alloc, refused, two, &[FIVE, HAM, DELETED_NEXT])
 }
 
 /// Writes, once more if allocation fails, and asserts the id.
@@ -301,7 +308,8 @@ fn step_all<N: EngineName, R: Wait>(
     Err("there is still something to do".into())
 }
 
-/// One engine takes what the other has, until it lacks nothing. The first bundle is this one, and each later one is an end of it.
+/// One engine takes what the other has, until it lacks nothing. The first bundle is this one, and each later one is an end of it: where a
+/// vector names one replica, what changed since the line before is all of it.
 fn pull<N: EngineName, M: EngineName, R: Wait + Abort>(
     rt: &R,
     alloc: Global,

@@ -41,6 +41,8 @@ fn other_words(rt: HostRuntime) -> Result<(), Fail> {
         r#"["drop",0]"#,
         r#"["lines",0,0,""]"#,
         r#"["message",0,0]"#,
+        r#"["op",[1,1],[],[],0,["a",{}]]"#,
+        r#"["op2",[1,1],[],[],0,["a",{}]]"#,
         r#"[["take"],0]"#,
         r#"{"take":0}"#,
     ];

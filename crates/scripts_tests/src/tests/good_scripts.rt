@@ -101,6 +101,27 @@ fn messages_reply_a_line(rt: HostRuntime) -> Result<(), Fail> {
     reply_lines(&rt, rt.alloc(), LINES)
 }
 
+/// Texts in profile 2: one with a difference that is none behind an operation, one that ends in the middle of its vector, one with a
+/// value that isn't whole, and one that begins with the empty vector again.
+const TEXTS: &str = r#"["world",[[1,[1],1,1,4,4,10]]]
+["line",0,0,"[\"op2\",[1,2],[],[[\"m\",0]],\"a\",[\"a\",7]]\n[\"op2\",[2,2],[[3,0]],[[\"m\",0]],\"a\",[\"d\"]]\n"]
+["line",0,0,"[\"op2\",[2,2],[[2,1"]
+["line",0,0,"[\"op2\",[2,2],[[2,1]],[[\"m\",0]],\"a\",[\"a\",1.5]]\n"]
+["line",0,0,"[\"op2\",[2,2],[[2,1]],[[\"m\",0]],\"a\",[\"d\"]]\n"]
+"#;
+
+/// The fault of a line within a text is no fault of the script: the step replies with it.
+#[test]
+fn faults_within_texts_are_replied(rt: HostRuntime) -> Result<(), Fail> {
+    const REPLIES: &str = r#"["received",1,1,2,"E22"]
+["received",0,0,1,"E22"]
+["received",0,0,1,"E21"]
+["received",2,1]
+"#;
+    replies_so(&rt, rt.alloc(), TEXTS, REPLIES);
+    Ok(())
+}
+
 /// What stands around a long text, its letter, and how often it is repeated.
 type Long<'a> = (Around<'a>, &'a str, usize);
 

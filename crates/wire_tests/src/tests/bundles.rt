@@ -1,6 +1,7 @@
-//! Bundles.
+//! Bundles. They are written in profile 2, and read in either profile.
 
-use super::{LINES, joined, list_of_five};
+use super::beside_lines::{self, ONE_KEY, VECTORS};
+use super::{BESIDE, LINES, is_op, joined, list_of_five};
 use ids::Refusal;
 use operation::{Op, Shared};
 use std::alloc::{AllocError, Global};
@@ -8,10 +9,10 @@ use std::process::Abort;
 use std::test::Fail;
 use wire::{read_bundle, read_lines, write_bundle};
 
-/// The five lines, each with its line feed.
-fn five_lines(alloc: Global) -> Result<String, AllocError> {
+/// The lines, each with its line feed.
+fn text_of(alloc: Global, lines: &[&str]) -> Result<String, AllocError> {
     let mut text = String::new(alloc);
-    for line in LINES {
+    for line in lines {
         text.push_str(line)?;
         text.push('\n')?;
     }
@@ -35,21 +36,102 @@ fn read(alloc: Global, text: &str) -> Result<Vec<Shared<Op>>, Refusal> {
     read_bundle(alloc, text.as_bytes()).map_err(|stopped| stopped.1)
 }
 
+/// The five operations are written in profile 2.
 #[test]
 fn bundles_are_written(rt: HostRuntime) -> Result<(), Fail> {
-    let text = five_lines(rt.alloc())?;
-    assert_eq!(rt; text.len(), 276);
+    let text = text_of(rt.alloc(), &BESIDE)?;
+    assert_eq!(rt; text.len(), 281);
     let ops = list_of_five(rt.alloc())?;
     are_written(&rt, rt.alloc(), ops.as_slice(), text.as_str())?;
     Ok(())
 }
 
+/// What is written is read as five operations, which are written as the same text.
 #[test]
 fn bundles_are_read_as_they_are_written(rt: HostRuntime) -> Result<(), Fail> {
-    let text = five_lines(rt.alloc())?;
+    let text = text_of(rt.alloc(), &BESIDE)?;
     let ops = read(rt.alloc(), text.as_str())?;
     assert_eq!(rt; ops.len(), 5);
     are_written(&rt, rt.alloc(), ops.as_slice(), text.as_str())?;
+    Ok(())
+}
+
+/// Asserts that the bundle is of the five operations, whose lines of profile 1 these are, and that they are written as the other text.
+fn are_five(rt: &impl Abort, alloc: Global, text: &str, written: &str) -> Result<(), Refusal> {
+    let ops = read(alloc, text)?;
+    assert_eq!(rt; ops.len(), 5);
+    for (op, whole) in ops.iter().zip(LINES.iter()) {
+        is_op(rt, alloc, op, whole)?;
+    }
+    are_written(rt, alloc, ops.as_slice(), written)
+}
+
+/// A bundle in profile 1 is read, and written anew in profile 2.
+#[test]
+fn bundles_with_whole_vectors_are_read(rt: HostRuntime) -> Result<(), Fail> {
+    let text = text_of(rt.alloc(), &LINES)?;
+    assert_eq!(rt; text.len(), 276);
+    let written = text_of(rt.alloc(), &BESIDE)?;
+    are_five(&rt, rt.alloc(), text.as_str(), written.as_str())?;
+    Ok(())
+}
+
+/// The lines of these rows, in profile 1 where the row's bit is set, the first row's the lowest bit.
+fn mixture(
+    alloc: Global,
+    rows: &[beside_lines::Row],
+    in_profile_1: u32,
+) -> Result<String, AllocError> {
+    let mut text = String::new(alloc);
+    let mut bits = in_profile_1;
+    for (line, whole) in rows {
+        let is_whole = bits % 2 == 1;
+        text.push_str(if is_whole {
+            whole.unwrap_or(line)
+        } else {
+            line
+        })?;
+        text.push('\n')?;
+        bits /= 2;
+    }
+    Ok(text)
+}
+
+/// Asserts that these are the operations of the rows.
+fn are_of(
+    rt: &impl Abort,
+    alloc: Global,
+    ops: &[Shared<Op>],
+    rows: &[beside_lines::Row],
+) -> Result<(), Refusal> {
+    assert_eq!(rt; ops.len(), rows.len());
+    for (op, (_, whole)) in ops.iter().zip(rows.iter()) {
+        is_op(rt, alloc, op, (*whole)?)?;
+    }
+    Ok(())
+}
+
+/// Asserts that the rows' operations are read from this mixture of their lines.
+fn is_mixture(
+    rt: &impl Abort,
+    alloc: Global,
+    rows: &[beside_lines::Row],
+    in_profile_1: u32,
+) -> Result<(), Refusal> {
+    let text = mixture(alloc, rows, in_profile_1)?;
+    let ops = read(alloc, text.as_str())?;
+    are_of(rt, alloc, ops.as_slice(), rows)?;
+    let written = mixture(alloc, rows, 0)?;
+    are_written(rt, alloc, ops.as_slice(), written.as_str())
+}
+
+/// Seven lines whose vectors grow, shrink and stay are read as the same operations whichever of them are of profile 1.
+#[test]
+fn bundles_of_both_profiles_are_read(rt: HostRuntime) -> Result<(), Fail> {
+    assert_eq!(rt; VECTORS.len(), 7);
+    for in_profile_1 in 0..128 {
+        is_mixture(&rt, rt.alloc(), VECTORS, in_profile_1)?;
+    }
     Ok(())
 }
 
@@ -97,23 +179,41 @@ fn is_read(
     Ok(())
 }
 
-/// Where the lines end in their text.
+/// Where the lines of profile 1 end in their text.
 const ENDS: [usize; 5] = [30, 81, 144, 209, 276];
+
+/// Asserts that the text is whole after each of these ends, and at no other byte.
+fn is_cut(rt: &impl Abort, alloc: Global, bytes: &[u8], ends: &[usize]) -> Result<(), Refusal> {
+    let mut whole = 0_u32;
+    for end in 0..=bytes.len() {
+        if ends.contains(&end) {
+            whole = whole.saturating_add(1);
+        }
+        let is_cut = end > 0 && !ends.contains(&end);
+        let stopped = is_cut.then_some(Refusal::BadLine);
+        is_read(rt, alloc, &bytes[..end], whole, stopped)?;
+    }
+    Ok(())
+}
 
 /// A bundle is whole after each line feed, and at no other byte.
 #[test]
 fn bundles_are_cut(rt: HostRuntime) -> Result<(), Fail> {
-    let text = five_lines(rt.alloc())?;
-    let bytes = text.as_str().as_bytes();
-    let mut whole = 0_u32;
-    for end in 0..=bytes.len() {
-        if ENDS.contains(&end) {
-            whole = whole.saturating_add(1);
-        }
-        let is_cut = end > 0 && !ENDS.contains(&end);
-        let stopped = is_cut.then_some(Refusal::BadLine);
-        is_read(&rt, rt.alloc(), &bytes[..end], whole, stopped)?;
-    }
+    let text = text_of(rt.alloc(), &BESIDE)?;
+    is_cut(
+        &rt,
+        rt.alloc(),
+        text.as_str().as_bytes(),
+        &beside_lines::ENDS,
+    )?;
+    Ok(())
+}
+
+/// So is one in profile 1.
+#[test]
+fn bundles_with_whole_vectors_are_cut(rt: HostRuntime) -> Result<(), Fail> {
+    let text = text_of(rt.alloc(), &LINES)?;
+    is_cut(&rt, rt.alloc(), text.as_str().as_bytes(), &ENDS)?;
     Ok(())
 }
 
@@ -126,6 +226,9 @@ const OTHER: &str = r#"["op",[1,3],[],[],0,["d"]]"#;
 
 const FLOAT: &str = r#"["op",[1,1],[],[],0,["a",1.5]]"#;
 
+/// It names one replica more.
+const NAMES: &str = r#"["op2",[2,1],[[1,1]],[],0,["d"]]"#;
+
 const STOPPED: &[Row] = &[
     (&["\n"], 0, Refusal::BadLine),
     (&[GOOD], 0, Refusal::BadLine),
@@ -137,6 +240,18 @@ const STOPPED: &[Row] = &[
     (
         &[GOOD, "\n", GOOD, "\n", FLOAT, "\n\n", OTHER],
         2,
+        Refusal::NotWhole,
+    ),
+    (&[NAMES], 0, Refusal::BadLine),
+    (&[NAMES, "\n", NAMES, "\n"], 1, Refusal::BadLine),
+    (
+        &[NAMES, "\n", GOOD, "\n", NAMES, "\n", NAMES, "\n", GOOD],
+        3,
+        Refusal::BadLine,
+    ),
+    (
+        &[NAMES, "\n", FLOAT, "\n", NAMES, "\n"],
+        1,
         Refusal::NotWhole,
     ),
 ];
@@ -152,6 +267,90 @@ fn is_stopped(rt: &impl Abort, alloc: Global, row: &Row) -> Result<(), Refusal> 
 fn the_first_bad_line_decides(rt: HostRuntime) -> Result<(), Fail> {
     for row in STOPPED {
         is_stopped(&rt, rt.alloc(), row)?;
+    }
+    Ok(())
+}
+
+/// A line, and what is read from it, as a line of profile 1: behind others whose last vector is `[[1,1]]`, and in a text of its own.
+type Next<'a> = (&'a str, Result<&'a str, Refusal>, Result<&'a str, Refusal>);
+
+const NEXT: &[Next] = &[
+    (
+        r#"["op2",[1,3],[[1,0]],[["m",0]],"z",["d"]]"#,
+        Ok(r#"["op",[1,3],[],[["m",0]],"z",["d"]]"#),
+        Err(Refusal::BadLine),
+    ),
+    (
+        r#"["op2",[2,3],[],[["m",0]],"z",["d"]]"#,
+        Ok(r#"["op",[2,3],[[1,1]],[["m",0]],"z",["d"]]"#),
+        Ok(r#"["op",[2,3],[],[["m",0]],"z",["d"]]"#),
+    ),
+    (
+        r#"["op2",[2,3],[[1,1]],[["m",0]],"z",["d"]]"#,
+        Err(Refusal::BadLine),
+        Ok(r#"["op",[2,3],[[1,1]],[["m",0]],"z",["d"]]"#),
+    ),
+    (
+        r#"["op2",[3,3],[[2,2]],[["m",0]],"z",["d"]]"#,
+        Ok(r#"["op",[3,3],[[1,1],[2,2]],[["m",0]],"z",["d"]]"#),
+        Ok(r#"["op",[3,3],[[2,2]],[["m",0]],"z",["d"]]"#),
+    ),
+    (
+        r#"["op",[3,3],[[2,2]],[["m",0]],"z",["d"]]"#,
+        Ok(r#"["op",[3,3],[[2,2]],[["m",0]],"z",["d"]]"#),
+        Ok(r#"["op",[3,3],[[2,2]],[["m",0]],"z",["d"]]"#),
+    ),
+];
+
+/// Asserts that the last of these operations has this line of profile 1.
+fn ends_with(
+    rt: &impl Abort,
+    alloc: Global,
+    ops: &[Shared<Op>],
+    whole: &str,
+) -> Result<(), Refusal> {
+    match ops.last() {
+        Some(op) => is_op(rt, alloc, op, whole),
+        None => panic!(rt; "{whole}"),
+    }
+}
+
+/// Asserts what the last line of a text is read as, behind so many others, as lines and as a bundle.
+fn is_last(
+    rt: &impl Abort,
+    alloc: Global,
+    text: &str,
+    before: u32,
+    want: Result<&str, Refusal>,
+) -> Result<(), Refusal> {
+    let whole = match want {
+        Ok(whole) => whole,
+        Err(why) => return is_read(rt, alloc, text.as_bytes(), before, Some(why)),
+    };
+    is_read(rt, alloc, text.as_bytes(), before.saturating_add(1), None)?;
+    let lines = read_lines(alloc, text.as_bytes());
+    ends_with(rt, alloc, lines.ops.as_slice(), whole)?;
+    let ops = read(alloc, text)?;
+    ends_with(rt, alloc, ops.as_slice(), whole)
+}
+
+/// Asserts that the line is read beside the last of the others where it stands behind them, and beside the empty vector in a text of its
+/// own that is read after them.
+fn begins_anew(rt: &impl Abort, alloc: Global, others: &str, row: &Next) -> Result<(), Refusal> {
+    let (line, behind, alone) = *row;
+    is_read(rt, alloc, others.as_bytes(), 3, None)?;
+    let text = joined(alloc, &[line, "\n"])?;
+    is_last(rt, alloc, text.as_str(), 0, alone)?;
+    let text = joined(alloc, &[others, line, "\n"])?;
+    is_last(rt, alloc, text.as_str(), 3, behind)
+}
+
+/// Each call begins with the empty base, whatever was read before.
+#[test]
+fn each_text_begins_anew(rt: HostRuntime) -> Result<(), Fail> {
+    let others = mixture(rt.alloc(), ONE_KEY, 0)?;
+    for row in NEXT {
+        begins_anew(&rt, rt.alloc(), others.as_str(), row)?;
     }
     Ok(())
 }

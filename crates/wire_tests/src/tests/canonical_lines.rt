@@ -59,10 +59,10 @@ const LONG: &[(&str, usize, usize, usize, bool)] = &[
 ];
 
 /// What stands in place of a byte of a line.
-const BYTES: [u8; 7] = *b"09\" ],\\";
+pub(super) const BYTES: [u8; 7] = *b"09\" ],\\";
 
 /// The line after a space.
-fn spaced(alloc: Global, line: &[u8]) -> Result<Vec<u8>, AllocError> {
+pub(super) fn spaced(alloc: Global, line: &[u8]) -> Result<Vec<u8>, AllocError> {
     let mut text = Vec::new(alloc);
     text.push(b' ')?;
     text.extend_from_slice(line)?;
@@ -70,7 +70,12 @@ fn spaced(alloc: Global, line: &[u8]) -> Result<Vec<u8>, AllocError> {
 }
 
 /// The line with another byte at this index.
-fn changed(alloc: Global, line: &[u8], index: usize, byte: u8) -> Result<Vec<u8>, AllocError> {
+pub(super) fn changed(
+    alloc: Global,
+    line: &[u8],
+    index: usize,
+    byte: u8,
+) -> Result<Vec<u8>, AllocError> {
     let mut text = Vec::new(alloc);
     text.extend_from_slice(line)?;
     if let Some(place) = text.get_mut(index) {

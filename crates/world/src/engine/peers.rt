@@ -118,7 +118,8 @@ impl Engine {
         self.receive(client, read)
     }
 
-    /// A client receives bytes of any origin, and submits the operations on their lines.
+    /// A client receives bytes of any origin, and submits the operations on their lines, of either profile. The first line stands beside
+    /// the empty vector, whatever was received before.
     ///
     /// # Errors
     /// `AllocError` if allocation fails.
@@ -130,16 +131,16 @@ impl Engine {
     ) -> Result<WorldReply, AllocError>
         requires reached { IsReachedEngine self.old }
         ensures engine { OnOk result (self.new
-            ≡ (receive_lines self.old client (readable text.now).operations
-            (readable text.now).stopped).engine) }
+            ≡ (receive_lines self.old client (readable [] text.now).operations
+            (readable [] text.now).stopped).engine) }
         ensures reply { IfOk result
             (λ r. step_reply_of r
-            ≡ (receive_lines self.old client (readable text.now).operations
-            (readable text.now).stopped).reply) }
+            ≡ (receive_lines self.old client (readable [] text.now).operations
+            (readable [] text.now).stopped).reply) }
         ensures stopped { OnErr result
             (IsBetween self.old self.new
-            (receive_lines self.old client (readable text.now).operations
-            (readable text.now).stopped).engine) }
+            (receive_lines self.old client (readable [] text.now).operations
+            (readable [] text.now).stopped).engine) }
     {
         let read = read_lines(alloc, text);
         self.receive(client, read)

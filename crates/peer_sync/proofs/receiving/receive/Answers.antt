@@ -2,6 +2,7 @@ use Rattle.std.proofs.Common.{◌≡◌, ℕ, ◌+◌, ◌==◌, cond, length, i
 use Rattle.engine.specs.Clients.{Client}
 use Rattle.peer_sync.specs.declared.receiving.Received.{Received}
 use Rattle.peer_sync.proofs.Submissions.{HasSubmitted, first_serial-next, kept_after, stops, stops-end, submitted-more}
+use Rattle.peer_sync.proofs.TakenLines.{HasTaken, taken-more}
 use Rattle.peer_sync.proofs.receiving.receive.Goals as goal
 
 pub loop-line-preserved : goal.loop-line-preserved
@@ -16,17 +17,24 @@ loop-line-preserved g c =
     let first : c.count.new.self.first_serial
     ≡ cond (n == 0) c.in-Ok.ticket.serial c.loop-line.received.first_serial = ap (λ (r : Received). r.first_serial) c.count.ensures in
     let kept : length d.kept
-    ≡ length before.kept + n = kept_after before text d c.loop-line.lines.rest.now n c.loop-line.invariant.sent in
-    let serial : c.in-Ok.ticket.serial ≡ length before.kept + n + 1 = omega (arith, ok.3, kept) in
+    ≡ length before.kept + n = kept_after before text d c.loop-line.reader c.loop-line.lines.rest.now n c.loop-line.invariant.sent in
+    let serial : c.in-Ok.ticket.serial ≡ length before.kept + n + 1 = omega (arith, ok.4, kept) in
+    let base = c.submit_line.new.reader in
+    let more : c.count.new.self.bytes ≡ c.loop-line.received.bytes + (length c.in-Some.line.text.now + 1) =
+    ap (λ (r : Received). r.bytes) c.count.ensures in
     record {
       taken = omega (arith, c.in-Some.ensures.number.0, c.in-Some.ensures.number.1, c.loop-line.invariant.taken, counted);
-      sent = subst (λ m. HasSubmitted before text e c.take_line.new.self.rest.now m) (sym counted)
-          (submitted-more before text d e c.loop-line.lines.rest.now c.in-Some.line.text.now c.take_line.new.self.rest.now n ok.0
-          c.loop-line.invariant.sent c.in-Some.ensures.line ok.1 ok.2);
+      sent = subst (λ m. HasSubmitted before text e base c.take_line.new.self.rest.now m) (sym counted)
+          (subst (λ v. HasSubmitted before text e v c.take_line.new.self.rest.now (n + 1)) (sym ok.2)
+          (submitted-more before text d e c.loop-line.reader c.loop-line.lines.rest.now c.in-Some.line.text.now
+          c.take_line.new.self.rest.now n ok.0 c.loop-line.invariant.sent c.in-Some.ensures.line ok.1 ok.3));
+      bytes = subst (λ m. HasTaken text c.take_line.new.self.rest.now m c.count.new.self.bytes) (sym counted)
+          (taken-more text c.loop-line.lines.rest.now c.in-Some.line.text.now c.take_line.new.self.rest.now n c.loop-line.received.bytes
+          c.count.new.self.bytes c.loop-line.invariant.bytes c.in-Some.ensures.line more);
       first = first
           ∙ first_serial-next n c.count.new.self.submitted c.in-Ok.ticket.serial c.loop-line.received.first_serial
           (length before.kept) c.loop-line.invariant.first serial counted;
-      serials = inr ok.4;
+      serials = inr ok.5;
     }
 
 pub returns-in-Err-clause-stopped : goal.returns-in-Err-clause-stopped
@@ -35,13 +43,13 @@ returns-in-Err-clause-stopped g c =
     let text = c.args.bundle.now in
     let n : ℕ = c.loop-line.received.submitted in (
       omega (arith, c.in-Some.ensures.number.0, c.loop-line.invariant.taken),
-      stops before text c.loop-line.client c.submit_line.new.client c.loop-line.lines.rest.now c.in-Some.line.text.now
+      stops before text c.loop-line.client c.submit_line.new.client c.loop-line.reader c.loop-line.lines.rest.now c.in-Some.line.text.now
           c.take_line.new.self.rest.now n c.in-Err.why c.loop-line.invariant.sent c.in-Some.ensures.line c.in-Err.ensures.err.1,
     )
 
 pub returns-clause-stopped : goal.returns-clause-stopped
 returns-clause-stopped g c =
-    stops-end c.args.client.now c.args.bundle.now c.loop-line.client c.loop-line.lines.rest.now
+    stops-end c.args.client.now c.args.bundle.now c.loop-line.client c.loop-line.reader c.loop-line.lines.rest.now
     c.take_line.new.self.rest.now
     c.loop-line.received.submitted c.loop-line.lines.taken c.take_line.new.self.taken c.cut_stop-received.result
     c.loop-line.invariant.sent c.loop-line.invariant.taken c.in_default.ensures.none.0 c.in_default.ensures.none.1

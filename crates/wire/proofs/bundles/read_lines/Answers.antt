@@ -14,22 +14,22 @@ loop-line-preserved c =
     let old : List Op = c.loop-line.ops.items in
     let x = c.in-Ok.op in
     let pushed : c.push.new.self.items ≡ old ++ x ∷ [] = search rules in
-    let step = after-op _ _ _ (map stamped_of old) (stamped_of x) c.in-Some.ensures.line c.in-Ok.ensures in
+    let step = after-op c.loop-line.reader _ _ _ (map stamped_of old) (stamped_of x) c.in-Some.ensures.line c.in-Ok.ensures.read in
     let more : map stamped_of (old ++ x ∷ [])
     ≡ map stamped_of old ++ stamped_of x ∷ [] = map-append stamped_of old (x ∷ []) in
     record {
-      left = rw pushed
-          (ap (λ (ss : List Stamped). after ss (readable c.take_line.new.self.rest.now)) more ∙ sym step
+      left = rw (pushed, c.in-Ok.ensures.base)
+          (ap (λ (ss : List Stamped). after ss (readable x.deps c.take_line.new.self.rest.now)) more ∙ sym step
           ∙ c.loop-line.invariant.left);
     }
 
 pub returns-in-Err-clause-read : goal.returns-in-Err-clause-read
 returns-in-Err-clause-read c =
     let ss = map stamped_of c.loop-line.ops.items in
-    elim (IsOrNoMemory-Err _ _ c.in-Err.ensures) [
+    elim (IsOrNoMemory-Err _ _ c.in-Err.ensures.read) [
       | inl e ↦ inl (ap Some e)
       | inr e ↦
-          let all = sym (after-bad _ _ _ ss c.in-Err.why c.in-Some.ensures.line e) ∙ c.loop-line.invariant.left in
+          let all = sym (after-bad _ _ _ _ ss c.in-Err.why c.in-Some.ensures.line e) ∙ c.loop-line.invariant.left in
           inr (ap (λ (r : Readable). r.operations) all, ap (λ (r : Readable). r.stopped) all)
     ]
 
@@ -39,9 +39,9 @@ returns-clause-read c =
     elim c.match-cut_line.branch [
       | in-Some-cut_line w ↦
           let some : c.loop-line.lines.rest.now ≢ [] = rw c.in_default.ensures.none.1 at w.in-Some-cut_line.ensures.1 in
-          let all = sym (after-cut _ ss c.in_default.ensures.none.0 some) ∙ c.loop-line.invariant.left in
+          let all = sym (after-cut _ _ ss c.in_default.ensures.none.0 some) ∙ c.loop-line.invariant.left in
           inr (ap (λ (r : Readable). r.operations) all, w.stopped-is ∙ ap (λ (r : Readable). r.stopped) all)
       | in-None w ↦
-          let all = sym (after-none _ ss (sym c.in_default.ensures.none.1 ∙ w.in-None.ensures)) ∙ c.loop-line.invariant.left in
+          let all = sym (after-none _ _ ss (sym c.in_default.ensures.none.1 ∙ w.in-None.ensures)) ∙ c.loop-line.invariant.left in
           inr (ap (λ (r : Readable). r.operations) all, w.stopped-is ∙ ap (λ (r : Readable). r.stopped) all)
     ]

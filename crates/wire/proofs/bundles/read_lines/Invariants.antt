@@ -1,5 +1,5 @@
--- What is left decides, after the operations so far.
-use Rattle.std.proofs.Common.{◌≡◌, map, length}
+-- What is left decides beside the reader's base, after the operations so far.
+use Rattle.std.proofs.Common.{◌≡◌, [], map, length}
 use Rattle.operation.specs.Ops.{stamped_of}
 use Rattle.wire.specs.Bundles.{readable}
 use Rattle.wire.proofs.BundleLines.{after}
@@ -10,5 +10,5 @@ decreases-loop-line l = length l.lines.rest.now
 
 abbrev pub invariant-loop-line : goal.invariant-loop-line
 invariant-loop-line l = record {
-  left : after (map stamped_of l.ops.items) (readable l.lines.rest.now) ≡ readable l.fn.text;
+  left : after (map stamped_of l.ops.items) (readable l.reader l.lines.rest.now) ≡ readable [] l.fn.text;
 }

@@ -1,4 +1,4 @@
-use Rattle.std.proofs.Common.{◌≡◌, ◌⊎◌, ℕ, List, Some, map}
+use Rattle.std.proofs.Common.{◌≡◌, ◌⊎◌, ℕ, List, [], Some, map}
 use Rattle.ids.specs.declared.refusal.Refusal.TheVariants.{NoMemory}
 use Rattle.semantics.specs.Engine.{Engine as TheEngine}
 use Rattle.replica.specs.operation.Ops.{stamped_of}
@@ -14,9 +14,9 @@ returns-clause-stopped c =
     let text : List ℕ = c.args.text.now in
     let ops = c.read_lines-read.result.ops.items in
     let got = c.read_lines-read.result.stopped in
-    let read : (got ≡ Some NoMemory) ⊎ ((map stamped_of ops ≡ (readable text).operations) × (got ≡ (readable text).stopped)) =
+    let read : (got ≡ Some NoMemory) ⊎ ((map stamped_of ops ≡ (readable [] text).operations) × (got ≡ (readable [] text).stopped)) =
     c.read_lines-read.ensures.read in
     then_err c.receive.result
-    (λ part. lines_stopped A c.receive.new.self c.args.client (readable text).operations (map stamped_of ops)
-    (readable text).stopped got (reached_sound A c.requires.reached) read part)
+    (λ part. lines_stopped A c.receive.new.self c.args.client (readable [] text).operations (map stamped_of ops)
+    (readable [] text).stopped got (reached_sound A c.requires.reached) read part)
     c.receive.ensures.stopped

@@ -1,0 +1,406 @@
+//! Lines of profile 2, each beside the vector of the operation before, and of both profiles mixed.
+
+use super::canonical_lines::{BYTES, changed, spaced};
+use super::{Around, LINES, is_op, list_of_five, with_part};
+use ids::Refusal;
+use std::alloc::Global;
+use std::process::Abort;
+use std::test::Fail;
+use wire::{BundleReader, BundleWriter, read_op};
+
+/// A line, and the operation that is read from it, as its line of profile 1.
+pub(super) type Row<'a> = (&'a str, Result<&'a str, Refusal>);
+
+/// Asserts what the reader reads from the line.
+pub(super) fn reads(
+    rt: &impl Abort,
+    alloc: Global,
+    reader: &mut BundleReader,
+    row: &Row,
+) -> Result<(), Refusal> {
+    let (line, want) = *row;
+    match (reader.read(alloc, line.as_bytes()), want) {
+        (Ok(op), Ok(whole)) => is_op(rt, alloc, &op, whole)?,
+        (Err(why), Err(other)) => assert_eq!(rt; why, other, "{line}"),
+        _ => panic!(rt; "{line}"),
+    }
+    Ok(())
+}
+
+/// Asserts what one reader reads from these lines.
+fn are_read(rt: &impl Abort, alloc: Global, rows: &[Row]) -> Result<(), Refusal> {
+    let mut reader = BundleReader::new();
+    for row in rows {
+        reads(rt, alloc, &mut reader, row)?;
+    }
+    Ok(())
+}
+
+/// Asserts that the operation of the line of profile 1 is written as this line next.
+fn writes(
+    rt: &impl Abort,
+    alloc: Global,
+    writer: &mut BundleWriter,
+    whole: &str,
+    want: &str,
+) -> Result<(), Refusal> {
+    let op = read_op(alloc, whole.as_bytes())?;
+    let line = writer.write(alloc, &op)?;
+    assert_eq!(rt; line.as_slice(), want.as_bytes());
+    Ok(())
+}
+
+/// Asserts that one writer writes the operations of these rows as their lines.
+fn are_written(rt: &impl Abort, alloc: Global, rows: &[Row]) -> Result<(), Refusal> {
+    let mut writer = BundleWriter::new(alloc);
+    for (line, whole) in rows {
+        if let Ok(whole) = whole {
+            writes(rt, alloc, &mut writer, whole, line)?;
+        }
+    }
+    Ok(())
+}
+
+/// Two replicas that write at one key.
+pub(super) const ONE_KEY: &[Row] = &[
+    (
+        r#"["op2",[1,1],[],[["m",0]],"key",["a","A"]]"#,
+        Ok(r#"["op",[1,1],[],[["m",0]],"key",["a","A"]]"#),
+    ),
+    (
+        r#"["op2",[2,1],[[1,1]],[["m",0]],"key",["a","B"]]"#,
+        Ok(r#"["op",[2,1],[[1,1]],[["m",0]],"key",["a","B"]]"#),
+    ),
+    (
+        r#"["op2",[2,2],[],[["m",0]],"key",["a","C"]]"#,
+        Ok(r#"["op",[2,2],[[1,1]],[["m",0]],"key",["a","C"]]"#),
+    ),
+];
+
+/// A replica that is named no more.
+const LOST: &[Row] = &[
+    (
+        r#"["op2",[2,1],[[1,1]],[["m",0]],"key",["a","B"]]"#,
+        Ok(r#"["op",[2,1],[[1,1]],[["m",0]],"key",["a","B"]]"#),
+    ),
+    (
+        r#"["op2",[1,3],[[1,0]],[["m",0]],"z",["d"]]"#,
+        Ok(r#"["op",[1,3],[],[["m",0]],"z",["d"]]"#),
+    ),
+];
+
+/// Vectors that grow, shrink and stay, at both ends and between.
+pub(super) const VECTORS: &[Row] = &[
+    (
+        r#"["op2",[6,2],[[1,1],[3,5]],[],0,["d"]]"#,
+        Ok(r#"["op",[6,2],[[1,1],[3,5]],[],0,["d"]]"#),
+    ),
+    (
+        r#"["op2",[8,2],[[2,7]],[],0,["d"]]"#,
+        Ok(r#"["op",[8,2],[[1,1],[2,7],[3,5]],[],0,["d"]]"#),
+    ),
+    (
+        r#"["op2",[9,4],[[1,2],[2,0],[4294967295,4611686018427387904]],[["l",0]],[3,1],["i",-1]]"#,
+        Ok(
+            r#"["op",[9,4],[[1,2],[3,5],[4294967295,4611686018427387904]],[["l",0]],[3,1],["i",-1]]"#,
+        ),
+    ),
+    (
+        r#"["op2",[9,4],[],[["l",0]],1,["i",null]]"#,
+        Ok(r#"["op",[9,4],[[1,2],[3,5],[4294967295,4611686018427387904]],[["l",0]],1,["i",null]]"#),
+    ),
+    (
+        r#"["op2",[1,1],[[1,0],[3,0],[4294967295,0]],[],0,["a",[]]]"#,
+        Ok(r#"["op",[1,1],[],[],0,["a",[]]]"#),
+    ),
+    (
+        r#"["op2",[7,9],[[2,6]],[],0,["a",{}]]"#,
+        Ok(r#"["op",[7,9],[[2,6]],[],0,["a",{}]]"#),
+    ),
+    (
+        r#"["op2",[9,9],[[1,8],[2,4],[3,3]],[],0,["a",{}]]"#,
+        Ok(r#"["op",[9,9],[[1,8],[2,4],[3,3]],[],0,["a",{}]]"#),
+    ),
+];
+
+/// Lines of both profiles, and some that are refused and leave the base.
+const MIXED: &[Row] = &[
+    (
+        r#"["op",[2,1],[[1,1]],[],0,["d"]]"#,
+        Ok(r#"["op",[2,1],[[1,1]],[],0,["d"]]"#),
+    ),
+    (
+        r#"["op2",[3,1],[[2,2]],[],0,["d"]]"#,
+        Ok(r#"["op",[3,1],[[1,1],[2,2]],[],0,["d"]]"#),
+    ),
+    (
+        r#"["op",[4,1],[[1,3],[1,3]],[],0,["d"]]"#,
+        Err(Refusal::BadLine),
+    ),
+    (
+        r#"["op2",[4,1],[[1,3]],[["m",0]],"a",["a",1.5]]"#,
+        Err(Refusal::NotWhole),
+    ),
+    (
+        r#"["op2",[3,3],[],[],0,["d"]]"#,
+        Ok(r#"["op",[3,3],[[1,1],[2,2]],[],0,["d"]]"#),
+    ),
+    (
+        r#"["op",[1,3],[],[["m",0]],"z",["d"]]"#,
+        Ok(r#"["op",[1,3],[],[["m",0]],"z",["d"]]"#),
+    ),
+    (r#"["op2",[2,3],[[1,0]],[],0,["d"]]"#, Err(Refusal::BadLine)),
+    (
+        r#" ["op2" ,[2,3],[ [1,1] ],[],0,["d"]]"#,
+        Ok(r#"["op",[2,3],[[1,1]],[],0,["d"]]"#),
+    ),
+    (r#"["op3",[2,3],[],[],0,["d"]]"#, Err(Refusal::BadLine)),
+    (r#"["hello",[[1,1]]]"#, Err(Refusal::BadLine)),
+    (r#"["op2",[2,3],[],[],0,["d"],0]"#, Err(Refusal::BadLine)),
+    (r#"["op2",[2,3],[],[],0]"#, Err(Refusal::BadLine)),
+    (
+        r#"["op2",[3,3],[],[],0,["d"]]"#,
+        Ok(r#"["op",[3,3],[[1,1]],[],0,["d"]]"#),
+    ),
+];
+
+#[test]
+fn lines_are_read_beside_the_one_before(rt: HostRuntime) -> Result<(), Fail> {
+    for rows in [ONE_KEY, LOST, VECTORS, MIXED] {
+        are_read(&rt, rt.alloc(), rows)?;
+    }
+    Ok(())
+}
+
+#[test]
+fn lines_are_written_beside_the_one_before(rt: HostRuntime) -> Result<(), Fail> {
+    for rows in [ONE_KEY, LOST, VECTORS] {
+        are_written(&rt, rt.alloc(), rows)?;
+    }
+    Ok(())
+}
+
+/// Where the five lines end in their bundle of profile 2.
+pub(super) const ENDS: [usize; 5] = [31, 83, 147, 213, 281];
+
+#[test]
+fn the_five_lines_in_profile_2(rt: HostRuntime) -> Result<(), Fail> {
+    let ops = list_of_five(rt.alloc())?;
+    let mut writer = BundleWriter::new(rt.alloc());
+    let mut reader = BundleReader::new();
+    let mut end = 0_usize;
+    for ((op, whole), want) in ops.iter().zip(LINES.iter()).zip(ENDS.iter()) {
+        let line = writer.write(rt.alloc(), op)?;
+        end = end.saturating_add(line.len()).saturating_add(1);
+        assert_eq!(rt; end, *want);
+        let again = reader.read(rt.alloc(), line.as_slice())?;
+        is_op(&rt, rt.alloc(), &again, whole)?;
+    }
+    Ok(())
+}
+
+/// The line that all deltas of the next test stand behind.
+const BASE: &str = r#"["op2",[6,2],[[1,1],[3,5]],[],0,["d"]]"#;
+
+/// What stands around a delta.
+pub(super) const DELTA: Around = (r#"["op2",[9,2],"#, r#",[],0,["d"]]"#);
+
+/// Deltas that are refused beside that line: of another form, not rising, and equal to the base, also with 0 for what it lacks.
+const DELTAS: &[&str] = &[
+    "{}",
+    "1",
+    "[1]",
+    "[[1]]",
+    "[[1,2,3]]",
+    "[[0,1]]",
+    "[[4294967296,1]]",
+    "[[1,-1]]",
+    "[[1,-0]]",
+    "[[1,2.0]]",
+    "[[1,4611686018427387905]]",
+    r#"[["1",2]]"#,
+    "[[1,null]]",
+    "[[1,2],[3]]",
+    "[[3,6],[1,2]]",
+    "[[1,2],[1,3]]",
+    "[[1,0],[1,0]]",
+    "[[1,1]]",
+    "[[3,5]]",
+    "[[2,0]]",
+    "[[4,0]]",
+    "[[1,2],[3,5]]",
+    "[[1,0],[2,0]]",
+];
+
+/// A reader that has read that line.
+fn reader_behind(alloc: Global) -> Result<BundleReader, Refusal> {
+    let mut reader = BundleReader::new();
+    reader.read(alloc, BASE.as_bytes())?;
+    Ok(reader)
+}
+
+/// Lines that are read at once beside that line, and as any JSON after a space.
+const ALIKE: &[&str] = &[
+    r#"["op2",[8,2],[[2,7]],[],0,["d"]]"#,
+    r#"["op2",[9,4],[[1,0],[3,6],[9,1]],[["l",0]],[3,1],["i","\né"]]"#,
+    r#"["op2",[2,2],[],[["m",0]],"a\"b",["a",-12]]"#,
+    r#"["op",[2,2],[[3,5]],[["m",0]],"a",["a",true]]"#,
+];
+
+/// Asserts that the line is read there as it is after a space.
+fn is_read_alike(rt: &impl Abort, alloc: Global, line: &[u8]) -> Result<(), Refusal> {
+    let spaced = spaced(alloc, line)?;
+    let mut reader = reader_behind(alloc)?;
+    let mut other = reader_behind(alloc)?;
+    match (
+        reader.read(alloc, line),
+        other.read(alloc, spaced.as_slice()),
+    ) {
+        (Ok(op), Ok(same)) => assert!(rt; op == same),
+        (Err(why), Err(same)) => assert_eq!(rt; why, same),
+        _ => panic!(rt; "a space in front changes what is read"),
+    }
+    Ok(())
+}
+
+/// Asserts it of the line, of all that it begins with, and of what it is with one other byte.
+fn are_read_alike(rt: &impl Abort, alloc: Global, line: &[u8]) -> Result<(), Refusal> {
+    for index in 0..line.len() {
+        is_read_alike(rt, alloc, &line[..index])?;
+        for byte in BYTES {
+            let other = changed(alloc, line, index, byte)?;
+            is_read_alike(rt, alloc, other.as_slice())?;
+        }
+    }
+    is_read_alike(rt, alloc, line)
+}
+
+#[test]
+fn a_space_in_front_changes_nothing(rt: HostRuntime) -> Result<(), Fail> {
+    for line in ALIKE {
+        are_read_alike(&rt, rt.alloc(), line.as_bytes())?;
+    }
+    Ok(())
+}
+
+/// Asserts that the line is refused beside that line, also as any JSON, and that the reader is left as it was.
+fn is_refused_beside(
+    rt: &impl Abort,
+    alloc: Global,
+    line: &str,
+    why: Refusal,
+) -> Result<(), Refusal> {
+    let mut reader = reader_behind(alloc)?;
+    reads(rt, alloc, &mut reader, &(line, Err(why)))?;
+    let spaced = with_part(alloc, (" ", ""), line)?;
+    reads(rt, alloc, &mut reader, &(spaced.as_str(), Err(why)))?;
+    let next = reader.read(alloc, br#"["op2",[9,2],[],[],0,["d"]]"#)?;
+    is_op(rt, alloc, &next, r#"["op",[9,2],[[1,1],[3,5]],[],0,["d"]]"#)
+}
+
+#[test]
+fn deltas_that_are_refused(rt: HostRuntime) -> Result<(), Fail> {
+    for delta in DELTAS {
+        let line = with_part(rt.alloc(), DELTA, delta)?;
+        is_refused_beside(&rt, rt.alloc(), line.as_str(), Refusal::BadLine)?;
+    }
+    Ok(())
+}
+
+/// Lines with two faults, of which the first decides: the text, the word, the id, the delta, the path, its keys, the place, the mutation.
+const TWO_FAULTS: &[(&str, Refusal)] = &[
+    (
+        r#"["op2",[9,2],[[2,7]],[["m",1]],"a",["a",1.5]"#,
+        Refusal::BadLine,
+    ),
+    (
+        r#"["op3",[9,2],[[2,7]],[["m",0]],"a",["a",1.5]]"#,
+        Refusal::BadLine,
+    ),
+    (
+        r#"["op2",[0,2],[[2,7]],[["m",0]],"a",["a",1.5]]"#,
+        Refusal::BadLine,
+    ),
+    (
+        r#"["op2",[9,2],[[1,1]],[["m",0]],"a",["a",1.5]]"#,
+        Refusal::BadLine,
+    ),
+    (
+        r#"["op2",[9,2],[[2,0]],[["m",0]],"a",["a",1.5]]"#,
+        Refusal::BadLine,
+    ),
+    (
+        r#"["op2",[9,2],[[2,7]],[["m",1]],"a",["a",1.5]]"#,
+        Refusal::BadLine,
+    ),
+    (
+        r#"["op2",[9,2],[[2,7]],[["m",0]],"a",["a",1.5]]"#,
+        Refusal::NotWhole,
+    ),
+];
+
+#[test]
+fn the_first_fault_decides(rt: HostRuntime) -> Result<(), Fail> {
+    for (line, why) in TWO_FAULTS {
+        is_refused_beside(&rt, rt.alloc(), line, *why)?;
+    }
+    Ok(())
+}
+
+/// What stands around a part, the part, how often it is repeated, and why the line is refused.
+type Long<'a> = (Around<'a>, &'a str, usize, Refusal);
+
+/// Lines that are too long, the delta's fault before them.
+const LONG: &[Long] = &[
+    (
+        (r#"["op2",[9,2],[[2,7]],[["m",0]"#, r#"],"a",["a",1.5]]"#),
+        r#",["m","k"]"#,
+        32,
+        Refusal::TooDeep,
+    ),
+    (
+        (r#"["op2",[9,2],[[1,1]],[["m",0]"#, r#"],"a",["a",1.5]]"#),
+        r#",["m","k"]"#,
+        32,
+        Refusal::BadLine,
+    ),
+    (
+        (r#"["op2",[9,2],[[2,7]],[["m",0]],""#, r#"",["a",1.5]]"#),
+        "k",
+        257,
+        Refusal::KeyTooLong,
+    ),
+    (
+        (r#"["op2",[9,2],[[2,7]],[],0,["a",""#, r#""]]"#),
+        "t",
+        4097,
+        Refusal::TextTooLong,
+    ),
+];
+
+/// Asserts why the line of a row is refused.
+fn is_too_long(rt: &impl Abort, alloc: Global, row: &Long) -> Result<(), Refusal> {
+    let (around, part, times, why) = *row;
+    let parts = part.repeat(alloc, times)?;
+    let line = with_part(alloc, around, parts.as_str())?;
+    is_refused_beside(rt, alloc, line.as_str(), why)
+}
+
+#[test]
+fn lines_that_are_too_long(rt: HostRuntime) -> Result<(), Fail> {
+    for row in LONG {
+        is_too_long(&rt, rt.alloc(), row)?;
+    }
+    Ok(())
+}
+
+/// A line of profile 2 is none for `read_op`.
+#[test]
+fn a_line_alone_has_its_whole_vector(rt: HostRuntime) {
+    for (line, _) in VECTORS {
+        match read_op(rt.alloc(), line.as_bytes()) {
+            Ok(_) => panic!(rt; "{line}"),
+            Err(why) => assert_eq!(rt; why, Refusal::BadLine, "{line}"),
+        }
+    }
+}

@@ -1,0 +1,105 @@
+//! Deltas that lead to vectors of 256 pairs, the most, and past them.
+
+use super::beside_lines::{DELTA, reads};
+use super::{Around, with_part};
+use ids::Refusal;
+use std::alloc::{AllocError, Global};
+use std::process::Abort;
+use std::test::Fail;
+use wire::BundleReader;
+
+/// The first and the last replica of some that follow one another, and the counter that each has.
+type Run = (u32, u32, u64);
+
+/// A delta, and the vector that is read there; `None` where the line is refused, and the next one stands beside the same vector.
+type Step<'a> = (&'a [Run], Option<&'a [Run]>);
+
+/// What stands around a whole vector, of the same operation as around a delta.
+const WHOLE: Around = (r#"["op",[9,2],"#, r#",[],0,["d"]]"#);
+
+/// The line with these pairs.
+fn line_of(alloc: Global, around: Around, runs: &[Run]) -> Result<String, AllocError> {
+    let mut pairs = String::new(alloc);
+    for (first, last, counter) in runs {
+        for replica in *first..=*last {
+            let comma = if pairs.is_empty() { "" } else { "," };
+            pairs.push_str(format!(in alloc; "{comma}[{replica},{counter}]")?.as_str())?;
+        }
+    }
+    let vector = format!(in alloc; "[{pairs}]")?;
+    with_part(alloc, around, vector.as_str())
+}
+
+/// Asserts what the reader reads next.
+fn is_next(
+    rt: &impl Abort,
+    alloc: Global,
+    reader: &mut BundleReader,
+    step: &Step,
+) -> Result<(), Refusal> {
+    let (delta, want) = *step;
+    let line = line_of(alloc, DELTA, delta)?;
+    let Some(runs) = want else {
+        return reads(rt, alloc, reader, &(line.as_str(), Err(Refusal::BadLine)));
+    };
+    let whole = line_of(alloc, WHOLE, runs)?;
+    reads(rt, alloc, reader, &(line.as_str(), Ok(whole.as_str())))
+}
+
+/// Asserts what one reader reads.
+fn are_next(rt: &impl Abort, alloc: Global, steps: &[Step]) -> Result<(), Refusal> {
+    let mut reader = BundleReader::new();
+    for step in steps {
+        is_next(rt, alloc, &mut reader, step)?;
+    }
+    Ok(())
+}
+
+/// 257 pairs are refused, of the delta or of the vector, and so is a counter 0 for a replica that isn't named, also where there is no room
+/// for it. One that goes makes room for another.
+#[test]
+fn vectors_of_many_pairs(rt: HostRuntime) -> Result<(), Fail> {
+    const STEPS: &[Step] = &[
+        (&[(1, 1, 0)], None),
+        (&[(1, 257, 1)], None),
+        (&[(1, 255, 1), (300, 300, 0)], None),
+        (&[(1, 256, 1)], Some(&[(1, 256, 1)])),
+        (&[(257, 257, 1)], None),
+        (&[(257, 257, 0)], None),
+        (&[(1, 1, 2), (257, 257, 1)], None),
+        (
+            &[(256, 256, 0), (257, 257, 1)],
+            Some(&[(1, 255, 1), (257, 257, 1)]),
+        ),
+        (&[(256, 256, 1)], None),
+        (&[(1, 1, 0)], Some(&[(2, 255, 1), (257, 257, 1)])),
+        (&[(1, 1, 2), (256, 256, 3)], None),
+        (
+            &[(256, 256, 3)],
+            Some(&[(2, 255, 1), (256, 256, 3), (257, 257, 1)]),
+        ),
+        (&[], Some(&[(2, 255, 1), (256, 256, 3), (257, 257, 1)])),
+    ];
+    are_next(&rt, rt.alloc(), STEPS)?;
+    Ok(())
+}
+
+/// A delta may have more pairs than a vector: each replica that goes has one too.
+#[test]
+fn all_replicas_are_others(rt: HostRuntime) -> Result<(), Fail> {
+    const STEPS: &[Step] = &[
+        (&[(1, 256, 1)], Some(&[(1, 256, 1)])),
+        (&[(1, 256, 0), (257, 512, 1)], Some(&[(257, 512, 1)])),
+        (&[(256, 256, 0)], None),
+        (&[(257, 257, 0)], Some(&[(258, 512, 1)])),
+        (
+            &[(1, 1, 5), (258, 512, 0), (513, 513, 1)],
+            Some(&[(1, 1, 5), (513, 513, 1)]),
+        ),
+        (&[(1, 255, 7)], Some(&[(1, 255, 7), (513, 513, 1)])),
+        (&[(1, 256, 9)], None),
+        (&[(1, 255, 9)], Some(&[(1, 255, 9), (513, 513, 1)])),
+    ];
+    are_next(&rt, rt.alloc(), STEPS)?;
+    Ok(())
+}

@@ -1,0 +1,141 @@
+//! Random lists of operations, each on a line of either profile, are read as they were written.
+
+ghost use Rattle.std.specs.Prelude.{◌<◌};
+
+use super::{At, Does, mutation, place};
+use ids::Refusal;
+use operation::{Op, Shared};
+use std::alloc::{AllocError, Global};
+use std::process::Abort;
+use std::test::Fail;
+use wire::{BundleWriter, LINE_END, read_bundle, write_op};
+
+/// How many lists are written and read.
+const LISTS: u32 = 10_000;
+
+/// How many operations a list has at least.
+const FEWEST: u64 = 3;
+
+/// How many more it has at most.
+const MORE: u64 = 5;
+
+/// How many replicas their vectors name at most.
+const REPLICAS: usize = 5;
+
+/// A linear congruential generator (Knuth's MMIX).
+#[derive(Clone, Copy, Debug)]
+struct Dice {
+    state: u64,
+}
+
+impl Dice {
+    /// A number below `sides`.
+    fn roll(&mut self, sides: u64) -> u64
+        requires { 0 < sides }
+        ensures { result < sides }
+    {
+        self.state = self
+            .state
+            .wrapping_mul(6_364_136_223_846_793_005)
+            .wrapping_add(1_442_695_040_888_963_407);
+        (self.state >> 33) % sides
+    }
+}
+
+/// Where operations stand.
+const PLACES: [At; 4] = [At::Root, At::List, At::Head, At::Item];
+
+/// What they do there.
+const MUTATIONS: [Does; 7] = [
+    Does::Map,
+    Does::List,
+    Does::Number(-12),
+    Does::Number(0),
+    Does::Insert("eggs"),
+    Does::Insert("\"é\n"),
+    Does::Delete,
+];
+
+/// Changes some of the counters: one goes, rises by one, or is any other.
+fn change(dice: &mut Dice, counters: &mut [u64; REPLICAS]) {
+    for counter in counters.iter_mut() {
+        match dice.roll(6) {
+            0 => *counter = 0,
+            1 => *counter = counter.saturating_add(1),
+            2 => *counter = dice.roll(9).saturating_add(1),
+            _ => {}
+        }
+    }
+}
+
+/// An operation with this vector.
+fn drawn(alloc: Global, dice: &mut Dice, counters: &[u64]) -> Result<Shared<Op>, Refusal> {
+    let counter = dice.roll(9).saturating_add(1);
+    let place = place(alloc, PLACES[dice.roll(4) as usize])?;
+    let mutation = mutation(alloc, MUTATIONS[dice.roll(7) as usize])?;
+    fixtures::op(alloc, (counter, 2), counters, place, mutation)
+}
+
+/// Puts the operation's line behind the others, in a profile by a coin. The writer writes each, so that the next one stands beside it; its
+/// line is let go where the coin says profile 1.
+fn put(
+    alloc: Global,
+    dice: &mut Dice,
+    writer: &mut BundleWriter,
+    text: &mut Vec<u8>,
+    op: &Op,
+) -> Result<(), AllocError> {
+    let beside = writer.write(alloc, op)?;
+    if dice.roll(2) == 0 {
+        let whole = write_op(alloc, op)?;
+        text.extend_from_slice(whole.as_slice())?;
+    } else {
+        text.extend_from_slice(beside.as_slice())?;
+    }
+    text.push(LINE_END)?;
+    Ok(())
+}
+
+/// Draws operations, and puts the line of each.
+fn draw(
+    alloc: Global,
+    dice: &mut Dice,
+    ops: &mut Vec<Shared<Op>>,
+    text: &mut Vec<u8>,
+) -> Result<(), Refusal> {
+    let mut writer = BundleWriter::new(alloc);
+    let mut counters = [0; REPLICAS];
+    for _ in 0..FEWEST + dice.roll(MORE + 1) {
+        change(dice, &mut counters);
+        let op = drawn(alloc, dice, &counters)?;
+        put(alloc, dice, &mut writer, text, &op)?;
+        ops.push(op)?;
+    }
+    Ok(())
+}
+
+/// Asserts that these operations are read from this bundle.
+fn is_read(rt: &impl Abort, alloc: Global, text: &[u8], ops: &[Shared<Op>]) -> Result<(), Refusal> {
+    let again = read_bundle(alloc, text).map_err(|stopped| stopped.1)?;
+    assert!(rt; again.as_slice() == ops);
+    Ok(())
+}
+
+/// Asserts that a list is read as it was written.
+fn is_read_back(rt: &impl Abort, alloc: Global, dice: &mut Dice) -> Result<(), Refusal> {
+    let mut ops = Vec::new(alloc);
+    let mut text = Vec::new(alloc);
+    draw(alloc, dice, &mut ops, &mut text)?;
+    is_read(rt, alloc, text.as_slice(), ops.as_slice())
+}
+
+/// Vectors rise, shrink and change at random, and each line is of either profile by a coin: the operations that are read are those that
+/// were written.
+#[test]
+fn random_mixtures_are_read_back(rt: HostRuntime) -> Result<(), Fail> {
+    let mut dice = Dice { state: 20_261 };
+    for _ in 0..LISTS {
+        is_read_back(&rt, rt.alloc(), &mut dice)?;
+    }
+    Ok(())
+}
