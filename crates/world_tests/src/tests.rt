@@ -1,6 +1,5 @@
 //! What worlds reply, by examples.
 
-mod differences;
 mod documents;
 mod lives;
 mod peers;
