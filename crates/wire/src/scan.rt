@@ -1,7 +1,8 @@
 //! The bytes of a line, taken apart in the one form in which an operation is written, of either profile.
 //!
 //! Nothing is asked of what these methods find, since it is written again and compared: commas, tags and the end of a line are passed
-//! without much care. Each takes a number of steps that its part of the line bounds, and none calls itself.
+//! without much care. Each takes a number of steps that its part of the line bounds, with the base where a vector stands beside one, and
+//! none calls itself.
 
 ghost use Rattle.std.specs.Bool.{OnTrue};
 ghost use Rattle.ids.specs.Vectors.{AreBelow, IsCanonical};
