@@ -87,21 +87,21 @@ impl FieldList {
         ensures { MatchOption result (find name_cmp key.now self.now.entries ≡ None)
             (λ r. (slice_get self.now.entries r.0 ≡ Some (key.now, r.1)) × (find name_cmp key.now self.now.entries ≡ Some r.1)) }
     {
-        match self.keys.find_with_hint(key, self.hint) {
+        match self.keys.find_with_hint(key, self.hint, &mut 0) {
             Ok(position) => Some((position, self.numbers[self.keys.number(position)])),
             Err(_) => None,
         }
     }
 
     /// The number of a key, as `get` has it. Until another key is put or sought, this one is found by one comparison, or goes in by
-    /// two, unless it goes in before all others.
+    /// a few, unless it goes in before all others.
     pub fn seek(&mut self, key: &Key) -> Option<usize>
         ensures number { result ≡ find name_cmp key.now self.old.entries }
         ensures entries { self.new.entries ≡ self.old.entries }
         ensures flags { self.new.flags ≡ self.old.flags }
         ensures room { self.new.room ≡ self.old.room }
     {
-        match self.keys.find_with_hint(key, self.hint) {
+        match self.keys.find_with_hint(key, self.hint, &mut 0) {
             Ok(position) => {
                 self.hint = position;
                 Some(self.numbers[self.keys.number(position)])
@@ -165,7 +165,7 @@ impl FieldList {
         ensures unflagged { find name_cmp key self.old.flags ≡ None }
         ensures room { self.old.room ≤ self.new.room + 1 }
     {
-        let Err(position) = self.keys.find_with_hint(&key, self.hint) else {
+        let Err(position) = self.keys.find_with_hint(&key, self.hint, &mut 0) else {
             unreachable!()
         };
         self.keys.put(position, key);

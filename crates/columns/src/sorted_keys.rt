@@ -1,6 +1,7 @@
 //! The keys of a map, in byte order.
 
-ghost use Rattle.std.specs.Prelude.{◌≡◌, ◌≤◌, ◌<◌, ◌+◌, ◌^◌, ℕ, [], length, Some, slice_get, slice_index_or, IsTrue, IfSome, OnOk};
+ghost use Rattle.std.specs.Prelude.{◌≡◌, ◌≤◌, ◌<◌, ◌+◌, ◌^◌, ℕ, [], length, Some, slice_get, slice_index_or, IsTrue, OnOk};
+ghost use Rattle.std.specs.declared.cmp.Ordering.TheVariants.{Less};
 ghost use Rattle.std.specs.List.{insert};
 ghost use Rattle.std.specs.FinMap.{put, is_sorted};
 ghost use Rattle.semantics.specs.Elements.{Name, name_cmp};
@@ -99,80 +100,62 @@ impl SortedKeys {
         self.prefixes.reserve_one()
     }
 
-    /// The position of a key, or `Err` with the one where it would be inserted. A binary search that compares the key with at most
-    /// as many others as their number has binary digits: at most k of fewer than 2 to the k. Each comparison adds 1 to `probes`.
-    pub fn find(&self, key: &Key, probes: &mut u64) -> Result<usize, usize>
-        requires { probes.old ≤ 18446744073709551551 }
+    /// The position of a key, or `Err` with the one where it would be inserted. Looks first at the key at `hint`, if there is one.
+    ///
+    /// Compares the key with at most as many others as their number has binary digits, and one more: with at most k + 1 of fewer than
+    /// 2 to the k. One that stands at `hint` is compared with that one alone; one that goes in behind it with few, mostly. Each
+    /// comparison adds 1 to `probes`.
+    pub fn find_with_hint(&self, key: &Key, hint: usize, probes: &mut u64) -> Result<usize, usize>
+        requires { probes.old ≤ 18446744073709551550 }
         ensures position { Finds self.now.keys key.now result }
-        ensures few_probes { (k : ℕ) → length self.now.keys < 2 ^ k → probes.new ≤ probes.old + k }
+        ensures few_probes { (k : ℕ) → length self.now.keys < 2 ^ k → probes.new ≤ probes.old + k + 1 }
+        ensures hinted { slice_get self.now.keys hint ≡ Some key.now → probes.new ≡ probes.old + 1 }
         ensures any_probe { 0 < length self.now.keys → probes.old < probes.new }
         ensures counted { probes.old ≤ probes.new }
     {
+        let count = self.len();
         let prefix = prefix_of(key.as_str().as_bytes());
-        self.search(key, prefix, probes)
-    }
-
-    /// What `find` answers. Looks first at the key at `hint` and at the next one, which decide where the key is that one, or goes in
-    /// behind it: two comparisons then, and else two more than `find` needs.
-    pub fn find_with_hint(&self, key: &Key, hint: usize) -> Result<usize, usize>
-        ensures { Finds self.now.keys key.now result }
-    {
-        let prefix = prefix_of(key.as_str().as_bytes());
-        if let Some(found) = self.look_at_hint(key, prefix, hint) {
-            return found;
+        if hint >= count {
+            return self.search(key, prefix, 0, count, count, probes);
         }
-        let mut probes = 0;
-        self.search(key, prefix, &mut probes)
-    }
-
-    /// What the keys at `hint` and behind it say of where the key is, of which this is the prefix.
-    fn look_at_hint(&self, key: &Key, prefix: u64, hint: usize) -> Option<Result<usize, usize>>
-        requires prefix { prefix ≡ first_bytes 8 key.now }
-        requires bytes { AreBytes key.now }
-        ensures { IfSome result (Finds self.now.keys key.now) }
-    {
-        if hint >= self.len() {
-            return None;
-        }
+        *probes += 1;
         match self.compare(key, prefix, hint) {
-            Ordering::Less => None,
-            Ordering::Equal => Some(Ok(hint)),
-            Ordering::Greater => self.look_behind(key, prefix, hint + 1),
+            Ordering::Less => self.search(key, prefix, 0, hint, hint, probes),
+            Ordering::Equal => Ok(hint),
+            Ordering::Greater => self.search(key, prefix, hint + 1, count, count, probes),
         }
     }
 
-    /// The same, where the key is greater than the one before `next`.
-    fn look_behind(&self, key: &Key, prefix: u64, next: usize) -> Option<Result<usize, usize>>
+    /// Searches between two positions for a key of which this is the prefix. `most` is how many keys there may be between them: each
+    /// comparison halves it, and looks as near to `low` as that allows.
+    fn search(
+        &self,
+        key: &Key,
+        prefix: u64,
+        low: usize,
+        high: usize,
+        most: usize,
+        probes: &mut u64,
+    ) -> Result<usize, usize>
         requires prefix { prefix ≡ first_bytes 8 key.now }
         requires bytes { AreBytes key.now }
-        requires within { next ≤ length self.now.keys }
-        requires passed { next ≤ rank name_cmp key.now self.now.keys }
-        ensures { IfSome result (Finds self.now.keys key.now) }
-    {
-        if next == self.len() {
-            return Some(Err(next));
-        }
-        match self.compare(key, prefix, next) {
-            Ordering::Less => Some(Err(next)),
-            Ordering::Equal => Some(Ok(next)),
-            Ordering::Greater => None,
-        }
-    }
-
-    /// The search of `find` for a key of which this is the prefix.
-    fn search(&self, key: &Key, prefix: u64, probes: &mut u64) -> Result<usize, usize>
-        requires prefix { prefix ≡ first_bytes 8 key.now }
-        requires bytes { AreBytes key.now }
+        requires above { low ≤ rank name_cmp key.now self.now.keys }
+        requires within { high ≤ length self.now.keys }
+        requires next { (d : Name) → high < length self.now.keys → name_cmp key.now (slice_index_or self.now.keys high d) ≡ Less }
+        requires most { high ≤ low + most }
         requires few { probes.old ≤ 18446744073709551551 }
         ensures position { Finds self.now.keys key.now result }
-        ensures few_probes { (k : ℕ) → length self.now.keys < 2 ^ k → probes.new ≤ probes.old + k }
-        ensures any_probe { 0 < length self.now.keys → probes.old < probes.new }
+        ensures few_probes { (k : ℕ) → most < 2 ^ k → probes.new ≤ probes.old + k }
+        ensures any_probe { low < high → probes.old < probes.new }
         ensures counted { probes.old ≤ probes.new }
     {
-        let mut low = 0;
-        let mut high = self.len();
+        prove!(high <= self.len());
+        let mut low = low;
+        let mut high = high;
+        let mut most = most;
         while low < high {
-            let middle = low + (high - low) / 2;
+            most /= 2;
+            let middle = between(low, high, most);
             *probes += 1;
             match self.compare(key, prefix, middle) {
                 Ordering::Less => high = middle,
@@ -183,7 +166,7 @@ impl SortedKeys {
         Err(low)
     }
 
-    /// Puts a key that isn't there yet at the position that `find` gives for it. Allocates nothing. Two inserts into `Rings`.
+    /// Puts a key that isn't there yet at the position that a search gives for it. Allocates nothing. Two inserts into `Rings`.
     pub fn put(&mut self, position: usize, key: Key)
         requires position { GoesTo name_cmp key self.old.keys position }
         requires room { 0 < self.old.room }
@@ -221,4 +204,20 @@ fn key_at<'a>(keys: &'a [Key], order: &Rings<usize>, position: usize) -> &'a Key
     ensures { (d : Name) → slice_index_or (numbered [] keys.now order.now.items) position d ≡ result.now }
 {
     &keys[*order.get(position)]
+}
+
+/// The first position, from `low` on, that has at most this many others between itself and `high`.
+fn between(low: usize, high: usize, most: usize) -> usize
+    requires apart { low < high }
+    requires most { high ≤ low + most + most + 1 }
+    ensures from { low ≤ result }
+    ensures inside { result < high }
+    ensures before { result ≤ low + most }
+    ensures behind { high ≤ result + most + 1 }
+{
+    if high - low <= most {
+        low
+    } else {
+        high - 1 - most
+    }
 }

@@ -1,12 +1,11 @@
 -- What stands below a place, where there is room for one more key.
-use Rattle.std.proofs.Common.{◌≡◌, ◌<◌, List, Bool, true, false, Ok, Err, refl}
+use Rattle.std.proofs.Common.{◌≡◌, ◌<◌, Bool, true, false, Ok, Err, refl}
 use Rattle.std.specs.Prelude.{nat_le}
 use Rattle.std.proofs.lemmas.Bool.{lt-leb, leb-false}
 use Rattle.ids.specs.declared.refusal.Refusal.TheVariants.{TooDeep}
-use Rattle.semantics.specs.Ids.{OpId}
 use Rattle.semantics.specs.Elements.{Element, Place, At, HeadOf, depth}
 use Rattle.semantics.specs.Operations.{element_of}
-use Rattle.semantics.specs.Questions.{Idx, step_from}
+use Rattle.semantics.specs.Questions.{Idx, Lists, step_from}
 use Rattle.cursor.specs.Places.{room_at}
 
 room_left : (e : Element) → room_at (At e) ≡ Ok tt → depth e < 32
@@ -21,6 +20,6 @@ depth_below (At e) room = room_left e room
 depth_below (HeadOf l) room = absurd (cc)
 
 -- where there is room, the head of the list here is a step away
-pub step_from-Idx : (items : Element → List OpId) (p : Place) → room_at p ≡ Ok tt → step_from items p (Idx 0) ≡ Ok (HeadOf (element_of p))
-step_from-Idx items (At e) room = rw (lt-leb 32 (depth e) (room_left e room)) refl
-step_from-Idx items (HeadOf l) room = absurd (cc)
+pub step_from-Idx : (lists : Lists) (p : Place) → room_at p ≡ Ok tt → step_from lists p (Idx 0) ≡ Ok (HeadOf (element_of p))
+step_from-Idx lists (At e) room = rw (lt-leb 32 (depth e) (room_left e room)) refl
+step_from-Idx lists (HeadOf l) room = absurd (cc)

@@ -5,8 +5,9 @@ use Rattle.std.specs.Bool.{Decides}
 use Rattle.std.specs.Cmp.{IsEquivalence, decided, unsigned_Decides}
 use Rattle.std.specs.Cmp.Lexicographic.{pointwise}
 use Rattle.std.proofs.lemmas.Slice.Eq.{slice_eq-Decides}
+use Rattle.semantics.specs.Ids.{is_same_id}
 use Rattle.semantics.specs.Elements.{Place, At, HeadOf, name_cmp, is_same}
-use Rattle.semantics.specs.Questions.{Step, Get, Idx}
+use Rattle.semantics.specs.Questions.{Step, Get, Idx, ById}
 use Rattle.semantics.specs.Paths.{Hop, FieldHop, ItemHop, is_same_hop}
 use Rattle.semantics.proofs.Orders.{Equal_from_test, element_itself, id_itself, ids_from_test, name_itself, same_elements, same_names}
 
@@ -52,17 +53,24 @@ same_place_equiv = decided is_same_place place_decides
 abbrev pub is_same_step : Step → Step → Bool
 is_same_step (Get n) (Get m) = is_same_hop (FieldHop n) (FieldHop m)
 is_same_step (Idx i) (Idx j) = i == j
+is_same_step (ById a) (ById b) = is_same_id a b
 is_same_step _ _ = false
 
 step_itself : (s : Step) → is_same_step s s ≡ true
 step_itself (Get n) = name_itself n
 step_itself (Idx i) = (unsigned_Decides i i).1 refl
+step_itself (ById a) = id_itself a
 
 same_steps : (s t : Step) → is_same_step s t ≡ true → s ≡ t
 same_steps (Get n) (Get m) h = ap Get (same_names n m (Equal_from_test (name_cmp n m) h))
 same_steps (Idx i) (Idx j) h = ap Idx ((unsigned_Decides i j).0 h)
+same_steps (ById a) (ById b) h = ap ById (ids_from_test a b h)
 same_steps (Get n) (Idx j) h = absurd (true≢false (sym h))
+same_steps (Get n) (ById b) h = absurd (true≢false (sym h))
 same_steps (Idx i) (Get m) h = absurd (true≢false (sym h))
+same_steps (Idx i) (ById b) h = absurd (true≢false (sym h))
+same_steps (ById a) (Get m) h = absurd (true≢false (sym h))
+same_steps (ById a) (Idx j) h = absurd (true≢false (sym h))
 
 pub step_decides : (s t : Step) → Decides (is_same_step s t) (s ≡ t)
 step_decides s t = (same_steps s t, λ is. rw (← is) (step_itself s))

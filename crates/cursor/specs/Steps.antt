@@ -1,9 +1,9 @@
 -- Steps, tags and keys of the program as those of the definitions.
 use Rattle.semantics.specs.Elements.{Tag as TheTag, AsMap, AsList, AsRegister}
 use Rattle.semantics.specs.Paths.{Hop as TheHop, FieldHop, ItemHop}
-use Rattle.semantics.specs.Questions.{Step as TheStep, Get as TheGet, Idx as TheIdx}
+use Rattle.semantics.specs.Questions.{Step as TheStep, Get as TheGet, Idx as TheIdx, ById}
 use Rattle.cursor.specs.declared.expression.Step.{Step}
-use Rattle.cursor.specs.declared.expression.Step.TheVariants.{Get, Idx}
+use Rattle.cursor.specs.declared.expression.Step.TheVariants as step
 use Rattle.cursor.specs.declared.hop.Hop.{Hop}
 use Rattle.cursor.specs.declared.hop.Hop.TheVariants.{Field, Item}
 use Rattle.cursor.specs.declared.hop.Last.{Last}
@@ -14,8 +14,9 @@ use Rattle.cursor.specs.Places.{LastKey, DocKey, FieldName, ItemId, HeadKey}
 
 -- a step
 abbrev pub step_of : Step → TheStep
-step_of (Get key) = TheGet key
-step_of (Idx index) = TheIdx index
+step_of (step.Get key) = TheGet key
+step_of (step.Idx index) = TheIdx index
+step_of (step.Item id) = ById id
 
 -- a tag
 abbrev pub tag_of : Tag → TheTag

@@ -5,11 +5,11 @@ ghost use Rattle.std.specs.Cmp;
 ghost use Rattle.std.specs.Cmp.Lexicographic.{pointwise};
 ghost use Rattle.ids.specs.declared.refusal.Refusal.TheVariants.{NoMemory, KeyTooLong};
 ghost use Rattle.semantics.specs.Limits.{most_key_bytes};
-ghost use Rattle.semantics.specs.Questions.{Get as GetOf, Idx as IdxOf};
+ghost use Rattle.semantics.specs.Questions.{ById, Get as GetOf, Idx as IdxOf};
 ghost use Rattle.cursor.specs.SamePlaces.{is_same_step, same_expression_equiv, same_step_equiv};
 ghost use Rattle.cursor.specs.Steps.{step_of};
 
-use ids::Refusal;
+use ids::{OpId, Refusal};
 use std::alloc::{AllocError, Global};
 use std::marker::Model;
 use value::Key;
@@ -21,6 +21,8 @@ pub enum Step {
     Get(Key),
     /// Into the list here: to its head at 0, to its first visible item at 1, and so on.
     Idx(u64),
+    /// Into the list here: to the item with this id, also where the list shows it no more.
+    Item(OpId),
 }
 
 impl Clone for Step {
@@ -30,6 +32,7 @@ impl Clone for Step {
         match self {
             Step::Get(key) => Ok(Step::Get(key.clone()?)),
             Step::Idx(index) => Ok(Step::Idx(*index)),
+            Step::Item(id) => Ok(Step::Item(*id)),
         }
     }
 }
@@ -43,6 +46,7 @@ impl PartialEq for Step {
         match (self, other) {
             (Step::Get(key), Step::Get(other)) => key == other,
             (Step::Idx(index), Step::Idx(other)) => index == other,
+            (Step::Item(id), Step::Item(other)) => id == other,
             _ => false,
         }
     }
@@ -104,6 +108,18 @@ impl Expr {
         ensures { IfOk result (λ e. e ≡ self ++ IdxOf index ∷ []) }
     {
         self.steps.push(Step::Idx(index))?;
+        Ok(self)
+    }
+
+    /// One step further: into the list there, to the item with this id, which need not be shown any more. It leads there after any
+    /// other edit, where an index may come to mean another item.
+    ///
+    /// # Errors
+    /// `AllocError` if allocation fails.
+    pub fn item(mut self, id: OpId) -> Result<Expr, AllocError>
+        ensures { IfOk result (λ e. e ≡ self ++ ById id ∷ []) }
+    {
+        self.steps.push(Step::Item(id))?;
         Ok(self)
     }
 

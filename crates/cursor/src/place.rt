@@ -5,8 +5,7 @@ ghost use Rattle.semantics.specs.Limits.{most_keys};
 ghost use Rattle.semantics.specs.Elements.{Element, Doc, At};
 ghost use Rattle.semantics.specs.Operations.{element_of};
 ghost use Rattle.semantics.specs.Paths.{child, hops_from_root};
-ghost use Rattle.semantics.specs.Questions.{Get, Idx, step_from};
-ghost use Rattle.semantics.specs.Ids.{OpId as TheId};
+ghost use Rattle.semantics.specs.Questions.{Get, Idx, Lists, step_from};
 ghost use Rattle.cursor.specs.Steps.{hop_of, last_key};
 ghost use Rattle.cursor.specs.Places.{IsUnlessMemory, depth_of, is_head, last_of, one_down, place_at, place_from, room_at};
 ghost use Rattle.cursor.specs.SamePlaces.{is_same_place, same_place_equiv};
@@ -76,7 +75,7 @@ impl Place {
     /// # Errors
     /// `AtHead` from a head, else `TooDeep` if the path has 32 keys already, else `NoMemory` if allocation fails.
     pub fn get(&self, alloc: Global, key: Key) -> Result<Place, Refusal>
-        ensures { (items : Element → List TheId) → IsUnlessMemory result (step_from items self.now (Get key)) }
+        ensures { (lists : Lists) → IsUnlessMemory result (step_from lists self.now (Get key)) }
     {
         self.with_hop(alloc, Hop::Field(key))
     }
@@ -86,7 +85,7 @@ impl Place {
     /// # Errors
     /// Those of `get`.
     pub fn head(&self, alloc: Global) -> Result<Place, Refusal>
-        ensures { (items : Element → List TheId) → IsUnlessMemory result (step_from items self.now (Idx 0)) }
+        ensures { (lists : Lists) → IsUnlessMemory result (step_from lists self.now (Idx 0)) }
     {
         self.check_room()?;
         Ok(Place {
@@ -100,8 +99,8 @@ impl Place {
     /// # Errors
     /// Those of `get`.
     pub fn item(&self, alloc: Global, id: OpId) -> Result<Place, Refusal>
-        ensures { (items : Element → List TheId) (i : ℕ) → slice_get (items (element_of self.now)) i ≡ Some id →
-            IsUnlessMemory result (step_from items self.now (Idx (suc i))) }
+        ensures { (lists : Lists) (i : ℕ) → slice_get (lists.shown (element_of self.now)) i ≡ Some id →
+            IsUnlessMemory result (step_from lists self.now (Idx (suc i))) }
     {
         self.with_hop(alloc, Hop::Item(id))
     }

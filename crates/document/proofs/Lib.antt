@@ -1,6 +1,7 @@
 -- Lemmas on documents.
 pub mod Consistent
 pub mod MissingOps
+pub mod MissingBefore
 pub mod AmongNamed
 pub mod PositionsOfIds
 pub mod ReceivedFaults

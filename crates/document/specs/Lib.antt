@@ -7,4 +7,5 @@ pub use Rattle.oplog.specs.value
 pub use Rattle.oplog.specs.cursor
 pub use Rattle.oplog.specs.operation
 pub use Rattle.oplog.specs as oplog
+pub use Rattle.tree.specs as tree
 pub use Rattle.oplog.specs.version

@@ -4,7 +4,7 @@ ghost use Rattle.std.specs.Prelude.{◌≡◌, ◌⊎◌, ◌++◌, [], Ok, map,
 ghost use Rattle.std.specs.List.{All, cons_option};
 ghost use Rattle.ids.specs.Vectors.{IsNamed};
 ghost use Rattle.ids.specs.declared.refusal.Refusal.TheVariants.{NoMemory};
-ghost use Rattle.semantics.specs.Entries.{entry_at, missing, stamped_in, stamped_entries};
+ghost use Rattle.semantics.specs.Entries.{entry_at, first_entries, lacked_of, missing, stamped_in, stamped_entries};
 ghost use Rattle.semantics.specs.Questions.{Refused};
 ghost use Rattle.semantics.specs.LegalAnswer.{reading_of, Answered};
 ghost use Rattle.oplog.specs.operation.Ops.{stamped_of};
@@ -56,6 +56,27 @@ pub fn missing(
     let mut ops = Vec::with_capacity(alloc, positions.len())?;
     for position in &positions {
         push_op(&mut ops, log, *position)?;
+    }
+    Ok(ops)
+}
+
+/// The operations before a position that the vector doesn't cover, the oldest first.
+pub fn missing_before(
+    alloc: Global,
+    log: &Log,
+    position: usize,
+    vector: &NamedVector,
+) -> Result<Vec<Shared<Op>>, AllocError>
+    ensures ok { IfOk result
+        (λ ops. map stamped_of ops.items ≡ lacked_of (first_entries position log.now.entries) vector.now) }
+    ensures named { IfOk result (λ ops. All (λ o. IsNamed o.deps) ops.items) }
+{
+    let positions = log.missing(alloc, vector)?;
+    let mut ops = Vec::with_capacity(alloc, positions.len())?;
+    for missing in &positions {
+        if *missing < position {
+            push_op(&mut ops, log, *missing)?;
+        }
     }
     Ok(ops)
 }

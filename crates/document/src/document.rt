@@ -16,23 +16,27 @@ ghost use Rattle.semantics.specs.LegalHistory.{greatest_of, has_id};
 ghost use Rattle.semantics.specs.Stamped.{MayFollow};
 ghost use Rattle.semantics.specs.Faults.{is_ready};
 ghost use Rattle.semantics.specs.Context.{doc};
-ghost use Rattle.semantics.specs.Entries.{applied, missing, stamped_in, stamped_entries};
-ghost use Rattle.semantics.specs.DocumentAnswer.{visible_items};
-ghost use Rattle.semantics.specs.Questions.{resolve, Question as TheQuestion, Refused};
+ghost use Rattle.semantics.specs.Entries.{applied, first_entries, lacked_of, missing, stamped_in, stamped_entries};
+ghost use Rattle.semantics.specs.DocumentAnswer.{lists_of};
+ghost use Rattle.semantics.specs.Elements.{At, Element};
+ghost use Rattle.semantics.specs.Glances.{glance_of, shown_by};
+ghost use Rattle.semantics.specs.Journals.{entries_from};
+ghost use Rattle.semantics.specs.Questions.{answer_at, resolve, Answer, Question as TheQuestion, Refused};
 ghost use Rattle.semantics.specs.LegalAnswer.{reading_of, Answered, OfDocument};
 ghost use Rattle.semantics.specs.View.{view};
 ghost use Rattle.oplog.specs.operation.Alone.{alone_fault_of_op};
 ghost use Rattle.oplog.specs.operation.Ops.{entry_of, stamped_of};
 ghost use Rattle.oplog.specs.Logs.{history};
+ghost use Rattle.tree.specs.Glances.{glance_in};
 
-use crate::answer::{answer, missing};
+use crate::answer::{answer, missing, missing_before};
 use crate::check::check;
 use crate::question::{Question, Reading};
 use ids::{MOST_NAMED, NamedVector, OpId, Refusal, ReplicaTable};
 use oplog::{Entry, Expr, GrowingVector, Log, Op, Place, Shared};
 use std::alloc::{AllocError, Global};
 use std::marker::Model;
-use tree::Tree;
+use tree::{Glance, Tree};
 
 /// A replica's history and its content. Contracts see the members that it was configured with, and the entries, the newest first.
 #[derive(Debug, Drop)]
@@ -161,9 +165,9 @@ impl Document {
     /// `AtHead` for a step from a head, `TooDeep` for one from an element 32 keys deep, `PastEnd` if the list has fewer visible items:
     /// the first step that fails decides. `NoMemory` if allocation fails.
     pub fn resolve(&self, alloc: Global, expression: &Expr) -> Result<Place, Refusal>
-        ensures ok { IfOk result (λ p. resolve (visible_items (doc (applied self.now.entries))) expression.now ≡ Ok p) }
+        ensures ok { IfOk result (λ p. resolve (lists_of (doc (applied self.now.entries))) expression.now ≡ Ok p) }
         ensures err { IfErr result
-            (λ why. (why ≡ NoMemory) ⊎ (resolve (visible_items (doc (applied self.now.entries))) expression.now ≡ Err why)) }
+            (λ why. (why ≡ NoMemory) ⊎ (resolve (lists_of (doc (applied self.now.entries))) expression.now ≡ Err why)) }
     {
         self.tree.resolve(alloc, expression)
     }
@@ -220,6 +224,28 @@ impl Document {
         answer(alloc, &self.log, &self.applied, &self.tree, question)
     }
 
+    /// An element at a glance: what stands there and, down to so many elements beneath it, what stands beneath, at most so many
+    /// elements in all, of one history. What isn't shown is marked.
+    ///
+    /// # Errors
+    /// As `ask`.
+    pub fn glance(
+        &self,
+        alloc: Global,
+        expression: &Expr,
+        depth: usize,
+        elements: usize,
+    ) -> Result<Glance, Refusal>
+        ensures answer { IfOk result
+            (λ g. (e : Element) × (resolve (lists_of (doc (applied self.now.entries))) expression.now ≡ Ok (At e))
+            × (glance_in g ≡ glance_of (shown_by (doc (applied self.now.entries))) depth elements e)) }
+        ensures err { IfErr result
+            (λ why. (why ≡ NoMemory) ⊎ ((f : Element → Answer)
+            → answer_at f (resolve (lists_of (doc (applied self.now.entries))) expression.now) ≡ Refused why)) }
+    {
+        self.tree.glance(alloc, expression, depth, elements)
+    }
+
     /// The operations that the vector doesn't cover, the oldest first.
     ///
     /// # Errors
@@ -235,6 +261,38 @@ impl Document {
         ensures named { IfOk result (λ ops. All (λ o. IsNamed o.deps) ops.items) }
     {
         missing(alloc, &self.log, vector)
+    }
+
+    /// The operations of the entries before a position that the vector doesn't cover, the oldest first. Costs what `missing` costs.
+    ///
+    /// # Errors
+    /// `AllocError` if allocation fails.
+    pub fn missing_before(
+        &self,
+        alloc: Global,
+        position: usize,
+        vector: &NamedVector,
+    ) -> Result<Vec<Shared<Op>>, AllocError>
+        ensures ops { IfOk result
+            (λ ops. map stamped_of ops.items ≡ lacked_of (first_entries position self.now.entries) vector.now) }
+        ensures named { IfOk result (λ ops. All (λ o. IsNamed o.deps) ops.items) }
+    {
+        missing_before(alloc, &self.log, position, vector)
+    }
+
+    /// The entries from a position on, the oldest first: none where the history has no more than that. Shares operations and commands.
+    ///
+    /// # Errors
+    /// `AllocError` if allocation fails.
+    pub fn entries_from(&self, alloc: Global, position: usize) -> Result<Vec<Entry>, AllocError>
+        ensures { IfOk result (λ entries. map entry_of entries.items ≡ entries_from position self.now.entries) }
+    {
+        let entries = self.log.entries_from(position);
+        let mut shared = Vec::with_capacity(alloc, entries.len())?;
+        for entry in entries {
+            shared.push(entry.clone()?)?;
+        }
+        Ok(shared)
     }
 
     /// The entries, the oldest first. Allocates nothing.

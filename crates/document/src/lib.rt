@@ -15,3 +15,4 @@ pub use oplog::{
     Op, Place, Publish, Reply, Request, Scalar, Shared, Submission, Tag, Text, Val, VersionVector,
     check_alone,
 };
+pub use tree::{Glance, Hop, Kinds, Row};

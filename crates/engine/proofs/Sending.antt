@@ -18,16 +18,14 @@ pub keeps_next : (k : AwaitedAnswer) (x : Submission) → k.submission ≡ x →
 keeps_next k x submission known = let whole : k ≡ record { submission = k.submission; known = k.known } = refl in cc
 
 pub sent_one : (c d : Client) (ks : List AwaitedAnswer) (k l : AwaitedAnswer) → d.replica ≡ c.replica → d.number ≡ c.number
-    → d.serials ≡ c.serials
-    → d.queue ≡ c.queue → d.capacity ≡ c.capacity → d.found_full ≡ c.found_full → d.seen ≡ c.seen → d.read ≡ c.read → d.reads ≡ c.reads
+    → d.serials ≡ c.serials → d.capacity ≡ c.capacity → d.found_full ≡ c.found_full → d.seen ≡ c.seen → d.read ≡ c.read → d.reads ≡ c.reads
     → d.kept ≡ ks ++ k ∷ [] → ks ≡ c.kept → k ≡ l → d ≡ record c { kept = c.kept ++ l ∷ [] }
-sent_one c d ks k l replica number serials queue capacity full seen read reads kept before same =
+sent_one c d ks k l replica number serials capacity full seen read reads kept before same =
     let whole : d
     ≡ record {
       replica = d.replica;
       number = d.number;
       serials = d.serials;
-      queue = d.queue;
       capacity = d.capacity;
       found_full = d.found_full;
       seen = d.seen;

@@ -2,7 +2,6 @@
 use Rattle.std.specs.Prelude.{ℕ, ◌≡◌, ◌+◌, ◌-◌, ◌<◌, ◌≤◌, ⊤, cond, Option, Some, None, IfSome, MatchOption, List, [], ◌∷◌, ◌++◌, length}
 use Rattle.std.specs.Prelude.{map}
 use Rattle.std.specs.Prelude.{slice_get, slice_set}
-use Rattle.atomic_table.specs.Seated.{TableId}
 use Rattle.ids.specs.Configurations.{Configuration}
 use Rattle.ids.specs.declared.refusal.Refusal.{Refusal}
 use Rattle.semantics.specs.Entries.{Entry}
@@ -21,13 +20,12 @@ pub record AwaitedAnswer : Type 0 where
   pub submission : Submission
   pub known : Option AnswerCell
 
--- a client: the engine's replica number and its own, how many serials it has, its queue with its capacity and how often it found
--- that full, what its token has seen, what it read last and how many reads it has made, and what it keeps of each serial
+-- a client: the engine's replica number and its own, how many serials it has, the capacity of the queue and how often it found that
+-- full, what its token has seen, what it read last and how many reads it has made, and what it keeps of each serial
 pub record Client : Type 0 where
   pub replica : ℕ
   pub number : ℕ
   pub serials : ℕ
-  pub queue : TableId
   pub capacity : ℕ
   pub found_full : ℕ
   pub seen : List Entry
@@ -116,7 +114,7 @@ pub record IsNewClient (config : Configuration) (c : Client) : Type 0 where
   pub seen : c.seen ≡ []
   pub kept : c.kept ≡ []
 
--- clients of this queue, numbered from n on
-abbrev pub AreClients : TableId → ℕ → List Client → Type 0
-AreClients queue n [] = ⊤
-AreClients queue n (c ∷ cs) = (c.number ≡ n) × (c.queue ≡ queue) × AreClients queue (n + 1) cs
+-- clients that are numbered from n on
+abbrev pub AreNumbered : ℕ → List Client → Type 0
+AreNumbered n [] = ⊤
+AreNumbered n (c ∷ cs) = (c.number ≡ n) × AreNumbered (n + 1) cs

@@ -14,14 +14,14 @@ use Rattle.replica.specs.operation.declared.submission.Submission.{Submission}
 use Rattle.replica.specs.operation.Submissions.{submitted_of}
 use Rattle.command.specs.declared.hand.Hand.{Hand}
 use Rattle.command.specs.Counts.{one_more}
+use Rattle.command.specs.published.Rules.{IsQueueOf}
+use Rattle.command.specs.published.declared.written.Written.{Written}
 use Rattle.engine.specs.declared.writer.Step.{Step}
 use Rattle.engine.specs.declared.writer.Step.TheVariants.{Idle, Published, Held}
 
--- a writer: its queue, the number of its clients, its batch, the replica that it works on, what is published of that, all that it
--- took so far, how often it found
--- the queue empty, and what is handled and not answered
+-- a writer: the number of its clients, its batch, the replica that it works on, what is published of that, all that it took so far, how
+-- often it found the queue empty, and what is handled and not answered
 pub record Writer : Type 0 where
-  pub queue : TableId
   pub clients : ℕ
   pub batch : ℕ
   pub handler : Handler
@@ -30,10 +30,9 @@ pub record Writer : Type 0 where
   pub found_empty : ℕ
   pub held : List Handled
 
--- the writer of a new engine, with this queue: its replica is that of an engine that is opened, and nothing was taken or published
-abbrev pub new_writer : Configuration → TableId → Writer
-new_writer config queue = record {
-  queue = queue;
+-- the writer of a new engine: its replica is that of an engine that is opened, and nothing was taken or published
+abbrev pub new_writer : Configuration → Writer
+new_writer config = record {
   clients = config.clients;
   batch = config.batch;
   handler = record { replica = (opened_engine config).replica; behind = false };
@@ -51,9 +50,9 @@ publication_of own table p = record p { own = own; members = table }
 abbrev pub submitted_in : List Submission → List Submitted
 submitted_in items = map submitted_of items
 
--- what holds of a writer between its calls
+-- what holds of a writer between its calls, which takes from this queue, and has a link to this logbook
 pub record IsWriter (own : ℕ) (table : List ℕ) (publication : Publication) (handler : Handler) (hand : Hand) (held : List Handled)
-    (batch room : ℕ) : Type 0 where
+    (batch room : ℕ) (queue : TableId) (log : List Written) : Type 0 where
   pub holds : Holds (publication_of own table publication) handler.replica
   pub running : IsRunning handler.replica
   pub come_from : ComeFrom (submitted_in hand.got) handler.replica.entries
@@ -61,6 +60,7 @@ pub record IsWriter (own : ℕ) (table : List ℕ) (publication : Publication) (
   pub none_ended : hand.known ≡ []
   pub fits : batch ≤ room
   pub positive : 0 < batch
+  pub linked : IsQueueOf queue log
 
 -- a step that began with nothing held went on with a drain that had ended early, and then took these submissions, at most a batch, which it
 -- handled one after another, none skipped. It took fewer than a batch only where it found the queue empty

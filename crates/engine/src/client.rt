@@ -1,11 +1,12 @@
 //! Clients: they submit commands and operations of peers, poll for the answers, and ask.
 
 ghost use Rattle.std.specs.Prelude.{◌≡◌, ◌+◌, ◌-◌, ◌<◌, ◌≤◌, ◌⊎◌, ◌++◌, ◌∷◌, ◌↔◌, [], List, length, Option, Some, None, Ok, Err, IfOk};
-ghost use Rattle.std.specs.Prelude.{IfErr, IfSome, MatchBool, MatchResult, option_map, slice_get};
+ghost use Rattle.std.specs.Prelude.{IfErr, IfSome, MatchBool, MatchResult, map, option_map, slice_get};
 ghost use Rattle.std.specs.Arc.{arc_value};
 ghost use Rattle.crossbeam_queue.specs.Passes.{ruled_capacity, view as pass_view};
 ghost use Rattle.ids.specs.declared.refusal.Refusal.TheVariants.{Foreign, NoMemory, NoReading, QueueFull, SerialEnd};
-ghost use Rattle.semantics.specs.Entries.{Entry, IsEntryHistory, applied};
+ghost use Rattle.semantics.specs.Entries.{Entry as TheEntry, IsEntryHistory, applied};
+ghost use Rattle.semantics.specs.Journals.{entries_from};
 ghost use Rattle.semantics.specs.WorldHistory.{BeginsWith};
 ghost use Rattle.semantics.specs.Questions.{Question as TheQuestion, Refused};
 ghost use Rattle.semantics.specs.LegalAnswer.{Answered, OfDocument, reading_of};
@@ -14,14 +15,16 @@ ghost use Rattle.semantics.specs.View.{view};
 ghost use Rattle.replica.specs.document.Documents.{asked_of, said_by};
 ghost use Rattle.replica.specs.operation.declared.submission.Submission.{Submission as ASubmission};
 ghost use Rattle.replica.specs.operation.declared.submission.Request.TheVariants.{Command as OfCommand, Peer as OfPeer};
+ghost use Rattle.replica.specs.operation.Ops.{entry_of};
 ghost use Rattle.replica.specs.operation.Submissions.{reply_of, submitted_of};
 ghost use Rattle.command.specs.Answers.{Given};
+ghost use Rattle.command.specs.published.Rules.{IsQueueOf};
 ghost use Rattle.engine.specs.Clients.{HasNotice, IsAnswered, IsMine, Looks, after_refusal, submissions_by, with_request};
 
 use crate::pending::Pending;
-use command::{EngineName, Envelope, Notice, ReaderToken, Sender, Taker, Ticket};
+use command::{EngineName, Envelope, Link, Notice, ReaderToken, Sender, Taker, Ticket};
 use ids::{Refusal, ReplicaId};
-use replica::{Command, Op, Question, Reading, Reply, Request, Shared, Submission};
+use replica::{Command, Entry, Op, Question, Reading, Reply, Request, Shared, Submission};
 use std::alloc::{AllocError, Global};
 use std::marker::Model;
 use std::sync::Wait;
@@ -35,6 +38,7 @@ pub struct Client<N: EngineName> {
     serials: u64,
     token: ReaderToken<N>,
     sender: Sender<N>,
+    link: Link<N>,
     kept: Vec<Pending<N>>,
 }
 
@@ -44,6 +48,7 @@ impl<N: EngineName> Model for Client<N> {
     ghost use Rattle.std.specs.Coded.{codes};
     ghost use Rattle.semantics.specs.Codes.{coded_element};
     ghost use Rattle.crossbeam_queue.specs.Passes.{view as pass_view, ruled_capacity};
+    ghost use Rattle.command.specs.published.Rules.{IsQueueOf};
     ghost use Rattle.engine.specs.Clients.{AreBy, Client};
 
     ghost Value = { Client };
@@ -54,7 +59,6 @@ impl<N: EngineName> Model for Client<N> {
       replica = c.replica;
       number = c.number;
       serials = c.serials;
-      queue = c.sender.pass.table_id;
       capacity = ruled_capacity (arc_value c.sender.queue);
       found_full = c.sender.found_full;
       seen = c.token.seen;
@@ -65,7 +69,8 @@ impl<N: EngineName> Model for Client<N> {
 
     ghost invariant = { λ c. ((pass_view c.sender.pass).from ≡ c.number)
         × ((pass_view c.sender.pass).put ≡ map (λ k. k.submission) c.kept.items)
-        × AreBy c.number 1 (map (λ k. k.submission) c.kept.items) };
+        × AreBy c.number 1 (map (λ k. k.submission) c.kept.items)
+        × IsQueueOf c.sender.pass.table_id c.link.seen.log };
 }
 
 impl<N: EngineName> Client<N> {
@@ -76,9 +81,11 @@ impl<N: EngineName> Client<N> {
         serials: u64,
         token: ReaderToken<N>,
         sender: Sender<N>,
+        link: Link<N>,
     ) -> Client<N>
-        requires { ((pass_view sender.pass).from ≡ number) × ((pass_view sender.pass).put ≡ []) }
-        ensures { (result.replica ≡ replica) × (result.number ≡ number) × (result.serials ≡ serials) × (result.queue ≡ sender.pass.table_id)
+        requires sender { ((pass_view sender.pass).from ≡ number) × ((pass_view sender.pass).put ≡ []) }
+        requires link { IsQueueOf sender.pass.table_id link.seen.log }
+        ensures { (result.replica ≡ replica) × (result.number ≡ number) × (result.serials ≡ serials)
             × (result.capacity ≡ ruled_capacity (arc_value sender.queue)) × (result.kept ≡ []) × (result.seen ≡ token.seen)
             × (result.found_full ≡ sender.found_full) }
     {
@@ -88,6 +95,7 @@ impl<N: EngineName> Client<N> {
             serials,
             token,
             sender,
+            link,
             kept: Vec::new(alloc),
         }
     }
@@ -115,6 +123,29 @@ impl<N: EngineName> Client<N> {
     {
         let serial = self.next_serial()?;
         let command = Shared::new(alloc, command)?;
+        self.send(rt, alloc, serial, Request::Command(command))
+    }
+
+    /// Submits a command as `submit` does, and leaves it with the caller: to try again takes no clone of it, after a refusal and after a
+    /// reply with `NoMemory`. One allocation fewer than `submit`.
+    ///
+    /// # Errors
+    /// As `submit`.
+    pub fn submit_shared(
+        &mut self,
+        rt: &impl Wait,
+        alloc: Global,
+        command: &Shared<Command>,
+    ) -> Result<Ticket, Refusal>
+        ensures ticket { IfOk result
+            (λ t. t ≡ record { replica = self.old.replica; client = self.old.number; serial = length self.old.kept + 1 }) }
+        ensures kept { MatchResult result (λ _. self.new ≡ with_request self.old (OfCommand command.now))
+            (λ why. self.new ≡ after_refusal self.old why) }
+        ensures end { (result ≡ Err SerialEnd) ↔ (self.old.serials ≤ length self.old.kept) }
+        ensures err { IfErr result (λ why. (why ≡ SerialEnd) ⊎ (why ≡ NoMemory) ⊎ (why ≡ QueueFull)) }
+    {
+        let serial = self.next_serial()?;
+        let command = command.clone()?;
         self.send(rt, alloc, serial, Request::Command(command))
     }
 
@@ -195,16 +226,27 @@ impl<N: EngineName> Client<N> {
     }
 
     /// Takes the client apart for `close`: its sender goes back to the taker, and the notice begins with all that it had seen.
-    pub(crate) fn end(self, rt: &impl Wait, taker: &mut Taker<N>, notice: &Notice<N>)
-        requires queue { self.queue ≡ taker.old.pass.table_id }
-        requires number { self.number ≡ length (pass_view taker.old.pass).known }
+    pub(crate) fn end(
+        self,
+        rt: &impl Wait,
+        taker: &mut Taker<N>,
+        link: &Link<N>,
+        notice: &Notice<N>,
+    )
+        requires { IsQueueOf taker.old.pass.table_id link.now.seen.log }
         ensures taker { (taker.new.pass.table_id ≡ taker.old.pass.table_id)
             × ((pass_view taker.new.pass).got ≡ (pass_view taker.old.pass).got)
-            × ((pass_view taker.new.pass).known ≡ (pass_view taker.old.pass).known ++ submissions_by self ∷ [])
+            × ((pass_view taker.new.pass).known ≡ (pass_view taker.old.pass).known ++ (self.number, submissions_by self) ∷ [])
             × ((pass_view taker.new.pass).made ≡ (pass_view taker.old.pass).made) }
         ensures seen { BeginsWith notice.now self.seen }
     {
-        let Client { token, sender, .. } = self;
+        let Client {
+            token,
+            sender,
+            link: own,
+            ..
+        } = self;
+        own.agree(link);
         taker.end(sender);
         if !token.begins(notice) {
             // Never: what a token has seen was published before, and the notice is of all that was. No contract says so.
@@ -229,7 +271,7 @@ impl<N: EngineName> Client<N> {
         ensures polls { IfOk result
             (λ o. (g : Option Given) × Looks self.old self.new (ticket.now.serial - 1) g × (o ≡ option_map (λ x. x.reply) g)) }
         ensures answered { IfOk result
-            (λ o. IfSome o (λ r. (G : List Entry) × IsAnswered N.own N.table self.new ticket.now r G × BeginsWith self.new.seen G)) }
+            (λ o. IfSome o (λ r. (G : List TheEntry) × IsAnswered N.own N.table self.new ticket.now r G × BeginsWith self.new.seen G)) }
         ensures legal { IfOk result
             (λ o. IfSome o
             (λ r. (x : ASubmission) × (slice_get (submissions_by self.old) (ticket.now.serial - 1) ≡ Some x)
@@ -306,6 +348,13 @@ impl<N: EngineName> Client<N> {
             && ticket.serial <= self.kept.len() as u64
     }
 
+    /// The number of the engine's replica.
+    pub fn replica(&self) -> ReplicaId
+        ensures { result ≡ self.now.replica }
+    {
+        self.replica
+    }
+
     /// How many entries the client has seen.
     pub fn seen_len(&self) -> usize
         ensures length { result ≡ length self.now.seen }
@@ -322,6 +371,21 @@ impl<N: EngineName> Client<N> {
         ensures same { self.new ≡ record self.old { seen = self.new.seen } }
     {
         self.token.learn(notice);
+    }
+
+    /// The entries from a position on, the oldest first, of what is published at the one step of this read, which the client has then
+    /// seen. Never waits.
+    ///
+    /// # Errors
+    /// As a `ReaderToken`'s.
+    pub fn entries_from(&mut self, alloc: Global, position: usize) -> Result<Vec<Entry>, Refusal>
+        ensures grows { BeginsWith self.new.seen self.old.seen }
+        ensures legal { IsEntryHistory N.own self.new.seen }
+        ensures entries { IfOk result (λ entries. map entry_of entries.items ≡ entries_from position self.new.seen) }
+        ensures err { IfErr result (λ why. (why ≡ NoMemory) ⊎ (why ≡ NoReading)) }
+        ensures same { self.new ≡ record self.old { seen = self.new.seen; read = self.new.read; reads = self.new.reads } }
+    {
+        self.token.entries_from(alloc, position)
     }
 
     /// Answers a question from what is published at the one step of this read, which the client has then seen. Never waits.

@@ -10,7 +10,7 @@ ghost use Rattle.semantics.specs.WorldHistory.{BeginsWith};
 ghost use Rattle.replica.specs.oplog.Logs.{history};
 ghost use Rattle.replica.specs.operation.declared.submission.Submission.{Submission as ASubmission};
 ghost use Rattle.command.specs.InOrder.{of};
-ghost use Rattle.engine.specs.Clients.{Client as TheClient, AreClients, submissions_by};
+ghost use Rattle.engine.specs.Clients.{Client as TheClient, submissions_by};
 ghost use Rattle.engine.specs.WriterSteps.{submitted_in};
 
 use crate::client::Client;
@@ -33,31 +33,31 @@ pub struct Final {
 /// that wasn't answered polls `None`, and `submit` and `receive` give tickets until the queue is full, which `left` doesn't count: all of
 /// it for good. So let the threads of clients and readers end before.
 ///
-/// `clients` are the engine's clients 0, 1, 2 and so on, as far as they are still at hand. The contract says what became of all that
-/// these submitted; given all of them, `left` is just what they submitted and wasn't answered. Waits for readers that still read.
+/// `clients` are those of the engine that are still at hand, in any order. The contract says what became of all that these submitted;
+/// given all of them, `left` is just what they submitted and wasn't answered. Waits for readers that still read.
 /// Allocates nothing, copies nothing, and is linear in what the clients keep. If a client had seen more than is published, this would
 /// wait for good. Nothing lets that happen: each notice is of what was published. But no contract says so yet.
 pub fn close<N: EngineName>(rt: &impl Wait, writer: Writer<N>, clients: Vec<Client<N>>) -> Final
-    requires { AreClients writer.queue 0 clients.items }
     ensures history { (history result.history.items ≡ writer.published) × IsEntryHistory N.own writer.published }
     ensures seen { (k : ℕ) (c : TheClient) → slice_get clients.items k ≡ Some c → BeginsWith writer.published c.seen }
     ensures own { (k : ℕ) (c : TheClient) → slice_get clients.items k ≡ Some c → (n serial : ℕ) (command : Command) (s : Stamped) →
-        entry_at n writer.published ≡ Some (Own k serial command s) → AsksFor (submitted_in (submissions_by c)) serial command }
+        entry_at n writer.published ≡ Some (Own c.number serial command s) → AsksFor (submitted_in (submissions_by c)) serial command }
     ensures taken { (queued : List ASubmission) × (result.left ≡ length writer.held + length queued)
-        × ((k : ℕ) (c : TheClient) → slice_get clients.items k ≡ Some c → of k (writer.took ++ queued) ≡ submissions_by c)
+        × ((k : ℕ) (c : TheClient) → slice_get clients.items k ≡ Some c → of c.number (writer.took ++ queued) ≡ submissions_by c)
         × All (λ x. x.client < writer.clients) (writer.took ++ queued) }
 {
     let Writer {
         publisher,
         handler: _handler,
         mut taker,
+        link,
         held,
         batch: _,
     } = writer;
     let notice = publisher.notice();
     let _ = notice.len();
     for client in clients {
-        client.end(rt, &mut taker, &notice);
+        client.end(rt, &mut taker, &link, &notice);
     }
     let left = held.len() as u64 + taker.rest(rt) as u64;
     let (document, _notice) = publisher.end(rt);

@@ -15,7 +15,7 @@ mod writer;
 
 pub use client::Client;
 pub use closing::{Final, close};
-pub use command::{EngineName, Notice, ReaderToken, Ticket};
+pub use command::{EngineName, Glance, Hop, Kinds, Notice, ReaderToken, Row, Ticket};
 pub use opening::{Parts, open, prepare};
 pub use writer::{Step, Writer};
 

@@ -12,12 +12,13 @@ ghost use Rattle.ids.specs.Configurations.{are_members, is_within_limits};
 ghost use Rattle.ids.specs.Members.{in_order};
 ghost use Rattle.semantics.specs.World.{opened_engine};
 ghost use Rattle.replica.specs.Replicas.{replica_of};
-ghost use Rattle.engine.specs.Clients.{AreClients, IsNewClient};
+ghost use Rattle.command.specs.published.Rules.{IsQueueOf};
+ghost use Rattle.engine.specs.Clients.{AreNumbered, IsNewClient};
 ghost use Rattle.engine.specs.WriterSteps.{new_writer};
 
 use crate::client::Client;
 use crate::writer::Writer;
-use command::{EngineName, Handled, Opened, Queue, ReaderToken, Taker};
+use command::{EngineName, Handled, Link, Opened, Queue, ReaderToken, Taker, Unnamed};
 use ids::{Config, Refusal, ReplicaId};
 use replica::{Document, Replica};
 use std::alloc::{AllocError, Global};
@@ -106,9 +107,9 @@ pub fn open<N: EngineName>(
     requires book { parts.opened.seen.book ≡ N.book }
     requires own { parts.config.own ≡ N.own }
     requires table { in_order parts.config.members ≡ N.table }
-    ensures writer { IfOk result (λ r. r.0 ≡ new_writer parts.config r.0.queue) }
+    ensures writer { IfOk result (λ r. r.0 ≡ new_writer parts.config) }
     ensures clients { IfOk result
-        (λ r. AreClients r.0.queue 0 r.1.items × (length r.1.items ≡ parts.config.clients) × All (IsNewClient parts.config) r.1.items) }
+        (λ r. AreNumbered 0 r.1.items × (length r.1.items ≡ parts.config.clients) × All (IsNewClient parts.config) r.1.items) }
     ensures readers { IfOk result (λ r. (length r.2.items ≡ parts.config.readers) × All (λ s. s.seen ≡ []) r.2.items) }
     ensures err { IfErr result (λ why. (why ≡ NoMemory) ⊎ (why ≡ NoReaderPlace)) }
 {
@@ -121,13 +122,13 @@ pub fn open<N: EngineName>(
         second,
     } = parts;
     let count = config.clients as usize + config.readers as usize;
-    let (publisher, mut tokens) = command::open_published::<N>(
+    let (publisher, mut tokens, unnamed) = command::open_published::<N>(
         rt, alloc, opened, first, second, count,
     )?;
-    match new_ends::<N>(alloc, &config, own, &mut tokens) {
-        Ok((taker, held, clients)) => {
+    match new_ends::<N>(alloc, &config, own, unnamed, &mut tokens) {
+        Ok((taker, link, held, clients)) => {
             let batch = config.batch as usize;
-            let writer = Writer::new(publisher, replica, taker, held, batch);
+            let writer = Writer::new(publisher, replica, taker, link, held, batch);
             Ok((writer, clients, tokens))
         }
         Err(AllocError) => {
@@ -137,13 +138,14 @@ pub fn open<N: EngineName>(
     }
 }
 
-/// The writer's end of a new queue, an empty batch with its room, and a client for each of the last tokens.
+/// The writer's end of a new queue with a link to it, an empty batch with its room, and a client for each of the last tokens.
 fn new_ends<N: EngineName>(
     alloc: Global,
     config: &Config,
     own: ReplicaId,
+    unnamed: Unnamed<N>,
     tokens: &mut Vec<ReaderToken<N>>,
-) -> Result<(Taker<N>, Vec<Handled<N>>, Vec<Client<N>>), AllocError>
+) -> Result<(Taker<N>, Link<N>, Vec<Handled<N>>, Vec<Client<N>>), AllocError>
     requires good { is_within_limits config.now ≡ true }
     requires own { own ≡ config.now.own }
     requires tokens { length tokens.old.items ≡ config.now.clients + config.now.readers }
@@ -151,14 +153,16 @@ fn new_ends<N: EngineName>(
     ensures taker { IfOk result
         (λ r. ((view r.0.pass).got ≡ []) × ((view r.0.pass).known ≡ []) × ((view r.0.pass).made ≡ config.now.clients)
         × (r.0.found_empty ≡ 0)) }
-    ensures held { IfOk result (λ r. (r.1.items ≡ []) × (config.now.batch ≤ vec_capacity r.1)) }
+    ensures link { IfOk result (λ r. IsQueueOf r.0.pass.table_id r.1.seen.log) }
+    ensures held { IfOk result (λ r. (r.2.items ≡ []) × (config.now.batch ≤ vec_capacity r.2)) }
     ensures clients { IfOk result
-        (λ r. AreClients r.0.pass.table_id 0 r.2.items × (length r.2.items ≡ config.now.clients) × All (IsNewClient config.now) r.2.items) }
+        (λ r. AreNumbered 0 r.3.items × (length r.3.items ≡ config.now.clients) × All (IsNewClient config.now) r.3.items) }
     ensures readers { IfOk result (λ r. (length tokens.new.items ≡ config.now.readers) × All (λ s. s.seen ≡ []) tokens.new.items) }
 {
     let mut held = Vec::new(alloc);
     held.reserve(config.batch as usize)?;
     let mut taker = new_queue::<N>(alloc, config)?;
+    let link = taker.link(unnamed)?;
     let mut clients = Vec::new(alloc);
     clients.reserve(config.clients as usize)?;
     for number in 0..config.clients as usize {
@@ -167,9 +171,17 @@ fn new_ends<N: EngineName>(
         };
         let sender = taker.sender()?;
         let serials = u64::from(config.serials);
-        clients.push_reserved(Client::new(alloc, own, number, serials, token, sender));
+        clients.push_reserved(Client::new(
+            alloc,
+            own,
+            number,
+            serials,
+            token,
+            sender,
+            link.again(),
+        ));
     }
-    Ok((taker, held, clients))
+    Ok((taker, link, held, clients))
 }
 
 /// The writer's end of an empty queue, whose capacity is within its limits.

@@ -2,6 +2,7 @@
 
 ghost use Rattle.std.specs.Prelude.{◌≡◌, ◌<◌, ◌≤◌, ◌++◌, [], List, MatchBool, MatchResult, cond, false, length, nat_lt, vec_capacity};
 ghost use Rattle.command.specs.Counts.{one_more};
+ghost use Rattle.command.specs.published.Rules.{IsQueueOf};
 ghost use Rattle.crossbeam_queue.specs.Passes.{view};
 ghost use Rattle.semantics.specs.Engine.{Handled as TheHandled};
 ghost use Rattle.semantics.specs.Entries.{IsAbove};
@@ -15,7 +16,7 @@ ghost use Rattle.replica.specs.Replicas.{replica_of};
 ghost use Rattle.replica.specs.Handlers.{handler_of};
 ghost use Rattle.engine.specs.WriterSteps.{Ends, IsWriterStep, Shows, publication_of, submitted_in};
 
-use command::{EngineName, Envelope, Handled, Notice, Publisher, Taker};
+use command::{EngineName, Envelope, Handled, Link, Notice, Publisher, Taker};
 use replica::{Handler, Replica};
 use std::alloc::{AllocError, Global};
 use std::marker::Model;
@@ -43,6 +44,7 @@ pub struct Writer<N: EngineName> {
     pub(crate) publisher: Publisher<N>,
     pub(crate) handler: Handler,
     pub(crate) taker: Taker<N>,
+    pub(crate) link: Link<N>,
     /// Handled and not answered, the oldest first, with room for a batch.
     pub(crate) held: Vec<Handled<N>>,
     pub(crate) batch: usize,
@@ -61,7 +63,6 @@ impl<N: EngineName> Model for Writer<N> {
     ghost coded = { Prim.hlevel (codes, coded_element) };
 
     ghost view = { λ w. record {
-      queue = w.taker.pass.table_id;
       clients = (view_of w.taker.pass).made;
       batch = w.batch;
       handler = handler_of w.handler;
@@ -72,7 +73,7 @@ impl<N: EngineName> Model for Writer<N> {
     } };
 
     ghost invariant = { λ w. IsWriter N.own N.table w.publisher (handler_of w.handler) (view_of w.taker.pass) w.held.items w.batch
-        (vec_capacity w.held) };
+        (vec_capacity w.held) w.taker.pass.table_id w.link.seen.log };
 }
 
 impl<N: EngineName> Writer<N> {
@@ -81,6 +82,7 @@ impl<N: EngineName> Writer<N> {
         publisher: Publisher<N>,
         replica: Replica,
         taker: Taker<N>,
+        link: Link<N>,
         held: Vec<Handled<N>>,
         batch: usize,
     ) -> Writer<N>
@@ -88,9 +90,9 @@ impl<N: EngineName> Writer<N> {
         requires none { (publisher.appended ≡ []) × (replica.document.entries ≡ []) × ((view taker.pass).got ≡ [])
             × ((view taker.pass).known ≡ []) × (held.items ≡ []) }
         requires batch { (0 < batch) × (batch ≤ vec_capacity held) }
+        requires link { IsQueueOf taker.pass.table_id link.seen.log }
         ensures { result
             ≡ record {
-              queue = taker.pass.table_id;
               clients = (view taker.pass).made;
               batch = batch;
               handler = record { replica = replica_of replica; behind = false };
@@ -105,6 +107,7 @@ impl<N: EngineName> Writer<N> {
             publisher,
             handler: Handler::new(replica),
             taker,
+            link,
             held,
             batch,
         }
@@ -130,7 +133,7 @@ impl<N: EngineName> Writer<N> {
     /// queue, and waits for readers of the copy that is brought up to date. Applies each new entry three times: to the replica and to both
     /// copies.
     pub fn step(&mut self, rt: &impl Wait, alloc: Global) -> Step
-        ensures same { (self.new.queue ≡ self.old.queue) × (self.new.clients ≡ self.old.clients) × (self.new.batch ≡ self.old.batch)
+        ensures same { (self.new.clients ≡ self.old.clients) × (self.new.batch ≡ self.old.batch)
             × (0 < self.new.batch) }
         ensures fresh { length self.old.held ≡ 0
             → (hs : List TheHandled) × IsWriterStep self.old hs self.new × Ends self.old hs result self.new }
@@ -146,7 +149,7 @@ impl<N: EngineName> Writer<N> {
     /// A step that begins with nothing held.
     fn turn(&mut self, rt: &impl Wait, alloc: Global) -> Step
         requires { length self.old.held ≡ 0 }
-        ensures same { (self.new.queue ≡ self.old.queue) × (self.new.clients ≡ self.old.clients) × (self.new.batch ≡ self.old.batch)
+        ensures same { (self.new.clients ≡ self.old.clients) × (self.new.batch ≡ self.old.batch)
             × (0 < self.new.batch) }
         ensures turn { (hs : List TheHandled) × IsWriterStep self.old hs self.new × Ends self.old hs result self.new }
     {
@@ -160,7 +163,7 @@ impl<N: EngineName> Writer<N> {
     /// Goes on with a drain that ended early, and then handles up to a batch of submissions.
     fn take_all(&mut self, rt: &impl Wait, alloc: Global)
         requires { length self.old.held ≡ 0 }
-        ensures same { (self.new.queue ≡ self.old.queue) × (self.new.clients ≡ self.old.clients) × (self.new.batch ≡ self.old.batch)
+        ensures same { (self.new.clients ≡ self.old.clients) × (self.new.batch ≡ self.old.batch)
             × (self.new.published ≡ self.old.published)
             × (0 < self.new.batch) }
         ensures turn { IsWriterStep self.old self.new.held self.new }

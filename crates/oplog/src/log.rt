@@ -10,6 +10,7 @@ ghost use Rattle.semantics.specs.Vectors.{Vector, at};
 ghost use Rattle.semantics.specs.LegalHistory.{has_id};
 ghost use Rattle.semantics.specs.Stamped.{MayFollow, Stamped};
 ghost use Rattle.semantics.specs.Entries.{Entry as TheEntry, applied, entry_at, missing, stamped_in, stamped_entries};
+ghost use Rattle.semantics.specs.Journals.{entries_from};
 ghost use Rattle.operation.specs.Ops.{entry_of};
 ghost use Rattle.oplog.specs.Logs.{HaveRoomBut, history, least_room, missing_positions, numbers_above, numbers_of, position_of};
 
@@ -87,6 +88,13 @@ impl Log {
         ensures { option_map (λ e. entry_of e.now) result ≡ entry_at position self.now.entries }
     {
         self.entries.get(position)
+    }
+
+    /// The entries from a position on, the oldest first: none where the log has no more than that.
+    pub fn entries_from(&self, position: usize) -> &[Entry]
+        ensures { map entry_of result.now ≡ entries_from position self.now.entries }
+    {
+        &self.entries[position.min(self.entries.len())..]
     }
 
     /// The position of the operation with this id, if there is one. A binary search among those of its replica.

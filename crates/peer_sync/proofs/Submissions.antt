@@ -14,7 +14,7 @@ use Rattle.wire.specs.Bundles.{Readable, readable}
 use Rattle.wire.specs.Lines.{HasNoEnd, IsFirstLine}
 use Rattle.wire.specs.Profiles.{line_form}
 use Rattle.wire.proofs.BundleLines.{after, after-bad, after-cut, after-none, after-op}
-use Rattle.peer_sync.specs.Receiving.{EndsAfter, IsDenied, StopsAfter, all_submitted, submitted}
+use Rattle.peer_sync.specs.Receiving.{EndsAfter, GoesOn, IsDenied, StopsAfter, all_submitted, submitted}
 
 all_submitted-last : (c : Client) (ops : List Op) (op : Op) → all_submitted c (ops ++ op ∷ []) ≡ submitted (all_submitted c ops) op
 all_submitted-last c [] op = refl
@@ -41,22 +41,23 @@ full_kept c (o ∷ ops) = full_kept (submitted c o) ops
 but_for_full : (d e : Client) → d ≡ e → d ≡ record e { found_full = d.found_full }
 but_for_full d e is = is ∙ ap (λ n. record e { found_full = n }) (sym (ap (λ (k : Client). k.found_full) is))
 
--- client d is c after it submitted the first n operations of the text, of which the rest isn't read yet, and stands beside the base
-pub record HasSubmitted (c : Client) (text : List ℕ) (d : Client) (base : Vector) (rest : List ℕ) (n : ℕ) : Type 0 where
+-- client d is c after it submitted the first n operations of the text, which stands beside the start; the rest isn't read yet, and stands
+-- beside the base
+pub record HasSubmitted (c : Client) (start : Vector) (text : List ℕ) (d : Client) (base : Vector) (rest : List ℕ) (n : ℕ) : Type 0 where
   pub ops : List Op
   pub count : length ops ≡ n
   pub client : d ≡ all_submitted c ops
-  pub read : after (map stamped_of ops) (readable base rest) ≡ readable [] text
+  pub read : after (map stamped_of ops) (readable base rest) ≡ readable start text
 
-module _ (c : Client) (text : List ℕ) where
-  pub submitted-none : HasSubmitted c text c [] text 0
+module _ (c : Client) (start : Vector) (text : List ℕ) where
+  pub submitted-none : HasSubmitted c start text c start text 0
   submitted-none = record { ops = []; count = refl; client = refl; read = refl }
 
   -- the next line is an operation, which is submitted
-  pub submitted-more : (d e : Client) (base : Vector) (rest line left : List ℕ) (n : ℕ) (op : Op) → HasSubmitted c text d base rest n
+  pub submitted-more : (d e : Client) (base : Vector) (rest line left : List ℕ) (n : ℕ) (op : Op) → HasSubmitted c start text d base rest n
       → IsFirstLine rest line left
       → line_form base line ≡ Ok (stamped_of op) → e ≡ submitted d op
-      → HasSubmitted c text e op.deps left (n + 1)
+      → HasSubmitted c start text e op.deps left (n + 1)
   submitted-more d e base rest line left n op h first form is = record {
     ops = h.ops ++ op ∷ [];
     count = (let l = length-append h.ops (op ∷ []) in omega (arith, l, h.count));
@@ -68,24 +69,35 @@ module _ (c : Client) (text : List ℕ) where
   }
 
   -- what was submitted are the first operations of the text
-  pub first_operations : (d : Client) (base : Vector) (rest : List ℕ) (n : ℕ) (h : HasSubmitted c text d base rest n)
-      → map stamped_of h.ops ≡ take n (readable [] text).operations
+  pub first_operations : (d : Client) (base : Vector) (rest : List ℕ) (n : ℕ) (h : HasSubmitted c start text d base rest n)
+      → map stamped_of h.ops ≡ take n (readable start text).operations
   first_operations d base rest n h =
       sym (take_at (map stamped_of h.ops) (readable base rest).operations n (length-map h.ops stamped_of ∙ h.count))
       ∙ ap (λ (r : Readable). take n r.operations) h.read
 
+  -- what is left is read as what the text has behind them
+  pub goes_on : (d : Client) (base : Vector) (rest left : List ℕ) (n : ℕ) → HasSubmitted c start text d base rest n → left ≡ rest
+      → GoesOn (readable start text) n (readable base left)
+  goes_on d base rest left n h same =
+      subst (λ (l : List ℕ). GoesOn (readable start text) n (readable base l)) (sym same)
+      (sym h.read ∙ λ i. record {
+        operations = first_operations d base rest n h i ++ (readable base rest).operations;
+        stopped = (readable base rest).stopped;
+      })
+
   -- so far it found the queue full as often as before
-  full_as_before : (d : Client) (base : Vector) (rest : List ℕ) (n : ℕ) → HasSubmitted c text d base rest n → d.found_full ≡ c.found_full
+  full_as_before : (d : Client) (base : Vector) (rest : List ℕ) (n : ℕ) → HasSubmitted c start text d base rest n
+      → d.found_full ≡ c.found_full
   full_as_before d base rest n h = ap (λ (k : Client). k.found_full) h.client ∙ full_kept c h.ops
 
-  pub kept_after : (d : Client) (base : Vector) (rest : List ℕ) (n : ℕ) → HasSubmitted c text d base rest n
+  pub kept_after : (d : Client) (base : Vector) (rest : List ℕ) (n : ℕ) → HasSubmitted c start text d base rest n
       → length d.kept ≡ length c.kept + n
   kept_after d base rest n h = ap (λ (k : Client). length k.kept) h.client ∙ kept_count c h.ops ∙ ap (λ m. length c.kept + m) h.count
 
   -- a line that is bad
-  stops-bad : (d e : Client) (base : Vector) (rest line left : List ℕ) (n : ℕ) (why : Refusal) → HasSubmitted c text d base rest n
+  stops-bad : (d e : Client) (base : Vector) (rest line left : List ℕ) (n : ℕ) (why : Refusal) → HasSubmitted c start text d base rest n
       → IsFirstLine rest line left
-      → line_form base line ≡ Err why → e.found_full ≡ c.found_full → StopsAfter (readable [] text) n c.found_full e why
+      → line_form base line ≡ Err why → e.found_full ≡ c.found_full → StopsAfter (readable start text) n c.found_full e why
   stops-bad d e base rest line left n why h first form full =
       let all = sym (after-bad base rest line left (map stamped_of h.ops) why first form) ∙ h.read in
       let count = ap (λ (r : Readable). length r.operations) all in
@@ -94,10 +106,10 @@ module _ (c : Client) (text : List ℕ) where
 
   -- a line whose operation the client doesn't submit
   stops-denied : (d e : Client) (base : Vector) (rest line left : List ℕ) (n : ℕ) (why : Refusal) (op : Op)
-      → HasSubmitted c text d base rest n
+      → HasSubmitted c start text d base rest n
       → IsFirstLine rest line left
       → line_form base line ≡ Ok (stamped_of op) → IsDenied c.found_full e why
-      → StopsAfter (readable [] text) n c.found_full e why
+      → StopsAfter (readable start text) n c.found_full e why
   stops-denied d e base rest line left n why op h first form denied =
       let all = sym (after-op base rest line left (map stamped_of h.ops) (stamped_of op) first form) ∙ h.read in
       let count = ap (λ (r : Readable). length r.operations) all in
@@ -107,11 +119,11 @@ module _ (c : Client) (text : List ℕ) where
       inr (inr (omega (arith, count, more, one, mapped, h.count), denied))
 
   -- a line that isn't submitted
-  pub stops : (d e : Client) (base : Vector) (rest line left : List ℕ) (n : ℕ) (why : Refusal) → HasSubmitted c text d base rest n
+  pub stops : (d e : Client) (base : Vector) (rest line left : List ℕ) (n : ℕ) (why : Refusal) → HasSubmitted c start text d base rest n
       → IsFirstLine rest line left
       → ((why ≡ NoMemory) × (e.found_full ≡ d.found_full)) ⊎ ((line_form base line ≡ Err why) × (e.found_full ≡ d.found_full))
       ⊎ ((op : Op) × (line_form base line ≡ Ok (stamped_of op)) × IsDenied d.found_full e why)
-      → StopsAfter (readable [] text) n c.found_full e why
+      → StopsAfter (readable start text) n c.found_full e why
   stops d e base rest line left n why h first (inl memory) = inl (memory.0, memory.1 ∙ full_as_before d base rest n h)
   stops d e base rest line left n why h first (inr (inl bad)) =
       stops-bad d e base rest line left n why h first bad.0 (bad.1 ∙ full_as_before d base rest n h)
@@ -120,8 +132,8 @@ module _ (c : Client) (text : List ℕ) where
       (subst (λ k. IsDenied k e why) (full_as_before d base rest n h) denied.2)
 
   -- bytes that no line feed ends
-  stops-cut : (d : Client) (base : Vector) (rest : List ℕ) (n : ℕ) → HasSubmitted c text d base rest n → HasNoEnd rest → rest ≢ []
-      → StopsAfter (readable [] text) n c.found_full d BadLine
+  stops-cut : (d : Client) (base : Vector) (rest : List ℕ) (n : ℕ) → HasSubmitted c start text d base rest n → HasNoEnd rest → rest ≢ []
+      → StopsAfter (readable start text) n c.found_full d BadLine
   stops-cut d base rest n h whole some =
       let all = sym (after-cut base rest (map stamped_of h.ops) whole some) ∙ h.read in
       let count = ap (λ (r : Readable). length r.operations) all in
@@ -134,8 +146,8 @@ module _ (c : Client) (text : List ℕ) where
       ))
 
   -- no byte is left
-  ends : (d : Client) (base : Vector) (rest : List ℕ) (n : ℕ) → HasSubmitted c text d base rest n → rest ≡ []
-      → EndsAfter (readable [] text) n
+  ends : (d : Client) (base : Vector) (rest : List ℕ) (n : ℕ) → HasSubmitted c start text d base rest n → rest ≡ []
+      → EndsAfter (readable start text) n
   ends d base rest n h none =
       let all = sym (after-none base rest (map stamped_of h.ops) none) ∙ h.read in
       let count = ap (λ (r : Readable). length r.operations) all in
@@ -144,11 +156,11 @@ module _ (c : Client) (text : List ℕ) where
 
   -- the end of the lines: all was read, or bytes are left that no line feed ends
   pub stops-end : (d : Client) (base : Vector) (rest left : List ℕ) (n taken later : ℕ) (stop : Option (ℕ × Refusal))
-      → HasSubmitted c text d base rest n
+      → HasSubmitted c start text d base rest n
       → taken ≡ n → HasNoEnd rest → left ≡ rest → later ≡ taken
       → MatchOption stop (left ≡ []) (λ s. (s.0 ≡ later + 1) × (s.1 ≡ BadLine) × (left ≢ []))
-      → MatchOption stop (EndsAfter (readable [] text) n × (d.found_full ≡ c.found_full))
-      (λ s. (s.0 ≡ n + 1) × StopsAfter (readable [] text) n c.found_full d s.1)
+      → MatchOption stop (EndsAfter (readable start text) n × (d.found_full ≡ c.found_full))
+      (λ s. (s.0 ≡ n + 1) × StopsAfter (readable start text) n c.found_full d s.1)
   stops-end d base rest left n taken later None h same whole still count none = (
     ends d base rest n h
         (sym still ∙ none),
@@ -156,7 +168,7 @@ module _ (c : Client) (text : List ℕ) where
   )
   stops-end d base rest left n taken later (Some s) h same whole still count cut = (
     omega (arith, cut.0, same, count),
-    subst (λ (why : Refusal). StopsAfter (readable [] text) n c.found_full d why) (sym cut.1)
+    subst (λ (why : Refusal). StopsAfter (readable start text) n c.found_full d why) (sym cut.1)
         (stops-cut d base rest n h whole (λ e. cut.2 (still ∙ e))),
   )
 

@@ -1,5 +1,6 @@
 -- The bytes of the lines that were taken of a text.
-use Rattle.std.proofs.Common.{◌≡◌, ℕ, ◌+◌, List, [], ◌∷◌, ◌++◌, length, take, refl, sym, ap, ◌∙◌, append_assoc, arith}
+use Rattle.std.proofs.Common.{◌≡◌, ℕ, ◌+◌, List, [], ◌∷◌, ◌++◌, length, drop, take, refl, sym, ap, ◌∙◌, append_assoc, arith}
+use Rattle.std.proofs.Math.Seq.{drop-append_seam}
 use Rattle.std.proofs.lemmas.List.{length-append, take_at}
 use Rattle.wire.specs.Lines.{IsFirstLine, cut, Cut}
 use Rattle.wire.proofs.CutLines.{cut-first_line}
@@ -16,9 +17,21 @@ pub record HasTaken (text rest : List ℕ) (n bytes : ℕ) : Type 0 where
   pub lines : (cut text).lines ≡ done ++ (cut rest).lines
   pub bytes_are : bytes ≡ bytes_of done
   pub left : length text ≡ bytes + length rest
+  pub gone : List ℕ
+  pub split : gone ++ rest ≡ text
+  pub gone_is : length gone ≡ bytes
 
 pub taken-none : (text : List ℕ) → HasTaken text text 0 0
-taken-none text = record { done = []; count = refl; lines = refl; bytes_are = refl; left = omega arith }
+taken-none text = record {
+  done = [];
+  count = refl;
+  lines = refl;
+  bytes_are = refl;
+  left = omega arith;
+  gone = [];
+  split = refl;
+  gone_is = refl;
+}
 
 -- what the next line leaves
 pub left_behind : (text rest line left : List ℕ) (n bytes : ℕ) → HasTaken text rest n bytes → IsFirstLine rest line left
@@ -41,7 +54,22 @@ taken-more text rest line left n bytes more h first is =
           ∙ sym (append_assoc h.done (line ∷ []) (cut left).lines);
       bytes_are = omega (arith, is, h.bytes_are, last);
       left = omega (arith, behind, is);
+      gone = h.gone ++ (line ++ 10 ∷ []);
+      split = append_assoc h.gone (line ++ 10 ∷ []) left
+          ∙ (ap (λ (l : List ℕ). h.gone ++ l) (append_assoc line (10 ∷ []) left ∙ sym first.split) ∙ h.split);
+      gone_is = (let one = length-append h.gone (line ++ 10 ∷ []) in let two = length-append line (10 ∷ []) in
+          omega (arith, one, two, h.gone_is, is));
     }
+
+-- what is left is what stands behind the bytes that were taken
+pub left_is : (text rest : List ℕ) (n bytes : ℕ) → HasTaken text rest n bytes → drop bytes text ≡ rest
+left_is text rest n bytes h = (λ i. drop (gone_back i) (split_back i)) ∙ drop-append_seam h.gone rest
+  where
+    gone_back : bytes ≡ length h.gone
+    gone_back = sym h.gone_is
+
+    split_back : text ≡ h.gone ++ rest
+    split_back = sym h.split
 
 pub taken-bytes : (text rest : List ℕ) (n bytes : ℕ) → HasTaken text rest n bytes → bytes ≡ bytes_of (take n (cut text).lines)
 taken-bytes text rest n bytes h =

@@ -1,5 +1,5 @@
 -- What a client does with the lines that it receives.
-use Rattle.std.specs.Prelude.{ℕ, ◌+◌, ◌≡◌, ◌<◌, ◌≤◌, ◌⊎◌, List, [], ◌∷◌, length, Some, None}
+use Rattle.std.specs.Prelude.{ℕ, ◌+◌, ◌≡◌, ◌<◌, ◌≤◌, ◌⊎◌, List, [], ◌∷◌, ◌++◌, length, take, Some, None}
 use Rattle.ids.specs.declared.refusal.Refusal.{Refusal}
 use Rattle.ids.specs.declared.refusal.Refusal.TheVariants.{NoMemory, QueueFull, SerialEnd}
 use Rattle.engine.specs.operation.declared.op.Op.{Op}
@@ -35,6 +35,10 @@ StopsAfter r n found c why =
 -- nothing follows n operations: all of the text was read
 abbrev pub EndsAfter : Readable → ℕ → Type 0
 EndsAfter r n = (n ≡ length r.operations) × (r.stopped ≡ None)
+
+-- what is read of the rest of a text is what the text has behind its first n operations
+abbrev pub GoesOn : Readable → ℕ → Readable → Type 0
+GoesOn whole n rest = whole ≡ record { operations = take n whole.operations ++ rest.operations; stopped = rest.stopped }
 
 -- how many bytes these lines have, each with its line feed
 abbrev pub bytes_of : List (List ℕ) → ℕ

@@ -10,7 +10,7 @@ mod receiving;
 mod sending;
 
 pub use agreement::tokens_answer_alike;
-pub use receiving::{Received, receive};
+pub use receiving::{Received, receive, receive_on};
 pub use sending::{answer, hello};
 
 // Handed on from the crates below, for users of this one.

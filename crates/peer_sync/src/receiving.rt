@@ -1,14 +1,14 @@
 //! What a client receives from a peer.
 
 ghost use Rattle.std.specs.Prelude.{◌≡◌, ◌≢◌, ◌⊎◌, ◌+◌, ◌<◌, ◌≤◌, ◌^◌, ◌==◌, cond, [], List, Ok, Err, IfOk, IfErr, MatchOption, length};
-ghost use Rattle.std.specs.Prelude.{map, take};
+ghost use Rattle.std.specs.Prelude.{drop, map, take};
 ghost use Rattle.ids.specs.declared.refusal.Refusal.TheVariants.{BadLine, NoMemory};
 ghost use Rattle.engine.specs.operation.declared.op.Op.{Op};
 ghost use Rattle.engine.specs.operation.Ops.{stamped_of};
 ghost use Rattle.wire.specs.Bundles.{readable};
 ghost use Rattle.wire.specs.Lines.{cut};
 ghost use Rattle.wire.specs.Profiles.{line_form};
-ghost use Rattle.peer_sync.specs.Receiving.{EndsAfter, IsDenied, StopsAfter, all_submitted, bytes_of, submitted};
+ghost use Rattle.peer_sync.specs.Receiving.{EndsAfter, GoesOn, IsDenied, StopsAfter, all_submitted, bytes_of, submitted};
 
 use engine::{Client, EngineName, Ticket};
 use ids::Refusal;
@@ -29,18 +29,11 @@ pub struct Received {
     pub stopped: Option<(u64, Refusal)>,
 }
 
-/// Submits the operations of a bundle, lines of either profile, line by line, and stops at the first line that is bad or that the client
-/// refuses. What came before that line stays submitted. The bytes may be of any origin. May spin behind another thread that is in the
-/// queue, as `Client::deliver`; never waits for room.
+/// Submits the operations of a whole bundle, as `receive_on` does with a new reader.
 ///
 /// A line of profile 2 tells what changed since the line before it, and the first one since the empty vector: give bundles whole. The
 /// first lines of a bundle are a bundle, and what is behind them is none: given all the same, it may be refused, or be kept under the
-/// true id as an operation that nobody made, which no exchange mends. To go on after a stop, say hello again.
-///
-/// The result's stop is a fault of the line itself: `BadLine`, also for bytes after the last line feed, `TooDeep`, `KeyTooLong`,
-/// `TextTooLong` or `NotWhole`; such a line is refused each time. Or it is a refusal of `Client::deliver`: `QueueFull`, for which the
-/// queue was full at one moment of this call, or `SerialEnd`; or `NoMemory` if allocation fails. Reads each line whole before it is
-/// judged: bound its length. The reply alone says what becomes of each operation.
+/// true id as an operation that nobody made, which no exchange mends. To go on after a stop, say hello again, or take `receive_on`.
 pub fn receive<N: EngineName>(
     rt: &impl Wait,
     alloc: Global,
@@ -58,8 +51,41 @@ pub fn receive<N: EngineName>(
         (λ stop. (stop.0 ≡ result.submitted + 1)
         × StopsAfter (readable [] bundle.now) result.submitted client.old.found_full client.new stop.1) }
 {
-    let mut lines = Lines::new(bundle);
     let mut reader = BundleReader::new();
+    receive_on(rt, alloc, client, &mut reader, bundle)
+}
+
+/// Submits the operations of a piece of a bundle, lines of either profile, line by line, and stops at the first line that is bad or that
+/// the client refuses. What came before that line stays submitted, and the reader stands behind it. So a bundle may come in pieces, and a
+/// receipt goes on where it stopped, with what is behind `Received::bytes` and the same reader: once the writer has stepped, where the
+/// queue was full. The bytes may be of any origin. May spin behind another thread that is in the queue, as `Client::deliver`; never waits
+/// for room.
+///
+/// The result's stop is a fault of the line itself: `BadLine`, also for bytes after the last line feed, `TooDeep`, `KeyTooLong`,
+/// `TextTooLong` or `NotWhole`; such a line is refused each time. Or it is a refusal of `Client::deliver`: `QueueFull`, for which the
+/// queue was full at one moment of this call, or `SerialEnd`; or `NoMemory` if allocation fails. Reads each line whole before it is
+/// judged: bound its length. The reply alone says what becomes of each operation.
+pub fn receive_on<N: EngineName>(
+    rt: &impl Wait,
+    alloc: Global,
+    client: &mut Client<N>,
+    reader: &mut BundleReader,
+    bundle: &[u8],
+) -> Received
+    ensures submitted { (ops : List Op) × (length ops ≡ result.submitted)
+        × (client.new ≡ record (all_submitted client.old ops) { found_full = client.new.found_full })
+        × (map stamped_of ops ≡ take result.submitted (readable reader.old bundle.now).operations) }
+    ensures bytes { result.bytes ≡ bytes_of (take result.submitted (cut bundle.now).lines) }
+    ensures within { result.bytes ≤ length bundle.now }
+    ensures goes_on { GoesOn (readable reader.old bundle.now) result.submitted (readable reader.new (drop result.bytes bundle.now)) }
+    ensures first { result.first_serial ≡ cond (result.submitted == 0) 0 (length client.old.kept + 1) }
+    ensures serials { (result.submitted ≡ 0) ⊎ (length client.new.kept ≤ client.new.serials) }
+    ensures stopped { MatchOption result.stopped
+        (EndsAfter (readable reader.old bundle.now) result.submitted × (client.new.found_full ≡ client.old.found_full))
+        (λ stop. (stop.0 ≡ result.submitted + 1)
+        × StopsAfter (readable reader.old bundle.now) result.submitted client.old.found_full client.new stop.1) }
+{
+    let mut lines = Lines::new(bundle);
     let mut received = Received {
         first_serial: 0,
         submitted: 0,
@@ -67,7 +93,7 @@ pub fn receive<N: EngineName>(
         stopped: None,
     };
     while let Some(line) = lines.take_line() {
-        match submit_line(rt, alloc, client, &mut reader, line.text) {
+        match submit_line(rt, alloc, client, reader, line.text) {
             Ok(ticket) => received.count(ticket.serial, line.text.len() + 1),
             Err(why) => {
                 received.stopped = Some((line.number, why));
@@ -88,10 +114,11 @@ fn cut_stop(lines: &Lines) -> Option<(u64, Refusal)>
     Some((number, Refusal::BadLine))
 }
 
-/// Submits the operation on a line, which the reader has read then.
+/// Submits the operation on a line, behind which the reader stands then.
 ///
 /// # Errors
-/// Those of the line, else those of `Client::deliver`. The client is as before then, but that it may have found the queue full.
+/// Those of the line, else those of `Client::deliver`. The reader is as before then, and the client, but that it may have found the queue
+/// full.
 fn submit_line<N: EngineName>(
     rt: &impl Wait,
     alloc: Global,
@@ -104,13 +131,16 @@ fn submit_line<N: EngineName>(
         × (reader.new ≡ op.deps) × (client.new ≡ submitted client.old op) × (ticket.serial ≡ length client.old.kept + 1)
         × (length client.new.kept ≤ client.new.serials)) }
     ensures err { IfErr result
-        (λ why. (client.new ≡ record client.old { found_full = client.new.found_full })
+        (λ why. (client.new ≡ record client.old { found_full = client.new.found_full }) × (reader.new ≡ reader.old)
         × (((why ≡ NoMemory) × (client.new.found_full ≡ client.old.found_full))
         ⊎ ((line_form reader.old line.now ≡ Err why) × (client.new.found_full ≡ client.old.found_full))
         ⊎ ((op : Op) × (line_form reader.old line.now ≡ Ok (stamped_of op)) × IsDenied client.old.found_full client.new why))) }
 {
-    let op = reader.read(alloc, line)?;
-    client.deliver(rt, alloc, op)
+    let op = reader.peek(alloc, line)?;
+    let last = op.clone()?;
+    let ticket = client.deliver(rt, alloc, op)?;
+    reader.keep(last);
+    Ok(ticket)
 }
 
 impl Received {

@@ -2,21 +2,24 @@
 
 ghost use Rattle.std.specs.Prelude.{◌≡◌, ◌+◌, ◌==◌, ◌<◌, ◌≤◌, ◌^◌, ◌++◌, ◌∷◌, [], length, MatchBool};
 ghost use mathlib.Core.List.{IsPrefix};
-ghost use Rattle.published.specs.Rules.{head_of};
+ghost use Rattle.published.specs.Rules.{entries_in, head_of, queue_word_of};
 
+use crate::link::Unnamed;
+use crate::notice::EngineName;
+use crate::written::Written;
 use document::Entry;
 use logbook::{Gain, Offer, Plain, Play, Rule, Seen, Start, Word};
 use std::marker::Model;
 
-/// The rule of the logbook: its word counts the entries.
+/// The rule of the logbook: its words count the entries and the queues.
 pub struct Law;
 
-impl Rule<Entry, u64> for Law {
+impl Rule<Written, u64> for Law {
     ghost use Rattle.std.specs.Prelude.{[]};
     ghost use base.Fml.{ftrue};
-    ghost use Rattle.published.specs.Rules.{CountsEntries};
+    ghost use Rattle.published.specs.Rules.{CountsWritten};
 
-    ghost holds = { λ cells log. CountsEntries cells log };
+    ghost holds = { λ cells log. CountsWritten cells log };
 
     ghost first = { [] };
 
@@ -32,7 +35,7 @@ impl Rule<Entry, u64> for Law {
 /// A step of the logbook trades nothing with its caller.
 pub struct Nothing;
 
-impl Gain<Entry, u64> for Nothing {
+impl Gain<Written, u64> for Nothing {
     ghost use base.Fml.{ftrue};
 
     ghost after = { λ names about answer. ftrue };
@@ -41,16 +44,17 @@ impl Gain<Entry, u64> for Nothing {
 /// The step that adds an entry.
 pub struct Add;
 
-impl Play<Entry, u64> for Add {
+impl Play<Written, u64> for Add {
     ghost use Rattle.published.specs.Rules.{Adds};
 
     ghost then = { Adds };
 }
 
-impl Plain<Entry, Entry, u64> for Add {
+impl Plain<Entry, Written, u64> for Add {
     ghost use Rattle.std.specs.Prelude.{None};
+    ghost use Rattle.published.specs.declared.written.Written.TheVariants.{Entry};
 
-    ghost ask = { λ entry. entry };
+    ghost ask = { λ entry. Entry entry };
 
     ghost state = { λ entry. None };
 }
@@ -58,29 +62,34 @@ impl Plain<Entry, Entry, u64> for Add {
 /// A new, empty history. It allocates nothing beyond its fields; whoever opens an engine names it.
 #[derive(Drop)]
 pub struct Opened {
-    head: Word<Entry, u64, Law>,
-    seen: Seen<Entry, u64, Law>,
+    head: Word<Written, u64, Law>,
+    queue: Word<Written, u64, Law>,
+    seen: Seen<Written, u64, Law>,
     pub ghost empty: { seen.log ≡ [] },
     pub ghost head_is: { head ≡ head_of seen.book },
+    pub ghost queue_is: { queue ≡ queue_word_of seen.book },
 }
 
 impl Opened {
     /// Opens a history that nobody else knows.
     pub fn new() -> Opened {
-        let (seen, mut first, _second) = Seen::open(Start::alone(), 0, 0);
+        let (seen, mut first, mut second) = Seen::open(Start::alone(), 0, 0);
         Opened {
             head: Word::tracked(0, &mut first),
+            queue: Word::tracked(0, &mut second),
             seen,
         }
     }
 
-    /// The word that counts the entries of the history, and the history's empty beginning.
-    pub(crate) fn start(self) -> (Word<Entry, u64, Law>, Point)
+    /// The word that counts the entries of the history, the history's empty beginning, and what names the engine's queue.
+    pub(crate) fn start<N: EngineName>(self) -> (Word<Written, u64, Law>, Point, Unnamed<N>)
+        requires { self.seen.book ≡ N.book }
         ensures head { result.0 ≡ head_of self.seen.book }
         ensures point { result.1 ≡ record { log = []; book = self.seen.book } }
     {
-        let Opened { head, seen } = self;
-        (head, Point { count: 0, seen })
+        let Opened { head, queue, seen } = self;
+        let unnamed = Unnamed::new(queue, seen.again());
+        (head, Point { count: 0, seen }, unnamed)
     }
 }
 
@@ -89,7 +98,7 @@ impl Opened {
 #[derive(Drop)]
 pub struct Point {
     count: u64,
-    seen: Seen<Entry, u64, Law>,
+    seen: Seen<Written, u64, Law>,
 }
 
 impl Model for Point {
@@ -97,14 +106,15 @@ impl Model for Point {
     ghost use Rattle.std.specs.Coded.{codes};
     ghost use Rattle.semantics.specs.Codes.{coded_element};
     ghost use Rattle.published.specs.Beginnings.{Beginning};
+    ghost use Rattle.published.specs.Rules.{entries_in};
 
     ghost Value = { Beginning };
 
     ghost coded = { Prim.hlevel (codes, coded_element) };
 
-    ghost view = { λ p. record { log = p.seen.log; book = p.seen.book } };
+    ghost view = { λ p. record { log = entries_in p.seen.log; book = p.seen.book } };
 
-    ghost invariant = { λ p. p.count ≡ length p.seen.log };
+    ghost invariant = { λ p. p.count ≡ length (entries_in p.seen.log) };
 }
 
 impl Point {
@@ -138,13 +148,13 @@ impl Point {
 
     /// Adds an entry after all that was seen, and says whether it did. It didn't where the history was longer than
     /// what was seen, which is seen then.
-    pub fn extend(&mut self, head: &Word<Entry, u64, Law>, entry: &Entry) -> bool
+    pub fn extend(&mut self, head: &Word<Written, u64, Law>, entry: &Entry) -> bool
         requires head { head.now ≡ head_of self.old.book }
         requires room { length self.old.log < 2 ^ 62 }
         ensures book { self.new.book ≡ self.old.book }
         ensures added { MatchBool result (self.new.log ≡ self.old.log ++ entry.now ∷ []) (IsPrefix self.old.log self.new.log) }
     {
-        let mut offer: Offer<Entry, u64, Law, Nothing> = self
+        let mut offer: Offer<Written, u64, Law, Nothing> = self
             .seen
             .plain::<Nothing, Entry, Add>(entry);
         let mut pen = self.seen.no_pen();

@@ -11,13 +11,16 @@
 
 mod book;
 mod copy;
+mod link;
 mod notice;
 mod publisher;
 mod publishes;
 mod seen;
 mod token;
+mod written;
 
 pub use book::Opened;
+pub use link::{Link, Unnamed};
 pub use notice::{EngineName, Notice};
 pub use publisher::{Publisher, open};
 pub use token::ReaderToken;
@@ -25,4 +28,4 @@ pub use token::ReaderToken;
 pub use token::ReaderToken as Seat;
 
 // Handed on from the crates below, for users of this one.
-pub use document::{Reply, Shared, Submission};
+pub use document::{Glance, Hop, Kinds, Reply, Row, Shared, Submission};

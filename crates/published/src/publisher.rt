@@ -17,9 +17,11 @@ ghost use Rattle.published.specs.Copies.{applied_to, snapshot};
 
 use crate::book::{Law, Opened, Point};
 use crate::copy::{Copy, Pending};
+use crate::link::Unnamed;
 use crate::notice::{EngineName, Notice};
 use crate::seen::View;
 use crate::token::{ReaderToken, Sees, Shown};
+use crate::written::Written;
 use core::mem::replace_with;
 use document::{Document, Entry};
 use ids::Refusal;
@@ -34,7 +36,7 @@ use std::sync::Wait;
 pub struct Publisher<N: EngineName> {
     writer: Writer<Copy, Pending, View, Shown<N>>,
     next: Option<Pending>,
-    head: Word<Entry, u64, Law>,
+    head: Word<Written, u64, Law>,
     all: Point,
 }
 
@@ -61,7 +63,7 @@ impl<N: EngineName> Model for Publisher<N> {
         ++ option_to_list p.next) p.head p.all };
 }
 
-/// Opens the two copies over two new documents of one table, with a token for each reader.
+/// Opens the two copies over two new documents of one table, with a token for each reader. The third names the engine's queue.
 ///
 /// # Errors
 /// `NoReaderPlace` if the copies have no token for one of the readers, `NoMemory` if allocation fails. Nothing is opened then.
@@ -72,7 +74,7 @@ pub fn open<N: EngineName>(
     first: Document,
     second: Document,
     readers: usize,
-) -> Result<(Publisher<N>, Vec<ReaderToken<N>>), Refusal>
+) -> Result<(Publisher<N>, Vec<ReaderToken<N>>, Unnamed<N>), Refusal>
     requires name { opened.seen.book ≡ N.book }
     requires tables { (first.members ≡ N.table) × (second.members ≡ N.table) }
     requires new { (first.entries ≡ []) × (second.entries ≡ []) }
@@ -81,7 +83,7 @@ pub fn open<N: EngineName>(
     ensures tokens { IfOk result (λ r. (length r.1.items ≡ readers) × All (λ s. s.seen ≡ []) r.1.items) }
     ensures err { IfErr result (λ why. (why ≡ NoMemory) ⊎ (why ≡ NoReaderPlace)) }
 {
-    let (head, all) = opened.start();
+    let (head, all, unnamed) = opened.start::<N>();
     let first = Copy {
         alloc,
         document: first,
@@ -104,6 +106,7 @@ pub fn open<N: EngineName>(
                 all,
             },
             tokens,
+            unnamed,
         )),
         Err(refusal) => {
             drop(writer.take(rt));

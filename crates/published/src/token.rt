@@ -1,19 +1,25 @@
 //! Tokens: readers of the published history, which take no lock and never wait.
 
-ghost use Rattle.std.specs.Prelude.{◌≡◌, ◌+◌, ◌≤◌, ◌⊎◌, ◌↔◌, length, map, IsTrue, MatchResult, IfOk, IfErr};
+ghost use Rattle.std.specs.Prelude.{◌≡◌, ◌+◌, ◌≤◌, ◌⊎◌, ◌↔◌, length, map, IsTrue, MatchResult, IfOk, IfErr, Ok};
 ghost use Rattle.std.specs.List.{All};
 ghost use Rattle.left_right.specs.Sides.{view as view_at};
 ghost use Rattle.ids.specs.declared.refusal.Refusal.TheVariants.{NoMemory, NoReading};
 ghost use Rattle.ids.specs.Vectors.{IsNamed};
-ghost use Rattle.semantics.specs.Entries.{IsEntryHistory, applied, lacked_of};
+ghost use Rattle.semantics.specs.Entries.{IsEntryHistory, applied, first_entries, lacked_of};
+ghost use Rattle.semantics.specs.Journals.{entries_from};
 ghost use Rattle.semantics.specs.NamedIds.{vector_of};
 ghost use Rattle.semantics.specs.WorldHistory.{BeginsWith};
-ghost use Rattle.semantics.specs.Questions.{Question as TheQuestion, Refused};
+ghost use Rattle.semantics.specs.Context.{doc};
+ghost use Rattle.semantics.specs.DocumentAnswer.{lists_of};
+ghost use Rattle.semantics.specs.Elements.{At, Element};
+ghost use Rattle.semantics.specs.Glances.{glance_of, shown_by};
+ghost use Rattle.semantics.specs.Questions.{answer_at, resolve, Answer as TheAnswer, Question as TheQuestion, Refused};
 ghost use Rattle.semantics.specs.LegalAnswer.{Answered, OfDocument, reading_of};
 ghost use Rattle.semantics.specs.View.{view};
-ghost use Rattle.document.specs.operation.Ops.{stamped_of};
+ghost use Rattle.document.specs.operation.Ops.{entry_of, stamped_of};
 ghost use Rattle.document.specs.oplog.Logs.{history};
 ghost use Rattle.document.specs.Documents.{asked_of, said_by};
+ghost use Rattle.document.specs.tree.Glances.{glance_in};
 ghost use Rattle.published.specs.Beginnings.{IsHistoryOfEngine};
 
 use crate::book::Point;
@@ -21,7 +27,7 @@ use crate::copy::Copy;
 use crate::notice::{EngineName, Notice};
 use crate::seen::View;
 use crossbeam_utils::rule::{Outcome, Protocol};
-use document::{NamedVector, Op, Question, Reading as Answer, Shared};
+use document::{Entry, Expr, Glance, NamedVector, Op, Question, Reading as Answer, Shared};
 use ids::Refusal;
 use left_right::reader::{Reader, Reading};
 use std::alloc::Global;
@@ -203,6 +209,88 @@ impl<N: EngineName> ReaderToken<N> {
         let ops = reading.get().document.missing(alloc, vector);
         self.reader = Some(reading.leave());
         Ok(ops?)
+    }
+
+    /// The operations of the entries before a position that the vector doesn't cover, the oldest first, of all that is published at the one
+    /// step of this read, which the token has then seen. Never waits. Costs what `missing` costs.
+    ///
+    /// # Errors
+    /// As `vector`.
+    pub fn missing_before(
+        &mut self,
+        alloc: Global,
+        position: usize,
+        vector: &NamedVector,
+    ) -> Result<Vec<Shared<Op>>, Refusal>
+        ensures grows { BeginsWith self.new.seen self.old.seen }
+        ensures legal { IsEntryHistory N.own self.new.seen }
+        ensures ops { IfOk result (λ ops. map stamped_of ops.items ≡ lacked_of (first_entries position self.new.seen) vector.now) }
+        ensures named { IfOk result (λ ops. All (λ o. IsNamed o.deps) ops.items) }
+        ensures published { IfOk result (λ _. self.new.read ≡ self.new.seen) }
+        ensures err { IfErr result (λ why. (why ≡ NoMemory) ⊎ (why ≡ NoReading)) }
+    {
+        let reading = self.enter()?;
+        let ops = reading
+            .get()
+            .document
+            .missing_before(alloc, position, vector);
+        self.reader = Some(reading.leave());
+        Ok(ops?)
+    }
+
+    /// The entries from a position on, the oldest first, of all that is published at the one step of this read, which the token has then
+    /// seen: none where that has no more entries. Never waits. Takes time and memory in proportion to how many they are, and shares
+    /// operations and commands.
+    ///
+    /// # Errors
+    /// As `vector`.
+    pub fn entries_from(&mut self, alloc: Global, position: usize) -> Result<Vec<Entry>, Refusal>
+        ensures grows { BeginsWith self.new.seen self.old.seen }
+        ensures legal { IsEntryHistory N.own self.new.seen }
+        ensures entries { IfOk result (λ entries. map entry_of entries.items ≡ entries_from position self.new.seen) }
+        ensures published { IfOk result (λ _. self.new.read ≡ self.new.seen) }
+        ensures err { IfErr result (λ why. (why ≡ NoMemory) ⊎ (why ≡ NoReading)) }
+    {
+        let reading = self.enter()?;
+        let entries = reading.get().document.entries_from(alloc, position);
+        self.reader = Some(reading.leave());
+        Ok(entries?)
+    }
+
+    /// An element at a glance, of all that is published at the one step of this read, which the token has then seen: what stands there
+    /// and, down to so many elements beneath it, what stands beneath, at most so many elements in all. What isn't shown is marked. Never
+    /// waits.
+    ///
+    /// # Errors
+    /// As `ask`.
+    pub fn glance(
+        &mut self,
+        alloc: Global,
+        expression: &Expr,
+        depth: usize,
+        elements: usize,
+    ) -> Result<Glance, Refusal>
+        ensures grows { BeginsWith self.new.seen self.old.seen }
+        ensures legal { IsEntryHistory N.own self.new.seen }
+        ensures answer { IfOk result
+            (λ g. (e : Element) × (resolve (lists_of (doc (applied self.new.seen))) expression.now ≡ Ok (At e))
+            × (glance_in g ≡ glance_of (shown_by (doc (applied self.new.seen))) depth elements e)) }
+        ensures err { IfErr result
+            (λ why. (why ≡ NoMemory) ⊎ (why ≡ NoReading)
+            ⊎ ((f : Element → TheAnswer)
+            → answer_at f (resolve (lists_of (doc (applied self.new.seen))) expression.now) ≡ Refused why)) }
+        ensures published { MatchResult result (λ _. self.new.read ≡ self.new.seen)
+            (λ why. (why ≡ NoMemory) ⊎ (why ≡ NoReading) ⊎ (self.new.read ≡ self.new.seen)) }
+        ensures step { MatchResult result (λ _. self.new.reads ≡ self.old.reads + 1)
+            (λ why. (why ≡ NoMemory) ⊎ (why ≡ NoReading) ⊎ (self.new.reads ≡ self.old.reads + 1)) }
+    {
+        let reading = self.enter()?;
+        let glance = reading
+            .get()
+            .document
+            .glance(alloc, expression, depth, elements);
+        self.reader = Some(reading.leave());
+        glance
     }
 
     /// Answers a question from the history that is published at the one step of this read, which the token has then seen: each call makes a

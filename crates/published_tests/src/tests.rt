@@ -60,7 +60,8 @@ fn new_publisher<N: EngineName, R: Wait>(
 {
     let first = Document::new(alloc, &MEMBERS)?;
     let second = Document::new(alloc, &MEMBERS)?;
-    open::<N>(rt, alloc, opened, first, second, 2)
+    let (publisher, tokens, _unnamed) = open::<N>(rt, alloc, opened, first, second, 2)?;
+    Ok((publisher, tokens))
 }
 
 /// Makes a document that holds what is appended, for a session.

@@ -5,8 +5,9 @@ use Rattle.ids.specs.declared.refusal.Refusal.{Refusal}
 use Rattle.ids.specs.declared.refusal.Refusal.TheVariants.{BadLine}
 use Rattle.semantics.specs.World.{WorldStep}
 use Rattle.world.specs.wire.Lines.{Bad, HasNoEnd, IsFirstLine, unless_bad}
+use Rattle.requests.specs.declared.edition.Edition.{Edition}
 use Rattle.scripts.specs.Steps.{step_line}
-use Rattle.scripts.specs.Engines.{engines_line}
+use Rattle.scripts.specs.Engines.{edition_of, engines_line}
 use Rattle.scripts.specs.Scripts.{script_form, steps_left}
 use Rattle.world.proofs.wire.CutLines.{cut-first_line, cut-no_end}
 
@@ -20,27 +21,29 @@ after-one steps s (Ok ss) = simp append_assoc
 after-one steps s (Err bad) = refl
 
 -- a line that is a step
-pub after-step : (engines : List Configuration) (taken : ℕ) (text line rest : List ℕ) (steps : List WorldStep) (s : WorldStep)
-    → IsFirstLine text line rest → step_line engines line ≡ Ok s
-    → after steps (steps_left engines taken text) ≡ after (steps ++ s ∷ []) (steps_left engines (taken + 1) rest)
-after-step engines taken text line rest steps s first e =
-    rw (cut-first_line text line rest first, e) (after-one steps s (steps_left engines (taken + 1) rest))
+pub after-step : (edition : Edition) (engines : List Configuration) (taken : ℕ) (text line rest : List ℕ) (steps : List WorldStep)
+    (s : WorldStep)
+    → IsFirstLine text line rest → step_line edition engines line ≡ Ok s
+    → after steps (steps_left edition engines taken text) ≡ after (steps ++ s ∷ []) (steps_left edition engines (taken + 1) rest)
+after-step edition engines taken text line rest steps s first e =
+    rw (cut-first_line text line rest first, e) (after-one steps s (steps_left edition engines (taken + 1) rest))
 
 -- a line that is none
-pub after-bad : (engines : List Configuration) (taken : ℕ) (text line rest : List ℕ) (steps : List WorldStep) (why : Refusal)
-    → IsFirstLine text line rest → step_line engines line ≡ Err why
-    → after steps (steps_left engines taken text) ≡ Err (taken + 1, why)
-after-bad engines taken text line rest steps why first e = rw (cut-first_line text line rest first, e) refl
+pub after-bad : (edition : Edition) (engines : List Configuration) (taken : ℕ) (text line rest : List ℕ) (steps : List WorldStep)
+    (why : Refusal)
+    → IsFirstLine text line rest → step_line edition engines line ≡ Err why
+    → after steps (steps_left edition engines taken text) ≡ Err (taken + 1, why)
+after-bad edition engines taken text line rest steps why first e = rw (cut-first_line text line rest first, e) refl
 
 -- bytes that no line feed ends
-pub after-cut : (engines : List Configuration) (taken : ℕ) (text : List ℕ) (steps : List WorldStep)
-    → HasNoEnd text → text ≢ [] → after steps (steps_left engines taken text) ≡ Err (taken + 1, BadLine)
-after-cut engines taken [] steps h some = absurd (some refl)
-after-cut engines taken (b ∷ text) steps h some = rw (cut-no_end (b ∷ text) h) refl
+pub after-cut : (edition : Edition) (engines : List Configuration) (taken : ℕ) (text : List ℕ) (steps : List WorldStep)
+    → HasNoEnd text → text ≢ [] → after steps (steps_left edition engines taken text) ≡ Err (taken + 1, BadLine)
+after-cut edition engines taken [] steps h some = absurd (some refl)
+after-cut edition engines taken (b ∷ text) steps h some = rw (cut-no_end (b ∷ text) h) refl
 
 -- a script whose first line is engines
 pub script_form-engines : (text line rest : List ℕ) (gs : List Configuration) → IsFirstLine text line rest → engines_line line ≡ Ok gs
-    → script_form text ≡ unless_bad (λ ss. Ok (gs, ss)) (steps_left gs 1 rest)
+    → script_form text ≡ unless_bad (λ ss. Ok (gs, ss)) (steps_left (edition_of line) gs 1 rest)
 script_form-engines text line rest gs first e = rw (cut-first_line text line rest first, e) refl
 
 -- one whose first line is none

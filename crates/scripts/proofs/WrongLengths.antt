@@ -5,10 +5,7 @@ use Rattle.ids.specs.declared.refusal.Refusal.TheVariants.{BadLine}
 use Rattle.serde_json.specs.declared.value.Value.{Value}
 use Rattle.serde_json.specs.View.{items_view}
 use Rattle.scripts.specs.Engines.{engine_of, only_engines}
-use Rattle.semantics.specs.Elements.{Value as TheValue}
-use Rattle.semantics.specs.Operations.{Mutation}
-use Rattle.semantics.specs.Questions.{Step, Question}
-use Rattle.scripts.specs.Requests.{applied_of, asking_of, delete_of, missing_of, writing_of}
+use Rattle.requests.specs.declared.edition.Edition.{Edition}
 use Rattle.scripts.specs.Numbers.{one_number, two_numbers, three_numbers, four_numbers}
 use Rattle.scripts.specs.Steps.{ask_of, line_of, push_of}
 
@@ -28,45 +25,19 @@ only_engines-wrong_length [] h = refl
 only_engines-wrong_length (a ∷ []) h = absurd (h refl)
 only_engines-wrong_length (a ∷ b ∷ xs) h = refl
 
-pub writing_of-wrong_length : (how : TheValue → Mutation) → (xs : List Value) → length xs ≢ 2 → writing_of how (items_view xs) ≡ Err BadLine
-writing_of-wrong_length how [] h = refl
-writing_of-wrong_length how (a ∷ []) h = refl
-writing_of-wrong_length how (a ∷ b ∷ []) h = absurd (h refl)
-writing_of-wrong_length how (a ∷ b ∷ d ∷ xs) h = refl
+pub push_of-wrong_length : (edition : Edition) (xs : List Value) → length xs ≢ 3 → push_of edition (items_view xs) ≡ Err BadLine
+push_of-wrong_length edition [] h = refl
+push_of-wrong_length edition (a ∷ []) h = refl
+push_of-wrong_length edition (a ∷ b ∷ []) h = refl
+push_of-wrong_length edition (a ∷ b ∷ d ∷ []) h = absurd (h refl)
+push_of-wrong_length edition (a ∷ b ∷ d ∷ e ∷ xs) h = refl
 
-pub delete_of-wrong_length : (xs : List Value) → length xs ≢ 1 → delete_of (items_view xs) ≡ Err BadLine
-delete_of-wrong_length [] h = refl
-delete_of-wrong_length (a ∷ []) h = absurd (h refl)
-delete_of-wrong_length (a ∷ b ∷ xs) h = refl
-
-pub asking_of-wrong_length : (what : List Step → Question) → (xs : List Value) → length xs ≢ 1
-    → asking_of what (items_view xs) ≡ Err BadLine
-asking_of-wrong_length what [] h = refl
-asking_of-wrong_length what (a ∷ []) h = absurd (h refl)
-asking_of-wrong_length what (a ∷ b ∷ xs) h = refl
-
-pub missing_of-wrong_length : (xs : List Value) → length xs ≢ 1 → missing_of (items_view xs) ≡ Err BadLine
-missing_of-wrong_length [] h = refl
-missing_of-wrong_length (a ∷ []) h = absurd (h refl)
-missing_of-wrong_length (a ∷ b ∷ xs) h = refl
-
-pub applied_of-wrong_length : (xs : List Value) → length xs ≢ 0 → applied_of (items_view xs) ≡ Err BadLine
-applied_of-wrong_length [] h = absurd (h refl)
-applied_of-wrong_length (a ∷ xs) h = refl
-
-pub push_of-wrong_length : (xs : List Value) → length xs ≢ 3 → push_of (items_view xs) ≡ Err BadLine
-push_of-wrong_length [] h = refl
-push_of-wrong_length (a ∷ []) h = refl
-push_of-wrong_length (a ∷ b ∷ []) h = refl
-push_of-wrong_length (a ∷ b ∷ d ∷ []) h = absurd (h refl)
-push_of-wrong_length (a ∷ b ∷ d ∷ e ∷ xs) h = refl
-
-pub ask_of-wrong_length : (xs : List Value) → length xs ≢ 3 → ask_of (items_view xs) ≡ Err BadLine
-ask_of-wrong_length [] h = refl
-ask_of-wrong_length (a ∷ []) h = refl
-ask_of-wrong_length (a ∷ b ∷ []) h = refl
-ask_of-wrong_length (a ∷ b ∷ d ∷ []) h = absurd (h refl)
-ask_of-wrong_length (a ∷ b ∷ d ∷ e ∷ xs) h = refl
+pub ask_of-wrong_length : (edition : Edition) (xs : List Value) → length xs ≢ 3 → ask_of edition (items_view xs) ≡ Err BadLine
+ask_of-wrong_length edition [] h = refl
+ask_of-wrong_length edition (a ∷ []) h = refl
+ask_of-wrong_length edition (a ∷ b ∷ []) h = refl
+ask_of-wrong_length edition (a ∷ b ∷ d ∷ []) h = absurd (h refl)
+ask_of-wrong_length edition (a ∷ b ∷ d ∷ e ∷ xs) h = refl
 
 pub line_of-wrong_length : (xs : List Value) → length xs ≢ 3 → line_of (items_view xs) ≡ Err BadLine
 line_of-wrong_length [] h = refl
@@ -103,16 +74,6 @@ four_numbers-wrong_length (a ∷ b ∷ d ∷ e ∷ f ∷ xs) h = refl
 
 -- each with what a pattern of a slice tests of its length
 pub ruleset engine_lengths = (ltb-true, ltb-false, engine_of-wrong_length, only_engines-wrong_length)
-
-pub ruleset request_lengths = (
-  ltb-true,
-  ltb-false,
-  writing_of-wrong_length,
-  delete_of-wrong_length,
-  asking_of-wrong_length,
-  missing_of-wrong_length,
-  applied_of-wrong_length,
-)
 
 pub ruleset step_lengths = (ltb-true, ltb-false, push_of-wrong_length, ask_of-wrong_length, line_of-wrong_length)
 

@@ -7,6 +7,8 @@ use Rattle.ids.specs.declared.refusal.Refusal.{Refusal}
 use Rattle.ids.specs.declared.refusal.Refusal.TheVariants.{BadLine, BadConfig}
 use Rattle.serde_json.specs.Data.{Data, Items, no_items, item}
 use Rattle.world.specs.wire.Forms.{and_then, json_form, number_form, list_form, phrase_form}
+use Rattle.requests.specs.declared.edition.Edition.{Edition}
+use Rattle.requests.specs.declared.edition.Edition.TheVariants.{First, Second}
 
 -- each part as a number
 abbrev pub numbers_of : Items → Result (List ℕ) Refusal
@@ -44,13 +46,23 @@ abbrev pub only_engines : Items → Result (List Configuration) Refusal
 only_engines (item engines no_items) = and_then if_so_many (and_then engines_of (list_form engines))
 only_engines _ = Err BadLine
 
--- the word `world`, and its engines
+-- the word `world` or `world2`, and its engines
 abbrev pub world_of : List ℕ × Items → Result (List Configuration) Refusal
-world_of p = if bytes_eq p.0 (codes "world") then only_engines p.1 else Err BadLine
+world_of p = if bytes_eq p.0 (codes "world") then only_engines p.1
+    else (if bytes_eq p.0 (codes "world2") then only_engines p.1 else Err BadLine)
 
 -- a word and the engines
 abbrev pub world_form : Data → Result (List Configuration) Refusal
 world_form d = and_then world_of (phrase_form d)
+
+-- the second edition is that of `world2`
+abbrev pub edition_by : Result (List ℕ × Items) Refusal → Edition
+edition_by (Ok p) = if bytes_eq p.0 (codes "world2") then Second else First
+edition_by (Err why) = First
+
+-- the edition of a script with this first line
+abbrev pub edition_of : List ℕ → Edition
+edition_of text = edition_by (and_then phrase_form (json_form text))
 
 -- a configuration has room for the number
 abbrev pub fits : ℕ → Bool

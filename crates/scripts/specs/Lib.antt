@@ -1,11 +1,9 @@
 pub mod Engines
 pub mod Errors
-pub mod Expressions
 pub mod NumberedSteps
 pub mod Numbers
 pub mod Exists
 pub mod Replies
-pub mod Requests
 pub mod Runs
 pub mod Scripts
 pub mod Steps

@@ -4,25 +4,27 @@ use Rattle.ids.specs.Configurations.{Configuration}
 use Rattle.ids.specs.declared.refusal.Refusal.TheVariants.{BadLine}
 use Rattle.semantics.specs.World.{WorldStep}
 use Rattle.world.specs.wire.Lines.{Bad, cut, on_line, unless_bad}
-use Rattle.scripts.specs.Engines.{engines_line}
+use Rattle.requests.specs.declared.edition.Edition.{Edition}
+use Rattle.scripts.specs.Engines.{edition_of, engines_line}
 use Rattle.scripts.specs.Steps.{step_line}
 
 -- the steps on lines from this number on; bytes after the last line are a bad line
-abbrev pub steps_from : List Configuration → ℕ → List (List ℕ) → List ℕ → Result (List WorldStep) Bad
-steps_from engines number [] [] = Ok []
-steps_from engines number [] (b ∷ tail) = Err (number, BadLine)
-steps_from engines number (l ∷ ls) tail =
-    unless_bad (λ s. unless_bad (λ ss. Ok (s ∷ ss)) (steps_from engines (number + 1) ls tail)) (on_line number (step_line engines l))
+abbrev pub steps_from : Edition → List Configuration → ℕ → List (List ℕ) → List ℕ → Result (List WorldStep) Bad
+steps_from edition engines number [] [] = Ok []
+steps_from edition engines number [] (b ∷ tail) = Err (number, BadLine)
+steps_from edition engines number (l ∷ ls) tail =
+    unless_bad (λ s. unless_bad (λ ss. Ok (s ∷ ss)) (steps_from edition engines (number + 1) ls tail))
+    (on_line number (step_line edition engines l))
 
 -- the steps in what is left of a script, after this many lines
-abbrev pub steps_left : List Configuration → ℕ → List ℕ → Result (List WorldStep) Bad
-steps_left engines taken rest = steps_from engines (taken + 1) (cut rest).lines (cut rest).tail
+abbrev pub steps_left : Edition → List Configuration → ℕ → List ℕ → Result (List WorldStep) Bad
+steps_left edition engines taken rest = steps_from edition engines (taken + 1) (cut rest).lines (cut rest).tail
 
 -- the first line has the engines, and each line after it a step; where there is none, line 1 is bad
 abbrev pub script_of : List (List ℕ) → List ℕ → Result (List Configuration × List WorldStep) Bad
 script_of [] tail = Err (1, BadLine)
 script_of (l ∷ ls) tail =
-    unless_bad (λ gs. unless_bad (λ ss. Ok (gs, ss)) (steps_from gs 2 ls tail)) (on_line 1 (engines_line l))
+    unless_bad (λ gs. unless_bad (λ ss. Ok (gs, ss)) (steps_from (edition_of l) gs 2 ls tail)) (on_line 1 (engines_line l))
 
 -- the engines and the steps of a script
 abbrev pub script_form : List ℕ → Result (List Configuration × List WorldStep) Bad

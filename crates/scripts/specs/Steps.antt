@@ -8,25 +8,28 @@ use Rattle.semantics.specs.World.{WorldStep, Push, Ask, Lines, step_by}
 use Rattle.serde_json.specs.Data.{Data, Items, no_items, item}
 use Rattle.world.specs.wire.Bundles.{Readable, readable}
 use Rattle.world.specs.wire.Forms.{and_then, json_form, number_form, phrase_form, text_form}
+use Rattle.requests.specs.declared.edition.Edition.{Edition}
 use Rattle.scripts.specs.NumberedSteps.{numbered_step_of}
 use Rattle.scripts.specs.Exists.{if_there}
-use Rattle.scripts.specs.Requests.{command_form, question_form}
+use Rattle.requests.specs.Commands.{command_form}
+use Rattle.requests.specs.Questions.{question_form}
 
 -- an engine, a client and a command
-abbrev pub push_of : Items → Result WorldStep Refusal
-push_of (item engine (item client (item command no_items))) =
+abbrev pub push_of : Edition → Items → Result WorldStep Refusal
+push_of edition (item engine (item client (item command no_items))) =
     and_then
-    (λ e. and_then (λ c. and_then (λ k. Ok (step_by e (Push c k))) (command_form command)) (number_form client)) (number_form engine)
-push_of _ = Err BadLine
+    (λ e. and_then (λ c. and_then (λ k. Ok (step_by e (Push c k))) (command_form edition command)) (number_form client))
+    (number_form engine)
+push_of edition _ = Err BadLine
 
 -- an engine, a token and a question
-abbrev pub ask_of : Items → Result WorldStep Refusal
-ask_of (item engine (item token (item question no_items))) =
+abbrev pub ask_of : Edition → Items → Result WorldStep Refusal
+ask_of edition (item engine (item token (item question no_items))) =
     and_then
     (λ e. and_then
     (λ t. and_then
-    (λ q. Ok (step_by e (Ask t q))) (question_form question)) (number_form token)) (number_form engine)
-ask_of _ = Err BadLine
+    (λ q. Ok (step_by e (Ask t q))) (question_form edition question)) (number_form token)) (number_form engine)
+ask_of edition _ = Err BadLine
 
 -- a client receives what can be read of lines
 abbrev pub lines_step : ℕ → ℕ → Readable → WorldStep
@@ -43,15 +46,15 @@ line_of (item engine (item client (item text no_items))) =
 line_of _ = Err BadLine
 
 -- by its word
-abbrev pub any_step_of : List ℕ × Items → Result WorldStep Refusal
-any_step_of p = if bytes_eq p.0 (codes "push") then push_of p.1
-    else (if bytes_eq p.0 (codes "ask") then ask_of p.1
+abbrev pub any_step_of : Edition → List ℕ × Items → Result WorldStep Refusal
+any_step_of edition p = if bytes_eq p.0 (codes "push") then push_of edition p.1
+    else (if bytes_eq p.0 (codes "ask") then ask_of edition p.1
     else (if bytes_eq p.0 (codes "line") then line_of p.1 else numbered_step_of p))
 
 -- a list of a word and its parts
-abbrev pub step_form : Data → Result WorldStep Refusal
-step_form d = and_then any_step_of (phrase_form d)
+abbrev pub step_form : Edition → Data → Result WorldStep Refusal
+step_form edition d = and_then (any_step_of edition) (phrase_form d)
 
 -- the step on a line of a script of these engines
-abbrev pub step_line : List Configuration → List ℕ → Result WorldStep Refusal
-step_line engines text = and_then (if_there engines) (and_then step_form (json_form text))
+abbrev pub step_line : Edition → List Configuration → List ℕ → Result WorldStep Refusal
+step_line edition engines text = and_then (if_there engines) (and_then (step_form edition) (json_form text))

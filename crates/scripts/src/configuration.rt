@@ -5,10 +5,12 @@ ghost use Rattle.std.specs.Prelude.{◌≡◌, ◌⊎◌, Ok, Err, IfOk, IfErr, 
 ghost use Rattle.std.specs.List.{list_all};
 ghost use Rattle.ids.specs.declared.refusal.Refusal.TheVariants.{NoMemory, BadConfig};
 ghost use Rattle.serde_json.specs.View.{view, items_view};
-ghost use Rattle.world.specs.wire.Forms.{IsRead, IsOrNoMemory};
-ghost use Rattle.scripts.specs.Engines.{all_fit, engine_form, engines_of, fits, numbers_of, only_engines, said_engines, world_form};
+ghost use Rattle.world.specs.wire.Forms.{IsRead, IsOrNoMemory, phrase_form};
+ghost use Rattle.scripts.specs.Engines.{all_fit, edition_by, edition_of, engine_form, engines_of, fits, numbers_of, only_engines};
+ghost use Rattle.scripts.specs.Engines.{said_engines, world_form};
 
 use ids::{Config, Refusal};
+use requests::Edition;
 use serde_json::Value;
 use std::alloc::Global;
 use std::marker::Model;
@@ -42,21 +44,25 @@ impl Model for WrittenConfig {
     } };
 }
 
-/// The engines that a script's first line opens, from 1 to 16 of them. Whether they are within the limits is for the world to test.
-pub fn read_engines(alloc: Global, text: &[u8]) -> Result<Vec<Config>, Refusal>
-    ensures { IsRead (λ v. v.items) result (said_engines text.now) }
+/// The edition of a script with this first line, and the engines that it opens, from 1 to 16 of them. Whether they are within the limits
+/// is for the world to test.
+pub fn read_engines(alloc: Global, text: &[u8]) -> Result<(Edition, Vec<Config>), Refusal>
+    ensures engines { IsRead (λ p. p.1.items) result (said_engines text.now) }
+    ensures edition { IfOk result (λ p. p.0 ≡ edition_of text.now) }
 {
     let value = json_of(alloc, text)?;
-    let engines = world_in(alloc, &value)?;
-    configurations_of(alloc, engines.as_slice())
+    let (edition, engines) = world_in(alloc, &value)?;
+    Ok((edition, configurations_of(alloc, engines.as_slice())?))
 }
 
-fn world_in(alloc: Global, value: &Value) -> Result<Vec<WrittenConfig>, Refusal>
-    ensures { IsRead (λ v. v.items) result (world_form (view value.now)) }
+fn world_in(alloc: Global, value: &Value) -> Result<(Edition, Vec<WrittenConfig>), Refusal>
+    ensures engines { IsRead (λ p. p.1.items) result (world_form (view value.now)) }
+    ensures edition { IfOk result (λ p. p.0 ≡ edition_by (phrase_form (view value.now))) }
 {
     let (word, parts) = phrase_in(value)?;
     match word {
-        "world" => only_engines_in(alloc, parts),
+        "world" => Ok((Edition::First, only_engines_in(alloc, parts)?)),
+        "world2" => Ok((Edition::Second, only_engines_in(alloc, parts)?)),
         _ => Err(Refusal::BadLine),
     }
 }

@@ -4,18 +4,16 @@
 mod configuration;
 mod error;
 mod exists;
-mod expressions;
 mod numbered_steps;
 mod numbers;
 mod readings;
 mod replies;
-mod requests;
 mod run;
 mod script;
 mod steps;
 
 pub use error::ScriptError;
 pub use replies::reply_lines;
-pub use requests::what_is_read_is_written_alike;
 pub use run::replies_to;
 pub use script::{Script, read_script};
+pub use steps::what_is_read_is_written_alike;

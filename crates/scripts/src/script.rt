@@ -15,6 +15,7 @@ use crate::configuration::read_engines;
 use crate::error::ScriptError;
 use crate::steps::read_step;
 use ids::{Config, Refusal};
+use requests::Edition;
 use std::alloc::Global;
 use world::{Lines, World, WorldStep};
 
@@ -42,22 +43,27 @@ pub fn read_script(alloc: Global, bytes: &[u8]) -> Result<Script, ScriptError>
         return Err(ScriptError::of_line(1, Refusal::BadLine));
     };
     match read_engines(alloc, first.text) {
-        Ok(engines) => open(alloc, engines.as_slice(), &mut lines),
+        Ok((edition, engines)) => open(alloc, edition, engines.as_slice(), &mut lines),
         Err(why) => Err(ScriptError::of_line(1, why)),
     }
 }
 
 /// The world of these engines, with the steps on the lines that are left.
-fn open(alloc: Global, engines: &[Config], lines: &mut Lines<'_>) -> Result<Script, ScriptError>
+fn open(
+    alloc: Global,
+    edition: Edition,
+    engines: &[Config],
+    lines: &mut Lines<'_>,
+) -> Result<Script, ScriptError>
     ensures allowed { IfOk result (λ s. list_all is_within_limits engines.now ≡ true) }
     ensures world { IfOk result (λ s. world_of s.world ≡ opened engines.now) }
     ensures steps { IfOk result
-        (λ s. steps_left engines.now lines.old.taken lines.old.rest.now ≡ Ok (map step_of s.steps.items)) }
+        (λ s. steps_left edition engines.now lines.old.taken lines.old.rest.now ≡ Ok (map step_of s.steps.items)) }
     ensures err { IfErr result (IsErrorOf (unless_bad
-        (λ gs. steps_left gs lines.old.taken lines.old.rest.now) (on_line 1 (if_within_limits engines.now)))) }
+        (λ gs. steps_left edition gs lines.old.taken lines.old.rest.now) (on_line 1 (if_within_limits engines.now)))) }
 {
     match World::new(alloc, engines) {
-        Ok(world) => with_steps(alloc, world, engines, lines),
+        Ok(world) => with_steps(alloc, world, edition, engines, lines),
         Err(why) => Err(ScriptError::of_line(1, why)),
     }
 }
@@ -65,33 +71,35 @@ fn open(alloc: Global, engines: &[Config], lines: &mut Lines<'_>) -> Result<Scri
 fn with_steps(
     alloc: Global,
     world: World,
+    edition: Edition,
     engines: &[Config],
     lines: &mut Lines<'_>,
 ) -> Result<Script, ScriptError>
     ensures world { IfOk result (λ s. s.world ≡ world) }
     ensures steps { MatchResult result
-        (λ s. steps_left engines.now lines.old.taken lines.old.rest.now
+        (λ s. steps_left edition engines.now lines.old.taken lines.old.rest.now
         ≡ Ok (map step_of s.steps.items))
-        (IsErrorOf (steps_left engines.now lines.old.taken lines.old.rest.now)) }
+        (IsErrorOf (steps_left edition engines.now lines.old.taken lines.old.rest.now)) }
 {
-    let steps = read_steps(alloc, lines, engines)?;
+    let steps = read_steps(alloc, edition, lines, engines)?;
     Ok(Script { world, steps })
 }
 
 /// The steps on the lines that are left.
 fn read_steps(
     alloc: Global,
+    edition: Edition,
     lines: &mut Lines<'_>,
     engines: &[Config],
 ) -> Result<Vec<WorldStep>, ScriptError>
     ensures { MatchResult result
-        (λ v. steps_left engines.now lines.old.taken lines.old.rest.now
+        (λ v. steps_left edition engines.now lines.old.taken lines.old.rest.now
         ≡ Ok (map step_of v.items))
-        (IsErrorOf (steps_left engines.now lines.old.taken lines.old.rest.now)) }
+        (IsErrorOf (steps_left edition engines.now lines.old.taken lines.old.rest.now)) }
 {
     let mut steps = Vec::new(alloc);
     while let Some(line) = lines.take_line() {
-        match read_step(alloc, line.text, engines) {
+        match read_step(alloc, edition, line.text, engines) {
             Ok(step) => steps.push(step)?,
             Err(why) => return Err(ScriptError::of_line(line.number, why)),
         }

@@ -1,54 +1,65 @@
 //! A script's steps, one a line.
 #![tactic(auto, using(crate::proofs::WrongLengths::step_lengths))]
 
+ghost use Rattle.std.specs.Prelude.{◌≡◌, ℕ, List, Ok};
 ghost use Rattle.serde_json.specs.View.{view, items_view};
+ghost use Rattle.semantics.specs.LegalAnswer.{Asked};
+ghost use Rattle.semantics.specs.Making.{Command as TheCommand};
+ghost use Rattle.semantics.specs.World.{Push, Ask, step_by};
 ghost use Rattle.world.specs.Acts.{step_of as step_meant};
-ghost use Rattle.world.specs.wire.Forms.{IsRead};
+ghost use Rattle.requests.specs.declared.edition.Edition.{Edition};
+ghost use Rattle.world.specs.wire.Forms.{IsRead, and_then, json_form};
 ghost use Rattle.scripts.specs.Steps.{ask_of, line_of, push_of, step_form, step_line};
+ghost use Rattle.scripts.specs.Written.{ask_json, push_json};
 
 use crate::exists::is_there;
 use crate::numbered_steps::numbered_step_in;
 use crate::numbers::index_in;
-use crate::requests::{command_in, question_in};
 use ids::{Config, Refusal};
+use requests::{Edition, command_in, question_in};
 use serde_json::Value;
 use std::alloc::Global;
 use world::{Shared, WorldAct, WorldStep, json_of, phrase_in, text_in};
 
 /// The step on a line, whose engine, client and token exist.
-pub fn read_step(alloc: Global, text: &[u8], engines: &[Config]) -> Result<WorldStep, Refusal>
-    ensures { IsRead step_meant result (step_line engines.now text.now) }
+pub fn read_step(
+    alloc: Global,
+    edition: Edition,
+    text: &[u8],
+    engines: &[Config],
+) -> Result<WorldStep, Refusal>
+    ensures { IsRead step_meant result (step_line edition engines.now text.now) }
 {
     let value = json_of(alloc, text)?;
-    let step = step_in(alloc, &value)?;
+    let step = step_in(alloc, edition, &value)?;
     if !is_there(&step, engines) {
         return Err(Refusal::BadLine);
     }
     Ok(step)
 }
 
-fn step_in(alloc: Global, value: &Value) -> Result<WorldStep, Refusal>
-    ensures { IsRead step_meant result (step_form (view value.now)) }
+fn step_in(alloc: Global, edition: Edition, value: &Value) -> Result<WorldStep, Refusal>
+    ensures { IsRead step_meant result (step_form edition (view value.now)) }
 {
     let (word, parts) = phrase_in(value)?;
     match word {
-        "push" => push_in(alloc, parts),
-        "ask" => ask_in(alloc, parts),
+        "push" => push_in(alloc, edition, parts),
+        "ask" => ask_in(alloc, edition, parts),
         "line" => line_in(alloc, parts),
         _ => numbered_step_in(word, parts),
     }
 }
 
 /// An engine, a client of it, and a command.
-fn push_in(alloc: Global, parts: &[Value]) -> Result<WorldStep, Refusal>
-    ensures { IsRead step_meant result (push_of (items_view parts.now)) }
+fn push_in(alloc: Global, edition: Edition, parts: &[Value]) -> Result<WorldStep, Refusal>
+    ensures { IsRead step_meant result (push_of edition (items_view parts.now)) }
 {
     let [engine, client, command] = parts else {
         return Err(Refusal::BadLine);
     };
     let engine = index_in(engine)?;
     let client = index_in(client)?;
-    let command = Shared::new(alloc, command_in(alloc, command)?)?;
+    let command = Shared::new(alloc, command_in(alloc, edition, command)?)?;
     Ok(WorldStep {
         engine,
         act: WorldAct::Push { client, command },
@@ -56,15 +67,15 @@ fn push_in(alloc: Global, parts: &[Value]) -> Result<WorldStep, Refusal>
 }
 
 /// An engine, a token of it, and a question.
-fn ask_in(alloc: Global, parts: &[Value]) -> Result<WorldStep, Refusal>
-    ensures { IsRead step_meant result (ask_of (items_view parts.now)) }
+fn ask_in(alloc: Global, edition: Edition, parts: &[Value]) -> Result<WorldStep, Refusal>
+    ensures { IsRead step_meant result (ask_of edition (items_view parts.now)) }
 {
     let [engine, token, question] = parts else {
         return Err(Refusal::BadLine);
     };
     let engine = index_in(engine)?;
     let token = index_in(token)?;
-    let question = question_in(alloc, question)?;
+    let question = question_in(alloc, edition, question)?;
     Ok(WorldStep {
         engine,
         act: WorldAct::Ask { token, question },
@@ -86,3 +97,11 @@ fn line_in(alloc: Global, parts: &[Value]) -> Result<WorldStep, Refusal>
         act: WorldAct::Line { client, text },
     })
 }
+
+/// A line that is read as a step that holds a command or a question has the JSON that writing it gives, whatever its spaces and escapes.
+pub fn what_is_read_is_written_alike()
+    ensures push { (edition : Edition) (text : List ℕ) (e c : ℕ) (k : TheCommand)
+        → and_then (step_form edition) (json_form text) ≡ Ok (step_by e (Push c k)) → json_form text ≡ Ok (push_json e c k) }
+    ensures ask { (edition : Edition) (text : List ℕ) (e t : ℕ) (q : Asked)
+        → and_then (step_form edition) (json_form text) ≡ Ok (step_by e (Ask t q)) → json_form text ≡ Ok (ask_json e t q) }
+{}

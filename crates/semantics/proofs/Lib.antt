@@ -32,6 +32,10 @@ pub mod FaultlessFollows
 pub mod FollowsFaultless
 pub mod AloneTests
 pub mod LawfulAlone
+-- parts of a document at a glance
+pub mod GlancesBeneath
+-- expressions as a history grows
+pub mod LastingSteps
 -- what is made, and entry histories
 pub mod ListedItems
 pub mod MadeLawful
@@ -54,6 +58,8 @@ pub mod GrowingWorld
 pub mod NoneDropped
 pub mod Settled
 pub mod ReachedWorlds
+pub mod RecordedHistories
+pub mod LivedWorlds
 pub mod RunsAgree
 -- exchanges
 pub mod OneDelivery

@@ -1,19 +1,22 @@
 -- A made operation may follow the history that it was made in.
-use Rattle.std.proofs.Common.{◌≡◌, inl, inr, ℕ, zero, suc, ◌≤◌, le_antisymm, true, false, cond, nat_le, List, [], ◌∷◌, Result, Ok, Err}
+use Rattle.std.proofs.Common.{◌≡◌, inl, inr, ℕ, zero, suc, ◌≤◌, le_antisymm, Bool, true, false, cond, nat_le, List, [], ◌∷◌, Result, Ok}
+use Rattle.std.proofs.Common.{Err}
 use Rattle.std.proofs.Common.{refl, ap, subst, arith, slice_get}
 use Rattle.semantics.specs.Ids.{OpId, id_at}
 use Rattle.semantics.specs.Elements.{Element, Doc, Field, Item, Place, At, HeadOf, depth}
 use Rattle.semantics.specs.Operations.{Operation, Mutation, Assign, Insert, Delete, misplaced, element_of}
 use Rattle.semantics.specs.LegalHistory.{IsLegal, Follows, has_id, greatest_of, ItemsStand, IsFormed}
-use Rattle.semantics.specs.Context.{doc}
+use Rattle.semantics.specs.Context.{doc, has_item}
 use Rattle.ids.specs.declared.refusal.Refusal.{Refusal}
-use Rattle.ids.specs.declared.refusal.Refusal.TheVariants.{TooDeep, HistoryFull}
-use Rattle.semantics.specs.Questions.{Step, Get, Idx, resolve, walk_from, step_from, enter, item_at}
-use Rattle.semantics.specs.DocumentAnswer.{visible_items, is_any}
+use Rattle.ids.specs.declared.refusal.Refusal.TheVariants.{TooDeep, PastEnd, HistoryFull}
+use Rattle.semantics.specs.Questions.{Step, Get, Idx, ById, resolve, walk_from, step_from, enter, item_at}
+use Rattle.semantics.specs.DocumentAnswer.{lists_of, visible_items, is_any}
 use Rattle.semantics.specs.Making.{Command, make, place_unless, then_place, operation_at, is_full}
 use Rattle.semantics.proofs.AbsentIds.{has_id-among}
 use Rattle.semantics.proofs.LegalFacts.{counted, greatest_cases, deps_there}
+use Rattle.semantics.proofs.ItemTests.{item_from}
 use Rattle.semantics.proofs.ListedItems.{AllInserted, inserted_filter, order_inserted}
+use Rattle.semantics.proofs.PlacedItems.{item_among, item_listed}
 
 module _ (H : List Operation) where
   -- the items on the way to a place stand in H
@@ -27,22 +30,28 @@ module _ (H : List Operation) where
   item_stands e st (a ∷ ids) h zero = (has_id-among H h.0.0 a h.0.1 h.0.2, h.0, st)
   item_stands e st (a ∷ ids) h (suc i) = item_stands e st ids h.1 i
 
-  enter_stands : (e : Element) → ItemsStand H (has_id H) e → (s : Step) → Stands (enter (visible_items (doc H)) e s)
+  listed_stands : (e : Element) → ItemsStand H (has_id H) e → (a : OpId) (listed : Bool) → has_item a ((doc H).order e) ≡ listed
+      → Stands (cond listed (Ok (At (Item e a))) (Err PastEnd))
+  listed_stands e st a true is = (item_among H e a is, item_from H e a (item_listed H e a is), st)
+  listed_stands e st a false is = tt
+
+  enter_stands : (e : Element) → ItemsStand H (has_id H) e → (s : Step) → Stands (enter (lists_of (doc H)) e s)
   enter_stands e st (Get n) = st
   enter_stands e st (Idx zero) = st
   enter_stands e st (Idx (suc i)) = item_stands e st (visible_items (doc H) e)
       (inserted_filter H e (λ a. is_any ((doc H).presence (Item e a))) ((doc H).order e) (order_inserted H e)) i
+  enter_stands e st (ById a) = listed_stands e st a (has_item a ((doc H).order e)) refl
 
-  step_stands : (p : Place) → ItemsStand H (has_id H) (element_of p) → (s : Step) → Stands (step_from (visible_items (doc H)) p s)
+  step_stands : (p : Place) → ItemsStand H (has_id H) (element_of p) → (s : Step) → Stands (step_from (lists_of (doc H)) p s)
   step_stands (HeadOf l) st s = tt
   step_stands (At e) st s = elim (nat_le 32 (depth e)) as
-      (λ b. Stands (cond b (Err TooDeep) (enter (visible_items (doc H)) e s))) [ true ↦ tt | false ↦ enter_stands e st s ]
+      (λ b. Stands (cond b (Err TooDeep) (enter (lists_of (doc H)) e s))) [ true ↦ tt | false ↦ enter_stands e st s ]
 
-  walk_stands : (steps : List Step) (r : Result Place Refusal) → Stands r → Stands (walk_from (visible_items (doc H)) steps r)
+  walk_stands : (steps : List Step) (r : Result Place Refusal) → Stands r → Stands (walk_from (lists_of (doc H)) steps r)
   walk_stands [] (Err r) st = tt
   walk_stands (s ∷ steps) (Err r) st = tt
   walk_stands [] (Ok p) st = st
-  walk_stands (s ∷ steps) (Ok p) st = walk_stands steps (step_from (visible_items (doc H)) p s) (step_stands p st s)
+  walk_stands (s ∷ steps) (Ok p) st = walk_stands steps (step_from (lists_of (doc H)) p s) (step_stands p st s)
 
   all_counted : greatest_of (λ a. true) H ≡ greatest_of (has_id H) H
   all_counted = le_antisymm
@@ -97,12 +106,12 @@ module _ (H : List Operation) where
 
   makes_lawful : IsLegal H → (p : ℕ) (c : Command) → MakesLawful p (make H p c)
   makes_lawful legal p c =
-      let ok = resolved legal p c.mutation (resolve (visible_items (doc H)) c.expression) (walk_stands c.expression (Ok (At Doc)) tt) in
+      let ok = resolved legal p c.mutation (resolve (lists_of (doc H)) c.expression) (walk_stands c.expression (Ok (At Doc)) tt) in
       elim (is_full H) as
       (λ b. MakesLawful p
       (cond b (Err HistoryFull)
       (operation_at H p c.mutation
-      (then_place c.mutation (resolve (visible_items (doc H)) c.expression))))) [ true ↦ tt | false ↦ ok ]
+      (then_place c.mutation (resolve (lists_of (doc H)) c.expression))))) [ true ↦ tt | false ↦ ok ]
 
   -- What is made is lawful.
   pub made_lawful : IsLegal H → (p : ℕ) (c : Command) (o : Operation) → make H p c ≡ Ok o → IsLawful p o

@@ -6,12 +6,13 @@ use Rattle.std.proofs.lemmas.Bool.{ltb-true, ltb-false}
 use Rattle.ids.specs.Tables.{lacks_room}
 use Rattle.ids.specs.declared.refusal.Refusal.{Refusal}
 use Rattle.ids.specs.declared.refusal.Refusal.TheVariants.{NoMemory, BadFloor, UnknownReplica, OwnName, HistoryFull, InboxFull, TooDeep}
+use Rattle.ids.specs.declared.refusal.Refusal.TheVariants.{PastEnd}
 use Rattle.semantics.specs.Ids.{OpId}
 use Rattle.semantics.specs.Elements.{Element, Doc, Field, Item, Place, At, HeadOf, depth}
 use Rattle.semantics.specs.Operations.{Operation, Mutation, Assign, Insert, Delete, Misplaced, OutsideList, OnHead, misplaced}
-use Rattle.semantics.specs.Questions.{Step, Get, Idx, item_at, enter, step_from, walk_from, resolve}
-use Rattle.semantics.specs.Context.{doc}
-use Rattle.semantics.specs.DocumentAnswer.{visible_items}
+use Rattle.semantics.specs.Questions.{Step, Get, Idx, ById, Lists, item_at, enter, step_from, walk_from, resolve}
+use Rattle.semantics.specs.Context.{doc, has_item}
+use Rattle.semantics.specs.DocumentAnswer.{lists_of}
 use Rattle.semantics.specs.LegalHistory.{has_id}
 use Rattle.semantics.specs.Stamped.{Stamped}
 use Rattle.semantics.specs.Faults.{first_failed, first_fault, alone_fault, fault_of, is_ready}
@@ -89,25 +90,25 @@ item_fine : (e : Element) (o : Option OpId) → FineResult (item_at e o)
 item_fine e None = refl
 item_fine e (Some a) = tt
 
-enter_fine : (items : Element → List OpId) (e : Element) (s : Step) → FineResult (enter items e s)
-enter_fine items e (Get n) = tt
-enter_fine items e (Idx zero) = tt
-enter_fine items e (Idx (suc i)) = item_fine e (slice_get (items e) i)
-
 result_cond : {X : Type 0} (b : Bool) (x y : Result X Refusal) → FineResult x → FineResult y → FineResult (cond b x y)
 result_cond true x y f g = f
 result_cond false x y f g = g
 
-step_fine : (items : Element → List OpId) (p : Place) (s : Step) → FineResult (step_from items p s)
-step_fine items (HeadOf l) s = refl
-step_fine items (At e) s = result_cond (nat_le 32 (depth e)) (Err TooDeep) (enter items e s) refl (enter_fine items e s)
+enter_fine : (lists : Lists) (e : Element) (s : Step) → FineResult (enter lists e s)
+enter_fine lists e (Get n) = tt
+enter_fine lists e (Idx zero) = tt
+enter_fine lists e (Idx (suc i)) = item_fine e (slice_get (lists.shown e) i)
+enter_fine lists e (ById a) = result_cond (has_item a (lists.all e)) (Ok (At (Item e a))) (Err PastEnd) tt refl
 
-walk_fine : (items : Element → List OpId) (steps : List Step) (r : Result Place Refusal) → FineResult r
-    → FineResult (walk_from items steps r)
-walk_fine items [] (Err e) f = f
-walk_fine items (s ∷ steps) (Err e) f = f
-walk_fine items [] (Ok p) f = tt
-walk_fine items (s ∷ steps) (Ok p) f = walk_fine items steps (step_from items p s) (step_fine items p s)
+step_fine : (lists : Lists) (p : Place) (s : Step) → FineResult (step_from lists p s)
+step_fine lists (HeadOf l) s = refl
+step_fine lists (At e) s = result_cond (nat_le 32 (depth e)) (Err TooDeep) (enter lists e s) refl (enter_fine lists e s)
+
+walk_fine : (lists : Lists) (steps : List Step) (r : Result Place Refusal) → FineResult r → FineResult (walk_from lists steps r)
+walk_fine lists [] (Err e) f = f
+walk_fine lists (s ∷ steps) (Err e) f = f
+walk_fine lists [] (Ok p) f = tt
+walk_fine lists (s ∷ steps) (Ok p) f = walk_fine lists steps (step_from lists p s) (step_fine lists p s)
 
 place_fine : (m : Mutation) (p : Place) → FineResult (place_unless (misplaced m p) p)
 place_fine (Insert v) (HeadOf l) = tt
@@ -131,8 +132,8 @@ pub make_fine : (H : List Operation) (p : ℕ) (c : Command) → FineResult (mak
 make_fine H p c =
     result_cond (is_full H) (Err HistoryFull) _ refl
     (at_fine H p c.mutation _
-    (then_fine c.mutation (resolve (visible_items (doc H)) c.expression)
-    (walk_fine (visible_items (doc H)) c.expression (Ok (At Doc)) tt)))
+    (then_fine c.mutation (resolve (lists_of (doc H)) c.expression)
+    (walk_fine (lists_of (doc H)) c.expression (Ok (At Doc)) tt)))
 
 -- ---- replies
 

@@ -13,7 +13,7 @@ use Rattle.semantics.proofs.ItemTests.{item_from}
 use Rattle.semantics.proofs.Orders.{element_itself, id_itself, ids_from_test}
 
 -- an item is still there where x stands before it in both, or it is x
-keeps_first : (a x : OpId) (xs ys : List OpId) → (has_item a xs ≡ true → has_item a ys ≡ true) → has_item a (x ∷ xs) ≡ true
+pub keeps_first : (a x : OpId) (xs ys : List OpId) → (has_item a xs ≡ true → has_item a ys ≡ true) → has_item a (x ∷ xs) ≡ true
     → has_item a (x ∷ ys) ≡ true
 keeps_first a x xs ys k h = elim
     (or_cases (is_same_id a x) (has_item a xs) h) [
@@ -39,6 +39,15 @@ insert_keeps (Some p) a b (x ∷ xs) h = by (is_same_id p x) (keeps_first a x xs
           → has_item a (cond s (x ∷ skip b xs) (x ∷ insert_after (Some p) b xs)) ≡ true
       by true j k = j
       by false j k = k
+
+some_keeps : (g : Option (Option OpId)) (a b : OpId) (xs : List OpId) → has_item a xs ≡ true → has_item a (insert_some g b xs) ≡ true
+some_keeps None a b xs h = h
+some_keeps (Some p) a b xs h = insert_keeps p a b xs h
+
+-- the items of a list stay, whatever is applied
+pub order_keeps : (H : List Operation) (o : Operation) (l : Element) (a : OpId) → has_item a ((doc H).order l) ≡ true
+    → has_item a ((doc (o ∷ H)).order l) ≡ true
+order_keeps H o l a h = some_keeps (inserted_after o l) a o.id ((doc H).order l) h
 
 -- a new item is there, where what it goes after is
 skip_has : (b : OpId) (xs : List OpId) → has_item b (skip b xs) ≡ true
@@ -130,10 +139,7 @@ items_there (o ∷ H) legal l a (x, inl same, id, (after, slot)) =
     ap (λ b. has_item b ((doc (o ∷ H)).order l)) (sym id ∙ ap (λ (y : Operation). y.id) same)
     ∙ ap (λ g. has_item o.id (insert_some g o.id ((doc H).order l))) goes
     ∙ insert_has after o.id ((doc H).order l) (prev_in H o.deps (items_there H legal.0) o.mutation o.place l after legal.1.items here)
-items_there (o ∷ H) legal l a (x, inr among, id, slot) = by (inserted_after o l) (items_there H legal.0 l a (x, among, id, slot)) where
-  by : (g : Option (Option OpId)) → has_item a ((doc H).order l) ≡ true → has_item a (insert_some g o.id ((doc H).order l)) ≡ true
-  by None h = h
-  by (Some p) h = insert_keeps p a o.id ((doc H).order l) h
+items_there (o ∷ H) legal l a (x, inr among, id, slot) = order_keeps H o l a (items_there H legal.0 l a (x, among, id, slot))
 
 -- what an insert that may follow goes after stands in its list, if it isn't the head
 pub prev_there : (H : List Operation) (o : Operation) → IsLegal H → Follows H o → (l : Element) (p : Option OpId)
@@ -141,7 +147,7 @@ pub prev_there : (H : List Operation) (o : Operation) → IsLegal H → Follows 
 prev_there H o legal follows l p is = prev_in H o.deps (items_there H legal) o.mutation o.place l p follows.items is
 
 -- what stands in a list was inserted into it
-item_listed : (H : List Operation) (l : Element) (a : OpId) → has_item a ((doc H).order l) ≡ true → is_item_of H l a ≡ true
+pub item_listed : (H : List Operation) (l : Element) (a : OpId) → has_item a ((doc H).order l) ≡ true → is_item_of H l a ≡ true
 unfolding Adds
 item_listed [] l a h = absurd (true≢false (sym h))
 item_listed (o ∷ H) l a h = by (inserted_after o l) refl (item_listed H l a) h where

@@ -2,7 +2,7 @@
 use Rattle.std.specs.Prelude.{◌≡◌, ℕ, zero, suc, List, [], ◌∷◌, ◌++◌, codes, refl}
 use Rattle.ids.specs.declared.refusal.Refusal.TheVariants.{AtHead, PastEnd, NotInList, TooDeep}
 use Rattle.semantics.specs.Ids.{id_at}
-use Rattle.semantics.specs.Questions.{Step, Get, Idx, Values, Keys, Items, Conflicts, Refused}
+use Rattle.semantics.specs.Questions.{Step, Get, Idx, ById, Values, Keys, Items, Conflicts, Refused}
 use Rattle.semantics.specs.Making.{Command}
 use Rattle.semantics.specs.LegalAnswer.{Reply, Made, RefusedAt}
 use Rattle.semantics.specs.WriteSteps.{reply_to}
@@ -37,6 +37,13 @@ assign_head = refl
 -- an absent list has no item
 past_end : replied (assign (Get (codes "a") ∷ Idx 1 ∷ []) (whole 1)) ≡ RefusedAt PastEnd 0
 past_end = refl
+
+-- nor is there one with this id; a head is refused before that
+unknown_item : replied (assign (Get (codes "a") ∷ ById (id_at 9 1) ∷ []) (whole 1)) ≡ RefusedAt PastEnd 0
+unknown_item = refl
+
+item_from_head : replied (assign (Idx 0 ∷ ById (id_at 9 1) ∷ []) (whole 1)) ≡ RefusedAt AtHead 0
+item_from_head = refl
 
 -- a path has 32 keys at most
 too_deep : replied (assign (gets 33) (whole 1)) ≡ RefusedAt TooDeep 0

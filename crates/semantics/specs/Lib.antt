@@ -11,6 +11,7 @@ pub mod Questions
 pub mod NamedIds
 pub mod DocumentAnswer
 pub mod View
+pub mod Glances
 pub mod InsertTree
 pub mod Tables
 pub mod Stamped
@@ -25,6 +26,8 @@ pub mod Drain
 pub mod OneWorld
 pub mod Exchange
 pub mod Runs
+pub mod Journals
+pub mod Lives
 pub mod Engine
 pub mod WriteSteps
 pub mod ReadSteps

@@ -9,7 +9,7 @@ use Rattle.semantics.specs.Limits.{most_entries}
 use Rattle.semantics.specs.LegalHistory.{has_id, greatest_of}
 use Rattle.semantics.specs.Context.{doc}
 use Rattle.semantics.specs.Questions.{Step, resolve}
-use Rattle.semantics.specs.DocumentAnswer.{visible_items}
+use Rattle.semantics.specs.DocumentAnswer.{lists_of}
 
 -- what is to be done, and an expression for where
 pub record Command : Type 0 where
@@ -44,4 +44,4 @@ is_full H = nat_le most_entries (length H)
 -- what p makes of the command after H; a full history is refused first
 abbrev pub make : List Operation → ℕ → Command → Result Operation Refusal
 make H p c = cond (is_full H) (Err HistoryFull)
-    (operation_at H p c.mutation (then_place c.mutation (resolve (visible_items (doc H)) c.expression)))
+    (operation_at H p c.mutation (then_place c.mutation (resolve (lists_of (doc H)) c.expression)))

@@ -8,7 +8,7 @@ use Rattle.semantics.specs.Elements.{Element, Field, Item, Scalar, Tag, Name}
 use Rattle.semantics.specs.Operations.{Operation, empties, tag_given, scalar_given, name_given, inserted_after}
 use Rattle.semantics.specs.Context.{put_some, put_name}
 use Rattle.semantics.specs.Questions.{Question, Values, Keys, Items, Conflicts, AppliedVector, Answer, ValuesAre, KeysAre, ItemsAre}
-use Rattle.semantics.specs.Questions.{ConflictsAre, VectorIs, resolve, answer_at}
+use Rattle.semantics.specs.Questions.{Lists, ConflictsAre, VectorIs, resolve, answer_at}
 use Rattle.semantics.specs.DocumentAnswer.{is_any}
 use Rattle.semantics.specs.NamedIds.{vector_of}
 
@@ -91,10 +91,14 @@ order O l = preorder (tree_of (inserts O l))
 abbrev pub live_items : List Operation → Element → List OpId
 live_items O l = filter (λ a. is_any (live O (Item l a))) (order O l)
 
+-- the items of each list at which an id is live, and all that were inserted
+abbrev pub live_lists : List Operation → Lists
+live_lists O = record { shown = live_items O; all = order O }
+
 -- the answer to a question from the operations as a set
 abbrev pub view : List Operation → Question → Answer
-view O (Values x) = answer_at (λ e. ValuesAre (live_scalars O e)) (resolve (live_items O) x)
-view O (Keys x) = answer_at (λ e. KeysAre (live_names O e)) (resolve (live_items O) x)
-view O (Items x) = answer_at (λ e. ItemsAre (live_items O e)) (resolve (live_items O) x)
-view O (Conflicts x) = answer_at (λ e. ConflictsAre (live O e)) (resolve (live_items O) x)
+view O (Values x) = answer_at (λ e. ValuesAre (live_scalars O e)) (resolve (live_lists O) x)
+view O (Keys x) = answer_at (λ e. KeysAre (live_names O e)) (resolve (live_lists O) x)
+view O (Items x) = answer_at (λ e. ItemsAre (live_items O e)) (resolve (live_lists O) x)
+view O (Conflicts x) = answer_at (λ e. ConflictsAre (live O e)) (resolve (live_lists O) x)
 view O AppliedVector = VectorIs (vector_of O)

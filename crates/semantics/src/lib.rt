@@ -5,9 +5,12 @@
 pub mod answers;
 pub mod convergence;
 pub mod exchange;
+pub mod expressions;
+pub mod glances;
 pub mod handling;
 pub mod legality;
 pub mod list_order;
+pub mod lives;
 pub mod one_world;
 pub mod peer_answers;
 pub mod replica;

@@ -6,7 +6,7 @@ ghost use Rattle.ids.specs.Members.{in_order};
 
 use engine::{
     Client, Command, Config, EngineName, Expr, Parts, Question, ReaderToken, Reading, Refusal,
-    Reply, Step, Ticket, Val, Writer, close, open, prepare,
+    Reply, Shared, Step, Ticket, Val, Writer, close, open, prepare,
 };
 use std::alloc::Global;
 use std::io;
@@ -49,14 +49,27 @@ fn shop_in<N: EngineName + Send + Sync, R: Threads + Wait + Sync>(
     requires table { in_order parts.config.members ≡ N.table }
 {
     let (mut writer, mut clients, mut readers) = open::<N>(rt, alloc, parts)?;
-    let read = match (clients.pop(), clients.pop(), readers.pop()) {
-        (Some(bob), Some(alice), Some(reader)) => {
-            together(rt, alloc, &mut writer, alice, bob, reader)
-        }
-        _ => Err(Refusal::NoReaderPlace),
+    let read = match readers.pop() {
+        Some(reader) => shop_with(rt, alloc, &mut writer, clients.as_mut_slice(), reader),
+        None => Err(Refusal::NoReaderPlace),
     };
-    let history = close(rt, writer, Vec::new(alloc)).history;
+    let history = close(rt, writer, clients).history;
     Ok((read?, history.len()))
+}
+
+/// Hands Alice and Bob a client each.
+fn shop_with<N: EngineName + Send + Sync, R: Threads + Wait + Sync>(
+    rt: &R,
+    alloc: Global,
+    writer: &mut Writer<N>,
+    clients: &mut [Client<N>],
+    reader: ReaderToken<N>,
+) -> Result<usize, Refusal> {
+    if clients.len() < 2 {
+        return Err(Refusal::BadConfig);
+    }
+    let (alice, bob) = clients.split_at_mut(1);
+    together(rt, alloc, writer, &mut alice[0], &mut bob[0], reader)
 }
 
 /// Alice and Bob write, the writer steps, and the reader reads, each in a thread. The last two end after the first two, which also
@@ -65,8 +78,8 @@ fn together<N: EngineName + Send + Sync, R: Threads + Wait + Sync>(
     rt: &R,
     alloc: Global,
     writer: &mut Writer<N>,
-    alice: Client<N>,
-    bob: Client<N>,
+    alice: &mut Client<N>,
+    bob: &mut Client<N>,
     reader: ReaderToken<N>,
 ) -> Result<usize, Refusal> {
     let ended = AtomicBool::new(false);
@@ -115,13 +128,12 @@ fn step_until<N: EngineName, R: Wait>(
 fn write<N: EngineName, R: Wait>(
     rt: &R,
     alloc: Global,
-    client: Client<N>,
+    client: &mut Client<N>,
     wishes: &[(&str, &str)],
 ) -> Result<(), Refusal> {
-    let mut client = client;
     for (what, how_much) in wishes {
-        let command = wish(alloc, what, how_much)?;
-        write_one(rt, alloc, &mut client, &command)?;
+        let command = Shared::new(alloc, wish(alloc, what, how_much)?)?;
+        write_one(rt, alloc, client, &command)?;
     }
     Ok(())
 }
@@ -138,10 +150,10 @@ fn write_one<N: EngineName, R: Wait>(
     rt: &R,
     alloc: Global,
     client: &mut Client<N>,
-    command: &Command,
+    command: &Shared<Command>,
 ) -> Result<(), Refusal> {
     for _ in rt.forever() {
-        match client.submit(rt, alloc, command.clone()?) {
+        match client.submit_shared(rt, alloc, command) {
             Ok(ticket) => match reply_to(rt, client, &ticket)? {
                 Reply::Refused(Refusal::NoMemory, _) => yield_now(),
                 Reply::Refused(refusal, _) => return Err(refusal),

@@ -1,7 +1,7 @@
 -- What a tree answers at a node.
 use Rattle.std.proofs.Common.{◌≡◌, ℕ, zero, suc, ◌+◌, ◌-◌, ◌<◌, ◌≤◌, ◌&&◌, Bool, true, false, cond, List, [], ◌∷◌, ◌++◌, length, get_or}
 use Rattle.std.proofs.Common.{take, map}
-use Rattle.std.proofs.Common.{Some, refl, sym, ap, ◌∙◌, append-nil, arith}
+use Rattle.std.proofs.Common.{Some, refl, sym, ap, ◌∙◌, append-nil, arith, true≢false}
 use Rattle.std.specs.Prelude.{slice_get}
 use Rattle.std.specs.List.{filter}
 use Rattle.std.proofs.lemmas.List.{map-append, take_more}
@@ -89,3 +89,28 @@ field_shows ns t e i k j d at h n =
     let same : j ≡ f.1 = same_Some j f.1 (sym n ∙ ap (λ o. next_number ns o (FieldHop f.0)) at ∙ field_there ns t i k d h) in
     ap (λ m. is_written (slice_get ns m) && is_any (presence_of (slice_get ns j))) same
     ∙ ap (λ o. is_written (slice_get ns f.1) && is_any (presence_of (node_in ns o))) (sym n)
+
+-- what shows among the fields at the front shows among all
+pub any_within : (ns : List Node) (p : Name → Bool) (fs : List (Name × ℕ)) (k : ℕ)
+    → is_any (filter p (map (λ x. x.0) (names_in ns (take k fs)))) ≡ true → is_any (filter p (map (λ x. x.0) (names_in ns fs))) ≡ true
+any_within ns p [] zero h = h
+any_within ns p [] (suc k) h = h
+any_within ns p (f ∷ fs) zero h = absurd (true≢false (sym h))
+any_within ns p (f ∷ fs) (suc k) h = by (is_written (slice_get ns f.1)) (any_within ns p fs k) h where
+  kept : (shows : Bool) → (is_any (filter p (map (λ x. x.0) (names_in ns (take k fs)))) ≡ true
+      → is_any (filter p (map (λ x. x.0) (names_in ns fs))) ≡ true)
+      → is_any
+      (cond shows (f.0 ∷ filter p (map (λ x. x.0) (names_in ns (take k fs)))) (filter p (map (λ x. x.0) (names_in ns (take k fs)))))
+      ≡ true
+      → is_any (cond shows (f.0 ∷ filter p (map (λ x. x.0) (names_in ns fs))) (filter p (map (λ x. x.0) (names_in ns fs)))) ≡ true
+  kept true rest k = refl
+  kept false rest k = rest k
+
+  by : (written : Bool) → (is_any (filter p (map (λ x. x.0) (names_in ns (take k fs)))) ≡ true
+      → is_any (filter p (map (λ x. x.0) (names_in ns fs))) ≡ true)
+      → is_any
+      (filter p (map (λ (x : Name × Unit {0}). x.0) (cond written ((f.0, tt) ∷ names_in ns (take k fs)) (names_in ns (take k fs)))))
+      ≡ true
+      → is_any (filter p (map (λ (x : Name × Unit {0}). x.0) (cond written ((f.0, tt) ∷ names_in ns fs) (names_in ns fs)))) ≡ true
+  by true rest h = kept (p f.0) rest h
+  by false rest h = rest h

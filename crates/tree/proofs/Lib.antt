@@ -30,3 +30,5 @@ pub mod EmptyBelow
 pub mod Showing
 pub mod OnTheWay
 pub mod Flagging
+pub mod FilledRows
+pub mod StandingKinds

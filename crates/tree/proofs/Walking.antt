@@ -4,11 +4,10 @@ use Rattle.std.specs.Prelude.{IfOk, IfSome}
 use Rattle.std.proofs.lemmas.Bool.{le-ltb}
 use Rattle.std.proofs.lemmas.List.{drop_all, map-append}
 use Rattle.ids.specs.declared.refusal.Refusal.{Refusal}
-use Rattle.semantics.specs.Ids.{OpId}
-use Rattle.semantics.specs.Elements.{Element, Place, At, Doc}
+use Rattle.semantics.specs.Elements.{Place, At, Doc}
 use Rattle.semantics.specs.Operations.{element_of}
 use Rattle.semantics.specs.Paths.{Hop as TheHop, child}
-use Rattle.semantics.specs.Questions.{walk_from}
+use Rattle.semantics.specs.Questions.{Lists, walk_from}
 use Rattle.semantics.proofs.ElementPaths.{down-append}
 use Rattle.operation.specs.cursor.declared.expression.Step.{Step}
 use Rattle.operation.specs.cursor.declared.hop.Hop.{Hop}
@@ -34,12 +33,12 @@ pushed_hop hops longer hop is =
     ∙ ap At (down-append Doc (map hop_of hops) (hop_of hop ∷ []))
 
 -- after the last step, the hops are the place that the walk leads to
-pub walked : (items : Element → List OpId) (steps : List Step) (k : ℕ) (path : List TheHop) (head : Bool) → length steps ≤ k
+pub walked : (lists : Lists) (steps : List Step) (k : ℕ) (path : List TheHop) (head : Bool) → length steps ≤ k
     → depth_of (place_at path head) ≤ 32
-    → place_from path head ≡ walk_from items (map step_of (drop k steps)) (Ok (place_at path head))
-walked items steps k path head end short =
+    → place_from path head ≡ walk_from lists (map step_of (drop k steps)) (Ok (place_at path head))
+walked lists steps k path head end short =
     let place : place_from path head ≡ Ok (place_at path head) = rw (le-ltb 32 (depth_of (place_at path head)) short) refl in
-    place ∙ sym (ap (λ xs. walk_from items (map step_of xs) (Ok (place_at path head))) (drop_all k steps end))
+    place ∙ sym (ap (λ xs. walk_from lists (map step_of xs) (Ok (place_at path head))) (drop_all k steps end))
 
 -- a result that is the one wanted
 pub if_ok : (r : Result Place Refusal) {wanted : Result Place Refusal} → r ≡ wanted → IfOk r (λ p. wanted ≡ Ok p)

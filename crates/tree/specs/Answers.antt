@@ -2,9 +2,9 @@
 use Rattle.std.specs.Prelude.{◌≡◌, List}
 use Rattle.semantics.specs.Elements.{Element}
 use Rattle.semantics.specs.Context.{Context}
-use Rattle.semantics.specs.DocumentAnswer.{visible_items}
+use Rattle.semantics.specs.DocumentAnswer.{lists_of}
 use Rattle.semantics.specs.Questions.{Answer, Step, answer_at, resolve}
 
 -- where f answers at each element, a is the answer at the one that the steps lead to, or the refusal of the steps
 abbrev pub IsAnswer : Context → (Element → Answer) → List Step → Answer → Type 0
-IsAnswer C f steps a = answer_at f (resolve (visible_items C) steps) ≡ a
+IsAnswer C f steps a = answer_at f (resolve (lists_of C) steps) ≡ a

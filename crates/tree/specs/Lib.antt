@@ -5,5 +5,6 @@ pub mod Shown
 pub mod Writes
 pub mod Answers
 pub mod Trees
+pub mod Glances
 pub mod Spots
 pub mod Lending

@@ -190,7 +190,7 @@ fn present_keys(nodes: &[Node], at: NodeNumber, alloc: Global) -> Result<Vec<Key
 }
 
 /// Whether a field's node was written to, and something stands there.
-fn is_field(nodes: &[Node], at: NodeNumber) -> bool
+pub fn is_field(nodes: &[Node], at: NodeNumber) -> bool
     requires { at < length nodes.now }
     ensures { result ≡ is_written (slice_get nodes.now at) && is_any (presence_of (slice_get nodes.now at)) }
 {

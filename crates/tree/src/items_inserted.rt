@@ -7,8 +7,8 @@ ghost use Rattle.tree.specs.Nodes.{IsTree, context, node_in, order_of};
 ghost use Rattle.tree.specs.Writes.{end_of};
 ghost use Rattle.tree.specs.Trees.{has_key, items_stand};
 
-use crate::node::{Node, NodeNumber, node_at};
-use crate::walk::next_of;
+use crate::node::{Node, NodeNumber};
+use crate::walk::{is_listed, next_of};
 use operation::Hop;
 
 /// Whether each item of the path was inserted into the list that it is entered from. A binary search for each hop, unless all are to
@@ -48,9 +48,8 @@ fn stands(nodes: &[Node], node: Option<NodeNumber>, hop: &Hop) -> bool
     requires { IfSome node (λ i. i < length nodes.now) }
     ensures { result ≡ has_key (order_of (node_in nodes.now node)) (hop_of hop.now) }
 {
-    match (hop, node) {
-        (Hop::Field(_), _) => true,
-        (Hop::Item(id), Some(at)) => node_at(nodes, at).order.contains(id),
-        (Hop::Item(_), None) => false,
+    match hop {
+        Hop::Field(_) => true,
+        Hop::Item(id) => is_listed(nodes, node, id),
     }
 }

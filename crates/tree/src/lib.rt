@@ -5,6 +5,7 @@ mod answer;
 mod apply;
 mod clear;
 mod find;
+mod glance;
 mod grow;
 mod insert;
 mod items_inserted;
@@ -20,4 +21,8 @@ mod tree;
 mod walk;
 mod write;
 
+pub use glance::{Glance, Kinds, Row};
 pub use tree::Tree;
+
+// Handed on from the crates below, for users of this one.
+pub use operation::Hop;

@@ -2,7 +2,7 @@
 
 ghost use Rattle.std.specs.Prelude.{◌≡◌, ◌⊎◌, map, IfOk, IfErr, OnOk, Ok, Err};
 ghost use Rattle.ids.specs.declared.refusal.Refusal.TheVariants.{NoMemory};
-ghost use Rattle.semantics.specs.DocumentAnswer.{visible_items};
+ghost use Rattle.semantics.specs.DocumentAnswer.{lists_of};
 ghost use Rattle.semantics.specs.Questions.{resolve};
 ghost use Rattle.operation.specs.cursor.Steps.{hop_of};
 ghost use Rattle.operation.specs.cursor.Places.{is_head, place_at};
@@ -17,13 +17,13 @@ use ids::Refusal;
 use operation::{Expr, ExprStep as Step, Hop, MOST_KEYS, Place};
 use std::alloc::{AllocError, Global};
 
-/// The place that an expression leads to from the root. Copies its keys, and asks the order of a list for the item with an index, which
-/// looks at how many items each of its blocks shows.
+/// The place that an expression leads to from the root. Copies its keys, and asks the order of a list for an item: for the one with an
+/// index it looks at how many items each of its blocks shows, and for one by its id it is a binary search.
 pub fn resolve(alloc: Global, nodes: &[Node], expression: &Expr) -> Result<Place, Refusal>
     requires tree { IsTree nodes.now }
     requires shown { AreShown nodes.now }
-    ensures place { IfOk result (λ p. resolve (visible_items (context nodes.now)) expression.now ≡ Ok p) }
-    ensures err { IfErr result (λ why. (why ≡ NoMemory) ⊎ (resolve (visible_items (context nodes.now)) expression.now ≡ Err why)) }
+    ensures place { IfOk result (λ p. resolve (lists_of (context nodes.now)) expression.now ≡ Ok p) }
+    ensures err { IfErr result (λ why. (why ≡ NoMemory) ⊎ (resolve (lists_of (context nodes.now)) expression.now ≡ Err why)) }
 {
     let steps = expression.steps();
     let mut hops = Vec::with_capacity(alloc, count_hops(steps))?;

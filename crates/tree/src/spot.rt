@@ -3,7 +3,7 @@
 ghost use Rattle.std.specs.Prelude.{◌≡◌, ◌<◌, ◌+◌, List, IfOk, IfSome, length, slice_get, false, true};
 ghost use Rattle.std.specs.Result.{result_map_both};
 ghost use Rattle.semantics.specs.Elements.{At, Doc, Element, Place as ThePlace};
-ghost use Rattle.semantics.specs.DocumentAnswer.{visible_items};
+ghost use Rattle.semantics.specs.DocumentAnswer.{lists_of, visible_items};
 ghost use Rattle.semantics.specs.Limits.{most_keys};
 ghost use Rattle.semantics.specs.Operations.{element_of};
 ghost use Rattle.semantics.specs.Paths.{FieldHop, ItemHop};
@@ -15,7 +15,7 @@ ghost use Rattle.tree.specs.Spots.{IsSpot, target_from};
 
 use crate::answer::visible_item;
 use crate::node::{Node, NodeNumber, node_at};
-use crate::walk::item_of;
+use crate::walk::{is_listed, item_of};
 use ids::{OpId, Refusal};
 use operation::{ExprStep as Step, Key, MOST_KEYS};
 
@@ -51,18 +51,19 @@ impl Spot {
         }
     }
 
-    /// Where a step leads from here. To an item it asks the list's order, which looks at how many items each of its blocks shows. Takes
-    /// no memory.
+    /// Where a step leads from here. To an item it asks the list's order: by an index this looks at how many items each of its blocks
+    /// shows, by an id it is a binary search. Allocates nothing.
     ///
     /// # Errors
-    /// `AtHead` from a head, else `TooDeep` from an element 32 keys deep, else `PastEnd` if the list has fewer visible items.
+    /// `AtHead` from a head, else `TooDeep` from an element 32 keys deep, else `PastEnd` if the list has fewer visible items, or never
+    /// had the one with the id.
     // Inlined into both walks, so that a question's target is never written to memory.
     #[inline(always)]
     pub fn target<'a>(&self, nodes: &[Node], step: &'a Step) -> Result<Target<'a>, Refusal>
         requires tree { IsTree nodes.now }
         requires shown { AreShown nodes.now }
         requires spot { (p : ThePlace) × IsSpot nodes.now self.now p }
-        ensures step { (p : ThePlace) → IsSpot nodes.now self.now p → step_from (visible_items (context nodes.now)) p (step_of step.now)
+        ensures step { (p : ThePlace) → IsSpot nodes.now self.now p → step_from (lists_of (context nodes.now)) p (step_of step.now)
             ≡ result_map_both (target_from (element_of p)) (λ why. why) result }
         ensures room { IfOk result (λ t. self.now.depth < most_keys) }
     {
@@ -79,6 +80,8 @@ impl Spot {
                 Some(id) => Ok(Target::Item(id)),
                 None => Err(Refusal::PastEnd),
             },
+            Step::Item(id) if is_listed(nodes, self.node, id) => Ok(Target::Item(*id)),
+            Step::Item(_) => Err(Refusal::PastEnd),
         }
     }
 

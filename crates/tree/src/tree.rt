@@ -8,16 +8,19 @@ ghost use Rattle.semantics.specs.LegalHistory.{IsFormed};
 ghost use Rattle.semantics.specs.Operations.{element_of};
 ghost use Rattle.semantics.specs.Context.{apply, empty};
 ghost use Rattle.semantics.specs.Stamped.{loose_operation};
-ghost use Rattle.semantics.specs.Elements.{Element};
+ghost use Rattle.semantics.specs.Elements.{At, Element};
+ghost use Rattle.semantics.specs.Glances.{glance_of, shown_by};
 ghost use Rattle.semantics.specs.Questions.{resolve, Answer, ConflictsAre, ItemsAre, KeysAre, Refused, ValuesAre};
-ghost use Rattle.semantics.specs.DocumentAnswer.{visible_items, visible_names};
+ghost use Rattle.semantics.specs.DocumentAnswer.{lists_of, visible_items, visible_names};
 ghost use Rattle.operation.specs.Ops.{mutation_of, stamped_of};
 ghost use Rattle.tree.specs.Answers.{IsAnswer};
+ghost use Rattle.tree.specs.Glances.{glance_in};
 ghost use Rattle.tree.specs.Nodes.{tagged, valued};
 ghost use Rattle.tree.specs.Trees.{IsPlaced, IsReserved, Planted, document, items_stand};
 
 use crate::answer::{conflicts, items, keys, values};
 use crate::apply::apply;
+use crate::glance::{Bounds, Glance, look};
 use crate::items_inserted::items_stand;
 use crate::node::Node;
 use crate::reserve::reserve_operation;
@@ -121,20 +124,20 @@ impl Tree {
         items_stand(&self.nodes, place.hops())
     }
 
-    /// The place that an expression leads to. Asks a list's order for the item with an index, which looks at how many items each
-    /// of its blocks shows, and at no node.
+    /// The place that an expression leads to. Asks a list's order for an item: for the one with an index it looks at how many items
+    /// each of its blocks shows, and at no node, and for one by its id it is a binary search.
     ///
     /// # Errors
     /// `AtHead`, `PastEnd` or `TooDeep` by the rules, or `NoMemory` if allocation fails.
     pub fn resolve(&self, alloc: Global, expression: &Expr) -> Result<Place, Refusal>
-        ensures place { IfOk result (λ p. resolve (visible_items (document self.now)) expression.now ≡ Ok p) }
-        ensures err { IfErr result (λ why. (why ≡ NoMemory) ⊎ (resolve (visible_items (document self.now)) expression.now ≡ Err why)) }
+        ensures place { IfOk result (λ p. resolve (lists_of (document self.now)) expression.now ≡ Ok p) }
+        ensures err { IfErr result (λ why. (why ≡ NoMemory) ⊎ (resolve (lists_of (document self.now)) expression.now ≡ Err why)) }
     {
         resolve(alloc, &self.nodes, expression)
     }
 
     /// The values in the register at the element that an expression leads to, rising by id. Copies each. Allocates nothing on the way
-    /// there: a binary search for each key, and for an index a look at how many items each block of the list shows.
+    /// there: a binary search for each key, two for an id, and for an index a look at how many items each block of the list shows.
     ///
     /// # Errors
     /// The refusal of the expression, as `resolve`, and `AtHead` where it leads to a head; or `NoMemory` if allocation fails.
@@ -187,5 +190,26 @@ impl Tree {
             (λ why. (why ≡ NoMemory) ⊎ ((f : Element → Answer) → IsAnswer (document self.now) f expression.now (Refused why))) }
     {
         items(&self.nodes, expression, alloc)
+    }
+
+    /// The element there at a glance: what stands there and, down to so many elements beneath it, what stands beneath, at most so many
+    /// elements in all. What isn't shown is marked. Looks at each id that stands at what it shows, and copies the values and the keys.
+    ///
+    /// # Errors
+    /// As `values`.
+    pub fn glance(
+        &self,
+        alloc: Global,
+        expression: &Expr,
+        depth: usize,
+        elements: usize,
+    ) -> Result<Glance, Refusal>
+        ensures answer { IfOk result
+            (λ g. (e : Element) × (resolve (lists_of (document self.now)) expression.now ≡ Ok (At e))
+            × (glance_in g ≡ glance_of (shown_by (document self.now)) depth elements e)) }
+        ensures err { IfErr result
+            (λ why. (why ≡ NoMemory) ⊎ ((f : Element → Answer) → IsAnswer (document self.now) f expression.now (Refused why))) }
+    {
+        look(&self.nodes, expression, Bounds { depth, elements }, alloc)
     }
 }

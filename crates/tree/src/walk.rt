@@ -3,10 +3,11 @@
 ghost use Rattle.std.specs.Prelude.{◌≡◌, ◌<◌, ◌≤◌, ℕ, Option, Some, None, false, true, length, map, slice_get, slice_index_or, IfSome};
 ghost use Rattle.semantics.specs.Ids.{OpId as TheId};
 ghost use Rattle.semantics.specs.Elements.{Element, Field, Item, Name};
+ghost use Rattle.semantics.specs.Context.{has_item};
 ghost use Rattle.semantics.specs.DocumentAnswer.{is_any};
 ghost use Rattle.semantics.specs.Paths.{ItemHop};
 ghost use Rattle.operation.specs.cursor.Steps.{hop_of};
-ghost use Rattle.tree.specs.Nodes.{IsTree, child_number, context, is_flagged, links, next_number, number};
+ghost use Rattle.tree.specs.Nodes.{IsTree, child_number, context, is_flagged, links, next_number, node_in, number, order_of};
 ghost use Rattle.tree.specs.Shown.{AreEmpty};
 ghost use Rattle.tree.specs.Writes.{end_of};
 
@@ -99,6 +100,17 @@ pub fn item_of(nodes: &[Node], at: NodeNumber, id: &OpId) -> Option<NodeNumber>
     ensures { result ≡ child_number nodes.now at (ItemHop id.now) }
 {
     node_at(nodes, at).items.get(id).map(NodeNumber::new)
+}
+
+/// Whether this item was ever in the list at a node that may not have been made. A binary search.
+pub fn is_listed(nodes: &[Node], node: Option<NodeNumber>, id: &OpId) -> bool
+    requires { IfSome node (λ at. at < length nodes.now) }
+    ensures { result ≡ has_item id.now (order_of (node_in nodes.now node)) }
+{
+    match node {
+        Some(at) => node_at(nodes, at).order.contains(id),
+        None => false,
+    }
 }
 
 /// The number of the node at the end of a path from the root, if there is one.

@@ -154,7 +154,7 @@ place_back (HeadOf e) h few =
 
 -- ---- mutations
 
-value_back : (v : Value) → IsWithinLimits v → value_form (json_of v) ≡ Ok v
+pub value_back : (v : Value) → IsWithinLimits v → value_form (json_of v) ≡ Ok v
 value_back (Plain Null) h = refl
 value_back (Plain (Boolean b)) h = refl
 value_back (Plain (Whole (pos n))) h = rw (lt-ltb n 9223372036854775808 (omega (arith, h))) refl

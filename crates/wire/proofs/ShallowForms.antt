@@ -16,7 +16,7 @@ use Rattle.wire.specs.Operations.{root_json}
 use Rattle.wire.specs.Profiles.{op2_json}
 use Rattle.wire.specs.Vectors.{pair_json}
 
-depth-json_of : (v : Value) → depth (json_of v) ≤ 1
+pub depth-json_of : (v : Value) → depth (json_of v) ≤ 1
 depth-json_of (Plain Null) = omega arith
 depth-json_of (Plain (Boolean b)) = omega arith
 depth-json_of (Plain (Whole (pos n))) = omega arith

@@ -72,7 +72,7 @@ pub last_key : (p : Place) → AreSentKeys (hops_from_root (element_of p)) → H
 last_key (At e) h = last root_json (hops_from_root e) root h
 last_key (HeadOf l) h = omega arith
 
-value : (v : Value) → IsWithinLimits v → HasWhole (json_of v)
+pub value : (v : Value) → IsWithinLimits v → HasWhole (json_of v)
 value (Plain Null) h = tt
 value (Plain (Boolean b)) h = tt
 value (Plain (Whole (pos n))) h = omega (arith, h)
@@ -86,7 +86,7 @@ mutation (Assign v) h = (tt, (value v h, tt))
 mutation (Insert v) h = (tt, (value v h, tt))
 mutation Delete h = (tt, tt)
 
-operation : (s : Stamped) → IsSent s → HasWhole (operation_json s)
+pub operation : (s : Stamped) → IsSent s → HasWhole (operation_json s)
 operation s h =
     let id : HasWhole (id_json s.id) = (counter s.id h.id, (replica s.id h.id, tt)) in (
       tt,

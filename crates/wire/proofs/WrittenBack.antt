@@ -107,7 +107,7 @@ id_in (item c (item r no_items)) a h =
     (λ i. array (item (limited_in 4611686018427387904 c n.0 n.1 i) (item (limited_in 4294967295 r p.0 p.1 i) no_items)))
     ∙ ap id_json (same_ok (id_at n.0 p.0) a p.2)
 
-id_form_in : (d : Data) (a : OpId) → id_form d ≡ Ok a → d ≡ id_json a
+pub id_form_in : (d : Data) (a : OpId) → id_form d ≡ Ok a → d ≡ id_json a
 id_form_in d a h = let xs = made_of id_of (list_form d) a h in list_in d xs.0 xs.1 ∙ id_in xs.0 a xs.2
 
 pair_in : (d : Data) (a : OpId) → pair_form d ≡ Ok a → d ≡ pair_json a

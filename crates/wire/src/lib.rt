@@ -29,6 +29,8 @@ pub use messages::{
     lines_are_read_back, operations_are_read_back, read_op, read_vector,
     what_is_read_is_written_alike, write_op, write_vector,
 };
+pub use op_ids::id_in;
 pub use profiles::{BundleReader, BundleWriter, lines_beside_are_read_back};
+pub use reading::operation_in;
 pub use vectors::vector_in;
-pub use writing::{put_id, put_op, put_scalar, put_vector};
+pub use writing::{put_id, put_op, put_scalar, put_value, put_vector};

@@ -13,7 +13,10 @@ use serde_json::Value;
 const MOST_REPLICA: u64 = 4_294_967_295;
 
 /// The id of an operation.
-pub(crate) fn id_in(value: &Value) -> Result<OpId, Refusal>
+///
+/// # Errors
+/// `BadLine` if it isn't a list of a counter and a replica, each within its limits.
+pub fn id_in(value: &Value) -> Result<OpId, Refusal>
     ensures { result ≡ id_form (view value.now) }
 {
     id_of(list_in(value)?)

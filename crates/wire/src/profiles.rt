@@ -62,9 +62,27 @@ impl BundleReader {
         ensures read { IsRead stamped_of result (line_form self.old line.now) }
         ensures base { MatchResult result (λ o. self.new ≡ o.deps) (λ _. self.new ≡ self.old) }
     {
-        let op = Shared::new(alloc, op_beside(alloc, self.base(), line)?)?;
-        self.last = Some(op.clone()?);
+        let op = self.peek(alloc, line)?;
+        self.keep(op.clone()?);
         Ok(op)
+    }
+
+    /// The operation on the next line, as `read` gives it. The reader stays as it was: `keep` takes the operation up, once its line counts
+    /// as read.
+    ///
+    /// # Errors
+    /// Those of `read`.
+    pub fn peek(&self, alloc: Global, line: &[u8]) -> Result<Shared<Op>, Refusal>
+        ensures { IsRead stamped_of result (line_form self.now line.now) }
+    {
+        Ok(Shared::new(alloc, op_beside(alloc, self.base(), line)?)?)
+    }
+
+    /// Takes up an operation as the last one that was read: the next line is beside its vector.
+    pub fn keep(&mut self, op: Shared<Op>)
+        ensures { self.new ≡ op.deps }
+    {
+        self.last = Some(op);
     }
 
     /// The vector of the last operation.

@@ -25,8 +25,11 @@ use operation::{Mutation, Op, Place, Val};
 use serde_json::Value;
 use std::alloc::Global;
 
-/// The operation of a JSON value. The first fault from the left decides.
-pub(crate) fn operation_in(alloc: Global, value: &Value) -> Result<Op, Refusal>
+/// The operation of a JSON value, as on a line of the first profile. The first fault from the left decides.
+///
+/// # Errors
+/// Those of `read_op` behind its first.
+pub fn operation_in(alloc: Global, value: &Value) -> Result<Op, Refusal>
     ensures { IsRead stamped_of result (operation_form (view value.now)) }
 {
     OperationFields::of(value)?.operation(alloc)

@@ -239,7 +239,11 @@ fn put_written(out: &mut Writer, word: &str, value: &Val) -> Result<(), AllocErr
     out.end_array()
 }
 
-fn put_value(out: &mut Writer, value: &Val) -> Result<(), AllocError>
+/// Writes a value.
+///
+/// # Errors
+/// `AllocError` if allocation fails.
+pub fn put_value(out: &mut Writer, value: &Val) -> Result<(), AllocError>
     ensures json { OnOk result (IsWritten (tokens_of (json_of (value_of value.now))) out.old out.new) }
     ensures within { IsWithinLimits (value_of value.now) }
 {

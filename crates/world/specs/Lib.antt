@@ -4,6 +4,7 @@ pub mod Publishers
 pub mod Engines
 pub mod Parts
 pub mod Worlds
+pub mod Polls
 -- Handed on from the crates below, for users of this one.
 pub use Rattle.replica.specs.value
 pub use Rattle.replica.specs.cursor

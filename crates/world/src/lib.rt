@@ -17,6 +17,6 @@ pub use replica::{
     Command, Expr, ExprStep, Key, NamedVector, Op, Question, Reading, Scalar, Shared, Tag, Val,
 };
 pub use wire::{
-    LINE_END, Lines, json_of, list_in, number_in, phrase_in, put_id, put_op, put_scalar,
+    LINE_END, Lines, id_in, json_of, list_in, number_in, phrase_in, put_id, put_op, put_scalar,
     put_vector, text_in, vector_in,
 };

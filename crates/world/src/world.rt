@@ -8,6 +8,7 @@ ghost use Rattle.ids.specs.Configurations.{is_within_limits};
 ghost use Rattle.semantics.specs.World.{opened, opened_engine, world_step, world_after, replies_of};
 ghost use Rattle.world.specs.Engines.{message_of};
 ghost use Rattle.world.specs.Acts.{step_of, step_reply_of};
+ghost use Rattle.world.specs.Polls.{AllPollTruly};
 ghost use Rattle.world.specs.Worlds.{IsReachedWorld, MovesInPart, StopsInStep, world, world_of};
 
 use crate::engine::Engine;
@@ -82,6 +83,7 @@ impl World {
             (λ rs. map step_reply_of rs.items ≡ replies_of (world_of self.old) (map step_of steps.now)) }
         ensures world { OnOk result (world_of self.new
             ≡ world_after (world_of self.old) (map step_of steps.now)) }
+        ensures polls { OnOk result (AllPollTruly (world_of self.old) (map step_of steps.now)) }
         ensures done { OnOk result (self.new.done ≡ min (self.old.done + length steps.now) 18446744073709551615) }
         ensures running { OnOk result ((self.old.failed ≡ false) × (self.new.failed ≡ false)) }
         ensures err { OnErr result (self.new.failed ≡ true) }

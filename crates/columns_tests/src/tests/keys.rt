@@ -6,14 +6,13 @@ use std::process::Abort;
 use value::Key;
 
 /// The greatest count of probes that a search may start from.
-const BEFORE: u64 = 18_446_744_073_709_551_551;
+const BEFORE: u64 = 18_446_744_073_709_551_550;
 
 /// Puts a key that isn't there yet.
 fn put(alloc: Global, keys: &mut SortedKeys, text: &str) -> Result<(), Fail> {
     keys.reserve_one()?;
     let key = Key::new(alloc, text)?;
-    let mut probes = 0;
-    match keys.find(&key, &mut probes) {
+    match keys.find_with_hint(&key, 0, &mut 0) {
         Ok(_) => Err("a key that is there".into()),
         Err(position) => {
             keys.put(position, key);
@@ -46,11 +45,11 @@ fn numbered(alloc: Global, count: usize) -> Result<SortedKeys, Fail> {
     Ok(keys)
 }
 
-/// How many keys a search compares.
-fn probes_for(alloc: Global, keys: &SortedKeys, text: &str) -> Result<u64, Fail> {
+/// How many keys a search compares that looks here first.
+fn probes_for(alloc: Global, keys: &SortedKeys, text: &str, hint: usize) -> Result<u64, Fail> {
     let key = Key::new(alloc, text)?;
     let mut probes = BEFORE;
-    let _ = keys.find(&key, &mut probes);
+    let _ = keys.find_with_hint(&key, hint, &mut probes);
     Ok(probes - BEFORE)
 }
 
@@ -66,7 +65,7 @@ fn assert_keys(rt: &impl Abort, keys: &SortedKeys, want: &[(&str, usize)]) {
 /// Asserts that what a search answers is the same wherever it begins to look.
 fn assert_any_hint(rt: &impl Abort, keys: &SortedKeys, key: &Key, want: Result<usize, usize>) {
     for hint in 0..9 {
-        assert_eq!(rt; keys.find_with_hint(key, hint), want, "hint {hint}");
+        assert_eq!(rt; keys.find_with_hint(key, hint, &mut 0), want, "hint {hint}");
     }
 }
 
@@ -79,39 +78,63 @@ fn assert_found(
 ) -> Result<(), Fail> {
     for (text, want) in rows {
         let key = Key::new(alloc, text)?;
-        let mut probes = 0;
-        assert_eq!(rt; keys.find(&key, &mut probes), *want, "of {text}");
         assert_any_hint(rt, keys, &key, *want);
     }
     Ok(())
 }
 
-/// Asserts that a search for each text compares at most this many keys.
+/// Asserts that a search for each text that looks here first compares at most this many keys.
 fn assert_few_probes(
     rt: &impl Abort,
     alloc: Global,
     keys: &SortedKeys,
+    hint: usize,
     most: u64,
     texts: &[&str],
 ) -> Result<(), Fail> {
     for text in texts {
-        let probes = probes_for(alloc, keys, text)?;
-        assert!(rt; probes <= most, "{probes} for {text}, not {most}");
+        let probes = probes_for(alloc, keys, text, hint)?;
+        assert!(rt;
+            probes <= most,
+            "{probes} for {text} from {hint}, not {most}"
+        );
     }
     Ok(())
 }
 
-/// Asserts that each search among `count` keys compares at most `most`.
+/// Asserts that each search among `count` keys compares at most `most`, wherever it looks first.
 fn assert_most_probes(rt: &impl Abort, alloc: Global, count: usize, most: u64) -> Result<(), Fail> {
     let keys = numbered(alloc, count)?;
     assert_eq!(rt; keys.len(), count);
-    assert_few_probes(
-        rt,
-        alloc,
-        &keys,
-        most,
-        &["", "0000", "0127", "0127x", "0128", "0254", "0255", "9"],
-    )
+    for hint in [0, 1, 126, 127, 128, 254, 255, 256] {
+        assert_few_probes(
+            rt,
+            alloc,
+            &keys,
+            hint,
+            most,
+            &["", "0000", "0127", "0127x", "0128", "0254", "0255", "9"],
+        )?;
+    }
+    Ok(())
+}
+
+/// Asserts how many keys each search among 255 compares that looks first at this one.
+fn assert_probes(
+    rt: &impl Abort,
+    alloc: Global,
+    hint: usize,
+    rows: &[(&str, u64)],
+) -> Result<(), Fail> {
+    let keys = numbered(alloc, 255)?;
+    for (text, want) in rows {
+        assert_eq!(rt;
+            probes_for(alloc, &keys, text, hint)?,
+            *want,
+            "{text} from {hint}"
+        );
+    }
+    Ok(())
 }
 
 #[test]
@@ -184,10 +207,29 @@ fn keys_with_one_beginning_stand_in_byte_order(rt: HostRuntime) -> Result<(), Fa
     )
 }
 
+/// At most as many as the number of keys has binary digits, and one more.
 #[test]
 fn searches_look_at_few_keys(rt: HostRuntime) -> Result<(), Fail> {
-    for (count, most) in [(0, 0), (1, 1), (2, 2), (3, 2), (255, 8), (256, 9)] {
+    for (count, most) in [(0, 0), (1, 2), (2, 3), (3, 3), (255, 9), (256, 10)] {
         assert_most_probes(&rt, rt.alloc(), count, most)?;
     }
     Ok(())
+}
+
+/// Of 255 keys at most 127 may stand on either side of the second one that is looked at, then 63, then 31, and so on. So behind 0127 the
+/// next one is looked at right away, and behind 0064 first 0127.
+#[test]
+fn searches_look_at_the_hint_and_then_near_it(rt: HostRuntime) -> Result<(), Fail> {
+    assert_probes(
+        &rt,
+        rt.alloc(),
+        127,
+        &[("0127", 1), ("0127x", 2), ("0128", 2), ("0254", 9)],
+    )?;
+    assert_probes(
+        &rt,
+        rt.alloc(),
+        64,
+        &[("0064", 1), ("0127", 2), ("0064x", 3), ("0065", 3)],
+    )
 }

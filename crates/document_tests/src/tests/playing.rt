@@ -12,6 +12,7 @@ ghost use Rattle.operation.specs.Alone.{alone_fault_of_op};
 ghost use Rattle.operation.specs.Ops.{stamped_of};
 ghost use Rattle.document.specs.Documents.{HasRoomFor};
 
+use super::glances::{Asked, Shown, assert_glance};
 use cursor::{Expr, Place, Tag};
 use document::{Document, Question, Reading};
 use fixtures::{Pair, counted, id_of, pair_of};
@@ -89,6 +90,8 @@ pub enum Turn<'a> {
     Vector(&'a [Pair]),
     /// The replicas, in the order of their indices.
     Table(&'a [u32]),
+    /// What is seen at a glance, and whether there is more.
+    Glance(Asked<'a>, &'a [Shown<'a>], bool),
 }
 
 /// The place that a hop leads to from here.
@@ -236,7 +239,7 @@ fn step_of(alloc: Global, step: Step) -> Result<cursor::Step, Refusal> {
 }
 
 /// The expression of these steps.
-fn expr(alloc: Global, path: &[Step]) -> Result<Expr, Refusal> {
+pub fn expr(alloc: Global, path: &[Step]) -> Result<Expr, Refusal> {
     let mut steps = Vec::new(alloc);
     for next in path {
         let step = step_of(alloc, *next)?;
@@ -281,7 +284,7 @@ fn is_scalar(scalar: &Scalar, wanted: Value) -> bool {
 }
 
 /// Whether the values are these, with these ids.
-fn are_values(values: &[(OpId, Scalar)], wanted: &[(Pair, Value)]) -> bool {
+pub fn are_values(values: &[(OpId, Scalar)], wanted: &[(Pair, Value)]) -> bool {
     for ((id, scalar), (pair, value)) in values.iter().zip(wanted) {
         if pair_of(*id) != *pair || !is_scalar(scalar, *value) {
             return false;
@@ -422,6 +425,9 @@ fn take_turn(
                 document.table()
             );
             Ok(())
+        }
+        Turn::Glance(asked, rows, is_cut) => {
+            assert_glance(rt, alloc, document, asked, rows, is_cut)
         }
         Turn::Missing(counters, wanted) => assert_missing(
             rt, alloc, document, turn, counters, wanted,

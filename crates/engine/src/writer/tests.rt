@@ -145,7 +145,7 @@ fn play_in<N: EngineName, R: Wait + Abort>(
         Some(mut reader) => play_with(rt, alloc, &mut writer, &mut clients, &mut reader, steps),
         None => Err("no reader".into()),
     };
-    let _final = close(rt, writer, Vec::new(alloc));
+    let _final = close(rt, writer, clients);
     result
 }
 

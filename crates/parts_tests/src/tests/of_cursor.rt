@@ -1,7 +1,7 @@
 //! The tests of `cursor`: places, and expressions that lead to them.
 
 use cursor::{Expr, Hop, Last, Place, Step, Tag};
-use fixtures::{field, id_of};
+use fixtures::{field, id_of, pair_of};
 use ids::Refusal;
 use std::alloc::Global;
 use std::process::Abort;
@@ -227,22 +227,24 @@ fn values_have_tags(rt: HostRuntime) {
     assert_eq!(rt; Tag::of(&Val::Scalar(Scalar::Whole(0))), Tag::Reg);
 }
 
-/// The key `tête`, and the last number.
+/// The key `tête`, the last number, and an id.
 fn steps(alloc: Global) -> Result<Vec<Step>, Fail> {
     let key = Key::new(alloc, "tête")?;
     let mut steps = Vec::new(alloc);
     steps.push(Step::Get(key))?;
     steps.push(Step::Idx(u64::MAX))?;
+    steps.push(Step::Item(id_of((3, 2))?))?;
     Ok(steps)
 }
 
 /// Asserts that the expression has just those steps.
 fn assert_steps(rt: &impl Abort, expression: &Expr) -> Result<(), Fail> {
-    let [Step::Get(key), Step::Idx(index)] = expression.steps() else {
+    let [Step::Get(key), Step::Idx(index), Step::Item(id)] = expression.steps() else {
         return Err(Fail::from("other steps"));
     };
     assert_eq!(rt; key.as_str(), "tête");
     assert_eq!(rt; *index, u64::MAX);
+    assert_eq!(rt; pair_of(*id), (3, 2));
     Ok(())
 }
 
@@ -259,5 +261,6 @@ fn expressions_are_made_step_by_step(rt: HostRuntime) -> Result<(), Fail> {
     let alloc = rt.alloc();
     assert_eq!(rt; Expr::root(alloc).steps().len(), 0);
     let expression = Expr::root(alloc).get(alloc, "tête")?.idx(u64::MAX)?;
+    let expression = expression.item(id_of((3, 2))?)?;
     assert_steps(&rt, &expression)
 }

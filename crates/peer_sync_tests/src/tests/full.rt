@@ -3,7 +3,7 @@
 use super::opening::{on_others, on_two};
 use super::playing::Side::{One, Two};
 use super::playing::Told::{Kept, Refused};
-use super::playing::Turn::{Answer, DeliverAll, Hello, Pull, Receive, Show, Step, Take, Write};
+use super::playing::Turn::{Answer, Hello, Pull, Receive, ReceiveAll, Show, Step, Take, Write};
 use super::playing::Writing::{Assign, Insert};
 use super::playing::Wrote::{List, Map, Words};
 use super::playing::{Row, Turn};
@@ -13,11 +13,10 @@ use super::showing::To::{Index, Key};
 use super::*;
 use engine::Step::{Idle, Published};
 use engine::{Client, EngineName, Writer};
-use operation::{Op, Shared};
+use peer_sync::{BundleReader, receive_on};
 use std::alloc::Global;
 use std::process::Abort;
 use std::sync::Wait;
-use wire::{BundleReader, Lines};
 
 /// A full queue stops lines of profile 1 too, at each receipt anew.
 #[test]
@@ -103,7 +102,7 @@ fn what_is_left_of_a_bundle_may_be_refused(rt: HostRuntime) -> Result<(), Fail> 
 "#;
     const ACTS: &[&[Row]] = &[
         &[
-            (One, DeliverAll(THREE, 1)),
+            (One, ReceiveAll(THREE, 1)),
             (One, Step(Published(1))),
             (Two, Receive(THREE, 1, 2, 91, Some((3, Refusal::QueueFull)))),
             (Two, Step(Published(2))),
@@ -126,7 +125,7 @@ fn what_is_left_of_a_bundle_may_be_bad(rt: HostRuntime) -> Result<(), Fail> {
 "#;
     const ACTS: &[&[Row]] = &[
         &[
-            (One, DeliverAll(FOUR, 1)),
+            (One, ReceiveAll(FOUR, 1)),
             (One, Step(Published(1))),
             (Two, Receive(FOUR, 1, 3, 134, Some((4, Refusal::QueueFull)))),
             (Two, Step(Published(3))),
@@ -162,7 +161,7 @@ fn what_is_left_of_a_bundle_may_be_kept(rt: HostRuntime) -> Result<(), Fail> {
     const BESIDE: Turn = Show(KEY, Values(&[((1, 2), "B"), ((2, 3), "D")]));
     const ACTS: &[&[Row]] = &[
         &[
-            (One, DeliverAll(APART, 1)),
+            (One, ReceiveAll(APART, 1)),
             (One, Step(Published(1))),
             (
                 Two,
@@ -183,20 +182,20 @@ fn what_is_left_of_a_bundle_may_be_kept(rt: HostRuntime) -> Result<(), Fail> {
     on_others(&rt, rt.alloc(), 3, ACTS)
 }
 
-/// Where nobody is there to say hello to, a bundle is read line by line; an operation that finds the queue full is given again once the
-/// writer stepped. All of them stand then.
+/// Where nobody is there to say hello to, a bundle goes on behind the line at which the queue was full, once the writer stepped. All of its
+/// operations stand then, as they were written.
 #[test]
-fn a_long_bundle_comes_in_by_its_operations(rt: HostRuntime) -> Result<(), Fail> {
+fn a_receipt_goes_on(rt: HostRuntime) -> Result<(), Fail> {
     const ACTS: &[&[Row]] = &[
         &[
-            (One, DeliverAll(FOUR, 1)),
+            (One, ReceiveAll(FOUR, 1)),
             (One, Step(Published(2))),
             (One, Step(Idle)),
             (One, Hello("[\"hello\",[[1,2],[2,2],[3,1]]]\n")),
             (One, Answer(NEW, Ok(FOUR))),
         ],
         &[
-            (Two, DeliverAll(FIVE, 2)),
+            (Two, ReceiveAll(FIVE, 2)),
             (Two, Step(Published(1))),
             (Two, Step(Idle)),
             (Two, Hello("[\"hello\",[[1,5]]]\n")),
@@ -206,8 +205,8 @@ fn a_long_bundle_comes_in_by_its_operations(rt: HostRuntime) -> Result<(), Fail>
     on_others(&rt, rt.alloc(), 2, ACTS)
 }
 
-/// Delivers the operations of a bundle, each read beside the one before it, and asserts how often the queue was full.
-pub fn deliver_all<N: EngineName, R: Wait + Abort>(
+/// Receives a bundle, and goes on after a step wherever the queue is full; asserts how often it was.
+pub fn receive_all<N: EngineName, R: Wait + Abort>(
     rt: &R,
     alloc: Global,
     writer: &mut Writer<N>,
@@ -216,33 +215,20 @@ pub fn deliver_all<N: EngineName, R: Wait + Abort>(
     want: u32,
 ) -> Result<(), Refusal> {
     let mut reader = BundleReader::new();
-    let mut lines = Lines::new(bundle.as_bytes());
+    let mut rest = bundle.as_bytes();
     let mut full: u32 = 0;
-    while let Some(line) = lines.take_line() {
-        let op = reader.read(alloc, line.text)?;
-        if deliver(rt, alloc, writer, client, &op)? {
-            full = full.saturating_add(1);
+    for _ in 0..bundle.len() {
+        let received = receive_on(rt, alloc, client, &mut reader, rest);
+        rest = &rest[received.bytes..];
+        match received.stopped {
+            None => break,
+            Some((_, Refusal::QueueFull)) => {
+                writer.step(rt, alloc);
+                full = full.saturating_add(1);
+            }
+            Some((_, why)) => return Err(why),
         }
     }
     assert_eq!(rt; full, want, "of {bundle}");
     Ok(())
-}
-
-/// Delivers an operation, once more after a step if the queue was full: whether it was.
-fn deliver<N: EngineName, R: Wait>(
-    rt: &R,
-    alloc: Global,
-    writer: &mut Writer<N>,
-    client: &mut Client<N>,
-    op: &Shared<Op>,
-) -> Result<bool, Refusal> {
-    match client.deliver(rt, alloc, op.clone()?) {
-        Ok(_) => Ok(false),
-        Err(Refusal::QueueFull) => {
-            writer.step(rt, alloc);
-            client.deliver(rt, alloc, op.clone()?)?;
-            Ok(true)
-        }
-        Err(why) => Err(why),
-    }
 }

@@ -1,7 +1,7 @@
 //! What is done with two engines in a test, as a table of turns, and what plays it.
 
 use super::early::{early_op, first_line};
-use super::full::deliver_all;
+use super::full::receive_all;
 use super::showing::{Shown, To, assert_shown, expr};
 use super::store::{assert_kept, read_back};
 use super::*;
@@ -57,8 +57,8 @@ pub enum Turn {
     Answer(&'static str, Result<&'static str, Refusal>),
     /// Its client receives these bytes: the first serial, how many were submitted, how many bytes their lines have, and the stop.
     Receive(&'static str, u64, u64, usize, Option<(u64, Refusal)>),
-    /// Its client delivers the operations of these lines one by one, and its writer steps each time that the queue is full: how often.
-    DeliverAll(&'static str, u32),
+    /// Its client receives these lines, and goes on after a step of its writer wherever the queue is full: how often it was.
+    ReceiveAll(&'static str, u32),
     /// Its client receives the answers of this file, and its writer steps until idle after each: how many operations were submitted, and
     /// the stop of the last answer.
     ReadBack(&'static str, u64, Option<(u64, Refusal)>),
@@ -202,7 +202,7 @@ fn take_turn<N: EngineName, R: Wait + Abort>(
             };
             assert_received(rt, alloc, stage.client, text, want);
         }
-        Turn::DeliverAll(bundle, full) => deliver_all(
+        Turn::ReceiveAll(bundle, full) => receive_all(
             rt,
             alloc,
             stage.writer,

@@ -8,6 +8,9 @@ use std::test::Fail;
 /// A first line of one engine, of the members 1, 3 and 4294967295.
 const FIRST: &str = r#"["world",[[1,[1,3,4294967295],1,1,4,4,10]]]"#;
 
+/// The same of the second edition.
+const SECOND: &str = r#"["world2",[[1,[1,3,4294967295],1,1,4,4,10]]]"#;
+
 #[test]
 fn commands_without_form(rt: HostRuntime) -> Result<(), Fail> {
     const LINES: &[&str] = &[
@@ -64,11 +67,40 @@ fn expressions_without_form(rt: HostRuntime) -> Result<(), Fail> {
         "[1e999]",
         r#"["a",["b"]]"#,
         r#"[0,1,"a",-1]"#,
+        // An id is a step in the second edition alone.
+        "[[1,1]]",
     ];
     let delete = (r#"["push",0,0,["delete","#, "]]");
     are_bad_with(&rt, rt.alloc(), FIRST, delete, PATHS, "E22")?;
     let keys = (r#"["ask",0,0,["keys","#, "]]");
     are_bad_with(&rt, rt.alloc(), FIRST, keys, PATHS, "E22")
+}
+
+#[test]
+fn ids_without_form(rt: HostRuntime) -> Result<(), Fail> {
+    const PATHS: &[&str] = &[
+        "[[]]",
+        "[[1]]",
+        "[[0,1]]",
+        "[[1,0]]",
+        "[[1,2,3]]",
+        r#"[["a",1]]"#,
+        "[[1,4294967296]]",
+        "[[4611686018427387905,1]]",
+        "[null]",
+        "[{}]",
+        "[-1]",
+    ];
+    let delete = (r#"["push",0,0,["delete","#, "]]");
+    are_bad_with(&rt, rt.alloc(), SECOND, delete, PATHS, "E22")
+}
+
+/// The first fault of a line decides: an id where none may stand, or else the value behind it.
+#[test]
+fn ids_before_values(rt: HostRuntime) -> Result<(), Fail> {
+    const LINES: &[&str] = &[r#"["push",0,0,["assign",["a",[1,1]],1.5]]"#];
+    are_bad(&rt, rt.alloc(), FIRST, LINES, "E22")?;
+    are_bad(&rt, rt.alloc(), SECOND, LINES, "E21")
 }
 
 #[test]

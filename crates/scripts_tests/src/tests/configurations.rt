@@ -9,6 +9,8 @@ use std::test::Fail;
 fn engines_without_form(rt: HostRuntime) -> Result<(), Fail> {
     const LINES: &[&str] = &[
         r#"["world",[7]]"#,
+        r#"["world2",[7]]"#,
+        r#"["world3",[[1,[1],1,1,4,4,10]]]"#,
         r#"["world",[[]]]"#,
         r#"["world",[[1,[1],1,1,4,4]]]"#,
         r#"["world",[[1,[1],1,1,4,4,10,0]]]"#,

@@ -2,8 +2,9 @@ use Rattle.std.proofs.Common.{rules, ◌≡◌, ℕ, ◌<◌, ◌++◌, [], ◌�
 use Rattle.std.specs.List.{slice_index_or}
 use Rattle.std.proofs.lemmas.List.Elements.{All-pop, All-push}
 use Rattle.atomic_table.specs.Seated.{TableId}
-use Rattle.engine.specs.Clients.{AreClients, Client, IsNewClient}
-use Rattle.engine.proofs.Gathering.{clients_snoc}
+use Rattle.command.specs.published.Rules.{IsQueueOf}
+use Rattle.engine.specs.Clients.{Client, IsNewClient}
+use Rattle.engine.proofs.Gathering.{numbered_snoc}
 use Rattle.engine.proofs.opening.new_ends.Goals as goal
 
 pub loop-number-preserved : goal.loop-number-preserved
@@ -18,7 +19,7 @@ loop-number-preserved g c =
       serials = search rules;
       capacity = search rules;
       found_full = search rules;
-      seen = c.new.ensures.6 ∙ unseen.1;
+      seen = c.new.ensures.5 ∙ unseen.1;
       kept = search rules;
     } in
     let queue : c.sender.new.self.pass.table_id ≡ c.loop-number.taker.pass.table_id = c.sender.ensures.same.0 in record {
@@ -27,10 +28,9 @@ loop-number-preserved g c =
       made = search rules;
       found_empty = c.sender.ensures.same.3 ∙ before.found_empty;
       capacity = c.sender.ensures.capacity ∙ before.capacity;
-      are = clients_snoc c.sender.new.self.pass.table_id 0 c.loop-number.number c.loop-number.clients.items c.push_reserved.new.self.items
-          client pushed
-          (subst (λ (q : TableId). AreClients q 0 c.loop-number.clients.items) (sym queue) before.are) before.count (search rules)
-          (search rules);
+      are = numbered_snoc 0 c.loop-number.number c.loop-number.clients.items c.push_reserved.new.self.items client pushed before.are
+          before.count (search rules);
+      linked = subst (λ (q : TableId). IsQueueOf q c.in_ok-link.link.seen.log) (sym queue) before.linked;
       count = search rules;
       new = subst (λ (cs : List Client). (k : ℕ) → (d : Client) → k < length cs → IsNewClient c.args.config.now (slice_index_or cs k d))
           (sym pushed) (All-push (IsNewClient c.args.config.now) c.loop-number.clients.items client before.new fresh);

@@ -3,7 +3,8 @@ use Rattle.std.proofs.Common.{◌≡◌, ◌+◌, ◌≤◌, [], length, vec_cap
 use Rattle.std.specs.List.{All}
 use Rattle.std.specs.Arc.{arc_value}
 use Rattle.crossbeam_queue.specs.Passes.{ruled_capacity, view}
-use Rattle.engine.specs.Clients.{AreClients, IsNewClient}
+use Rattle.command.specs.published.Rules.{IsQueueOf}
+use Rattle.engine.specs.Clients.{AreNumbered, IsNewClient}
 use Rattle.engine.proofs.opening.new_ends.Given as goal
 
 abbrev pub invariant-loop-number : goal.invariant-loop-number
@@ -13,7 +14,8 @@ invariant-loop-number g l = record {
   made : (view l.taker.pass).made ≡ l.number;
   found_empty : l.taker.found_empty ≡ 0;
   capacity : ruled_capacity (arc_value l.taker.queue) ≡ l.fn.config.queue;
-  are : AreClients l.taker.pass.table_id 0 l.clients.items;
+  are : AreNumbered 0 l.clients.items;
+  linked : IsQueueOf l.taker.pass.table_id l.link.seen.log;
   count : length l.clients.items ≡ l.number;
   new : All (IsNewClient l.fn.config) l.clients.items;
   tokens : length l.tokens.items + l.number ≡ l.fn.config.clients + l.fn.config.readers;

@@ -7,7 +7,7 @@ use Rattle.semantics.specs.Making.{is_full}
 use Rattle.ids.specs.Vectors.{IsNamed}
 use Rattle.semantics.specs.Questions.{resolve}
 use Rattle.semantics.specs.Context.{doc}
-use Rattle.semantics.specs.DocumentAnswer.{visible_items}
+use Rattle.semantics.specs.DocumentAnswer.{lists_of}
 use Rattle.semantics.specs.Entries.{Entry, applied}
 use Rattle.semantics.proofs.EntryHistories.{length-applied}
 use Rattle.inbox.specs.operation.Ops.{command_of}
@@ -38,7 +38,7 @@ returns-in_err-place-clause-err c =
       | inr e ↦ inr
           (make-resolved (applied G) c.args.own command (Err c.in_err-place.field-0.0)
           (full G false (sym c.is_full.ensures ∙ c.if-is_full.false))
-          (ap (resolve (visible_items (doc (applied G)))) (sym c.expression.ensures) ∙ e))
+          (ap (resolve (lists_of (doc (applied G)))) (sym c.expression.ensures) ∙ e))
     ])
 
 pub returns-in_err-check_place-clause-err : goal.returns-in_err-check_place-clause-err
@@ -48,7 +48,7 @@ returns-in_err-check_place-clause-err c =
     passed c.from_residual-in_err-check_place.result c.in_err-check_place.field-0.0 _ c.from_residual-in_err-check_place.ensures.1
     (inr (make-placed (applied G) c.args.own command c.in_ok-place.place (Err c.in_err-check_place.field-0.0)
     (full G false (sym c.is_full.ensures ∙ c.if-is_full.false))
-    (ap (resolve (visible_items (doc (applied G)))) (sym c.expression.ensures)
+    (ap (resolve (lists_of (doc (applied G)))) (sym c.expression.ensures)
     ∙ c.in_ok-place.ensures.ok) c.in_err-check_place.ensures))
 
 pub of-requires : goal.of-requires
@@ -64,7 +64,7 @@ returns-clause-made c =
     let vector : c.in_ok-deps.deps ≡ vector_of (applied G) = c.in_ok-deps.ensures ∙ c.ids.ensures.ids ∙ c.applied-applied.ensures.all in (
       made_at (applied G) c.args.own command c.in_ok-place.place,
       make-placed (applied G) c.args.own command c.in_ok-place.place (Ok c.in_ok-place.place) room
-          (ap (resolve (visible_items (doc (applied G)))) (sym c.expression.ensures)
+          (ap (resolve (lists_of (doc (applied G)))) (sym c.expression.ensures)
           ∙ c.in_ok-place.ensures.ok) c.in_ok-check_place.ensures,
       λ i. record {
         id = record { counter = counter i; replica = c.args.own };

@@ -21,6 +21,6 @@ refused gs why f next (inr none) limits e = inl (e ∙ ap (error_of 1) none)
 pub returns-in-Err-clause-err : goal.returns-in-Err-clause-err
 returns-in-Err-clause-err c =
     refused c.args.engines.now c.in-Err.why c.of_line.result
-    (λ gs. steps_left gs c.args.lines.now.taken c.args.lines.now.rest.now) c.in-Err.ensures.err
+    (λ gs. steps_left c.args.edition gs c.args.lines.now.taken c.args.lines.now.rest.now) c.in-Err.ensures.err
     (λ bad. c.new.ensures.bad_config.0 (c.in-Err.is ∙ ap Err bad))
     c.of_line.ensures

@@ -5,7 +5,7 @@ use Rattle.ids.specs.Configurations.{Configuration}
 use Rattle.ids.specs.declared.refusal.Refusal.TheVariants.{BadLine, BadConfig}
 use Rattle.semantics.specs.World.{WorldStep}
 use Rattle.scripts.specs.declared.error.ScriptError.{ScriptError}
-use Rattle.scripts.specs.Engines.{engines_line}
+use Rattle.scripts.specs.Engines.{edition_of, engines_line}
 use Rattle.ids.specs.Configurations.{is_within_limits}
 use Rattle.scripts.specs.Engines.{if_within_limits, said_engines}
 use Rattle.scripts.specs.Errors.{IsErrorOf, error_of}
@@ -27,10 +27,11 @@ allowed line gs e within = rw (e, within) refl
 -- a fault of the limits, or of the further lines, is the script's
 further : (text line rest : List ℕ) (gs : List Configuration) (f : ScriptError) → IsFirstLine text line rest → said_engines line ≡ Ok gs
     → (within : Bool) → list_all is_within_limits gs ≡ within
-    → IsErrorOf (unless_bad (λ hs. steps_left hs 1 rest) (on_line 1 (if_within_limits gs))) f → IsErrorOf (script_form text) f
+    → IsErrorOf (unless_bad (λ hs. steps_left (edition_of line) hs 1 rest) (on_line 1 (if_within_limits gs))) f
+    → IsErrorOf (script_form text) f
 further text line rest gs f first e within is (inl none) = inl none
 further text line rest gs f first e true is (inr p) =
-    let bad : steps_left gs 1 rest ≡ Err p.0 = rw is at p.1 in
+    let bad : steps_left (edition_of line) gs 1 rest ≡ Err p.0 = rw is at p.1 in
     inr (p.0, script_form-engines text line rest gs first (allowed line gs e is) ∙ rw bad refl, p.2)
 further text line rest gs f first e false is (inr p) =
     let bad : ◌≡◌ {A = Result (List WorldStep) Bad} (Err (1, BadConfig)) (Err p.0) = rw is at p.1 in
@@ -43,7 +44,7 @@ returns-in_default-clause-err c =
 pub returns-in-Err-clause-err : goal.returns-in-Err-clause-err
 returns-in-Err-clause-err c =
     let first = rw c.new-lines.ensures.all_left at c.in-Some.ensures.line in
-    elim (IsOrNoMemory-Err _ _ c.in-Err.ensures) [
+    elim (IsOrNoMemory-Err _ _ c.in-Err.ensures.engines) [
       | inl none ↦ inl (c.of_line-in-Err.ensures ∙ ap (error_of 1) none)
       | inr e ↦ inr ((1, c.in-Err.why), script_form-bad _ _ _ _ first (rw e refl), c.of_line-in-Err.ensures)
     ]
@@ -54,9 +55,10 @@ returns-in-Ok-clause-ok c =
     let one : c.take_line.new.self.taken
     ≡ 1 = omega (arith, c.in-Some.ensures.number.0, c.in-Some.ensures.number.1, c.new-lines.ensures.none_taken) in
     let gs = c.as_slice.result.now in
-    let said : said_engines c.in-Some.first.text.now ≡ Ok gs = c.in-Ok.ensures ∙ ap Ok (sym c.as_slice.ensures.value) in
+    let said : said_engines c.in-Some.first.text.now ≡ Ok gs = c.in-Ok.ensures.engines ∙ ap Ok (sym c.as_slice.ensures.value) in
     IfOk-weaker c.open.result _ _
-    (λ s e. let left = rw one at e.1.1 in (gs, script_form-engines _ _ _ _ first (allowed _ _ said e.0) ∙ rw left refl, e.1.0))
+    (λ s e. let left = rw (one, c.in-Ok.ensures.edition) at e.1.1 in
+    (gs, script_form-engines _ _ _ _ first (allowed _ _ said e.0) ∙ rw left refl, e.1.0))
     (both c.open.result _ _ c.open.ensures.allowed (both c.open.result _ _ c.open.ensures.world c.open.ensures.steps))
 
 pub returns-in-Ok-clause-err : goal.returns-in-Ok-clause-err
@@ -65,5 +67,6 @@ returns-in-Ok-clause-err c =
     let one : c.take_line.new.self.taken
     ≡ 1 = omega (arith, c.in-Some.ensures.number.0, c.in-Some.ensures.number.1, c.new-lines.ensures.none_taken) in
     let gs = c.as_slice.result.now in
-    let said : said_engines c.in-Some.first.text.now ≡ Ok gs = c.in-Ok.ensures ∙ ap Ok (sym c.as_slice.ensures.value) in
-    IfErr-weaker c.open.result _ _ (λ f why. further _ _ _ _ f first said _ refl (rw one at why)) c.open.ensures.err
+    let said : said_engines c.in-Some.first.text.now ≡ Ok gs = c.in-Ok.ensures.engines ∙ ap Ok (sym c.as_slice.ensures.value) in
+    IfErr-weaker c.open.result _ _
+    (λ f why. further _ _ _ _ f first said _ refl (rw (one, c.in-Ok.ensures.edition) at why)) c.open.ensures.err

@@ -15,13 +15,14 @@ loop-line-preserved c =
     let old : List WorldStep = c.loop-line.steps.items in
     let x = c.in-Ok.step in
     let engines = c.args.engines.now in
-    let step = after-step engines c.loop-line.lines.taken _ _ _ (map step_of old)
+    let step = after-step c.args.edition engines c.loop-line.lines.taken _ _ _ (map step_of old)
     (step_of x) c.in-Some.ensures.line c.in-Ok.ensures in
     let more : map step_of (old ++ x ∷ [])
     ≡ map step_of old ++ step_of x ∷ [] = map-append step_of old (x ∷ []) in
     record {
       left = rw (c.in_ok-push-in-Ok.ensures.items, c.in-Some.ensures.number.1, c.in-Some.ensures.number.0)
-          (ap (λ (ss : List TheStep). after ss (steps_left engines (c.loop-line.lines.taken + 1) c.take_line.new.self.rest.now)) more
+          (ap (λ (ss : List TheStep). after ss
+          (steps_left c.args.edition engines (c.loop-line.lines.taken + 1) c.take_line.new.self.rest.now)) more
           ∙ sym step ∙ c.loop-line.invariant.left);
     }
 
@@ -33,7 +34,7 @@ returns-in-Err c =
       | inr e ↦ inr (
         (c.loop-line.lines.taken + 1, c.in-Err.why),
         sym c.loop-line.invariant.left
-            ∙ after-bad c.args.engines.now c.loop-line.lines.taken _ _ _ ss c.in-Err.why c.in-Some.ensures.line e,
+            ∙ after-bad c.args.edition c.args.engines.now c.loop-line.lines.taken _ _ _ ss c.in-Err.why c.in-Some.ensures.line e,
         rw (← c.in-Some.ensures.number.0) c.of_line.ensures,
       )
     ]
@@ -44,6 +45,7 @@ returns-in-Some-cut_line c =
     let some : c.loop-line.lines.rest.now ≢ [] = rw c.in_default.ensures.none.1 at c.in-Some-cut_line.ensures.1 in
     inr (
       (c.loop-line.lines.taken + 1, BadLine),
-      sym c.loop-line.invariant.left ∙ after-cut c.args.engines.now c.loop-line.lines.taken _ ss c.in_default.ensures.none.0 some,
+      sym c.loop-line.invariant.left
+          ∙ after-cut c.args.edition c.args.engines.now c.loop-line.lines.taken _ ss c.in_default.ensures.none.0 some,
       rw (← c.in_default.ensures.none.2, ← c.in-Some-cut_line.ensures.0) c.of_line-in-Some-cut_line.ensures,
     )

@@ -11,6 +11,6 @@ decreases-loop-line l = length l.lines.rest.now
 abbrev pub invariant-loop-line : goal.invariant-loop-line
 invariant-loop-line l = record {
   left : unless_bad (λ ss. Ok (map step_of l.steps.items ++ ss))
-      (steps_left l.engines l.lines.taken l.lines.rest.now)
-      ≡ steps_left l.engines l.fn.lines.taken l.fn.lines.rest.now;
+      (steps_left l.edition l.engines l.lines.taken l.lines.rest.now)
+      ≡ steps_left l.edition l.engines l.fn.lines.taken l.fn.lines.rest.now;
 }

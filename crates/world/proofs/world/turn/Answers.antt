@@ -1,10 +1,10 @@
-use Rattle.std.proofs.Common.{◌≡◌, List, Result, Ok, Err, Some, length, map, set, ◌++◌, refl, sym, ap, ◌∙◌, arith, slice_get}
+use Rattle.std.proofs.Common.{◌≡◌, List, Result, Ok, Err, Some, length, map, set, ◌++◌, refl, sym, ap, ◌∙◌, subst, arith, slice_get}
 use Rattle.std.specs.Prelude.{OnOk, IfOk}
 use Rattle.std.proofs.lemmas.Option.{slice_get_read}
-use Rattle.semantics.specs.Engine.{Engine, Message}
+use Rattle.semantics.specs.Engine.{Engine, Message, StepReply}
 use Rattle.semantics.specs.World.{WorldOutcome, engine_step, sent_by, world_step}
 use Rattle.world.specs.declared.step.WorldStep.{WorldStep}
-use Rattle.world.specs.Acts.{act_of, step_of}
+use Rattle.world.specs.Acts.{act_of, step_of, step_reply_of}
 use Rattle.world.specs.Parts.{IsInPart}
 use Rattle.world.specs.Worlds.{world}
 use Rattle.world.specs.Engines.{message_of}
@@ -12,10 +12,6 @@ use Rattle.world.proofs.ReachedWorlds.{reached_at}
 use Rattle.world.proofs.TurnedWorlds.{world_step-there}
 use Rattle.world.proofs.Results.{then_err}
 use Rattle.world.proofs.world.turn.Goals as goal
-
-if_ok : {X Y : Type 0} (r : Result X Y) {P Q : X → Type 0} → ((x : X) → P x → Q x) → IfOk r P → IfOk r Q
-if_ok (Ok x) f p = f x p
-if_ok (Err e) f p = tt
 
 -- the world after a step of an engine that is there as E
 module _ (Es : List Engine) (ms : List Message) (s : WorldStep) (E : Engine) (at : slice_get Es s.engine ≡ Some E) where
@@ -25,6 +21,9 @@ module _ (Es : List Engine) (ms : List Message) (s : WorldStep) (E : Engine) (at
         reply = (engine_step ms (act_of s.act) E).reply;
       }
   turned = world_step-there Es ms (step_of s) E at
+
+  replied : (engine_step ms (act_of s.act) E).reply ≡ (world_step (world Es ms) (step_of s)).reply
+  replied = sym (ap (λ (t : WorldOutcome). t.reply) turned)
 
 pub turn-requires : goal.turn-requires
 turn-requires c =
@@ -63,9 +62,7 @@ returns-clause-reply c =
     let ms : List Message = map message_of c.args.messages.now.items in
     let s = c.args.step.now in
     let E : Engine = c.index_mut-engine.result.now in
-    if_ok c.turn.result
-    (λ r e. e ∙ sym (ap (λ (t : WorldOutcome). t.reply) (turned Es ms s E (there c))))
-    c.turn.ensures.reply
+    subst (λ (reply : StepReply). IfOk c.turn.result (λ r. step_reply_of r ≡ reply)) (replied Es ms s E (there c)) c.turn.ensures.reply
 
 pub returns-clause-stopped : goal.returns-clause-stopped
 returns-clause-stopped c =

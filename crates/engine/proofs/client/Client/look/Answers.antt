@@ -15,7 +15,7 @@ at g c =
 pub invariant_of-self : goal.invariant_of-self
 invariant_of-self g c =
     let kept = items_set _ _ _ _ (at g (goal.at.invariant_of-self g c).After-look) c.look.ensures.submission in
-    (c.self.invariant.0, c.self.invariant.1 ∙ sym kept, by_kept _ _ _ _ kept c.self.invariant.2)
+    (c.self.invariant.0, c.self.invariant.1 ∙ sym kept, by_kept _ _ _ _ kept c.self.invariant.2, c.self.invariant.3)
 
 pub returns-clause-items : goal.returns-clause-items
 returns-clause-items g c =

@@ -1,6 +1,7 @@
 use Rattle.std.proofs.Common.{◌≡◌, sym, ◌∙◌, ap}
 use Rattle.published.specs.Beginnings.{Beginning}
 use Rattle.published.proofs.Adding.{adds_moves}
+use Rattle.published.proofs.Prefixes.{added_to}
 use Rattle.published.proofs.book.Point.extend.Goals as goal
 
 pub compare_exchange-found-requires : goal.compare_exchange-found-requires
@@ -16,3 +17,9 @@ compare_exchange-found-requires c =
       rw (ap (λ w. w.key) h, pen.1, offer.1, offer.3)
           (adds_moves c.self.inside.seen.log c.args.entry.now c.self.inside.count (sym c.self.invariant)),
     )
+
+pub returns-clause-added : goal.returns-clause-added
+returns-clause-added c =
+    let x = c.compare_exchange-found.ensures in
+    added_to _ c.self.inside.seen.log c.compare_exchange-found.new.seen.log c.args.self.now.log c.plain-offer.result.ask
+    c.args.entry.now _ (ap (λ (p : Beginning). p.log) c.self.view_is) c.plain-offer.ensures.1 x.6 x.7

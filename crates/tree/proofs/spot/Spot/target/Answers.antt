@@ -10,3 +10,6 @@ returns-in-Some-clause-step c = search rules
 
 pub returns-in-None-clause-step : goal.returns-in-None-clause-step
 returns-in-None-clause-step c = search rules
+
+pub is_listed-requires : goal.is_listed-requires
+is_listed-requires c = spot_inside c.args.nodes.now c.requires.tree c.args.self.now c.requires.spot

@@ -1,2 +1,0 @@
--- What the tests rest on.
-pub mod KeptClients

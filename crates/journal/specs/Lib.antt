@@ -1,0 +1,3 @@
+-- The lines of a journal, and what a journal brings back.
+pub mod Lines
+pub mod Replays

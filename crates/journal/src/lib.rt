@@ -1,0 +1,14 @@
+//! A journal: the history of an engine as lines, and an engine that goes on from them.
+//!
+//! `write_from` gives the lines of the entries from a position on, for an application to store behind those it has. A `Replay` brings them
+//! back into a new engine of the same number: its history is then that of the journal, its next id is above all of them, and it is the
+//! same replica, as long as nothing beyond the journal was handed out (`lives_are_of_one_world` of `semantics`).
+#![tactic(auto)]
+
+mod record;
+mod replaying;
+mod writing;
+
+pub use record::{Recorded, read_record, records_are_read_back};
+pub use replaying::{Replay, Replayed, Unfit};
+pub use writing::{Written, write_from};

@@ -1,0 +1,13 @@
+//! Engines that end and go on from their journals, as tables that small functions play.
+
+mod damaged;
+mod going_on;
+mod handed_out;
+mod opening;
+mod playing;
+
+use std::test::Fail;
+
+/// The hello of a peer that has nothing.
+const NEW: &str = r#"["hello",[]]
+"#;

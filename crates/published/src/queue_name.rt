@@ -1,0 +1,100 @@
+//! Which queue an engine has, as its logbook says: so whatever has a link of one engine is of one queue.
+
+ghost use Rattle.std.specs.Prelude.{◌≡◌, IfOk};
+ghost use Rattle.atomic_table.specs.Seated.{TableId};
+ghost use Rattle.published.specs.Rules.{IsQueueOf, queue_word_of};
+
+use crate::book::{Law, Nothing};
+use crate::notice::EngineName;
+use crate::written::Written;
+use atomic_table::Seat;
+use logbook::{Offer, Plain, Play, Seen, Word};
+use std::alloc::AllocError;
+use std::marker::PhantomData;
+
+/// The step that names the queue.
+struct Name;
+
+impl Play<Written, u64> for Name {
+    ghost use Rattle.published.specs.Rules.{Names};
+
+    ghost then = { Names };
+}
+
+impl<S, D> Plain<Seat<S, D>, Written, u64> for Name {
+    ghost use Rattle.std.specs.Prelude.{None};
+    ghost use Rattle.published.specs.declared.written.Written.TheVariants.{Queue};
+
+    ghost ask = { λ seat. Queue seat.table_id };
+
+    ghost state = { λ seat. None };
+}
+
+/// What names the queue of a new engine: the word that counts its queues.
+#[derive(Drop)]
+pub struct Unnamed<N: EngineName> {
+    word: Word<Written, u64, Law>,
+    seen: Seen<Written, u64, Law>,
+    of: PhantomData<N>,
+    pub ghost word_is: { word ≡ queue_word_of N.book },
+    pub ghost book: { seen.book ≡ N.book },
+}
+
+/// What knows the engine's queue, in proofs alone: it has no size.
+#[derive(Drop)]
+pub struct Link<N: EngineName> {
+    seen: Seen<Written, u64, Law>,
+    of: PhantomData<N>,
+    pub ghost book: { seen.book ≡ N.book },
+}
+
+impl<N: EngineName> Unnamed<N> {
+    pub(crate) fn new(word: Word<Written, u64, Law>, seen: Seen<Written, u64, Law>) -> Unnamed<N>
+        requires { (word ≡ queue_word_of N.book) × (seen.book ≡ N.book) }
+    {
+        Unnamed {
+            word,
+            seen,
+            of: PhantomData,
+        }
+    }
+
+    /// Names the queue in whose table this one sits. Allocates nothing.
+    ///
+    /// # Errors
+    /// `AllocError` if a queue was named before. That never happens: only this names one, and is gone with it. No contract says so.
+    pub fn name<S, D>(self, seat: &Seat<S, D>) -> Result<Link<N>, AllocError>
+        ensures { IfOk result (λ link. IsQueueOf seat.now.table_id link.seen.log) }
+    {
+        let Unnamed { word, mut seen, of } = self;
+        let mut offer: Offer<Written, u64, Law, Nothing> = seen.plain::<Nothing, Seat<S, D>, Name>(
+            seat,
+        );
+        let mut pen = seen.no_pen();
+        let found = word.compare_exchange::<Name, Nothing>(0, 1, &mut seen, &mut offer, &mut pen);
+        if found != 0 {
+            return Err(AllocError);
+        }
+        Ok(Link { seen, of })
+    }
+}
+
+impl<N: EngineName> Link<N> {
+    /// The same link again.
+    pub fn again(&self) -> Link<N>
+        ensures { result.seen.log ≡ self.now.seen.log }
+    {
+        Link {
+            seen: self.seen.again(),
+            of: PhantomData,
+        }
+    }
+
+    /// Does nothing: its contract says that two links of one engine know one queue.
+    pub fn agree(&self, other: &Link<N>)
+        ensures { (q r : TableId) → IsQueueOf q self.now.seen.log → IsQueueOf r other.now.seen.log → q ≡ r }
+    {
+        let mut both = self.seen.again();
+        both.learn(&other.seen);
+    }
+}

@@ -1,0 +1,4 @@
+pub mod CommandTexts
+pub mod ReadBack
+pub mod WrittenBack
+pub mod WrongLengths

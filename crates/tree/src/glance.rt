@@ -1,0 +1,296 @@
+//! A part of a document at a glance: an element and what stands beneath it, as rows.
+
+ghost use Rattle.std.specs.Prelude.{◌≡◌, ◌<◌, ◌≤◌, ◌+◌, ◌-◌, ◌⊎◌, ◌++◌, ◌∷◌, [], Ok, Some, IfOk, IfErr, IfSome, OnOk, length, map};
+ghost use Rattle.std.specs.Prelude.{option_map};
+ghost use Rattle.std.specs.List.{list_any};
+ghost use Rattle.ids.specs.declared.refusal.Refusal.TheVariants.{NoMemory};
+ghost use Rattle.semantics.specs.Elements.{At, Element};
+ghost use Rattle.semantics.specs.DocumentAnswer.{is_any, lists_of, visible_items, visible_names};
+ghost use Rattle.semantics.specs.Questions.{Answer, Refused, resolve};
+ghost use Rattle.semantics.specs.Glances.{glance_of, hops_below, is_same_tag, kinds_of, row_at, rows_of, shown_by};
+ghost use Rattle.semantics.specs.Paths.{FieldHop, ItemHop};
+ghost use Rattle.operation.specs.cursor.Steps.{hop_of, tag_of};
+ghost use Rattle.tree.specs.Nodes.{IsTree, context, number, tagged};
+ghost use Rattle.tree.specs.Answers.{IsAnswer};
+ghost use Rattle.tree.specs.Glances.{IsFilled, glance_in, row_of, tags_in};
+ghost use Rattle.tree.specs.Shown.{AreEmpty, AreShown};
+
+use crate::answer::{is_field, items_of, keys_of, values_of, visible_item};
+use crate::find::find;
+use crate::node::{Node, NodeNumber, node_at};
+use crate::walk::{count_fields, field_at, next_field, next_of};
+use columns::Presence;
+use ids::{OpId, Refusal};
+use operation::{Expr, Hop, Key, Scalar, Tag};
+use std::alloc::{AllocError, Global};
+
+/// As what something stands at an element. Several can be so at once, after concurrent writes.
+#[derive(Clone, Copy, Debug, PartialEq, Eq)]
+pub struct Kinds {
+    pub register: bool,
+    pub map: bool,
+    pub list: bool,
+}
+
+/// One element of a glance.
+#[derive(Debug, Drop)]
+pub struct Row {
+    /// How far it is beneath the element that was asked about.
+    pub depth: usize,
+    /// The hop to it from the element above, `None` to the one that was asked about.
+    pub entered: Option<Hop>,
+    pub kinds: Kinds,
+    /// What stands in its register, rising by id.
+    pub values: Vec<(OpId, Scalar)>,
+    /// Whether something stands beneath it that isn't shown, since it is too deep.
+    pub is_cut: bool,
+}
+
+/// An element and what stands beneath it: each element before what stands beneath it, fields by their keys before items in list order.
+#[derive(Debug, Drop)]
+pub struct Glance {
+    pub rows: Vec<Row>,
+    /// Whether there are more rows. Then the last one, and those above it, may lack more of what stands beneath them.
+    pub is_cut: bool,
+}
+
+/// How much is looked at.
+#[derive(Clone, Copy, Debug)]
+pub struct Bounds {
+    /// How far beneath the element that is asked about.
+    pub depth: usize,
+    /// How many elements.
+    pub elements: usize,
+}
+
+/// The element that an expression leads to at a glance. Copies what it shows.
+pub fn look(
+    nodes: &[Node],
+    expression: &Expr,
+    bounds: Bounds,
+    alloc: Global,
+) -> Result<Glance, Refusal>
+    requires tree { IsTree nodes.now }
+    requires shown { AreShown nodes.now }
+    requires empty { AreEmpty nodes.now }
+    ensures answer { IfOk result
+        (λ g. (e : Element) × (resolve (lists_of (context nodes.now)) expression.now ≡ Ok (At e))
+        × (glance_in g ≡ glance_of (shown_by (context nodes.now)) bounds.depth bounds.elements e)) }
+    ensures err { IfErr result
+        (λ why. (why ≡ NoMemory) ⊎ ((f : Element → Answer) → IsAnswer (context nodes.now) f expression.now (Refused why))) }
+{
+    let node = find(nodes, expression)?;
+    let mut rows = Vec::new(alloc);
+    let is_cut = push_rows(nodes, node, None, 0, bounds, &mut rows, alloc)?;
+    Ok(Glance { rows, is_cut })
+}
+
+/// Puts a node's rows behind those so far, up to the bound, and says whether there are more.
+fn push_rows(
+    nodes: &[Node],
+    node: Option<NodeNumber>,
+    entered: Option<Hop>,
+    depth: usize,
+    bounds: Bounds,
+    rows: &mut Vec<Row>,
+    alloc: Global,
+) -> Result<bool, AllocError>
+    requires tree { IsTree nodes.now }
+    requires shown { AreShown nodes.now }
+    requires empty { AreEmpty nodes.now }
+    requires inside { IfSome node (λ at. at < length nodes.now) }
+    requires deep { depth ≤ bounds.depth }
+    requires room { length rows.old.items ≤ bounds.elements }
+    ensures room { OnOk result (length rows.new.items ≤ bounds.elements) }
+    ensures filled { IfOk result (λ more. (e : Element) → number nodes.now e ≡ node →
+        IsFilled bounds.elements (map row_of rows.old.items)
+        (rows_of (shown_by (context nodes.now)) (bounds.depth - depth) depth (option_map hop_of entered) e)
+        (map row_of rows.new.items) more) }
+{
+    if rows.len() == bounds.elements {
+        return Ok(true);
+    }
+    let (here, row) = (node, node);
+    if depth == bounds.depth {
+        push_row(
+            nodes,
+            row,
+            entered,
+            depth,
+            stands_below(nodes, here),
+            rows,
+            alloc,
+        )?;
+        return Ok(false);
+    }
+    let hops = hops_below(nodes, here, alloc)?;
+    push_row(nodes, row, entered, depth, false, rows, alloc)?;
+    for hop in hops {
+        let parent = node;
+        let child = next_of(nodes, parent, &hop);
+        let is_full = push_rows(nodes, child, Some(hop), depth + 1, bounds, rows, alloc)?;
+        if is_full {
+            return Ok(true);
+        }
+    }
+    Ok(false)
+}
+
+/// Puts a node's own row behind those so far.
+fn push_row(
+    nodes: &[Node],
+    node: Option<NodeNumber>,
+    entered: Option<Hop>,
+    depth: usize,
+    is_cut: bool,
+    rows: &mut Vec<Row>,
+    alloc: Global,
+) -> Result<(), AllocError>
+    requires tree { IsTree nodes.now }
+    requires inside { IfSome node (λ at. at < length nodes.now) }
+    ensures count { OnOk result (length rows.new.items ≡ length rows.old.items + 1) }
+    ensures row { OnOk result ((e : Element) → number nodes.now e ≡ node → map row_of rows.new.items
+        ≡ map row_of rows.old.items ++ row_at (shown_by (context nodes.now)) depth (option_map hop_of entered) e is_cut ∷ []) }
+{
+    let here = node;
+    let values = values_of(nodes, here, alloc)?;
+    let kinds = kinds_at(nodes, node);
+    rows.push(Row {
+        depth,
+        entered,
+        kinds,
+        values,
+        is_cut,
+    })?;
+    Ok(())
+}
+
+/// Whether something stands beneath a node. Looks at the fields whose flags are raised until one shows.
+fn stands_below(nodes: &[Node], node: Option<NodeNumber>) -> bool
+    requires tree { IsTree nodes.now }
+    requires shown { AreShown nodes.now }
+    requires empty { AreEmpty nodes.now }
+    requires inside { IfSome node (λ at. at < length nodes.now) }
+    ensures { (e : Element) → number nodes.now e ≡ node → result ≡ is_any (hops_below (shown_by (context nodes.now)) e) }
+{
+    match node {
+        Some(at) => has_field(nodes, at) || has_item(nodes, at),
+        None => false,
+    }
+}
+
+/// Whether something stands at a field of a node.
+fn has_field(nodes: &[Node], at: NodeNumber) -> bool
+    requires tree { IsTree nodes.now }
+    requires empty { AreEmpty nodes.now }
+    requires inside { at < length nodes.now }
+    ensures { (e : Element) → number nodes.now e ≡ Some at → result ≡ is_any (visible_names (context nodes.now) e) }
+{
+    let fields = count_fields(nodes, at);
+    let mut position = next_field(nodes, at, 0);
+    while position < fields {
+        if is_field(nodes, field_at(nodes, at, position)) {
+            return true;
+        }
+        position = next_field(nodes, at, position + 1);
+    }
+    false
+}
+
+/// Whether something stands at an item of a node.
+fn has_item(nodes: &[Node], at: NodeNumber) -> bool
+    requires tree { IsTree nodes.now }
+    requires shown { AreShown nodes.now }
+    requires inside { at < length nodes.now }
+    ensures { (e : Element) → number nodes.now e ≡ Some at → result ≡ is_any (visible_items (context nodes.now) e) }
+{
+    visible_item(nodes, at, 0).is_some()
+}
+
+/// The hops to what stands right beneath a node: to its fields, and then to its items.
+fn hops_below(
+    nodes: &[Node],
+    node: Option<NodeNumber>,
+    alloc: Global,
+) -> Result<Vec<Hop>, AllocError>
+    requires tree { IsTree nodes.now }
+    requires shown { AreShown nodes.now }
+    requires empty { AreEmpty nodes.now }
+    requires inside { IfSome node (λ at. at < length nodes.now) }
+    ensures { IfOk result (λ v. (e : Element) → number nodes.now e ≡ node →
+        map hop_of v.items ≡ hops_below (shown_by (context nodes.now)) e) }
+{
+    let here = node;
+    let mut hops = Vec::new(alloc);
+    push_fields(&mut hops, keys_of(nodes, here, alloc)?)?;
+    push_items(&mut hops, items_of(nodes, node, alloc)?)?;
+    Ok(hops)
+}
+
+/// Puts the hops to these fields behind those so far.
+fn push_fields(hops: &mut Vec<Hop>, keys: Vec<Key>) -> Result<(), AllocError>
+    ensures { OnOk result (map hop_of hops.new.items ≡ map hop_of hops.old.items ++ map FieldHop keys.items) }
+{
+    for key in keys {
+        hops.push(Hop::Field(key))?;
+    }
+    Ok(())
+}
+
+/// Puts the hops to these items behind those so far.
+fn push_items(hops: &mut Vec<Hop>, items: Vec<OpId>) -> Result<(), AllocError>
+    ensures { OnOk result (map hop_of hops.new.items ≡ map hop_of hops.old.items ++ map ItemHop items.items) }
+{
+    for id in items {
+        hops.push(Hop::Item(id))?;
+    }
+    Ok(())
+}
+
+/// As what something stands at a node, as nothing where there is no node.
+fn kinds_at(nodes: &[Node], node: Option<NodeNumber>) -> Kinds
+    requires { IfSome node (λ at. at < length nodes.now) }
+    ensures { (e : Element) → number nodes.now e ≡ node → tags_in result ≡ kinds_of ((context nodes.now).presence e) }
+{
+    match node {
+        Some(at) => kinds_in(&node_at(nodes, at).presence),
+        None => Kinds {
+            register: false,
+            map: false,
+            list: false,
+        },
+    }
+}
+
+/// As what the ids of a presence stand.
+fn kinds_in(presence: &Presence) -> Kinds
+    ensures { tags_in result ≡ kinds_of (tagged presence.now.entries) }
+{
+    Kinds {
+        register: stands_as(presence, Tag::Reg),
+        map: stands_as(presence, Tag::Map),
+        list: stands_as(presence, Tag::List),
+    }
+}
+
+/// Whether an id stands with this tag.
+fn stands_as(presence: &Presence, tag: Tag) -> bool
+    ensures { result ≡ list_any (λ x. is_same_tag (tag_of tag) x.1) (tagged presence.now.entries) }
+{
+    for position in 0..presence.len() {
+        if is_same(*presence.at(position).1, tag) {
+            return true;
+        }
+    }
+    false
+}
+
+/// Whether two tags are one.
+fn is_same(tag: Tag, other: Tag) -> bool
+    ensures { result ≡ is_same_tag (tag_of other) (tag_of tag) }
+{
+    match (tag, other) {
+        (Tag::Reg, Tag::Reg) | (Tag::Map, Tag::Map) | (Tag::List, Tag::List) => true,
+        _ => false,
+    }
+}
