@@ -112,20 +112,20 @@ fn run_in<N: EngineName + Send + Sync, R: Threads + Wait + Sync>(
     requires own { parts.config.own ≡ N.own }
     requires table { in_order parts.config.members ≡ N.table }
 {
-    let (mut writer, clients, mut readers) = open::<N>(rt, alloc, parts)?;
-    let ended = match readers.pop() {
-        Some(mut reader) => play_and_serve(
+    let (mut writer, mut clients, mut readers) = open::<N>(rt, alloc, parts)?;
+    let ended = match readers.first_mut() {
+        Some(reader) => play_and_serve(
             rt,
             alloc,
             plan,
             desk,
             &mut writer,
-            clients,
-            &mut reader,
+            clients.as_mut_slice(),
+            reader,
         ),
         None => Err(Stop::Refused(Refusal::NoReaderPlace)),
     };
-    let _left = close(rt, writer, Vec::new(alloc));
+    let _left = close(rt, writer, clients);
     ended
 }
 
@@ -136,7 +136,7 @@ fn play_and_serve<N: EngineName + Send + Sync, R: Threads + Wait + Sync>(
     plan: Plan,
     desk: &Desk,
     writer: &mut Writer<N>,
-    clients: Vec<Client<N>>,
+    clients: &mut [Client<N>],
     reader: &mut ReaderToken<N>,
 ) -> Result<(), Stop> {
     let mut tasks = tasks(alloc, clients, plan)?;
@@ -146,7 +146,7 @@ fn play_and_serve<N: EngineName + Send + Sync, R: Threads + Wait + Sync>(
         Some(first) => {
             let mut served = Served {
                 writer,
-                client: &mut first.client,
+                client: first.client,
                 reader,
             };
             served.serve(rt, alloc, desk)

@@ -13,17 +13,17 @@ use std::thread::{Threads, for_each_mut, join, yield_now};
 
 /// What a client has to do, and how it ended.
 #[derive(Drop)]
-pub struct Task<N: EngineName> {
-    pub client: Client<N>,
+pub struct Task<'a, N: EngineName> {
+    pub client: &'a mut Client<N>,
     gate: Meeting,
     key: Key,
     read: Result<bool, Stop>,
 }
 
-impl<N: EngineName> Task<N> {
+impl<N: EngineName> Task<'_, N> {
     /// Writes this many numbers and reads each back.
     fn work<R: Wait>(&mut self, rt: &R, alloc: Global, ops: u32) {
-        self.read = worker(rt, alloc, &mut self.gate, &mut self.client, &self.key, ops);
+        self.read = worker(rt, alloc, &mut self.gate, self.client, &self.key, ops);
     }
 }
 
@@ -31,11 +31,11 @@ impl<N: EngineName> Task<N> {
 ///
 /// # Errors
 /// `NoMemory` if allocation fails.
-pub fn tasks<N: EngineName>(
+pub fn tasks<'a, N: EngineName>(
     alloc: Global,
-    clients: Vec<Client<N>>,
+    clients: &'a mut [Client<N>],
     plan: Plan,
-) -> Result<Vec<Task<N>>, Stop> {
+) -> Result<Vec<Task<'a, N>>, Stop> {
     let mut tasks = Vec::new(alloc);
     let mut number = 0u32;
     for client in clients {

@@ -50,7 +50,7 @@ publication_of own table p = record p { own = own; members = table }
 abbrev pub submitted_in : List Submission → List Submitted
 submitted_in items = map submitted_of items
 
--- what holds of a writer between its calls, which takes from this queue, and has a link to this logbook
+-- what holds of a writer between its calls, which takes from this queue, and has the name of this logbook
 pub record IsWriter (own : ℕ) (table : List ℕ) (publication : Publication) (handler : Handler) (hand : Hand) (held : List Handled)
     (batch room : ℕ) (queue : TableId) (log : List Written) : Type 0 where
   pub holds : Holds (publication_of own table publication) handler.replica
@@ -60,7 +60,7 @@ pub record IsWriter (own : ℕ) (table : List ℕ) (publication : Publication) (
   pub none_ended : hand.known ≡ []
   pub fits : batch ≤ room
   pub positive : 0 < batch
-  pub linked : IsQueueOf queue log
+  pub named : IsQueueOf queue log
 
 -- a step that began with nothing held went on with a drain that had ended early, and then took these submissions, at most a batch, which it
 -- handled one after another, none skipped. It took fewer than a batch only where it found the queue empty

@@ -4,7 +4,7 @@ ghost use Rattle.std.specs.Prelude.{◌≡◌, ◌+◌, ◌-◌, ◌<◌, ◌≤
 ghost use Rattle.std.specs.Prelude.{IfErr, IfSome, MatchBool, MatchResult, map, option_map, slice_get};
 ghost use Rattle.std.specs.Arc.{arc_value};
 ghost use Rattle.crossbeam_queue.specs.Passes.{ruled_capacity, view as pass_view};
-ghost use Rattle.ids.specs.declared.refusal.Refusal.TheVariants.{Foreign, NoMemory, NoReading, QueueFull, SerialEnd};
+ghost use Rattle.ids.specs.declared.refusal.Refusal.TheVariants.{Closed, Foreign, NoMemory, QueueFull, SerialEnd};
 ghost use Rattle.semantics.specs.Entries.{Entry as TheEntry, IsEntryHistory, applied};
 ghost use Rattle.semantics.specs.Journals.{entries_from};
 ghost use Rattle.semantics.specs.WorldHistory.{BeginsWith};
@@ -19,10 +19,11 @@ ghost use Rattle.replica.specs.operation.Ops.{entry_of};
 ghost use Rattle.replica.specs.operation.Submissions.{reply_of, submitted_of};
 ghost use Rattle.command.specs.Answers.{Given};
 ghost use Rattle.command.specs.published.Rules.{IsQueueOf};
+ghost use Rattle.command.specs.published.Tokens.{GivesNoReading};
 ghost use Rattle.engine.specs.Clients.{HasNotice, IsAnswered, IsMine, Looks, after_refusal, submissions_by, with_request};
 
 use crate::pending::Pending;
-use command::{EngineName, Envelope, Link, Notice, ReaderToken, Sender, Taker, Ticket};
+use command::{EngineName, Envelope, Notice, QueueName, ReaderToken, Sender, Taker, Ticket};
 use ids::{Refusal, ReplicaId};
 use replica::{Command, Entry, Op, Question, Reading, Reply, Request, Shared, Submission};
 use std::alloc::{AllocError, Global};
@@ -38,7 +39,7 @@ pub struct Client<N: EngineName> {
     serials: u64,
     token: ReaderToken<N>,
     sender: Sender<N>,
-    link: Link<N>,
+    queue_name: QueueName<N>,
     kept: Vec<Pending<N>>,
 }
 
@@ -70,7 +71,7 @@ impl<N: EngineName> Model for Client<N> {
     ghost invariant = { λ c. ((pass_view c.sender.pass).from ≡ c.number)
         × ((pass_view c.sender.pass).put ≡ map (λ k. k.submission) c.kept.items)
         × AreBy c.number 1 (map (λ k. k.submission) c.kept.items)
-        × IsQueueOf c.sender.pass.table_id c.link.seen.log };
+        × IsQueueOf c.sender.pass.table_id c.queue_name.seen.log };
 }
 
 impl<N: EngineName> Client<N> {
@@ -81,10 +82,10 @@ impl<N: EngineName> Client<N> {
         serials: u64,
         token: ReaderToken<N>,
         sender: Sender<N>,
-        link: Link<N>,
+        queue_name: QueueName<N>,
     ) -> Client<N>
         requires sender { ((pass_view sender.pass).from ≡ number) × ((pass_view sender.pass).put ≡ []) }
-        requires link { IsQueueOf sender.pass.table_id link.seen.log }
+        requires queue_name { IsQueueOf sender.pass.table_id queue_name.seen.log }
         ensures { (result.replica ≡ replica) × (result.number ≡ number) × (result.serials ≡ serials)
             × (result.capacity ≡ ruled_capacity (arc_value sender.queue)) × (result.kept ≡ []) × (result.seen ≡ token.seen)
             × (result.found_full ≡ sender.found_full) }
@@ -95,7 +96,7 @@ impl<N: EngineName> Client<N> {
             serials,
             token,
             sender,
-            link,
+            queue_name,
             kept: Vec::new(alloc),
         }
     }
@@ -106,8 +107,8 @@ impl<N: EngineName> Client<N> {
     /// which is kept for good.
     ///
     /// # Errors
-    /// `SerialEnd` if all serials are used, else `NoMemory` if allocation fails, else `QueueFull` if the queue was full at one moment of
-    /// the call, which `found_full` counts. A refused call takes no serial; the command is gone with it.
+    /// `SerialEnd` if all serials are used, else `Closed` if the engine is closed, else `NoMemory` if allocation fails, else `QueueFull` if
+    /// the queue was full at one moment of the call, which `found_full` counts. A refused call takes no serial; the command is gone with it.
     pub fn submit(
         &mut self,
         rt: &impl Wait,
@@ -119,7 +120,7 @@ impl<N: EngineName> Client<N> {
         ensures kept { MatchResult result (λ _. self.new ≡ with_request self.old (OfCommand command))
             (λ why. self.new ≡ after_refusal self.old why) }
         ensures end { (result ≡ Err SerialEnd) ↔ (self.old.serials ≤ length self.old.kept) }
-        ensures err { IfErr result (λ why. (why ≡ SerialEnd) ⊎ (why ≡ NoMemory) ⊎ (why ≡ QueueFull)) }
+        ensures err { IfErr result (λ why. (why ≡ SerialEnd) ⊎ (why ≡ Closed) ⊎ (why ≡ NoMemory) ⊎ (why ≡ QueueFull)) }
     {
         let serial = self.next_serial()?;
         let command = Shared::new(alloc, command)?;
@@ -142,7 +143,7 @@ impl<N: EngineName> Client<N> {
         ensures kept { MatchResult result (λ _. self.new ≡ with_request self.old (OfCommand command.now))
             (λ why. self.new ≡ after_refusal self.old why) }
         ensures end { (result ≡ Err SerialEnd) ↔ (self.old.serials ≤ length self.old.kept) }
-        ensures err { IfErr result (λ why. (why ≡ SerialEnd) ⊎ (why ≡ NoMemory) ⊎ (why ≡ QueueFull)) }
+        ensures err { IfErr result (λ why. (why ≡ SerialEnd) ⊎ (why ≡ Closed) ⊎ (why ≡ NoMemory) ⊎ (why ≡ QueueFull)) }
     {
         let serial = self.next_serial()?;
         let command = command.clone()?;
@@ -164,7 +165,7 @@ impl<N: EngineName> Client<N> {
         ensures kept { MatchResult result (λ _. self.new ≡ with_request self.old (OfPeer op))
             (λ why. self.new ≡ after_refusal self.old why) }
         ensures end { (result ≡ Err SerialEnd) ↔ (self.old.serials ≤ length self.old.kept) }
-        ensures err { IfErr result (λ why. (why ≡ SerialEnd) ⊎ (why ≡ NoMemory) ⊎ (why ≡ QueueFull)) }
+        ensures err { IfErr result (λ why. (why ≡ SerialEnd) ⊎ (why ≡ Closed) ⊎ (why ≡ NoMemory) ⊎ (why ≡ QueueFull)) }
     {
         let serial = self.next_serial()?;
         self.send(rt, alloc, serial, Request::Peer(op))
@@ -173,15 +174,18 @@ impl<N: EngineName> Client<N> {
     /// The serial of the next submission.
     ///
     /// # Errors
-    /// `SerialEnd` if all serials are used.
+    /// `SerialEnd` if all serials are used, else `Closed` if the engine is closed.
     fn next_serial(&self) -> Result<u64, Refusal>
         ensures ok { IfOk result (λ serial. serial ≡ length self.now.kept + 1) }
         ensures end { (result ≡ Err SerialEnd) ↔ (self.now.serials ≤ length self.now.kept) }
-        ensures err { IfErr result (λ why. why ≡ SerialEnd) }
+        ensures err { IfErr result (λ why. (why ≡ SerialEnd) ⊎ (why ≡ Closed)) }
     {
         let used = self.kept.len() as u64;
         if used >= self.serials {
             return Err(Refusal::SerialEnd);
+        }
+        if self.token.is_closed() {
+            return Err(Refusal::Closed);
         }
         Ok(used + 1)
     }
@@ -230,10 +234,10 @@ impl<N: EngineName> Client<N> {
         self,
         rt: &impl Wait,
         taker: &mut Taker<N>,
-        link: &Link<N>,
+        queue_name: &QueueName<N>,
         notice: &Notice<N>,
     )
-        requires { IsQueueOf taker.old.pass.table_id link.now.seen.log }
+        requires { IsQueueOf taker.old.pass.table_id queue_name.now.seen.log }
         ensures taker { (taker.new.pass.table_id ≡ taker.old.pass.table_id)
             × ((pass_view taker.new.pass).got ≡ (pass_view taker.old.pass).got)
             × ((pass_view taker.new.pass).known ≡ (pass_view taker.old.pass).known ++ (self.number, submissions_by self) ∷ [])
@@ -243,10 +247,10 @@ impl<N: EngineName> Client<N> {
         let Client {
             token,
             sender,
-            link: own,
+            queue_name: own,
             ..
         } = self;
-        own.agree(link);
+        own.agree(queue_name);
         taker.end(sender);
         if !token.begins(notice) {
             // Never: what a token has seen was published before, and the notice is of all that was. No contract says so.
@@ -257,14 +261,15 @@ impl<N: EngineName> Client<N> {
 
     /// The reply to the ticket's submission once the writer has answered it, else `None`. From then on the client has seen all that was
     /// published with the answer, and the reply stays the same. What a refusal names stands nowhere in that, so it can be submitted
-    /// anew. A ticket that wasn't answered before `close` stays `None`. Never waits; allocates nothing. Linear in the size of what was
-    /// submitted.
+    /// anew. Never waits; allocates nothing. Linear in the size of what was submitted.
     ///
     /// # Errors
-    /// `Foreign` if the ticket is of another replica number or another client, or of a serial that wasn't taken.
+    /// `Foreign` if the ticket is of another replica number or another client, or of a serial that wasn't taken. `Closed` if the engine is
+    /// closed and the ticket wasn't answered: it never will be.
     pub fn poll(&mut self, ticket: &Ticket) -> Result<Option<Reply>, Refusal>
         ensures mine { MatchResult result (λ _. IsMine self.old ticket.now)
-            (λ e. (e ≡ Foreign) × (IsMine self.old ticket.now → ⊥) × (self.new ≡ self.old)) }
+            (λ e. ((e ≡ Foreign) × (IsMine self.old ticket.now → ⊥) × (self.new ≡ self.old))
+            ⊎ ((e ≡ Closed) × IsMine self.old ticket.now × Looks self.old self.new (ticket.now.serial - 1) None)) }
         ensures grows { BeginsWith self.new.seen self.old.seen }
         ensures same { self.new ≡ record self.old { seen = self.new.seen; kept = self.new.kept } }
         ensures items { submissions_by self.new ≡ submissions_by self.old }
@@ -277,8 +282,14 @@ impl<N: EngineName> Client<N> {
             (λ r. (x : ASubmission) × (slice_get (submissions_by self.old) (ticket.now.serial - 1) ≡ Some x)
             × IsAnswer N.own N.table self.new.seen (submitted_of x) (reply_of r))) }
     {
+        // Looked at first: what isn't answered once the engine is closed never will be.
+        let is_closed = self.token.is_closed();
         let Some((reply, notice)) = self.look(ticket)? else {
-            return Ok(None);
+            return if is_closed {
+                Err(Refusal::Closed)
+            } else {
+                Ok(None)
+            };
         };
         self.token.learn(&notice);
         Ok(Some(reply))
@@ -289,15 +300,21 @@ impl<N: EngineName> Client<N> {
     /// submitted.
     ///
     /// # Errors
-    /// `Foreign`, as `poll`.
+    /// `Foreign` and `Closed`, as `poll`.
     pub fn notice_of(&self, ticket: &Ticket) -> Result<Option<&Notice<N>>, Refusal>
-        ensures mine { MatchResult result (λ _. IsMine self.now ticket.now) (λ e. (e ≡ Foreign) × (IsMine self.now ticket.now → ⊥)) }
+        ensures mine { MatchResult result (λ _. IsMine self.now ticket.now)
+            (λ e. ((e ≡ Foreign) × (IsMine self.now ticket.now → ⊥))
+            ⊎ ((e ≡ Closed) × IsMine self.now ticket.now × HasNotice N.own N.table self.now ticket.now None)) }
         ensures notice { IfOk result (λ o. HasNotice N.own N.table self.now ticket.now (option_map (λ n. n.now) o)) }
     {
         if !self.is_mine(ticket) {
             return Err(Refusal::Foreign);
         }
-        Ok(self.kept[ticket.serial as usize - 1].notice())
+        let is_closed = self.token.is_closed();
+        match self.kept[ticket.serial as usize - 1].notice() {
+            None if is_closed => Err(Refusal::Closed),
+            notice => Ok(notice),
+        }
     }
 
     /// What the ticket's submission was answered, once it was.
@@ -382,7 +399,7 @@ impl<N: EngineName> Client<N> {
         ensures grows { BeginsWith self.new.seen self.old.seen }
         ensures legal { IsEntryHistory N.own self.new.seen }
         ensures entries { IfOk result (λ entries. map entry_of entries.items ≡ entries_from position self.new.seen) }
-        ensures err { IfErr result (λ why. (why ≡ NoMemory) ⊎ (why ≡ NoReading)) }
+        ensures err { IfErr result GivesNoReading }
         ensures same { self.new ≡ record self.old { seen = self.new.seen; read = self.new.read; reads = self.new.reads } }
     {
         self.token.entries_from(alloc, position)
@@ -400,15 +417,15 @@ impl<N: EngineName> Client<N> {
             (λ r. (q : TheQuestion) → asked_of question.now ≡ OfDocument q
             → said_by r ≡ Answered (view (applied self.new.seen) q)) }
         ensures err { IfErr result
-            (λ why. (why ≡ NoMemory) ⊎ (why ≡ NoReading)
+            (λ why. GivesNoReading why
             ⊎ (reading_of self.new.seen (asked_of question.now) ≡ Answered (Refused why))) }
         ensures view_refuses { IfErr result
-            (λ why. (why ≡ NoMemory) ⊎ (why ≡ NoReading)
+            (λ why. GivesNoReading why
             ⊎ ((q : TheQuestion) → asked_of question.now ≡ OfDocument q → view (applied self.new.seen) q ≡ Refused why)) }
         ensures published { MatchResult result (λ _. self.new.read ≡ self.new.seen)
-            (λ why. (why ≡ NoMemory) ⊎ (why ≡ NoReading) ⊎ (self.new.read ≡ self.new.seen)) }
+            (λ why. GivesNoReading why ⊎ (self.new.read ≡ self.new.seen)) }
         ensures step { MatchResult result (λ _. self.new.reads ≡ self.old.reads + 1)
-            (λ why. (why ≡ NoMemory) ⊎ (why ≡ NoReading) ⊎ (self.new.reads ≡ self.old.reads + 1)) }
+            (λ why. GivesNoReading why ⊎ (self.new.reads ≡ self.old.reads + 1)) }
         ensures same { self.new ≡ record self.old { seen = self.new.seen; read = self.new.read; reads = self.new.reads } }
     {
         self.token.ask(alloc, question)

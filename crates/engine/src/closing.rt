@@ -29,9 +29,9 @@ pub struct Final {
 /// Closes the engine of this writer. What is queued, or held and unanswered, is dropped and counted in `left`; operations of peers that
 /// wait for others are dropped too, and come again by an exchange. To leave nothing behind, step until `Idle` before.
 ///
-/// Clients and readers that still exist get no signal. From then on `ask`, `hello` and `answer` are refused with `NoReading`, a ticket
-/// that wasn't answered polls `None`, and `submit` and `receive` give tickets until the queue is full, which `left` doesn't count: all of
-/// it for good. So let the threads of clients and readers end before.
+/// Clients and readers that still exist are told: from then on each call of theirs that would read, submit or wait for an answer is refused
+/// with `Closed`, and answers that came before are still there. What is submitted while this runs may be left in the queue without being
+/// counted; its poll says `Closed`.
 ///
 /// `clients` are those of the engine that are still at hand, in any order. The contract says what became of all that these submitted;
 /// given all of them, `left` is just what they submitted and wasn't answered. Waits for readers that still read.
@@ -50,14 +50,15 @@ pub fn close<N: EngineName>(rt: &impl Wait, writer: Writer<N>, clients: Vec<Clie
         publisher,
         handler: _handler,
         mut taker,
-        link,
+        queue_name,
         held,
         batch: _,
     } = writer;
+    publisher.close();
     let notice = publisher.notice();
     let _ = notice.len();
     for client in clients {
-        client.end(rt, &mut taker, &link, &notice);
+        client.end(rt, &mut taker, &queue_name, &notice);
     }
     let left = held.len() as u64 + taker.rest(rt) as u64;
     let (document, _notice) = publisher.end(rt);

@@ -18,7 +18,7 @@ ghost use Rattle.engine.specs.WriterSteps.{new_writer};
 
 use crate::client::Client;
 use crate::writer::Writer;
-use command::{EngineName, Handled, Link, Opened, Queue, ReaderToken, Taker, Unnamed};
+use command::{EngineName, Handled, Opened, Queue, QueueName, ReaderToken, Taker, Unnamed};
 use ids::{Config, Refusal, ReplicaId};
 use replica::{Document, Replica};
 use std::alloc::{AllocError, Global};
@@ -126,9 +126,9 @@ pub fn open<N: EngineName>(
         rt, alloc, opened, first, second, count,
     )?;
     match new_ends::<N>(alloc, &config, own, unnamed, &mut tokens) {
-        Ok((taker, link, held, clients)) => {
+        Ok((taker, queue_name, held, clients)) => {
             let batch = config.batch as usize;
-            let writer = Writer::new(publisher, replica, taker, link, held, batch);
+            let writer = Writer::new(publisher, replica, taker, queue_name, held, batch);
             Ok((writer, clients, tokens))
         }
         Err(AllocError) => {
@@ -138,14 +138,14 @@ pub fn open<N: EngineName>(
     }
 }
 
-/// The writer's end of a new queue with a link to it, an empty batch with its room, and a client for each of the last tokens.
+/// The writer's end of a new queue with its name, an empty batch with its room, and a client for each of the last tokens.
 fn new_ends<N: EngineName>(
     alloc: Global,
     config: &Config,
     own: ReplicaId,
     unnamed: Unnamed<N>,
     tokens: &mut Vec<ReaderToken<N>>,
-) -> Result<(Taker<N>, Link<N>, Vec<Handled<N>>, Vec<Client<N>>), AllocError>
+) -> Result<(Taker<N>, QueueName<N>, Vec<Handled<N>>, Vec<Client<N>>), AllocError>
     requires good { is_within_limits config.now ≡ true }
     requires own { own ≡ config.now.own }
     requires tokens { length tokens.old.items ≡ config.now.clients + config.now.readers }
@@ -153,7 +153,7 @@ fn new_ends<N: EngineName>(
     ensures taker { IfOk result
         (λ r. ((view r.0.pass).got ≡ []) × ((view r.0.pass).known ≡ []) × ((view r.0.pass).made ≡ config.now.clients)
         × (r.0.found_empty ≡ 0)) }
-    ensures link { IfOk result (λ r. IsQueueOf r.0.pass.table_id r.1.seen.log) }
+    ensures queue_name { IfOk result (λ r. IsQueueOf r.0.pass.table_id r.1.seen.log) }
     ensures held { IfOk result (λ r. (r.2.items ≡ []) × (config.now.batch ≤ vec_capacity r.2)) }
     ensures clients { IfOk result
         (λ r. AreNumbered 0 r.3.items × (length r.3.items ≡ config.now.clients) × All (IsNewClient config.now) r.3.items) }
@@ -162,7 +162,7 @@ fn new_ends<N: EngineName>(
     let mut held = Vec::new(alloc);
     held.reserve(config.batch as usize)?;
     let mut taker = new_queue::<N>(alloc, config)?;
-    let link = taker.link(unnamed)?;
+    let queue_name = taker.name_queue(unnamed)?;
     let mut clients = Vec::new(alloc);
     clients.reserve(config.clients as usize)?;
     for number in 0..config.clients as usize {
@@ -178,10 +178,10 @@ fn new_ends<N: EngineName>(
             serials,
             token,
             sender,
-            link.again(),
+            queue_name.again(),
         ));
     }
-    Ok((taker, link, held, clients))
+    Ok((taker, queue_name, held, clients))
 }
 
 /// The writer's end of an empty queue, whose capacity is within its limits.

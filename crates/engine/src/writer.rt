@@ -16,7 +16,7 @@ ghost use Rattle.replica.specs.Replicas.{replica_of};
 ghost use Rattle.replica.specs.Handlers.{handler_of};
 ghost use Rattle.engine.specs.WriterSteps.{Ends, IsWriterStep, Shows, publication_of, submitted_in};
 
-use command::{EngineName, Envelope, Handled, Link, Notice, Publisher, Taker};
+use command::{EngineName, Envelope, Handled, Notice, Publisher, QueueName, Taker};
 use replica::{Handler, Replica};
 use std::alloc::{AllocError, Global};
 use std::marker::Model;
@@ -44,7 +44,7 @@ pub struct Writer<N: EngineName> {
     pub(crate) publisher: Publisher<N>,
     pub(crate) handler: Handler,
     pub(crate) taker: Taker<N>,
-    pub(crate) link: Link<N>,
+    pub(crate) queue_name: QueueName<N>,
     /// Handled and not answered, the oldest first, with room for a batch.
     pub(crate) held: Vec<Handled<N>>,
     pub(crate) batch: usize,
@@ -73,7 +73,7 @@ impl<N: EngineName> Model for Writer<N> {
     } };
 
     ghost invariant = { λ w. IsWriter N.own N.table w.publisher (handler_of w.handler) (view_of w.taker.pass) w.held.items w.batch
-        (vec_capacity w.held) w.taker.pass.table_id w.link.seen.log };
+        (vec_capacity w.held) w.taker.pass.table_id w.queue_name.seen.log };
 }
 
 impl<N: EngineName> Writer<N> {
@@ -82,7 +82,7 @@ impl<N: EngineName> Writer<N> {
         publisher: Publisher<N>,
         replica: Replica,
         taker: Taker<N>,
-        link: Link<N>,
+        queue_name: QueueName<N>,
         held: Vec<Handled<N>>,
         batch: usize,
     ) -> Writer<N>
@@ -90,7 +90,7 @@ impl<N: EngineName> Writer<N> {
         requires none { (publisher.appended ≡ []) × (replica.document.entries ≡ []) × ((view taker.pass).got ≡ [])
             × ((view taker.pass).known ≡ []) × (held.items ≡ []) }
         requires batch { (0 < batch) × (batch ≤ vec_capacity held) }
-        requires link { IsQueueOf taker.pass.table_id link.seen.log }
+        requires queue_name { IsQueueOf taker.pass.table_id queue_name.seen.log }
         ensures { result
             ≡ record {
               clients = (view taker.pass).made;
@@ -107,7 +107,7 @@ impl<N: EngineName> Writer<N> {
             publisher,
             handler: Handler::new(replica),
             taker,
-            link,
+            queue_name,
             held,
             batch,
         }

@@ -4,7 +4,7 @@ use Rattle.ids.specs.declared.refusal.Refusal.{Refusal}
 use Rattle.ids.specs.declared.refusal.Refusal.TheVariants.{NoMemory, AtHead, PastEnd, NotInList, TooDeep, KeyTooLong, TextTooLong}
 use Rattle.ids.specs.declared.refusal.Refusal.TheVariants.{HistoryFull, QueueFull, SerialEnd, Foreign, BadFloor, UnknownReplica, BadCounter}
 use Rattle.ids.specs.declared.refusal.Refusal.TheVariants.{BrokenChain, NamesNothing, NotClosed, BadPlace, InboxFull, OwnName, NotWhole}
-use Rattle.ids.specs.declared.refusal.Refusal.TheVariants.{BadLine, NoReaderPlace, BadConfig, NoReading}
+use Rattle.ids.specs.declared.refusal.Refusal.TheVariants.{BadLine, NoReaderPlace, BadConfig, NoReading, Closed}
 
 -- the number of a refusal
 abbrev pub number_of : Refusal → ℕ
@@ -33,3 +33,4 @@ number_of BadLine = 22
 number_of NoReaderPlace = 23
 number_of BadConfig = 24
 number_of NoReading = 25
+number_of Closed = 26

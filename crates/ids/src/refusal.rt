@@ -60,6 +60,8 @@ pub enum Refusal {
     BadConfig = 24,
     /// The published copies gave no reading.
     NoReading = 25,
+    /// The engine is closed.
+    Closed = 26,
 }
 
 impl Refusal {

@@ -5,10 +5,12 @@
 //! same replica, as long as nothing beyond the journal was handed out (`lives_are_of_one_world` of `semantics`).
 #![tactic(auto)]
 
+mod outgoing;
 mod record;
 mod replaying;
 mod writing;
 
+pub use outgoing::{Answered, Outgoing};
 pub use record::{Recorded, read_record, records_are_read_back};
 pub use replaying::{Replay, Replayed, Unfit};
 pub use writing::{Written, write_from};

@@ -1,10 +1,10 @@
 //! The history as lines.
 
 ghost use Rattle.std.specs.Prelude.{◌≡◌, ◌++◌, ◌⊎◌, [], Ok, IfErr, IfOk, OnOk, length, map};
-ghost use Rattle.ids.specs.declared.refusal.Refusal.TheVariants.{NoMemory, NoReading};
 ghost use Rattle.semantics.specs.Entries.{IsEntryHistory};
 ghost use Rattle.semantics.specs.Journals.{Commanded, entries_from, recorded};
 ghost use Rattle.semantics.specs.WorldHistory.{BeginsWith};
+ghost use Rattle.engine.specs.published.Tokens.{GivesNoReading};
 ghost use Rattle.engine.specs.operation.Ops.{command_of, entry_of};
 ghost use Rattle.wire.specs.Lines.{cut};
 ghost use Rattle.wire.specs.Writing.{IsWritten, tokens_of};
@@ -30,7 +30,7 @@ pub struct Written {
 /// proportion to how many they are; says the same for the same position, but that more may follow.
 ///
 /// # Errors
-/// `NoReading` if the copies gave no reading, `NoMemory` if allocation fails. The token may then have seen more than before, never less.
+/// `NoReading` if the copies gave no reading, `Closed` if the engine is closed, `NoMemory` if allocation fails. The token may then have seen more than before, never less.
 pub fn write_from<N: EngineName>(
     alloc: Global,
     token: &mut ReaderToken<N>,
@@ -41,7 +41,7 @@ pub fn write_from<N: EngineName>(
     ensures lines { IfOk result (λ w. w.lines.items ≡ journal_text (entries_from position token.new.seen)) }
     ensures upto { IfOk result (λ w. w.upto ≡ length token.new.seen) }
     ensures published { IfOk result (λ _. token.new.read ≡ token.new.seen) }
-    ensures err { IfErr result (λ why. (why ≡ NoMemory) ⊎ (why ≡ NoReading)) }
+    ensures err { IfErr result GivesNoReading }
 {
     let entries = token.entries_from(alloc, position)?;
     let upto = token.seen_len();

@@ -54,12 +54,12 @@ fn open_alice<A: EngineName, R: Wait>(
     requires own { alice.config.own ≡ A.own }
     requires table { in_order alice.config.members ≡ A.table }
 {
-    let (mut writer, clients, readers) = open::<A>(rt, alloc, alice)?;
-    let read = match engine_of(&mut writer, clients, readers) {
+    let (mut writer, mut clients, mut readers) = open::<A>(rt, alloc, alice)?;
+    let read = match engine_of(&mut writer, &mut clients, &mut readers) {
         Ok(mut alice) => open_bob::<Brand, A, R>(rt, alloc, &mut alice, bob),
         Err(refusal) => Err(refusal),
     };
-    let _history = close(rt, writer, Vec::new(alloc)).history;
+    let _history = close(rt, writer, clients).history;
     read
 }
 
@@ -73,9 +73,9 @@ fn open_bob<B: EngineName, A: EngineName, R: Wait>(
     requires own { bob.config.own ≡ B.own }
     requires table { in_order bob.config.members ≡ B.table }
 {
-    let (mut writer, clients, readers) = open::<B>(rt, alloc, bob)?;
-    let read = with_bob(rt, alloc, alice, &mut writer, clients, readers);
-    let _history = close(rt, writer, Vec::new(alloc)).history;
+    let (mut writer, mut clients, mut readers) = open::<B>(rt, alloc, bob)?;
+    let read = with_bob(rt, alloc, alice, &mut writer, &mut clients, &mut readers);
+    let _history = close(rt, writer, clients).history;
     read
 }
 
@@ -85,8 +85,8 @@ fn with_bob<B: EngineName, A: EngineName, R: Wait>(
     alloc: Global,
     alice: &mut Engine<A>,
     writer: &mut Writer<B>,
-    clients: Vec<Client<B>>,
-    readers: Vec<ReaderToken<B>>,
+    clients: &mut Vec<Client<B>>,
+    readers: &mut Vec<ReaderToken<B>>,
 ) -> Result<(String, String), Refusal> {
     let mut bob = engine_of(writer, clients, readers)?;
     edit_and_meet(rt, alloc, alice, &mut bob)
@@ -96,16 +96,16 @@ fn with_bob<B: EngineName, A: EngineName, R: Wait>(
 #[derive(Drop)]
 struct Engine<'a, N: EngineName> {
     writer: &'a mut Writer<N>,
-    client: Client<N>,
-    reader: ReaderToken<N>,
+    client: &'a mut Client<N>,
+    reader: &'a mut ReaderToken<N>,
 }
 
 fn engine_of<'a, N: EngineName>(
     writer: &'a mut Writer<N>,
-    mut clients: Vec<Client<N>>,
-    mut readers: Vec<ReaderToken<N>>,
+    clients: &'a mut Vec<Client<N>>,
+    readers: &'a mut Vec<ReaderToken<N>>,
 ) -> Result<Engine<'a, N>, Refusal> {
-    match (clients.pop(), readers.pop()) {
+    match (clients.first_mut(), readers.first_mut()) {
         (Some(client), Some(reader)) => Ok(Engine {
             writer,
             client,
@@ -169,9 +169,9 @@ fn pull<A: EngineName, B: EngineName, R: Wait>(
     to: &mut Engine<A>,
     from: &mut Engine<B>,
 ) -> Result<(), Refusal> {
-    let line = hello(alloc, &mut to.reader)?;
-    let bundle = answer(alloc, &mut from.reader, line.as_slice())?;
-    let received = receive(rt, alloc, &mut to.client, bundle.as_slice());
+    let line = hello(alloc, to.reader)?;
+    let bundle = answer(alloc, from.reader, line.as_slice())?;
+    let received = receive(rt, alloc, to.client, bundle.as_slice());
     match received.stopped {
         Some((_, refusal)) => Err(refusal),
         None => {

@@ -1,7 +1,7 @@
 -- What a client does with the lines that it receives.
 use Rattle.std.specs.Prelude.{ℕ, ◌+◌, ◌≡◌, ◌<◌, ◌≤◌, ◌⊎◌, List, [], ◌∷◌, ◌++◌, length, take, Some, None}
 use Rattle.ids.specs.declared.refusal.Refusal.{Refusal}
-use Rattle.ids.specs.declared.refusal.Refusal.TheVariants.{NoMemory, QueueFull, SerialEnd}
+use Rattle.ids.specs.declared.refusal.Refusal.TheVariants.{Closed, NoMemory, QueueFull, SerialEnd}
 use Rattle.engine.specs.operation.declared.op.Op.{Op}
 use Rattle.engine.specs.operation.declared.submission.Request.TheVariants.{Peer}
 use Rattle.engine.specs.Clients.{Client, with_request}
@@ -17,11 +17,12 @@ abbrev pub all_submitted : Client → List Op → Client
 all_submitted c [] = c
 all_submitted c (op ∷ ops) = all_submitted (submitted c op) ops
 
--- why a client that had found the queue full this often submits no more: its serials are used up; or it has serials, and found the
--- queue full once more
+-- why a client that had found the queue full this often submits no more: its serials are used up; or it has serials, and its engine is
+-- closed, or it found the queue full once more
 abbrev pub IsDenied : (found_full : ℕ) → Client → Refusal → Type 0
 IsDenied n c why =
     ((why ≡ SerialEnd) × (c.serials ≤ length c.kept) × (c.found_full ≡ n))
+    ⊎ ((why ≡ Closed) × (length c.kept < c.serials) × (c.found_full ≡ n))
     ⊎ ((why ≡ QueueFull) × (length c.kept < c.serials) × (c.found_full ≡ one_more n))
 
 -- why the line after n operations isn't submitted by client c: allocation failed; or it is the bad line; or it is an operation

@@ -11,7 +11,7 @@ mod sending;
 
 pub use agreement::tokens_answer_alike;
 pub use receiving::{Received, receive, receive_on};
-pub use sending::{answer, hello};
+pub use sending::{answer, hello, read_hello};
 
 // Handed on from the crates below, for users of this one.
 pub use engine::{

@@ -1,17 +1,19 @@
 //! What an engine sends to a peer: its hello, and answers to the hellos of others.
 
 ghost use Rattle.std.specs.Prelude.{◌≡◌, ◌⊎◌, [], IfOk, IfErr, Ok, Err};
-ghost use Rattle.ids.specs.declared.refusal.Refusal.TheVariants.{NoMemory, NoReading};
+ghost use Rattle.ids.specs.declared.refusal.Refusal.TheVariants.{NoMemory};
 ghost use Rattle.semantics.specs.Entries.{IsEntryHistory, applied, lacked_of};
 ghost use Rattle.semantics.specs.NamedIds.{vector_of};
 ghost use Rattle.semantics.specs.Vectors.{Vector};
 ghost use Rattle.semantics.specs.WorldHistory.{BeginsWith};
 ghost use Rattle.wire.specs.Bundles.{bundle_form, bundle_text};
+ghost use Rattle.wire.specs.Forms.{IsRead};
 ghost use Rattle.wire.specs.Messages.{hello_form};
+ghost use Rattle.engine.specs.published.Tokens.{GivesNoReading};
 ghost use Rattle.peer_sync.specs.Sending.{hello_text, without_end};
 
 use engine::{EngineName, ReaderToken};
-use ids::Refusal;
+use ids::{NamedVector, Refusal};
 use std::alloc::Global;
 use wire::{read_vector, write_bundle, write_vector};
 
@@ -19,7 +21,7 @@ use wire::{read_vector, write_bundle, write_vector};
 /// that vector.
 ///
 /// # Errors
-/// `NoReading` if the copies gave no reading, `NoMemory` if allocation fails. The token may then have seen more than before, never
+/// `NoReading` if the copies gave no reading, `Closed` if the engine is closed, `NoMemory` if allocation fails. The token may then have seen more than before, never
 /// less.
 pub fn hello<N: EngineName>(alloc: Global, token: &mut ReaderToken<N>) -> Result<Vec<u8>, Refusal>
     ensures grows { BeginsWith token.new.seen token.old.seen }
@@ -27,7 +29,7 @@ pub fn hello<N: EngineName>(alloc: Global, token: &mut ReaderToken<N>) -> Result
     ensures line { IfOk result (λ text. text.items ≡ hello_text token.new.seen) }
     ensures reads_back { IfOk result (λ text. hello_form (without_end text.items) ≡ Ok (vector_of (applied token.new.seen))) }
     ensures published { IfOk result (λ _. token.new.read ≡ token.new.seen) }
-    ensures err { IfErr result (λ why. (why ≡ NoMemory) ⊎ (why ≡ NoReading)) }
+    ensures err { IfErr result GivesNoReading }
 {
     let vector = token.vector(alloc)?;
     // What a token has seen is a history of its engine, so all counters fit a line.
@@ -44,7 +46,7 @@ pub fn hello<N: EngineName>(alloc: Global, token: &mut ReaderToken<N>) -> Result
 ///
 /// # Errors
 /// First `BadLine` if the hello is no such line, as `read_vector` has it; the token is as before then. Then `NoReading` if the copies gave
-/// no reading: the token may have seen more, never less. `NoMemory`, at any moment, if allocation fails.
+/// no reading, `Closed` if the engine is closed: the token may have seen more, never less. `NoMemory`, at any moment, if allocation fails.
 pub fn answer<N: EngineName>(
     alloc: Global,
     token: &mut ReaderToken<N>,
@@ -59,18 +61,28 @@ pub fn answer<N: EngineName>(
         (λ text. (v : Vector) → hello_form (without_end hello.now) ≡ Ok v
         → bundle_form [] text.items ≡ Ok (lacked_of token.new.seen v)) }
     ensures published { IfOk result (λ _. token.new.read ≡ token.new.seen) }
-    ensures err { IfErr result (λ why. (why ≡ NoMemory) ⊎ (why ≡ NoReading) ⊎ (hello_form (without_end hello.now) ≡ Err why)) }
+    ensures err { IfErr result (λ why. GivesNoReading why ⊎ (hello_form (without_end hello.now) ≡ Err why)) }
     ensures bad { IfErr (hello_form (without_end hello.now))
         (λ why. ((result ≡ Err why) ⊎ (result ≡ Err NoMemory)) × (token.new ≡ token.old)) }
 {
     // What a token has seen is an entry history, also where the hello is refused.
     prove!(token.seen_len() <= usize::MAX);
-    let vector = read_vector(alloc, without_end(hello))?;
+    let vector = read_hello(alloc, hello)?;
     let ops = token.missing(alloc, &vector)?;
     // It is a history of its engine, so a line can carry each of its operations.
     prove!(token.seen_len() <= usize::MAX);
     let lines = write_bundle(alloc, ops.as_slice())?;
     Ok(lines)
+}
+
+/// The vector of a hello, which is given with its line feed or without it.
+///
+/// # Errors
+/// `BadLine` if it is no such line, as `read_vector` has it; `NoMemory` if allocation fails.
+pub fn read_hello(alloc: Global, hello: &[u8]) -> Result<NamedVector, Refusal>
+    ensures { IsRead (λ v. v) result (hello_form (without_end hello.now)) }
+{
+    read_vector(alloc, without_end(hello))
 }
 
 /// A line without the line feed that may end it.

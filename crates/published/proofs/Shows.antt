@@ -36,7 +36,7 @@ pub no_history : (own : ℕ) (table : List ℕ) → IsHistoryOfEngine own table 
 no_history own table = record { legal = tt; known = tt; few = omega arith }
 
 -- a beginning of a history of the engine is one
-engine_begun : (own : ℕ) (table : List ℕ) (G F : List TheEntry) → BeginsWith G F → IsHistoryOfEngine own table G
+pub engine_begun : (own : ℕ) (table : List ℕ) (G F : List TheEntry) → BeginsWith G F → IsHistoryOfEngine own table G
     → IsHistoryOfEngine own table F
 engine_begun own table G F b h = record {
   legal = history_begun own G F b h.legal;

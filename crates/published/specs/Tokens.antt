@@ -1,5 +1,7 @@
 -- What contracts see of a token. Both histories have the newest entry first.
-use Rattle.std.specs.Prelude.{ℕ, Option, Some, None, List, []}
+use Rattle.std.specs.Prelude.{ℕ, ◌≡◌, ◌⊎◌, Option, Some, None, List, []}
+use Rattle.ids.specs.declared.refusal.Refusal.{Refusal}
+use Rattle.ids.specs.declared.refusal.Refusal.TheVariants.{Closed, NoMemory, NoReading}
 use Rattle.left_right.specs.Sides.{view}
 use Rattle.left_right.specs.declared.reader.Reader.{Reader}
 use Rattle.semantics.specs.Entries.{Entry as TheEntry}
@@ -11,6 +13,10 @@ pub record TokenState : Type 0 where
   pub seen : List TheEntry
   pub read : List TheEntry
   pub reads : ℕ
+
+-- why a token gives no reading, whatever it is asked: an allocation failed, the copies gave none, or the engine is closed
+abbrev pub GivesNoReading : Refusal → Type 0
+GivesNoReading why = (why ≡ NoMemory) ⊎ (why ≡ NoReading) ⊎ (why ≡ Closed)
 
 module _ {T P A : Type 0} where
   -- what a reader read last; nothing, where there is no reader

@@ -4,8 +4,8 @@ ghost use Rattle.std.specs.Prelude.{◌≡◌, ◌+◌, ◌==◌, ◌<◌, ◌�
 ghost use mathlib.Core.List.{IsPrefix};
 ghost use Rattle.published.specs.Rules.{entries_in, head_of, queue_word_of};
 
-use crate::link::Unnamed;
 use crate::notice::EngineName;
+use crate::queue_name::Unnamed;
 use crate::written::Written;
 use document::Entry;
 use logbook::{Gain, Offer, Plain, Play, Rule, Seen, Start, Word};

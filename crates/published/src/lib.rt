@@ -11,18 +11,19 @@
 
 mod book;
 mod copy;
-mod link;
+mod end;
 mod notice;
 mod publisher;
 mod publishes;
+mod queue_name;
 mod seen;
 mod token;
 mod written;
 
 pub use book::Opened;
-pub use link::{Link, Unnamed};
 pub use notice::{EngineName, Notice};
 pub use publisher::{Publisher, open};
+pub use queue_name::{QueueName, Unnamed};
 pub use token::ReaderToken;
 // The name in which whoever uses the copies without an engine knows it.
 pub use token::ReaderToken as Seat;

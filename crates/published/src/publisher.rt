@@ -17,8 +17,9 @@ ghost use Rattle.published.specs.Copies.{applied_to, snapshot};
 
 use crate::book::{Law, Opened, Point};
 use crate::copy::{Copy, Pending};
-use crate::link::Unnamed;
+use crate::end::End;
 use crate::notice::{EngineName, Notice};
+use crate::queue_name::Unnamed;
 use crate::seen::View;
 use crate::token::{ReaderToken, Sees, Shown};
 use crate::written::Written;
@@ -38,6 +39,7 @@ pub struct Publisher<N: EngineName> {
     next: Option<Pending>,
     head: Word<Written, u64, Law>,
     all: Point,
+    end: End,
 }
 
 impl<N: EngineName> Model for Publisher<N> {
@@ -83,6 +85,7 @@ pub fn open<N: EngineName>(
     ensures tokens { IfOk result (λ r. (length r.1.items ≡ readers) × All (λ s. s.seen ≡ []) r.1.items) }
     ensures err { IfErr result (λ why. (why ≡ NoMemory) ⊎ (why ≡ NoReaderPlace)) }
 {
+    let end = End::new(alloc)?;
     let (head, all, unnamed) = opened.start::<N>();
     let first = Copy {
         alloc,
@@ -97,13 +100,14 @@ pub fn open<N: EngineName>(
     let Ok(writer) = Writer::new(alloc, first, second, readers) else {
         return Err(Refusal::NoMemory);
     };
-    match tokens::<N>(alloc, &writer, &all, readers) {
+    match tokens::<N>(alloc, &writer, &all, &end, readers) {
         Ok(tokens) => Ok((
             Publisher {
                 writer,
                 next: None,
                 head,
                 all,
+                end,
             },
             tokens,
             unnamed,
@@ -120,6 +124,7 @@ fn tokens<N: EngineName>(
     alloc: Global,
     writer: &Writer<Copy, Pending, View, Shown<N>>,
     all: &Point,
+    end: &End,
     readers: usize,
 ) -> Result<Vec<ReaderToken<N>>, Refusal>
     requires { (all.now.log ≡ []) × (all.now.book ≡ N.book) }
@@ -131,7 +136,7 @@ fn tokens<N: EngineName>(
         let Ok(reader) = writer.factory().reader() else {
             return Err(Refusal::NoReaderPlace);
         };
-        let token = ReaderToken::new(reader, all.again());
+        let token = ReaderToken::new(reader, all.again(), end.again()?);
         tokens.push(token)?;
     }
     Ok(tokens)
@@ -262,17 +267,24 @@ impl<N: EngineName> Publisher<N> {
         show_all::<N>(rt, &mut self.writer)
     }
 
-    /// Ends the copies and returns the published document, with a notice of it. Waits for readers that still read.
+    /// Tells all tokens that the engine is closed. What is published stays readable until `end`.
+    pub fn close(&self) {
+        self.end.close();
+    }
+
+    /// Ends the copies and returns the published document, with a notice of it; tokens are told. Waits for readers that still read.
     /// What is pending is dropped.
     pub fn end(self, rt: &impl Wait) -> (Document, Notice<N>)
         ensures document { (result.0.members ≡ N.table) × (result.0.entries ≡ self.published) }
         ensures notice { result.1 ≡ self.published }
     {
+        self.close();
         let Publisher {
             writer,
             next: _next,
             head: _head,
             all: _all,
+            end: _end,
         } = self;
         let Copy {
             alloc: _,

@@ -1,4 +1,4 @@
-//! Which queue an engine has, as its logbook says: so whatever has a link of one engine is of one queue.
+//! Which queue an engine has, as its logbook says: so whatever has a name of one engine is of one queue.
 
 ghost use Rattle.std.specs.Prelude.{◌≡◌, IfOk};
 ghost use Rattle.atomic_table.specs.Seated.{TableId};
@@ -40,9 +40,9 @@ pub struct Unnamed<N: EngineName> {
     pub ghost book: { seen.book ≡ N.book },
 }
 
-/// What knows the engine's queue, in proofs alone: it has no size.
+/// Which queue the engine has, known in proofs alone: it has no size.
 #[derive(Drop)]
-pub struct Link<N: EngineName> {
+pub struct QueueName<N: EngineName> {
     seen: Seen<Written, u64, Law>,
     of: PhantomData<N>,
     pub ghost book: { seen.book ≡ N.book },
@@ -63,8 +63,8 @@ impl<N: EngineName> Unnamed<N> {
     ///
     /// # Errors
     /// `AllocError` if a queue was named before. That never happens: only this names one, and is gone with it. No contract says so.
-    pub fn name<S, D>(self, seat: &Seat<S, D>) -> Result<Link<N>, AllocError>
-        ensures { IfOk result (λ link. IsQueueOf seat.now.table_id link.seen.log) }
+    pub fn name<S, D>(self, seat: &Seat<S, D>) -> Result<QueueName<N>, AllocError>
+        ensures { IfOk result (λ name. IsQueueOf seat.now.table_id name.seen.log) }
     {
         let Unnamed { word, mut seen, of } = self;
         let mut offer: Offer<Written, u64, Law, Nothing> = seen.plain::<Nothing, Seat<S, D>, Name>(
@@ -75,23 +75,23 @@ impl<N: EngineName> Unnamed<N> {
         if found != 0 {
             return Err(AllocError);
         }
-        Ok(Link { seen, of })
+        Ok(QueueName { seen, of })
     }
 }
 
-impl<N: EngineName> Link<N> {
-    /// The same link again.
-    pub fn again(&self) -> Link<N>
+impl<N: EngineName> QueueName<N> {
+    /// The same name again.
+    pub fn again(&self) -> QueueName<N>
         ensures { result.seen.log ≡ self.now.seen.log }
     {
-        Link {
+        QueueName {
             seen: self.seen.again(),
             of: PhantomData,
         }
     }
 
-    /// Does nothing: its contract says that two links of one engine know one queue.
-    pub fn agree(&self, other: &Link<N>)
+    /// Does nothing: its contract says that two names of one engine are of one queue.
+    pub fn agree(&self, other: &QueueName<N>)
         ensures { (q r : TableId) → IsQueueOf q self.now.seen.log → IsQueueOf r other.now.seen.log → q ≡ r }
     {
         let mut both = self.seen.again();

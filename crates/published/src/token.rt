@@ -3,7 +3,7 @@
 ghost use Rattle.std.specs.Prelude.{◌≡◌, ◌+◌, ◌≤◌, ◌⊎◌, ◌↔◌, length, map, IsTrue, MatchResult, IfOk, IfErr, Ok};
 ghost use Rattle.std.specs.List.{All};
 ghost use Rattle.left_right.specs.Sides.{view as view_at};
-ghost use Rattle.ids.specs.declared.refusal.Refusal.TheVariants.{NoMemory, NoReading};
+ghost use Rattle.ids.specs.declared.refusal.Refusal.TheVariants.{Closed, NoReading};
 ghost use Rattle.ids.specs.Vectors.{IsNamed};
 ghost use Rattle.semantics.specs.Entries.{IsEntryHistory, applied, first_entries, lacked_of};
 ghost use Rattle.semantics.specs.Journals.{entries_from};
@@ -21,9 +21,11 @@ ghost use Rattle.document.specs.oplog.Logs.{history};
 ghost use Rattle.document.specs.Documents.{asked_of, said_by};
 ghost use Rattle.document.specs.tree.Glances.{glance_in};
 ghost use Rattle.published.specs.Beginnings.{IsHistoryOfEngine};
+ghost use Rattle.published.specs.Tokens.{GivesNoReading};
 
 use crate::book::Point;
 use crate::copy::Copy;
+use crate::end::End;
 use crate::notice::{EngineName, Notice};
 use crate::seen::View;
 use crossbeam_utils::rule::{Outcome, Protocol};
@@ -65,6 +67,7 @@ impl<N: EngineName> Outcome<Copy, View> for Sees<N> {
 pub struct ReaderToken<N: EngineName> {
     reader: Option<Reader<Copy, View, Shown<N>>>,
     seen: Point,
+    end: End,
 }
 
 impl<N: EngineName> Model for ReaderToken<N> {
@@ -89,7 +92,7 @@ impl<N: EngineName> Model for ReaderToken<N> {
 }
 
 impl<N: EngineName> ReaderToken<N> {
-    pub(crate) fn new(reader: Reader<Copy, View, Shown<N>>, seen: Point) -> ReaderToken<N>
+    pub(crate) fn new(reader: Reader<Copy, View, Shown<N>>, seen: Point, end: End) -> ReaderToken<N>
         requires book { seen.book ≡ N.book }
         requires legal { IsHistoryOfEngine N.own N.table (history seen.log) }
         ensures { result.seen ≡ history seen.log }
@@ -97,7 +100,13 @@ impl<N: EngineName> ReaderToken<N> {
         ReaderToken {
             reader: Some(reader),
             seen,
+            end,
         }
+    }
+
+    /// Whether the engine is closed: no reading comes any more, and no answer. Never waits.
+    pub fn is_closed(&self) -> bool {
+        self.end.is_closed()
     }
 
     /// How many entries it has seen.
@@ -136,8 +145,8 @@ impl<N: EngineName> ReaderToken<N> {
     /// Enters the copy that is published at this step, which the token has then seen. Whoever entered leaves again.
     ///
     /// # Errors
-    /// `NoReading` if the copies gave no reading that begins with all that the token has seen. The token may have seen more then, never
-    /// less.
+    /// `Closed` if the copies gave no reading that begins with all that the token has seen and the engine is closed, `NoReading` if it isn't.
+    /// The token may have seen more then, never less.
     // Inlined, since a reading is large and would go through memory.
     #[inline(always)]
     fn enter(&mut self) -> Result<Reading<Copy, View, Shown<N>>, Refusal>
@@ -147,24 +156,24 @@ impl<N: EngineName> ReaderToken<N> {
         ensures table { IfOk result (λ r. r.part.value.table ≡ N.table) }
         ensures read { IfOk result (λ r. history (view_at r.place).read ≡ self.new.seen) }
         ensures step { IfOk result (λ r. (view_at r.place).reads ≡ self.old.reads + 1) }
-        ensures err { IfErr result (λ why. why ≡ NoReading) }
+        ensures err { IfErr result (λ why. (why ≡ NoReading) ⊎ (why ≡ Closed)) }
     {
         let before = self.seen.len();
         let Some(reader) = self.reader.take() else {
-            return Err(Refusal::NoReading);
+            return Err(self.end.no_reading());
         };
         let reading = match reader.enter_as::<Sees<N>>() {
             Ok(reading) => reading,
             Err(reader) => {
                 self.reader = Some(reader);
-                return Err(Refusal::NoReading);
+                return Err(self.end.no_reading());
             }
         };
         let copy = reading.get();
         self.seen.compare(&copy.point);
         if copy.point.len() < before {
             self.reader = Some(reading.leave());
-            return Err(Refusal::NoReading);
+            return Err(self.end.no_reading());
         }
         self.seen = copy.point.again();
         Ok(reading)
@@ -174,13 +183,13 @@ impl<N: EngineName> ReaderToken<N> {
     /// each replica of which something was applied.
     ///
     /// # Errors
-    /// `NoReading` as in `ask`, `NoMemory` if allocation fails. The token may have seen more then, never less.
+    /// `NoReading` and `Closed` as in `ask`, `NoMemory` if allocation fails. The token may have seen more then, never less.
     pub fn vector(&mut self, alloc: Global) -> Result<NamedVector, Refusal>
         ensures grows { BeginsWith self.new.seen self.old.seen }
         ensures legal { IsEntryHistory N.own self.new.seen }
         ensures vector { IfOk result (λ v. v ≡ vector_of (applied self.new.seen)) }
         ensures published { IfOk result (λ _. self.new.read ≡ self.new.seen) }
-        ensures err { IfErr result (λ why. (why ≡ NoMemory) ⊎ (why ≡ NoReading)) }
+        ensures err { IfErr result (λ why. GivesNoReading why) }
     {
         let reading = self.enter()?;
         let vector = NamedVector::of(alloc, reading.get().document.applied().ids());
@@ -203,7 +212,7 @@ impl<N: EngineName> ReaderToken<N> {
         ensures ops { IfOk result (λ ops. map stamped_of ops.items ≡ lacked_of self.new.seen vector.now) }
         ensures named { IfOk result (λ ops. All (λ o. IsNamed o.deps) ops.items) }
         ensures published { IfOk result (λ _. self.new.read ≡ self.new.seen) }
-        ensures err { IfErr result (λ why. (why ≡ NoMemory) ⊎ (why ≡ NoReading)) }
+        ensures err { IfErr result (λ why. GivesNoReading why) }
     {
         let reading = self.enter()?;
         let ops = reading.get().document.missing(alloc, vector);
@@ -227,7 +236,7 @@ impl<N: EngineName> ReaderToken<N> {
         ensures ops { IfOk result (λ ops. map stamped_of ops.items ≡ lacked_of (first_entries position self.new.seen) vector.now) }
         ensures named { IfOk result (λ ops. All (λ o. IsNamed o.deps) ops.items) }
         ensures published { IfOk result (λ _. self.new.read ≡ self.new.seen) }
-        ensures err { IfErr result (λ why. (why ≡ NoMemory) ⊎ (why ≡ NoReading)) }
+        ensures err { IfErr result (λ why. GivesNoReading why) }
     {
         let reading = self.enter()?;
         let ops = reading
@@ -249,7 +258,7 @@ impl<N: EngineName> ReaderToken<N> {
         ensures legal { IsEntryHistory N.own self.new.seen }
         ensures entries { IfOk result (λ entries. map entry_of entries.items ≡ entries_from position self.new.seen) }
         ensures published { IfOk result (λ _. self.new.read ≡ self.new.seen) }
-        ensures err { IfErr result (λ why. (why ≡ NoMemory) ⊎ (why ≡ NoReading)) }
+        ensures err { IfErr result (λ why. GivesNoReading why) }
     {
         let reading = self.enter()?;
         let entries = reading.get().document.entries_from(alloc, position);
@@ -276,13 +285,13 @@ impl<N: EngineName> ReaderToken<N> {
             (λ g. (e : Element) × (resolve (lists_of (doc (applied self.new.seen))) expression.now ≡ Ok (At e))
             × (glance_in g ≡ glance_of (shown_by (doc (applied self.new.seen))) depth elements e)) }
         ensures err { IfErr result
-            (λ why. (why ≡ NoMemory) ⊎ (why ≡ NoReading)
+            (λ why. GivesNoReading why
             ⊎ ((f : Element → TheAnswer)
             → answer_at f (resolve (lists_of (doc (applied self.new.seen))) expression.now) ≡ Refused why)) }
         ensures published { MatchResult result (λ _. self.new.read ≡ self.new.seen)
-            (λ why. (why ≡ NoMemory) ⊎ (why ≡ NoReading) ⊎ (self.new.read ≡ self.new.seen)) }
+            (λ why. GivesNoReading why ⊎ (self.new.read ≡ self.new.seen)) }
         ensures step { MatchResult result (λ _. self.new.reads ≡ self.old.reads + 1)
-            (λ why. (why ≡ NoMemory) ⊎ (why ≡ NoReading) ⊎ (self.new.reads ≡ self.old.reads + 1)) }
+            (λ why. GivesNoReading why ⊎ (self.new.reads ≡ self.old.reads + 1)) }
     {
         let reading = self.enter()?;
         let glance = reading
@@ -300,8 +309,8 @@ impl<N: EngineName> ReaderToken<N> {
     ///
     /// # Errors
     /// `AtHead` for a step from a head, or where the expression ends at one; `PastEnd`; `TooDeep`: these are answers at that step too.
-    /// `NoMemory` if allocation fails. `NoReading` if the copies gave no reading that begins with all that the token has seen, which is
-    /// always so once the engine is closed. After the last two the token may have seen more, never less.
+    /// `NoMemory` if allocation fails. `Closed` if the engine is closed, `NoReading` if the copies gave no reading that begins with all that
+    /// the token has seen. After the last three the token may have seen more, never less.
     pub fn ask(&mut self, alloc: Global, question: &Question) -> Result<Answer, Refusal>
         ensures grows { BeginsWith self.new.seen self.old.seen }
         ensures legal { IsEntryHistory N.own self.new.seen }
@@ -310,15 +319,15 @@ impl<N: EngineName> ReaderToken<N> {
             (λ r. (q : TheQuestion) → asked_of question.now ≡ OfDocument q
             → said_by r ≡ Answered (view (applied self.new.seen) q)) }
         ensures err { IfErr result
-            (λ why. (why ≡ NoMemory) ⊎ (why ≡ NoReading)
+            (λ why. GivesNoReading why
             ⊎ (reading_of self.new.seen (asked_of question.now) ≡ Answered (Refused why))) }
         ensures view_refuses { IfErr result
-            (λ why. (why ≡ NoMemory) ⊎ (why ≡ NoReading)
+            (λ why. GivesNoReading why
             ⊎ ((q : TheQuestion) → asked_of question.now ≡ OfDocument q → view (applied self.new.seen) q ≡ Refused why)) }
         ensures published { MatchResult result (λ _. self.new.read ≡ self.new.seen)
-            (λ why. (why ≡ NoMemory) ⊎ (why ≡ NoReading) ⊎ (self.new.read ≡ self.new.seen)) }
+            (λ why. GivesNoReading why ⊎ (self.new.read ≡ self.new.seen)) }
         ensures step { MatchResult result (λ _. self.new.reads ≡ self.old.reads + 1)
-            (λ why. (why ≡ NoMemory) ⊎ (why ≡ NoReading) ⊎ (self.new.reads ≡ self.old.reads + 1)) }
+            (λ why. GivesNoReading why ⊎ (self.new.reads ≡ self.old.reads + 1)) }
     {
         let reading = self.enter()?;
         let answer = reading.get().document.ask(alloc, question);

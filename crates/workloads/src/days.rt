@@ -77,9 +77,14 @@ fn open_and_play<N: EngineName, R: Wait>(
     requires own { parts.config.own ≡ N.own }
     requires table { in_order parts.config.members ≡ N.table }
 {
-    let (mut writer, clients, readers) = open::<N>(rt, alloc, parts)?;
-    let lines = play_with(rt, alloc, hands, day, &mut writer, clients, readers);
-    let closed = close(rt, writer, Vec::new(alloc));
+    let (mut writer, mut clients, mut readers) = open::<N>(rt, alloc, parts)?;
+    let lines = match (clients.first_mut(), readers.first_mut()) {
+        (Some(client), Some(reader)) => {
+            play_with(rt, alloc, hands, day, &mut writer, client, reader)
+        }
+        _ => Err(Refusal::NoReaderPlace),
+    };
+    let closed = close(rt, writer, clients);
     hands.digest.number(closed.history.len() as u64);
     hands.digest.number(closed.left);
     lines
@@ -91,21 +96,16 @@ fn play_with<N: EngineName, R: Wait>(
     hands: &mut Hands,
     day: &Day,
     writer: &mut Writer<N>,
-    mut clients: Vec<Client<N>>,
-    mut readers: Vec<ReaderToken<N>>,
+    client: &mut Client<N>,
+    reader: &mut ReaderToken<N>,
 ) -> Result<Vec<u8>, Refusal> {
-    match (clients.pop(), readers.pop()) {
-        (Some(mut client), Some(mut reader)) => {
-            let mut stage = Stage {
-                writer,
-                client: &mut client,
-                reader: &mut reader,
-                batch: day.batch as usize,
-            };
-            play_on(rt, alloc, &mut stage, hands, day)
-        }
-        _ => Err(Refusal::NoReaderPlace),
-    }
+    let mut stage = Stage {
+        writer,
+        client,
+        reader,
+        batch: day.batch as usize,
+    };
+    play_on(rt, alloc, &mut stage, hands, day)
 }
 
 fn play_on<N: EngineName, R: Wait>(

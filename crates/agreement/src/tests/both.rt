@@ -77,7 +77,7 @@ fn play_in<N: EngineName, R: Wait + Abort>(
         }
         None => Err("no reader".into()),
     };
-    let _final = close(rt, writer, Vec::new(alloc));
+    let _final = close(rt, writer, clients);
     same
 }
 

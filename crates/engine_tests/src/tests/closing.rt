@@ -4,7 +4,8 @@ ghost use Rattle.std.specs.Prelude.{◌≡◌};
 ghost use Rattle.ids.specs.Members.{in_order};
 
 use super::*;
-use operation::{Command, Entry};
+use document::Question;
+use operation::{Command, Entry, Reply};
 use std::marker::Brand;
 use std::process::Abort;
 use std::sync::Wait;
@@ -36,6 +37,78 @@ fn one_left<N: EngineName, R: Wait + Abort>(rt: &R, alloc: Global, parts: Parts)
     assert!(rt; one.is_ok() && two.is_ok());
     assert_eq!(rt; step, Step::Published(1));
     assert_one_left(rt, &last);
+    Ok(())
+}
+
+/// Who keeps a client or a reader is told that the engine is closed, and gets the answers that came before.
+#[test]
+fn a_closed_engine_refuses_what_is_left(rt: HostRuntime) -> Result<(), Fail> {
+    let alloc = rt.alloc();
+    let parts = prepare(alloc, config(alloc, 4, 4)?)?;
+    keep_two::<Brand, _>(&rt, alloc, parts)
+}
+
+/// Keeps a client and the reader when the engine closes.
+fn keep_two<N: EngineName, R: Wait + Abort>(rt: &R, alloc: Global, parts: Parts) -> Result<(), Fail>
+    requires book { parts.opened.seen.book ≡ N.book }
+    requires own { parts.config.own ≡ N.own }
+    requires table { in_order parts.config.members ≡ N.table }
+{
+    let (mut writer, mut clients, mut readers) = open::<N>(rt, alloc, parts)?;
+    let mut kept = clients.pop();
+    let tickets = match &mut kept {
+        Some(client) => answer_one(rt, alloc, &mut writer, client),
+        None => Err("no client".into()),
+    };
+    let last = close(rt, writer, clients);
+    assert_eq!(rt; last.left, 1);
+    let (answered, unanswered) = tickets?;
+    let mut client = kept.ok_or("a client")?;
+    assert_answers(rt, &mut client, &answered, &unanswered);
+    assert_closed(rt, alloc, &mut client)?;
+    let mut reader = readers.pop().ok_or("a reader")?;
+    let question = Question::Vector;
+    assert!(rt; matches!(reader.ask(alloc, &question), Err(Refusal::Closed)));
+    Ok(())
+}
+
+/// Has a client submit twice, and the writer answer the first alone.
+fn answer_one<N: EngineName, R: Wait + Abort>(
+    rt: &R,
+    alloc: Global,
+    writer: &mut Writer<N>,
+    client: &mut Client<N>,
+) -> Result<(Ticket, Ticket), Fail> {
+    let answered = client.submit(rt, alloc, assign(alloc, 1)?)?;
+    assert_eq!(rt; writer.step(rt, alloc), Step::Published(1));
+    let unanswered = client.submit(rt, alloc, assign(alloc, 2)?)?;
+    Ok((answered, unanswered))
+}
+
+/// Asserts that an answer is still there, and that one which isn't there never comes.
+fn assert_answers<N: EngineName, A: Abort>(
+    rt: &A,
+    client: &mut Client<N>,
+    answered: &Ticket,
+    unanswered: &Ticket,
+) {
+    assert!(rt; matches!(client.poll(answered), Ok(Some(Reply::Made(_, 0)))));
+    assert!(rt; matches!(client.notice_of(answered), Ok(Some(_))));
+    assert_eq!(rt; client.poll(unanswered), Err(Refusal::Closed));
+    assert!(rt; matches!(client.notice_of(unanswered), Err(Refusal::Closed)));
+}
+
+/// Asserts that a client can neither submit nor ask.
+fn assert_closed<N: EngineName, R: Wait + Abort>(
+    rt: &R,
+    alloc: Global,
+    client: &mut Client<N>,
+) -> Result<(), Fail> {
+    let submitted = client.submit(rt, alloc, assign(alloc, 3)?);
+    assert_eq!(rt; submitted, Err(Refusal::Closed));
+    assert!(rt; client.ticket_of(3).is_err());
+    let question = Question::Vector;
+    assert!(rt; matches!(client.ask(alloc, &question), Err(Refusal::Closed)));
     Ok(())
 }
 

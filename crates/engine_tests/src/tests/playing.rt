@@ -90,7 +90,7 @@ fn on_parts<N: EngineName, R: Wait + Abort>(
 {
     let (mut writer, mut clients, mut readers) = open::<N>(rt, alloc, parts)?;
     let result = with_reader(rt, alloc, &mut writer, &mut clients, &mut readers, turns);
-    let _final = close(rt, writer, Vec::new(alloc));
+    let _final = close(rt, writer, clients);
     result
 }
 

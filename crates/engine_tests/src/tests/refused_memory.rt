@@ -66,7 +66,7 @@ fn opened<N: EngineName, R: Wait + Abort>(rt: &R, alloc: Global, parts: Parts) -
         return Ok(false);
     };
     let played = with_ends(rt, alloc, &mut writer, &mut clients, &mut readers);
-    let Final { history, left } = close(rt, writer, Vec::new(alloc));
+    let Final { history, left } = close(rt, writer, clients);
     played?;
     assert_eq!(rt; history.len(), 6);
     assert_eq!(rt; left, 0);
@@ -80,13 +80,13 @@ fn with_ends<N: EngineName, R: Wait + Abort>(
     clients: &mut Vec<Client<N>>,
     readers: &mut Vec<ReaderToken<N>>,
 ) -> Result<(), Fail> {
-    let mut client = clients.pop().ok_or("a client")?;
-    let mut reader = readers.pop().ok_or("a reader")?;
-    write_four(rt, alloc, writer, &mut client)?;
+    let client = clients.first_mut().ok_or("a client")?;
+    let reader = readers.first_mut().ok_or("a reader")?;
+    write_four(rt, alloc, writer, client)?;
     reader.learn(&writer.notice());
     assert_eq!(rt; reader.seen_len(), 4);
-    assert!(rt; has_four(alloc, &mut reader)?);
-    deliver_two(rt, alloc, writer, &mut client)?;
+    assert!(rt; has_four(alloc, reader)?);
+    deliver_two(rt, alloc, writer, client)?;
     reader.learn(&writer.notice());
     assert_eq!(rt; reader.seen_len(), 6);
     Ok(())

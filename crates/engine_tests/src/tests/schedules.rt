@@ -76,17 +76,11 @@ fn publishes_meanwhile<N: EngineName + Send + Sync, R: Threads + Wait + Abort + 
     requires table { in_order parts.config.members ≡ N.table }
 {
     let (mut writer, mut clients, mut readers) = open::<N>(rt, alloc, parts)?;
-    let result = match (clients.pop(), readers.pop()) {
-        (Some(mut client), Some(mut reader)) => publish_while_read(
-            rt,
-            alloc,
-            &mut writer,
-            &mut client,
-            &mut reader,
-        ),
+    let result = match (clients.first_mut(), readers.first_mut()) {
+        (Some(client), Some(reader)) => publish_while_read(rt, alloc, &mut writer, client, reader),
         _ => Err("no client".into()),
     };
-    let _final = close(rt, writer, Vec::new(alloc));
+    let _final = close(rt, writer, clients);
     result
 }
 
@@ -216,7 +210,7 @@ fn crowd<N: EngineName + Send + Sync, R: Threads + Wait + Abort + Sync>(
 {
     let (mut writer, mut clients, mut readers) = open::<N>(rt, alloc, parts)?;
     let result = write_and_learn(rt, alloc, &mut writer, &mut clients, &mut readers);
-    let last = close(rt, writer, Vec::new(alloc));
+    let last = close(rt, writer, clients);
     result?;
     assert_whole(rt, &last);
     Ok(())

@@ -33,8 +33,14 @@ fn in_threads<N: EngineName + Send + Sync, R: Threads + Wait + Abort + Sync>(
     requires table { in_order parts.config.members ≡ N.table }
 {
     let (mut writer, mut clients, mut readers) = open::<N>(rt, alloc, parts)?;
-    let result = together(rt, alloc, &mut writer, &mut clients, &mut readers);
-    let Final { history, left } = close(rt, writer, Vec::new(alloc));
+    let result = together(
+        rt,
+        alloc,
+        &mut writer,
+        clients.as_mut_slice(),
+        readers.as_mut_slice(),
+    );
+    let Final { history, left } = close(rt, writer, clients);
     result?;
     assert_eq!(rt; history.len() as u64, 2 * EACH);
     assert_eq!(rt; left, 0);
@@ -46,13 +52,13 @@ fn together<N: EngineName + Send + Sync, R: Threads + Wait + Abort + Sync>(
     rt: &R,
     alloc: Global,
     writer: &mut Writer<N>,
-    clients: &mut Vec<Client<N>>,
-    readers: &mut Vec<ReaderToken<N>>,
+    clients: &mut [Client<N>],
+    readers: &mut [ReaderToken<N>],
 ) -> Result<(), Fail> {
-    let mut reader = readers.pop().ok_or("a reader")?;
-    let mut second = clients.pop().ok_or("a second client")?;
-    let mut first = clients.pop().ok_or("a client")?;
-    let ((_, grows), (one, two)) = run(rt, alloc, writer, &mut reader, &mut first, &mut second);
+    let reader = readers.first_mut().ok_or("a reader")?;
+    let (first, rest) = clients.split_first_mut().ok_or("a client")?;
+    let second = rest.first_mut().ok_or("a second client")?;
+    let ((_, grows), (one, two)) = run(rt, alloc, writer, reader, first, second);
     assert!(rt; one && two);
     assert!(rt; grows);
     assert_eq!(rt; reader.seen_len() as u64, 2 * EACH);

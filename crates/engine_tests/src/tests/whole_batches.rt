@@ -52,17 +52,11 @@ fn in_batches<N: EngineName + Send + Sync, R: Threads + Wait + Abort + Sync>(
     requires table { in_order parts.config.members ≡ N.table }
 {
     let (mut writer, mut clients, mut readers) = open::<N>(rt, alloc, parts)?;
-    let result = match (clients.pop(), readers.pop()) {
-        (Some(mut client), Some(mut reader)) => step_while_read(
-            rt,
-            alloc,
-            &mut writer,
-            &mut client,
-            &mut reader,
-        ),
+    let result = match (clients.first_mut(), readers.first_mut()) {
+        (Some(client), Some(reader)) => step_while_read(rt, alloc, &mut writer, client, reader),
         _ => Err("no client".into()),
     };
-    let _final = close(rt, writer, Vec::new(alloc));
+    let _final = close(rt, writer, clients);
     result
 }
 

@@ -56,7 +56,7 @@ fn open_engine<N: EngineName, R: Wait + Abort>(
         (Some(client), Some(reader)) => on_stage(rt, alloc, &mut writer, client, reader, rows),
         _ => Err("no client".into()),
     };
-    let _final = close(rt, writer, Vec::new(alloc));
+    let _final = close(rt, writer, clients);
     result
 }
 

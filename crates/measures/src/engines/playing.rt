@@ -50,18 +50,18 @@ fn open_one<A: EngineName + Send + Sync, R: Threads + Wait + Clock + Sync>(
     requires table { in_order one.config.members ≡ A.table }
 {
     let (mut writer, mut clients, mut readers) = open::<A>(rt, alloc, one)?;
-    let figures = match (clients.pop(), readers.pop()) {
-        (Some(mut client), Some(mut reader)) => {
+    let figures = match (clients.first_mut(), readers.first_mut()) {
+        (Some(client), Some(reader)) => {
             let mut one = Stage {
                 writer: &mut writer,
-                client: &mut client,
-                reader: &mut reader,
+                client,
+                reader,
             };
             open_two::<Brand, A, R>(rt, alloc, &mut one, two)
         }
         _ => Err(Refusal::NoReaderPlace),
     };
-    let _left = close(rt, writer, Vec::new(alloc));
+    let _left = close(rt, writer, clients);
     figures
 }
 
@@ -76,18 +76,18 @@ fn open_two<B: EngineName, A: EngineName + Send + Sync, R: Threads + Wait + Cloc
     requires table { in_order two.config.members ≡ B.table }
 {
     let (mut writer, mut clients, mut readers) = open::<B>(rt, alloc, two)?;
-    let figures = match (clients.pop(), readers.pop()) {
-        (Some(mut client), Some(mut reader)) => {
+    let figures = match (clients.first_mut(), readers.first_mut()) {
+        (Some(client), Some(reader)) => {
             let mut two = Stage {
                 writer: &mut writer,
-                client: &mut client,
-                reader: &mut reader,
+                client,
+                reader,
             };
             play_all(rt, alloc, one, &mut two)
         }
         _ => Err(Refusal::NoReaderPlace),
     };
-    let _left = close(rt, writer, Vec::new(alloc));
+    let _left = close(rt, writer, clients);
     figures
 }
 

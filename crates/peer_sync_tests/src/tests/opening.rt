@@ -130,7 +130,7 @@ fn open_first<N: EngineName, R: Wait + Abort>(
         ),
         _ => Err("no client".into()),
     };
-    let _final = close(rt, writer, Vec::new(alloc));
+    let _final = close(rt, writer, clients);
     result
 }
 
@@ -189,7 +189,7 @@ fn open_second<N: EngineName, M: EngineName, R: Wait + Abort>(
         ),
         _ => Err("no client".into()),
     };
-    let _final = close(rt, writer, Vec::new(alloc));
+    let _final = close(rt, writer, clients);
     result
 }
 

@@ -128,7 +128,7 @@ fn with_one<N: EngineName, R: Wait + Abort>(
         (Some(client), Some(reader)) => on_one(rt, alloc, refused, &mut writer, client, reader),
         _ => Err("no client".into()),
     };
-    let last = close(rt, writer, Vec::new(alloc));
+    let last = close(rt, writer, clients);
     has_seven(rt, played, &last)
 }
 
@@ -200,7 +200,7 @@ fn with_two<N: EngineName, M: EngineName, R: Wait + Abort>(
         ),
         _ => Err("no client".into()),
     };
-    let last = close(rt, writer, Vec::new(alloc));
+    let last = close(rt, writer, clients);
     has_seven(rt, played, &last)
 }
 

@@ -61,11 +61,11 @@ fn row_in<N: EngineName, R: Wait + Abort>(
     requires table { in_order parts.config.members ≡ N.table }
 {
     let (writer, mut clients, _readers) = open::<N>(rt, alloc, parts)?;
-    let ended = match clients.pop() {
-        Some(mut client) => work(rt, alloc, gate, &mut client),
+    let ended = match clients.first_mut() {
+        Some(client) => work(rt, alloc, gate, client),
         None => Err("no client".into()),
     };
-    let Final { left, .. } = close(rt, writer, Vec::new(alloc));
+    let Final { left, .. } = close(rt, writer, clients);
     Ok((ended?, left))
 }
 

@@ -16,8 +16,8 @@ use Rattle.engine.proofs.Gathering.{gathering_none, gathering_more, gathered_see
 use Rattle.engine.proofs.closing.close.Goals as goal
 
 pub end-requires : goal.end-requires
-end-requires g c = subst (λ (q : TableId). IsQueueOf q c.writer.inside.link.seen.log)
-    (sym c.loop-client.invariant.4) c.writer.invariant.linked
+end-requires g c = subst (λ (q : TableId). IsQueueOf q c.writer.inside.queue_name.seen.log)
+    (sym c.loop-client.invariant.4) c.writer.invariant.named
 
 pub loop-client-init : goal.loop-client-init
 loop-client-init g c = (

@@ -15,7 +15,7 @@ invariant-loop-number g l = record {
   found_empty : l.taker.found_empty ≡ 0;
   capacity : ruled_capacity (arc_value l.taker.queue) ≡ l.fn.config.queue;
   are : AreNumbered 0 l.clients.items;
-  linked : IsQueueOf l.taker.pass.table_id l.link.seen.log;
+  named : IsQueueOf l.taker.pass.table_id l.queue_name.seen.log;
   count : length l.clients.items ≡ l.number;
   new : All (IsNewClient l.fn.config) l.clients.items;
   tokens : length l.tokens.items + l.number ≡ l.fn.config.clients + l.fn.config.readers;

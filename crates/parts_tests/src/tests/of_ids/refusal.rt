@@ -34,6 +34,7 @@ const ROWS: &[Row] = &[
     (Refusal::NoReaderPlace, 23, "E23"),
     (Refusal::BadConfig, 24, "E24"),
     (Refusal::NoReading, 25, "E25"),
+    (Refusal::Closed, 26, "E26"),
 ];
 
 fn assert_printed(rt: &impl Abort, alloc: Global, row: &Row) -> Result<(), Fail> {

@@ -36,5 +36,5 @@ invariant_of-self-in-Ok-send g c =
       c.in-Ok-send.ensures.same.1 ∙ c.self.invariant.0,
       more.0,
       more.1,
-      subst (λ (q : TableId). IsQueueOf q c.self.inside.link.seen.log) (sym c.in-Ok-send.ensures.same.0) c.self.invariant.3,
+      subst (λ (q : TableId). IsQueueOf q c.self.inside.queue_name.seen.log) (sym c.in-Ok-send.ensures.same.0) c.self.invariant.3,
     )

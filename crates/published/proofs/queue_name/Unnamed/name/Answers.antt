@@ -1,7 +1,7 @@
 -- The exchange names the queue.
 use Rattle.std.proofs.Common.{◌≡◌, sym, ◌∙◌, ap}
 use Rattle.published.proofs.Adding.{names_moves}
-use Rattle.published.proofs.link.Unnamed.name.Goals as goal
+use Rattle.published.proofs.queue_name.Unnamed.name.Goals as goal
 
 pub compare_exchange-found-requires : goal.compare_exchange-found-requires
 compare_exchange-found-requires g c =

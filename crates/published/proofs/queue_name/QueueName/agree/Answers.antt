@@ -2,7 +2,7 @@ use Rattle.std.proofs.Common.{ap, sym, subst, List}
 use Rattle.published.specs.declared.written.Written.{Written}
 use Rattle.published.specs.Rules.{IsQueueOf}
 use Rattle.published.proofs.Prefixes.{one_queue, queue_stays}
-use Rattle.published.proofs.link.Link.agree.Goals as goal
+use Rattle.published.proofs.queue_name.QueueName.agree.Goals as goal
 
 pub returns : goal.returns
 returns g c q r this other =
