@@ -108,7 +108,8 @@ impl<N: EngineName> Client<N> {
     ///
     /// # Errors
     /// `SerialEnd` if all serials are used, else `Closed` if the engine is closed, else `NoMemory` if allocation fails, else `QueueFull` if
-    /// the queue was full at one moment of the call, which `found_full` counts. A refused call takes no serial; the command is gone with it.
+    /// the queue was full at one moment of the call, which `found_full` counts. A refused call takes no serial; the command is gone with
+    /// it.
     pub fn submit(
         &mut self,
         rt: &impl Wait,

@@ -30,7 +30,8 @@ pub struct Written {
 /// proportion to how many they are; says the same for the same position, but that more may follow.
 ///
 /// # Errors
-/// `NoReading` if the copies gave no reading, `Closed` if the engine is closed, `NoMemory` if allocation fails. The token may then have seen more than before, never less.
+/// `NoReading` if the copies gave no reading, `Closed` if the engine is closed, `NoMemory` if allocation fails. The token may then have
+/// seen more than before, never less.
 pub fn write_from<N: EngineName>(
     alloc: Global,
     token: &mut ReaderToken<N>,

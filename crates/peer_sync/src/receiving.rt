@@ -63,8 +63,8 @@ pub fn receive<N: EngineName>(
 ///
 /// The result's stop is a fault of the line itself: `BadLine`, also for bytes after the last line feed, `TooDeep`, `KeyTooLong`,
 /// `TextTooLong` or `NotWhole`; such a line is refused each time. Or it is a refusal of `Client::deliver`: `QueueFull`, for which the
-/// queue was full at one moment of this call, `SerialEnd` or `Closed`; or `NoMemory` if allocation fails. Reads each line whole before it is
-/// judged: bound its length. The reply alone says what becomes of each operation.
+/// queue was full at one moment of this call, `SerialEnd` or `Closed`; or `NoMemory` if allocation fails. Reads each line whole before it
+/// is judged: bound its length. The reply alone says what becomes of each operation.
 pub fn receive_on<N: EngineName>(
     rt: &impl Wait,
     alloc: Global,

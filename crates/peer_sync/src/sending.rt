@@ -21,8 +21,8 @@ use wire::{read_vector, write_bundle, write_vector};
 /// that vector.
 ///
 /// # Errors
-/// `NoReading` if the copies gave no reading, `Closed` if the engine is closed, `NoMemory` if allocation fails. The token may then have seen more than before, never
-/// less.
+/// `NoReading` if the copies gave no reading, `Closed` if the engine is closed, `NoMemory` if allocation fails. The token may then have
+/// seen more than before, never less.
 pub fn hello<N: EngineName>(alloc: Global, token: &mut ReaderToken<N>) -> Result<Vec<u8>, Refusal>
     ensures grows { BeginsWith token.new.seen token.old.seen }
     ensures legal { IsEntryHistory N.own token.new.seen }

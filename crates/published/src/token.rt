@@ -145,8 +145,8 @@ impl<N: EngineName> ReaderToken<N> {
     /// Enters the copy that is published at this step, which the token has then seen. Whoever entered leaves again.
     ///
     /// # Errors
-    /// `Closed` if the copies gave no reading that begins with all that the token has seen and the engine is closed, `NoReading` if it isn't.
-    /// The token may have seen more then, never less.
+    /// If the copies gave no reading that begins with all that the token has seen: `Closed` if the engine is closed, else `NoReading`. The
+    /// token may have seen more then, never less.
     // Inlined, since a reading is large and would go through memory.
     #[inline(always)]
     fn enter(&mut self) -> Result<Reading<Copy, View, Shown<N>>, Refusal>
@@ -309,8 +309,8 @@ impl<N: EngineName> ReaderToken<N> {
     ///
     /// # Errors
     /// `AtHead` for a step from a head, or where the expression ends at one; `PastEnd`; `TooDeep`: these are answers at that step too.
-    /// `NoMemory` if allocation fails. `Closed` if the engine is closed, `NoReading` if the copies gave no reading that begins with all that
-    /// the token has seen. After the last three the token may have seen more, never less.
+    /// `NoMemory` if allocation fails. If the copies gave no reading that begins with all that the token has seen: `Closed` if the engine is
+    /// closed, else `NoReading`. After the last three the token may have seen more, never less.
     pub fn ask(&mut self, alloc: Global, question: &Question) -> Result<Answer, Refusal>
         ensures grows { BeginsWith self.new.seen self.old.seen }
         ensures legal { IsEntryHistory N.own self.new.seen }
