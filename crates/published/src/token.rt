@@ -309,8 +309,8 @@ impl<N: EngineName> ReaderToken<N> {
     ///
     /// # Errors
     /// `AtHead` for a step from a head, or where the expression ends at one; `PastEnd`; `TooDeep`: these are answers at that step too.
-    /// `NoMemory` if allocation fails. If the copies gave no reading that begins with all that the token has seen: `Closed` if the engine is
-    /// closed, else `NoReading`. After the last three the token may have seen more, never less.
+    /// `NoMemory` if allocation fails. If the copies gave no reading that begins with all that the token has seen: `Closed` if the engine
+    /// is closed, else `NoReading`. After the last three the token may have seen more, never less.
     pub fn ask(&mut self, alloc: Global, question: &Question) -> Result<Answer, Refusal>
         ensures grows { BeginsWith self.new.seen self.old.seen }
         ensures legal { IsEntryHistory N.own self.new.seen }
