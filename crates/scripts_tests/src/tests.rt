@@ -5,6 +5,7 @@ mod bad_scripts;
 mod bad_steps;
 mod configurations;
 mod engines;
+mod glances;
 mod good_scripts;
 mod limits;
 mod playing;

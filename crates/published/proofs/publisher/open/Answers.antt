@@ -5,8 +5,8 @@ use Rattle.published.specs.Copies.{Snapshot}
 use Rattle.published.proofs.Shows.{begins}
 use Rattle.published.proofs.publisher.open.Goals as goal
 
-pub new-requires-clause-rule : goal.new-requires-clause-rule
-new-requires-clause-rule g c =
+pub new-requires-2-clause-rule : goal.new-requires-2-clause-rule
+new-requires-2-clause-rule g c =
     let point : c.again.result ≡ record { log = []; book = c.args.opened.seen.book } = c.again.ensures ∙ c.start-head.ensures.point in
     let first : Snapshot = record {
       table = c.args.first.members;
