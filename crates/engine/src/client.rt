@@ -185,7 +185,7 @@ impl<N: EngineName> Client<N> {
         if used >= self.serials {
             return Err(Refusal::SerialEnd);
         }
-        if self.token.is_closed() {
+        if self.is_closed() {
             return Err(Refusal::Closed);
         }
         Ok(used + 1)
@@ -284,7 +284,7 @@ impl<N: EngineName> Client<N> {
             × IsAnswer N.own N.table self.new.seen (submitted_of x) (reply_of r))) }
     {
         // Looked at first: what isn't answered once the engine is closed never will be.
-        let is_closed = self.token.is_closed();
+        let is_closed = self.is_closed();
         let Some((reply, notice)) = self.look(ticket)? else {
             return if is_closed {
                 Err(Refusal::Closed)
@@ -311,7 +311,7 @@ impl<N: EngineName> Client<N> {
         if !self.is_mine(ticket) {
             return Err(Refusal::Foreign);
         }
-        let is_closed = self.token.is_closed();
+        let is_closed = self.is_closed();
         match self.kept[ticket.serial as usize - 1].notice() {
             None if is_closed => Err(Refusal::Closed),
             notice => Ok(notice),
@@ -364,6 +364,11 @@ impl<N: EngineName> Client<N> {
             && ticket.client == self.number
             && ticket.serial > 0
             && ticket.serial <= self.kept.len() as u64
+    }
+
+    /// Whether the engine is closed: no answer comes any more, and no reading. Never waits.
+    pub fn is_closed(&self) -> bool {
+        self.token.is_closed()
     }
 
     /// The number of the engine's replica.

@@ -1,3 +1,4 @@
 pub mod BroughtBack
 pub mod ReadBack
+pub mod StoredEntries
 pub mod WrongLengths

@@ -30,7 +30,7 @@ loop-number-preserved g c =
       capacity = c.sender.ensures.capacity ∙ before.capacity;
       are = numbered_snoc 0 c.loop-number.number c.loop-number.clients.items c.push_reserved.new.self.items client pushed before.are
           before.count (search rules);
-      named = subst (λ (q : TableId). IsQueueOf q c.in_ok-name_queue.queue_name.seen.log) (sym queue) before.named;
+      named = subst (λ (q : TableId). IsQueueOf q c.in_ok-queue_name.queue_name.seen.log) (sym queue) before.named;
       count = search rules;
       new = subst (λ (cs : List Client). (k : ℕ) → (d : Client) → k < length cs → IsNewClient c.args.config.now (slice_index_or cs k d))
           (sym pushed) (All-push (IsNewClient c.args.config.now) c.loop-number.clients.items client before.new fresh);

@@ -3,8 +3,8 @@ use Rattle.engine.specs.Clients.{Client}
 use Rattle.engine.proofs.Asking.{kept_at, noticed}
 use Rattle.engine.proofs.client.Client.notice_of.Goals as goal
 
-pub returns-clause-notice : goal.returns-clause-notice
-returns-clause-notice g c =
+pub returns-in_default-clause-notice : goal.returns-in_default-clause-notice
+returns-in_default-clause-notice g c =
     let lt : c.args.ticket.now.serial - 1 < length c.self.inside.kept.items = search rules in
     let at : slice_get c.self.inside.kept.items (c.args.ticket.now.serial - 1)
     ≡ Some c.index.result.now = kept_at _ _ _ _ refl lt c.index.ensures in
