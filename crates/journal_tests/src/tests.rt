@@ -5,6 +5,7 @@ mod going_on;
 mod handed_out;
 mod opening;
 mod playing;
+mod stored;
 
 use std::test::Fail;
 

@@ -7,6 +7,7 @@ use super::playing::{Row, Stage, play};
 use super::*;
 use engine::{Client, EngineName, Parts, ReaderToken, Writer, close, open, prepare};
 use ids::{Config, Refusal};
+use journal::Outgoing;
 use std::alloc::Global;
 use std::marker::Brand;
 use std::process::Abort;
@@ -28,13 +29,13 @@ fn live_once<R: Wait + Abort>(rt: &R, alloc: Global, own: u32, rows: &[Row]) -> 
     open_engine::<Brand, R>(rt, alloc, parts, rows)
 }
 
-/// An engine of this number that knows only itself, with one client and one reader.
+/// An engine of this number that knows only itself, with one client and two readers.
 fn config(alloc: Global, own: u32) -> Result<Config, Refusal> {
     Ok(Config {
         own,
         members: vec![in alloc; own]?,
         clients: 1,
-        readers: 1,
+        readers: 2,
         queue: 16,
         batch: 8,
         serials: 4_294_967_295,
@@ -52,8 +53,11 @@ fn open_engine<N: EngineName, R: Wait + Abort>(
     requires table { in_order parts.config.members ≡ N.table }
 {
     let (mut writer, mut clients, mut readers) = open::<N>(rt, alloc, parts)?;
-    let result = match (clients.first_mut(), readers.first_mut()) {
-        (Some(client), Some(reader)) => on_stage(rt, alloc, &mut writer, client, reader, rows),
+    let result = match (clients.first_mut(), readers.pop(), readers.first_mut()) {
+        (Some(client), Some(token), Some(reader)) => {
+            let mut outgoing = Outgoing::new(token, client.replica());
+            on_stage(rt, alloc, &mut writer, client, &mut outgoing, reader, rows)
+        }
         _ => Err("no client".into()),
     };
     let _final = close(rt, writer, clients);
@@ -65,12 +69,14 @@ fn on_stage<N: EngineName, R: Wait + Abort>(
     alloc: Global,
     writer: &mut Writer<N>,
     client: &mut Client<N>,
+    outgoing: &mut Outgoing<N>,
     reader: &mut ReaderToken<N>,
     rows: &[Row],
 ) -> Result<(), Fail> {
     let mut stage = Stage {
         writer,
         client,
+        outgoing,
         reader,
     };
     play(rt, alloc, &mut stage, rows)

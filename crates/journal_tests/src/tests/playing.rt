@@ -4,7 +4,7 @@ use super::*;
 use engine::{Client, EngineName, ReaderToken, Reply, Step, Writer};
 use fixtures::{Pair, pair_of};
 use ids::Refusal;
-use journal::{Replay, Replayed, Unfit, write_from};
+use journal::{Outgoing, Replay, Replayed, Unfit, Written, write_from};
 use peer_sync::{answer, receive};
 use requests::{Edition, command_in};
 use std::alloc::Global;
@@ -39,6 +39,14 @@ pub enum Row {
     Journal(usize, &'static str, usize),
     /// Its reader answers this hello.
     Answer(&'static str, &'static str),
+    /// The lines that aren't called stored, and how many entries there are with them.
+    Unstored(&'static str, usize),
+    /// The entries before this position are called stored.
+    Stored(usize),
+    /// The hello of what goes out.
+    Hello(&'static str),
+    /// What is stored answers this hello, and says whether that names more of the own number than is known.
+    Send(&'static str, &'static str, bool),
 }
 
 /// An engine and its ends.
@@ -46,6 +54,7 @@ pub enum Row {
 pub struct Stage<'a, N: EngineName> {
     pub writer: &'a mut Writer<N>,
     pub client: &'a mut Client<N>,
+    pub outgoing: &'a mut Outgoing<N>,
     pub reader: &'a mut ReaderToken<N>,
 }
 
@@ -77,15 +86,48 @@ fn play_row<N: EngineName, R: Wait + Abort>(
         Row::Receive(lines, count) => take(rt, alloc, stage, lines, count),
         Row::Journal(from, lines, upto) => {
             let written = write_from(alloc, stage.reader, from)?;
-            assert_eq!(rt; written.lines.as_slice(), lines.as_bytes());
-            assert_eq!(rt; written.upto, upto);
+            assert_written(rt, &written, lines, upto);
         }
         Row::Answer(hello, lines) => {
             let text = answer(alloc, stage.reader, hello.as_bytes())?;
             assert_eq!(rt; text.as_slice(), lines.as_bytes());
         }
+        _ => send(rt, alloc, stage.outgoing, row)?,
     }
     Ok(())
+}
+
+/// Plays a row of what goes out.
+fn send<N: EngineName, R: Abort>(
+    rt: &R,
+    alloc: Global,
+    outgoing: &mut Outgoing<N>,
+    row: Row,
+) -> Result<(), Fail> {
+    match row {
+        Row::Unstored(lines, upto) => {
+            let written = outgoing.unstored(alloc)?;
+            assert_written(rt, &written, lines, upto);
+        }
+        Row::Stored(upto) => outgoing.call_stored(upto),
+        Row::Hello(line) => {
+            let text = outgoing.hello(alloc)?;
+            assert_eq!(rt; text.as_slice(), line.as_bytes());
+        }
+        Row::Send(hello, lines, is_beyond) => {
+            let answered = outgoing.answer(alloc, hello.as_bytes())?;
+            assert_eq!(rt; answered.lines.as_slice(), lines.as_bytes());
+            assert_eq!(rt; answered.is_beyond, is_beyond);
+        }
+        _ => return Err("another row".into()),
+    }
+    Ok(())
+}
+
+/// Compares lines of a journal, and how many entries there are with them.
+fn assert_written(rt: &impl Abort, written: &Written, lines: &str, upto: usize) {
+    assert_eq!(rt; written.lines.as_slice(), lines.as_bytes());
+    assert_eq!(rt; written.upto, upto);
 }
 
 /// Brings these pieces back, one after the other.
