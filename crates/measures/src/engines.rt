@@ -1,9 +1,11 @@
-//! Engines, from submit to poll, with reads beside a busy writer and with an exchange.
+//! Engines, from submit to poll, with reads beside a busy writer, with an exchange, at a glance, and brought back from a journal.
 
 mod figure;
+mod keeping;
 mod playing;
 mod stage;
 
+use figure::Figure;
 pub use figure::Figures;
 use ids::Refusal;
 pub use playing::play;
@@ -23,14 +25,19 @@ pub fn report(
 
 /// Prints a line for each figure.
 fn print(rt: &HostRuntime, figures: &Figures, is_timed: bool) -> io::Result<()> {
-    for figure in [figures.polls, figures.reads, figures.exchange] {
-        let (name, count) = (figure.name, figure.count);
+    for figure in figures.all() {
+        let Figure {
+            name,
+            count,
+            counted,
+            ..
+        } = figure;
         if is_timed {
             let rate = figure.a_second();
             let what = figure.what;
-            println!(rt; "{name}: {count} operations, {rate} {what} a second")?;
+            println!(rt; "{name}: {count} {counted}, {rate} {what} a second")?;
         } else {
-            println!(rt; "{name}: {count} operations")?;
+            println!(rt; "{name}: {count} {counted}")?;
         }
     }
     Ok(())

@@ -19,7 +19,7 @@ fn main(rt: HostRuntime) -> io::Result<()> {
         inserts::report(&rt, rt.alloc())?;
         lines::report(&rt, rt.alloc())?;
     }
-    let played = engines::play(&rt, rt.alloc());
+    let played = engines::play(&rt, rt.alloc(), is_timed);
     engines::report(&rt, played, is_timed)
 }
 

@@ -8,11 +8,12 @@ use std::time::{Clock, Instant};
 #[derive(Clone, Copy, Debug)]
 pub struct Figure {
     pub name: &'static str,
-    /// How many operations were made, seen or received.
+    /// How many operations were made, seen or received, or what else is counted.
     pub count: usize,
-    /// What is counted.
+    pub counted: &'static str,
+    /// What is done again and again.
     pub what: &'static str,
-    /// The count.
+    /// How often.
     pub done: u64,
     /// How long it took.
     pub nanos: u64,
@@ -24,6 +25,25 @@ pub struct Figures {
     pub polls: Figure,
     pub reads: Figure,
     pub exchange: Figure,
+    pub glance: Figure,
+    pub questions: Figure,
+    pub journal: Figure,
+    pub bundle: Figure,
+}
+
+impl Figures {
+    /// The figures, in the order of the plays.
+    pub fn all(&self) -> [Figure; 7] {
+        [
+            self.polls,
+            self.reads,
+            self.exchange,
+            self.glance,
+            self.questions,
+            self.journal,
+            self.bundle,
+        ]
+    }
 }
 
 impl Figure {

@@ -4,6 +4,7 @@ ghost use Rattle.std.specs.Prelude.{◌≡◌};
 ghost use Rattle.ids.specs.Members.{in_order};
 
 use crate::engines::figure::{Figure, Figures, begin, nanos_since};
+use crate::engines::keeping::{Feed, bring, glance, questions, write_list};
 use crate::engines::stage::{Stage, read_until, write_all};
 use engine::{EngineName, Parts, close, open, prepare};
 use ids::{Config, Refusal};
@@ -20,14 +21,18 @@ const OPS: u32 = 1_000;
 ///
 /// # Errors
 /// The refusal of a call: `NoMemory`, `NoReaderPlace`, `NoReading`.
-pub fn play<R: Threads + Wait + Clock + Sync>(rt: &R, alloc: Global) -> Result<Figures, Refusal> {
+pub fn play<R: Threads + Wait + Clock + Sync>(
+    rt: &R,
+    alloc: Global,
+    is_timed: bool,
+) -> Result<Figures, Refusal> {
     let one = prepare(alloc, configuration(alloc, 1)?)?;
     let two = prepare(alloc, configuration(alloc, 2)?)?;
-    open_one::<Brand, R>(rt, alloc, one, two)
+    open_one::<Brand, R>(rt, alloc, one, two, if is_timed { 98_000 } else { 1_000 })
 }
 
 /// An engine of this number, among the two.
-fn configuration(alloc: Global, own: u32) -> Result<Config, Refusal> {
+pub fn configuration(alloc: Global, own: u32) -> Result<Config, Refusal> {
     Ok(Config {
         own,
         members: vec![in alloc; 1, 2]?,
@@ -44,6 +49,7 @@ fn open_one<A: EngineName + Send + Sync, R: Threads + Wait + Clock + Sync>(
     alloc: Global,
     one: Parts,
     two: Parts,
+    items: u32,
 ) -> Result<Figures, Refusal>
     requires book { one.opened.seen.book ≡ A.book }
     requires own { one.config.own ≡ A.own }
@@ -57,7 +63,7 @@ fn open_one<A: EngineName + Send + Sync, R: Threads + Wait + Clock + Sync>(
                 client,
                 reader,
             };
-            open_two::<Brand, A, R>(rt, alloc, &mut one, two)
+            open_two::<Brand, A, R>(rt, alloc, &mut one, two, items)
         }
         _ => Err(Refusal::NoReaderPlace),
     };
@@ -70,6 +76,7 @@ fn open_two<B: EngineName, A: EngineName + Send + Sync, R: Threads + Wait + Cloc
     alloc: Global,
     one: &mut Stage<A>,
     two: Parts,
+    items: u32,
 ) -> Result<Figures, Refusal>
     requires book { two.opened.seen.book ≡ B.book }
     requires own { two.config.own ≡ B.own }
@@ -83,7 +90,7 @@ fn open_two<B: EngineName, A: EngineName + Send + Sync, R: Threads + Wait + Cloc
                 client,
                 reader,
             };
-            play_all(rt, alloc, one, &mut two)
+            play_all(rt, alloc, one, &mut two, items)
         }
         _ => Err(Refusal::NoReaderPlace),
     };
@@ -96,11 +103,20 @@ fn play_all<A: EngineName + Send + Sync, B: EngineName, R: Threads + Wait + Cloc
     alloc: Global,
     one: &mut Stage<A>,
     two: &mut Stage<B>,
+    items: u32,
 ) -> Result<Figures, Refusal> {
+    let polls = submit_to_poll(rt, alloc, one)?;
+    let reads = read_meanwhile(rt, alloc, one)?;
+    let exchange = exchange(rt, alloc, two, one)?;
+    write_list(rt, alloc, one, items)?;
     Ok(Figures {
-        polls: submit_to_poll(rt, alloc, one)?,
-        reads: read_meanwhile(rt, alloc, one)?,
-        exchange: exchange(rt, alloc, two, one)?,
+        polls,
+        reads,
+        exchange,
+        glance: glance(rt, alloc, one.reader)?,
+        questions: questions(rt, alloc, one.reader)?,
+        journal: bring(rt, alloc, 1, Feed::Journal(one.journal(alloc)?.as_slice()))?,
+        bundle: bring(rt, alloc, 2, Feed::Bundle(one.bundle(alloc)?.as_slice()))?,
     })
 }
 
@@ -115,6 +131,7 @@ fn submit_to_poll<N: EngineName, R: Wait + Clock>(
     Ok(Figure {
         name: "submit to poll",
         count: made,
+        counted: "operations",
         what: "operations",
         done: made as u64,
         nanos: nanos_since(rt, began),
@@ -132,6 +149,7 @@ fn read_meanwhile<N: EngineName + Send + Sync, R: Threads + Wait + Clock + Sync>
     Ok(Figure {
         name: "reads beside a busy writer",
         count: seen,
+        counted: "operations",
         what: "reads",
         done: reads,
         nanos: nanos_since(rt, began),
@@ -171,6 +189,7 @@ fn exchange<A: EngineName, B: EngineName, R: Wait + Clock>(
     Ok(Figure {
         name: "an exchange",
         count: seen,
+        counted: "operations",
         what: "operations",
         done: seen as u64,
         nanos: nanos_since(rt, began),

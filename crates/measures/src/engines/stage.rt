@@ -4,6 +4,7 @@ use cursor::Expr;
 use document::{Question, Reading};
 use engine::{Client, EngineName, ReaderToken, Step, Writer};
 use ids::Refusal;
+use journal::write_from;
 use operation::{Command, Reply};
 use peer_sync::{answer, hello, receive};
 use std::alloc::Global;
@@ -99,6 +100,16 @@ impl<N: EngineName> Stage<'_, N> {
         answer(alloc, self.reader, hello)
     }
 
+    /// The lines of its whole history, as a journal has them.
+    pub fn journal(&mut self, alloc: Global) -> Result<Vec<u8>, Refusal> {
+        Ok(write_from(alloc, self.reader, 0)?.lines)
+    }
+
+    /// The bundle of its whole history.
+    pub fn bundle(&mut self, alloc: Global) -> Result<Vec<u8>, Refusal> {
+        answer(alloc, self.reader, b"[\"hello\",[]]")
+    }
+
     /// Receives a bundle and handles all of it. Returns how many operations are seen then.
     pub fn take<R: Wait>(
         &mut self,
@@ -117,7 +128,7 @@ impl<N: EngineName> Stage<'_, N> {
 }
 
 /// Steps until the queue is empty.
-fn step_all<N: EngineName, R: Wait>(
+pub fn step_all<N: EngineName, R: Wait>(
     rt: &R,
     alloc: Global,
     writer: &mut Writer<N>,
