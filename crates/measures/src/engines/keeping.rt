@@ -1,4 +1,5 @@
-//! A list at a glance beside a question for each of its items, and a history that is brought back from a journal beside one that is received.
+//! A list at a glance beside a question for each of its items, and a history that is brought back from a journal beside one that comes in
+//! as a bundle.
 
 ghost use Rattle.std.specs.Prelude.{◌≡◌};
 ghost use Rattle.ids.specs.Members.{in_order};
