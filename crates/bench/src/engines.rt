@@ -7,7 +7,7 @@ ghost use Rattle.bench.specs.declared.plan.Verdict.TheVariants.{Agree, Differ};
 use crate::exchange::meet;
 use crate::links::{Desk, Link, open_link};
 use crate::plan::{Plan, Stop, Verdict};
-use crate::playing::{tasks, write_all};
+use crate::playing::{Task, clients_of, tasks, write_all};
 use crate::serving::Served;
 use crate::showing::{Shown, judge};
 use ids::{Config, Refusal};
@@ -112,41 +112,52 @@ fn run_in<N: EngineName + Send + Sync, R: Threads + Wait + Sync>(
     requires own { parts.config.own ≡ N.own }
     requires table { in_order parts.config.members ≡ N.table }
 {
-    let (mut writer, mut clients, mut readers) = open::<N>(rt, alloc, parts)?;
-    let ended = match readers.first_mut() {
-        Some(reader) => play_and_serve(
-            rt,
-            alloc,
-            plan,
-            desk,
-            &mut writer,
-            clients.as_mut_slice(),
-            reader,
-        ),
-        None => Err(Stop::Refused(Refusal::NoReaderPlace)),
+    let (mut writer, clients, mut readers) = open::<N>(rt, alloc, parts)?;
+    let (ended, clients) = match readers.first_mut() {
+        Some(reader) => play_and_serve(rt, alloc, plan, desk, &mut writer, clients, reader),
+        None => (Err(Stop::Refused(Refusal::NoReaderPlace)), clients),
     };
     let _left = close(rt, writer, clients);
     ended
 }
 
-/// Lets the clients of an engine write, tells whether they read all back, and serves others.
+/// Lets the clients of an engine write, tells whether they read all back, and serves others. Gives the clients back.
 fn play_and_serve<N: EngineName + Send + Sync, R: Threads + Wait + Sync>(
     rt: &R,
     alloc: Global,
     plan: Plan,
     desk: &Desk,
     writer: &mut Writer<N>,
-    clients: &mut [Client<N>],
+    clients: Vec<Client<N>>,
+    reader: &mut ReaderToken<N>,
+) -> (Result<(), Stop>, Vec<Client<N>>) {
+    match tasks(alloc, clients, plan) {
+        Ok(mut tasks) => {
+            let ended = play_tasks(rt, alloc, plan, desk, writer, tasks.as_mut_slice(), reader);
+            (ended, clients_of(alloc, tasks))
+        }
+        // The clients are gone with their tasks.
+        Err(stop) => (Err(stop), Vec::new(alloc)),
+    }
+}
+
+/// Lets clients write, tells whether they read all back, and serves others.
+fn play_tasks<N: EngineName + Send + Sync, R: Threads + Wait + Sync>(
+    rt: &R,
+    alloc: Global,
+    plan: Plan,
+    desk: &Desk,
+    writer: &mut Writer<N>,
+    tasks: &mut [Task<N>],
     reader: &mut ReaderToken<N>,
 ) -> Result<(), Stop> {
-    let mut tasks = tasks(alloc, clients, plan)?;
-    let all_read = write_all(rt, alloc, writer, tasks.as_mut_slice(), plan)?;
+    let all_read = write_all(rt, alloc, writer, tasks, plan)?;
     let _ = desk.told.send(rt, all_read);
     match tasks.first_mut() {
         Some(first) => {
             let mut served = Served {
                 writer,
-                client: first.client,
+                client: &mut first.client,
                 reader,
             };
             served.serve(rt, alloc, desk)

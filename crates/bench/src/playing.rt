@@ -13,17 +13,17 @@ use std::thread::{Threads, for_each_mut, join, yield_now};
 
 /// What a client has to do, and how it ended.
 #[derive(Drop)]
-pub struct Task<'a, N: EngineName> {
-    pub client: &'a mut Client<N>,
+pub struct Task<N: EngineName> {
+    pub client: Client<N>,
     gate: Meeting,
     key: Key,
     read: Result<bool, Stop>,
 }
 
-impl<N: EngineName> Task<'_, N> {
+impl<N: EngineName> Task<N> {
     /// Writes this many numbers and reads each back.
     fn work<R: Wait>(&mut self, rt: &R, alloc: Global, ops: u32) {
-        self.read = worker(rt, alloc, &mut self.gate, self.client, &self.key, ops);
+        self.read = worker(rt, alloc, &mut self.gate, &mut self.client, &self.key, ops);
     }
 }
 
@@ -31,11 +31,11 @@ impl<N: EngineName> Task<'_, N> {
 ///
 /// # Errors
 /// `NoMemory` if allocation fails.
-pub fn tasks<'a, N: EngineName>(
+pub fn tasks<N: EngineName>(
     alloc: Global,
-    clients: &'a mut [Client<N>],
+    clients: Vec<Client<N>>,
     plan: Plan,
-) -> Result<Vec<Task<'a, N>>, Stop> {
+) -> Result<Vec<Task<N>>, Stop> {
     let mut tasks = Vec::new(alloc);
     let mut number = 0u32;
     for client in clients {
@@ -51,6 +51,15 @@ pub fn tasks<'a, N: EngineName>(
         number = number.saturating_add(1);
     }
     Ok(tasks)
+}
+
+/// The clients of tasks that have ended. Where memory is refused for one, that one is dropped.
+pub fn clients_of<N: EngineName>(alloc: Global, tasks: Vec<Task<N>>) -> Vec<Client<N>> {
+    let mut clients = Vec::new(alloc);
+    for task in tasks {
+        let _ = clients.push(task.client);
+    }
+    clients
 }
 
 /// The gate of a client: the first two wait for one another, if there are two and each writes twice.
