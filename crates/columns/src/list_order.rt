@@ -1,6 +1,6 @@
 //! The order of a list (RGA).
 
-ghost use Rattle.std.specs.Prelude.{◌≡◌, ◌≤◌, ◌<◌, ◌+◌, Bool, cond, [], IsTrue, IsFalse, IfOk, OnOk, slice_get};
+ghost use Rattle.std.specs.Prelude.{◌≡◌, ◌≤◌, ◌<◌, ◌+◌, Bool, cond, [], IsTrue, IsFalse, IfOk, OnOk, slice_get, take};
 ghost use Rattle.std.specs.List.{filter};
 ghost use Rattle.semantics.specs.Ids.{OpId as TheId, is_same_id};
 ghost use Rattle.semantics.specs.Context.{insert_after, has_item, has_position};
@@ -128,6 +128,20 @@ impl ListOrder {
         match &self.blocks {
             None => Ok(Vec::new(alloc)),
             Some(blocks) => blocks.visible(alloc),
+        }
+    }
+
+    /// The first of the items that are shown, at most `count`, in list order. Looks at how many are shown in each block up to the one that
+    /// has the last of them, and at each item of those in which one is shown.
+    ///
+    /// # Errors
+    /// `AllocError` if allocation fails.
+    pub fn first_visible(&self, count: usize, alloc: Global) -> Result<Vec<OpId>, AllocError>
+        ensures { IfOk result (λ v. v.items ≡ take count self.now.visible) }
+    {
+        match &self.blocks {
+            None => Ok(Vec::new(alloc)),
+            Some(blocks) => blocks.first_visible(count, alloc),
         }
     }
 }

@@ -1,7 +1,7 @@
 //! The order of a list, in blocks of neighbouring items.
 
 ghost use Rattle.std.specs.Prelude.{◌≡◌, ◌≤◌, ◌<◌, ◌+◌, ℕ, Bool, List, cond, [], length, IsTrue, IsFalse, IsSome, IfOk, OnOk, true};
-ghost use Rattle.std.specs.Prelude.{slice_get};
+ghost use Rattle.std.specs.Prelude.{slice_get, take};
 ghost use Rattle.std.specs.List.{filter};
 ghost use Rattle.std.specs.FinMap.{find};
 ghost use Rattle.semantics.specs.Ids.{OpId as TheId, id_cmp, is_same_id};
@@ -11,7 +11,7 @@ ghost use Rattle.columns.specs.Blocks.{AreBlocks, AreMoved, AreIndexed, IsSameLi
 use crate::block::Block;
 use crate::block_indices::BlockIndices;
 use crate::numbers::Numbers;
-use crate::walks::{Position, behind, find, goes_to, nth_shown, shown_items};
+use crate::walks::{Position, behind, find, first_shown, goes_to, nth_shown, shown_items};
 use ids::OpId;
 use std::alloc::{AllocError, Global};
 use std::marker::Model;
@@ -151,6 +151,17 @@ impl OrderBlocks {
         ensures { IfOk result (λ v. v.items ≡ self.now.visible) }
     {
         shown_items(&self.blocks, alloc)
+    }
+
+    /// The first of the items that are shown, at most `count`, in list order. Looks at how many are shown in each block up to the one that
+    /// has the last of them, and at each item of those in which one is shown.
+    ///
+    /// # Errors
+    /// `AllocError` if allocation fails.
+    pub fn first_visible(&self, count: usize, alloc: Global) -> Result<Vec<OpId>, AllocError>
+        ensures { IfOk result (λ v. v.items ≡ take count self.now.visible) }
+    {
+        first_shown(&self.blocks, count, alloc)
     }
 }
 

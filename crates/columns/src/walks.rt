@@ -1,6 +1,6 @@
 //! Walks over the blocks of a list.
 
-ghost use Rattle.std.specs.Prelude.{◌≡◌, ◌<◌, ◌≤◌, ℕ, length, Some, true, false, slice_get, IfOk, MatchOption};
+ghost use Rattle.std.specs.Prelude.{◌≡◌, ◌<◌, ◌≤◌, ℕ, length, Some, true, false, slice_get, take, IfOk, MatchOption};
 ghost use Rattle.semantics.specs.Context.{has_item, has_position};
 ghost use Rattle.columns.specs.Blocks.{AreApart, AreIndexed, AreHomes, GoesIn, IsBehind, IsFound, ListBlock, items_at, joined};
 ghost use Rattle.columns.specs.Blocks.{joined_shown};
@@ -107,5 +107,28 @@ pub(crate) fn shown_items(blocks: &[Block], alloc: Global) -> Result<Vec<OpId>, 
     for block in blocks {
         block.push_shown(&mut items)?;
     }
+    Ok(items)
+}
+
+/// The first of the shown items, at most `count`, in list order. Looks at how many are shown in each block up to the one that
+/// has the last of them, and at each item of those in which one is shown.
+///
+/// # Errors
+/// `AllocError` if allocation fails.
+pub(crate) fn first_shown(
+    blocks: &[Block],
+    count: usize,
+    alloc: Global,
+) -> Result<Vec<OpId>, AllocError>
+    ensures { IfOk result (λ v. v.items ≡ take count (joined_shown blocks.now)) }
+{
+    let mut items = Vec::new(alloc);
+    for block in blocks {
+        if items.len() >= count {
+            break;
+        }
+        block.push_shown(&mut items)?;
+    }
+    items.truncate(count);
     Ok(items)
 }
