@@ -1,10 +1,10 @@
 -- What a tree answers at a node.
 use Rattle.std.proofs.Common.{◌≡◌, ℕ, zero, suc, ◌+◌, ◌-◌, ◌<◌, ◌≤◌, ◌&&◌, Bool, true, false, cond, List, [], ◌∷◌, ◌++◌, length, get_or}
-use Rattle.std.proofs.Common.{take, map}
+use Rattle.std.proofs.Common.{drop, take, map}
 use Rattle.std.proofs.Common.{Some, refl, sym, ap, ◌∙◌, append-nil, arith, true≢false}
 use Rattle.std.specs.Prelude.{slice_get}
 use Rattle.std.specs.List.{filter}
-use Rattle.std.proofs.lemmas.List.{map-append, take_more}
+use Rattle.std.proofs.lemmas.List.{map-append, take_all, take-append-drop, take-append-le, take_more}
 use Rattle.std.proofs.lemmas.List.Elements.{filter-append}
 use Rattle.std.proofs.lemmas.Option.{same_Some, none-some}
 use Rattle.semantics.specs.Elements.{Element, Field, Name}
@@ -114,3 +114,31 @@ any_within ns p (f ∷ fs) (suc k) h = by (is_written (slice_get ns f.1)) (any_w
       → is_any (filter p (map (λ (x : Name × Unit {0}). x.0) (cond written ((f.0, tt) ∷ names_in ns fs) (names_in ns fs)))) ≡ true
   by true rest h = kept (p f.0) rest h
   by false rest h = rest h
+
+-- so many of those among the fields at the front are the first of all
+pub first_wanted : (ns : List Node) (p : Name → Bool) (fs : List (Name × ℕ)) (k count : ℕ) (some : List Name) → count ≡ length some
+    → some ≡ filter p (map (λ x. x.0) (names_in ns (take k fs))) → some ≡ take count (filter p (map (λ x. x.0) (names_in ns fs)))
+first_wanted ns p fs k count some long is =
+    let rest = filter p (map (λ x. x.0) (names_in ns (drop k fs))) in
+    let all : some ++ rest ≡ filter p (map (λ x. x.0) (names_in ns fs)) =
+    ap (λ xs. xs ++ rest) is
+    ∙ sym
+    (ap (λ gs. filter p (map (λ x. x.0) (names_in ns gs))) (sym (take-append-drop k fs))
+    ∙ ap (λ xs. filter p (map (λ x. x.0) xs)) (names-append ns (take k fs) (drop k fs))
+    ∙ ap (filter p) (map-append (λ x. x.0) (names_in ns (take k fs)) (names_in ns (drop k fs)))
+    ∙ filter-append p (map (λ x. x.0) (names_in ns (take k fs))) (map (λ x. x.0) (names_in ns (drop k fs)))) in
+    sym (take-append-le count some rest (omega (arith, long)) ∙ take_all count some (omega (arith, long))) ∙ ap (take count) all
+
+-- no more are wanted than there are fields
+pub few_wanted : (ns : List Node) (p : Name → Bool) (fs : List (Name × ℕ)) → length (filter p (map (λ x. x.0) (names_in ns fs))) ≤ length fs
+few_wanted ns p [] = omega arith
+few_wanted ns p (f ∷ fs) = by (is_written (slice_get ns f.1)) (few_wanted ns p fs) where
+  more : (shows : Bool) (xs : List Name) → length xs ≤ length fs → length (cond shows (f.0 ∷ xs) xs) ≤ suc (length fs)
+  more true xs h = omega (arith, h)
+  more false xs h = omega (arith, h)
+
+  by : (written : Bool) → length (filter p (map (λ x. x.0) (names_in ns fs))) ≤ length fs
+      → length (filter p (map (λ (x : Name × Unit {0}). x.0) (cond written ((f.0, tt) ∷ names_in ns fs) (names_in ns fs))))
+      ≤ suc (length fs)
+  by true h = more (p f.0) (filter p (map (λ x. x.0) (names_in ns fs))) h
+  by false h = omega (arith, h)

@@ -15,7 +15,8 @@ use Rattle.tree.specs.Glances.{IsFilled}
 abbrev pub rows_below : Shown → (bound depth : ℕ) → Element → List Hop → List Row
 rows_below S bound depth e hs = flat_map (λ h. rows_of S (bound - (depth + 1)) (depth + 1) (Some h) (child e h)) hs
 
-some_rows : (S : Shown) (d at : ℕ) (k : Option Hop) (e : Element) → 0 < length (rows_of S d at k e)
+-- an element has its own row at least
+pub some_rows : (S : Shown) (d at : ℕ) (k : Option Hop) (e : Element) → 0 < length (rows_of S d at k e)
 some_rows S zero at k e = omega arith
 some_rows S (suc d) at k e = omega arith
 

@@ -31,4 +31,5 @@ pub mod Showing
 pub mod OnTheWay
 pub mod Flagging
 pub mod FilledRows
+pub mod FirstHops
 pub mod StandingKinds

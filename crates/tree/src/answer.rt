@@ -1,6 +1,6 @@
 //! What stands at an element, as questions ask for it.
 
-ghost use Rattle.std.specs.Prelude.{◌≡◌, ◌⊎◌, ◌<◌, ◌&&◌, Some, IfOk, IfErr, length, slice_get, IfSome};
+ghost use Rattle.std.specs.Prelude.{◌≡◌, ◌⊎◌, ◌<◌, ◌≤◌, ◌&&◌, Some, IfOk, IfErr, length, slice_get, take, IfSome};
 ghost use Rattle.ids.specs.declared.refusal.Refusal.TheVariants.{NoMemory};
 ghost use Rattle.semantics.specs.Elements.{Element};
 ghost use Rattle.semantics.specs.DocumentAnswer.{is_any, visible_items, visible_names};
@@ -108,7 +108,27 @@ pub fn keys_of(
     ensures { IfOk result (λ v. (e : Element) → number nodes.now e ≡ node → v.items ≡ visible_names (context nodes.now) e) }
 {
     match node {
-        Some(at) => present_keys(nodes, at, alloc),
+        Some(at) => present_keys(nodes, at, count_fields(nodes, at), alloc),
+        None => Ok(Vec::new(alloc)),
+    }
+}
+
+/// The first of the keys at a node, at most `count`. Looks at the fields up to the last of them.
+pub fn first_keys(
+    nodes: &[Node],
+    node: Option<NodeNumber>,
+    count: usize,
+    alloc: Global,
+) -> Result<Vec<Key>, AllocError>
+    requires tree { IsTree nodes.now }
+    requires empty { AreEmpty nodes.now }
+    requires inside { IfSome node (λ at. at < length nodes.now) }
+    ensures few { IfOk result (λ v. length v.items ≤ count) }
+    ensures first { IfOk result
+        (λ v. (e : Element) → number nodes.now e ≡ node → v.items ≡ take count (visible_names (context nodes.now) e)) }
+{
+    match node {
+        Some(at) => present_keys(nodes, at, count, alloc),
         None => Ok(Vec::new(alloc)),
     }
 }
@@ -143,6 +163,25 @@ pub fn items_of(
     }
 }
 
+/// The first of the items at a node, at most `count`. Asks the list's order, which looks at the blocks up to the one that has the last of
+/// them, and at no node.
+pub fn first_items(
+    nodes: &[Node],
+    node: Option<NodeNumber>,
+    count: usize,
+    alloc: Global,
+) -> Result<Vec<OpId>, AllocError>
+    requires tree { IsTree nodes.now }
+    requires shown { AreShown nodes.now }
+    requires inside { IfSome node (λ at. at < length nodes.now) }
+    ensures { IfOk result (λ v. (e : Element) → number nodes.now e ≡ node → v.items ≡ take count (visible_items (context nodes.now) e)) }
+{
+    match node {
+        Some(at) => node_at(nodes, at).order.first_visible(count, alloc),
+        None => Ok(Vec::new(alloc)),
+    }
+}
+
 /// A copy of a register's entries.
 fn copy_values(register: &Register, alloc: Global) -> Result<Vec<(OpId, Scalar)>, AllocError>
     ensures { IfOk result (λ v. v.items ≡ register.now.entries) }
@@ -167,18 +206,28 @@ fn copy_tags(presence: &Presence, alloc: Global) -> Result<Vec<(OpId, Tag)>, All
     Ok(tags)
 }
 
-/// The keys of the map's fields at which something stands, in byte order. Looks at the node of each field whose flag is raised, and
-/// copies the keys that it returns.
-fn present_keys(nodes: &[Node], at: NodeNumber, alloc: Global) -> Result<Vec<Key>, AllocError>
+/// The first keys, at most `count`, of the map's fields at which something stands, in byte order. Looks at the node of each field whose
+/// flag is raised, up to the last of them, and copies the keys that it returns.
+fn present_keys(
+    nodes: &[Node],
+    at: NodeNumber,
+    count: usize,
+    alloc: Global,
+) -> Result<Vec<Key>, AllocError>
     requires tree { IsTree nodes.now }
     requires empty { AreEmpty nodes.now }
     requires inside { at < length nodes.now }
-    ensures { IfOk result (λ v. (e : Element) → number nodes.now e ≡ Some at → v.items ≡ visible_names (context nodes.now) e) }
+    ensures few { IfOk result (λ v. length v.items ≤ count) }
+    ensures first { IfOk result
+        (λ v. (e : Element) → number nodes.now e ≡ Some at → v.items ≡ take count (visible_names (context nodes.now) e)) }
 {
     let mut keys = Vec::new(alloc);
     let fields = count_fields(nodes, at);
     let mut position = next_field(nodes, at, 0);
     while position < fields {
+        if keys.len() == count {
+            return Ok(keys);
+        }
         if is_field(nodes, field_at(nodes, at, position)) {
             let (key, _) = node_at(nodes, at).fields.at(position);
             let key = key.clone()?;

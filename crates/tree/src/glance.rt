@@ -1,7 +1,7 @@
 //! A part of a document at a glance: an element and what stands beneath it, as rows.
 
 ghost use Rattle.std.specs.Prelude.{◌≡◌, ◌<◌, ◌≤◌, ◌+◌, ◌-◌, ◌⊎◌, ◌++◌, ◌∷◌, [], Ok, Some, IfOk, IfErr, IfSome, OnOk, length, map};
-ghost use Rattle.std.specs.Prelude.{option_map};
+ghost use Rattle.std.specs.Prelude.{option_map, take};
 ghost use Rattle.std.specs.List.{list_any};
 ghost use Rattle.ids.specs.declared.refusal.Refusal.TheVariants.{NoMemory};
 ghost use Rattle.semantics.specs.Elements.{At, Element};
@@ -15,7 +15,7 @@ ghost use Rattle.tree.specs.Answers.{IsAnswer};
 ghost use Rattle.tree.specs.Glances.{IsFilled, glance_in, row_of, tags_in};
 ghost use Rattle.tree.specs.Shown.{AreEmpty, AreShown};
 
-use crate::answer::{is_field, items_of, keys_of, values_of, visible_item};
+use crate::answer::{first_items, first_keys, is_field, values_of, visible_item};
 use crate::find::find;
 use crate::node::{Node, NodeNumber, node_at};
 use crate::walk::{count_fields, field_at, next_field, next_of};
@@ -123,7 +123,9 @@ fn push_rows(
         )?;
         return Ok(false);
     }
-    let hops = hops_below(nodes, here, alloc)?;
+    // One hop more than rows are left beneath this one: each leads to a row, so the last then tells that there are more.
+    let count = bounds.elements - rows.len();
+    let hops = first_hops(nodes, here, count, alloc)?;
     push_row(nodes, row, entered, depth, false, rows, alloc)?;
     for hop in hops {
         let parent = node;
@@ -207,10 +209,11 @@ fn has_item(nodes: &[Node], at: NodeNumber) -> bool
     visible_item(nodes, at, 0).is_some()
 }
 
-/// The hops to what stands right beneath a node: to its fields, and then to its items.
-fn hops_below(
+/// The first hops, at most `count`, to what stands right beneath a node: to its fields, and then to its items.
+fn first_hops(
     nodes: &[Node],
     node: Option<NodeNumber>,
+    count: usize,
     alloc: Global,
 ) -> Result<Vec<Hop>, AllocError>
     requires tree { IsTree nodes.now }
@@ -218,12 +221,13 @@ fn hops_below(
     requires empty { AreEmpty nodes.now }
     requires inside { IfSome node (λ at. at < length nodes.now) }
     ensures { IfOk result (λ v. (e : Element) → number nodes.now e ≡ node →
-        map hop_of v.items ≡ hops_below (shown_by (context nodes.now)) e) }
+        map hop_of v.items ≡ take count (hops_below (shown_by (context nodes.now)) e)) }
 {
     let here = node;
     let mut hops = Vec::new(alloc);
-    push_fields(&mut hops, keys_of(nodes, here, alloc)?)?;
-    push_items(&mut hops, items_of(nodes, node, alloc)?)?;
+    push_fields(&mut hops, first_keys(nodes, here, count, alloc)?)?;
+    let left = count - hops.len();
+    push_items(&mut hops, first_items(nodes, node, left, alloc)?)?;
     Ok(hops)
 }
 
