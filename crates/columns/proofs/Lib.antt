@@ -24,3 +24,4 @@ pub mod MovedHomes
 pub mod IndexedBlocks
 pub mod Raised
 pub mod Marked
+pub mod StandingTags

@@ -1,7 +1,9 @@
 -- What the columns of a tree are to contracts.
 pub mod Rank
 pub mod Entries
+pub mod Kinds
 pub mod Held
+pub mod HeldTags
 pub mod Keys
 pub mod Prefix
 pub mod Numbered

@@ -14,7 +14,7 @@ ghost use Rattle.columns.specs.Entries.{AreIndicesIn, put_index};
 
 use crate::entry::Entry;
 use crate::held::Held;
-use cursor::{Scalar, Tag};
+use cursor::Scalar;
 use ids::OpId;
 use std::alloc::{AllocError, Global};
 use std::marker::Model;
@@ -22,7 +22,7 @@ use version::VersionVector;
 
 /// A finite map by id.
 ///
-/// Most maps hold one entry, so a single one is inline: the map is 32 bytes with a tag, 48 with a scalar, and allocates nothing. From the
+/// Most maps hold one entry, so a single one is inline: the map is 48 bytes with a scalar, and allocates nothing. From the
 /// second on all stand one after the other in a vector, which takes a box too and stays when entries go.
 ///
 /// Contracts see the entries, rising by id, the index of each entry's replica in the table, and for how many more entries there is room.
@@ -31,9 +31,6 @@ pub struct ById<T> {
     held: Held<T>,
     alloc: Global,
 }
-
-/// The presence of an element: the ids that keep it visible, each with its tag.
-pub type Presence = ById<Tag>;
 
 /// The register of an element: the ids of its values, each with its value.
 pub type Register = ById<Scalar>;
@@ -118,7 +115,9 @@ impl<T: Drop> ById<T> {
         match &mut self.held {
             Held::Empty => self.held = Held::Single(Entry::new(id, index, value)),
             Held::Single(_) => unreachable!(),
-            Held::Many(list) => list.put(id, index, value),
+            Held::Many(list) => {
+                let _ = list.put(id, index, value);
+            }
         }
     }
 

@@ -5,9 +5,10 @@ mod flags;
 mod keys;
 mod numbers;
 mod orders;
+mod presences;
 mod registers;
 
-use columns::{ById, Fields, ListOrder, Numbers, Presence, Register, SortedKeys};
+use columns::{Fields, ListOrder, Numbers, Presence, Register, SortedKeys};
 use fixtures::{Pair, id_of, pair_of};
 use ids::OpId;
 use std::test::Fail;

@@ -225,7 +225,7 @@ impl Document {
     }
 
     /// An element at a glance: what stands there and, down to so many elements beneath it, what stands beneath, at most so many
-    /// elements in all, of one history. What isn't shown is marked.
+    /// elements in all, of one history. What isn't shown is marked. Costs a walk along the expression and what is shown.
     ///
     /// # Errors
     /// As `ask`.

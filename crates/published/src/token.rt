@@ -268,7 +268,7 @@ impl<N: EngineName> ReaderToken<N> {
 
     /// An element at a glance, of all that is published at the one step of this read, which the token has then seen: what stands there
     /// and, down to so many elements beneath it, what stands beneath, at most so many elements in all. What isn't shown is marked. Never
-    /// waits.
+    /// waits. Costs a walk along the expression, and what is shown, of which the values and the keys are copied.
     ///
     /// # Errors
     /// As `ask`.

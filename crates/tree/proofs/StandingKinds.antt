@@ -1,21 +1,20 @@
--- Whether something stands at a node as this, tag by tag.
-use Rattle.std.proofs.Common.{◌≡◌, ℕ, ◌+◌, zero, suc, ◌||◌, List, [], ◌∷◌, Some, drop, slice_get, ap, ◌∙◌, arith}
-use Rattle.std.specs.List.{list_any}
+-- As what something stands at a node.
+use Rattle.std.proofs.Common.{◌≡◌, ◌||◌, List, [], ◌∷◌, ap, refl, ◌∙◌}
+use Rattle.std.specs.List.{filter, list_any}
 use Rattle.semantics.specs.Ids.{OpId}
-use Rattle.semantics.specs.Elements.{Tag as TheTag}
-use Rattle.semantics.specs.Glances.{is_same_tag}
+use Rattle.semantics.specs.Elements.{Tag as TheTag, AsRegister, AsMap, AsList}
+use Rattle.semantics.specs.Glances.{is_same_tag, kinds_of}
 use Rattle.operation.specs.cursor.declared.tag.Tag.{Tag}
 use Rattle.operation.specs.cursor.Steps.{tag_of}
+use Rattle.columns.specs.Kinds.{AreKinds, stands_as}
+use Rattle.columns.specs.declared.kinds.Kinds.{Kinds}
 use Rattle.tree.specs.Nodes.{tagged}
+use Rattle.tree.specs.Glances.{tags_in}
 
--- the entry at this position decides, or those behind it
-pub any_next : (t : TheTag) (es : List (OpId × Tag)) (k : ℕ) (a : OpId) (x : Tag) → slice_get es k ≡ Some (a, x)
-    → list_any (λ y. is_same_tag t y.1) (tagged (drop k es))
-    ≡ (is_same_tag t (tag_of x) || list_any (λ y. is_same_tag t y.1) (tagged (drop (k + 1) es)))
-any_next t [] k a x h = absurd (cc)
-any_next t (e ∷ es) zero a x h =
-    let same : e ≡ (a, x) = cc in ap (λ (y : OpId × Tag). is_same_tag t (tag_of y.1) || list_any (λ y. is_same_tag t y.1) (tagged es)) same
-any_next t (e ∷ es) (suc k) a x h =
-    let further : suc (k + 1) ≡ suc k + 1 = omega arith in
-    any_next t es k a x h
-    ∙ ap (λ n. is_same_tag t (tag_of x) || list_any (λ y. is_same_tag t y.1) (tagged (drop n (e ∷ es)))) further
+-- the tags of a presence are those of the definitions
+same_tags : (t : TheTag) (es : List (OpId × Tag)) → stands_as t es ≡ list_any (λ x. is_same_tag t x.1) (tagged es)
+same_tags t [] = refl
+same_tags t (e ∷ es) = ap (λ b. is_same_tag t (tag_of e.1) || b) (same_tags t es)
+
+pub kinds_stand : (k : Kinds) (es : List (OpId × Tag)) → AreKinds k es → tags_in k ≡ kinds_of (tagged es)
+kinds_stand k es are = λ i. filter (λ t. (are t ∙ same_tags t es) i) (AsRegister ∷ AsMap ∷ AsList ∷ [])

@@ -4,16 +4,11 @@ use Rattle.std.specs.List.{filter}
 use Rattle.semantics.specs.Elements.{Tag, AsRegister, AsMap, AsList}
 use Rattle.semantics.specs.Glances.{Row as TheRow, Glance as TheGlance}
 use Rattle.operation.specs.cursor.Steps.{hop_of}
-use Rattle.tree.specs.declared.glance.Kinds.{Kinds}
+use Rattle.columns.specs.Kinds.{has_kind}
+use Rattle.columns.specs.declared.kinds.Kinds.{Kinds}
 use Rattle.tree.specs.declared.glance.Row.{Row}
 use Rattle.tree.specs.declared.glance.Glance.{Glance}
 use Rattle.tree.specs.Nodes.{valued}
-
--- whether something stands there as this
-abbrev pub has_kind : Kinds → Tag → Bool
-has_kind k AsRegister = k.register
-has_kind k AsMap = k.map
-has_kind k AsList = k.list
 
 -- as what something stands there
 abbrev pub tags_in : Kinds → List Tag

@@ -2,15 +2,14 @@
 
 ghost use Rattle.std.specs.Prelude.{◌≡◌, ◌<◌, ◌≤◌, ◌+◌, ◌-◌, ◌⊎◌, ◌++◌, ◌∷◌, [], Ok, Some, IfOk, IfErr, IfSome, OnOk, length, map};
 ghost use Rattle.std.specs.Prelude.{option_map, take};
-ghost use Rattle.std.specs.List.{list_any};
 ghost use Rattle.ids.specs.declared.refusal.Refusal.TheVariants.{NoMemory};
 ghost use Rattle.semantics.specs.Elements.{At, Element};
 ghost use Rattle.semantics.specs.DocumentAnswer.{is_any, lists_of, visible_items, visible_names};
 ghost use Rattle.semantics.specs.Questions.{Answer, Refused, resolve};
-ghost use Rattle.semantics.specs.Glances.{glance_of, hops_below, is_same_tag, kinds_of, row_at, rows_of, shown_by};
+ghost use Rattle.semantics.specs.Glances.{glance_of, hops_below, kinds_of, row_at, rows_of, shown_by};
 ghost use Rattle.semantics.specs.Paths.{FieldHop, ItemHop};
-ghost use Rattle.operation.specs.cursor.Steps.{hop_of, tag_of};
-ghost use Rattle.tree.specs.Nodes.{IsTree, context, number, tagged};
+ghost use Rattle.operation.specs.cursor.Steps.{hop_of};
+ghost use Rattle.tree.specs.Nodes.{IsTree, context, number};
 ghost use Rattle.tree.specs.Answers.{IsAnswer};
 ghost use Rattle.tree.specs.Glances.{IsFilled, glance_in, row_of, tags_in};
 ghost use Rattle.tree.specs.Shown.{AreEmpty, AreShown};
@@ -19,18 +18,10 @@ use crate::answer::{first_items, first_keys, is_field, values_of, visible_item};
 use crate::find::find;
 use crate::node::{Node, NodeNumber, node_at};
 use crate::walk::{count_fields, field_at, next_field, next_of};
-use columns::Presence;
+use columns::Kinds;
 use ids::{OpId, Refusal};
-use operation::{Expr, Hop, Key, Scalar, Tag};
+use operation::{Expr, Hop, Key, Scalar};
 use std::alloc::{AllocError, Global};
-
-/// As what something stands at an element. Several can be so at once, after concurrent writes.
-#[derive(Clone, Copy, Debug, PartialEq, Eq)]
-pub struct Kinds {
-    pub register: bool,
-    pub map: bool,
-    pub list: bool,
-}
 
 /// One element of a glance.
 #[derive(Debug, Drop)]
@@ -251,50 +242,13 @@ fn push_items(hops: &mut Vec<Hop>, items: Vec<OpId>) -> Result<(), AllocError>
     Ok(())
 }
 
-/// As what something stands at a node, as nothing where there is no node.
+/// As what something stands at a node, as nothing where there is no node. Looks at one id at most.
 fn kinds_at(nodes: &[Node], node: Option<NodeNumber>) -> Kinds
     requires { IfSome node (λ at. at < length nodes.now) }
     ensures { (e : Element) → number nodes.now e ≡ node → tags_in result ≡ kinds_of ((context nodes.now).presence e) }
 {
     match node {
-        Some(at) => kinds_in(&node_at(nodes, at).presence),
-        None => Kinds {
-            register: false,
-            map: false,
-            list: false,
-        },
-    }
-}
-
-/// As what the ids of a presence stand.
-fn kinds_in(presence: &Presence) -> Kinds
-    ensures { tags_in result ≡ kinds_of (tagged presence.now.entries) }
-{
-    Kinds {
-        register: stands_as(presence, Tag::Reg),
-        map: stands_as(presence, Tag::Map),
-        list: stands_as(presence, Tag::List),
-    }
-}
-
-/// Whether an id stands with this tag.
-fn stands_as(presence: &Presence, tag: Tag) -> bool
-    ensures { result ≡ list_any (λ x. is_same_tag (tag_of tag) x.1) (tagged presence.now.entries) }
-{
-    for position in 0..presence.len() {
-        if is_same(*presence.at(position).1, tag) {
-            return true;
-        }
-    }
-    false
-}
-
-/// Whether two tags are one.
-fn is_same(tag: Tag, other: Tag) -> bool
-    ensures { result ≡ is_same_tag (tag_of other) (tag_of tag) }
-{
-    match (tag, other) {
-        (Tag::Reg, Tag::Reg) | (Tag::Map, Tag::Map) | (Tag::List, Tag::List) => true,
-        _ => false,
+        Some(at) => node_at(nodes, at).presence.kinds(),
+        None => Kinds::NONE,
     }
 }

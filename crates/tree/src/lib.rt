@@ -21,8 +21,9 @@ mod tree;
 mod walk;
 mod write;
 
-pub use glance::{Glance, Kinds, Row};
+pub use glance::{Glance, Row};
 pub use tree::Tree;
 
 // Handed on from the crates below, for users of this one.
+pub use columns::Kinds;
 pub use operation::Hop;

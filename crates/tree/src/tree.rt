@@ -193,7 +193,11 @@ impl Tree {
     }
 
     /// The element there at a glance: what stands there and, down to so many elements beneath it, what stands beneath, at most so many
-    /// elements in all. What isn't shown is marked. Looks at each id that stands at what it shows, and copies the values and the keys.
+    /// elements in all. What isn't shown is marked.
+    ///
+    /// Costs what it shows, of which it copies the values and the keys. Of what stands right beneath an element it takes no more than may
+    /// still be shown, and one more, and looks at a list's blocks up to the one that has the last of these; as what something stands is
+    /// known.
     ///
     /// # Errors
     /// As `values`.

@@ -172,3 +172,41 @@ fn long_lists_stand_in_blocks(rt: HostRuntime) -> Result<(), Fail> {
     assert_long(&rt, rt.alloc(), 3000, false)?;
     assert_long(&rt, rt.alloc(), 3000, true)
 }
+
+/// Asserts that so many of the shown items are the first of all that are shown.
+fn assert_first(
+    rt: &impl Abort,
+    alloc: Global,
+    order: &ListOrder,
+    count: usize,
+) -> Result<(), Fail> {
+    let all = order.visible(alloc)?;
+    let first = order.first_visible(count, alloc)?;
+    let end = count.min(all.len());
+    assert_eq!(rt; first.as_slice(), &all[..end], "of {count}");
+    Ok(())
+}
+
+/// So many items, each put after the one before it. Each third one isn't shown.
+fn with_hidden(alloc: Global, count: u64) -> Result<ListOrder, Fail> {
+    let mut order = ListOrder::new(alloc);
+    put(&mut order, (None, (1, 1)))?;
+    for number in 1..count {
+        let counter = number + 1;
+        put(&mut order, (Some((number, 1)), (counter, 1)))?;
+        show(&mut order, (counter, 1), number % 3 != 0)?;
+    }
+    Ok(order)
+}
+
+#[test]
+fn the_first_items_are_those_that_are_shown(rt: HostRuntime) -> Result<(), Fail> {
+    assert_first(&rt, rt.alloc(), &ListOrder::new(rt.alloc()), 3)?;
+    let order = with_hidden(rt.alloc(), 1500)?;
+    for count in [
+        0, 1, 2, 340, 341, 342, 343, 682, 683, 684, 998, 999, 1000, 1001,
+    ] {
+        assert_first(&rt, rt.alloc(), &order, count)?;
+    }
+    Ok(())
+}

@@ -1,10 +1,9 @@
-//! Registers and presences: what stands at each id.
+//! Registers: the values that stand at each id.
 
 ghost use Rattle.std.specs.Prelude.{◌<◌, IfOk};
 ghost use Rattle.std.specs.List.{All};
 
 use super::*;
-use cursor::Tag;
 use fixtures::vector;
 use std::alloc::Global;
 use std::process::Abort;
@@ -16,7 +15,7 @@ type Row = (Pair, i64);
 const FOUR: [Row; 4] = [((1, 1), 10), ((2, 2), 20), ((3, 1), 30), ((3, 2), 40)];
 
 /// Puts an entry, for a table of two replicas, numbered from 1.
-fn put<T: Drop>(entries: &mut ById<T>, pair: Pair, value: T) -> Result<(), Fail>
+fn put(entries: &mut Register, pair: Pair, value: Scalar) -> Result<(), Fail>
     requires { All (λ index. index < 2) entries.old.indices }
     ensures { All (λ index. index < 2) entries.new.indices }
 {
@@ -36,17 +35,6 @@ fn register(alloc: Global, rows: &[Row]) -> Result<Register, Fail>
         put(&mut register, *pair, Scalar::Whole(*whole))?;
     }
     Ok(register)
-}
-
-/// A presence of tags, put in this order.
-fn presence(alloc: Global, rows: &[(Pair, Tag)]) -> Result<Presence, Fail>
-    ensures { IfOk result (λ presence. All (λ index. index < 2) presence.indices) }
-{
-    let mut presence = Presence::new(alloc);
-    for (pair, tag) in rows {
-        put(&mut presence, *pair, *tag)?;
-    }
-    Ok(presence)
 }
 
 /// An entry as a row, if its value is a whole number.
@@ -87,29 +75,6 @@ fn assert_left(
     Ok(())
 }
 
-/// Asserts the tags of a presence, in order.
-fn assert_tags(rt: &impl Abort, presence: &Presence, want: &[Tag]) {
-    assert_eq!(rt; presence.len(), want.len());
-    for (position, tag) in want.iter().enumerate() {
-        assert_eq!(rt; *presence.at(position).1, *tag, "at {position}");
-    }
-}
-
-/// Puts tags in this order, clears them by the vector of these counters, and asserts what is left.
-fn assert_tags_left(
-    rt: &impl Abort,
-    alloc: Global,
-    given: &[(Pair, Tag)],
-    counters: [u64; 2],
-    want: &[Tag],
-) -> Result<(), Fail> {
-    let vector = vector(alloc, &counters)?;
-    let mut presence = presence(alloc, given)?;
-    presence.clear(&vector);
-    assert_tags(rt, &presence, want);
-    Ok(())
-}
-
 #[test]
 fn entries_rise_by_id(rt: HostRuntime) -> Result<(), Fail> {
     let want = [((1, 1), 10), ((2, 1), 20), ((2, 2), 30), ((5, 1), 40)];
@@ -141,16 +106,4 @@ fn covered_entries_go(rt: HostRuntime) -> Result<(), Fail> {
     assert_left(&rt, alloc, [3, 0], &[((2, 2), 20), ((3, 2), 40)])?;
     assert_left(&rt, alloc, [2, 3], &[((3, 1), 30)])?;
     assert_left(&rt, alloc, [9, 9], &[])
-}
-
-#[test]
-fn presences_hold_tags(rt: HostRuntime) -> Result<(), Fail> {
-    assert_eq!(rt; Presence::new(rt.alloc()).len(), 0);
-    assert_tags_left(
-        &rt,
-        rt.alloc(),
-        &[((2, 1), Tag::List), ((1, 1), Tag::Map), ((3, 1), Tag::Reg)],
-        [1, 0],
-        &[Tag::List, Tag::Reg],
-    )
 }

@@ -1,0 +1,18 @@
+-- Where a presence holds its entries.
+use Rattle.std.specs.Prelude.{[], ◌∷◌}
+use Rattle.cursor.specs.declared.tag.Tag.{Tag}
+use Rattle.columns.specs.Entries.{Entries, id_of}
+use Rattle.columns.specs.declared.held_tags.HeldTags.{HeldTags}
+use Rattle.columns.specs.declared.held_tags.HeldTags.TheVariants.{Empty, Single, Many}
+
+-- the presence: an empty one has room for one entry, a single entry leaves none
+abbrev pub held_tags : HeldTags → Entries Tag
+held_tags Empty = record { entries = []; indices = []; room = 1 }
+held_tags (Single entry) = record { entries = (id_of entry, entry.value) ∷ []; indices = entry.index ∷ []; room = 0 }
+held_tags (Many list) = list.value
+
+-- a single entry that isn't in a list
+abbrev pub IsSingleTag : HeldTags → Type 0
+IsSingleTag Empty = ⊥
+IsSingleTag (Single entry) = Unit {0}
+IsSingleTag (Many list) = ⊥
