@@ -1,6 +1,7 @@
 //! Documents before their first entry, and as the operations of peers leave them.
 
 mod checks;
+mod cut_glances;
 mod glances;
 mod newcomers;
 mod playing;
