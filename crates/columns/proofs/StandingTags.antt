@@ -1,14 +1,12 @@
 -- As what something stands at the ids of a presence, as these come and go.
-use Rattle.std.proofs.Common.{◌≡◌, ℕ, zero, suc, ◌+◌, ◌≤◌, Bool, true, false, cond, not, ◌||◌, List, [], ◌∷◌, length, drop, slice_get, Some}
-use Rattle.std.proofs.Common.{None}
+use Rattle.std.proofs.Common.{◌≡◌, ℕ, zero, suc, ◌+◌, ◌<◌, ◌≤◌, Bool, true, false, cond, not, ◌||◌, List, [], ◌∷◌, length, drop, slice_get}
+use Rattle.std.proofs.Common.{Some}
 use Rattle.std.proofs.Common.{refl, sym, ap, ◌∙◌, arith}
 use Rattle.std.specs.declared.cmp.Ordering.TheVariants.{Less, Equal, Greater}
-use Rattle.std.specs.Ordering.{is_eq}
-use Rattle.std.specs.FinMap.{put, find}
+use Rattle.std.specs.FinMap.{put}
 use Rattle.std.specs.FinMap.Entries.{by_order}
 use Rattle.std.specs.List.{filter, zip}
 use Rattle.std.proofs.Math.Bool.{or_assoc, or_comm}
-use Rattle.std.proofs.lemmas.Option.{none-some}
 use Rattle.std.proofs.lemmas.List.Filters.{length-filter_both}
 use Rattle.std.proofs.lemmas.Map.Made.{keys_of-zip}
 use Rattle.std.proofs.lemmas.Slice.Zip.{length-zip}
@@ -21,20 +19,20 @@ use Rattle.columns.specs.Kinds.{stands_as}
 use Rattle.columns.specs.Rank.{keys_of}
 
 -- a new id comes in with a tag
-pub stands-put : (t : TheTag) (id : OpId) (v : Tag) (es : List (OpId × Tag)) → find id_cmp id es ≡ None
+pub stands-put : (t : TheTag) (id : OpId) (v : Tag) (es : List (OpId × Tag)) → length es < length (put id_cmp id v es)
     → stands_as t (put id_cmp id v es) ≡ (stands_as t es || is_same_tag t (tag_of v))
-stands-put t id v [] new = or_comm (is_same_tag t (tag_of v)) false
-stands-put t id v (e ∷ es) new =
+stands-put t id v [] more = or_comm (is_same_tag t (tag_of v)) false
+stands-put t id v (e ∷ es) more =
     elim (id_cmp id e.0) as
-    (λ r. cond (is_eq r) (Some e.1) (find id_cmp id es) ≡ None
+    (λ r. suc (length es) < length (by_order r ((id, v) ∷ e ∷ es) ((e.0, v) ∷ es) (e ∷ put id_cmp id v es))
     → stands_as t (by_order r ((id, v) ∷ e ∷ es) ((e.0, v) ∷ es) (e ∷ put id_cmp id v es))
     ≡ (stands_as t (e ∷ es) || is_same_tag t (tag_of v))) [
       | Less ↦ λ h. or_comm (is_same_tag t (tag_of v)) (stands_as t (e ∷ es))
-      | Equal ↦ λ h. absurd (none-some e.1 (sym h))
+      | Equal ↦ λ h. absurd (omega (arith, h))
       | Greater ↦ λ h.
-          ap (λ b. is_same_tag t (tag_of e.1) || b) (stands-put t id v es h)
+          ap (λ b. is_same_tag t (tag_of e.1) || b) (stands-put t id v es (omega (arith, h)))
           ∙ sym (or_assoc (is_same_tag t (tag_of e.1)) (stands_as t es) (is_same_tag t (tag_of v)))
-    ] new
+    ] more
 
 -- the entry at this position decides, or those behind it
 pub stands-next : (t : TheTag) (es : List (OpId × Tag)) (k : ℕ) (a : OpId) (x : Tag) → slice_get es k ≡ Some (a, x)

@@ -115,9 +115,7 @@ impl<T: Drop> ById<T> {
         match &mut self.held {
             Held::Empty => self.held = Held::Single(Entry::new(id, index, value)),
             Held::Single(_) => unreachable!(),
-            Held::Many(list) => {
-                let _ = list.put(id, index, value);
-            }
+            Held::Many(list) => list.put(id, index, value),
         }
     }
 

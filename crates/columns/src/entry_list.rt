@@ -3,7 +3,7 @@
 ghost use Rattle.std.specs.Prelude.{◌≡◌, ◌↔◌, ◌≤◌, ◌<◌, ◌+◌, ◌&&◌, ℕ, List, [], length, Some, nat_le, nat_lt, slice_get, slice_index};
 ghost use Rattle.std.specs.Prelude.{slice_index_or, IsTrue, OnOk, MatchResult};
 ghost use Rattle.std.specs.List.{All, filter, zip};
-ghost use Rattle.std.specs.FinMap.{find, put, is_sorted};
+ghost use Rattle.std.specs.FinMap.{put, is_sorted};
 ghost use Rattle.ids.specs.Members.{AreDistinct};
 ghost use Rattle.semantics.specs.Ids.{OpId as TheId, id_cmp};
 ghost use Rattle.semantics.specs.Vectors.{covers};
@@ -140,20 +140,18 @@ fn is_covered<T>(vector: &VersionVector, entry: &Entry<T>) -> bool
 }
 
 impl<T: Drop> EntryList<T> {
-    /// Puts an entry where its id belongs; `index` is the index of the id's replica in the table. Replaces the id's value, if it has one,
-    /// and returns that.
+    /// Puts an entry where its id belongs; `index` is the index of the id's replica in the table. Replaces the id's value, if it has one.
     ///
     /// Allocates nothing. A binary search and one insert into `Rings`; for the greatest id one comparison and one push.
-    pub fn put(&mut self, id: OpId, index: usize, value: T) -> Option<T>
+    pub fn put(&mut self, id: OpId, index: usize, value: T)
         requires { 0 < self.old.room }
-        ensures replaced { result ≡ find id_cmp id self.old.entries }
         ensures entries { self.new.entries ≡ put id_cmp id value self.old.entries }
         ensures indices { self.new.indices ≡ put_index id index (keys_of self.old.entries) self.old.indices }
         ensures indexed { (table : List ℕ) → slice_get table index ≡ Some id.replica → AreIndicesIn table self.old.entries self.old.indices
             → AreIndicesIn table self.new.entries self.new.indices }
         ensures room { self.old.room ≤ self.new.room + 1 }
     {
-        put_in(&mut self.entries, id, index, value)
+        put_in(&mut self.entries, id, index, value);
     }
 
     /// Removes the entries whose ids the vector covers. Allocates nothing, makes the rings contiguous, looks at each entry once, and moves
@@ -173,11 +171,10 @@ impl<T: Drop> EntryList<T> {
     }
 }
 
-/// Puts an entry where its id belongs. Replaces the id's value, if it has one, and returns that.
-fn put_in<T: Drop>(entries: &mut Rings<Entry<T>>, id: OpId, index: usize, value: T) -> Option<T>
+/// Puts an entry where its id belongs. Replaces the id's value, if it has one.
+fn put_in<T: Drop>(entries: &mut Rings<Entry<T>>, id: OpId, index: usize, value: T)
     requires rising { IsTrue (is_sorted id_cmp (entries_of entries.old.items)) }
     requires room { 0 < entries.old.room }
-    ensures replaced { result ≡ find id_cmp id (entries_of entries.old.items) }
     ensures entries { entries_of entries.new.items ≡ put id_cmp id value (entries_of entries.old.items) }
     ensures indices { indices_of entries.new.items
         ≡ put_index id index (keys_of (entries_of entries.old.items)) (indices_of entries.old.items) }
@@ -192,7 +189,7 @@ fn put_in<T: Drop>(entries: &mut Rings<Entry<T>>, id: OpId, index: usize, value:
                 replica,
                 value,
             };
-            Some(entries.replace(position, entry).value)
+            let _ = entries.replace(position, entry);
         }
         Err(position) => {
             let entry = Entry {
@@ -202,7 +199,6 @@ fn put_in<T: Drop>(entries: &mut Rings<Entry<T>>, id: OpId, index: usize, value:
                 value,
             };
             entries.insert(position, entry);
-            None
         }
     }
 }

@@ -43,7 +43,7 @@ impl<T: Drop> Held<T> {
     {
         let mut list = first_list(alloc)?;
         let entry = self.take_single();
-        let _ = list.put(entry.id(), entry.index, entry.value);
+        list.put(entry.id(), entry.index, entry.value);
         let reserved = list.reserve_one();
         *self = Held::Many(list);
         reserved

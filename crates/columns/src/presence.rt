@@ -114,7 +114,7 @@ impl Presence {
     /// Puts an entry where its id belongs; `index` is the index of the id's replica in the table. Replaces the id's tag, if it has one.
     ///
     /// Allocates nothing. The first entry is one write; then a binary search and one insert into `Rings`, and for the greatest id
-    /// one comparison and one push.
+    /// one comparison and one push. Looks at each entry where a tag is replaced, which no write of a document does.
     pub fn put(&mut self, id: OpId, index: usize, tag: Tag)
         requires { 0 < self.old.room }
         ensures entries { self.new.entries ≡ put id_cmp id tag self.old.entries }
@@ -131,7 +131,7 @@ impl Presence {
     }
 
     /// Removes the entries whose ids the vector covers. Allocates nothing. Of several entries it makes the rings contiguous, looks at each
-    /// once, and moves the entries that stay to the front.
+    /// once, moves the entries that stay to the front, and looks at these once more where others went.
     pub fn clear(&mut self, vector: &VersionVector)
         requires { All (λ index. index < length vector.now) self.old.indices }
         ensures kept { zip self.new.entries self.new.indices

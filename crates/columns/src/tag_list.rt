@@ -101,9 +101,13 @@ impl TagList {
             → AreIndicesIn table self.new.entries self.new.indices }
         ensures room { self.old.room ≤ self.new.room + 1 }
     {
-        self.kinds = match self.entries.put(id, index, tag) {
-            None => self.kinds.with(tag),
-            Some(_) => kinds_of(&self.entries),
+        let count = self.entries.len();
+        self.entries.put(id, index, tag);
+        // Where a tag was replaced, it may have been the only one of its kind.
+        self.kinds = if self.entries.len() > count {
+            self.kinds.with(tag)
+        } else {
+            kinds_of(&self.entries)
         };
     }
 

@@ -8,9 +8,9 @@ use Rattle.semantics.proofs.Orders.{id_total}
 use Rattle.columns.specs.Rank.{StandsAt, GoesTo, keys_of, rank}
 use Rattle.columns.specs.Entries.{entries_of, id_of, indices_of}
 use Rattle.columns.specs.declared.entry.Entry.{Entry}
-use Rattle.columns.proofs.Puts.{find_absent, find_read, put_new}
+use Rattle.columns.proofs.Puts.{put_new}
 use Rattle.columns.proofs.Ranks.{there_at}
-use Rattle.columns.proofs.Columns.{put_own, slice_get-entries_of, insert-map, length-entries_of, length-keys_of}
+use Rattle.columns.proofs.Columns.{put_own, insert-map, length-entries_of, length-keys_of}
 use Rattle.columns.proofs.entry_list.put_in.Goals as goal
 
 pub get-requires : goal.get-requires
@@ -28,17 +28,6 @@ insert-requires-clause-within g c =
     let within = s.within in
     let long = length-keys_of (entries_of es) ∙ length-entries_of es in
     omega (arith, within, long)
-
-pub returns-in-Ok-clause-replaced : goal.returns-in-Ok-clause-replaced
-returns-in-Ok-clause-replaced g c =
-    let es = c.args.entries.now.items in
-    let old = c.replace.result in
-    sym (find_read id_cmp c.args.id (entries_of es) c.in-Ok.position (id_of old, old.value) c.in-Ok.ensures
-    (slice_get-entries_of es c.in-Ok.position old c.replace.ensures.value))
-
-pub returns-in-Err-clause-replaced : goal.returns-in-Err-clause-replaced
-returns-in-Err-clause-replaced g c =
-    sym (find_absent id_cmp c.args.id (entries_of c.args.entries.now.items) c.in-Err.position c.in-Err.ensures)
 
 pub returns-in-Ok-clause-entries : goal.returns-in-Ok-clause-entries
 returns-in-Ok-clause-entries g c =
