@@ -1,0 +1,66 @@
+//! Why a call of a notebook fails.
+
+use crate::store::StoreFailed;
+use engine::Refusal;
+use journal::Unfit;
+use std::alloc::AllocError;
+use std::fmt;
+use thiserror::Error;
+
+/// Why a call of a notebook fails.
+#[derive(Clone, Copy, Debug, PartialEq, Eq, Error)]
+pub enum Fault {
+    /// The engine refuses it. Of this call nothing is in the document.
+    Refused(Refusal),
+    /// Memory was short when it was to be published. It is in the document once the next call that stores has published it: don't submit
+    /// it again.
+    Held,
+    /// A line of the journal, counted from 1, doesn't fit: the file was changed, or is none of this kind. The store is as it was.
+    Damaged { line: u64, why: Unfit },
+    /// The store failed, and has what it had. What was written is in the document, and is stored by the next call that stores: don't submit
+    /// it again.
+    Store(StoreFailed),
+    /// A sync or a cut failed, so nobody knows what the store has. Nothing more is stored: end the notebook, and open it anew.
+    MustStartAgain,
+}
+
+impl fmt::Display for Fault {
+    fn fmt<W: fmt::Write>(&self, f: &mut fmt::Formatter<W>) -> fmt::Result {
+        match self {
+            Fault::Refused(why) => write!(f, "refused: {why:?}"),
+            Fault::Held => f.write_str("not published yet"),
+            Fault::Damaged { line, why } => write!(f, "line {line} doesn't fit: {why:?}"),
+            Fault::Store(failed) => write!(f, "{failed}"),
+            Fault::MustStartAgain => f.write_str("the store failed: start again"),
+        }
+    }
+}
+
+impl From<Refusal> for Fault {
+    ghost use Rattle.std.specs.Prelude.{◌≡◌};
+    ghost use Rattle.notebook.specs.declared.fault.Fault.TheVariants.{Refused};
+
+    ghost from_gives = { λ why fault. fault ≡ Refused why };
+
+    fn from(refusal: Refusal) -> Fault {
+        Fault::Refused(refusal)
+    }
+}
+
+impl From<StoreFailed> for Fault {
+    ghost use Rattle.std.specs.Prelude.{◌≡◌};
+    ghost use Rattle.notebook.specs.declared.fault.Fault.TheVariants.{Store};
+
+    ghost from_gives = { λ why fault. fault ≡ Store why };
+
+    fn from(failed: StoreFailed) -> Fault {
+        Fault::Store(failed)
+    }
+}
+
+/// A notebook that didn't open: its store, and why.
+#[derive(Debug, Drop)]
+pub struct Unopened<S> {
+    pub store: S,
+    pub why: Fault,
+}

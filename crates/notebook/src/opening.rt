@@ -1,0 +1,182 @@
+//! Opening a notebook: an engine that goes on from a journal.
+
+ghost use Rattle.std.specs.Prelude.{◌≡◌};
+ghost use Rattle.ids.specs.Members.{in_order};
+
+use crate::fault::{Fault, Unopened};
+use crate::saved::{Journal, is_begun, unfit, whole_len};
+use crate::store::{Store, StoreFailed};
+use crate::writing::Notebook;
+use engine::{
+    Client, Config, EngineName, Parts, ReaderToken, Refusal, Writer, close, open as open_engine,
+};
+use ids::ReplicaId;
+use journal::{Outgoing, Replay, Unfit};
+use std::alloc::Global;
+use std::sync::Wait;
+
+/// The configuration of a notebook's engine: it lists its own number alone, and has a client and two readers.
+///
+/// # Errors
+/// `NoMemory` if allocation fails.
+pub fn config_of(alloc: Global, own: ReplicaId) -> Result<Config, Refusal> {
+    Ok(Config {
+        own: own.number(),
+        members: vec![in alloc; own.number()]?,
+        clients: 1,
+        readers: 2,
+        queue: 256,
+        batch: 256,
+        serials: u32::MAX,
+    })
+}
+
+impl<N: EngineName, S: Store> Notebook<N, S> {
+    /// Opens a notebook that goes on from a journal, whose number is that of the parts. Takes the whole lines; cuts the store behind them;
+    /// syncs it, since what a start reads may be in memory alone; and then calls all of them stored. Costs what receiving as many lines
+    /// costs.
+    ///
+    /// # Errors
+    /// The store comes back with why. `Refused` as `open` of an engine has it, also if the parts have no client or fewer than two readers;
+    /// `Damaged` with the first line that doesn't fit, also one without a line feed that doesn't begin like a line: the store is as it was
+    /// then. `Store` if it can't be cut or synced.
+    pub fn open(
+        rt: &impl Wait,
+        alloc: Global,
+        parts: Parts,
+        journal: Journal<S>,
+    ) -> Result<Notebook<N, S>, Unopened<S>>
+        requires book { parts.opened.seen.book ≡ N.book }
+        requires own { parts.config.own ≡ N.own }
+        requires table { in_order parts.config.members ≡ N.table }
+    {
+        let Journal { mut store, bytes } = journal;
+        match begin::<N, S>(rt, alloc, parts, &mut store, &bytes) {
+            Ok(ends) => Ok(Notebook::of(ends, store)),
+            Err(why) => Err(Unopened { store, why }),
+        }
+    }
+}
+
+/// The ends of an engine that has gone on from a journal.
+pub struct Ends<N: EngineName> {
+    pub writer: Writer<N>,
+    pub client: Client<N>,
+    /// The other clients of the configuration, and room for this one.
+    pub others: Vec<Client<N>>,
+    pub reader: ReaderToken<N>,
+    pub outgoing: Outgoing<N>,
+    /// How many bytes the lines have that it went on from.
+    pub length: u64,
+}
+
+/// Opens an engine, and lets it go on from the whole lines of these bytes, which the store has.
+fn begin<N: EngineName, S: Store>(
+    rt: &impl Wait,
+    alloc: Global,
+    parts: Parts,
+    store: &mut S,
+    bytes: &[u8],
+) -> Result<Ends<N>, Fault>
+    requires book { parts.opened.seen.book ≡ N.book }
+    requires own { parts.config.own ≡ N.own }
+    requires table { in_order parts.config.members ≡ N.table }
+{
+    let (mut writer, mut others, readers) = open_engine::<N>(rt, alloc, parts)?;
+    let Some(mut client) = others.pop() else {
+        let _final = close(rt, writer, others);
+        return Err(Fault::Refused(Refusal::NoReaderPlace));
+    };
+    match go_on(rt, alloc, &mut writer, &mut client, readers, store, bytes) {
+        Ok((reader, outgoing, length)) => Ok(Ends {
+            writer,
+            client,
+            others,
+            reader,
+            outgoing,
+            length,
+        }),
+        Err(why) => {
+            end(rt, writer, client, others);
+            Err(why)
+        }
+    }
+}
+
+/// Closes an engine with all its clients, for one of which there is room among the others.
+pub fn end<N: EngineName>(
+    rt: &impl Wait,
+    writer: Writer<N>,
+    client: Client<N>,
+    others: Vec<Client<N>>,
+) {
+    let mut clients = others;
+    let _room = clients.push(client);
+    let _final = close(rt, writer, clients);
+}
+
+/// Lets a new engine go on from the whole lines of these bytes. Returns its readers, and how many bytes the lines have.
+fn go_on<N: EngineName, S: Store>(
+    rt: &impl Wait,
+    alloc: Global,
+    writer: &mut Writer<N>,
+    client: &mut Client<N>,
+    readers: Vec<ReaderToken<N>>,
+    store: &mut S,
+    bytes: &[u8],
+) -> Result<(ReaderToken<N>, Outgoing<N>, u64), Fault> {
+    let mut readers = readers;
+    let (Some(reader), Some(token)) = (readers.pop(), readers.pop()) else {
+        return Err(Fault::Refused(Refusal::NoReaderPlace));
+    };
+    let length = replay(rt, alloc, writer, client, bytes)?;
+    keep_whole(store, length, bytes.len())?;
+    let outgoing = outgoing_of(writer, client, token)?;
+    Ok((reader, outgoing, length as u64))
+}
+
+/// Brings back the whole lines of these bytes, and returns how long they are.
+fn replay<N: EngineName>(
+    rt: &impl Wait,
+    alloc: Global,
+    writer: &mut Writer<N>,
+    client: &mut Client<N>,
+    bytes: &[u8],
+) -> Result<usize, Fault> {
+    let whole = whole_len(bytes);
+    let replayed = Replay::new().take(rt, alloc, writer, client, &bytes[..whole]);
+    if let Some((line, why)) = replayed.stopped {
+        return Err(unfit(line, why));
+    }
+    if is_begun(&bytes[whole..]) {
+        Ok(whole)
+    } else {
+        let line = replayed.entries.saturating_add(1);
+        Err(unfit(line, Unfit::Refused(Refusal::BadLine)))
+    }
+}
+
+/// Leaves the whole lines alone in the store, and sees to it that they survive.
+fn keep_whole<S: Store>(store: &mut S, whole: usize, length: usize) -> Result<(), StoreFailed> {
+    if whole < length {
+        store.cut(whole as u64)?;
+    }
+    store.sync()
+}
+
+/// What answers peers, out of all that the client has seen: that stands in the store.
+fn outgoing_of<N: EngineName>(
+    writer: &Writer<N>,
+    client: &Client<N>,
+    token: ReaderToken<N>,
+) -> Result<Outgoing<N>, Refusal> {
+    let mut token = token;
+    token.learn(&writer.notice());
+    if token.seen_len() < client.seen_len() {
+        // Never: what a client has seen is published. No contract says so.
+        return Err(Refusal::NoReading);
+    }
+    let mut outgoing = Outgoing::new(token, client.replica());
+    outgoing.call_stored(client.seen_len());
+    Ok(outgoing)
+}

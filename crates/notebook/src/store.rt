@@ -1,0 +1,53 @@
+//! What keeps the bytes of a journal.
+
+use std::alloc::Global;
+use std::io::ErrorKind;
+use std::{fmt, io};
+use thiserror::Error;
+
+/// A call of a store failed, in the way that the system says.
+#[derive(Clone, Copy, Debug, PartialEq, Eq, Error)]
+pub struct StoreFailed {
+    pub kind: ErrorKind,
+}
+
+impl fmt::Display for StoreFailed {
+    fn fmt<W: fmt::Write>(&self, f: &mut fmt::Formatter<W>) -> fmt::Result {
+        let kind = self.kind;
+        write!(f, "the store failed: {kind}")
+    }
+}
+
+impl From<io::Error> for StoreFailed {
+    fn from(error: io::Error) -> StoreFailed {
+        StoreFailed { kind: error.kind() }
+    }
+}
+
+/// A place for bytes that survive a loss of power: a file, for example. One notebook has it at a time, of one program.
+pub trait Store {
+    /// All its bytes, from the first one on, also those that aren't synced.
+    ///
+    /// # Errors
+    /// `StoreFailed`. Nothing changes.
+    fn read(&mut self, alloc: Global) -> Result<Vec<u8>, StoreFailed>;
+
+    /// Puts the bytes behind those it has.
+    ///
+    /// # Errors
+    /// `StoreFailed`. It may have taken a part of the bytes, from the first one on.
+    fn append(&mut self, bytes: &[u8]) -> Result<(), StoreFailed>;
+
+    /// Makes all that it has survive a loss of power. What was there at a sync that succeeded is there until a `cut` takes it. Of what came
+    /// after it, a loss of power may leave nothing, all, or the first bytes.
+    ///
+    /// # Errors
+    /// `StoreFailed`. Nobody knows then what would survive, and a later sync may succeed without having written.
+    fn sync(&mut self) -> Result<(), StoreFailed>;
+
+    /// Takes away all bytes behind the first `len`, of at least as many.
+    ///
+    /// # Errors
+    /// `StoreFailed`. It may have taken some of them.
+    fn cut(&mut self, len: u64) -> Result<(), StoreFailed>;
+}
