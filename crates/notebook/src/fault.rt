@@ -47,6 +47,18 @@ impl From<Refusal> for Fault {
     }
 }
 
+impl From<AllocError> for Fault {
+    ghost use Rattle.std.specs.Prelude.{◌≡◌};
+    ghost use Rattle.ids.specs.declared.refusal.Refusal.TheVariants.{NoMemory};
+    ghost use Rattle.notebook.specs.declared.fault.Fault.TheVariants.{Refused};
+
+    ghost from_gives = { λ _ fault. fault ≡ Refused NoMemory };
+
+    fn from(_error: AllocError) -> Fault {
+        Fault::Refused(Refusal::NoMemory)
+    }
+}
+
 impl From<StoreFailed> for Fault {
     ghost use Rattle.std.specs.Prelude.{◌≡◌};
     ghost use Rattle.notebook.specs.declared.fault.Fault.TheVariants.{Store};

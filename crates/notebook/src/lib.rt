@@ -17,7 +17,7 @@ mod writing;
 pub use exchange::Receipt;
 pub use fault::{Fault, Unopened};
 pub use file::FileStore;
-pub use opening::config_of;
+pub use opening::{config_of, draw_number};
 pub use saved::Journal;
 pub use store::{Store, StoreFailed};
 pub use writing::Notebook;

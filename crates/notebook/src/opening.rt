@@ -13,6 +13,7 @@ use engine::{
 use ids::ReplicaId;
 use journal::{Outgoing, Replay, Unfit};
 use std::alloc::Global;
+use std::random::RandomSource;
 use std::sync::Wait;
 
 /// The configuration of a notebook's engine: it lists its own number alone, and has a client and two readers.
@@ -29,6 +30,20 @@ pub fn config_of(alloc: Global, own: ReplicaId) -> Result<Config, Refusal> {
         batch: 256,
         serials: u32::MAX,
     })
+}
+
+/// A number that was drawn: for a notebook that has written nothing yet.
+///
+/// # Errors
+/// `Store` if the system gives no random bytes.
+pub fn draw_number(rt: &impl RandomSource) -> Result<ReplicaId, Fault> {
+    let mut bytes = [0; 4];
+    if let Err(error) = rt.fill_bytes(&mut bytes) {
+        return Err(Fault::Store(StoreFailed::from(error)));
+    }
+    // 0 is no number.
+    let number = u32::from_le_bytes(bytes).max(1);
+    Ok(ReplicaId::new(number).ok_or(Refusal::UnknownReplica)?)
 }
 
 impl<N: EngineName, S: Store> Notebook<N, S> {
