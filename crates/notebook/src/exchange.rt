@@ -44,7 +44,7 @@ impl<N: EngineName, S: Store> Notebook<N, S> {
         alloc: Global,
         bundle: &[u8],
     ) -> Result<Receipt, Fault> {
-        self.check()?;
+        self.shelf.check()?;
         let submitted = self.submit_all(rt, alloc, bundle)?;
         self.settle(rt, alloc)?;
         let receipt = self.receipt_of(&submitted)?;

@@ -11,6 +11,7 @@ mod fault;
 mod file;
 mod opening;
 mod saved;
+mod shelf;
 mod store;
 mod writing;
 

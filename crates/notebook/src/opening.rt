@@ -5,6 +5,7 @@ ghost use Rattle.ids.specs.Members.{in_order};
 
 use crate::fault::{Fault, Unopened};
 use crate::saved::{Journal, is_begun, unfit, whole_len};
+use crate::shelf::Shelf;
 use crate::store::{Store, StoreFailed};
 use crate::writing::Notebook;
 use engine::{
@@ -65,9 +66,15 @@ impl<N: EngineName, S: Store> Notebook<N, S> {
         requires own { parts.config.own ≡ N.own }
         requires table { in_order parts.config.members ≡ N.table }
     {
-        let Journal { mut store, bytes } = journal;
-        match begin::<N, S>(rt, alloc, parts, &mut store, &bytes) {
-            Ok(ends) => Ok(Notebook::of(ends, store)),
+        let Journal { store, bytes } = journal;
+        match begin::<N>(rt, alloc, parts, &bytes) {
+            Ok(ends) => match Shelf::of(store, ends.length, bytes.len()) {
+                Ok(shelf) => Ok(Notebook::of(ends, shelf)),
+                Err(unopened) => {
+                    ends.close(rt);
+                    Err(unopened)
+                }
+            },
             Err(why) => Err(Unopened { store, why }),
         }
     }
@@ -82,15 +89,29 @@ pub struct Ends<N: EngineName> {
     pub reader: ReaderToken<N>,
     pub outgoing: Outgoing<N>,
     /// How many bytes the lines have that it went on from.
-    pub length: u64,
+    pub length: usize,
 }
 
-/// Opens an engine, and lets it go on from the whole lines of these bytes, which the store has.
-fn begin<N: EngineName, S: Store>(
+impl<N: EngineName> Ends<N> {
+    /// Closes the engine.
+    fn close(self, rt: &impl Wait) {
+        let Ends {
+            writer,
+            client,
+            others,
+            reader: _reader,
+            outgoing: _outgoing,
+            length: _,
+        } = self;
+        end(rt, writer, client, others);
+    }
+}
+
+/// Opens an engine, and lets it go on from the whole lines of these bytes.
+fn begin<N: EngineName>(
     rt: &impl Wait,
     alloc: Global,
     parts: Parts,
-    store: &mut S,
     bytes: &[u8],
 ) -> Result<Ends<N>, Fault>
     requires book { parts.opened.seen.book ≡ N.book }
@@ -102,7 +123,7 @@ fn begin<N: EngineName, S: Store>(
         let _final = close(rt, writer, others);
         return Err(Fault::Refused(Refusal::NoReaderPlace));
     };
-    match go_on(rt, alloc, &mut writer, &mut client, readers, store, bytes) {
+    match go_on(rt, alloc, &mut writer, &mut client, readers, bytes) {
         Ok((reader, outgoing, length)) => Ok(Ends {
             writer,
             client,
@@ -131,23 +152,21 @@ pub fn end<N: EngineName>(
 }
 
 /// Lets a new engine go on from the whole lines of these bytes. Returns its readers, and how many bytes the lines have.
-fn go_on<N: EngineName, S: Store>(
+fn go_on<N: EngineName>(
     rt: &impl Wait,
     alloc: Global,
     writer: &mut Writer<N>,
     client: &mut Client<N>,
     readers: Vec<ReaderToken<N>>,
-    store: &mut S,
     bytes: &[u8],
-) -> Result<(ReaderToken<N>, Outgoing<N>, u64), Fault> {
+) -> Result<(ReaderToken<N>, Outgoing<N>, usize), Fault> {
     let mut readers = readers;
     let (Some(reader), Some(token)) = (readers.pop(), readers.pop()) else {
         return Err(Fault::Refused(Refusal::NoReaderPlace));
     };
     let length = replay(rt, alloc, writer, client, bytes)?;
-    keep_whole(store, length, bytes.len())?;
     let outgoing = outgoing_of(writer, client, token)?;
-    Ok((reader, outgoing, length as u64))
+    Ok((reader, outgoing, length))
 }
 
 /// Brings back the whole lines of these bytes, and returns how long they are.
@@ -171,15 +190,7 @@ fn replay<N: EngineName>(
     }
 }
 
-/// Leaves the whole lines alone in the store, and sees to it that they survive.
-fn keep_whole<S: Store>(store: &mut S, whole: usize, length: usize) -> Result<(), StoreFailed> {
-    if whole < length {
-        store.cut(whole as u64)?;
-    }
-    store.sync()
-}
-
-/// What answers peers, out of all that the client has seen: that stands in the store.
+/// What answers peers, out of all that the client has seen.
 fn outgoing_of<N: EngineName>(
     writer: &Writer<N>,
     client: &Client<N>,
@@ -191,7 +202,5 @@ fn outgoing_of<N: EngineName>(
         // Never: what a client has seen is published. No contract says so.
         return Err(Refusal::NoReading);
     }
-    let mut outgoing = Outgoing::new(token, client.replica());
-    outgoing.call_stored(client.seen_len());
-    Ok(outgoing)
+    Ok(Outgoing::new(token, client.replica()))
 }

@@ -12,11 +12,12 @@ use wire::Lines;
 /// How each line of a journal begins.
 const START: &[u8] = b"[\"o";
 
-/// A store and what it held when it was read.
-#[derive(Debug, Drop)]
-pub struct Journal<S> {
+/// A store and what it had when it was read.
+#[derive(Drop)]
+pub struct Journal<S: Store> {
     pub(crate) store: S,
     pub(crate) bytes: Vec<u8>,
+    pub ghost read: { IfSome (S.contents store) (λ xs. bytes.items ≡ xs) },
 }
 
 impl<S: Store> Journal<S> {

@@ -1,5 +1,9 @@
 //! What keeps the bytes of a journal.
 
+ghost use Rattle.std.specs.Prelude.{◌≡◌, ℕ, List, Option, None, IfOk, IfSome, OnOk, OnErr};
+ghost use Rattle.std.specs.Io.KnownBytes.{append_known};
+ghost use Rattle.notebook.specs.Shelves.{AppendsSome, first_known};
+
 use std::alloc::Global;
 use std::io::ErrorKind;
 use std::{fmt, io};
@@ -25,29 +29,39 @@ impl From<io::Error> for StoreFailed {
 }
 
 /// A place for bytes that survive a loss of power: a file, for example. One notebook has it at a time, of one program.
+///
+/// Contracts see which bytes it has, as a read gives them, where a store says so. What survives is said here, and nobody proves it.
 pub trait Store {
+    ghost contents: { Self → Option (List ℕ) } = { λ _. None };
+
     /// All its bytes, from the first one on, also those that aren't synced.
     ///
     /// # Errors
-    /// `StoreFailed`. Nothing changes.
-    fn read(&mut self, alloc: Global) -> Result<Vec<u8>, StoreFailed>;
+    /// `StoreFailed`.
+    fn read(&mut self, alloc: Global) -> Result<Vec<u8>, StoreFailed>
+        ensures bytes { IfOk result (λ bytes. IfSome (contents self.old) (λ xs. bytes.items ≡ xs)) }
+        ensures same { contents self.new ≡ contents self.old };
 
     /// Puts the bytes behind those it has.
     ///
     /// # Errors
     /// `StoreFailed`. It may have taken a part of the bytes, from the first one on.
-    fn append(&mut self, bytes: &[u8]) -> Result<(), StoreFailed>;
+    fn append(&mut self, bytes: &[u8]) -> Result<(), StoreFailed>
+        ensures ok { OnOk result (contents self.new ≡ append_known (contents self.old) bytes.now) }
+        ensures err { OnErr result (AppendsSome (contents self.old) (contents self.new)) };
 
     /// Makes all that it has survive a loss of power. What was there at a sync that succeeded is there until a `cut` takes it. Of what came
     /// after it, a loss of power may leave nothing, all, or the first bytes.
     ///
     /// # Errors
     /// `StoreFailed`. Nobody knows then what would survive, and a later sync may succeed without having written.
-    fn sync(&mut self) -> Result<(), StoreFailed>;
+    fn sync(&mut self) -> Result<(), StoreFailed>
+        ensures same { contents self.new ≡ contents self.old };
 
     /// Takes away all bytes behind the first `len`, of at least as many.
     ///
     /// # Errors
     /// `StoreFailed`. It may have taken some of them.
-    fn cut(&mut self, len: u64) -> Result<(), StoreFailed>;
+    fn cut(&mut self, len: u64) -> Result<(), StoreFailed>
+        ensures ok { OnOk result (contents self.new ≡ first_known len (contents self.old)) };
 }

@@ -1,7 +1,11 @@
 //! Writing, and storing what was written.
 
+ghost use Rattle.std.specs.Prelude.{◌≡◌, ◌⊎◌, length, max, Err, IfErr, IfOk, OnOk, OnErr};
+ghost use Rattle.notebook.specs.declared.fault.Fault.TheVariants.{Held, MustStartAgain};
+
 use crate::fault::Fault;
 use crate::opening::{Ends, end};
+use crate::shelf::Shelf;
 use crate::store::Store;
 use engine::{
     Client, Command, EngineName, OpId, ReaderToken, Refusal, Reply, Step, Ticket, Writer,
@@ -9,6 +13,7 @@ use engine::{
 use ids::ReplicaId;
 use journal::{Outgoing, Written};
 use std::alloc::Global;
+use std::marker::Model;
 use std::sync::Wait;
 
 /// A document in a store, for one thread at a time. What a call of it says is saved, or sends, is there at the next start. Its engine's
@@ -19,38 +24,61 @@ pub struct Notebook<N: EngineName, S: Store> {
     others: Vec<Client<N>>,
     pub(crate) reader: ReaderToken<N>,
     pub(crate) outgoing: Outgoing<N>,
-    store: S,
-    /// How many bytes the entries have in the store that are called stored.
-    length: u64,
-    /// Whether a sync or a cut failed.
-    is_lost: bool,
+    pub(crate) shelf: Shelf<S>,
+}
+
+impl<N: EngineName, S: Store> Model for Notebook<N, S> {
+    ghost use Rattle.std.specs.Coded.{codes};
+    ghost use Rattle.semantics.specs.Codes.{coded_element};
+    ghost use Rattle.notebook.specs.Notebooks.{Notebook};
+
+    ghost Value = { Notebook };
+
+    ghost coded = { Prim.hlevel (codes, coded_element) };
+
+    ghost view = { λ n. record {
+      own = n.outgoing.own;
+      seen = n.outgoing.seen;
+      stored = n.outgoing.stored;
+      client = n.client;
+      shown = n.reader.seen;
+      published = n.writer.published;
+      held = n.shelf.held;
+      is_lost = n.shelf.is_lost;
+    } };
 }
 
 impl<N: EngineName, S: Store> Notebook<N, S> {
-    /// The notebook of an engine and of the store that it went on from.
-    pub(crate) fn of(ends: Ends<N>, store: S) -> Notebook<N, S> {
+    /// The notebook of an engine that went on from what is on the shelf: all of that is stored.
+    pub(crate) fn of(ends: Ends<N>, shelf: Shelf<S>) -> Notebook<N, S>
+        ensures history { (result.own ≡ ends.outgoing.own) × (result.seen ≡ ends.outgoing.seen)
+            × (result.stored ≡ max ends.outgoing.stored (length ends.outgoing.seen)) }
+        ensures shelf { (result.held ≡ shelf.held) × (result.is_lost ≡ shelf.is_lost) }
+    {
         let Ends {
             writer,
             client,
             others,
             reader,
             outgoing,
-            length,
+            length: _,
         } = ends;
+        let mut outgoing = outgoing;
+        outgoing.call_stored(usize::MAX);
         Notebook {
             writer,
             client,
             others,
             reader,
             outgoing,
-            store,
-            length,
-            is_lost: false,
+            shelf,
         }
     }
 
     /// The number that it writes under.
-    pub fn own(&self) -> ReplicaId {
+    pub fn own(&self) -> ReplicaId
+        ensures { result ≡ self.now.client.replica }
+    {
         self.client.replica()
     }
 
@@ -67,7 +95,7 @@ impl<N: EngineName, S: Store> Notebook<N, S> {
         alloc: Global,
         command: Command,
     ) -> Result<OpId, Fault> {
-        self.check()?;
+        self.shelf.check()?;
         let ticket = self.client.submit(rt, alloc, command)?;
         self.settle(rt, alloc)?;
         let id = self.made(&ticket)?;
@@ -80,37 +108,35 @@ impl<N: EngineName, S: Store> Notebook<N, S> {
     /// # Errors
     /// `Held`, `Store` and `MustStartAgain`, as `write`; `Refused` with `NoMemory`.
     pub fn save(&mut self, rt: &impl Wait, alloc: Global) -> Result<(), Fault> {
-        self.check()?;
+        self.shelf.check()?;
         self.settle(rt, alloc)?;
         self.store_all(alloc)
     }
 
     /// Ends the engine with all its clients, and gives back the store. What isn't saved is lost.
-    pub fn end(self, rt: &impl Wait) -> S {
+    pub fn end(self, rt: &impl Wait) -> S
+        ensures { S.contents result ≡ self.held }
+    {
         let Notebook {
             writer,
             client,
             others,
             reader: _reader,
             outgoing: _outgoing,
-            store,
-            length: _,
-            is_lost: _,
+            shelf,
         } = self;
         end(rt, writer, client, others);
-        store
-    }
-
-    /// Tests that no sync and no cut has failed.
-    pub(crate) fn check(&self) -> Result<(), Fault> {
-        if self.is_lost {
-            return Err(Fault::MustStartAgain);
-        }
-        Ok(())
+        shelf.into_store()
     }
 
     /// Has the writer handle and publish all that was submitted.
-    pub(crate) fn settle(&mut self, rt: &impl Wait, alloc: Global) -> Result<(), Fault> {
+    ///
+    /// # Errors
+    /// `Held` if memory was short in a publish.
+    pub(crate) fn settle(&mut self, rt: &impl Wait, alloc: Global) -> Result<(), Fault>
+        ensures same { self.new ≡ record self.old { published = self.new.published } }
+        ensures err { IfErr result (λ why. why ≡ Held) }
+    {
         for _ in rt.forever() {
             match self.writer.step(rt, alloc) {
                 Step::Published(_) => {}
@@ -133,35 +159,9 @@ impl<N: EngineName, S: Store> Notebook<N, S> {
 
     /// Stores the entries that aren't stored, and calls them so once the store has synced them.
     pub(crate) fn store_all(&mut self, alloc: Global) -> Result<(), Fault> {
-        self.check()?;
         let Written { lines, upto } = self.outgoing.unstored(alloc)?;
-        if !lines.is_empty() {
-            self.append(&lines)?;
-            self.sync()?;
-            self.length = self.length.saturating_add(lines.len() as u64);
-        }
+        self.shelf.put(&lines)?;
         self.outgoing.call_stored(upto);
-        Ok(())
-    }
-
-    /// Appends these lines, or nothing.
-    fn append(&mut self, lines: &[u8]) -> Result<(), Fault> {
-        let Err(failed) = self.store.append(lines) else {
-            return Ok(());
-        };
-        if self.store.cut(self.length).is_err() {
-            self.is_lost = true;
-            return Err(Fault::MustStartAgain);
-        }
-        Err(Fault::Store(failed))
-    }
-
-    /// Syncs the store.
-    fn sync(&mut self) -> Result<(), Fault> {
-        if self.store.sync().is_err() {
-            self.is_lost = true;
-            return Err(Fault::MustStartAgain);
-        }
         Ok(())
     }
 }

@@ -1,0 +1,3 @@
+-- What a store has, what stands in a journal, and what contracts see of a notebook.
+pub mod Shelves
+pub mod Notebooks
