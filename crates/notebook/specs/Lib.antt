@@ -1,3 +1,4 @@
 -- What a store has, what stands in a journal, and what contracts see of a notebook.
-pub mod Shelves
 pub mod Notebooks
+pub mod Shelves
+pub mod WholeLines

@@ -1,5 +1,19 @@
 //! Exchange with peers.
 
+ghost use Rattle.std.specs.Prelude.{◌≡◌, ◌⊎◌, [], Ok, Err, IfErr, IfOk, MatchResult, true};
+ghost use Rattle.ids.specs.declared.refusal.Refusal.TheVariants.{NoMemory};
+ghost use Rattle.semantics.specs.Entries.{IsEntryHistory, applied, first_entries, lacked_of};
+ghost use Rattle.semantics.specs.NamedIds.{vector_of};
+ghost use Rattle.semantics.specs.Vectors.{Vector};
+ghost use Rattle.semantics.specs.WorldHistory.{BeginsWith};
+ghost use Rattle.engine.specs.published.Tokens.{GivesNoReading};
+ghost use Rattle.wire.specs.Bundles.{bundle_form, bundle_text};
+ghost use Rattle.wire.specs.Messages.{hello_form};
+ghost use Rattle.peer_sync.specs.Sending.{hello_text, without_end};
+ghost use Rattle.journal.specs.Outgoing.{is_beyond};
+ghost use Rattle.notebook.specs.declared.fault.Fault.TheVariants.{Held, MustStartAgain};
+ghost use Rattle.notebook.specs.Notebooks.{GoesOn, IsNotSaved, IsSaved};
+
 use crate::fault::Fault;
 use crate::store::Store;
 use crate::writing::Notebook;
@@ -43,7 +57,11 @@ impl<N: EngineName, S: Store> Notebook<N, S> {
         rt: &impl Wait,
         alloc: Global,
         bundle: &[u8],
-    ) -> Result<Receipt, Fault> {
+    ) -> Result<Receipt, Fault>
+        ensures saved { MatchResult result (λ _. IsSaved self.old self.new) (λ why. IsNotSaved self.old self.new why) }
+        ensures goes_on { GoesOn self.old self.new }
+        ensures lost { self.old.is_lost ≡ true → (result ≡ Err MustStartAgain) × (self.new ≡ self.old) }
+    {
         self.shelf.check()?;
         let submitted = self.submit_all(rt, alloc, bundle)?;
         self.settle(rt, alloc)?;
@@ -56,7 +74,13 @@ impl<N: EngineName, S: Store> Notebook<N, S> {
     ///
     /// # Errors
     /// As `hello` of `Outgoing`.
-    pub fn hello(&mut self, alloc: Global) -> Result<Vec<u8>, Refusal> {
+    pub fn hello(&mut self, alloc: Global) -> Result<Vec<u8>, Refusal>
+        ensures line { IfOk result (λ text. text.items ≡ hello_text self.new.seen) }
+        ensures reads_back { IfOk result (λ text. hello_form (without_end text.items) ≡ Ok (vector_of (applied self.new.seen))) }
+        ensures err { IfErr result GivesNoReading }
+        ensures grows { BeginsWith self.new.seen self.old.seen × IsEntryHistory N.own self.new.seen }
+        ensures same { self.new ≡ record self.old { seen = self.new.seen } }
+    {
         self.outgoing.hello(alloc)
     }
 
@@ -65,7 +89,20 @@ impl<N: EngineName, S: Store> Notebook<N, S> {
     ///
     /// # Errors
     /// As `answer` of `Outgoing`.
-    pub fn answer(&mut self, alloc: Global, hello: &[u8]) -> Result<Answered, Refusal> {
+    pub fn answer(&mut self, alloc: Global, hello: &[u8]) -> Result<Answered, Refusal>
+        ensures lines { IfOk result
+            (λ a. (v : Vector) × (hello_form (without_end hello.now) ≡ Ok v)
+            × (a.lines.items ≡ bundle_text [] (lacked_of (first_entries self.old.stored self.old.seen) v))
+            × (a.is_beyond ≡ is_beyond self.old.own self.new.seen v)) }
+        ensures reads_back { IfOk result
+            (λ a. (v : Vector) → hello_form (without_end hello.now) ≡ Ok v
+            → bundle_form [] a.lines.items ≡ Ok (lacked_of (first_entries self.old.stored self.old.seen) v)) }
+        ensures err { IfErr result (λ why. GivesNoReading why ⊎ (hello_form (without_end hello.now) ≡ Err why)) }
+        ensures bad { IfErr (hello_form (without_end hello.now))
+            (λ why. ((result ≡ Err why) ⊎ (result ≡ Err NoMemory)) × (self.new ≡ self.old)) }
+        ensures grows { BeginsWith self.new.seen self.old.seen × IsEntryHistory N.own self.new.seen }
+        ensures same { self.new ≡ record self.old { seen = self.new.seen } }
+    {
         self.outgoing.answer(alloc, hello)
     }
 
@@ -75,7 +112,11 @@ impl<N: EngineName, S: Store> Notebook<N, S> {
         rt: &impl Wait,
         alloc: Global,
         bundle: &[u8],
-    ) -> Result<Submitted, Fault> {
+    ) -> Result<Submitted, Fault>
+        ensures same { self.new ≡ record self.old { client = self.new.client; published = self.new.published } }
+        ensures seen { self.new.client.seen ≡ self.old.client.seen }
+        ensures err { IfErr result (λ why. why ≡ Held) }
+    {
         let mut reader = BundleReader::new();
         let mut rest = bundle;
         let mut submitted = Submitted {
@@ -103,7 +144,10 @@ impl<N: EngineName, S: Store> Notebook<N, S> {
     }
 
     /// Lets the writer step once.
-    fn step(&mut self, rt: &impl Wait, alloc: Global) -> Result<(), Fault> {
+    fn step(&mut self, rt: &impl Wait, alloc: Global) -> Result<(), Fault>
+        ensures same { self.new ≡ record self.old { published = self.new.published } }
+        ensures err { IfErr result (λ why. why ≡ Held) }
+    {
         match self.writer.step(rt, alloc) {
             Step::Held => Err(Fault::Held),
             Step::Published(_) | Step::Idle => Ok(()),
@@ -111,7 +155,10 @@ impl<N: EngineName, S: Store> Notebook<N, S> {
     }
 
     /// What became of the operations, once the writer is idle.
-    fn receipt_of(&mut self, submitted: &Submitted) -> Result<Receipt, Refusal> {
+    fn receipt_of(&mut self, submitted: &Submitted) -> Result<Receipt, Refusal>
+        ensures same { self.new ≡ record self.old { client = self.new.client } }
+        ensures grows { BeginsWith self.new.client.seen self.old.client.seen }
+    {
         let mut receipt = Receipt {
             taken: submitted.taken,
             refused: 0,
@@ -128,7 +175,10 @@ impl<N: EngineName, S: Store> Notebook<N, S> {
     }
 
     /// Why what was submitted under this serial was refused, if it was.
-    fn refusal_of(&mut self, serial: u64) -> Result<Option<Refusal>, Refusal> {
+    fn refusal_of(&mut self, serial: u64) -> Result<Option<Refusal>, Refusal>
+        ensures same { self.new ≡ record self.old { client = self.new.client } }
+        ensures grows { BeginsWith self.new.client.seen self.old.client.seen }
+    {
         let ticket = self.client.ticket_of(serial)?;
         match self.client.poll(&ticket)? {
             Some(Reply::Refused(why, _)) => Ok(Some(why)),

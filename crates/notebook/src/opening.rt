@@ -1,7 +1,13 @@
 //! Opening a notebook: an engine that goes on from a journal.
 
-ghost use Rattle.std.specs.Prelude.{◌≡◌};
+ghost use Rattle.std.specs.Prelude.{◌≡◌, ◌∷◌, [], ℕ, false, length, IfErr, IfOk};
+ghost use Rattle.ids.specs.declared.refusal.Refusal.TheVariants.{NoMemory};
 ghost use Rattle.ids.specs.Members.{in_order};
+ghost use Rattle.semantics.specs.Entries.{IsEntryHistory};
+ghost use Rattle.wire.specs.Lines.{cut};
+ghost use Rattle.journal.specs.Replays.{BringsBackLines};
+ghost use Rattle.notebook.specs.Shelves.{first_known};
+ghost use Rattle.notebook.specs.WholeLines.{AreWhole};
 
 use crate::fault::{Fault, Unopened};
 use crate::saved::{Journal, is_begun, unfit, whole_len};
@@ -21,7 +27,10 @@ use std::sync::Wait;
 ///
 /// # Errors
 /// `NoMemory` if allocation fails.
-pub fn config_of(alloc: Global, own: ReplicaId) -> Result<Config, Refusal> {
+pub fn config_of(alloc: Global, own: ReplicaId) -> Result<Config, Refusal>
+    ensures numbers { IfOk result (λ c. (c.own ≡ own) × (c.members ≡ own ∷ []) × (c.clients ≡ 1) × (c.readers ≡ 2)) }
+    ensures err { IfErr result (λ why. why ≡ NoMemory) }
+{
     Ok(Config {
         own: own.number(),
         members: vec![in alloc; own.number()]?,
@@ -65,6 +74,13 @@ impl<N: EngineName, S: Store> Notebook<N, S> {
         requires book { parts.opened.seen.book ≡ N.book }
         requires own { parts.config.own ≡ N.own }
         requires table { in_order parts.config.members ≡ N.table }
+        ensures brought { IfOk result (λ n. BringsBackLines [] (cut journal.bytes.items).lines n.seen) }
+        ensures stored { IfOk result (λ n. n.stored ≡ length n.seen) }
+        ensures legal { IfOk result (λ n. IsEntryHistory N.own n.seen) }
+        ensures client { IfOk result (λ n. n.client.seen ≡ n.seen) }
+        ensures held { IfOk result
+            (λ n. (n.is_lost ≡ false)
+            × ((whole : ℕ) → AreWhole whole journal.bytes.items → n.held ≡ first_known whole (S.contents journal.store))) }
     {
         let Journal { store, bytes } = journal;
         match begin::<N>(rt, alloc, parts, &bytes) {
@@ -117,6 +133,9 @@ fn begin<N: EngineName>(
     requires book { parts.opened.seen.book ≡ N.book }
     requires own { parts.config.own ≡ N.own }
     requires table { in_order parts.config.members ≡ N.table }
+    ensures brought { IfOk result (λ ends. BringsBackLines [] (cut bytes.now).lines ends.client.seen) }
+    ensures sent { IfOk result (λ ends. (ends.outgoing.seen ≡ ends.client.seen) × IsEntryHistory N.own ends.client.seen) }
+    ensures whole { IfOk result (λ ends. AreWhole ends.length bytes.now) }
 {
     let (mut writer, mut others, readers) = open_engine::<N>(rt, alloc, parts)?;
     let Some(mut client) = others.pop() else {
@@ -159,7 +178,11 @@ fn go_on<N: EngineName>(
     client: &mut Client<N>,
     readers: Vec<ReaderToken<N>>,
     bytes: &[u8],
-) -> Result<(ReaderToken<N>, Outgoing<N>, usize), Fault> {
+) -> Result<(ReaderToken<N>, Outgoing<N>, usize), Fault>
+    ensures brought { IfOk result (λ _. BringsBackLines client.old.seen (cut bytes.now).lines client.new.seen) }
+    ensures sent { IfOk result (λ r. (r.1.seen ≡ client.new.seen) × IsEntryHistory N.own client.new.seen) }
+    ensures whole { IfOk result (λ r. AreWhole r.2 bytes.now) }
+{
     let mut readers = readers;
     let (Some(reader), Some(token)) = (readers.pop(), readers.pop()) else {
         return Err(Fault::Refused(Refusal::NoReaderPlace));
@@ -176,7 +199,10 @@ fn replay<N: EngineName>(
     writer: &mut Writer<N>,
     client: &mut Client<N>,
     bytes: &[u8],
-) -> Result<usize, Fault> {
+) -> Result<usize, Fault>
+    ensures brought { IfOk result (λ _. BringsBackLines client.old.seen (cut bytes.now).lines client.new.seen) }
+    ensures whole { IfOk result (λ whole. AreWhole whole bytes.now) }
+{
     let whole = whole_len(bytes);
     let replayed = Replay::new().take(rt, alloc, writer, client, &bytes[..whole]);
     if let Some((line, why)) = replayed.stopped {
@@ -190,16 +216,22 @@ fn replay<N: EngineName>(
     }
 }
 
-/// What answers peers, out of all that the client has seen.
+/// What answers peers by this token, out of all that the client has seen.
 fn outgoing_of<N: EngineName>(
     writer: &Writer<N>,
-    client: &Client<N>,
+    client: &mut Client<N>,
     token: ReaderToken<N>,
-) -> Result<Outgoing<N>, Refusal> {
+) -> Result<Outgoing<N>, Refusal>
+    ensures same { IfOk result (λ _. client.new.seen ≡ client.old.seen) }
+    ensures seen { IfOk result (λ o. (o.seen ≡ client.old.seen) × IsEntryHistory N.own o.seen) }
+{
     let mut token = token;
-    token.learn(&writer.notice());
-    if token.seen_len() < client.seen_len() {
-        // Never: what a client has seen is published. No contract says so.
+    let notice = writer.notice();
+    token.learn(&notice);
+    let seen = client.seen_len();
+    client.learn(&notice);
+    if !token.begins(&notice) || token.seen_len() != seen || client.seen_len() != seen {
+        // Never: what is published is what the client has seen. No contract says so.
         return Err(Refusal::NoReading);
     }
     Ok(Outgoing::new(token, client.replica()))

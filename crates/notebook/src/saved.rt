@@ -1,4 +1,8 @@
-//! What a store held when it was read.
+//! What a store had when it was read.
+
+ghost use Rattle.std.specs.Prelude.{◌≡◌, IfOk, IfSome, MatchResult};
+ghost use Rattle.wire.specs.Lines.{cut};
+ghost use Rattle.notebook.specs.WholeLines.{AreWhole, first_own};
 
 use crate::fault::{Fault, Unopened};
 use crate::store::Store;
@@ -25,7 +29,9 @@ impl<S: Store> Journal<S> {
     ///
     /// # Errors
     /// `Store` if it can't be read.
-    pub fn read(alloc: Global, store: S) -> Result<Journal<S>, Unopened<S>> {
+    pub fn read(alloc: Global, store: S) -> Result<Journal<S>, Unopened<S>>
+        ensures { MatchResult result (λ j. S.contents j.store ≡ S.contents store) (λ u. S.contents u.store ≡ S.contents store) }
+    {
         let mut store = store;
         match store.read(alloc) {
             Ok(bytes) => Ok(Journal { store, bytes }),
@@ -41,7 +47,9 @@ impl<S: Store> Journal<S> {
     ///
     /// # Errors
     /// `Damaged` if a line before it isn't one of a journal; `Refused` with `NoMemory`.
-    pub fn own(&self, alloc: Global) -> Result<Option<ReplicaId>, Fault> {
+    pub fn own(&self, alloc: Global) -> Result<Option<ReplicaId>, Fault>
+        ensures { IfOk result (λ own. own ≡ first_own (cut self.now.bytes.items).lines) }
+    {
         let mut lines = Lines::new(&self.bytes);
         while let Some(line) = lines.take_line() {
             match read_record(alloc, line.text) {
@@ -54,7 +62,9 @@ impl<S: Store> Journal<S> {
     }
 
     /// The store, as it was read.
-    pub fn into_store(self) -> S {
+    pub fn into_store(self) -> S
+        ensures { S.contents result ≡ S.contents self.store }
+    {
         self.store
     }
 }
@@ -68,7 +78,9 @@ pub fn unfit(line: u64, why: Unfit) -> Fault {
 }
 
 /// How many bytes the whole lines have. What is behind them was being written when the power went, and wasn't called saved.
-pub fn whole_len(bytes: &[u8]) -> usize {
+pub fn whole_len(bytes: &[u8]) -> usize
+    ensures { AreWhole result bytes.now }
+{
     match memrchr(b'\n', bytes) {
         Some(last) => last + 1,
         None => 0,

@@ -1,7 +1,11 @@
 //! Writing, and storing what was written.
 
-ghost use Rattle.std.specs.Prelude.{◌≡◌, ◌⊎◌, length, max, Err, IfErr, IfOk, OnOk, OnErr};
+ghost use Rattle.std.specs.Prelude.{◌≡◌, length, true, Err, IfErr, IfOk, MatchResult};
+ghost use Rattle.semantics.specs.Making.{Command as TheCommand};
+ghost use Rattle.semantics.specs.WorldHistory.{BeginsWith};
+ghost use Rattle.engine.specs.operation.Ops.{command_of};
 ghost use Rattle.notebook.specs.declared.fault.Fault.TheVariants.{Held, MustStartAgain};
+ghost use Rattle.notebook.specs.Notebooks.{GoesOn, IsCommandUnder, IsMadeOf, IsNotSaved, IsSaved};
 
 use crate::fault::Fault;
 use crate::opening::{Ends, end};
@@ -52,7 +56,7 @@ impl<N: EngineName, S: Store> Notebook<N, S> {
     /// The notebook of an engine that went on from what is on the shelf: all of that is stored.
     pub(crate) fn of(ends: Ends<N>, shelf: Shelf<S>) -> Notebook<N, S>
         ensures history { (result.own ≡ ends.outgoing.own) × (result.seen ≡ ends.outgoing.seen)
-            × (result.stored ≡ max ends.outgoing.stored (length ends.outgoing.seen)) }
+            × (result.stored ≡ length ends.outgoing.seen) × (result.client ≡ ends.client) }
         ensures shelf { (result.held ≡ shelf.held) × (result.is_lost ≡ shelf.is_lost) }
     {
         let Ends {
@@ -89,12 +93,12 @@ impl<N: EngineName, S: Store> Notebook<N, S> {
     /// `MustStartAgain` if a sync or a cut failed before: nothing is written then. `Refused` as `submit` has it or as the reply says: the
     /// document has nothing of it. `Held`, `Store`, and `MustStartAgain` by this call's own sync or cut: it is in the document and not
     /// saved.
-    pub fn write(
-        &mut self,
-        rt: &impl Wait,
-        alloc: Global,
-        command: Command,
-    ) -> Result<OpId, Fault> {
+    pub fn write(&mut self, rt: &impl Wait, alloc: Global, command: Command) -> Result<OpId, Fault>
+        ensures made { IfOk result (λ id. IsMadeOf self.new.client.seen (command_of command) id) }
+        ensures saved { MatchResult result (λ _. IsSaved self.old self.new) (λ why. IsNotSaved self.old self.new why) }
+        ensures goes_on { GoesOn self.old self.new }
+        ensures lost { self.old.is_lost ≡ true → (result ≡ Err MustStartAgain) × (self.new ≡ self.old) }
+    {
         self.shelf.check()?;
         let ticket = self.client.submit(rt, alloc, command)?;
         self.settle(rt, alloc)?;
@@ -107,7 +111,11 @@ impl<N: EngineName, S: Store> Notebook<N, S> {
     ///
     /// # Errors
     /// `Held`, `Store` and `MustStartAgain`, as `write`; `Refused` with `NoMemory`.
-    pub fn save(&mut self, rt: &impl Wait, alloc: Global) -> Result<(), Fault> {
+    pub fn save(&mut self, rt: &impl Wait, alloc: Global) -> Result<(), Fault>
+        ensures saved { MatchResult result (λ _. IsSaved self.old self.new) (λ why. IsNotSaved self.old self.new why) }
+        ensures goes_on { GoesOn self.old self.new }
+        ensures lost { self.old.is_lost ≡ true → (result ≡ Err MustStartAgain) × (self.new ≡ self.old) }
+    {
         self.shelf.check()?;
         self.settle(rt, alloc)?;
         self.store_all(alloc)
@@ -148,7 +156,13 @@ impl<N: EngineName, S: Store> Notebook<N, S> {
     }
 
     /// The id of the operation that was made under this ticket, once the writer is idle.
-    fn made(&mut self, ticket: &Ticket) -> Result<OpId, Refusal> {
+    fn made(&mut self, ticket: &Ticket) -> Result<OpId, Refusal>
+        ensures same { self.new ≡ record self.old { client = self.new.client } }
+        ensures grows { BeginsWith self.new.client.seen self.old.client.seen }
+        ensures made { IfOk result
+            (λ id. (command : TheCommand) → IsCommandUnder self.old.client ticket.now command
+            → IsMadeOf self.new.client.seen command id) }
+    {
         match self.client.poll(ticket)? {
             Some(Reply::Made(id, _)) => Ok(id),
             Some(Reply::Refused(why, _)) => Err(why),
@@ -158,7 +172,12 @@ impl<N: EngineName, S: Store> Notebook<N, S> {
     }
 
     /// Stores the entries that aren't stored, and calls them so once the store has synced them.
-    pub(crate) fn store_all(&mut self, alloc: Global) -> Result<(), Fault> {
+    pub(crate) fn store_all(&mut self, alloc: Global) -> Result<(), Fault>
+        ensures saved { MatchResult result (λ _. IsSaved self.old self.new) (λ why. IsNotSaved self.old self.new why) }
+        ensures same { self.new
+            ≡ record self.old { seen = self.new.seen; stored = self.new.stored; held = self.new.held; is_lost = self.new.is_lost } }
+        ensures grows { BeginsWith self.new.seen self.old.seen }
+    {
         let Written { lines, upto } = self.outgoing.unstored(alloc)?;
         self.shelf.put(&lines)?;
         self.outgoing.call_stored(upto);
