@@ -1,2 +1,4 @@
-pub mod WholeText
+pub mod ClientSteps
+pub mod OwnNumbers
 pub mod Shelved
+pub mod WholeText

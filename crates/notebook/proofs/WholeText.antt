@@ -1,12 +1,14 @@
 -- A text up to its last line feed, and what is behind it.
-use Rattle.std.proofs.Common.{◌≡◌, ◌≤◌, ◌<◌, ◌==◌, ◌+◌, ℕ, Bool, true, false, List, [], ◌∷◌, ◌++◌, length, take, drop, refl, sym, ap, ◌∙◌, subst, arith}
+use Rattle.std.proofs.Common.{◌≡◌, ◌≢◌, ◌≤◌, ◌<◌, ◌==◌, ◌+◌, ℕ, zero, suc, Bool, true, false, List, [], ◌∷◌, ◌++◌, length, take, drop, refl, sym, ap, ◌∙◌, add-one, arith}
+use Rattle.std.proofs.Math.ListN.{get_or}
 use Rattle.std.proofs.Math.Seq.{take-suc}
 use Rattle.std.proofs.lemmas.Bool.{eqb-true, ne_eqb}
 use Rattle.std.proofs.lemmas.List.{drop_more, get_or-drop, length-drop, take-append-drop}
-use Rattle.std.proofs.lemmas.List.Elements.{All-from_get_or}
+use Rattle.std.proofs.lemmas.List.Elements.{All-from_get_or, All-nil}
 use Rattle.memchr.specs.Find.{Passes, Nowhere, NoneAfter, is_byte}
 use Rattle.wire.specs.Lines.{Cut, HasNoEnd, cut, lengthened}
 use Rattle.wire.proofs.CutLines.{cut-no_end}
+use Rattle.peer_sync.specs.Receiving.{bytes_of}
 use Rattle.notebook.specs.WholeLines.{AreWhole}
 
 -- the lines of a text that ends in a line feed: the same whatever without one is behind it
@@ -50,15 +52,45 @@ whole-upto text last after at =
     let none : HasNoEnd rest = none_behind text (last + 1) after.after in
     let split : take last text ++ 10 ∷ rest ≡ text =
     ap (λ (ys : List ℕ). take last text ++ ys)
-    (sym (drop_more text last 0 after.high ∙ ap (λ b. b ∷ rest) (eqb-true _ 10 at)))
+    (sym (drop_more text last 0 after.high ∙ ap (λ b. b ∷ rest) (eqb-true (get_or text last 0) 10 at)))
     ∙ take-append-drop last text in
     let all : cut text ≡ record { lines = h.first ∷ h.more; tail = rest } = ap cut (sym split) ∙ h.is rest none in
-    let front : take (last + 1) text ≡ take last text ++ 10 ∷ [] = take_more in
+    let byte : get_or text last 0 ≡ 10 = eqb-true (get_or text last 0) 10 at in
+    let front : take (last + 1) text ≡ take last text ++ 10 ∷ [] =
+    ap (λ n. take n text) (add-one last) ∙ take-suc text last 0 after.high ∙ ap (λ b. take last text ++ b ∷ []) byte in
     record {
       within = omega (arith, after.high);
-      lines = ap cut front ∙ h.is [] tt ∙ ap (λ (c : Cut). record { lines = c.lines; tail = [] }) (sym all);
+      lines = ap cut front ∙ h.is [] (All-nil (λ b. b ≢ 10)) ∙ ap (λ (c : Cut). record { lines = c.lines; tail = [] }) (sym all);
       tail = ap (λ (c : Cut). c.tail) (sym all);
     }
-  where
-    take_more : take (last + 1) text ≡ take last text ++ 10 ∷ []
-    take_more = ?
+
+-- ---- how long lines are
+
+lengthened_bytes : (b : ℕ) (lines : List (List ℕ)) (tail : List ℕ)
+    → bytes_of (lengthened b lines tail).lines + length (lengthened b lines tail).tail ≡ bytes_of lines + length tail + 1
+lengthened_bytes b [] tail = omega arith
+lengthened_bytes b (l ∷ ls) tail = omega arith
+
+cut_more : (b : ℕ) (bs : List ℕ) (test : Bool) → (b == 10) ≡ test → bytes_of (cut bs).lines + length (cut bs).tail ≡ length bs
+    → bytes_of (cut (b ∷ bs)).lines + length (cut (b ∷ bs)).tail ≡ length (b ∷ bs)
+cut_more b bs true e h = rw e (omega (arith, h))
+cut_more b bs false e h = rw e (let l = lengthened_bytes b (cut bs).lines (cut bs).tail in omega (arith, h, l))
+
+cut_bytes : (text : List ℕ) → bytes_of (cut text).lines + length (cut text).tail ≡ length text
+cut_bytes [] = refl
+cut_bytes (b ∷ bs) = cut_more b bs (b == 10) refl (cut_bytes bs)
+
+first_bytes : (n : ℕ) (lines : List (List ℕ)) → bytes_of (take n lines) ≤ bytes_of lines
+first_bytes zero lines = omega arith
+first_bytes (suc n) [] = omega arith
+first_bytes (suc n) (l ∷ ls) = let h = first_bytes n ls in omega (arith, h)
+
+all_first : (n : ℕ) (lines : List (List ℕ)) → bytes_of lines ≤ bytes_of (take n lines) → take n lines ≡ lines
+all_first zero [] h = refl
+all_first zero (l ∷ ls) h = absurd (omega (arith, h))
+all_first (suc n) [] h = refl
+all_first (suc n) (l ∷ ls) h = ap (λ (ks : List (List ℕ)). l ∷ ks) (all_first n ls (omega (arith, h)))
+
+-- lines of as many bytes as the text has are all of its lines
+pub all_taken : (n : ℕ) (text : List ℕ) → bytes_of (take n (cut text).lines) ≡ length text → take n (cut text).lines ≡ (cut text).lines
+all_taken n text h = let whole = cut_bytes text in all_first n (cut text).lines (omega (arith, h, whole))

@@ -1,5 +1,5 @@
 -- What contracts see of a notebook.
-use Rattle.std.specs.Prelude.{◌≡◌, ◌⊎◌, ◌-◌, ℕ, Bool, false, true, List, length, Option, Some, slice_get}
+use Rattle.std.specs.Prelude.{◌≡◌, ◌⊎◌, ◌-◌, ◌≤◌, ℕ, Bool, false, true, List, length, Option, Some, slice_get}
 use Rattle.std.specs.Io.KnownBytes.{append_known}
 use Rattle.semantics.specs.Entries.{Entry, Own, entry_at}
 use Rattle.semantics.specs.Ids.{OpId}
@@ -40,7 +40,8 @@ pub record IsMadeOf (G : List Entry) (command : Command) (a : OpId) : Type 0 whe
 
 -- what a call that stores leaves: all that it saw of the history is called stored, and the store has got the lines of what wasn't
 pub record IsSaved (m n : Notebook) : Type 0 where
-  pub stored : n.stored ≡ length n.seen
+  pub stored : length n.seen ≤ n.stored
+  pub rises : m.stored ≤ n.stored
   pub held : n.held ≡ append_known m.held (journal_text (entries_from m.stored n.seen))
   pub is_lost : n.is_lost ≡ false
 

@@ -6,6 +6,10 @@ use Rattle.std.specs.Io.KnownBytes.{append_known}
 abbrev pub AppendsSome : Option (List ℕ) → Option (List ℕ) → Type 0
 AppendsSome old new = (more : List ℕ) × (new ≡ append_known old more)
 
+-- the known bytes are these
+abbrev pub AreKnown : Option (List ℕ) → List ℕ → Type 0
+AreKnown known bs = known ≡ option_map (λ xs. bs) known
+
 -- the first n known bytes
 abbrev pub first_known : (n : ℕ) → Option (List ℕ) → Option (List ℕ)
 first_known n known = option_map (λ xs. take n xs) known

@@ -16,10 +16,10 @@ ghost use Rattle.notebook.specs.Notebooks.{GoesOn, IsNotSaved, IsSaved};
 
 use crate::fault::Fault;
 use crate::store::Store;
-use crate::writing::Notebook;
-use engine::{EngineName, Refusal, Reply, Step};
+use crate::writing::{Notebook, settle};
+use engine::{Client, EngineName, Refusal, Reply, Step, Writer};
 use journal::Answered;
-use peer_sync::{BundleReader, receive_on};
+use peer_sync::{BundleReader, Received, receive_on};
 use std::alloc::Global;
 use std::sync::Wait;
 
@@ -63,9 +63,9 @@ impl<N: EngineName, S: Store> Notebook<N, S> {
         ensures lost { self.old.is_lost ≡ true → (result ≡ Err MustStartAgain) × (self.new ≡ self.old) }
     {
         self.shelf.check()?;
-        let submitted = self.submit_all(rt, alloc, bundle)?;
-        self.settle(rt, alloc)?;
-        let receipt = self.receipt_of(&submitted)?;
+        let submitted = submit_all(rt, alloc, &mut self.writer, &mut self.client, bundle)?;
+        settle(rt, alloc, &mut self.writer)?;
+        let receipt = receipt_of(&mut self.client, &submitted)?;
         self.store_all(alloc)?;
         Ok(receipt)
     }
@@ -105,85 +105,95 @@ impl<N: EngineName, S: Store> Notebook<N, S> {
     {
         self.outgoing.answer(alloc, hello)
     }
+}
 
-    /// Submits the operations of a bundle, and steps where the queue is full.
-    fn submit_all(
-        &mut self,
-        rt: &impl Wait,
-        alloc: Global,
-        bundle: &[u8],
-    ) -> Result<Submitted, Fault>
-        ensures same { self.new ≡ record self.old { client = self.new.client; published = self.new.published } }
-        ensures seen { self.new.client.seen ≡ self.old.client.seen }
-        ensures err { IfErr result (λ why. why ≡ Held) }
-    {
-        let mut reader = BundleReader::new();
-        let mut rest = bundle;
-        let mut submitted = Submitted {
-            first_serial: 0,
-            taken: 0,
-            stopped: None,
+/// Submits the operations of a bundle, and steps where the queue is full.
+fn submit_all<N: EngineName>(
+    rt: &impl Wait,
+    alloc: Global,
+    writer: &mut Writer<N>,
+    client: &mut Client<N>,
+    bundle: &[u8],
+) -> Result<Submitted, Fault>
+    ensures seen { client.new.seen ≡ client.old.seen }
+    ensures err { IfErr result (λ why. why ≡ Held) }
+{
+    let mut reader = BundleReader::new();
+    let mut rest = bundle;
+    let mut submitted = Submitted {
+        first_serial: 0,
+        taken: 0,
+        stopped: None,
+    };
+    for _ in rt.forever() {
+        let received = receive_on(rt, alloc, client, &mut reader, rest);
+        rest = &rest[received.bytes..];
+        submitted.count(&received);
+        match received.stopped {
+            Some((_, Refusal::QueueFull)) => step(rt, alloc, writer)?,
+            _ => break,
+        }
+    }
+    Ok(submitted)
+}
+
+/// Lets the writer step once.
+fn step<N: EngineName>(rt: &impl Wait, alloc: Global, writer: &mut Writer<N>) -> Result<(), Fault>
+    ensures { IfErr result (λ why. why ≡ Held) }
+{
+    match writer.step(rt, alloc) {
+        Step::Held => Err(Fault::Held),
+        Step::Published(_) | Step::Idle => Ok(()),
+    }
+}
+
+impl Submitted {
+    /// Counts what of a piece of the bundle was submitted, and where it stopped.
+    fn count(&mut self, received: &Received) {
+        if self.taken == 0 {
+            self.first_serial = received.first_serial;
+        }
+        self.taken = self.taken.saturating_add(received.submitted);
+        self.stopped = match received.stopped {
+            Some((_, why)) => Some((self.taken.saturating_add(1), why)),
+            None => None,
         };
-        for _ in rt.forever() {
-            let received = receive_on(rt, alloc, &mut self.client, &mut reader, rest);
-            rest = &rest[received.bytes..];
-            if submitted.taken == 0 {
-                submitted.first_serial = received.first_serial;
-            }
-            submitted.taken = submitted.taken.saturating_add(received.submitted);
-            match received.stopped {
-                Some((_, Refusal::QueueFull)) => self.step(rt, alloc)?,
-                Some((_, why)) => {
-                    submitted.stopped = Some((submitted.taken.saturating_add(1), why));
-                    break;
-                }
-                None => break,
-            }
-        }
-        Ok(submitted)
     }
+}
 
-    /// Lets the writer step once.
-    fn step(&mut self, rt: &impl Wait, alloc: Global) -> Result<(), Fault>
-        ensures same { self.new ≡ record self.old { published = self.new.published } }
-        ensures err { IfErr result (λ why. why ≡ Held) }
-    {
-        match self.writer.step(rt, alloc) {
-            Step::Held => Err(Fault::Held),
-            Step::Published(_) | Step::Idle => Ok(()),
+/// What became of the operations, once the writer is idle.
+fn receipt_of<N: EngineName>(
+    client: &mut Client<N>,
+    submitted: &Submitted,
+) -> Result<Receipt, Refusal>
+    ensures { BeginsWith client.new.seen client.old.seen }
+{
+    let mut receipt = Receipt {
+        taken: submitted.taken,
+        refused: 0,
+        first_refused: None,
+        stopped: submitted.stopped,
+    };
+    for number in 0..submitted.taken {
+        let serial = submitted.first_serial.saturating_add(number);
+        if let Some(why) = refusal_of(client, serial)? {
+            receipt.refuse(number.saturating_add(1), why);
         }
     }
+    Ok(receipt)
+}
 
-    /// What became of the operations, once the writer is idle.
-    fn receipt_of(&mut self, submitted: &Submitted) -> Result<Receipt, Refusal>
-        ensures same { self.new ≡ record self.old { client = self.new.client } }
-        ensures grows { BeginsWith self.new.client.seen self.old.client.seen }
-    {
-        let mut receipt = Receipt {
-            taken: submitted.taken,
-            refused: 0,
-            first_refused: None,
-            stopped: submitted.stopped,
-        };
-        for number in 0..submitted.taken {
-            let serial = submitted.first_serial.saturating_add(number);
-            if let Some(why) = self.refusal_of(serial)? {
-                receipt.refuse(number.saturating_add(1), why);
-            }
-        }
-        Ok(receipt)
-    }
-
-    /// Why what was submitted under this serial was refused, if it was.
-    fn refusal_of(&mut self, serial: u64) -> Result<Option<Refusal>, Refusal>
-        ensures same { self.new ≡ record self.old { client = self.new.client } }
-        ensures grows { BeginsWith self.new.client.seen self.old.client.seen }
-    {
-        let ticket = self.client.ticket_of(serial)?;
-        match self.client.poll(&ticket)? {
-            Some(Reply::Refused(why, _)) => Ok(Some(why)),
-            _ => Ok(None),
-        }
+/// Why what was submitted under this serial was refused, if it was.
+fn refusal_of<N: EngineName>(
+    client: &mut Client<N>,
+    serial: u64,
+) -> Result<Option<Refusal>, Refusal>
+    ensures { BeginsWith client.new.seen client.old.seen }
+{
+    let ticket = client.ticket_of(serial)?;
+    match client.poll(&ticket)? {
+        Some(Reply::Refused(why, _)) => Ok(Some(why)),
+        _ => Ok(None),
     }
 }
 

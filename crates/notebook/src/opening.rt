@@ -80,7 +80,7 @@ impl<N: EngineName, S: Store> Notebook<N, S> {
         ensures client { IfOk result (λ n. n.client.seen ≡ n.seen) }
         ensures held { IfOk result
             (λ n. (n.is_lost ≡ false)
-            × ((whole : ℕ) → AreWhole whole journal.bytes.items → n.held ≡ first_known whole (S.contents journal.store))) }
+            × ((whole : ℕ) × AreWhole whole journal.bytes.items × (n.held ≡ first_known whole (S.contents journal.store)))) }
     {
         let Journal { store, bytes } = journal;
         match begin::<N>(rt, alloc, parts, &bytes) {

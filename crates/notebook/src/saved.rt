@@ -1,8 +1,11 @@
 //! What a store had when it was read.
 
-ghost use Rattle.std.specs.Prelude.{◌≡◌, IfOk, IfSome, MatchResult};
+ghost use Rattle.std.specs.Prelude.{◌≡◌, IfOk, MatchResult};
+ghost use Rattle.std.specs.Coded.{codes};
 ghost use Rattle.wire.specs.Lines.{cut};
-ghost use Rattle.notebook.specs.WholeLines.{AreWhole, first_own};
+ghost use Rattle.journal.specs.Lines.{record_form};
+ghost use Rattle.notebook.specs.Shelves.{AreKnown};
+ghost use Rattle.notebook.specs.WholeLines.{AreWhole, first_own, own_on};
 
 use crate::fault::{Fault, Unopened};
 use crate::store::Store;
@@ -21,7 +24,7 @@ const START: &[u8] = b"[\"o";
 pub struct Journal<S: Store> {
     pub(crate) store: S,
     pub(crate) bytes: Vec<u8>,
-    pub ghost read: { IfSome (S.contents store) (λ xs. bytes.items ≡ xs) },
+    pub ghost read: { AreKnown (S.contents store) bytes.items } by { Prim.hlevel codes },
 }
 
 impl<S: Store> Journal<S> {
@@ -52,10 +55,12 @@ impl<S: Store> Journal<S> {
     {
         let mut lines = Lines::new(&self.bytes);
         while let Some(line) = lines.take_line() {
-            match read_record(alloc, line.text) {
-                Ok(Recorded::Commanded(id, _)) => return Ok(Some(id.replica)),
-                Ok(Recorded::Received(_)) => {}
+            let own = match own_on(alloc, line.text) {
+                Ok(own) => own,
                 Err(why) => return Err(unfit(line.number, Unfit::Refused(why))),
+            };
+            if own.is_some() {
+                return Ok(own);
             }
         }
         Ok(None)
@@ -66,6 +71,17 @@ impl<S: Store> Journal<S> {
         ensures { S.contents result ≡ S.contents self.store }
     {
         self.store
+    }
+}
+
+/// The number of the own command on a line, if it is one.
+fn own_on(alloc: Global, line: &[u8]) -> Result<Option<ReplicaId>, Refusal>
+    ensures { IfOk result (λ own. own ≡ own_on (record_form line.now)) }
+{
+    let said = read_record(alloc, line)?;
+    match &said {
+        Recorded::Commanded(id, _) => Ok(Some(id.replica)),
+        Recorded::Received(_) => Ok(None),
     }
 }
 

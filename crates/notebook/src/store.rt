@@ -1,8 +1,8 @@
 //! What keeps the bytes of a journal.
 
-ghost use Rattle.std.specs.Prelude.{◌≡◌, ℕ, List, Option, None, IfOk, IfSome, OnOk, OnErr};
+ghost use Rattle.std.specs.Prelude.{◌≡◌, ℕ, List, Option, None, IfOk, OnOk, OnErr};
 ghost use Rattle.std.specs.Io.KnownBytes.{append_known};
-ghost use Rattle.notebook.specs.Shelves.{AppendsSome, first_known};
+ghost use Rattle.notebook.specs.Shelves.{AppendsSome, AreKnown, first_known};
 
 use std::alloc::Global;
 use std::io::ErrorKind;
@@ -39,7 +39,7 @@ pub trait Store {
     /// # Errors
     /// `StoreFailed`.
     fn read(&mut self, alloc: Global) -> Result<Vec<u8>, StoreFailed>
-        ensures bytes { IfOk result (λ bytes. IfSome (contents self.old) (λ xs. bytes.items ≡ xs)) }
+        ensures bytes { IfOk result (λ bytes. AreKnown (contents self.old) bytes.items) }
         ensures same { contents self.new ≡ contents self.old };
 
     /// Puts the bytes behind those it has.

@@ -1,6 +1,6 @@
 //! Writing, and storing what was written.
 
-ghost use Rattle.std.specs.Prelude.{◌≡◌, length, true, Err, IfErr, IfOk, MatchResult};
+ghost use Rattle.std.specs.Prelude.{◌≡◌, false, length, true, Err, IfErr, IfOk, MatchResult};
 ghost use Rattle.semantics.specs.Making.{Command as TheCommand};
 ghost use Rattle.semantics.specs.WorldHistory.{BeginsWith};
 ghost use Rattle.engine.specs.operation.Ops.{command_of};
@@ -101,7 +101,7 @@ impl<N: EngineName, S: Store> Notebook<N, S> {
     {
         self.shelf.check()?;
         let ticket = self.client.submit(rt, alloc, command)?;
-        self.settle(rt, alloc)?;
+        settle(rt, alloc, &mut self.writer)?;
         let id = self.made(&ticket)?;
         self.store_all(alloc)?;
         Ok(id)
@@ -117,7 +117,7 @@ impl<N: EngineName, S: Store> Notebook<N, S> {
         ensures lost { self.old.is_lost ≡ true → (result ≡ Err MustStartAgain) × (self.new ≡ self.old) }
     {
         self.shelf.check()?;
-        self.settle(rt, alloc)?;
+        settle(rt, alloc, &mut self.writer)?;
         self.store_all(alloc)
     }
 
@@ -135,24 +135,6 @@ impl<N: EngineName, S: Store> Notebook<N, S> {
         } = self;
         end(rt, writer, client, others);
         shelf.into_store()
-    }
-
-    /// Has the writer handle and publish all that was submitted.
-    ///
-    /// # Errors
-    /// `Held` if memory was short in a publish.
-    pub(crate) fn settle(&mut self, rt: &impl Wait, alloc: Global) -> Result<(), Fault>
-        ensures same { self.new ≡ record self.old { published = self.new.published } }
-        ensures err { IfErr result (λ why. why ≡ Held) }
-    {
-        for _ in rt.forever() {
-            match self.writer.step(rt, alloc) {
-                Step::Published(_) => {}
-                Step::Idle => break,
-                Step::Held => return Err(Fault::Held),
-            }
-        }
-        Ok(())
     }
 
     /// The id of the operation that was made under this ticket, once the writer is idle.
@@ -173,6 +155,7 @@ impl<N: EngineName, S: Store> Notebook<N, S> {
 
     /// Stores the entries that aren't stored, and calls them so once the store has synced them.
     pub(crate) fn store_all(&mut self, alloc: Global) -> Result<(), Fault>
+        requires { self.old.is_lost ≡ false }
         ensures saved { MatchResult result (λ _. IsSaved self.old self.new) (λ why. IsNotSaved self.old self.new why) }
         ensures same { self.new
             ≡ record self.old { seen = self.new.seen; stored = self.new.stored; held = self.new.held; is_lost = self.new.is_lost } }
@@ -183,4 +166,25 @@ impl<N: EngineName, S: Store> Notebook<N, S> {
         self.outgoing.call_stored(upto);
         Ok(())
     }
+}
+
+/// Has the writer handle and publish all that was submitted.
+///
+/// # Errors
+/// `Held` if memory was short in a publish.
+pub fn settle<N: EngineName>(
+    rt: &impl Wait,
+    alloc: Global,
+    writer: &mut Writer<N>,
+) -> Result<(), Fault>
+    ensures { IfErr result (λ why. why ≡ Held) }
+{
+    for _ in rt.forever() {
+        match writer.step(rt, alloc) {
+            Step::Published(_) => {}
+            Step::Idle => break,
+            Step::Held => return Err(Fault::Held),
+        }
+    }
+    Ok(())
 }

@@ -1,0 +1,12 @@
+use Rattle.std.proofs.Common.{◌∙◌, ap, subst}
+use Rattle.semantics.specs.WorldHistory.{BeginsWith}
+use Rattle.semantics.proofs.GrownEngines.{begins_trans}
+use Rattle.notebook.specs.Notebooks.{Notebook}
+use Rattle.notebook.proofs.writing.Notebook.ask.Goals as goal
+
+pub returns-clause-shows : goal.returns-clause-shows
+returns-clause-shows g c = (
+  subst (BeginsWith c.ask.new.self.seen) (c.notice.ensures ∙ ap (λ (n : Notebook). n.published) c.self.view_is)
+      (begins_trans c.ask.new.self.seen c.learn-2.new.self.seen c.notice.result c.ask.ensures.grows c.learn-2.ensures.learns),
+  c.ask.ensures.legal,
+)
