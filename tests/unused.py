@@ -15,7 +15,7 @@ from pathlib import Path
 
 TOP = Path(__file__).resolve().parent.parent
 LIST = TOP / "tests/unused.txt"
-PROGRAMS = {"jdoc", "meeting", "shopping", "bench", "workloads", "measures"}
+PROGRAMS = {"jdoc", "meeting", "shopping", "diary", "bench", "workloads", "measures"}
 IMPL = re.compile(r"(?:pub )?(impl|trait)\b(?:<.*?>(?= ))? ?(?:.* for )?&?(?:'\w+ )?(\w+)")
 FUNCTION = re.compile(r"( *)(pub(?:\([^)]*\))? )?(?:const )?fn (\w+)")
 # A name that is called, or handed on as an argument, and what it is called of.
