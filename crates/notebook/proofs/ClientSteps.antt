@@ -39,7 +39,8 @@ under_last c d ticket command is serial =
       floor = length c.seen;
       request = request.Command command;
     } in
-    let place : ticket.serial - 1 ≡ length (submissions_by c) = (let l = length-map c.kept (λ k. k.submission) in omega (arith, serial, l)) in (
+    let place : ticket.serial - 1
+    ≡ length (submissions_by c) = (let l = length-map c.kept (λ k. k.submission) in omega (arith, serial, l)) in (
       x,
       ap (slice_get (submissions_by d)) place
           ∙ ap (λ (z : Client). slice_get (submissions_by z) (length (submissions_by c))) is

@@ -1,4 +1,3 @@
 pub mod ClientSteps
 pub mod OwnNumbers
-pub mod Shelved
 pub mod WholeText

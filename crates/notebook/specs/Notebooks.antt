@@ -17,8 +17,8 @@ use Rattle.notebook.specs.declared.fault.Fault.{Fault}
 use Rattle.notebook.specs.declared.fault.Fault.TheVariants.{MustStartAgain}
 
 -- the number of its engine; the history out of which it answers peers, and how many entries of it are called stored; what its client has
--- submitted and seen, what its reader has seen, and what is published; what its store has, where that says so, and whether that is lost
--- from sight
+-- submitted and seen, what its reader has seen, and what is published; what its store has and what of that survives a loss of power, where
+-- it says so, and whether that is lost from sight
 pub record Notebook : Type 0 where
   pub own : ℕ
   pub seen : List Entry
@@ -27,6 +27,7 @@ pub record Notebook : Type 0 where
   pub shown : List Entry
   pub published : List Entry
   pub held : Option (List ℕ)
+  pub synced : Option (List ℕ)
   pub is_lost : Bool
 
 -- an own entry of G was made of this command, and its operation has this id
@@ -38,17 +39,19 @@ pub record IsMadeOf (G : List Entry) (command : Command) (a : OpId) : Type 0 whe
   pub at : entry_at position G ≡ Some (Own client serial command made)
   pub id : made.id ≡ a
 
--- what a call that stores leaves: all that it saw of the history is called stored, and the store has got the lines of what wasn't
+-- what a call that stores leaves: all that it saw of the history is called stored, the store has got the lines of what wasn't, and all
+-- that it has survives a loss of power
 pub record IsSaved (m n : Notebook) : Type 0 where
   pub stored : length n.seen ≤ n.stored
   pub rises : m.stored ≤ n.stored
   pub held : n.held ≡ append_known m.held (journal_text (entries_from m.stored n.seen))
+  pub synced : n.synced ≡ n.held
   pub is_lost : n.is_lost ≡ false
 
 -- what a call that failed to store leaves: nothing more is called stored, and the store has what it had, unless that is lost from sight
 pub record IsNotSaved (m n : Notebook) (why : Fault) : Type 0 where
   pub stored : n.stored ≡ m.stored
-  pub held : ((why ≡ MustStartAgain) × (n.is_lost ≡ true)) ⊎ ((n.held ≡ m.held) × (n.is_lost ≡ false))
+  pub held : ((why ≡ MustStartAgain) × (n.is_lost ≡ true)) ⊎ ((n.held ≡ m.held) × (n.synced ≡ m.synced) × (n.is_lost ≡ false))
 
 -- what each call keeps: the number, and no token has seen less
 pub record GoesOn (m n : Notebook) : Type 0 where

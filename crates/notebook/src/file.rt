@@ -6,8 +6,8 @@ use std::fs::{File, Files, OpenFile, OpenOptions};
 use std::io::{Read, Seek, SeekFrom, Write};
 use std::path::Path;
 
-/// A store on a file of its own, which is open as long as this is there. See to it that one program has the file: `try_lock` locks a file of
-/// the system.
+/// A store on a file of its own, which is open as long as this is there. See to it that one program has the file: `try_lock` locks a file
+/// of the system.
 #[derive(Drop)]
 pub struct FileStore<F> {
     file: F,

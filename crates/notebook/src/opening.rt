@@ -79,7 +79,7 @@ impl<N: EngineName, S: Store> Notebook<N, S> {
         ensures legal { IfOk result (λ n. IsEntryHistory N.own n.seen) }
         ensures client { IfOk result (λ n. n.client.seen ≡ n.seen) }
         ensures held { IfOk result
-            (λ n. (n.is_lost ≡ false)
+            (λ n. (n.is_lost ≡ false) × (n.synced ≡ n.held)
             × ((whole : ℕ) × AreWhole whole journal.bytes.items × (n.held ≡ first_known whole (S.contents journal.store)))) }
     {
         let Journal { store, bytes } = journal;

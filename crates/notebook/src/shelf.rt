@@ -3,7 +3,7 @@
 ghost use Rattle.std.specs.Prelude.{◌≡◌, ◌≤◌, ◌⊎◌, false, true, length, Err, IfErr, IfOk, IfSome, OnOk, MatchResult};
 ghost use Rattle.std.specs.Io.KnownBytes.{append_known};
 ghost use Rattle.notebook.specs.declared.fault.Fault.TheVariants.{MustStartAgain};
-ghost use Rattle.notebook.specs.Shelves.{first_known};
+ghost use Rattle.notebook.specs.Shelves.{IsInSight, first_known};
 ghost use Rattle.notebook.specs.declared.shelf.Put.TheVariants.{Done, Undone};
 ghost use Rattle.notebook.specs.declared.store.StoreFailed.{StoreFailed};
 
@@ -12,8 +12,8 @@ use crate::store::{Store, StoreFailed};
 use engine::Refusal;
 use std::marker::Model;
 
-/// A store that lines are put into. Contracts see the bytes that it has, where the store says so, and whether they are lost from sight: a
-/// sync or a cut failed, so that nobody knows what would survive.
+/// A store that lines are put into. Contracts see the bytes that it has and those that survive a loss of power, where the store says so, and
+/// whether they are lost from sight: a sync or a cut failed, so that nobody knows what would survive. Else all that it has survives.
 pub struct Shelf<S: Store> {
     store: S,
     /// How many bytes it has, unless they are lost from sight.
@@ -22,13 +22,14 @@ pub struct Shelf<S: Store> {
 }
 
 impl<S: Store> Model for Shelf<S> {
-    ghost use Rattle.notebook.specs.Shelves.{IsLong, Shelf};
+    ghost use Rattle.notebook.specs.Shelves.{IsShelf, Shelf};
 
     ghost Value = { Shelf };
 
-    ghost view = { λ s. record { held = S.contents s.store; is_lost = s.is_lost } };
+    ghost view = { λ s. record { held = S.contents s.store; synced = S.synced s.store; is_lost = s.is_lost } };
 
-    ghost invariant = { λ s. IsLong s.length (record { held = S.contents s.store; is_lost = s.is_lost }) };
+    ghost invariant = { λ s. IsShelf s.length
+        (record { held = S.contents s.store; synced = S.synced s.store; is_lost = s.is_lost }) };
 }
 
 impl<S: Store> Shelf<S> {
@@ -39,7 +40,8 @@ impl<S: Store> Shelf<S> {
     pub fn of(store: S, whole: usize, count: usize) -> Result<Shelf<S>, Unopened<S>>
         requires whole { whole ≤ count }
         requires known { IfSome (S.contents store) (λ xs. length xs ≡ count) }
-        ensures { IfOk result (λ s. (s.is_lost ≡ false) × (s.held ≡ first_known whole (S.contents store))) }
+        ensures { IfOk result
+            (λ s. (s.is_lost ≡ false) × (s.held ≡ first_known whole (S.contents store)) × (s.synced ≡ s.held)) }
     {
         let mut store = store;
         match keep_first(&mut store, whole, count) {
@@ -72,10 +74,11 @@ impl<S: Store> Shelf<S> {
     /// no lines.
     ///
     /// # Errors
-    /// `MustStartAgain` if what the store has is lost from sight, by this call or before. Else `Store` if it failed, and `Refused` if it has
-    /// 2^64 bytes by then: it has what it had.
+    /// `MustStartAgain` if what the store has is lost from sight, by this call or before. Else `Store` if it failed, and `Refused` if it
+    /// would have 2^64 bytes: it has what it had.
     pub fn put(&mut self, lines: &[u8]) -> Result<(), Fault>
-        ensures ok { OnOk result ((self.new.held ≡ append_known self.old.held lines.now) × (self.new.is_lost ≡ false)) }
+        ensures ok { OnOk result
+            ((self.new.held ≡ append_known self.old.held lines.now) × (self.new.synced ≡ self.new.held) × (self.new.is_lost ≡ false)) }
         ensures err { IfErr result
             (λ why. ((why ≡ MustStartAgain) × (self.new.is_lost ≡ true)) ⊎ ((self.new.is_lost ≡ false) × (self.new ≡ self.old))) }
         ensures lost { self.old.is_lost ≡ true → (result ≡ Err MustStartAgain) × (self.new ≡ self.old) }
@@ -102,7 +105,7 @@ impl<S: Store> Shelf<S> {
 
     /// The store, as it is.
     pub fn into_store(self) -> S
-        ensures { S.contents result ≡ self.held }
+        ensures { (S.contents result ≡ self.held) × (S.synced result ≡ self.synced) }
     {
         let Shelf {
             store,
@@ -124,11 +127,13 @@ enum Put {
     Lost,
 }
 
-/// Puts lines behind the `count` bytes that a store has, and syncs it.
+/// Puts lines behind the `count` bytes that a store has, all of which survive, and syncs it.
 fn put_into<S: Store>(store: &mut S, count: u64, lines: &[u8]) -> Put
-    requires { IfSome (S.contents store.old) (λ xs. length xs ≡ count) }
-    ensures done { result ≡ Done → S.contents store.new ≡ append_known (S.contents store.old) lines.now }
-    ensures undone { (why : StoreFailed) → result ≡ Undone why → S.contents store.new ≡ S.contents store.old }
+    requires { IsInSight count (S.contents store.old) (S.synced store.old) }
+    ensures done { result ≡ Done
+        → (S.contents store.new ≡ append_known (S.contents store.old) lines.now) × (S.synced store.new ≡ S.contents store.new) }
+    ensures undone { (why : StoreFailed) → result ≡ Undone why
+        → (S.contents store.new ≡ S.contents store.old) × (S.synced store.new ≡ S.synced store.old) }
 {
     if let Err(failed) = store.append(lines) {
         return match store.cut(count) {
@@ -136,17 +141,18 @@ fn put_into<S: Store>(store: &mut S, count: u64, lines: &[u8]) -> Put
             Err(_) => Put::Lost,
         };
     }
-    match store.sync() {
-        Ok(()) => Put::Done,
-        Err(_) => Put::Lost,
+    if store.sync().is_err() {
+        return Put::Lost;
     }
+    Put::Done
 }
 
 /// Leaves the first bytes alone in a store, and sees to it that they survive.
 fn keep_first<S: Store>(store: &mut S, whole: usize, count: usize) -> Result<(), StoreFailed>
     requires whole { whole ≤ count }
     requires known { IfSome (S.contents store.old) (λ xs. length xs ≡ count) }
-    ensures { OnOk result (S.contents store.new ≡ first_known whole (S.contents store.old)) }
+    ensures { OnOk result
+        ((S.contents store.new ≡ first_known whole (S.contents store.old)) × (S.synced store.new ≡ S.contents store.new)) }
 {
     if whole < count {
         store.cut(whole as u64)?;

@@ -48,6 +48,7 @@ impl<N: EngineName, S: Store> Model for Notebook<N, S> {
       shown = n.reader.seen;
       published = n.writer.published;
       held = n.shelf.held;
+      synced = n.shelf.synced;
       is_lost = n.shelf.is_lost;
     } };
 }
@@ -57,7 +58,7 @@ impl<N: EngineName, S: Store> Notebook<N, S> {
     pub(crate) fn of(ends: Ends<N>, shelf: Shelf<S>) -> Notebook<N, S>
         ensures history { (result.own ≡ ends.outgoing.own) × (result.seen ≡ ends.outgoing.seen)
             × (result.stored ≡ length ends.outgoing.seen) × (result.client ≡ ends.client) }
-        ensures shelf { (result.held ≡ shelf.held) × (result.is_lost ≡ shelf.is_lost) }
+        ensures shelf { (result.held ≡ shelf.held) × (result.synced ≡ shelf.synced) × (result.is_lost ≡ shelf.is_lost) }
     {
         let Ends {
             writer,
@@ -123,7 +124,7 @@ impl<N: EngineName, S: Store> Notebook<N, S> {
 
     /// Ends the engine with all its clients, and gives back the store. What isn't saved is lost.
     pub fn end(self, rt: &impl Wait) -> S
-        ensures { S.contents result ≡ self.held }
+        ensures { (S.contents result ≡ self.held) × (S.synced result ≡ self.synced) }
     {
         let Notebook {
             writer,
@@ -158,7 +159,13 @@ impl<N: EngineName, S: Store> Notebook<N, S> {
         requires { self.old.is_lost ≡ false }
         ensures saved { MatchResult result (λ _. IsSaved self.old self.new) (λ why. IsNotSaved self.old self.new why) }
         ensures same { self.new
-            ≡ record self.old { seen = self.new.seen; stored = self.new.stored; held = self.new.held; is_lost = self.new.is_lost } }
+            ≡ record self.old {
+              seen = self.new.seen;
+              stored = self.new.stored;
+              held = self.new.held;
+              synced = self.new.synced;
+              is_lost = self.new.is_lost;
+            } }
         ensures grows { BeginsWith self.new.seen self.old.seen }
     {
         let Written { lines, upto } = self.outgoing.unstored(alloc)?;

@@ -1,4 +1,4 @@
-//! A store that knows which of its bytes would survive a loss of power, and that fails where it is told to.
+//! A store that knows which of its bytes would survive a loss of power, and that fails where it is told to. It says so in its contract.
 
 use notebook::{Store, StoreFailed};
 use std::alloc::{AllocError, Global};
@@ -82,6 +82,12 @@ impl Disk {
 }
 
 impl Store for Disk {
+    ghost use Rattle.std.specs.Prelude.{Some};
+
+    ghost contents = { λ disk. Some disk.bytes.items };
+
+    ghost synced = { λ disk. Some disk.synced.items };
+
     fn read(&mut self, alloc: Global) -> Result<Vec<u8>, StoreFailed> {
         if self.breaks() {
             return Err(FAILED);

@@ -30,8 +30,8 @@ const TORN: &str = r#"["own",[1,1],["assi"#;
 /// More calls than the life makes of its disk.
 const CALLS: u64 = 18;
 
-/// Each call of the disk fails in turn, alone or with all after it. Then the power goes: of what wasn't synced nothing stays, or all, or the
-/// first bytes. What was called saved is there all the same, and nothing that wasn't accepted, and the next life goes on from it.
+/// Each call of the disk fails in turn, alone or with all after it. Then the power goes: of what wasn't synced nothing stays, or all, or
+/// the first bytes. What was called saved is there all the same, and nothing that wasn't accepted, and the next life goes on from it.
 #[test]
 fn what_is_saved_survives(rt: HostRuntime) -> Result<(), Fail> {
     for call in 1..=CALLS {

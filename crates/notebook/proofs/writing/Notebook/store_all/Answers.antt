@@ -8,7 +8,8 @@ use Rattle.notebook.specs.Notebooks.{Notebook}
 use Rattle.notebook.proofs.writing.Notebook.store_all.Goals as goal
 
 -- all that was seen is called stored, and nothing less than before
-reaches : (old new : Sending) (upto : ℕ) → new ≡ record old { stored = max old.stored (min upto (length old.seen)) } → upto ≡ length old.seen
+reaches : (old new : Sending) (upto : ℕ) → new ≡ record old { stored = max old.stored (min upto (length old.seen)) }
+    → upto ≡ length old.seen
     → length new.seen ≤ new.stored
 reaches old new upto is all =
     let seen = ap (λ (o : Sending). length o.seen) is in
@@ -31,5 +32,6 @@ returns-clause-saved g c =
       held = c.in_ok-put.ensures.ok.0
           ∙ (λ i. append_known (held i)
           ((c.deref.ensures.value ∙ c.in_ok-lines.ensures.lines ∙ (λ j. journal_text (entries_from (stored j) (seen j)))) i));
-      is_lost = c.in_ok-put.ensures.ok.1;
+      synced = c.in_ok-put.ensures.ok.1;
+      is_lost = c.in_ok-put.ensures.ok.2;
     }
