@@ -47,8 +47,8 @@ struct Submitted {
 
 impl<N: EngineName, S: Store> Notebook<N, S> {
     /// Receives a whole bundle, as `answer` of a peer gives it, stores what of it is applied, and says what became of it. What it brings
-    /// may be received again. The bytes may be of any origin; a bundle that was cut off at its beginning is none, as `receive` of `peer_sync`
-    /// says.
+    /// may be received again. The bytes may be of any origin; a bundle that was cut off at its beginning is none, as `receive` of
+    /// `peer_sync` says.
     ///
     /// # Errors
     /// `MustStartAgain`, `Held` and `Store` as `write`. What was received is in the document all the same, or comes again by an exchange.

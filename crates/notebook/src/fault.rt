@@ -10,10 +10,10 @@ use thiserror::Error;
 /// Why a call of a notebook fails.
 #[derive(Clone, Copy, Debug, PartialEq, Eq, Error)]
 pub enum Fault {
-    /// The engine refuses it. Of this call nothing is in the document.
+    /// The engine refuses it, and the document has nothing of it.
     Refused(Refusal),
-    /// Memory was short when it was to be published. It is in the document once the next call that stores has published it: don't submit
-    /// it again.
+    /// Memory was short when it was to be published, or written down. The next call that stores publishes and stores it: don't submit it
+    /// again.
     Held,
     /// A line of the journal, counted from 1, doesn't fit: the file was changed, or is none of this kind. The store is as it was.
     Damaged { line: u64, why: Unfit },
@@ -28,7 +28,7 @@ impl fmt::Display for Fault {
     fn fmt<W: fmt::Write>(&self, f: &mut fmt::Formatter<W>) -> fmt::Result {
         match self {
             Fault::Refused(why) => write!(f, "refused: {why:?}"),
-            Fault::Held => f.write_str("not published yet"),
+            Fault::Held => f.write_str("memory was short: not saved yet"),
             Fault::Damaged { line, why } => write!(f, "line {line} doesn't fit: {why:?}"),
             Fault::Store(failed) => write!(f, "{failed}"),
             Fault::MustStartAgain => f.write_str("the store failed: start again"),

@@ -9,11 +9,11 @@ ghost use Rattle.notebook.specs.declared.store.StoreFailed.{StoreFailed};
 
 use crate::fault::{Fault, Unopened};
 use crate::store::{Store, StoreFailed};
-use engine::Refusal;
+use std::io::ErrorKind;
 use std::marker::Model;
 
-/// A store that lines are put into. Contracts see the bytes that it has and those that survive a loss of power, where the store says so, and
-/// whether they are lost from sight: a sync or a cut failed, so that nobody knows what would survive. Else all that it has survives.
+/// A store that lines are put into. Contracts see the bytes that it has and those that survive a loss of power, where the store says so,
+/// and whether they are lost from sight: a sync or a cut failed, so that nobody knows what would survive. Else all that it has survives.
 pub struct Shelf<S: Store> {
     store: S,
     /// How many bytes it has, unless they are lost from sight.
@@ -74,8 +74,8 @@ impl<S: Store> Shelf<S> {
     /// no lines.
     ///
     /// # Errors
-    /// `MustStartAgain` if what the store has is lost from sight, by this call or before. Else `Store` if it failed, and `Refused` if it
-    /// would have 2^64 bytes: it has what it had.
+    /// `MustStartAgain` if what the store has is lost from sight, by this call or before. Else `Store` if it failed, or if it would have
+    /// 2^64 bytes: it has what it had.
     pub fn put(&mut self, lines: &[u8]) -> Result<(), Fault>
         ensures ok { OnOk result
             ((self.new.held ≡ append_known self.old.held lines.now) × (self.new.synced ≡ self.new.held) × (self.new.is_lost ≡ false)) }
@@ -88,7 +88,9 @@ impl<S: Store> Shelf<S> {
             return Ok(());
         }
         let Some(length) = self.length.checked_add(lines.len() as u64) else {
-            return Err(Fault::Refused(Refusal::HistoryFull));
+            return Err(Fault::Store(StoreFailed {
+                kind: ErrorKind::FileTooLarge,
+            }));
         };
         match put_into(&mut self.store, self.length, lines) {
             Put::Done => {

@@ -30,8 +30,8 @@ impl From<io::Error> for StoreFailed {
 
 /// A place for bytes that survive a loss of power: a file, for example. One notebook has it at a time, of one program.
 ///
-/// Contracts see which bytes it has, as a read gives them, and which were there at the last sync that succeeded, where a store says so. That
-/// these survive is what it owes: nobody proves it.
+/// Contracts see which bytes it has, as a read gives them, and which were there at the last sync that succeeded, where a store says so.
+/// That these survive is what it owes: nobody proves it.
 pub trait Store {
     ghost contents: { Self → Option (List ℕ) } = { λ _. None };
 

@@ -111,7 +111,7 @@ impl<N: EngineName, S: Store> Notebook<N, S> {
     /// Stores what is in the document and isn't stored: after a `Held` or a `Store`.
     ///
     /// # Errors
-    /// `Held`, `Store` and `MustStartAgain`, as `write`; `Refused` with `NoMemory`.
+    /// `MustStartAgain`, `Held` and `Store`, as `write`.
     pub fn save(&mut self, rt: &impl Wait, alloc: Global) -> Result<(), Fault>
         ensures saved { MatchResult result (λ _. IsSaved self.old self.new) (λ why. IsNotSaved self.old self.new why) }
         ensures goes_on { GoesOn self.old self.new }
@@ -155,6 +155,9 @@ impl<N: EngineName, S: Store> Notebook<N, S> {
     }
 
     /// Stores the entries that aren't stored, and calls them so once the store has synced them.
+    ///
+    /// # Errors
+    /// `Held` if memory was short for their lines; `MustStartAgain` and `Store` as `put` of the shelf.
     pub(crate) fn store_all(&mut self, alloc: Global) -> Result<(), Fault>
         requires { self.old.is_lost ≡ false }
         ensures saved { MatchResult result (λ _. IsSaved self.old self.new) (λ why. IsNotSaved self.old self.new why) }
@@ -168,7 +171,9 @@ impl<N: EngineName, S: Store> Notebook<N, S> {
             } }
         ensures grows { BeginsWith self.new.seen self.old.seen }
     {
-        let Written { lines, upto } = self.outgoing.unstored(alloc)?;
+        let Ok(Written { lines, upto }) = self.outgoing.unstored(alloc) else {
+            return Err(Fault::Held);
+        };
         self.shelf.put(&lines)?;
         self.outgoing.call_stored(upto);
         Ok(())

@@ -1,5 +1,7 @@
 //! A store that knows which of its bytes would survive a loss of power, and that fails where it is told to. It says so in its contract.
 
+ghost use Rattle.std.specs.Prelude.{◌≡◌};
+
 use notebook::{Store, StoreFailed};
 use std::alloc::{AllocError, Global};
 use std::io::ErrorKind;
@@ -71,7 +73,9 @@ impl Disk {
     }
 
     /// Whether the next call fails.
-    fn breaks(&mut self) -> bool {
+    fn breaks(&mut self) -> bool
+        ensures { self.new ≡ record self.old { calls = self.new.calls } }
+    {
         self.calls = self.calls.saturating_add(1);
         match self.breaks {
             Breaks::Never => false,

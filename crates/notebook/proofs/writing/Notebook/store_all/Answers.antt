@@ -25,13 +25,14 @@ returns-clause-saved g c =
     let seen : c.unstored.new.self.seen ≡ c.call_stored.new.self.seen = sym (ap (λ (o : Sending). o.seen) c.call_stored.ensures) in
     let held : c.self.inside.shelf.held ≡ old.held = ap (λ (n : Notebook). n.held) c.self.view_is in
     let stored : c.self.inside.outgoing.stored ≡ old.stored = ap (λ (n : Notebook). n.stored) c.self.view_is in
+    let upto : ℕ = c.in-Ok.field-0.upto in
     record {
-      stored = reaches c.unstored.new.self c.call_stored.new.self c.in_ok-lines.field-0.upto c.call_stored.ensures c.in_ok-lines.ensures.upto;
-      rises = (let more = rises c.unstored.new.self c.call_stored.new.self c.in_ok-lines.field-0.upto c.call_stored.ensures in
-          let same = c.in_ok-lines.ensures.same.1 in omega (arith, more, same, stored));
+      stored = reaches c.unstored.new.self c.call_stored.new.self upto c.call_stored.ensures c.in-Ok.ensures.upto;
+      rises = (let more = rises c.unstored.new.self c.call_stored.new.self upto c.call_stored.ensures in
+          let same = c.in-Ok.ensures.same.1 in omega (arith, more, same, stored));
       held = c.in_ok-put.ensures.ok.0
           ∙ (λ i. append_known (held i)
-          ((c.deref.ensures.value ∙ c.in_ok-lines.ensures.lines ∙ (λ j. journal_text (entries_from (stored j) (seen j)))) i));
+          ((c.deref.ensures.value ∙ c.in-Ok.ensures.lines ∙ (λ j. journal_text (entries_from (stored j) (seen j)))) i));
       synced = c.in_ok-put.ensures.ok.1;
       is_lost = c.in_ok-put.ensures.ok.2;
     }
