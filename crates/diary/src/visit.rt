@@ -6,8 +6,7 @@ ghost use Rattle.ids.specs.Members.{in_order};
 use crate::entries::{add, all};
 use anyhow::{Context, Result};
 use notebook::{
-    EngineName, Fault, FileStore, Journal, Notebook, Parts, Store, Unopened, config_of,
-    draw_number, prepare,
+    EngineName, Fault, FileStore, Journal, Notebook, Parts, Store, config_of, draw_number, prepare,
 };
 use std::alloc::Global;
 use std::fs::{File, Files};
@@ -59,14 +58,16 @@ fn visit_notebook<N: EngineName, R: Wait, S: Store + Drop>(
     requires own { parts.config.own ≡ N.own }
     requires table { in_order parts.config.members ≡ N.table }
 {
-    let mut notebook = match Notebook::<N, S>::open(rt, alloc, parts, journal) {
-        Ok(notebook) => notebook,
-        Err(Unopened { why, .. }) => return Err(why),
-    };
-    let entries = add_and_read(rt, alloc, &mut notebook, text);
-    // Its engine is closed on each way out; the file is closed with the store.
-    let _store = notebook.end(rt);
-    entries
+    match Notebook::<N, S>::open(rt, alloc, parts, journal) {
+        Ok(notebook) => {
+            let mut notebook = notebook;
+            let entries = add_and_read(rt, alloc, &mut notebook, text);
+            // Its engine is closed on each way out; the file is closed with the store.
+            let _store = notebook.end(rt);
+            entries
+        }
+        Err(unopened) => Err(unopened.why),
+    }
 }
 
 fn add_and_read<N: EngineName, S: Store>(
