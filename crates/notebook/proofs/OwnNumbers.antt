@@ -1,5 +1,5 @@
 -- The first own command of a journal, line by line.
-use Rattle.std.proofs.Common.{◌≡◌, ◌∙◌, ℕ, List, [], Option, None, Some, Bool, true, false, refl, sym, ap}
+use Rattle.std.proofs.Common.{◌≡◌, ◌∙◌, ℕ, List, Option, None, Some, true, false, refl, sym, ap}
 use Rattle.std.specs.Option.{is_some, option_or}
 use Rattle.wire.specs.Lines.{Cut, HasNoEnd, IsFirstLine, cut}
 use Rattle.wire.proofs.CutLines.{cut-first_line, cut-no_end}

@@ -1,4 +1,4 @@
-use Rattle.std.proofs.Common.{List, sym, subst}
+use Rattle.std.proofs.Common.{List, subst}
 use Rattle.semantics.specs.Entries.{Entry}
 use Rattle.wire.specs.Lines.{cut}
 use Rattle.journal.specs.Replays.{BringsBackLines}

@@ -1,5 +1,4 @@
 use Rattle.std.proofs.Common.{◌≡◌, ◌∙◌, List, ℕ, take, sym, ap, subst}
-use Rattle.semantics.specs.Entries.{Entry}
 use Rattle.wire.specs.Lines.{Cut, cut}
 use Rattle.journal.specs.Replays.{BringsBackLines}
 use Rattle.notebook.proofs.WholeText.{all_taken}

@@ -1,6 +1,5 @@
-use Rattle.std.proofs.Common.{◌≡◌, ◌≤◌, ◌∙◌, ℕ, List, length, max, min, ap, sym, arith}
+use Rattle.std.proofs.Common.{◌≡◌, ◌≤◌, ◌∙◌, ℕ, length, max, min, ap, sym, arith}
 use Rattle.std.specs.Io.KnownBytes.{append_known}
-use Rattle.semantics.specs.Entries.{Entry}
 use Rattle.semantics.specs.Journals.{entries_from}
 use Rattle.journal.specs.Lines.{journal_text}
 use Rattle.journal.specs.Outgoing.{Sending}
