@@ -128,6 +128,8 @@ impl SortedKeys {
 
     /// Searches between two positions for a key of which this is the prefix. `most` is how many keys there may be between them: each
     /// comparison halves it, and looks as near to `low` as that allows.
+    // Inlined, since most searches end after a comparison or two.
+    #[inline(always)]
     fn search(
         &self,
         key: &Key,
