@@ -1,5 +1,5 @@
 #!/usr/bin/env python3
-"""Tests that no line of code, of a definition or of a proof has more than 140 columns, outside raw strings.
+"""Tests that no line of code, of a definition, of a proof or of Python has more than 140 columns, outside raw strings.
 Prints a line for each that is too long, and fails if there is any.
 """
 import re
@@ -31,7 +31,9 @@ def lines_outside_raw_strings(text):
 
 def main():
     seen, faults = 0, 0
-    for path in sorted(it for part in ("src", "specs", "proofs") for it in TOP.glob(f"crates/*/{part}/**/*.*")):
+    crates = [f"crates/*/{part}/**/*.*" for part in ("src", "specs", "proofs")]
+    pythons = [f"{part}/**/*.py" for part in ("clients", "examples", "tests", "tools")]
+    for path in sorted(it for part in crates + pythons for it in TOP.glob(part)):
         seen += 1
         for number, line in lines_outside_raw_strings(path.read_text(encoding="utf-8")):
             if len(line) <= WIDTH:

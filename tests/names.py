@@ -1,5 +1,5 @@
 #!/usr/bin/env python3
-"""Tests that the names which pages cite are there: in README.md, docs/*.md and the READMEs of crates
+"""Tests that the names which pages cite are there: in README.md, docs/*.md and the READMEs of crates, clients and examples
 
 - laws and functions as `file::function` or `crate::function`, methods and fields as `Type::name`, definitions as `Module.word` or
   `crate.Module.word`;
@@ -15,7 +15,8 @@ import sys
 from pathlib import Path
 
 TOP = Path(__file__).resolve().parent.parent
-PAGES = [TOP / "README.md", *sorted(TOP.glob("docs/*.md")), *sorted(TOP.glob("crates/*/README.md"))]
+READMES = [it for part in ("crates", "clients", "examples") for it in sorted(TOP.glob(f"{part}/*/README.md"))]
+PAGES = [TOP / "README.md", *sorted(TOP.glob("docs/*.md")), *READMES]
 CONTRACT_COLUMNS = {"Contract", "Clauses that carry it", "Where"}
 # What is no definition and no clause though it looks like one.
 FILE_ENDINGS = {"md", "antt", "rt", "py", "txt", "sh"}
@@ -61,7 +62,7 @@ def clauses():
 def words():
     """Each word of a source, script or edit, and the name of each."""
     parts = [f"crates/*/{part}/**/*.*" for part in ("src", "specs", "proofs", "must-fail")]
-    patterns = [*parts, "tests/*", "tools/*", "bench/*", ".ci/*", "jdoc", "crates.txt"]
+    patterns = [*parts, "clients/**/*.py", "examples/**/*.py", "tests/*", "tools/*", "bench/*", ".ci/*", "jdoc", "crates.txt"]
     names = {it.stem for pattern in [*parts, "crates/*", "tests/scripts/*"] for it in TOP.glob(pattern)}
     found = set(re.findall(r"[\w-]+", text_of(*patterns)))
     return names.union(found, *(it.split("-") for it in found))

@@ -1,5 +1,5 @@
 #!/usr/bin/env python3
-"""Tests that no page and no comment has a phrase of tests/words.txt. Prints a line for each place, with what to say
+"""Tests that no page, no comment and no line of a client has a phrase of tests/words.txt. Prints a line for each place, with what to say
 instead, and fails if there is any.
 """
 import re
@@ -19,8 +19,9 @@ def phrases():
 
 
 def texts():
-    """Yields each line of a page, and each comment, with its file and number."""
+    """Yields each line of a page or a client, and each comment, with its file and number."""
     pages = [*TOP.glob("*.md"), *TOP.glob("docs/*.md"), *TOP.glob("crates/*/README.md")]
+    pages += [it for part in ("clients", "examples") for end in ("md", "py") for it in TOP.glob(f"{part}/**/*.{end}")]
     sources = [it for part in ("src", "specs", "proofs") for it in TOP.glob(f"crates/*/{part}/**/*.*")]
     for path in sorted([*pages, *sources]):
         mark = COMMENTS.get(path.suffix)

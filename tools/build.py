@@ -2,7 +2,9 @@
 """Proves the crates that the program uses, and builds it. `./jdoc build` calls it.
 
 `rt` proves the crates of one checkout one after another. So two crates are proved at a time, each in a copy of the sources of its own, of
-which one is the checkout: of the crates below which all is proved the one with the most above it. `rt` takes over in one copy what it has proved in the other."""
+which one is the checkout: of the crates below which all is proved the one with the most above it. `rt` takes over in one copy what it has
+proved in the other.
+"""
 import os
 import shutil
 import subprocess

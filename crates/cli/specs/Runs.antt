@@ -6,7 +6,7 @@ use Rattle.scripts.specs.Runs.{IsReplyText}
 use Rattle.scripts.specs.Scripts.{script_form}
 use Rattle.cli.specs.Faults.{line_of, status_of}
 use Rattle.cli.specs.declared.fault.Fault.{Fault}
-use Rattle.cli.specs.declared.fault.Fault.TheVariants.{Script, CannotRead, BadWord, OutOfRange, NoMemory}
+use Rattle.cli.specs.declared.fault.Fault.TheVariants.{Script, CannotRead, NoMemory}
 use Rattle.cli.specs.declared.fault.Status.TheVariants.{BadInput}
 
 -- done, bad input, no memory, or not written
@@ -21,9 +21,8 @@ AppendsReplies read old new = IfSome read (λ bytes. (text : List ℕ) × IsRepl
 abbrev pub IsFaultOf : List ℕ → Option (List ℕ) → Fault → Type 0
 IsFaultOf name read (Script error) = IfSome read (λ bytes. IsErrorOf (script_form bytes) error)
 IsFaultOf name read (CannotRead told) = told.now ≡ name
-IsFaultOf name read BadWord = ⊥
-IsFaultOf name read OutOfRange = ⊥
 IsFaultOf name read NoMemory = ⊤
+IsFaultOf name read _ = ⊥
 
 -- the line that the script can't be read, or that of its first bad line, was written, and nothing else
 abbrev pub TellsBadScript : List ℕ → Option (List ℕ) → Option (List ℕ) → Option (List ℕ) → Type 0

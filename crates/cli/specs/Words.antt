@@ -1,5 +1,5 @@
 -- The program's words, as the crate that parses them defines what a command takes and finds.
-use Rattle.std.specs.Prelude.{◌≡◌, ◌≢◌, ℕ, List, [], ◌∷◌, true, codes, Some, option_map}
+use Rattle.std.specs.Prelude.{◌≡◌, ◌≢◌, ◌<◌, ℕ, List, [], ◌∷◌, true, codes, Option, None, Some, option_map}
 use Rattle.std.specs.Str.Parse.{IsNumeral, digits_value, without_leading_plus}
 use Rattle.clap.specs.Words.{App, Row, Rule, Shape, Text, first_of, kind_of, one_of, new_app, new_rule, subcommand_of, with_rule}
 use Rattle.clap.specs.Words.{with_subcommand}
@@ -13,7 +13,7 @@ use Rattle.bench.specs.declared.plan.Plan.{Plan}
 use Rattle.cli.specs.declared.words.BadWords.{BadWords}
 use Rattle.cli.specs.declared.words.BadWords.TheVariants.{Refused, OutOfRange}
 use Rattle.cli.specs.declared.words.Job.{Job}
-use Rattle.cli.specs.declared.words.Job.TheVariants.{Run, Bench}
+use Rattle.cli.specs.declared.words.Job.TheVariants.{Run, Bench, Serve}
 
 -- the optional word after `run`
 abbrev pub script_rule : Rule
@@ -45,13 +45,25 @@ required_app = with_rule
 abbrev pub bench_app : App
 bench_app = with_rule required_app queue_rule
 
+-- an option with the number of the replica that is served
+abbrev pub own_number_rule : Rule
+own_number_rule = record (new_rule (codes "number")) { long = Some (codes "number"); parser = Some (Unsigned 1 4294967295) }
+
+-- `serve`, the file that may follow it, and the option
+abbrev pub serve_app : App
+serve_app = with_rule (with_rule (new_app (codes "serve")) (new_rule (codes "FILE"))) own_number_rule
+
 -- the program's own name is no word, and a subcommand is needed
 abbrev pub with_settings : Shape → Shape
 with_settings s = record s { no_binary_name = true; subcommand_required = true }
 
--- the words of the program: `run` or `bench`, each with its own
+-- the words of the program that are of engines: `run` or `bench`, each with its own
+abbrev pub engines_app : App
+engines_app = with_subcommand (with_subcommand (on_top with_settings (new_app (codes "jdoc"))) run_app.top) bench_app.top
+
+-- the words of the program: these, or `serve` with its own
 abbrev pub jdoc_app : App
-jdoc_app = with_subcommand (with_subcommand (on_top with_settings (new_app (codes "jdoc"))) run_app.top) bench_app.top
+jdoc_app = with_subcommand engines_app serve_app.top
 
 -- the option's text is a decimal numeral, maybe after a plus, and this is its number
 abbrev pub IsNumber : Text → List Row → ℕ → Type 0
@@ -66,10 +78,18 @@ IsPlanOf rows plan =
     × IsNumber (codes "ops") rows plan.ops
     × IsNumber (codes "queue") rows plan.queue
 
+-- the number of 32 bits that is given, if one is
+abbrev pub IsNumberGiven : List Row → Option ℕ → Type 0
+IsNumberGiven rows None = (n : ℕ) → n < 4294967296 → IsNumber (codes "number") rows n → ⊥
+IsNumberGiven rows (Some n) = IsNumber (codes "number") rows n
+
 -- what a subcommand with what was found there asks for
 abbrev pub IsAskedBy : Text × List Row → Job → Type 0
-IsAskedBy p (Run script) = (p.0 ≢ codes "bench") × (first_of (codes "SCRIPT") p.1 ≡ option_map (λ s. s.now) script)
+IsAskedBy p (Run script) = (p.0 ≢ codes "bench") × (p.0 ≢ codes "serve")
+    × (first_of (codes "SCRIPT") p.1 ≡ option_map (λ s. s.now) script)
 IsAskedBy p (Bench plan) = (p.0 ≡ codes "bench") × IsPlanOf p.1 plan
+IsAskedBy p (Serve file number) = (p.0 ≡ codes "serve") × (first_of (codes "FILE") p.1 ≡ option_map (λ s. s.now) file)
+    × IsNumberGiven p.1 number
 
 -- the job is what the words ask for
 abbrev pub IsJobOf : List Text → Job → Type 0

@@ -17,12 +17,12 @@ pub enum Status {
     Done = 0,
     /// A value of a bench wasn't read back, or its engines show different things.
     Differ = 1,
-    /// Bad words, or a script that is bad or can't be read.
+    /// Bad words, a script that is bad or can't be read, or a file that can't be served.
     BadInput = 2,
     /// A thread of a bench waited for too long.
     TurnLimit = 3,
     NoMemory = 4,
-    /// A write failed; nothing more is written after that.
+    /// A write failed; no reply is written after that.
     NotWritten = 5,
 }
 
@@ -35,8 +35,20 @@ pub enum Fault<'a> {
     CannotRead(&'a str),
     /// One of the program's words isn't UTF-8.
     BadWord,
-    /// A number of `bench` is outside its limits.
+    /// A number is outside its limits.
     OutOfRange,
+    /// The file of this name can't be opened, or not be made to last.
+    CannotOpen(&'a str),
+    /// Another program has the file of this name.
+    InUse(&'a str),
+    /// The file of this name is another number's: this one's.
+    OtherNumber(&'a str, u32),
+    /// A line of the file of this name, counted from 1, doesn't fit: it was changed, or is no journal.
+    Damaged(&'a str, u64),
+    /// A sync of the file of this name failed, so nobody knows what it has.
+    Lost(&'a str),
+    /// A reply can't be written.
+    NotWritten,
     NoMemory,
 }
 
@@ -52,7 +64,13 @@ impl fmt::Display for Fault<'_> {
             Fault::Script(error) => write!(f, "jdoc: {error}"),
             Fault::CannotRead(name) => write!(f, "jdoc: cannot read {name}"),
             Fault::BadWord => f.write_str("jdoc: a word is no text"),
-            Fault::OutOfRange => f.write_str("jdoc: a number of bench is out of range"),
+            Fault::OutOfRange => f.write_str("jdoc: a number is out of range"),
+            Fault::CannotOpen(name) => write!(f, "jdoc: cannot open {name}"),
+            Fault::InUse(name) => write!(f, "jdoc: another program has {name}"),
+            Fault::OtherNumber(name, number) => write!(f, "jdoc: number {number} has {name}"),
+            Fault::Damaged(name, line) => write!(f, "jdoc: line {line} of {name} doesn't fit"),
+            Fault::Lost(name) => write!(f, "jdoc: nobody knows what {name} has: start again"),
+            Fault::NotWritten => f.write_str("jdoc: cannot write"),
             Fault::NoMemory => f.write_str("jdoc: no memory"),
         }
     }
@@ -90,6 +108,7 @@ impl<'a> Fault<'a> {
         match self {
             Fault::NoMemory => Status::NoMemory,
             Fault::Script(ScriptError::NoMemory) => Status::NoMemory,
+            Fault::Lost(_) | Fault::NotWritten => Status::NotWritten,
             _ => Status::BadInput,
         }
     }

@@ -21,9 +21,16 @@ use std::io::Write;
 #[derive(Clone, Copy, Debug, PartialEq, Eq)]
 pub enum Job<'a> {
     /// Run the script in the file of this name, or on standard input where none is given.
-    Run { script: Option<&'a str> },
+    Run {
+        script: Option<&'a str>,
+    },
     /// Let threads write into engines, as the plan says.
     Bench(Plan),
+    /// Serve the document in the file of this name, or one in memory where none is given, as the replica of this number.
+    Serve {
+        file: Option<&'a str>,
+        number: Option<u32>,
+    },
 }
 
 /// Why the words ask for nothing.
@@ -31,13 +38,13 @@ pub enum Job<'a> {
 pub enum BadWords {
     /// What `clap` answers to them, help that they ask for included.
     Refused(Error),
-    /// A number of `bench` is outside its limits.
+    /// A number is outside its limits.
     OutOfRange,
 }
 
 ghost use Rattle.cli.specs.Faults.{line_of};
-ghost use Rattle.cli.specs.Words.{IsJobOf, IsNumber, IsOutOfMemory, IsPlanOf, IsRefusedBy, bench_app, jdoc_app, number_rule};
-ghost use Rattle.cli.specs.Words.{queue_rule, run_app};
+ghost use Rattle.cli.specs.Words.{IsJobOf, IsNumber, IsOutOfMemory, IsPlanOf, IsRefusedBy, bench_app, engines_app, jdoc_app};
+ghost use Rattle.cli.specs.Words.{number_rule, own_number_rule, queue_rule, run_app, serve_app};
 ghost use Rattle.cli.specs.declared.fault.Fault.TheVariants as fault;
 ghost use Rattle.cli.specs.declared.words.BadWords.TheVariants.{Refused as RefusedBy};
 
@@ -60,6 +67,10 @@ pub fn read_words<'a>(alloc: Global, words: &'a [&'a str]) -> Result<Job<'a>, Ba
             Some(plan) => Ok(Job::Bench(plan)),
             None => Err(BadWords::OutOfRange),
         },
+        Some((name, found)) if name == "serve" => Ok(Job::Serve {
+            file: found.get_str("FILE"),
+            number: number_of(found, "number"),
+        }),
         Some((_, found)) => Ok(Job::Run {
             script: found.get_str("SCRIPT"),
         }),
@@ -99,14 +110,22 @@ fn number_of(found: &ArgMatches<'_>, option: &str) -> Option<u32>
     found.get_one(option)
 }
 
-/// `jdoc run [SCRIPT]`, and `jdoc bench --replicas N --writers W --ops K [--queue Q]`
+/// `jdoc run [SCRIPT]`, `jdoc bench --replicas N --writers W --ops K [--queue Q]`, and `jdoc serve [FILE] [--number N]`
 fn command<'a>(alloc: Global) -> Result<Command<'a>, AllocError>
     ensures words { IfOk result (λ c. app_of c ≡ jdoc_app) }
     ensures local { IfOk result (λ c. (fields_of c).has_globals ≡ false) }
 {
+    engines_command(alloc)?.subcommand(serve_command(alloc)?)
+}
+
+/// The program with what it does with engines.
+fn engines_command<'a>(alloc: Global) -> Result<Command<'a>, AllocError>
+    ensures words { IfOk result (λ c. app_of c ≡ engines_app) }
+    ensures local { IfOk result (λ c. (fields_of c).has_globals ≡ false) }
+{
     Command::new(alloc, "jdoc")
         .bin_name("jdoc")?
-        .about("Runs engines of a shared document")
+        .about("Serves a shared document, and runs engines of one")
         .no_binary_name(true)
         .subcommand_required(true)
         .subcommand(run_command(alloc)?)?
@@ -139,6 +158,34 @@ fn bench_command<'a>(alloc: Global) -> Result<Command<'a>, AllocError>
             "How many commands each of them submits, from 1 to 4,096",
         ))?
         .arg(queue_option(alloc))
+}
+
+fn serve_command<'a>(alloc: Global) -> Result<Command<'a>, AllocError>
+    ensures words { IfOk result (λ c. app_of c ≡ serve_app) }
+    ensures local { IfOk result (λ c. (fields_of c).has_globals ≡ false) }
+{
+    let file = Arg::new(alloc, "FILE").help(
+        "The file that keeps the document; it lives in memory where none is given",
+    );
+    Command::new(alloc, "serve")
+        .about(
+            "Serves a document: a request a line on standard input, a reply a line on standard output",
+        )
+        .arg(file)?
+        .arg(own_number(alloc))
+}
+
+/// The option for the number of the replica that is served.
+fn own_number<'a>(alloc: Global) -> Arg<'a>
+    ensures rule { rule_of result ≡ own_number_rule }
+    ensures local { result.global ≡ false }
+{
+    Arg::new(alloc, "number")
+        .long("number")
+        .value_parser(ValueParser::unsigned(1, u64::from(u32::MAX)))
+        .help(
+            "The number of this device, which no other one has, from 1 to 4,294,967,295; else the file's, or one that is drawn",
+        )
 }
 
 /// A required option whose value is a number from 1 on.

@@ -87,7 +87,7 @@ impl FieldList {
         ensures { MatchOption result (find name_cmp key.now self.now.entries ≡ None)
             (λ r. (slice_get self.now.entries r.0 ≡ Some (key.now, r.1)) × (find name_cmp key.now self.now.entries ≡ Some r.1)) }
     {
-        match self.keys.find_with_hint(key, self.hint, &mut 0) {
+        match self.keys.find(key, self.hint) {
             Ok(position) => Some((position, self.numbers[self.keys.number(position)])),
             Err(_) => None,
         }
@@ -101,7 +101,7 @@ impl FieldList {
         ensures flags { self.new.flags ≡ self.old.flags }
         ensures room { self.new.room ≡ self.old.room }
     {
-        match self.keys.find_with_hint(key, self.hint, &mut 0) {
+        match self.keys.find(key, self.hint) {
             Ok(position) => {
                 self.hint = position;
                 Some(self.numbers[self.keys.number(position)])
@@ -165,7 +165,7 @@ impl FieldList {
         ensures unflagged { find name_cmp key self.old.flags ≡ None }
         ensures room { self.old.room ≤ self.new.room + 1 }
     {
-        let Err(position) = self.keys.find_with_hint(&key, self.hint, &mut 0) else {
+        let Err(position) = self.keys.find(&key, self.hint) else {
             unreachable!()
         };
         self.keys.put(position, key);

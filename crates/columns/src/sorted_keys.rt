@@ -1,13 +1,14 @@
 //! The keys of a map, in byte order.
 
-ghost use Rattle.std.specs.Prelude.{◌≡◌, ◌≤◌, ◌<◌, ◌+◌, ◌^◌, ℕ, [], length, Some, slice_get, slice_index_or, IsTrue, OnOk};
+ghost use Rattle.std.specs.Prelude.{◌≡◌, ◌⊎◌, ◌≤◌, ◌<◌, ◌+◌, ◌^◌, ℕ, [], Ok, length, Some, slice_get, slice_index_or};
+ghost use Rattle.std.specs.Prelude.{IfErr, IfOk, IsTrue, MatchResult, OnOk};
 ghost use Rattle.std.specs.declared.cmp.Ordering.TheVariants.{Less};
 ghost use Rattle.std.specs.List.{insert};
 ghost use Rattle.std.specs.FinMap.{put, is_sorted};
 ghost use Rattle.semantics.specs.Elements.{Name, name_cmp};
-ghost use Rattle.columns.specs.Keys.{AreNumbers, AreOrdered, Finds, numbered};
+ghost use Rattle.columns.specs.Keys.{AreNumbers, AreOrdered, Finds, IsBetween, numbered};
 ghost use Rattle.columns.specs.Prefix.{AreBytes, first_bytes};
-ghost use Rattle.columns.specs.Rank.{GoesTo, as_set, rank};
+ghost use Rattle.columns.specs.Rank.{GoesTo, as_set};
 
 use crate::prefix::prefix_of;
 use cursor::Key;
@@ -29,6 +30,13 @@ pub struct SortedKeys {
     order: Rings<usize>,
     /// The prefix of the key at each position in byte order.
     prefixes: Rings<u64>,
+}
+
+/// The positions, from `low` on and below `high`, among which a key may stand, and at `high` the last one where it may belong.
+#[derive(Clone, Copy)]
+struct Span {
+    low: usize,
+    high: usize,
 }
 
 impl Model for SortedKeys {
@@ -100,11 +108,21 @@ impl SortedKeys {
         self.prefixes.reserve_one()
     }
 
+    /// The position of a key, or `Err` with the one where it would be inserted, as `find_with_hint` has it.
+    // Not inlined, and what it calls is: so nothing is counted where nobody reads the count.
+    #[inline(never)]
+    pub fn find(&self, key: &Key, hint: usize) -> Result<usize, usize>
+        ensures { Finds self.now.keys key.now result }
+    {
+        self.find_with_hint(key, hint, &mut 0)
+    }
+
     /// The position of a key, or `Err` with the one where it would be inserted. Looks first at the key at `hint`, if there is one.
     ///
     /// Compares the key with at most as many others as their number has binary digits, and one more: with at most k + 1 of fewer than
     /// 2 to the k. One that stands at `hint` is compared with that one alone; one that goes in behind it with few, mostly. Each
     /// comparison adds 1 to `probes`.
+    #[inline(always)]
     pub fn find_with_hint(&self, key: &Key, hint: usize, probes: &mut u64) -> Result<usize, usize>
         requires { probes.old ≤ 18446744073709551550 }
         ensures position { Finds self.now.keys key.now result }
@@ -113,48 +131,71 @@ impl SortedKeys {
         ensures any_probe { 0 < length self.now.keys → probes.old < probes.new }
         ensures counted { probes.old ≤ probes.new }
     {
-        let count = self.len();
         let prefix = prefix_of(key.as_str().as_bytes());
+        // In a register until the search ends.
+        let mut count = *probes;
+        let found = match self.narrow(key, prefix, hint, &mut count) {
+            Ok(position) => Ok(position),
+            Err(span) => self.search(key, prefix, span, &mut count),
+        };
+        *probes = count;
+        found
+    }
+
+    /// Compares a key, of which this is the prefix, with the one at `hint`, if there is one: the position of the key if it stands there,
+    /// else `Err` with the positions among which it may stand or belongs.
+    #[inline(always)]
+    fn narrow(&self, key: &Key, prefix: u64, hint: usize, probes: &mut u64) -> Result<usize, Span>
+        requires prefix { prefix ≡ first_bytes 8 key.now }
+        requires bytes { AreBytes key.now }
+        requires few { probes.old ≤ 18446744073709551550 }
+        ensures found { IfOk result (λ position. Finds self.now.keys key.now (Ok position)) }
+        ensures between { IfErr result (λ span. IsBetween self.now.keys key.now span.low span.high) }
+        ensures hinted { slice_get self.now.keys hint ≡ Some key.now → (result ≡ Ok hint) × (probes.new ≡ probes.old + 1) }
+        ensures few_probes { probes.new ≤ probes.old + 1 }
+        ensures counted { probes.old ≤ probes.new }
+        ensures any_probe { MatchResult result (λ _. probes.old < probes.new)
+            (λ span. 0 < length self.now.keys → (probes.old < probes.new) ⊎ (span.low < span.high)) }
+    {
+        let count = self.len();
         if hint >= count {
-            return self.search(key, prefix, 0, count, count, probes);
+            return Err(Span {
+                low: 0,
+                high: count,
+            });
         }
         *probes += 1;
         match self.compare(key, prefix, hint) {
-            Ordering::Less => self.search(key, prefix, 0, hint, hint, probes),
+            Ordering::Less => Err(Span { low: 0, high: hint }),
             Ordering::Equal => Ok(hint),
-            Ordering::Greater => self.search(key, prefix, hint + 1, count, count, probes),
+            Ordering::Greater => {
+                Err(Span {
+                    low: hint + 1,
+                    high: count,
+                })
+            }
         }
     }
 
-    /// Searches between two positions for a key of which this is the prefix. `most` is how many keys there may be between them: each
-    /// comparison halves it, and looks as near to `low` as that allows.
-    // Inlined, since most searches end after a comparison or two.
+    /// Searches a span for a key of which this is the prefix. Each comparison halves how many keys there may be from `low` on, and looks
+    /// as near to `low` as that allows.
+    // Inlined at its only call, so that what it counts stays in a register.
     #[inline(always)]
-    fn search(
-        &self,
-        key: &Key,
-        prefix: u64,
-        low: usize,
-        high: usize,
-        most: usize,
-        probes: &mut u64,
-    ) -> Result<usize, usize>
+    fn search(&self, key: &Key, prefix: u64, span: Span, probes: &mut u64) -> Result<usize, usize>
         requires prefix { prefix ≡ first_bytes 8 key.now }
         requires bytes { AreBytes key.now }
-        requires above { low ≤ rank name_cmp key.now self.now.keys }
-        requires within { high ≤ length self.now.keys }
-        requires next { (d : Name) → high < length self.now.keys → name_cmp key.now (slice_index_or self.now.keys high d) ≡ Less }
-        requires most { high ≤ low + most }
+        requires between { IsBetween self.now.keys key.now span.low span.high }
         requires few { probes.old ≤ 18446744073709551551 }
         ensures position { Finds self.now.keys key.now result }
-        ensures few_probes { (k : ℕ) → most < 2 ^ k → probes.new ≤ probes.old + k }
-        ensures any_probe { low < high → probes.old < probes.new }
+        ensures few_probes { (k : ℕ) → span.high < 2 ^ k → probes.new ≤ probes.old + k }
+        ensures any_probe { span.low < span.high → probes.old < probes.new }
         ensures counted { probes.old ≤ probes.new }
     {
+        let Span { low, high } = span;
         prove!(high <= self.len());
         let mut low = low;
         let mut high = high;
-        let mut most = most;
+        let mut most = high;
         while low < high {
             most /= 2;
             let middle = between(low, high, most);

@@ -1,9 +1,13 @@
-//! The program: it runs a script of engines and prints what each step replies, or lets threads write into engines.
+//! The program: it serves a document over lines, runs a script of engines and prints what each step replies, or lets threads write into
+//! engines.
 #![tactic(auto)]
 
-use cli::{Fault, Job, bench, read_words, run_script};
+use cli::{Fault, Job, bench, read_words, run_script, serve};
 use std::alloc::AllocError;
+use std::fs::{File, Files};
+use std::io::BufReader;
 use std::process::ExitCode;
+use std::random::RandomSource;
 use std::sync::Wait;
 use std::thread::Threads;
 use std::{env, fs, io};
@@ -29,8 +33,12 @@ fn lent<'a>(rt: &HostRuntime, owned: &'a [String]) -> Result<Vec<&'a str>, Alloc
     owned.iter().map(|word| word.as_str()).collect(rt.alloc())
 }
 
-/// Does what the words ask for, and returns the status. Threads are started by the second handle.
-fn start<R: Threads + Wait + Sync>(rt: &HostRuntime, threads: &R, owned: &[String]) -> u8 {
+/// Does what the words ask for, and returns the status. What waits, or starts threads, does so by the second handle.
+fn start<R: Files<File = File> + RandomSource + Threads + Wait + Sync>(
+    rt: &HostRuntime,
+    waits: &R,
+    owned: &[String],
+) -> u8 {
     let mut faults = rt.stderr();
     let Ok(words) = lent(rt, owned) else {
         return Fault::NoMemory.report(&mut faults) as u8;
@@ -38,9 +46,31 @@ fn start<R: Threads + Wait + Sync>(rt: &HostRuntime, threads: &R, owned: &[Strin
     match read_words(rt.alloc(), words.as_slice()) {
         Ok(Job::Run { script: None }) => run_input(rt),
         Ok(Job::Run { script: Some(name) }) => run_file(rt, name),
-        Ok(Job::Bench(plan)) => bench(threads, rt.alloc(), plan, &mut rt.stdout(), &mut faults),
+        Ok(Job::Bench(plan)) => bench(waits, rt.alloc(), plan, &mut rt.stdout(), &mut faults),
+        Ok(Job::Serve { file, number }) => serve_document(rt, waits, file, number),
         Err(why) => why.report(&mut faults) as u8,
     }
+}
+
+fn serve_document<R: Files<File = File> + RandomSource + Wait>(
+    rt: &HostRuntime,
+    waits: &R,
+    file: Option<&str>,
+    number: Option<u32>,
+) -> u8 {
+    let mut faults = rt.stderr();
+    let Ok(mut input) = BufReader::new(rt.alloc(), rt.stdin()) else {
+        return Fault::NoMemory.report(&mut faults) as u8;
+    };
+    serve(
+        waits,
+        rt.alloc(),
+        file,
+        number,
+        &mut input,
+        &mut rt.stdout(),
+        &mut faults,
+    )
 }
 
 fn run_input(rt: &HostRuntime) -> u8 {

@@ -1,4 +1,2 @@
-pub mod BroughtBack
-pub mod ReadBack
 pub mod StoredEntries
-pub mod WrongLengths
+pub mod TakenNext

@@ -1,4 +1,4 @@
--- The lines of a journal, and what a journal brings back.
-pub mod Lines
+-- What goes out to peers: what was stored.
 pub mod Outgoing
-pub mod Replays
+-- Handed on from the crate below, for users of this one.
+pub use Rattle.records.specs as records

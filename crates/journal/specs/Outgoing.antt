@@ -1,8 +1,6 @@
 -- What goes out to peers: what was called stored.
-use Rattle.std.specs.Prelude.{ℕ, Bool, nat_lt, List}
-use Rattle.semantics.specs.Entries.{Entry, applied, first_entries}
-use Rattle.semantics.specs.NamedIds.{vector_of}
-use Rattle.semantics.specs.Vectors.{Vector, at}
+use Rattle.std.specs.Prelude.{ℕ, List}
+use Rattle.semantics.specs.Entries.{Entry, first_entries}
 
 -- the number of the engine, the history that was seen of it and the one that was read last, and how many entries of it are called stored
 pub record Sending : Type 0 where
@@ -14,7 +12,3 @@ pub record Sending : Type 0 where
 -- the entries that are called stored
 abbrev pub stored_of : Sending → List Entry
 stored_of o = first_entries o.stored o.seen
-
--- v names more operations of the replica than were applied
-abbrev pub is_beyond : (replica : ℕ) → List Entry → Vector → Bool
-is_beyond p G v = nat_lt (at (vector_of (applied G)) p) (at v p)

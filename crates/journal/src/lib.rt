@@ -6,11 +6,12 @@
 #![tactic(auto)]
 
 mod outgoing;
-mod record;
 mod replaying;
 mod writing;
 
 pub use outgoing::{Answered, Outgoing};
-pub use record::{Recorded, read_record, records_are_read_back};
-pub use replaying::{Replay, Replayed, Unfit};
+pub use replaying::Replay;
 pub use writing::{Written, write_from};
+
+// Handed on from the crate below, for users of this one.
+pub use records::{Recorded, Replayed, Unfit, read_record, records_are_read_back};

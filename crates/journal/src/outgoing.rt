@@ -11,8 +11,9 @@ ghost use Rattle.engine.specs.published.Tokens.{GivesNoReading};
 ghost use Rattle.wire.specs.Bundles.{bundle_form, bundle_text};
 ghost use Rattle.wire.specs.Messages.{hello_form};
 ghost use Rattle.peer_sync.specs.Sending.{hello_text, without_end};
-ghost use Rattle.journal.specs.Lines.{journal_text};
-ghost use Rattle.journal.specs.Outgoing.{is_beyond, stored_of};
+ghost use Rattle.records.specs.Lines.{journal_text};
+ghost use Rattle.records.specs.Lost.{is_beyond};
+ghost use Rattle.journal.specs.Outgoing.{stored_of};
 
 use crate::writing::{Written, write_from};
 use engine::{EngineName, ReaderToken, Refusal};

@@ -1,57 +1,17 @@
 //! An engine that goes on from its journal.
 
-ghost use Rattle.std.specs.Prelude.{◌≡◌, ◌+◌, ◌<◌, ◌^◌, [], ◌∷◌, List, None, OnOk, length, map, take, IsTrue};
+ghost use Rattle.std.specs.Prelude.{◌≡◌, [], ◌∷◌, List, None, OnOk, length, take};
 ghost use Rattle.semantics.specs.Entries.{Entry as TheEntry};
-ghost use Rattle.semantics.specs.Journals.{recorded};
 ghost use Rattle.semantics.specs.WorldHistory.{BeginsWith};
-ghost use Rattle.engine.specs.operation.Ops.{command_of, entry_of, stamped_of};
-ghost use Rattle.engine.specs.operation.SameOps.{is_same_command, is_same_operation};
 ghost use Rattle.wire.specs.Lines.{cut};
 ghost use Rattle.peer_sync.specs.Receiving.{bytes_of};
-ghost use Rattle.journal.specs.Replays.{BringsBackLines, record_meant};
+ghost use Rattle.records.specs.Replays.{BringsBackLines};
 
-use crate::record::{Recorded, read_record};
-use engine::{
-    Client, Command, EngineName, Entry, Op, OpId, Refusal, Reply, Shared, Step, Ticket, Writer,
-};
+use engine::{Client, EngineName, OpId, Refusal, Reply, Step, Ticket, Writer};
+use records::{Recorded, Replayed, Unfit, check_recorded, read_record};
 use std::alloc::Global;
 use std::sync::Wait;
 use wire::Lines;
-
-/// Why a line of a journal wasn't taken.
-#[derive(Clone, Copy, Debug, PartialEq, Eq)]
-pub enum Unfit {
-    /// The line is bad, or the engine refuses what it says.
-    Refused(Refusal),
-    /// Its command would make another id than it says: this one.
-    OtherId(OpId),
-    /// The operation of a peer wasn't applied at once: it is known, or it depends on what stands in no line before it.
-    NotApplied,
-    /// More was published than this line: someone else writes to the engine.
-    NotAlone,
-}
-
-impl From<Refusal> for Unfit {
-    ghost use Rattle.journal.specs.declared.replaying.Unfit.TheVariants.{Refused};
-    ghost use Rattle.std.specs.Prelude.{◌≡◌};
-
-    ghost from_gives = { λ why unfit. unfit ≡ Refused why };
-
-    fn from(refusal: Refusal) -> Unfit {
-        Unfit::Refused(refusal)
-    }
-}
-
-/// How far a journal was brought back.
-#[derive(Clone, Copy, Debug, PartialEq, Eq)]
-pub struct Replayed {
-    /// How many lines were taken: each is an entry of the history now.
-    pub entries: u64,
-    /// How many bytes those lines have, each with its line feed.
-    pub bytes: usize,
-    /// The line, counted from 1, at which it stopped, and why; `None` if all lines were taken.
-    pub stopped: Option<(u64, Unfit)>,
-}
 
 /// Brings a new engine back from its journal, in one piece or in several. Between them nobody else may write to the engine.
 #[derive(Debug, Drop)]
@@ -166,18 +126,6 @@ impl Replay {
     }
 }
 
-impl Replayed {
-    /// Counts a line that was taken, of this many bytes.
-    fn count(&mut self, bytes: usize)
-        requires entries { self.old.entries + 1 < 2 ^ 64 }
-        requires bytes { self.old.bytes + bytes < 2 ^ 64 }
-        ensures { self.new ≡ record self.old { entries = self.old.entries + 1; bytes = self.old.bytes + bytes } }
-    {
-        self.entries += 1;
-        self.bytes += bytes;
-    }
-}
-
 /// Has the writer handle what was submitted, and publish it.
 fn settle<N: EngineName>(
     rt: &impl Wait,
@@ -196,40 +144,4 @@ fn settle<N: EngineName>(
         Some(_) => Ok(()),
         None => Err(Unfit::NotAlone),
     }
-}
-
-/// Tests that the entries are the one that a line says, and returns the counter of its operation.
-fn check_recorded(entries: &[Entry], said: &Recorded) -> Result<u64, Unfit>
-    ensures { OnOk result (map recorded (map entry_of entries.now) ≡ record_meant said.now ∷ []) }
-{
-    match entries {
-        [] => Err(Unfit::NotApplied),
-        [entry] if is_recorded(entry, said) => Ok(entry.op().id.counter),
-        _ => Err(Unfit::NotAlone),
-    }
-}
-
-/// Whether a line says this entry.
-fn is_recorded(entry: &Entry, said: &Recorded) -> bool
-    ensures { IsTrue result → recorded (entry_of entry.now) ≡ record_meant said.now }
-{
-    match (entry, said) {
-        (Entry::Own { command, op, .. }, Recorded::Commanded(id, other)) => {
-            op.id == *id && is_same_command(command, other)
-        }
-        (Entry::Peer(op), Recorded::Received(other)) => is_same_op(op, other),
-        _ => false,
-    }
-}
-
-fn is_same_command(command: &Shared<Command>, other: &Shared<Command>) -> bool
-    ensures { result ≡ is_same_command (command_of command.now) (command_of other.now) }
-{
-    command == other
-}
-
-fn is_same_op(op: &Shared<Op>, other: &Shared<Op>) -> bool
-    ensures { result ≡ is_same_operation (stamped_of op.now) (stamped_of other.now) }
-{
-    op == other
 }

@@ -1,20 +1,15 @@
 //! The history as lines.
 
-ghost use Rattle.std.specs.Prelude.{◌≡◌, ◌++◌, ◌⊎◌, [], Ok, IfErr, IfOk, OnOk, length, map};
+ghost use Rattle.std.specs.Prelude.{◌≡◌, IfErr, IfOk, length};
 ghost use Rattle.semantics.specs.Entries.{IsEntryHistory};
-ghost use Rattle.semantics.specs.Journals.{Commanded, entries_from, recorded};
+ghost use Rattle.semantics.specs.Journals.{entries_from};
 ghost use Rattle.semantics.specs.WorldHistory.{BeginsWith};
 ghost use Rattle.engine.specs.published.Tokens.{GivesNoReading};
-ghost use Rattle.engine.specs.operation.Ops.{command_of, entry_of};
-ghost use Rattle.wire.specs.Lines.{cut};
-ghost use Rattle.wire.specs.Writing.{IsWritten, tokens_of};
-ghost use Rattle.journal.specs.Lines.{journal_text, record_form, record_json, record_line};
+ghost use Rattle.records.specs.Lines.{journal_text};
 
-use engine::{Command, EngineName, Entry, OpId, ReaderToken, Refusal};
-use json::Writer;
-use requests::put_command;
-use std::alloc::{AllocError, Global};
-use wire::{LINE_END, put_id, put_op};
+use engine::{EngineName, ReaderToken, Refusal};
+use records::lines_of;
+use std::alloc::Global;
 
 /// Lines of a journal.
 #[derive(Debug, Drop)]
@@ -48,50 +43,4 @@ pub fn write_from<N: EngineName>(
     let upto = token.seen_len();
     let lines = lines_of(alloc, entries.as_slice())?;
     Ok(Written { lines, upto })
-}
-
-/// A line of each entry.
-fn lines_of(alloc: Global, entries: &[Entry]) -> Result<Vec<u8>, AllocError>
-    ensures { IfOk result (λ text. text.items ≡ journal_text (map entry_of entries.now)) }
-{
-    let mut text = Vec::new(alloc);
-    // A line is written apart, and copied: the writer clears the room that its text has left, which for a long text is much.
-    let mut line = Vec::new(alloc);
-    for entry in entries {
-        line.clear();
-        line = with_record(line, entry)?;
-        text.extend_from_slice(line.as_slice())?;
-        text.push(LINE_END)?;
-    }
-    Ok(text)
-}
-
-/// The text with the line of an entry after what it holds.
-fn with_record(text: Vec<u8>, entry: &Entry) -> Result<Vec<u8>, AllocError>
-    ensures { IfOk result (λ t. t.items ≡ text.items ++ record_line (recorded (entry_of entry.now))) }
-{
-    let mut out = Writer::new(text);
-    put_record(&mut out, entry)?;
-    Ok(out.into_inner())
-}
-
-/// Writes what is recorded of an entry.
-fn put_record(out: &mut Writer, entry: &Entry) -> Result<(), AllocError>
-    ensures { OnOk result (IsWritten (tokens_of (record_json (recorded (entry_of entry.now)))) out.old out.new) }
-{
-    match entry {
-        Entry::Own { command, op, .. } => put_own(out, op.id, command),
-        Entry::Peer(op) => put_op(out, op),
-    }
-}
-
-/// Writes an own command behind the id of what was made of it.
-fn put_own(out: &mut Writer, id: OpId, command: &Command) -> Result<(), AllocError>
-    ensures { OnOk result (IsWritten (tokens_of (record_json (Commanded id (command_of command.now)))) out.old out.new) }
-{
-    out.begin_array()?;
-    out.string("own")?;
-    put_id(out, id)?;
-    put_command(out, command)?;
-    out.end_array()
 }

@@ -1,3 +1,2 @@
 pub mod ClientSteps
-pub mod OwnNumbers
-pub mod WholeText
+pub mod TakenLines

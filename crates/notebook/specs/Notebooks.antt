@@ -12,9 +12,9 @@ use Rattle.engine.specs.Clients.{Client, submissions_by}
 use Rattle.engine.specs.command.declared.ticket.Ticket.{Ticket}
 use Rattle.engine.specs.operation.declared.submission.Submission.{Submission}
 use Rattle.engine.specs.operation.Submissions.{submitted_of}
-use Rattle.journal.specs.Lines.{journal_text}
-use Rattle.notebook.specs.declared.fault.Fault.{Fault}
-use Rattle.notebook.specs.declared.fault.Fault.TheVariants.{MustStartAgain}
+use Rattle.journal.specs.records.Lines.{journal_text}
+use Rattle.store.specs.declared.fault.Fault.{Fault}
+use Rattle.store.specs.declared.fault.Fault.TheVariants.{MustStartAgain}
 
 -- the number of its engine; the history out of which it answers peers, and how many entries of it are called stored; what its client has
 -- submitted and seen, what its reader has seen, and what is published; what its store has and what of that survives a loss of power, where

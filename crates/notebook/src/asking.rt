@@ -13,10 +13,10 @@ ghost use Rattle.engine.specs.document.Documents.{asked_of, said_by};
 ghost use Rattle.engine.specs.document.tree.Glances.{glance_in};
 ghost use Rattle.engine.specs.published.Tokens.{GivesNoReading};
 
-use crate::store::Store;
 use crate::writing::Notebook;
 use engine::{EngineName, Expr, Glance, Question, Reading, Refusal};
 use std::alloc::Global;
+use store::Store;
 
 impl<N: EngineName, S: Store> Notebook<N, S> {
     /// Answers a question out of all that is in the document, also of what isn't saved.

@@ -10,18 +10,17 @@ ghost use Rattle.engine.specs.published.Tokens.{GivesNoReading};
 ghost use Rattle.wire.specs.Bundles.{bundle_form, bundle_text};
 ghost use Rattle.wire.specs.Messages.{hello_form};
 ghost use Rattle.peer_sync.specs.Sending.{hello_text, without_end};
-ghost use Rattle.journal.specs.Outgoing.{is_beyond};
-ghost use Rattle.notebook.specs.declared.fault.Fault.TheVariants.{Held, MustStartAgain};
+ghost use Rattle.journal.specs.records.Lost.{is_beyond};
+ghost use Rattle.store.specs.declared.fault.Fault.TheVariants.{Held, MustStartAgain};
 ghost use Rattle.notebook.specs.Notebooks.{GoesOn, IsNotSaved, IsSaved};
 
-use crate::fault::Fault;
-use crate::store::Store;
 use crate::writing::{Notebook, settle};
 use engine::{Client, EngineName, Refusal, Reply, Step, Writer};
 use journal::Answered;
 use peer_sync::{BundleReader, Received, receive_on};
 use std::alloc::Global;
 use std::sync::Wait;
+use store::{Fault, Store};
 
 /// What became of a bundle.
 #[derive(Clone, Copy, Debug, PartialEq, Eq)]

@@ -7,20 +7,11 @@
 
 mod asking;
 mod exchange;
-mod fault;
-mod file;
 mod opening;
-mod saved;
-mod shelf;
-mod store;
 mod writing;
 
 pub use exchange::Receipt;
-pub use fault::{Fault, Unopened};
-pub use file::FileStore;
-pub use opening::{config_of, draw_number};
-pub use saved::Journal;
-pub use store::{Store, StoreFailed};
+pub use opening::config_of;
 pub use writing::Notebook;
 
 // What else an application names.
@@ -30,3 +21,4 @@ pub use engine::{
 };
 pub use ids::ReplicaId;
 pub use journal::{Answered, Unfit};
+pub use store::{Fault, FileStore, Journal, Store, StoreFailed, Unopened, draw_number};

@@ -5,14 +5,10 @@ ghost use Rattle.ids.specs.declared.refusal.Refusal.TheVariants.{NoMemory};
 ghost use Rattle.ids.specs.Members.{in_order};
 ghost use Rattle.semantics.specs.Entries.{IsEntryHistory};
 ghost use Rattle.wire.specs.Lines.{cut};
-ghost use Rattle.journal.specs.Replays.{BringsBackLines};
-ghost use Rattle.notebook.specs.Shelves.{first_known};
-ghost use Rattle.notebook.specs.WholeLines.{AreWhole};
+ghost use Rattle.journal.specs.records.Replays.{BringsBackLines};
+ghost use Rattle.store.specs.Shelves.{first_known};
+ghost use Rattle.store.specs.WholeLines.{AreWhole};
 
-use crate::fault::{Fault, Unopened};
-use crate::saved::{Journal, is_begun, unfit, whole_len};
-use crate::shelf::Shelf;
-use crate::store::{Store, StoreFailed};
 use crate::writing::Notebook;
 use engine::{
     Client, Config, EngineName, Parts, ReaderToken, Refusal, Writer, close, open as open_engine,
@@ -20,8 +16,8 @@ use engine::{
 use ids::ReplicaId;
 use journal::{Outgoing, Replay, Unfit};
 use std::alloc::Global;
-use std::random::RandomSource;
 use std::sync::Wait;
+use store::{Fault, Journal, Shelf, Store, Unopened, is_begun, unfit, whole_len};
 
 /// The configuration of a notebook's engine: it lists its own number alone, and has a client and two readers.
 ///
@@ -40,20 +36,6 @@ pub fn config_of(alloc: Global, own: ReplicaId) -> Result<Config, Refusal>
         batch: 256,
         serials: u32::MAX,
     })
-}
-
-/// A number that was drawn: for a notebook that has written nothing yet.
-///
-/// # Errors
-/// `Store` if the system gives no random bytes.
-pub fn draw_number(rt: &impl RandomSource) -> Result<ReplicaId, Fault> {
-    let mut bytes = [0; 4];
-    if let Err(error) = rt.fill_bytes(&mut bytes) {
-        return Err(Fault::Store(StoreFailed::from(error)));
-    }
-    // 0 is no number.
-    let number = u32::from_le_bytes(bytes).max(1);
-    Ok(ReplicaId::new(number).ok_or(Refusal::UnknownReplica)?)
 }
 
 impl<N: EngineName, S: Store> Notebook<N, S> {

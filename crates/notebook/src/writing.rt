@@ -4,13 +4,10 @@ ghost use Rattle.std.specs.Prelude.{◌≡◌, false, length, true, Err, IfErr, 
 ghost use Rattle.semantics.specs.Making.{Command as TheCommand};
 ghost use Rattle.semantics.specs.WorldHistory.{BeginsWith};
 ghost use Rattle.engine.specs.operation.Ops.{command_of};
-ghost use Rattle.notebook.specs.declared.fault.Fault.TheVariants.{Held, MustStartAgain};
+ghost use Rattle.store.specs.declared.fault.Fault.TheVariants.{Held, MustStartAgain};
 ghost use Rattle.notebook.specs.Notebooks.{GoesOn, IsCommandUnder, IsMadeOf, IsNotSaved, IsSaved};
 
-use crate::fault::Fault;
 use crate::opening::{Ends, end};
-use crate::shelf::Shelf;
-use crate::store::Store;
 use engine::{
     Client, Command, EngineName, OpId, ReaderToken, Refusal, Reply, Step, Ticket, Writer,
 };
@@ -19,6 +16,7 @@ use journal::{Outgoing, Written};
 use std::alloc::Global;
 use std::marker::Model;
 use std::sync::Wait;
+use store::{Fault, Shelf, Store};
 
 /// A document in a store, for one thread at a time. What a call of it says is saved, or sends, is there at the next start. Its engine's
 /// writer isn't `Drop`: call `end`.

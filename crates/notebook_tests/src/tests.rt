@@ -1,7 +1,6 @@
 //! Notebooks that end and go on from a disk of bytes, as tables that small functions play.
 
 mod damaged;
-mod disk;
 mod exchanging;
 mod failing;
 mod going_on;

@@ -1,5 +1,5 @@
 -- The JSON of a command has whole numbers of 64 bits alone, and nests little.
-use Rattle.std.proofs.Common.{◌≤◌, ℕ, List, [], ◌∷◌, map, arith}
+use Rattle.std.proofs.Common.{◌≤◌, List, [], ◌∷◌, map, arith}
 use Rattle.semantics.specs.Operations.{Mutation, Assign, Insert, Delete}
 use Rattle.semantics.specs.Making.{Command}
 use Rattle.semantics.specs.Questions.{Step, Get, Idx, ById}

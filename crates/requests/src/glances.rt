@@ -1,6 +1,10 @@
 //! A glance as JSON for people.
+#![tactic(auto, using(crate::proofs::NoFloats::no_floats))]
 
-ghost use Rattle.std.specs.Prelude.{◌<◌, ◌≤◌, IfOk, length};
+ghost use Rattle.std.specs.Prelude.{◌≡◌, ◌<◌, ◌≤◌, IfOk, OnOk, false, length};
+ghost use Rattle.serde_json.specs.View.{items_view, members_view, view};
+ghost use Rattle.serde_json.specs.Written.{has_float, items_have_float, members_have_float};
+ghost use Rattle.requests.specs.Glances.{HasNoFloat};
 
 use document::{Glance, Hop, Key, Row};
 use serde_json::{Map, Value, json, push, put};
@@ -22,9 +26,11 @@ struct Beneath {
 ///
 /// # Errors
 /// `AllocError` if allocation fails.
-pub fn glance_json(alloc: Global, glance: &Glance) -> Result<Value, AllocError> {
+pub fn glance_json(alloc: Global, glance: &Glance) -> Result<Value, AllocError>
+    ensures { IfOk result (λ v. has_float (view v) ≡ false) }
+{
     if glance.rows.is_empty() {
-        return json!(in alloc; {"?": "cut"});
+        return cut_mark(alloc);
     }
     let (value, _behind) = element_json(alloc, glance, 0)?;
     Ok(value)
@@ -33,7 +39,8 @@ pub fn glance_json(alloc: Global, glance: &Glance) -> Result<Value, AllocError> 
 /// The element of the row at a position with all that stands beneath it, and the position of the first row that doesn't.
 fn element_json(alloc: Global, glance: &Glance, at: usize) -> Result<(Value, usize), AllocError>
     requires { at < length glance.now.rows.items }
-    ensures { IfOk result (λ r. (at < r.1) × (r.1 ≤ length glance.now.rows.items)) }
+    ensures next { IfOk result (λ r. (at < r.1) × (r.1 ≤ length glance.now.rows.items)) }
+    ensures floats { IfOk result (λ r. has_float (view r.0) ≡ false) }
 {
     let row = &glance.rows[at];
     let mut beneath = Beneath {
@@ -55,7 +62,11 @@ fn element_json(alloc: Global, glance: &Glance, at: usize) -> Result<(Value, usi
 
 impl Beneath {
     /// Puts an element where its row says that it stands.
-    fn add(&mut self, alloc: Global, row: &Row, value: Value) -> Result<(), AllocError> {
+    fn add(&mut self, alloc: Global, row: &Row, value: Value) -> Result<(), AllocError>
+        requires value { has_float (view value) ≡ false }
+        requires beneath { HasNoFloat self.old }
+        ensures { OnOk result (HasNoFloat self.new) }
+    {
         match &row.entered {
             Some(Hop::Field(key)) => {
                 put(
@@ -70,15 +81,25 @@ impl Beneath {
     }
 
     /// Marks that more may stand in what is open: the fields come before the items, so where there are items the fields are all there.
-    fn mark_cut(&mut self, alloc: Global, row: &Row) -> Result<(), AllocError> {
+    fn mark_cut(&mut self, alloc: Global, row: &Row) -> Result<(), AllocError>
+        requires { HasNoFloat self.old }
+        ensures { OnOk result (HasNoFloat self.new) }
+    {
         if self.items.is_empty() {
             put(&mut self.fields, alloc, "?", json!(in alloc; "cut")?)?;
         }
         if row.kinds.list {
-            push(&mut self.items, json!(in alloc; {"?": "cut"})?)?;
+            push(&mut self.items, cut_mark(alloc)?)?;
         }
         Ok(())
     }
+}
+
+/// What stands for elements that aren't shown.
+fn cut_mark(alloc: Global) -> Result<Value, AllocError>
+    ensures { IfOk result (λ v. has_float (view v) ≡ false) }
+{
+    json!(in alloc; {"?": "cut"})
 }
 
 /// The name under which a key stands.
@@ -92,7 +113,10 @@ fn name_of(alloc: Global, key: &Key) -> Result<String, AllocError> {
 }
 
 /// What an element shows: the one thing that stands there, or the conflict of several.
-fn shown(alloc: Global, row: &Row, beneath: Beneath) -> Result<Value, AllocError> {
+fn shown(alloc: Global, row: &Row, beneath: Beneath) -> Result<Value, AllocError>
+    requires { HasNoFloat beneath }
+    ensures { IfOk result (λ v. has_float (view v) ≡ false) }
+{
     let Beneath { fields, items } = beneath;
     let mut values = values_of(alloc, row)?;
     match (values.len(), row.kinds.map, row.kinds.list) {
@@ -103,22 +127,37 @@ fn shown(alloc: Global, row: &Row, beneath: Beneath) -> Result<Value, AllocError
         (_, has_map, has_list) => {
             let mut all = Map::new(alloc);
             put(&mut all, alloc, "?", json!(in alloc; "conflict")?)?;
-            if !values.is_empty() {
-                put(&mut all, alloc, "values", Value::Array(values))?;
-            }
-            if has_map {
-                put(&mut all, alloc, "map", Value::Object(fields))?;
-            }
-            if has_list {
-                put(&mut all, alloc, "list", Value::Array(items))?;
-            }
+            let has_values = !values.is_empty();
+            put_standing(&mut all, alloc, has_values, "values", Value::Array(values))?;
+            put_standing(&mut all, alloc, has_map, "map", Value::Object(fields))?;
+            put_standing(&mut all, alloc, has_list, "list", Value::Array(items))?;
             Ok(Value::Object(all))
         }
     }
 }
 
+/// Puts one of the things that stand in conflict, if it stands there.
+fn put_standing(
+    all: &mut Map<String, Value>,
+    alloc: Global,
+    is_there: bool,
+    name: &str,
+    value: Value,
+) -> Result<(), AllocError>
+    requires value { has_float (view value) ≡ false }
+    requires all { members_have_float (members_view all.old.entries) ≡ false }
+    ensures { OnOk result (members_have_float (members_view all.new.entries) ≡ false) }
+{
+    if is_there {
+        put(all, alloc, name, value)?;
+    }
+    Ok(())
+}
+
 /// The values of an element's register.
-fn values_of(alloc: Global, row: &Row) -> Result<Vec<Value>, AllocError> {
+fn values_of(alloc: Global, row: &Row) -> Result<Vec<Value>, AllocError>
+    ensures { IfOk result (λ vs. items_have_float (items_view vs.items) ≡ false) }
+{
     let mut values = Vec::with_capacity(alloc, row.values.len())?;
     for (_id, scalar) in &row.values {
         push(&mut values, scalar.to_json(alloc)?)?;

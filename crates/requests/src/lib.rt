@@ -1,13 +1,20 @@
-//! What clients ask and command, as JSON, and what they see at a glance, as JSON for people.
+//! What clients ask and command, as JSON, and what they are replied; what they see at a glance, as JSON for people.
 #![tactic(auto)]
 
+mod codes;
 mod commands;
 mod edition;
 mod expressions;
 mod glances;
+mod phrases;
 mod questions;
+mod readings;
 
+pub use codes::{put_made, put_refusal, put_refused};
 pub use commands::{command_in, commands_are_read_back, commands_are_written_alike, put_command};
 pub use edition::Edition;
+pub use expressions::expression_in;
 pub use glances::glance_json;
+pub use phrases::{put_one, put_two, put_word};
 pub use questions::{question_in, questions_are_written_alike};
+pub use readings::put_reading;

@@ -1,4 +1,3 @@
 pub mod StepsLeft
-pub mod Tokens
 pub mod WrongLengths
 pub mod WrittenBack

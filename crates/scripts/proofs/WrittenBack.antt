@@ -1,38 +1,27 @@
 -- A step that is read and holds a command or a question is the JSON that writing it gives.
-use Rattle.std.proofs.Common.{◌≡◌, ℕ, nat_lt, length, Bool, true, false, cond, List, [], ◌∷◌, map, Result, Ok, Err}
+use Rattle.std.proofs.Common.{◌≡◌, ℕ, Bool, true, false, cond, List, [], Result, Ok}
 use Rattle.std.proofs.Common.{refl, sym, ap, ◌∙◌, subst}
-use Rattle.std.specs.Prelude.{⊤, codes, is_some}
+use Rattle.std.specs.Prelude.{⊤, codes}
 use Rattle.std.specs.Str.{bytes_eq}
 use Rattle.ids.specs.declared.refusal.Refusal.{Refusal}
-use Rattle.ids.specs.declared.refusal.Refusal.TheVariants.{BadLine, KeyTooLong}
-use Rattle.semantics.specs.Elements.{Value}
-use Rattle.semantics.specs.Operations.{Mutation, Assign, Insert, Delete}
 use Rattle.semantics.specs.Making.{Command}
-use Rattle.semantics.specs.Questions.{Step, Get, Idx, ById, Question, Values, Keys, Items as ItemsAt, Conflicts, AppliedVector}
-use Rattle.semantics.specs.LegalAnswer.{Asked, OfDocument, Missing}
+use Rattle.semantics.specs.LegalAnswer.{Asked}
 use Rattle.semantics.specs.World.{WorldAct, WorldStep, step_by, Push, Take, Publish, Give, WholeStep, Poll, Ask, Learn, SayHello}
 use Rattle.semantics.specs.World.{AnswerHello}
 use Rattle.semantics.specs.World.{Deliver, CountDropped}
-use Rattle.serde_json.specs.Data.{Data, null, boolean, number, string, array, object, Items, no_items, item}
-use Rattle.serde_json.specs.Find.{as_array}
-use Rattle.serde_json.specs.View.{items_of}
-use Rattle.world.specs.value.Forms.{json_of, value_form}
+use Rattle.serde_json.specs.Data.{Data, Items, no_items, item}
 use Rattle.world.specs.wire.Bundles.{readable}
-use Rattle.world.specs.wire.Forms.{and_then, json_form, list_form, number_form, phrase_form, text_form}
-use Rattle.world.specs.wire.OpIds.{id_form}
-use Rattle.world.specs.wire.Vectors.{vector_form, vector_json}
+use Rattle.world.specs.wire.Forms.{and_then, json_form, number_form, phrase_form, text_form}
 use Rattle.world.proofs.wire.NormalNumbers.{AreNormal, IsNormal}
-use Rattle.world.proofs.wire.WrittenBack.{id_form_in, made_of, list_in, number_in, phrase_in, same_ok, value_in, vector_in, word_is}
+use Rattle.world.proofs.wire.WrittenBack.{made_of, number_in, phrase_in, same_ok, word_is}
 use Rattle.world.proofs.wire.WrittenLines.{json_normal}
 use Rattle.requests.specs.declared.edition.Edition.{Edition}
-use Rattle.requests.specs.declared.edition.Edition.TheVariants.{First, Second}
 use Rattle.scripts.specs.NumberedSteps.{engine_step_of, message_step_of, numbered_step_of}
 use Rattle.scripts.specs.Numbers.{one_number, two_numbers, three_numbers, four_numbers}
 use Rattle.scripts.specs.Steps.{any_step_of, ask_of, line_of, lines_step, push_of, step_form}
 use Rattle.scripts.specs.Written.{ask_json, push_json}
 use Rattle.requests.specs.Commands.{command_form}
 use Rattle.requests.specs.Questions.{question_form}
-use Rattle.requests.specs.Written.{command_json, question_json}
 use Rattle.requests.proofs.WrittenBack.{command_in, question_in, worded}
 
 module _ (ed : Edition) where

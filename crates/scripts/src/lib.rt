@@ -6,7 +6,6 @@ mod error;
 mod exists;
 mod numbered_steps;
 mod numbers;
-mod readings;
 mod replies;
 mod run;
 mod script;

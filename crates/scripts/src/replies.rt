@@ -2,21 +2,20 @@
 
 ghost use Rattle.std.specs.Prelude.{◌≡◌, ◌∷◌, ◌++◌, [], Some, map, IfOk, OnOk, IsUtf8, string_bytes};
 ghost use Rattle.semantics.specs.Engine.{SentHello, Denied};
-ghost use Rattle.semantics.specs.LegalAnswer.{Made, RefusedAt};
-ghost use Rattle.serde_json.specs.Data.{string};
 ghost use Rattle.serde_json.specs.Written.{compact_text};
 ghost use Rattle.world.specs.operation.Submissions.{reply_of};
 ghost use Rattle.world.specs.Acts.{step_reply_of};
 ghost use Rattle.world.specs.wire.Operations.{phrase};
 ghost use Rattle.world.specs.wire.Vectors.{count};
 ghost use Rattle.world.specs.wire.Writing.{IsWritten, tokens_of};
-ghost use Rattle.scripts.specs.Replies.{received_json, refusal_name, reply_json, reply_text, step_reply_json};
+ghost use Rattle.requests.specs.Readings.{reply_json};
+ghost use Rattle.scripts.specs.Replies.{received_json, reply_text, step_reply_json};
 
-use crate::readings::put_reading;
-use ids::{OpId, Refusal};
+use ids::Refusal;
 use json::Writer;
+use requests::{put_made, put_one, put_reading, put_refusal, put_refused, put_two, put_word};
 use std::alloc::{AllocError, Global};
-use world::{LINE_END, NamedVector, Reply, WorldReply, put_id, put_vector};
+use world::{LINE_END, NamedVector, Reply, WorldReply, put_vector};
 
 /// The replies, one a line.
 pub fn reply_lines(alloc: Global, replies: &[WorldReply]) -> Result<String, AllocError>
@@ -85,47 +84,6 @@ fn put_request_reply(alloc: Global, out: &mut Writer, reply: Reply) -> Result<()
     }
 }
 
-/// Writes a reply that is a word alone.
-fn put_word(out: &mut Writer, word: &str) -> Result<(), AllocError>
-    ensures { OnOk result (IsWritten (tokens_of (phrase word.now [])) out.old out.new) }
-{
-    out.begin_array()?;
-    out.string(word)?;
-    out.end_array()
-}
-
-/// Writes a word and a number.
-fn put_one(out: &mut Writer, word: &str, number: u64) -> Result<(), AllocError>
-    ensures { OnOk result (IsWritten (tokens_of (phrase word.now (count number ∷ []))) out.old out.new) }
-{
-    out.begin_array()?;
-    out.string(word)?;
-    out.u64(number)?;
-    out.end_array()
-}
-
-/// Writes a word and two numbers.
-fn put_two(out: &mut Writer, word: &str, first: u64, second: u64) -> Result<(), AllocError>
-    ensures { OnOk result (IsWritten (tokens_of (phrase word.now (count first ∷ count second ∷ []))) out.old out.new) }
-{
-    out.begin_array()?;
-    out.string(word)?;
-    out.u64(first)?;
-    out.u64(second)?;
-    out.end_array()
-}
-
-/// Writes an operation's id and its position in the history.
-fn put_made(out: &mut Writer, id: OpId, position: u64) -> Result<(), AllocError>
-    ensures { OnOk result (IsWritten (tokens_of (reply_json (Made id position))) out.old out.new) }
-{
-    out.begin_array()?;
-    out.string("made")?;
-    put_id(out, id)?;
-    out.u64(position)?;
-    out.end_array()
-}
-
 /// Writes why nothing was submitted.
 fn put_denied(alloc: Global, out: &mut Writer, why: Refusal) -> Result<(), AllocError>
     ensures { OnOk result (IsWritten (tokens_of (step_reply_json (Denied why))) out.old out.new) }
@@ -133,17 +91,6 @@ fn put_denied(alloc: Global, out: &mut Writer, why: Refusal) -> Result<(), Alloc
     out.begin_array()?;
     out.string("refused")?;
     put_refusal(alloc, out, why)?;
-    out.end_array()
-}
-
-/// Writes why nothing was made or read, and the length of the history that refused it.
-fn put_refused(alloc: Global, out: &mut Writer, why: Refusal, length: u64) -> Result<(), AllocError>
-    ensures { OnOk result (IsWritten (tokens_of (reply_json (RefusedAt why length))) out.old out.new) }
-{
-    out.begin_array()?;
-    out.string("refused")?;
-    put_refusal(alloc, out, why)?;
-    out.u64(length)?;
     out.end_array()
 }
 
@@ -192,13 +139,4 @@ fn put_received_until(
     out.u64(line)?;
     put_refusal(alloc, out, why)?;
     out.end_array()
-}
-
-/// Writes a refusal, as `E22`.
-fn put_refusal(alloc: Global, out: &mut Writer, why: Refusal) -> Result<(), AllocError>
-    ensures { OnOk result (IsWritten (tokens_of (string (refusal_name why))) out.old out.new) }
-{
-    let number = why.number();
-    let name = format!(in alloc; "E{number}")?;
-    out.string(name.as_str())
 }

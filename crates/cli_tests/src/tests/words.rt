@@ -67,6 +67,30 @@ fn a_plan(rt: HostRuntime) -> Result<(), Fail> {
     Ok(())
 }
 
+/// Words, and the file and the number that are served.
+const SERVED: &[(&[&str], Option<&str>, Option<u32>)] = &[
+    (&["serve"], None, None),
+    (&["serve", "a.jdoc"], Some("a.jdoc"), None),
+    (&["serve", "--number", "7"], None, Some(7)),
+    (
+        &["serve", "a.jdoc", "--number=4294967295"],
+        Some("a.jdoc"),
+        Some(u32::MAX),
+    ),
+];
+
+#[test]
+fn a_document_is_served(rt: HostRuntime) {
+    for (words, file, number) in SERVED {
+        let job = read_words(rt.alloc(), words).ok();
+        let wanted = Job::Serve {
+            file: *file,
+            number: *number,
+        };
+        assert_eq!(rt; job, Some(wanted), "{words:?}");
+    }
+}
+
 /// Why there is no job, the status of that, and what is told.
 fn refusal(alloc: Global, words: &[&str]) -> Option<(ErrorKind, Status, Vec<u8>)> {
     let why = read_words(alloc, words).err()?;
@@ -79,7 +103,7 @@ fn refusal(alloc: Global, words: &[&str]) -> Option<(ErrorKind, Status, Vec<u8>)
 }
 
 /// How the help of the program begins: what it is for, and how it is called.
-const HELP: &str = "Runs engines of a shared document
+const HELP: &str = "Serves a shared document, and runs engines of one
 
 Usage: jdoc <COMMAND>
 ";
@@ -133,6 +157,12 @@ const OTHERS: &[(&[&str], ErrorKind)] = &[
     (&["run", "-x"], ErrorKind::UnknownArgument),
     (&["run", "a", "b"], ErrorKind::UnknownArgument),
     (&["bench", "a"], ErrorKind::UnknownArgument),
+    (&["serve", "a", "b"], ErrorKind::UnknownArgument),
+    (&["serve", "--number=0"], ErrorKind::ValueValidation),
+    (
+        &["serve", "--number=4294967296"],
+        ErrorKind::ValueValidation,
+    ),
     (
         &["bench", "--replicas=1", "--ops=1"],
         ErrorKind::MissingRequiredArgument,

@@ -1,8 +1,8 @@
 //! Files that aren't a journal, or aren't one any more: they stay as they are.
 
-use super::disk::{Breaks, Disk};
 use super::opening::live;
 use super::*;
+use disks::{Breaks, Disk};
 use ids::Refusal;
 use notebook::{Fault, Unfit};
 

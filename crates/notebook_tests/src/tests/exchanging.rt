@@ -1,12 +1,12 @@
 //! Notebooks that exchange what they store.
 
-use super::disk::{Breaks, Disk};
 use super::opening::live;
 use super::playing::Act::{Receive, Save, Write};
 use super::playing::Came::{MustStartAgain, Refused, Saved, Store};
 use super::playing::Row;
 use super::playing::Row::{Answer, Does, Hello, Receives, Shows};
 use super::*;
+use disks::{Breaks, Disk};
 use ids::Refusal;
 use notebook::Receipt;
 use std::alloc::Global;

@@ -1,12 +1,12 @@
 //! Disks that fail, and lose power.
 
-use super::disk::{Breaks, Disk};
 use super::going_on::goes_on;
 use super::opening::live;
 use super::playing::Act::{Receive, Save, Write};
 use super::playing::Row::Tries;
 use super::playing::{Row, Told};
 use super::*;
+use disks::{Breaks, Disk};
 use std::alloc::Global;
 use std::process::Abort;
 use std::sync::Wait;

@@ -1,12 +1,12 @@
 //! Notebooks that go on from what a disk has.
 
-use super::disk::{Breaks, Disk};
 use super::opening::live;
 use super::playing::Act::Write;
 use super::playing::Came::Saved;
 use super::playing::Row;
 use super::playing::Row::Does;
 use super::*;
+use disks::{Breaks, Disk};
 use std::alloc::Global;
 use std::process::Abort;
 use std::sync::Wait;

@@ -3,9 +3,9 @@
 ghost use Rattle.std.specs.Prelude.{◌≡◌};
 ghost use Rattle.ids.specs.Members.{in_order};
 
-use super::disk::Disk;
 use super::playing::{Row, Told, play};
 use super::*;
+use disks::Disk;
 use ids::{Refusal, ReplicaId};
 use notebook::{EngineName, Fault, Journal, Notebook, Parts, Unopened, config_of, prepare};
 use std::alloc::Global;

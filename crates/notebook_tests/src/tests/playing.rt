@@ -1,7 +1,7 @@
 //! What is done with a notebook in a life, as a table of rows, and what plays it.
 
-use super::disk::Disk;
 use super::*;
+use disks::Disk;
 use ids::Refusal;
 use notebook::{EngineName, Expr, Fault, Notebook, Question, Reading, Receipt, Scalar};
 use requests::{Edition, command_in};

@@ -1,7 +1,7 @@
 use Rattle.std.proofs.Common.{◌≡◌, ◌∙◌, List, ℕ, take, sym, ap, subst}
 use Rattle.wire.specs.Lines.{Cut, cut}
-use Rattle.journal.specs.Replays.{BringsBackLines}
-use Rattle.notebook.proofs.WholeText.{all_taken}
+use Rattle.journal.specs.records.Replays.{BringsBackLines}
+use Rattle.notebook.proofs.TakenLines.{all_taken}
 use Rattle.notebook.proofs.opening.replay.Goals as goal
 
 pub returns-then-is_begun-clause-brought : goal.returns-then-is_begun-clause-brought

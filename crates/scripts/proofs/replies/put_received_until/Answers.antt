@@ -1,8 +1,8 @@
 use Rattle.std.proofs.Common.{◌≡◌, ◌++◌, List, [], ◌∷◌, codes, decimal, rules, ◌∙◌}
 use Rattle.std.proofs.lemmas.Result.{on_ok_weaker}
 use Rattle.json.specs.Token.{Token, begin_array, end_array, number, string}
-use Rattle.scripts.specs.Replies.{refusal_name}
-use Rattle.scripts.proofs.Tokens.{after}
+use Rattle.requests.specs.Readings.{refusal_name}
+use Rattle.requests.proofs.Tokens.{after}
 use Rattle.scripts.proofs.replies.put_received_until.Goals as goal
 
 pub returns : goal.returns

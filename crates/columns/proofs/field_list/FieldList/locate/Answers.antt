@@ -11,7 +11,7 @@ use Rattle.columns.proofs.Zipped.{entry_at-zip, find_there-zip, find_absent-zip}
 use Rattle.columns.proofs.field_list.FieldList.locate.Goals as goal
 
 pub number-requires : goal.number-requires
-number-requires c = slice_get_within c.self.inside.keys.keys c.in-Ok.position c.args.key.now c.in-Ok.ensures.position.0
+number-requires c = slice_get_within c.self.inside.keys.keys c.in-Ok.position c.args.key.now c.in-Ok.ensures.0
 
 pub index-requires : goal.index-requires
 index-requires c =
@@ -23,7 +23,7 @@ pub returns-in-Ok : goal.returns-in-Ok
 returns-in-Ok c =
     let d = c.self.inside in
     let ns = d.numbers.items in
-    let at = c.in-Ok.ensures.position in
+    let at = c.in-Ok.ensures in
     let long = values_long d.keys ns c.self.invariant.0 in
     let value = value_at d.keys ns c.in-Ok.position c.number.result c.index.result.now c.self.invariant.0 c.number.ensures.number
     c.index.ensures in (
@@ -41,4 +41,4 @@ returns-in-Err c =
     let d = c.self.inside in
     ap (λ (m : Flagged Name). find name_cmp c.args.key.now m.entries) (sym c.self.view_is)
     ∙ find_absent-zip name_cmp d.keys.keys (numbered 0 d.numbers.items d.keys.numbers)
-    (values_long d.keys d.numbers.items c.self.invariant.0) c.args.key.now c.in-Err.field-0 c.in-Err.ensures.position
+    (values_long d.keys d.numbers.items c.self.invariant.0) c.args.key.now c.in-Err.field-0 c.in-Err.ensures

@@ -12,7 +12,7 @@ pub returns-in-Ok-clause-number : goal.returns-in-Ok-clause-number
 returns-in-Ok-clause-number c =
     let d = c.self.inside in
     let ns = d.numbers.items in
-    let at = c.in-Ok.ensures.position in
+    let at = c.in-Ok.ensures in
     ap Some
     (value_at d.keys ns c.in-Ok.position c.number.result c.index.result.now c.self.invariant.0 c.number.ensures.number c.index.ensures)
     ∙ sym
@@ -24,5 +24,5 @@ pub returns-in-Err-clause-number : goal.returns-in-Err-clause-number
 returns-in-Err-clause-number c =
     let d = c.self.inside in
     sym (find_absent-zip name_cmp d.keys.keys (numbered 0 d.numbers.items d.keys.numbers)
-    (values_long d.keys d.numbers.items c.self.invariant.0) c.args.key.now c.in-Err.position c.in-Err.ensures.position)
+    (values_long d.keys d.numbers.items c.self.invariant.0) c.args.key.now c.in-Err.position c.in-Err.ensures)
     ∙ ap (λ (m : Flagged Name). find name_cmp c.args.key.now m.entries) c.self.view_is

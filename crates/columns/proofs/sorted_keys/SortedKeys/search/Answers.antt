@@ -17,11 +17,11 @@ one_more most probes before first any few k small =
 
 pub loop-low-init : goal.loop-low-init
 loop-low-init c =
-    let most = c.requires.most in
     record {
       sought =
-          sought_between c.args.self.now.keys c.args.key.now c.args.low c.args.high c.requires.above c.requires.within c.requires.next;
-      most = most;
+          sought_between c.args.self.now.keys c.args.key.now c.args.span.low c.args.span.high c.requires.between.above
+          c.requires.between.within c.requires.between.next;
+      most = omega arith;
       probes = λ k few. (k, few, omega arith);
       counted = omega arith;
       any = λ fewer. absurd (omega (arith, fewer));
@@ -40,11 +40,13 @@ compare-requires-clause-within c =
 
 pub overflow_add-probes : goal.overflow_add-probes
 overflow_add-probes c =
-    let fits = c.ranges.most in
+    let fits = c.len.type_inv in
+    let all = c.len.ensures.length in
+    let within = c.requires.between.within in
     let apart = c.loop-low-test.true in
     let most = c.loop-low.invariant.most in
     let room = c.requires.few in
-    let (k, small, few) = c.loop-low.invariant.probes 64 (omega (arith, fits)) in
+    let (k, small, few) = c.loop-low.invariant.probes 64 (omega (arith, fits, all, within)) in
     let (j, e, half) = halved c.loop-low.most k (omega (arith, apart, most)) small in
     omega (arith, few, e, room)
 
@@ -65,7 +67,7 @@ loop-low-preserved-in-Less c =
           (is_there keys middle (omega (arith, inside, within)))
           (sym (c.compare.ensures []) ∙ c.in-Less.is);
       most = before;
-      probes = one_more c.loop-low.most c.loop-low.probes c.args.probes.now c.args.most (omega (arith, apart, most)) inv.probes;
+      probes = one_more c.loop-low.most c.loop-low.probes c.args.probes.now c.args.span.high (omega (arith, apart, most)) inv.probes;
       counted = omega (arith, counted);
       any = λ fewer. omega (arith, counted);
     }
@@ -92,7 +94,7 @@ loop-low-preserved c =
           (is_there keys middle (omega (arith, inside, within))) name_total c.len.ensures.rising
           (sym (c.compare.ensures []) ∙ c.in-Greater.is);
       most = omega (arith, behind);
-      probes = one_more c.loop-low.most c.loop-low.probes c.args.probes.now c.args.most (omega (arith, apart, most)) inv.probes;
+      probes = one_more c.loop-low.most c.loop-low.probes c.args.probes.now c.args.span.high (omega (arith, apart, most)) inv.probes;
       counted = omega (arith, counted);
       any = λ fewer. omega (arith, counted);
     }

@@ -7,9 +7,9 @@ abbrev pub invariant-loop-low : goal.invariant-loop-low
 invariant-loop-low l = record {
   sought : IsSought name_cmp l.key l.self.keys l.low l.high;
   most : l.high ≤ l.low + l.most;
-  probes : (k : ℕ) → l.fn.most < 2 ^ k → (j : ℕ) × (l.most < 2 ^ j) × (l.probes + j ≤ l.fn.probes + k);
+  probes : (k : ℕ) → l.fn.span.high < 2 ^ k → (j : ℕ) × (l.most < 2 ^ j) × (l.probes + j ≤ l.fn.probes + k);
   counted : l.fn.probes ≤ l.probes;
-  any : l.high - l.low < l.fn.high - l.fn.low → l.fn.probes < l.probes;
+  any : l.high - l.low < l.fn.span.high - l.fn.span.low → l.fn.probes < l.probes;
 }
 
 abbrev pub decreases-loop-low : goal.decreases-loop-low

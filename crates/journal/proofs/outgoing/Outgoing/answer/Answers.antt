@@ -1,6 +1,5 @@
 use Rattle.std.proofs.Common.{◌≡◌, ◌∙◌, [], List, map, nat_lt, ap, refl, subst}
-use Rattle.semantics.specs.Entries.{Entry, applied, lacked_of}
-use Rattle.semantics.specs.NamedIds.{vector_of}
+use Rattle.semantics.specs.Entries.{Entry, lacked_of}
 use Rattle.semantics.specs.Vectors.{Vector, at}
 use Rattle.semantics.specs.WorldHistory.{BeginsWith}
 use Rattle.semantics.proofs.GrownEngines.{begins_trans}
@@ -8,7 +7,6 @@ use Rattle.engine.specs.operation.declared.op.Op.{Op}
 use Rattle.engine.specs.operation.Ops.{stamped_of}
 use Rattle.engine.specs.published.Beginnings.{IsHistoryOfEngine}
 use Rattle.wire.specs.Bundles.{bundle_text}
-use Rattle.wire.specs.Messages.{hello_form}
 use Rattle.peer_sync.specs.Sending.{without_end}
 use Rattle.peer_sync.proofs.SentBack.{answer_back, same_vector}
 use Rattle.peer_sync.proofs.SentHistories.{lacked_sent}

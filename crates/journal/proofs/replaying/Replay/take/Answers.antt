@@ -3,9 +3,10 @@ use Rattle.semantics.specs.Entries.{Entry}
 use Rattle.semantics.proofs.EntryBeginnings.{begins_self}
 use Rattle.wire.specs.Lines.{cut}
 use Rattle.peer_sync.proofs.TakenLines.{HasTaken, taken-bytes, taken-more, taken-none}
-use Rattle.journal.specs.declared.replaying.Replayed.{Replayed}
-use Rattle.journal.specs.Replays.{BringsBackLines}
-use Rattle.journal.proofs.BroughtBack.{brought-more, brought-none, taken_next}
+use Rattle.records.specs.declared.replaying.Replayed.{Replayed}
+use Rattle.records.specs.Replays.{BringsBackLines}
+use Rattle.records.proofs.BroughtBack.{brought-more, brought-none}
+use Rattle.journal.proofs.TakenNext.{taken_next}
 use Rattle.journal.proofs.replaying.Replay.take.Goals as goal
 
 pub loop-line-init : goal.loop-line-init

@@ -2,7 +2,7 @@
 use Rattle.std.proofs.Common.{◌≡◌, length, take}
 use Rattle.wire.specs.Lines.{cut}
 use Rattle.peer_sync.proofs.TakenLines.{HasTaken}
-use Rattle.journal.specs.Replays.{BringsBackLines}
+use Rattle.records.specs.Replays.{BringsBackLines}
 use Rattle.journal.proofs.replaying.Replay.take.Given as goal
 
 abbrev pub decreases-loop-line : goal.decreases-loop-line

@@ -33,7 +33,7 @@ returns-clause-ok g c = record {
   records =
       (λ i. c.in_ok-said.ensures i ∷ [])
       ∙ ap (map (λ x. Ok x))
-      (sym c.in_ok-counter.ensures
+      (sym c.in_ok-counter.ensures.ok
       ∙ ap (λ (es : List AnEntry). map recorded (map entry_of es)) c.as_slice.ensures.value
       ∙ ap (map recorded) (c.in_ok-entries.ensures.entries
       ∙ ap (λ n. entries_from n c.entries_from.new.self.seen) c.seen_len-position.ensures.length));

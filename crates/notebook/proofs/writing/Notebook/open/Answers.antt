@@ -1,5 +1,5 @@
 use Rattle.std.proofs.Common.{◌∙◌, subst, sym}
-use Rattle.notebook.specs.WholeLines.{AreWhole}
+use Rattle.store.specs.WholeLines.{AreWhole}
 use Rattle.notebook.proofs.writing.Notebook.open.Goals as goal
 
 pub returns-in-Ok-of-clause-held : goal.returns-in-Ok-of-clause-held

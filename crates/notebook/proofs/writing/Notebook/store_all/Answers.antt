@@ -1,7 +1,7 @@
 use Rattle.std.proofs.Common.{◌≡◌, ◌≤◌, ◌∙◌, ℕ, length, max, min, ap, sym, arith}
 use Rattle.std.specs.Io.KnownBytes.{append_known}
 use Rattle.semantics.specs.Journals.{entries_from}
-use Rattle.journal.specs.Lines.{journal_text}
+use Rattle.journal.specs.records.Lines.{journal_text}
 use Rattle.journal.specs.Outgoing.{Sending}
 use Rattle.notebook.specs.Notebooks.{Notebook}
 use Rattle.notebook.proofs.writing.Notebook.store_all.Goals as goal

@@ -1,0 +1,326 @@
+"""A document, and what goes in and out of it."""
+from __future__ import annotations
+
+import json
+import os
+import secrets
+import threading
+from typing import Any, List, Mapping, NamedTuple, Optional, Sequence, Tuple, Union
+
+from .child import Child
+from .errors import Died, Lost, Refused, Unsaved
+
+
+class ItemId(NamedTuple):
+    """The id of an operation. That of an insert is the id of its item for good, wherever the item moves."""
+
+    counter: int
+    replica: int
+
+
+Step = Union[str, int, ItemId]
+"""A key of a map, a position in a list, counted from 0, or the id of an item of a list."""
+Path = Union[Step, Sequence[Step]]
+"""Steps from the root. Where a call takes `*path`, its parts are joined: `get("a", 0)`, `get(("a", 0))` and `get(("a",), 0)` are one."""
+Scalar = Union[None, bool, int, str]
+Value = Union[Scalar, Sequence["Value"], Mapping[str, "Value"]]
+Words = Union[str, "os.PathLike[str]", Sequence[str]]
+
+
+class Answer(NamedTuple):
+    """What a peer lacks. `more`: it lacks more, and says hello again once it has received this. `beyond`: the peer knows operations of this
+    device that don't stand here. The file was rolled back, or the number is used twice: write no more under it."""
+
+    lines: bytes
+    more: bool
+    beyond: bool
+
+
+class BadLine(NamedTuple):
+    """A line of a bundle, counted from 1, and why it isn't taken, as `Refused.code`."""
+
+    line: int
+    code: str
+
+
+class Receipt(NamedTuple):
+    """What became of a bundle: how many of its lines were taken, how many operations on these were refused, and the first one of them, and
+    the line at which it stopped. What wasn't refused is applied, waits for others, or was known."""
+
+    taken: int
+    refused: int
+    first_refused: Optional[BadLine]
+    stopped: Optional[BadLine]
+
+
+class Status(NamedTuple):
+    """The device's number, how many operations the document has, and how many of them are saved."""
+
+    number: int
+    length: int
+    saved: int
+
+
+# The longest path that a document has, and more elements than any has: each of its 1,048,576 operations reaches 33 at most.
+MOST_DEPTH = 32
+MOST_ELEMENTS = 1_048_576 * (MOST_DEPTH + 1)
+# How many bytes a request has at most, with its line feed, and the greatest number of a device.
+MOST_BYTES = 33_554_432
+MOST_NUMBER = 4_294_967_295
+
+
+class Document:
+    """A replica of a document, in a program of its own. All calls may come from several threads: each request has its reply before the
+    next one goes out. What the engine refuses is raised as `Refused`. Any call may raise `Died`, and one that writes or receives `Unsaved`
+    and `Lost`.
+
+    A position is counted when the call is handled. To hit the item that was seen, use its id, from `items` or from `insert`.
+    """
+
+    def __init__(self, child: Child) -> None:
+        """Of a program that was started; `open` starts one."""
+        self._child = child
+        self._lock = threading.RLock()
+        self._is_closed = False
+        self.number: int = self._reply("ready", b"")[1]
+
+    @classmethod
+    def open(
+        cls, path: Union[None, str, os.PathLike[str]] = None, *, number: Optional[int] = None, program: Optional[Words] = None
+    ) -> Document:
+        """Opens the document that is kept in the file `path`, which is made where it isn't there, or one in memory.
+
+        `number` is this device's, from 1 to 4294967295, which no other device of the document has. A file in which it has written
+        knows it; else one is drawn where none is given. `program` is the program's path, or its words; else the environment's `JDOC`
+        is its path, else `jdoc` on the PATH.
+        """
+        program = program or os.environ.get("JDOC") or "jdoc"
+        words = [os.fspath(program)] if isinstance(program, (str, os.PathLike)) else [*program]
+        words.append("serve")
+        if path is not None:
+            words.append(os.path.abspath(path))
+        if number is None and not (path is not None and _knows_number(path)):
+            number = 1 + secrets.randbelow(MOST_NUMBER)
+        if number is not None:
+            if not 1 <= number <= MOST_NUMBER:
+                raise ValueError(f"a device's number is from 1 to {MOST_NUMBER}: {number}")
+            words += ["--number", str(number)]
+        return cls(Child(words))
+
+    def close(self) -> None:
+        """Ends the program. What it couldn't save, as `Unsaved` said, is lost."""
+        with self._lock:
+            if not self._is_closed:
+                self._is_closed = True
+                self._child.close()
+
+    def __enter__(self) -> Document:
+        return self
+
+    def __exit__(self, *_: object) -> None:
+        self.close()
+
+    def set(self, path: Path, value: Value) -> ItemId:
+        """Writes a value over all that stands at the path, and returns the operation's id.
+
+        A dict or a list is written part by part, so a peer may see some of it, and where a part is refused those before it stand. A
+        document has whole numbers of 64 bits alone: a float is refused (E21). What lies within is looked at before anything is written.
+        """
+        return self._write_checked("assign", _expression(path), value)
+
+    def insert(self, path: Path, position: int, value: Value) -> ItemId:
+        """Inserts an item into the list at the path so that it has this position, and returns its id. A position behind the end is
+        refused (E3)."""
+        return self._write_checked("insert", [*_expression(path), _from_one(position) - 1], value)
+
+    def insert_after(self, path: Path, value: Value) -> ItemId:
+        """Inserts an item right behind the one at the path, and returns its id."""
+        return self._write_checked("insert", _expression(path), value)
+
+    def append(self, path: Path, value: Value) -> ItemId:
+        """Inserts an item at the end of the list at the path, and returns its id. It asks for all ids of the list."""
+        with self._lock:
+            before: List[object] = [*self.items(path)[-1:]] or [0]
+            return self._write_checked("insert", _expression(path) + before, value)
+
+    def delete(self, path: Path) -> ItemId:
+        """Deletes what stands at the path, and returns the operation's id. What others write there at the same time stays."""
+        return self._make("delete", _expression(path))
+
+    def _write_checked(self, command: str, place: List[object], value: Value) -> ItemId:
+        _check(value)
+        with self._lock:
+            return self._write(command, place, value)
+
+    def _write(self, command: str, place: List[object], value: Value) -> ItemId:
+        if value is None or isinstance(value, (int, str)):
+            return self._make(command, place, value)
+        made = self._make(command, place, {} if isinstance(value, Mapping) else [])
+        at = place if command == "assign" else [*place[:-1], made]
+        if isinstance(value, Mapping):
+            for key, part in value.items():
+                self._write("assign", [*at, key], part)
+        else:
+            before: object = 0
+            for part in value:
+                before = self._write("insert", [*at, before], part)
+        return made
+
+    def _make(self, *command: object) -> ItemId:
+        return ItemId(*self._ask("made", *command)[1])
+
+    def get(self, *path: Path, depth: int = MOST_DEPTH, elements: int = 100_000) -> Any:
+        """What stands at the path, as plain values: a dict, a list, a scalar, or None where nothing stands.
+
+        Where several things stand at once, after concurrent writes, is `{"?": "conflict"}` with `"values"`, `"map"` and `"list"`, as far
+        as they stand there. What lies deeper than `depth`, or behind so many `elements`, is cut: a dict then has `"?": "cut"`, and a
+        list ends in `{"?": "cut"}`. A key of the document that begins with `?` has one more in front.
+        """
+        return self._ask("glance", "glance", _expression(*path), depth, elements)[2]
+
+    def to_json(self) -> str:
+        """The whole document as text, as `get` has it."""
+        return json.dumps(self.get(elements=MOST_ELEMENTS), ensure_ascii=False, indent=2)
+
+    def values(self, *path: Path) -> List[Tuple[ItemId, Scalar]]:
+        """The values of the register at the path with the ids of their writes, rising by id. More than one are a conflict."""
+        return [(ItemId(*it), value) for it, value in self._ask("reading", "values", _expression(*path))[2]]
+
+    def keys(self, *path: Path) -> List[str]:
+        """The keys of the map at the path, rising by their bytes."""
+        keys: List[str] = self._ask("reading", "keys", _expression(*path))[2]
+        return keys
+
+    def items(self, *path: Path) -> List[ItemId]:
+        """The ids of the items of the list at the path, in its order."""
+        return [ItemId(*it) for it in self._ask("reading", "items", _expression(*path))[2]]
+
+    def conflicts(self, *path: Path) -> List[Tuple[ItemId, str]]:
+        """What keeps the element at the path visible, rising by id: each live write at it or beneath, and whether that makes it a
+        `"map"`, a `"list"` or a register, `"reg"`. More than one register, or different ones of these, are a conflict."""
+        return [(ItemId(*it), tag) for it, tag in self._ask("reading", "conflicts", _expression(*path))[2]]
+
+    def hello(self) -> bytes:
+        """A line for a peer, which says what is known here."""
+        return _line(self._ask("hello", "hello"))
+
+    def answer(self, hello: bytes) -> Answer:
+        """What the peer that said this hello lacks, of what is saved here. A hello that is none is refused (E22)."""
+        try:
+            text = hello.decode()
+        except UnicodeDecodeError as fault:
+            raise Refused("E22") from fault
+        _, lines, more, beyond = self._ask("bundle", "answer", text)
+        return Answer(lines.encode(), more, beyond)
+
+    def receive(self, lines: bytes) -> Receipt:
+        """Takes a whole bundle, as `answer` of a peer gave it, and saves what is applied of it. Bound its length before it is read
+        whole: `answer` gives 4194304 bytes at most, and one too long for a request is a `ValueError`."""
+        try:
+            text = lines.decode()
+        except UnicodeDecodeError as fault:
+            # As of any bad line, what stands before it is taken.
+            whole = lines[: lines.rfind(b"\n", 0, fault.start) + 1]
+            receipt = self.receive(whole)
+            return receipt if receipt.stopped else receipt._replace(stopped=BadLine(whole.count(b"\n") + 1, "E22"))
+        _, taken, refused, stopped = self._ask("received", "receive", text)
+        count, *first = refused or [0]
+        return Receipt(taken, count, BadLine(*first) if first else None, BadLine(*stopped) if stopped else None)
+
+    def sync(self, other: Document) -> None:
+        """Exchanges with another document of this program, both ways, until neither has more. Raises the first refusal."""
+        for to, source in ((self, other), (other, self)):
+            more = True
+            while more:
+                lines, more, _ = source.answer(to.hello())
+                receipt = to.receive(lines)
+                if bad := receipt.first_refused or receipt.stopped:
+                    raise Refused(bad.code)
+
+    def save(self) -> None:
+        """Saves what isn't saved, after `Unsaved`."""
+        self._ask("saved", "save")
+
+    def status(self) -> Status:
+        """The number, and how many operations there are and are saved."""
+        return Status(*self._ask("status", "status")[1:])
+
+    def __len__(self) -> int:
+        """How many operations the document has."""
+        return self.status().length
+
+    def __bool__(self) -> bool:
+        """True, also where there is no operation yet."""
+        return True
+
+    def _ask(self, word: str, *request: object) -> List[Any]:
+        line = _line(request)
+        if len(line) > MOST_BYTES:
+            raise ValueError(f"a request has at most {MOST_BYTES} bytes, and this one {len(line)}")
+        return self._reply(word, line)
+
+    def _reply(self, word: str, line: bytes) -> List[Any]:
+        """The program's next line after this one, which begins with the word, or is raised."""
+        with self._lock:
+            if self._is_closed:
+                raise ValueError("the document is closed")
+            said = self._child.ask(line)
+            reply: List[Any] = json.loads(said) if said.startswith(b'["') else [None]
+            if reply[0] == word:
+                return reply
+            if reply[0] == "refused":
+                raise Refused(reply[1])
+            if reply[0] == "unsaved":
+                raise Unsaved(*reply[1:])
+            if reply[0] == "lost":
+                raise Lost("a sync of the file failed: open the document again")
+            raise Died(self._child.end(f"said {said[:200]!r}, where {word!r} was due"))
+
+
+def _line(parts: Sequence[object]) -> bytes:
+    """A line of JSON. A text with half a surrogate pair is no text of a document: a `UnicodeEncodeError`."""
+    return json.dumps(parts, ensure_ascii=False, allow_nan=False, separators=(",", ":")).encode() + b"\n"
+
+
+def _from_one(position: int) -> int:
+    """A position as the protocol counts it: from 1, since 0 is the head of a list, behind which its first item is inserted."""
+    if isinstance(position, bool) or not isinstance(position, int):
+        raise TypeError(f"not a position: {position!r}")
+    if position < 0:
+        raise ValueError(f"positions count from the front of a list: {position}")
+    return position + 1
+
+
+def _expression(*path: Path) -> List[object]:
+    """The steps of these paths, one after another, as the protocol writes them."""
+    steps = (step for part in path for step in ((part,) if isinstance(part, (str, int, ItemId)) else part))
+    return [step if isinstance(step, (str, ItemId)) else _from_one(step) for step in steps]
+
+
+def _check(value: Value) -> None:
+    """Refuses what no document holds, with all that lies within."""
+    if isinstance(value, str):
+        value.encode()
+    elif isinstance(value, Mapping):
+        for key, part in value.items():
+            if not isinstance(key, str):
+                raise TypeError(f"not a key: {key!r}")
+            key.encode()
+            _check(part)
+    elif isinstance(value, float) or (isinstance(value, int) and not -(2**63) <= value < 2**63):
+        raise Refused("E21")
+    elif isinstance(value, Sequence) and not isinstance(value, (bytes, bytearray, memoryview)):
+        for part in value:
+            _check(part)
+    elif value is not None and not isinstance(value, int):
+        raise TypeError(f"not a value of a document: {value!r}")
+
+
+def _knows_number(path: Union[str, os.PathLike[str]]) -> bool:
+    """Whether the file has an own entry, by which the program knows its number (docs/FORMATS.md, 'Lines of a journal')."""
+    try:
+        with open(path, "rb") as lines:
+            return any(it.startswith(b'["own",') and it.endswith(b"\n") for it in lines)
+    except OSError:
+        # Where it is there and can't be read, the program says why.
+        return False

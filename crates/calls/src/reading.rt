@@ -1,0 +1,119 @@
+//! Calls, as they are read off their lines.
+#![tactic(auto, using(crate::proofs::WrongLengths::call_lengths))]
+
+ghost use Rattle.std.specs.Prelude.{ℕ, List, string_bytes};
+ghost use Rattle.serde_json.specs.View.{view, items_view};
+ghost use Rattle.wire.specs.Forms.{IsRead};
+ghost use Rattle.calls.specs.Calls.{Call as TheCall, ask_form, call_form, call_of, call_of_json, glance_of, nothing_of};
+ghost use Rattle.calls.specs.Calls.{other_call_of, text_of, write_form};
+
+use crate::call::Call;
+use ids::Refusal;
+use requests::{Edition, command_in, expression_in, question_in};
+use serde_json::Value;
+use std::alloc::Global;
+use wire::{json_of, number_in, phrase_in, text_in};
+
+/// What a line calls for, without its line feed. White space of JSON and escapes may stand in it.
+///
+/// The line is parsed as a whole before its parts are looked at, in time and memory in proportion to its length: whoever takes lines
+/// from others bounds their length first.
+///
+/// # Errors
+/// `BadLine` if the text is no JSON, or no list that begins with the word of a call; else the first fault of its parts from the left.
+/// A part of another form, one too few and one too many are `BadLine`, a key of more than 256 bytes `KeyTooLong`, and of the value of a
+/// command a text of more than 4,096 bytes `TextTooLong` and a number that isn't whole `NotWhole`. `NoMemory` if allocation fails.
+pub fn read_call(alloc: Global, line: &[u8]) -> Result<Call, Refusal>
+    ensures { IsRead call_of result (call_form line.now) }
+{
+    let value = json_of(alloc, line)?;
+    call_in(alloc, &value)
+}
+
+/// The call that a JSON value is.
+fn call_in(alloc: Global, value: &Value) -> Result<Call, Refusal>
+    ensures { IsRead call_of result (call_of_json (view value.now)) }
+{
+    let (word, parts) = phrase_in(value)?;
+    match word {
+        "assign" => command_call_in(alloc, value),
+        "insert" => command_call_in(alloc, value),
+        "delete" => command_call_in(alloc, value),
+        "glance" => glance_in(alloc, parts),
+        _ => other_call_in(alloc, word, value, parts),
+    }
+}
+
+/// A call of another word than those of commands and glances.
+fn other_call_in(alloc: Global, word: &str, value: &Value, parts: &[Value]) -> Result<Call, Refusal>
+    ensures { IsRead call_of result (other_call_of (view value.now) (word.now, items_view parts.now)) }
+{
+    match word {
+        "hello" => {
+            check_none(parts)?;
+            Ok(Call::Hello)
+        }
+        "answer" => Ok(Call::Answer(only_text_in(alloc, parts)?)),
+        "receive" => Ok(Call::Receive(only_text_in(alloc, parts)?)),
+        "save" => {
+            check_none(parts)?;
+            Ok(Call::Save)
+        }
+        "status" => {
+            check_none(parts)?;
+            Ok(Call::Status)
+        }
+        _ => question_call_in(alloc, value),
+    }
+}
+
+/// A command.
+fn command_call_in(alloc: Global, value: &Value) -> Result<Call, Refusal>
+    ensures { IsRead call_of result (write_form (view value.now)) }
+{
+    Ok(Call::Write(command_in(alloc, Edition::Second, value)?))
+}
+
+/// A question.
+fn question_call_in(alloc: Global, value: &Value) -> Result<Call, Refusal>
+    ensures { IsRead call_of result (ask_form (view value.now)) }
+{
+    Ok(Call::Ask(question_in(alloc, Edition::Second, value)?))
+}
+
+/// An expression, how far beneath its element to look, and at how many elements.
+fn glance_in(alloc: Global, parts: &[Value]) -> Result<Call, Refusal>
+    ensures { IsRead call_of result (glance_of (items_view parts.now)) }
+{
+    let [expression, depth, elements] = parts else {
+        return Err(Refusal::BadLine);
+    };
+    let expression = expression_in(alloc, Edition::Second, expression)?;
+    let depth = number_in(depth)?;
+    let elements = number_in(elements)?;
+    Ok(Call::Glance {
+        expression,
+        depth,
+        elements,
+    })
+}
+
+/// The text of a list that holds nothing else.
+fn only_text_in(alloc: Global, parts: &[Value]) -> Result<String, Refusal>
+    ensures { (what : List ℕ → TheCall) → IsRead (λ s. what (string_bytes s)) result (text_of what (items_view parts.now)) }
+{
+    let [text] = parts else {
+        return Err(Refusal::BadLine);
+    };
+    Ok(String::from_str(alloc, text_in(text)?)?)
+}
+
+/// Tests that nothing follows the word.
+fn check_none(parts: &[Value]) -> Result<(), Refusal>
+    ensures { (what : TheCall) → IsRead (λ _. what) result (nothing_of what (items_view parts.now)) }
+{
+    let [] = parts else {
+        return Err(Refusal::BadLine);
+    };
+    Ok(())
+}

@@ -1,0 +1,98 @@
+//! Serves a document.
+
+use crate::fault::Fault;
+use ids::ReplicaId;
+use serving::{Memory, NotServed, Stop, serve as serve_desk, start};
+use std::alloc::Global;
+use std::fs::{File, Files};
+use std::io::{BufRead, ErrorKind, Write};
+use std::random::RandomSource;
+use std::sync::Wait;
+use store::{FileStore, Store};
+
+/// Serves the document in the file of this name, or one in memory where none is given: a request a line, a reply a line, until the input
+/// ends. The replica's number is the one that is given, else that of the file, else one that is drawn. A line of `faults` says why it
+/// can't be served, or no longer. Returns the status that the process exits with.
+pub fn serve<R: Files<File = File> + RandomSource + Wait, B: BufRead, O: Write, F: Write>(
+    rt: &R,
+    alloc: Global,
+    file: Option<&str>,
+    number: Option<u32>,
+    input: &mut B,
+    out: &mut O,
+    faults: &mut F,
+) -> u8 {
+    let served = match file {
+        Some(name) => serve_file(rt, alloc, name, number, input, out),
+        None => serve_store(rt, alloc, "memory", Memory, number, input, out),
+    };
+    match served {
+        Ok(()) => 0,
+        Err(fault) => fault.report(faults) as u8,
+    }
+}
+
+/// Serves the document in a file, which no other program has.
+fn serve_file<'a, R: Files<File = File> + RandomSource + Wait, B: BufRead, O: Write>(
+    rt: &R,
+    alloc: Global,
+    name: &'a str,
+    number: Option<u32>,
+    input: &mut B,
+    out: &mut O,
+) -> Result<(), Fault<'a>> {
+    let Ok(store) = FileStore::open(rt, name) else {
+        return Err(Fault::CannotOpen(name));
+    };
+    match store.try_lock() {
+        Ok(()) => serve_store(rt, alloc, name, store, number, input, out),
+        Err(failed) if failed.kind == ErrorKind::WouldBlock => Err(Fault::InUse(name)),
+        Err(_) => Err(Fault::CannotOpen(name)),
+    }
+}
+
+/// Serves the document in a store, which is told of under this name.
+pub fn serve_store<'a, R: RandomSource + Wait, S: Store + Drop, B: BufRead, O: Write>(
+    rt: &R,
+    alloc: Global,
+    name: &'a str,
+    store: S,
+    number: Option<u32>,
+    input: &mut B,
+    out: &mut O,
+) -> Result<(), Fault<'a>> {
+    let number = match number {
+        Some(number) => Some(ReplicaId::new(number).ok_or(Fault::OutOfRange)?),
+        None => None,
+    };
+    let mut desk = match start(rt, alloc, store, number) {
+        Ok(desk) => desk,
+        Err(why) => return Err(fault_of(name, why)),
+    };
+    let served = serve_desk(rt, alloc, &mut desk, input, out);
+    let _store = desk.into_store();
+    match served {
+        Ok(()) => Ok(()),
+        Err(stop) => Err(stop_of(name, stop)),
+    }
+}
+
+/// Why a document can't be served.
+fn fault_of(name: &str, why: NotServed) -> Fault<'_> {
+    match why {
+        NotServed::NoMemory => Fault::NoMemory,
+        NotServed::CannotOpen => Fault::CannotOpen(name),
+        NotServed::OtherNumber(own) => Fault::OtherNumber(name, own.number()),
+        NotServed::Damaged(line) => Fault::Damaged(name, line),
+    }
+}
+
+/// Why a document is served no longer.
+fn stop_of(name: &str, stop: Stop) -> Fault<'_> {
+    match stop {
+        Stop::NoMemory => Fault::NoMemory,
+        Stop::Lost => Fault::Lost(name),
+        Stop::NotRead => Fault::CannotRead("standard input"),
+        Stop::NotWritten => Fault::NotWritten,
+    }
+}

@@ -1,0 +1,6 @@
+//! A disk of bytes for tests: it knows what would survive a loss of power, and fails where it is told to. No program uses it.
+#![tactic(auto)]
+
+mod disk;
+
+pub use disk::{Breaks, Disk, FAILED};

@@ -1,5 +1,0 @@
-use Rattle.journal.proofs.ReadBack.{record_back}
-use Rattle.journal.proofs.record.records_are_read_back.Goals as goal
-
-pub returns : goal.returns
-returns c = record_back

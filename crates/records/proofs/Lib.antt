@@ -1,0 +1,3 @@
+pub mod BroughtBack
+pub mod ReadBack
+pub mod WrongLengths

@@ -1,0 +1,4 @@
+-- The lines of a journal, what they bring back, and when some of them are lost.
+pub mod Lines
+pub mod Replays
+pub mod Lost

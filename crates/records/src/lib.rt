@@ -1,0 +1,13 @@
+//! Records: what a journal keeps of each entry of a history, as lines.
+//!
+//! `lines_of` writes the lines of entries, and `read_record` says what a line records. What brings a journal back, an engine or a
+//! session, tests each entry against its line by `check_recorded`, and tells by a `Replayed` how far it came.
+#![tactic(auto)]
+
+mod record;
+mod replaying;
+mod writing;
+
+pub use record::{Recorded, read_record, records_are_read_back};
+pub use replaying::{Replayed, Unfit, check_recorded};
+pub use writing::lines_of;

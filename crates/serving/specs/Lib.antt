@@ -1,0 +1,2 @@
+-- How a document answers calls.
+pub mod Desks

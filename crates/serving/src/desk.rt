@@ -1,0 +1,207 @@
+//! A document that answers calls, and keeps what came of them.
+
+ghost use Rattle.std.specs.Prelude.{◌≡◌, length, IfOk, IsUtf8, OnErr};
+ghost use Rattle.session.specs.replica.document.Documents.{asked_of};
+ghost use Rattle.session.specs.replica.operation.Ops.{command_of};
+ghost use Rattle.calls.specs.Calls.{call_of};
+ghost use Rattle.calls.specs.declared.response.Response.TheVariants as said;
+ghost use Rattle.serving.specs.Desks.{Answers, AnswersLine, Asks, IsBundle, Looks, Sends, TakesIn, Writes, received_of};
+
+mod opening;
+mod saving;
+
+use calls::{Call, RefusedLines, Response, StoppedLine, read_call};
+use ids::Refusal;
+use session::{Answered, Command, Expr, Question, Received, Session};
+use std::alloc::{AllocError, Global};
+use std::marker::Model;
+use store::{Shelf, Store};
+
+/// A document and the shelf that keeps it. What a response calls made, received or saved would survive a loss of power. Contracts see the
+/// replica of the definitions, how many of its entries are on the shelf, and what is known of the store.
+pub struct Desk<S: Store> {
+    session: Session,
+    shelf: Shelf<S>,
+    /// How many entries are on the shelf.
+    stored: usize,
+}
+
+impl<S: Store> Model for Desk<S> {
+    ghost use Rattle.std.specs.Prelude.{◌≤◌, length};
+    ghost use Rattle.std.specs.Coded.{codes};
+    ghost use Rattle.semantics.specs.Codes.{coded_element};
+    ghost use Rattle.serving.specs.Desks.{Desk};
+
+    ghost Value = { Desk };
+
+    ghost coded = { Prim.hlevel (codes, coded_element) };
+
+    ghost view = { λ d. record {
+      replica = d.session;
+      stored = d.stored;
+      held = d.shelf.held;
+      synced = d.shelf.synced;
+      is_lost = d.shelf.is_lost;
+    } };
+}
+
+impl<S: Store> Desk<S> {
+    /// What a program says before it takes requests: the number, and how many operations there are.
+    pub fn ready(&self) -> Response
+        ensures { result ≡ said.Ready self.now.replica.own (length self.now.replica.entries) }
+    {
+        Response::Ready {
+            number: self.session.own().number(),
+            length: self.session.len() as u64,
+        }
+    }
+
+    /// The response to the call on a line, which is given without its line feed. A write and a receipt are saved before it: one append and
+    /// one sync of the store.
+    ///
+    /// # Errors
+    /// `AllocError` if allocation fails before anything has changed. Where it fails later the response says so: `Refused` with `NoMemory`,
+    /// the stop of a receipt, or `Unsaved`.
+    pub fn answer(&mut self, alloc: Global, line: &[u8]) -> Result<Response, AllocError>
+        ensures answer { IfOk result (λ r. AnswersLine self.old line.now r self.new) }
+        ensures same { OnErr result (self.new ≡ self.old) }
+    {
+        match read_call(alloc, line) {
+            Ok(call) => self.respond(alloc, call),
+            Err(Refusal::NoMemory) => Err(AllocError),
+            Err(why) => Ok(Response::Denied(why)),
+        }
+    }
+
+    fn respond(&mut self, alloc: Global, call: Call) -> Result<Response, AllocError>
+        ensures answer { IfOk result (λ r. Answers self.old (call_of call) r self.new) }
+        ensures same { OnErr result (self.new ≡ self.old) }
+    {
+        match call {
+            Call::Write(command) => Ok(self.write(alloc, command)),
+            Call::Ask(question) => self.ask(alloc, &question),
+            Call::Glance {
+                expression,
+                depth,
+                elements,
+            } => self.glance(alloc, &expression, depth as usize, elements as usize),
+            Call::Hello => Ok(Response::Hello(self.session.hello(alloc)?)),
+            Call::Answer(hello) => self.answer_hello(alloc, hello.as_bytes()),
+            Call::Receive(bundle) => Ok(self.receive(alloc, bundle.as_bytes())),
+            Call::Save => {
+                let length = self.session.len() as u64;
+                Ok(self.saved(alloc, Response::Saved(length)))
+            }
+            Call::Status => Ok(self.status()),
+        }
+    }
+
+    /// Makes what a command says, and saves it.
+    fn write(&mut self, alloc: Global, command: Command) -> Response
+        ensures { Writes self.old (command_of command) result self.new }
+    {
+        let position = self.session.len() as u64;
+        match self.session.write(alloc, command) {
+            Ok(id) => self.saved(alloc, Response::Made(id, position)),
+            Err(why) => Response::Refused(why, position),
+        }
+    }
+
+    /// Receives a bundle, and saves what of it is applied.
+    fn receive(&mut self, alloc: Global, bundle: &[u8]) -> Response
+        ensures { TakesIn self.old bundle.now result self.new }
+    {
+        let received = self.session.receive(alloc, bundle);
+        self.saved(alloc, response_of(&received))
+    }
+
+    fn ask(&self, alloc: Global, question: &Question) -> Result<Response, AllocError>
+        ensures { IfOk result (Asks self.now (asked_of question.now)) }
+    {
+        let length = self.session.len() as u64;
+        match self.session.document().ask(alloc, question) {
+            Ok(reading) => Ok(Response::Read(length, reading)),
+            Err(Refusal::NoMemory) => Err(AllocError),
+            Err(why) => Ok(Response::Refused(why, length)),
+        }
+    }
+
+    fn glance(
+        &self,
+        alloc: Global,
+        expression: &Expr,
+        depth: usize,
+        elements: usize,
+    ) -> Result<Response, AllocError>
+        ensures { IfOk result (Looks self.now expression.now depth elements) }
+    {
+        let length = self.session.len() as u64;
+        match self
+            .session
+            .document()
+            .glance(alloc, expression, depth, elements)
+        {
+            Ok(glance) => Ok(Response::Glance(length, glance)),
+            Err(Refusal::NoMemory) => Err(AllocError),
+            Err(why) => Ok(Response::Refused(why, length)),
+        }
+    }
+
+    /// What a peer lacks of what is on the shelf.
+    fn answer_hello(&self, alloc: Global, hello: &[u8]) -> Result<Response, AllocError>
+        ensures { IfOk result (Sends self.now hello.now) }
+    {
+        match self.session.answer(alloc, hello, self.stored) {
+            Ok(answered) => Ok(bundle_of(answered)),
+            Err(Refusal::NoMemory) => Err(AllocError),
+            Err(why) => Ok(Response::Denied(why)),
+        }
+    }
+
+    fn status(&self) -> Response
+        ensures { result ≡ said.Status self.now.replica.own (length self.now.replica.entries) self.now.stored }
+    {
+        Response::Status {
+            number: self.session.own().number(),
+            length: self.session.len() as u64,
+            saved: self.stored as u64,
+        }
+    }
+}
+
+/// What is said of a receipt.
+fn response_of(received: &Received) -> Response
+    ensures { result ≡ received_of received.now }
+{
+    Response::Received {
+        taken: received.taken,
+        refused: received.refused.map(|refused| RefusedLines {
+            count: refused.count,
+            line: refused.first_line,
+            why: refused.why,
+        }),
+        stopped: received
+            .stopped
+            .map(|(line, why)| StoppedLine { line, why }),
+    }
+}
+
+/// What is said of an answer for a peer.
+fn bundle_of(answered: Answered) -> Response
+    requires { IsUtf8 answered.lines.items }
+    ensures { IsBundle answered result }
+{
+    let Answered {
+        lines,
+        has_more,
+        is_beyond,
+    } = answered;
+    let Ok(lines) = String::from_utf8(lines) else {
+        unreachable!()
+    };
+    Response::Bundle {
+        lines,
+        has_more,
+        is_beyond,
+    }
+}

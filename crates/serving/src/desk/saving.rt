@@ -1,0 +1,58 @@
+//! What is saved.
+
+ghost use Rattle.std.specs.Prelude.{◌≡◌, ◌≢◌, ◌⊎◌, false, true, IfErr, OnOk};
+ghost use Rattle.store.specs.declared.fault.Fault.TheVariants.{MustStartAgain};
+ghost use Rattle.serving.specs.Desks.{IsSaved, SaysSaved};
+
+use super::Desk;
+use calls::Response;
+use std::alloc::Global;
+use store::{Fault, Store};
+
+impl<S: Store> Desk<S> {
+    /// Saves, and says that it is done, or that it isn't saved.
+    pub(super) fn saved(&mut self, alloc: Global, done: Response) -> Response
+        ensures { SaysSaved done self.old result self.new }
+    {
+        match self.save(alloc) {
+            Ok(()) => done,
+            Err(Fault::MustStartAgain) => Response::Lost,
+            Err(_) => Response::Unsaved {
+                length: self.session.len() as u64,
+                saved: self.stored as u64,
+            },
+        }
+    }
+
+    /// Puts the entries that aren't on the shelf behind those that are.
+    ///
+    /// # Errors
+    /// `Held` if memory was short for their lines; `MustStartAgain` and `Store` as `put` of the shelf.
+    fn save(&mut self, alloc: Global) -> Result<(), Fault>
+        ensures ok { OnOk result ((self.new.replica ≡ self.old.replica) × IsSaved self.old self.new) }
+        ensures err { IfErr result
+            (λ why. ((why ≡ MustStartAgain) × (self.new.replica ≡ self.old.replica) × (self.new.stored ≡ self.old.stored)
+            × (self.new.is_lost ≡ true))
+            ⊎ ((why ≢ MustStartAgain) × (self.new ≡ self.old) × (self.new.is_lost ≡ false))) }
+    {
+        self.shelf.check()?;
+        let Ok(lines) = self.session.lines_from(alloc, self.stored) else {
+            return Err(Fault::Held);
+        };
+        self.shelf.put(&lines)?;
+        self.stored = self.session.len();
+        Ok(())
+    }
+
+    /// The store, as it is. What isn't saved is lost.
+    pub fn into_store(self) -> S
+        ensures { (S.contents result ≡ self.held) × (S.synced result ≡ self.synced) }
+    {
+        let Desk {
+            session: _session,
+            shelf,
+            stored: _,
+        } = self;
+        shelf.into_store()
+    }
+}

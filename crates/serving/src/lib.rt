@@ -1,0 +1,16 @@
+//! One document over lines: a request a line, a reply a line, and what a reply calls made, received or saved is on the shelf.
+//!
+//! A `Desk` is a session and the shelf that keeps its journal; `serve` reads requests, and writes replies, until the input ends.
+#![tactic(auto)]
+
+mod desk;
+mod lines;
+mod memory;
+mod starting;
+mod talk;
+
+pub use desk::Desk;
+pub use lines::{Found, MOST_LINE, next_line};
+pub use memory::Memory;
+pub use starting::{NotServed, start};
+pub use talk::{Stop, serve};

@@ -1,0 +1,82 @@
+//! A desk on a store that is read first.
+
+use crate::desk::Desk;
+use ids::{Refusal, ReplicaId};
+use std::alloc::Global;
+use std::random::RandomSource;
+use store::{Fault, Journal, Store, draw_number};
+
+/// Why a document can't be served.
+#[derive(Clone, Copy, Debug, PartialEq, Eq)]
+pub enum NotServed {
+    NoMemory,
+    /// The store can't be read, cut or synced, or no number can be drawn.
+    CannotOpen,
+    /// Its own commands are another number's: this one's.
+    OtherNumber(ReplicaId),
+    /// A line, counted from 1, doesn't fit: it was changed, or is no journal's.
+    Damaged(u64),
+}
+
+/// A desk on a store, as the replica of this number if one is given, else of the store's own commands, else of one that is drawn.
+///
+/// # Errors
+/// As `NotServed` has them. The store is let go of.
+pub fn start<R: RandomSource, S: Store + Drop>(
+    rt: &R,
+    alloc: Global,
+    store: S,
+    number: Option<ReplicaId>,
+) -> Result<Desk<S>, NotServed> {
+    let journal = match Journal::read(alloc, store) {
+        Ok(journal) => journal,
+        Err(unopened) => return Err(reason(&unopened.why)),
+    };
+    let own = own_number(rt, alloc, &journal, number)?;
+    match Desk::open(alloc, own, journal) {
+        Ok(desk) => Ok(desk),
+        Err(unopened) => Err(reason(&unopened.why)),
+    }
+}
+
+/// The number of the replica that goes on from a journal.
+fn own_number<R: RandomSource, S: Store>(
+    rt: &R,
+    alloc: Global,
+    journal: &Journal<S>,
+    number: Option<ReplicaId>,
+) -> Result<ReplicaId, NotServed> {
+    let own = match journal.own(alloc) {
+        Ok(own) => own,
+        Err(why) => return Err(reason(&why)),
+    };
+    let Some(own) = own else {
+        return match number {
+            Some(number) => Ok(number),
+            None => drawn(rt),
+        };
+    };
+    if let Some(number) = number {
+        if number != own {
+            return Err(NotServed::OtherNumber(own));
+        }
+    }
+    Ok(own)
+}
+
+/// A number that is drawn.
+fn drawn<R: RandomSource>(rt: &R) -> Result<ReplicaId, NotServed> {
+    match draw_number(rt) {
+        Ok(own) => Ok(own),
+        Err(why) => Err(reason(&why)),
+    }
+}
+
+/// Why a document can't be served, as a store's fault has it.
+fn reason(fault: &Fault) -> NotServed {
+    match fault {
+        Fault::Refused(Refusal::NoMemory) | Fault::Held => NotServed::NoMemory,
+        Fault::Damaged { line, .. } => NotServed::Damaged(*line),
+        Fault::Refused(_) | Fault::Store(_) | Fault::MustStartAgain => NotServed::CannotOpen,
+    }
+}

@@ -1,0 +1,79 @@
+//! The loop that serves a document.
+
+use crate::desk::Desk;
+use crate::lines::{Found, MOST_LINE, next_line};
+use calls::{Response, write_response};
+use ids::Refusal;
+use std::alloc::{AllocError, Global};
+use std::io::{BufRead, ErrorKind, Write};
+use std::sync::Wait;
+use store::Store;
+
+/// Why a document is served no longer, before its input ended.
+#[derive(Clone, Copy, Debug, PartialEq, Eq)]
+pub enum Stop {
+    NoMemory,
+    /// Nobody knows what the store has, which was said.
+    Lost,
+    /// The input can't be read.
+    NotRead,
+    /// A response can't be written.
+    NotWritten,
+}
+
+impl From<AllocError> for Stop {
+    fn from(_error: AllocError) -> Stop {
+        Stop::NoMemory
+    }
+}
+
+/// Says that the document is ready, and then responds to each line of the input, until it ends. A line is read once the response before it
+/// was written. Waits for input.
+///
+/// # Errors
+/// As `Stop` has them. What a response said before is so.
+pub fn serve<S: Store, B: BufRead, W: Write>(
+    rt: &impl Wait,
+    alloc: Global,
+    desk: &mut Desk<S>,
+    input: &mut B,
+    out: &mut W,
+) -> Result<(), Stop> {
+    say(alloc, out, &desk.ready())?;
+    let mut line = Vec::new(alloc);
+    for _ in rt.forever() {
+        let Some(response) = respond(alloc, desk, input, &mut line)? else {
+            break;
+        };
+        say(alloc, out, &response)?;
+        if let Response::Lost = response {
+            return Err(Stop::Lost);
+        }
+    }
+    Ok(())
+}
+
+/// The response to the next line of the input, or `None` at its end. A line that is too long, or cut off, is none.
+fn respond<S: Store, B: BufRead>(
+    alloc: Global,
+    desk: &mut Desk<S>,
+    input: &mut B,
+    line: &mut Vec<u8>,
+) -> Result<Option<Response>, Stop> {
+    match next_line(input, MOST_LINE, line) {
+        Ok(Found::Line) => Ok(Some(desk.answer(alloc, line)?)),
+        Ok(Found::TooLong | Found::Cut) => Ok(Some(Response::Denied(Refusal::BadLine))),
+        Ok(Found::End) => Ok(None),
+        Err(error) if error.kind() == ErrorKind::OutOfMemory => Err(Stop::NoMemory),
+        Err(_) => Err(Stop::NotRead),
+    }
+}
+
+/// Writes a response, with its line feed, at once.
+fn say<W: Write>(alloc: Global, out: &mut W, response: &Response) -> Result<(), Stop> {
+    let line = write_response(alloc, response)?;
+    if out.write_all(&line).is_err() || out.flush().is_err() {
+        return Err(Stop::NotWritten);
+    }
+    Ok(())
+}

@@ -1,0 +1,2 @@
+pub mod OwnNumbers
+pub mod WholeText

@@ -1,0 +1,73 @@
+//! What keeps the bytes of a journal.
+
+ghost use Rattle.std.specs.Prelude.{◌≡◌, ℕ, List, Option, None, IfOk, OnOk, OnErr};
+ghost use Rattle.std.specs.Io.KnownBytes.{append_known};
+ghost use Rattle.store.specs.Shelves.{AppendsSome, AreKnown, AreWithin, first_known};
+
+use std::alloc::Global;
+use std::io::ErrorKind;
+use std::{fmt, io};
+use thiserror::Error;
+
+/// A call of a store failed, in the way that the system says.
+#[derive(Clone, Copy, Debug, PartialEq, Eq, Error)]
+pub struct StoreFailed {
+    pub kind: ErrorKind,
+}
+
+impl fmt::Display for StoreFailed {
+    fn fmt<W: fmt::Write>(&self, f: &mut fmt::Formatter<W>) -> fmt::Result {
+        let kind = self.kind;
+        write!(f, "the store failed: {kind}")
+    }
+}
+
+impl From<io::Error> for StoreFailed {
+    fn from(error: io::Error) -> StoreFailed {
+        StoreFailed { kind: error.kind() }
+    }
+}
+
+/// A place for bytes that survive a loss of power: a file, for example. One document has it at a time, of one program.
+///
+/// Contracts see which bytes it has, as a read gives them, and which were there at the last sync that succeeded, where a store says so.
+/// That these survive is what it owes: nobody proves it.
+pub trait Store {
+    ghost contents: { Self → Option (List ℕ) } = { λ _. None };
+
+    ghost synced: { Self → Option (List ℕ) } = { λ _. None };
+
+    /// All its bytes, from the first one on, also those that aren't synced.
+    ///
+    /// # Errors
+    /// `StoreFailed`.
+    fn read(&mut self, alloc: Global) -> Result<Vec<u8>, StoreFailed>
+        ensures bytes { IfOk result (λ bytes. AreKnown (contents self.old) bytes.items) }
+        ensures same { (contents self.new ≡ contents self.old) × (synced self.new ≡ synced self.old) };
+
+    /// Puts the bytes behind those it has.
+    ///
+    /// # Errors
+    /// `StoreFailed`. It may have taken a part of the bytes, from the first one on.
+    fn append(&mut self, bytes: &[u8]) -> Result<(), StoreFailed>
+        ensures ok { OnOk result (contents self.new ≡ append_known (contents self.old) bytes.now) }
+        ensures err { OnErr result (AppendsSome (contents self.old) (contents self.new)) }
+        ensures same { synced self.new ≡ synced self.old };
+
+    /// Makes all that it has survive a loss of power. What was there at a sync that succeeded is there until a `cut` takes it. Of what came
+    /// after it, a loss of power may leave nothing, all, or the first bytes.
+    ///
+    /// # Errors
+    /// `StoreFailed`. Nobody knows then what would survive, and a later sync may succeed without having written.
+    fn sync(&mut self) -> Result<(), StoreFailed>
+        ensures ok { OnOk result (synced self.new ≡ contents self.new) }
+        ensures same { contents self.new ≡ contents self.old };
+
+    /// Takes away all bytes behind the first `len`, of at least as many.
+    ///
+    /// # Errors
+    /// `StoreFailed`. It may have taken some of them.
+    fn cut(&mut self, len: u64) -> Result<(), StoreFailed>
+        ensures ok { OnOk result (contents self.new ≡ first_known len (contents self.old)) }
+        ensures survives { OnOk result (AreWithin (synced self.old) len → synced self.new ≡ synced self.old) };
+}

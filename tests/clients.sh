@@ -1,0 +1,45 @@
+#!/usr/bin/env bash
+# clients.sh [PROGRAM]: runs the tests of the Python package and of the application in it with the proved program, or with another one.
+# Says how many tests there are, and fails if any does.
+set -euo pipefail
+top=$(cd "$(dirname "$0")/.." && pwd)
+program=$(realpath "${1:-$top/crates/jdoc/out/jdoc}")
+said=$(mktemp)
+trap 'rm -f "$said"' EXIT
+passed=0
+failed=0
+
+# Builds the program where it isn't: 'rt ci' has proved it.
+if [ ! -x "$program" ]; then
+    if [ $# != 0 ]; then
+        echo "clients: FAILED: there is no program $program"
+        exit 1
+    fi
+    (cd "$top/crates/jdoc" && rt run -- run < stdin > /dev/null)
+fi
+
+# A program that doesn't serve would fail each test.
+if [ "$("$program" serve --number 1 < /dev/null 2> "$said")" != '["ready",1,0]' ]; then
+    cat "$said"
+    echo "clients: FAILED: '$program serve' doesn't start"
+    exit 1
+fi
+
+# Each write is synced before its reply: on a disk that is busy that takes minutes, and what a disk keeps isn't tested here.
+if [ -d /dev/shm ] && [ -w /dev/shm ]; then
+    export TMPDIR=/dev/shm
+fi
+
+for folder in clients/python/tests examples/notes; do
+    # A file that isn't closed is a fault too, and what Python compiles stays out of the tree.
+    if JDOC=$program PYTHONPATH=$top/clients/python PYTHONDONTWRITEBYTECODE=1 \
+        timeout 600 python3 -W error -m unittest discover -s "$top/$folder" > "$said" 2>&1 && grep -q '^OK$' "$said"; then
+        passed=$((passed + $(sed -n 's/^Ran \([0-9]*\) tests\{0,1\} .*/\1/p' "$said")))
+    else
+        cat "$said"
+        failed=$((failed + 1))
+        echo "clients: FAILED: $folder"
+    fi
+done
+echo "clients: $passed tests passed, $failed folders failed"
+[ "$failed" = 0 ]
