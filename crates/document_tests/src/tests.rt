@@ -4,6 +4,7 @@ mod checks;
 mod cut_glances;
 mod glances;
 mod newcomers;
+mod of_tree;
 mod playing;
 mod refused_memory;
 

@@ -15,8 +15,6 @@ mod resolve;
 mod show;
 mod spot;
 mod stamp;
-#[cfg(test)]
-mod tests;
 mod tree;
 mod walk;
 mod write;

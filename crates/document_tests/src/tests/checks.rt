@@ -3,7 +3,7 @@
 use super::playing::Does::{Assign, Delete};
 use super::playing::Hop::{Field, Item};
 use super::playing::Step::Get;
-use super::playing::Turn::{Check, Has, Len, Take, Values, Waits};
+use super::playing::Turn::{Check, Has, Take, Values, Waits};
 use super::playing::Value::Text;
 use super::playing::{Hop, Sent, Turn, on_new};
 use super::*;
@@ -13,21 +13,11 @@ use std::test::Fail;
 const KEY: &[Hop] = &[Field("key")];
 
 /// Replica 1 writes at the key, and once both have seen that, replica 1 and replica 2 write there apart.
-const A: Sent = ((1, 1), &[0, 0, 0], KEY, Assign(Text("A")));
+pub const A: Sent = ((1, 1), &[0, 0, 0], KEY, Assign(Text("A")));
 
-const B: Sent = ((2, 1), &[1, 0, 0], KEY, Assign(Text("B")));
+pub const B: Sent = ((2, 1), &[1, 0, 0], KEY, Assign(Text("B")));
 
-const C: Sent = ((2, 2), &[1, 0, 0], KEY, Assign(Text("C")));
-
-#[test]
-fn concurrent_values_stand_side_by_side(rt: HostRuntime) -> Result<(), Fail> {
-    const WANTED: &[Turn] = &[
-        Values(&[Get("key")], &[((2, 1), Text("B")), ((2, 2), Text("C"))]),
-        Len(3),
-    ];
-    on_new(&rt, rt.alloc(), &[A, B, C], WANTED)?;
-    on_new(&rt, rt.alloc(), &[A, C, B], WANTED)
-}
+pub const C: Sent = ((2, 2), &[1, 0, 0], KEY, Assign(Text("C")));
 
 #[test]
 fn applied_operations_are_found_by_their_ids(rt: HostRuntime) -> Result<(), Fail> {

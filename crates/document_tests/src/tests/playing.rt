@@ -41,6 +41,8 @@ pub enum Step<'a> {
     Get(&'a str),
     /// To the item with this index in the list here, from 1 on.
     Idx(u64),
+    /// To the item with this id in the list here, also where it isn't shown.
+    ById(Pair),
 }
 
 /// A value that an operation writes.
@@ -68,6 +70,8 @@ pub type Sent<'a> = (Pair, &'a [u64], &'a [Hop<'a>], Does<'a>);
 pub enum Turn<'a> {
     /// Takes an operation that passes each test.
     Take(Sent<'a>),
+    /// Reserves an operation, and no more.
+    Reserve(Sent<'a>),
     /// The fault of an operation that is ready and has none alone.
     Check(Sent<'a>, Result<(), Refusal>),
     /// An operation that isn't ready.
@@ -216,6 +220,17 @@ pub fn take(
     Ok(())
 }
 
+/// Reserves an operation, and no more.
+pub fn reserve_alone(
+    rt: &impl Abort,
+    alloc: Global,
+    document: &mut Document,
+    sent: Sent,
+) -> Result<(), Refusal> {
+    let op = op(alloc, sent)?;
+    Ok(reserve(rt, alloc, document, &op)?)
+}
+
 /// Asserts the fault of an operation that is ready and has none alone.
 fn assert_check(
     rt: &impl Abort,
@@ -235,6 +250,7 @@ fn step_of(alloc: Global, step: Step) -> Result<cursor::Step, Refusal> {
     match step {
         Step::Get(key) => Ok(cursor::Step::Get(Key::new(alloc, key)?)),
         Step::Idx(index) => Ok(cursor::Step::Idx(index)),
+        Step::ById(pair) => Ok(cursor::Step::Item(id_of(pair)?)),
     }
 }
 
@@ -403,6 +419,7 @@ fn take_turn(
 ) -> Result<(), Refusal> {
     match turn {
         Turn::Take(sent) => take(rt, alloc, document, sent),
+        Turn::Reserve(sent) => reserve_alone(rt, alloc, document, sent),
         Turn::Check(sent, wanted) => assert_check(rt, alloc, document, sent, wanted),
         Turn::Waits(sent) => {
             let op = op(alloc, sent)?;
@@ -454,7 +471,7 @@ pub fn play(
 }
 
 /// A new document with these members, at the second attempt if an allocation of the first is refused.
-fn empty(alloc: Global, members: &[u32]) -> Result<Document, Refusal> {
+pub fn empty(alloc: Global, members: &[u32]) -> Result<Document, Refusal> {
     match Document::new(alloc, members) {
         Err(Refusal::NoMemory) => Document::new(alloc, members),
         made => made,
