@@ -27,8 +27,7 @@ fn main(rt: HostRuntime) -> io::Result<()> {
 /// What each of the two reads at the key `title` after they met.
 fn meet<R: Wait>(rt: &R, alloc: Global) -> Result<(String, String), Refusal> {
     let alice = prepare(alloc, configuration(alloc, 1)?)?;
-    let bob = prepare(alloc, configuration(alloc, 2)?)?;
-    open_alice::<Brand, R>(rt, alloc, alice, bob)
+    open_alice::<Brand, R>(rt, alloc, alice)
 }
 
 /// An engine of this number, among the two.
@@ -48,7 +47,6 @@ fn open_alice<A: EngineName, R: Wait>(
     rt: &R,
     alloc: Global,
     alice: Parts,
-    bob: Parts,
 ) -> Result<(String, String), Refusal>
     requires book { alice.opened.seen.book ≡ A.book }
     requires own { alice.config.own ≡ A.own }
@@ -56,11 +54,21 @@ fn open_alice<A: EngineName, R: Wait>(
 {
     let (mut writer, mut clients, mut readers) = open::<A>(rt, alloc, alice)?;
     let read = match engine_of(&mut writer, &mut clients, &mut readers) {
-        Ok(mut alice) => open_bob::<Brand, A, R>(rt, alloc, &mut alice, bob),
+        Ok(mut alice) => with_alice(rt, alloc, &mut alice),
         Err(refusal) => Err(refusal),
     };
     let _history = close(rt, writer, clients).history;
     read
+}
+
+/// What both read, with the ends of Alice's engine.
+fn with_alice<A: EngineName, R: Wait>(
+    rt: &R,
+    alloc: Global,
+    alice: &mut Engine<A>,
+) -> Result<(String, String), Refusal> {
+    let bob = prepare(alloc, configuration(alloc, 2)?)?;
+    open_bob::<Brand, A, R>(rt, alloc, alice, bob)
 }
 
 fn open_bob<B: EngineName, A: EngineName, R: Wait>(
@@ -171,14 +179,22 @@ fn pull<A: EngineName, B: EngineName, R: Wait>(
 ) -> Result<(), Refusal> {
     let line = hello(alloc, to.reader)?;
     let bundle = answer(alloc, from.reader, line.as_slice())?;
-    let received = receive(rt, alloc, to.client, bundle.as_slice());
-    match received.stopped {
-        Some((_, refusal)) => Err(refusal),
-        None => {
-            step_all(rt, alloc, to)?;
-            all_taken(to, &received)
-        }
+    take(rt, alloc, to, bundle.as_slice())
+}
+
+/// Receives a bundle, and handles all of it.
+fn take<N: EngineName, R: Wait>(
+    rt: &R,
+    alloc: Global,
+    engine: &mut Engine<N>,
+    bundle: &[u8],
+) -> Result<(), Refusal> {
+    let received = receive(rt, alloc, engine.client, bundle);
+    if let Some((_, refusal)) = received.stopped {
+        return Err(refusal);
     }
+    step_all(rt, alloc, engine)?;
+    all_taken(engine, &received)
 }
 
 /// Tests that none of the operations that were received was refused.

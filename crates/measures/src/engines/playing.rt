@@ -27,8 +27,7 @@ pub fn play<R: Threads + Wait + Clock + Sync>(
     is_timed: bool,
 ) -> Result<Figures, Refusal> {
     let one = prepare(alloc, configuration(alloc, 1)?)?;
-    let two = prepare(alloc, configuration(alloc, 2)?)?;
-    open_one::<Brand, R>(rt, alloc, one, two, if is_timed { 98_000 } else { 1_000 })
+    open_one::<Brand, R>(rt, alloc, one, if is_timed { 98_000 } else { 1_000 })
 }
 
 /// An engine of this number, among the two.
@@ -48,7 +47,6 @@ fn open_one<A: EngineName + Send + Sync, R: Threads + Wait + Clock + Sync>(
     rt: &R,
     alloc: Global,
     one: Parts,
-    two: Parts,
     items: u32,
 ) -> Result<Figures, Refusal>
     requires book { one.opened.seen.book ≡ A.book }
@@ -63,12 +61,23 @@ fn open_one<A: EngineName + Send + Sync, R: Threads + Wait + Clock + Sync>(
                 client,
                 reader,
             };
-            open_two::<Brand, A, R>(rt, alloc, &mut one, two, items)
+            with_one(rt, alloc, &mut one, items)
         }
         _ => Err(Refusal::NoReaderPlace),
     };
     let _left = close(rt, writer, clients);
     figures
+}
+
+/// The plays, with the ends of the first engine.
+fn with_one<A: EngineName + Send + Sync, R: Threads + Wait + Clock + Sync>(
+    rt: &R,
+    alloc: Global,
+    one: &mut Stage<A>,
+    items: u32,
+) -> Result<Figures, Refusal> {
+    let two = prepare(alloc, configuration(alloc, 2)?)?;
+    open_two::<Brand, A, R>(rt, alloc, one, two, items)
 }
 
 fn open_two<B: EngineName, A: EngineName + Send + Sync, R: Threads + Wait + Clock + Sync>(
@@ -115,9 +124,29 @@ fn play_all<A: EngineName + Send + Sync, B: EngineName, R: Threads + Wait + Cloc
         exchange,
         glance: glance(rt, alloc, one.reader)?,
         questions: questions(rt, alloc, one.reader)?,
-        journal: bring(rt, alloc, 1, Feed::Journal(one.journal(alloc)?.as_slice()))?,
-        bundle: bring(rt, alloc, 2, Feed::Bundle(one.bundle(alloc)?.as_slice()))?,
+        journal: bring_journal(rt, alloc, one)?,
+        bundle: bring_bundle(rt, alloc, one)?,
     })
+}
+
+/// Brings an engine of the same number to this one's history, by its journal.
+fn bring_journal<N: EngineName, R: Wait + Clock>(
+    rt: &R,
+    alloc: Global,
+    stage: &mut Stage<N>,
+) -> Result<Figure, Refusal> {
+    let lines = stage.journal(alloc)?;
+    bring(rt, alloc, 1, Feed::Journal(lines.as_slice()))
+}
+
+/// Brings an engine of another number to this one's history, by a bundle.
+fn bring_bundle<N: EngineName, R: Wait + Clock>(
+    rt: &R,
+    alloc: Global,
+    stage: &mut Stage<N>,
+) -> Result<Figure, Refusal> {
+    let lines = stage.bundle(alloc)?;
+    bring(rt, alloc, 2, Feed::Bundle(lines.as_slice()))
 }
 
 /// A client submits, the writer steps, and the client polls, on one thread.

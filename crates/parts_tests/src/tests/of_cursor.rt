@@ -41,8 +41,9 @@ fn assert_depths(
     want: Result<usize, Refusal>,
 ) -> Result<(), Fail> {
     assert_eq!(rt; place.depth(), depth);
-    let deeper = depths_below(alloc, place)?;
-    assert_eq!(rt; deeper, [want, want, want], "below {depth}");
+    for deeper in depths_below(alloc, place)? {
+        assert_eq!(rt; deeper, want, "below {depth}");
+    }
     Ok(())
 }
 
@@ -172,9 +173,11 @@ fn the_document_ends_in_no_key(rt: HostRuntime) {
 
 #[test]
 fn fields_end_in_keys(rt: HostRuntime) -> Result<(), Fail> {
-    let key = Key::new(rt.alloc(), "k")?;
     let field = field(rt.alloc(), "k")?;
-    assert_eq!(rt; field.last(), Last::Key(&key));
+    let Last::Key(key) = field.last() else {
+        return Err(Fail::from("another end"));
+    };
+    assert_eq!(rt; key.as_str(), "k");
     assert_eq!(rt; field.is_head(), false);
     Ok(())
 }

@@ -65,10 +65,8 @@ fn assert_compared(
     b: &str,
     want: Ordering,
 ) -> Result<(), Fail> {
-    let (order, partial, is_equal) = compared(alloc, a, b)?;
-    assert_eq!(rt; order, want, "{a} and {b}");
-    assert_eq!(rt; partial, Some(want), "{a} and {b}");
-    assert_eq!(rt; is_equal, want == Ordering::Equal, "{a} and {b}");
+    let wanted = (want, Some(want), want == Ordering::Equal);
+    assert_eq!(rt; compared(alloc, a, b)?, wanted, "{a} and {b}");
     Ok(())
 }
 

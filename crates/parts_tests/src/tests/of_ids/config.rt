@@ -5,17 +5,23 @@ use std::alloc::Global;
 use std::process::Abort;
 use std::test::Fail;
 
-/// Three members, and every other number at its limit.
-fn greatest(alloc: Global) -> Result<Config, Fail> {
-    Ok(Config {
+/// These members, and every other number at its limit.
+fn greatest_of(members: Vec<u32>) -> Config {
+    Config {
         own: 2,
-        members: vec![in alloc; 1, 2, 4_294_967_295]?,
+        members,
         clients: 64,
         readers: 64,
         queue: 65_536,
         batch: 256,
         serials: 4_294_967_295,
-    })
+    }
+}
+
+/// Three members, and every other number at its limit.
+fn greatest(alloc: Global) -> Result<Config, Fail> {
+    let members = vec![in alloc; 1, 2, 4_294_967_295]?;
+    Ok(greatest_of(members))
 }
 
 /// What `check` returns.
@@ -104,21 +110,29 @@ fn numbers_are_within_limits(rt: HostRuntime) -> Result<(), Fail> {
     Ok(())
 }
 
+/// The answer of `check` with these members.
+fn with_members(members: Vec<u32>) -> Answer {
+    greatest_of(members).check()
+}
+
+/// The answer of `check` with the members from 1 to the last one.
+fn with_members_to(alloc: Global, last: u32) -> Result<Answer, Fail> {
+    let mut members = Vec::new(alloc);
+    for member in 1..=last {
+        members.push(member)?;
+    }
+    Ok(with_members(members))
+}
+
 #[test]
 fn members_are_different_and_few(rt: HostRuntime) -> Result<(), Fail> {
-    let refused = Err(Refusal::BadConfig);
-    let mut config = greatest(rt.alloc())?;
-    config.members = Vec::new(rt.alloc());
-    assert_eq!(rt; config.check(), refused, "no member");
-    for member in 1..=64 {
-        config.members.push(member)?;
-    }
-    assert_eq!(rt; config.check(), Ok(()), "64 members");
-    config.members.push(65)?;
-    assert_eq!(rt; config.check(), refused, "65 members");
-    config.members = vec![in rt.alloc(); 2, 3, 2]?;
-    assert_eq!(rt; config.check(), refused, "twice the same member");
-    config.members = vec![in rt.alloc(); 2, 0]?;
-    assert_eq!(rt; config.check(), refused, "a member numbered 0");
+    let alloc = rt.alloc();
+    assert_eq!(rt; with_members(Vec::new(alloc)), BAD, "no member");
+    assert_eq!(rt; with_members_to(alloc, 64)?, OK, "64 members");
+    assert_eq!(rt; with_members_to(alloc, 65)?, BAD, "65 members");
+    let twice = vec![in alloc; 2, 3, 2]?;
+    assert_eq!(rt; with_members(twice), BAD, "twice the same member");
+    let zero = vec![in alloc; 2, 0]?;
+    assert_eq!(rt; with_members(zero), BAD, "a member numbered 0");
     Ok(())
 }

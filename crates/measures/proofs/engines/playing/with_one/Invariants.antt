@@ -1,5 +1,5 @@
 use Rattle.ids.specs.Members.{in_order}
-use Rattle.measures.proofs.engines.playing.open_one.Given as goal
+use Rattle.measures.proofs.engines.playing.with_one.Given as goal
 
 -- the engine of the second parts
 abbrev pub ghosts-open_two : goal.ghosts-open_two

@@ -1,5 +1,5 @@
 use Rattle.ids.specs.Members.{in_order}
-use Rattle.meeting.proofs.open_alice.Given as goal
+use Rattle.meeting.proofs.with_alice.Given as goal
 
 -- the engine of the second parts
 abbrev pub ghosts-open_bob : goal.ghosts-open_bob
