@@ -1,4 +1,5 @@
 //! An application with an engine inside: two threads write down what to buy, and a third reads the list as it grows.
+//! The writer's thread sleeps while there is nothing to do.
 #![tactic(auto)]
 
 ghost use Rattle.std.specs.Prelude.{◌≡◌};
@@ -13,7 +14,21 @@ use std::io;
 use std::marker::Brand;
 use std::sync::Wait;
 use std::sync::atomic::{AtomicBool, Ordering};
-use std::thread::{Threads, join, yield_now};
+use std::thread::{Parker, Threads, join, yield_now};
+use std::time::Duration;
+
+/// How long the writer sleeps at most where nobody wakes it, in milliseconds. After a failed allocation only a step goes on with what
+/// waits.
+const NAP: u64 = 50;
+
+/// What the threads tell one another beside the engine.
+#[derive(Drop)]
+struct Signals {
+    /// The writer sleeps on it, and clients wake it.
+    work: Parker,
+    /// Whether the clients have ended.
+    ended: AtomicBool,
+}
 
 fn main(rt: HostRuntime) -> io::Result<()> {
     match shop(&rt, rt.alloc()) {
@@ -82,22 +97,38 @@ fn together<N: EngineName + Send + Sync, R: Threads + Wait + Sync>(
     bob: &mut Client<N>,
     reader: ReaderToken<N>,
 ) -> Result<usize, Refusal> {
-    let ended = AtomicBool::new(false);
-    let ended = &ended;
+    let signals = Signals {
+        work: Parker::new(),
+        ended: AtomicBool::new(false),
+    };
+    let signals = &signals;
     let (_, (read, (first, second))) = join(
         rt,
-        move || step_until(rt, alloc, writer, ended),
+        move || step_until(rt, alloc, writer, signals),
         move || {
             join(
                 rt,
-                move || read_until(rt, alloc, reader, ended),
+                move || read_until(rt, alloc, reader, &signals.ended),
                 move || {
                     let written = join(
                         rt,
-                        move || write(rt, alloc, alice, &[("milk", "2 l"), ("eggs", "six")]),
-                        move || write(rt, alloc, bob, &[("cheese", "any"), ("milk", "1 l")]),
+                        move || write(
+                            rt,
+                            alloc,
+                            alice,
+                            signals,
+                            &[("milk", "2 l"), ("eggs", "six")],
+                        ),
+                        move || write(
+                            rt,
+                            alloc,
+                            bob,
+                            signals,
+                            &[("cheese", "any"), ("milk", "1 l")],
+                        ),
                     );
-                    ended.store(true, Ordering::Release);
+                    signals.ended.store(true, Ordering::Release);
+                    signals.work.unpark();
                     written
                 },
             )
@@ -108,18 +139,19 @@ fn together<N: EngineName + Send + Sync, R: Threads + Wait + Sync>(
     read
 }
 
-/// Steps until the clients have ended and nothing that they submitted is left.
+/// Steps until the clients have ended and nothing that they submitted is left, and sleeps while there is nothing to do.
 fn step_until<N: EngineName, R: Wait>(
     rt: &R,
     alloc: Global,
     writer: &mut Writer<N>,
-    ended: &AtomicBool,
+    signals: &Signals,
 ) {
     for _ in rt.forever() {
-        let is_last = ended.load(Ordering::Acquire);
+        let is_last = signals.ended.load(Ordering::Acquire);
         match writer.step(rt, alloc) {
             Step::Idle if is_last => break,
-            Step::Published(_) | Step::Idle | Step::Held => yield_now(),
+            Step::Idle => signals.work.park_timeout(rt, Duration::from_millis(NAP)),
+            Step::Published(_) | Step::Held => yield_now(),
         }
     }
 }
@@ -129,11 +161,12 @@ fn write<N: EngineName, R: Wait>(
     rt: &R,
     alloc: Global,
     client: &mut Client<N>,
+    signals: &Signals,
     wishes: &[(&str, &str)],
 ) -> Result<(), Refusal> {
     for (what, how_much) in wishes {
         let command = Shared::new(alloc, wish(alloc, what, how_much)?)?;
-        write_one(rt, alloc, client, &command)?;
+        write_one(rt, alloc, client, signals, &command)?;
     }
     Ok(())
 }
@@ -150,15 +183,19 @@ fn write_one<N: EngineName, R: Wait>(
     rt: &R,
     alloc: Global,
     client: &mut Client<N>,
+    signals: &Signals,
     command: &Shared<Command>,
 ) -> Result<(), Refusal> {
     for _ in rt.forever() {
         match client.submit_shared(rt, alloc, command) {
-            Ok(ticket) => match reply_to(rt, client, &ticket)? {
-                Reply::Refused(Refusal::NoMemory, _) => yield_now(),
-                Reply::Refused(refusal, _) => return Err(refusal),
-                _ => break,
-            },
+            Ok(ticket) => {
+                signals.work.unpark();
+                match reply_to(rt, client, &ticket)? {
+                    Reply::Refused(Refusal::NoMemory, _) => yield_now(),
+                    Reply::Refused(refusal, _) => return Err(refusal),
+                    _ => break,
+                }
+            }
             Err(Refusal::QueueFull) => yield_now(),
             Err(refusal) => return Err(refusal),
         }
