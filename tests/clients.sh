@@ -1,11 +1,13 @@
 #!/usr/bin/env bash
 # clients.sh [PROGRAM]: runs the tests of the Python package and of the application in it with the proved program, or with another one.
-# Says how many tests there are, and fails if any does.
+# Then, without another one, those of the package that don't speak of a program, over the library for C. Says how many tests there are,
+# and fails if any does.
 set -euo pipefail
 top=$(cd "$(dirname "$0")/.." && pwd)
 program=$(realpath "${1:-$top/crates/jdoc/out/jdoc}")
 said=$(mktemp)
-trap 'rm -f "$said"' EXIT
+room=$(mktemp -d)
+trap 'rm -rf "$said" "$room"' EXIT
 passed=0
 failed=0
 
@@ -30,16 +32,28 @@ if [ -d /dev/shm ] && [ -w /dev/shm ]; then
     export TMPDIR=/dev/shm
 fi
 
-for folder in clients/python/tests examples/notes; do
+# tested NAME WORD..: runs tests by the words of unittest.
+tested() {
+    local name=$1
+    shift
     # A file that isn't closed is a fault too, and what Python compiles stays out of the tree.
-    if JDOC=$program PYTHONPATH=$top/clients/python PYTHONDONTWRITEBYTECODE=1 \
-        timeout 600 python3 -W error -m unittest discover -s "$top/$folder" > "$said" 2>&1 && grep -q '^OK$' "$said"; then
+    if JDOC=$program PYTHONPATH=$top/clients/python:$top/clients/python/tests PYTHONDONTWRITEBYTECODE=1 \
+        timeout 600 python3 -W error -m unittest "$@" > "$said" 2>&1 && grep -q '^OK$' "$said"; then
         passed=$((passed + $(sed -n 's/^Ran \([0-9]*\) tests\{0,1\} .*/\1/p' "$said")))
     else
         cat "$said"
         failed=$((failed + 1))
-        echo "clients: FAILED: $folder"
+        echo "clients: FAILED: $name"
     fi
+}
+
+for folder in clients/python/tests examples/notes; do
+    tested "$folder" discover -s "$top/$folder"
 done
-echo "clients: $passed tests passed, $failed folders failed"
+if [ $# = 0 ]; then
+    "$top/clients/python/build_library" "$room/libjdoc.so"
+    JDOC_LIBRARY=$room/libjdoc.so tested 'the package over the library' \
+        test_document test_exchange test_refusals test_scripts test_process.Files test_process.Threads test_library
+fi
+echo "clients: $passed tests passed, $failed runs failed"
 [ "$failed" = 0 ]

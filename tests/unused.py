@@ -1,7 +1,7 @@
 #!/usr/bin/env python3
-"""Tests that each public function of a library is reached by a program through code that isn't a test, or stands in tests/unused.txt
-with a reason: `CRATE NAME: REASON` or `CRATE Type::NAME: REASON`. What only a listed function reaches is reached too. Prints a line for
-each function that is neither, and for each line of the list that says nothing, and fails if there is any.
+"""Tests that each public function of a library is reached by a program, or by the library for C, through code that isn't a test, or
+stands in tests/unused.txt with a reason: `CRATE NAME: REASON` or `CRATE Type::NAME: REASON`. What only a listed function reaches is
+reached too. Prints a line for each function that is neither, and for each line of the list that says nothing, and fails if there is any.
 
 What reaches what is read off the text, by names: `.name(` is a method of that name, of the type that something of the name in front of
 it is declared with in the same crate, else of any type; `Type::name` is one of that type; `name(` or `path::name` is a function that
@@ -15,7 +15,7 @@ from pathlib import Path
 
 TOP = Path(__file__).resolve().parent.parent
 LIST = TOP / "tests/unused.txt"
-PROGRAMS = {"jdoc", "meeting", "shopping", "diary", "bench", "workloads", "measures"}
+PROGRAMS = {"jdoc", "jdoc_c", "meeting", "shopping", "diary", "bench", "workloads", "measures"}
 IMPL = re.compile(r"(?:pub )?(impl|trait)\b(?:<.*?>(?= ))? ?(?:.* for )?&?(?:'\w+ )?(\w+)")
 FUNCTION = re.compile(r"( *)(pub(?:\([^)]*\))? )?(?:const )?fn (\w+)")
 # A name that is called, or handed on as an argument, and what it is called of.
@@ -40,7 +40,7 @@ def crates_below():
     """For each crate of crates.txt itself and those that it uses, directly or not."""
     below = {}
     for line in (TOP / "crates.txt").read_text(encoding="utf-8").splitlines():
-        name, _, uses = line.partition(":")
+        name, _, uses = line.replace(" staticlib", "").partition(":")
         below[name] = {name}.union(*(below.get(it, set()) for it in uses.split()))
     return below
 

@@ -9,6 +9,7 @@ from typing import Any, List, Mapping, NamedTuple, Optional, Sequence, Tuple, Un
 
 from .child import Child
 from .errors import Died, Lost, Refused, Unsaved
+from .library import Library
 
 
 class ItemId(NamedTuple):
@@ -67,18 +68,20 @@ MOST_ELEMENTS = 1_048_576 * (MOST_DEPTH + 1)
 # How many bytes a request has at most, with its line feed, and the greatest number of a device.
 MOST_BYTES = 33_554_432
 MOST_NUMBER = 4_294_967_295
+# Where `build_library` leaves the library.
+BUILT = os.path.join(os.path.dirname(os.path.abspath(__file__)), "libjdoc.so")
 
 
 class Document:
-    """A replica of a document, in a program of its own. All calls may come from several threads: each request has its reply before the
-    next one goes out. What the engine refuses is raised as `Refused`. Any call may raise `Died`, and one that writes or receives `Unsaved`
-    and `Lost`.
+    """A replica of a document, in a program of its own, or by the library in this process. All calls may come from several threads: each
+    request has its reply before the next one goes out. What the engine refuses is raised as `Refused`. Any call may raise `Died`, and one
+    that writes or receives `Unsaved` and `Lost`; by the library an `answer` does so too, while something isn't saved.
 
     A position is counted when the call is handled. To hit the item that was seen, use its id, from `items` or from `insert`.
     """
 
-    def __init__(self, child: Child) -> None:
-        """Of a program that was started; `open` starts one."""
+    def __init__(self, child: Union[Child, Library]) -> None:
+        """Of a program that was started, or of the library; `open` does that."""
         self._child = child
         self._lock = threading.RLock()
         self._is_closed = False
@@ -86,24 +89,31 @@ class Document:
 
     @classmethod
     def open(
-        cls, path: Union[None, str, os.PathLike[str]] = None, *, number: Optional[int] = None, program: Optional[Words] = None
+        cls, path: Union[None, str, os.PathLike[str]] = None, *, number: Optional[int] = None, program: Optional[Words] = None,
+        library: Union[None, str, os.PathLike[str]] = None
     ) -> Document:
         """Opens the document that is kept in the file `path`, which is made where it isn't there, or one in memory.
 
         `number` is this device's, from 1 to 4294967295, which no other device of the document has. A file in which it has written
-        knows it; else one is drawn where none is given. `program` is the program's path, or its words; else the environment's `JDOC`
-        is its path, else `jdoc` on the PATH.
+        knows it; else one is drawn where none is given.
+
+        `program` is the path of the program that keeps the document, or its words; `library` is the shared object that keeps it in this
+        process. Where neither is given, the environment's `JDOC_LIBRARY` is the library's path, else its `JDOC` the program's; else it
+        is the library that `build_library` made, else `jdoc` on the PATH.
         """
-        program = program or os.environ.get("JDOC") or "jdoc"
-        words = [os.fspath(program)] if isinstance(program, (str, os.PathLike)) else [*program]
-        words.append("serve")
-        if path is not None:
-            words.append(os.path.abspath(path))
         if number is None and not (path is not None and _knows_number(path)):
             number = 1 + secrets.randbelow(MOST_NUMBER)
         if number is not None:
             if not 1 <= number <= MOST_NUMBER:
                 raise ValueError(f"a device's number is from 1 to {MOST_NUMBER}: {number}")
+        if library := library or (None if program else _library()):
+            return cls(Library(os.fspath(library), None if path is None else os.path.abspath(path), number))
+        program = program or os.environ.get("JDOC") or "jdoc"
+        words = [os.fspath(program)] if isinstance(program, (str, os.PathLike)) else [*program]
+        words.append("serve")
+        if path is not None:
+            words.append(os.path.abspath(path))
+        if number is not None:
             words += ["--number", str(number)]
         return cls(Child(words))
 
@@ -314,6 +324,13 @@ def _check(value: Value) -> None:
             _check(part)
     elif value is not None and not isinstance(value, int):
         raise TypeError(f"not a value of a document: {value!r}")
+
+
+def _library() -> Optional[str]:
+    """The path of the library, where the environment names one, or no program, and one was built."""
+    if library := os.environ.get("JDOC_LIBRARY"):
+        return library
+    return BUILT if not os.environ.get("JDOC") and os.path.exists(BUILT) else None
 
 
 def _knows_number(path: Union[str, os.PathLike[str]]) -> bool:

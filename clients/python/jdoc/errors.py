@@ -70,5 +70,5 @@ class Lost(JdocError):
 
 
 class Died(JdocError):
-    """The program couldn't be started, or it ended; the message has what it said on standard error. Nobody knows whether a request that
-    was under way was done. What was called saved before is saved."""
+    """The program, or the document in the library, couldn't be started, or it ended; the message says why, with what the program said on
+    standard error. Nobody knows whether a request that was under way was done. What was called saved before is saved."""

@@ -7,13 +7,13 @@ use Rattle.semantics.specs.Making.{Command}
 use Rattle.semantics.specs.Questions.{Step}
 use Rattle.semantics.specs.LegalAnswer.{Asked}
 use Rattle.serde_json.specs.Data.{Data, Items, no_items, item}
-use Rattle.document.specs.Documents.{asked_of}
-use Rattle.document.specs.operation.Ops.{command_of}
+use Rattle.requests.specs.document.Documents.{asked_of}
+use Rattle.requests.specs.operation.Ops.{command_of}
 use Rattle.requests.specs.declared.edition.Edition.TheVariants.{Second}
 use Rattle.requests.specs.Commands.{command_form}
 use Rattle.requests.specs.Expressions.{expression_form}
 use Rattle.requests.specs.Questions.{question_form}
-use Rattle.wire.specs.Forms.{and_then, json_form, number_form, phrase_form, text_form}
+use Rattle.requests.specs.wire.Forms.{and_then, json_form, number_form, phrase_form, text_form}
 use Rattle.calls.specs.declared.call.Call.{Call as TypedCall}
 use Rattle.calls.specs.declared.call.Call.TheVariants as typed
 

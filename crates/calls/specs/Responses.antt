@@ -3,11 +3,11 @@ use Rattle.std.specs.Prelude.{⊤, [], ◌∷◌, Option, Some, None, codes, str
 use Rattle.semantics.specs.LegalAnswer.{Made, RefusedAt}
 use Rattle.serde_json.specs.Data.{Data, array, boolean, null, string}
 use Rattle.serde_json.specs.View.{items_of}
-use Rattle.document.specs.Documents.{said_by}
+use Rattle.requests.specs.document.Documents.{said_by}
 use Rattle.requests.specs.Readings.{reading_json, refusal_name, reply_json}
-use Rattle.wire.specs.Messages.{hello_json}
-use Rattle.wire.specs.Operations.{phrase}
-use Rattle.wire.specs.Vectors.{count}
+use Rattle.requests.specs.wire.Messages.{hello_json}
+use Rattle.requests.specs.wire.Operations.{phrase}
+use Rattle.requests.specs.wire.Vectors.{count}
 use Rattle.calls.specs.declared.response.RefusedLines.{RefusedLines}
 use Rattle.calls.specs.declared.response.StoppedLine.{StoppedLine}
 use Rattle.calls.specs.declared.response.Response.{Response}

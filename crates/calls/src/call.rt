@@ -1,6 +1,6 @@
 //! What a line calls for.
 
-use document::{Command, Expr, Question};
+use requests::{Command, Expr, Question};
 
 /// What a line calls for.
 #[derive(Debug, Drop)]

@@ -3,16 +3,17 @@
 
 ghost use Rattle.std.specs.Prelude.{ℕ, List, string_bytes};
 ghost use Rattle.serde_json.specs.View.{view, items_view};
-ghost use Rattle.wire.specs.Forms.{IsRead};
+ghost use Rattle.requests.specs.wire.Forms.{IsRead};
 ghost use Rattle.calls.specs.Calls.{Call as TheCall, ask_form, call_form, call_of, call_of_json, glance_of, nothing_of};
 ghost use Rattle.calls.specs.Calls.{other_call_of, text_of, write_form};
 
 use crate::call::Call;
 use ids::Refusal;
-use requests::{Edition, command_in, expression_in, question_in};
+use requests::{
+    Edition, command_in, expression_in, json_of, number_in, phrase_in, question_in, text_in,
+};
 use serde_json::Value;
 use std::alloc::Global;
-use wire::{json_of, number_in, phrase_in, text_in};
 
 /// What a line calls for, without its line feed. White space of JSON and escapes may stand in it.
 ///

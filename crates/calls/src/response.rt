@@ -1,7 +1,7 @@
 //! What a call is answered.
 
-use document::{Glance, Reading};
 use ids::{NamedVector, OpId, Refusal};
+use requests::{Glance, Reading};
 
 /// What a call is answered, or the program says of itself. A length is how many operations the history has.
 #[derive(Debug, Drop)]

@@ -3,24 +3,23 @@
 ghost use Rattle.std.specs.Prelude.{◌≡◌, ◌∷◌, [], IfOk, IsUtf8, OnOk, codes};
 ghost use Rattle.serde_json.specs.Data.{Data, boolean, string};
 ghost use Rattle.serde_json.specs.Written.{compact_text};
-ghost use Rattle.wire.specs.Lines.{IsFirstLine};
-ghost use Rattle.wire.specs.Messages.{hello_json};
-ghost use Rattle.wire.specs.Operations.{phrase};
-ghost use Rattle.wire.specs.Vectors.{count};
-ghost use Rattle.wire.specs.Writing.{IsWritten, tokens_of};
+ghost use Rattle.requests.specs.wire.Lines.{IsFirstLine};
+ghost use Rattle.requests.specs.wire.Messages.{hello_json};
+ghost use Rattle.requests.specs.wire.Operations.{phrase};
+ghost use Rattle.requests.specs.wire.Vectors.{count};
+ghost use Rattle.requests.specs.wire.Writing.{IsWritten, tokens_of};
 ghost use Rattle.requests.specs.Readings.{refusal_name};
 ghost use Rattle.calls.specs.Responses.{IsNoGlance, refused_json, response_json, stopped_json};
 
 use crate::response::{RefusedLines, Response, StoppedLine};
-use document::Glance;
 use ids::{NamedVector, Refusal};
 use json::Writer;
 use requests::{
-    glance_json, put_made, put_one, put_reading, put_refusal, put_refused, put_two, put_word,
+    Glance, LINE_END, glance_json, put_made, put_one, put_reading, put_refusal, put_refused,
+    put_two, put_vector, put_word,
 };
 use serde_json::json;
 use std::alloc::{AllocError, Global};
-use wire::{LINE_END, put_vector};
 
 /// The line of a response, with its line feed: JSON without spaces, and no other line feed. In time and memory in proportion to it.
 ///

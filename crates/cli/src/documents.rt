@@ -2,13 +2,12 @@
 
 use crate::fault::Fault;
 use ids::ReplicaId;
-use serving::{Memory, NotServed, Stop, serve as serve_desk, start};
+use serving::{FileStore, Memory, NotServed, Stop, Store, serve as serve_desk, start};
 use std::alloc::Global;
 use std::fs::{File, Files};
 use std::io::{BufRead, ErrorKind, Write};
 use std::random::RandomSource;
 use std::sync::Wait;
-use store::{FileStore, Store};
 
 /// Serves the document in the file of this name, or one in memory where none is given: a request a line, a reply a line, until the input
 /// ends. The replica's number is the one that is given, else that of the file, else one that is drawn. A line of `faults` says why it

@@ -6,7 +6,7 @@ use Rattle.semantics.specs.WorldHistory.{BeginsWith}
 use Rattle.semantics.proofs.Beginnings.{begins_first, first_of_longer, no_shorter}
 use Rattle.semantics.proofs.EntryBeginnings.{history_begun}
 use Rattle.semantics.proofs.JoinedReplicas.{had_room_before}
-use Rattle.engine.specs.published.Beginnings.{IsHistoryOfEngine}
+use Rattle.peer_sync.specs.engine.published.Beginnings.{IsHistoryOfEngine}
 
 pub same_stored : (n : ℕ) (G F : List Entry) → BeginsWith G F → n ≤ length F → first_entries n G ≡ first_entries n F
 same_stored n G F b l = ap (first_entries n) b.1 ∙ first_of_longer n b.0 F l

@@ -1,8 +1,8 @@
 -- The lines that were taken, and the next one.
 use Rattle.std.proofs.Common.{◌≡◌, ℕ, ◌+◌, List, [], ◌∷◌, ◌++◌, length, take, sym, ap, ◌∙◌, append_assoc, arith}
 use Rattle.std.proofs.lemmas.List.{length-append, take_at}
-use Rattle.wire.specs.Lines.{Cut, IsFirstLine, cut}
-use Rattle.wire.proofs.CutLines.{cut-first_line}
+use Rattle.records.specs.wire.Lines.{Cut, IsFirstLine, cut}
+use Rattle.records.proofs.wire.CutLines.{cut-first_line}
 use Rattle.peer_sync.proofs.TakenLines.{HasTaken}
 
 -- the first lines with the next one

@@ -13,5 +13,6 @@ pub use outgoing::{Answered, Outgoing};
 pub use replaying::Replay;
 pub use writing::{Written, write_from};
 
-// Handed on from the crate below, for users of this one.
+// Handed on from the crates below, for users of this one.
+pub use peer_sync::{BundleReader, Received, receive_on};
 pub use records::{Recorded, Replayed, Unfit, read_record, records_are_read_back};

@@ -7,21 +7,20 @@ ghost use Rattle.semantics.specs.Journals.{entries_from};
 ghost use Rattle.semantics.specs.NamedIds.{vector_of};
 ghost use Rattle.semantics.specs.Vectors.{Vector};
 ghost use Rattle.semantics.specs.WorldHistory.{BeginsWith};
-ghost use Rattle.engine.specs.published.Tokens.{GivesNoReading};
-ghost use Rattle.wire.specs.Bundles.{bundle_form, bundle_text};
-ghost use Rattle.wire.specs.Messages.{hello_form};
+ghost use Rattle.peer_sync.specs.engine.published.Tokens.{GivesNoReading};
+ghost use Rattle.records.specs.wire.Bundles.{bundle_form, bundle_text};
+ghost use Rattle.records.specs.wire.Messages.{hello_form};
 ghost use Rattle.peer_sync.specs.Sending.{hello_text, without_end};
 ghost use Rattle.records.specs.Lines.{journal_text};
 ghost use Rattle.records.specs.Lost.{is_beyond};
 ghost use Rattle.journal.specs.Outgoing.{stored_of};
 
 use crate::writing::{Written, write_from};
-use engine::{EngineName, ReaderToken, Refusal};
-use ids::ReplicaId;
-use peer_sync::{hello, read_hello};
+use ids::{Refusal, ReplicaId};
+use peer_sync::{EngineName, ReaderToken, hello, read_hello};
+use records::write_bundle;
 use std::alloc::Global;
 use std::marker::Model;
-use wire::write_bundle;
 
 /// A token that answers peers with stored entries alone: those before a position that the application called stored. So no operation goes
 /// out that a restart wouldn't bring back. Contracts see the number of the engine, what was seen and read, and how many entries are stored.

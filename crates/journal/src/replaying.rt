@@ -3,15 +3,15 @@
 ghost use Rattle.std.specs.Prelude.{◌≡◌, [], ◌∷◌, List, None, OnOk, length, take};
 ghost use Rattle.semantics.specs.Entries.{Entry as TheEntry};
 ghost use Rattle.semantics.specs.WorldHistory.{BeginsWith};
-ghost use Rattle.wire.specs.Lines.{cut};
+ghost use Rattle.records.specs.wire.Lines.{cut};
 ghost use Rattle.peer_sync.specs.Receiving.{bytes_of};
 ghost use Rattle.records.specs.Replays.{BringsBackLines};
 
-use engine::{Client, EngineName, OpId, Refusal, Reply, Step, Ticket, Writer};
-use records::{Recorded, Replayed, Unfit, check_recorded, read_record};
+use ids::{OpId, Refusal};
+use peer_sync::{Client, EngineName, Reply, Step, Ticket, Writer};
+use records::{Lines, Recorded, Replayed, Unfit, check_recorded, read_record};
 use std::alloc::Global;
 use std::sync::Wait;
-use wire::Lines;
 
 /// Brings a new engine back from its journal, in one piece or in several. Between them nobody else may write to the engine.
 #[derive(Debug, Drop)]

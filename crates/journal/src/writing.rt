@@ -4,10 +4,11 @@ ghost use Rattle.std.specs.Prelude.{◌≡◌, IfErr, IfOk, length};
 ghost use Rattle.semantics.specs.Entries.{IsEntryHistory};
 ghost use Rattle.semantics.specs.Journals.{entries_from};
 ghost use Rattle.semantics.specs.WorldHistory.{BeginsWith};
-ghost use Rattle.engine.specs.published.Tokens.{GivesNoReading};
+ghost use Rattle.peer_sync.specs.engine.published.Tokens.{GivesNoReading};
 ghost use Rattle.records.specs.Lines.{journal_text};
 
-use engine::{EngineName, ReaderToken, Refusal};
+use ids::Refusal;
+use peer_sync::{EngineName, ReaderToken};
 use records::lines_of;
 use std::alloc::Global;
 

@@ -13,7 +13,7 @@ use Rattle.engine.specs.operation.declared.op.Op.{Op}
 use Rattle.engine.specs.operation.declared.submission.Submission.{Submission}
 use Rattle.engine.specs.operation.declared.submission.Request.TheVariants as request
 use Rattle.engine.specs.operation.Ops.{command_of}
-use Rattle.peer_sync.specs.Receiving.{all_submitted, submitted}
+use Rattle.journal.specs.peer_sync.Receiving.{all_submitted, submitted}
 use Rattle.notebook.specs.Notebooks.{IsCommandUnder}
 
 -- the last of new clients has seen nothing

@@ -1,7 +1,7 @@
 -- Lines that are all of a text's, by how many bytes they have.
 use Rattle.std.proofs.Common.{◌≡◌, ◌≤◌, ◌==◌, ◌+◌, ℕ, zero, suc, Bool, true, false, List, [], ◌∷◌, length, take, refl, ap, arith}
-use Rattle.wire.specs.Lines.{cut, lengthened}
-use Rattle.peer_sync.specs.Receiving.{bytes_of}
+use Rattle.journal.specs.wire.Lines.{cut, lengthened}
+use Rattle.journal.specs.peer_sync.Receiving.{bytes_of}
 
 lengthened_bytes : (b : ℕ) (lines : List (List ℕ)) (tail : List ℕ)
     → bytes_of (lengthened b lines tail).lines + length (lengthened b lines tail).tail ≡ bytes_of lines + length tail + 1

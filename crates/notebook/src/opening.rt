@@ -4,7 +4,7 @@ ghost use Rattle.std.specs.Prelude.{◌≡◌, ◌∷◌, [], ℕ, false, length
 ghost use Rattle.ids.specs.declared.refusal.Refusal.TheVariants.{NoMemory};
 ghost use Rattle.ids.specs.Members.{in_order};
 ghost use Rattle.semantics.specs.Entries.{IsEntryHistory};
-ghost use Rattle.wire.specs.Lines.{cut};
+ghost use Rattle.journal.specs.wire.Lines.{cut};
 ghost use Rattle.journal.specs.records.Replays.{BringsBackLines};
 ghost use Rattle.store.specs.Shelves.{first_known};
 ghost use Rattle.store.specs.WholeLines.{AreWhole};

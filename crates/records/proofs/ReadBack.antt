@@ -7,12 +7,12 @@ use Rattle.requests.specs.Commands.{command_form}
 use Rattle.requests.specs.Written.{command_json}
 use Rattle.requests.proofs.CommandTexts.{command_whole, depth-command_json}
 use Rattle.requests.proofs.ReadBack.{command_back}
-use Rattle.wire.specs.Forms.{and_then}
-use Rattle.wire.proofs.JsonTexts.{json_form-read}
-use Rattle.wire.proofs.ReadBack.{id_back, operation_back}
-use Rattle.wire.proofs.ShallowForms.{depth-operation_json}
-use Rattle.wire.proofs.WholeOperations.{counter, operation, replica}
-use Rattle.wire.proofs.WholeTexts.{HasWhole, read-compact_text}
+use Rattle.requests.specs.wire.Forms.{and_then}
+use Rattle.requests.proofs.wire.JsonTexts.{json_form-read}
+use Rattle.requests.proofs.wire.ReadBack.{id_back, operation_back}
+use Rattle.requests.proofs.wire.ShallowForms.{depth-operation_json}
+use Rattle.requests.proofs.wire.WholeOperations.{counter, operation, replica}
+use Rattle.requests.proofs.wire.WholeTexts.{HasWhole, read-compact_text}
 use Rattle.records.specs.Lines.{IsSentRecord, record_form, record_json, record_line, record_of}
 
 whole : (x : Recorded) → IsSentRecord x → HasWhole (record_json x)

@@ -2,3 +2,5 @@
 pub mod Lines
 pub mod Replays
 pub mod Lost
+-- Handed on from the crate below, for users of this one.
+pub use Rattle.requests.specs.wire

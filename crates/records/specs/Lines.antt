@@ -10,12 +10,12 @@ use Rattle.serde_json.specs.Written.{compact_text}
 use Rattle.requests.specs.declared.edition.Edition.TheVariants.{Second}
 use Rattle.requests.specs.Commands.{command_form}
 use Rattle.requests.specs.Written.{IsSentCommand, command_json}
-use Rattle.wire.specs.Bundles.{lines_text}
-use Rattle.wire.specs.Forms.{and_then, json_form, phrase_form}
-use Rattle.wire.specs.OpIds.{id_form}
-use Rattle.wire.specs.Operations.{id_json, operation_json, phrase}
-use Rattle.wire.specs.Reading.{operation_form}
-use Rattle.wire.specs.Sent.{IsSent, IsSentId}
+use Rattle.requests.specs.wire.Bundles.{lines_text}
+use Rattle.requests.specs.wire.Forms.{and_then, json_form, phrase_form}
+use Rattle.requests.specs.wire.OpIds.{id_form}
+use Rattle.requests.specs.wire.Operations.{id_json, operation_json, phrase}
+use Rattle.requests.specs.wire.Reading.{operation_form}
+use Rattle.requests.specs.wire.Sent.{IsSent, IsSentId}
 
 -- ---- writing, in JSON without spaces
 

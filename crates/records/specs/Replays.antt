@@ -3,7 +3,7 @@ use Rattle.std.specs.Prelude.{◌≡◌, ℕ, List, length, map, Ok}
 use Rattle.semantics.specs.Entries.{Entry}
 use Rattle.semantics.specs.Journals.{Recorded as TheRecorded, Commanded as TheCommanded, Received as TheReceived, entries_from, recorded}
 use Rattle.semantics.specs.WorldHistory.{BeginsWith}
-use Rattle.document.specs.operation.Ops.{command_of, stamped_of}
+use Rattle.requests.specs.operation.Ops.{command_of, stamped_of}
 use Rattle.records.specs.declared.record.Recorded.{Recorded}
 use Rattle.records.specs.declared.record.Recorded.TheVariants.{Commanded, Received}
 use Rattle.records.specs.Lines.{record_form}

@@ -11,3 +11,6 @@ mod writing;
 pub use record::{Recorded, read_record, records_are_read_back};
 pub use replaying::{Replayed, Unfit, check_recorded};
 pub use writing::lines_of;
+
+// Handed on from the crate below, for users of this one.
+pub use requests::{BundleReader, BundleWriter, LINE_END, Lines, read_vector, write_bundle};

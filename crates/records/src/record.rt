@@ -4,17 +4,17 @@
 ghost use Rattle.std.specs.Prelude.{◌≡◌, IsUtf8, Ok};
 ghost use Rattle.serde_json.specs.View.{view, items_view};
 ghost use Rattle.semantics.specs.Journals.{Received, Recorded as TheRecorded};
-ghost use Rattle.wire.specs.Forms.{IsRead, and_then};
-ghost use Rattle.wire.specs.Reading.{operation_form};
+ghost use Rattle.requests.specs.wire.Forms.{IsRead, and_then};
+ghost use Rattle.requests.specs.wire.Reading.{operation_form};
 ghost use Rattle.records.specs.Lines.{IsSentRecord, commanded_of, record_form, record_line, record_of};
 ghost use Rattle.records.specs.Replays.{record_meant};
 
-use document::{Command, Op, Shared};
 use ids::{OpId, Refusal};
-use requests::{Edition, command_in};
+use requests::{
+    Command, Edition, Op, Shared, command_in, id_in, json_of, operation_in, phrase_in, read_op,
+};
 use serde_json::Value;
 use std::alloc::Global;
-use wire::{id_in, json_of, operation_in, phrase_in, read_op};
 
 /// What a line of a journal says of an entry.
 #[derive(Debug, Drop)]

@@ -2,14 +2,14 @@
 
 ghost use Rattle.std.specs.Prelude.{◌≡◌, ◌⊎◌, ◌+◌, ◌<◌, ◌^◌, [], ◌∷◌, IfErr, OnOk, map, IsTrue};
 ghost use Rattle.semantics.specs.Journals.{recorded};
-ghost use Rattle.document.specs.operation.Ops.{command_of, entry_of, stamped_of};
-ghost use Rattle.document.specs.operation.SameOps.{is_same_command, is_same_operation};
+ghost use Rattle.requests.specs.operation.Ops.{command_of, entry_of, stamped_of};
+ghost use Rattle.requests.specs.operation.SameOps.{is_same_command, is_same_operation};
 ghost use Rattle.records.specs.declared.replaying.Unfit.TheVariants.{NotAlone, NotApplied};
 ghost use Rattle.records.specs.Replays.{record_meant};
 
 use crate::record::Recorded;
-use document::{Command, Entry, Op, Shared};
 use ids::{OpId, Refusal};
+use requests::{Command, Entry, Op, Shared};
 use std::alloc::AllocError;
 
 /// Why a line of a journal wasn't taken.

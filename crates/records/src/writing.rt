@@ -2,16 +2,14 @@
 
 ghost use Rattle.std.specs.Prelude.{◌≡◌, ◌++◌, IfOk, OnOk, map};
 ghost use Rattle.semantics.specs.Journals.{Commanded, recorded};
-ghost use Rattle.document.specs.operation.Ops.{command_of, entry_of};
-ghost use Rattle.wire.specs.Writing.{IsWritten, tokens_of};
+ghost use Rattle.requests.specs.operation.Ops.{command_of, entry_of};
+ghost use Rattle.requests.specs.wire.Writing.{IsWritten, tokens_of};
 ghost use Rattle.records.specs.Lines.{journal_text, record_json, record_line};
 
-use document::{Command, Entry};
 use ids::OpId;
 use json::Writer;
-use requests::put_command;
+use requests::{Command, Entry, LINE_END, put_command, put_id, put_op};
 use std::alloc::{AllocError, Global};
-use wire::{LINE_END, put_id, put_op};
 
 /// A line of each entry, with its line feed: an own one as `["own",ID,COMMAND]`, one that a peer sent as its line in the first profile.
 /// Takes time and memory in proportion to how many they are.

@@ -18,3 +18,10 @@ pub use glances::glance_json;
 pub use phrases::{put_one, put_two, put_word};
 pub use questions::{question_in, questions_are_written_alike};
 pub use readings::put_reading;
+
+// Handed on from the crates below, for users of this one.
+pub use document::{Command, Entry, Expr, Glance, Op, Question, Reading, Shared};
+pub use wire::{
+    BundleReader, BundleWriter, LINE_END, Lines, id_in, json_of, number_in, operation_in,
+    phrase_in, put_id, put_op, put_vector, read_op, read_vector, text_in, write_bundle,
+};

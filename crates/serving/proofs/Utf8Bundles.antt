@@ -8,10 +8,10 @@ use Rattle.std.proofs.lemmas.Str.{IsUtf8-append, IsUtf8-nil, IsUtf8-from_ascii, 
 use Rattle.ids.specs.declared.refusal.Refusal.{Refusal}
 use Rattle.semantics.specs.Stamped.{Stamped}
 use Rattle.semantics.specs.Vectors.{Vector}
-use Rattle.wire.specs.Bundles.{Readable, all_or_bad, bundle_form, line_readable, lines_readable, tail_readable}
-use Rattle.wire.specs.Lines.{Bad, Cut, cut, lengthened}
-use Rattle.wire.specs.Forms.{and_then, json_form}
-use Rattle.wire.specs.Profiles.{line_form, operation_beside}
+use Rattle.session.specs.wire.Bundles.{Readable, all_or_bad, bundle_form, line_readable, lines_readable, tail_readable}
+use Rattle.session.specs.wire.Lines.{Bad, Cut, cut, lengthened}
+use Rattle.session.specs.wire.Forms.{and_then, json_form}
+use Rattle.session.specs.wire.Profiles.{line_form, operation_beside}
 use Rattle.serde_json.specs.Data.{Data}
 use Rattle.ids.specs.declared.refusal.Refusal.TheVariants.{BadLine}
 

@@ -18,9 +18,9 @@ use Rattle.semantics.specs.Questions.{Answer as TheAnswer, Refused as TheRefused
 use Rattle.semantics.specs.Replica.{Replica, commit_own}
 use Rattle.semantics.specs.Stamped.{Stamped}
 use Rattle.semantics.specs.Vectors.{Vector}
-use Rattle.wire.specs.Bundles.{readable}
-use Rattle.wire.specs.Messages.{hello_form}
-use Rattle.records.specs.Lines.{journal_text}
+use Rattle.session.specs.wire.Bundles.{readable}
+use Rattle.session.specs.wire.Messages.{hello_form}
+use Rattle.session.specs.records.Lines.{journal_text}
 use Rattle.session.specs.Answers.{IsAnswer}
 use Rattle.session.specs.Receipts.{EndsBehind, StopsBehind, delivered, is_short, refusals, refused_lines, summary}
 use Rattle.session.specs.declared.session.answering.Answered.{Answered}
@@ -132,10 +132,11 @@ Answers m (call.Receive bundle) r n = TakesIn m bundle r n
 Answers m call.Save r n = SaysSaved (said.Saved (length_of m)) m r n
 Answers m call.Status r n = (r ≡ said.Status m.replica.own (length_of m) m.stored) × (n ≡ m)
 
+-- what is answered to a line that calls for this, or for nothing
+abbrev pub AnswersCall : Desk → Result call.Call Refusal → Response → Desk → Type 0
+AnswersCall m (Ok c) r n = Answers m c r n
+AnswersCall m (Err why) r n = (r ≡ said.Denied why) × (n ≡ m)
+
 -- what is answered to a line
 abbrev pub AnswersLine : Desk → (line : List ℕ) → Response → Desk → Type 0
-AnswersLine m line r n = by_call (call.call_form line)
-  where
-    by_call : Result call.Call Refusal → Type 0
-    by_call (Ok c) = Answers m c r n
-    by_call (Err why) = (r ≡ said.Denied why) × (n ≡ m)
+AnswersLine m line r n = AnswersCall m (call.call_form line) r n

@@ -19,6 +19,7 @@ use store::{Shelf, Store};
 
 /// A document and the shelf that keeps it. What a response calls made, received or saved would survive a loss of power. Contracts see the
 /// replica of the definitions, how many of its entries are on the shelf, and what is known of the store.
+#[derive(Drop)]
 pub struct Desk<S: Store> {
     session: Session,
     shelf: Shelf<S>,
@@ -54,6 +55,13 @@ impl<S: Store> Desk<S> {
             number: self.session.own().number(),
             length: self.session.len() as u64,
         }
+    }
+
+    /// The session, of which more is read than calls ask for.
+    pub fn session(&self) -> &Session
+        ensures { result.now ≡ self.now.replica }
+    {
+        &self.session
     }
 
     /// The response to the call on a line, which is given without its line feed. A write and a receipt are saved before it: one append and

@@ -14,3 +14,6 @@ pub use lines::{Found, MOST_LINE, next_line};
 pub use memory::Memory;
 pub use starting::{NotServed, start};
 pub use talk::{Stop, serve};
+
+// Handed on from the crate below, for users of this one.
+pub use store::{FileStore, Store};

@@ -10,7 +10,7 @@ use Rattle.semantics.proofs.Beginnings.{begins_first, no_shorter}
 use Rattle.semantics.proofs.EntryBeginnings.{history_begun}
 use Rattle.replica.specs.operation.declared.op.Op.{Op}
 use Rattle.replica.specs.operation.Ops.{stamped_of}
-use Rattle.wire.specs.Sent.{CanBeSent}
+use Rattle.records.specs.wire.Sent.{CanBeSent}
 use Rattle.session.proofs.SentHistories.{lacked_sent}
 
 unmapped : {X Y : Type 0} (P : X → Type 0) (f : Y → X) (ys : List Y) → All P (map f ys) → All (λ y. P (f y)) ys

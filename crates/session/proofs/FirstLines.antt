@@ -8,10 +8,10 @@ use Rattle.std.proofs.lemmas.List.Elements.{All-nil, All-cons, All-head, All-tai
 use Rattle.std.proofs.lemmas.Option.{slice_get_within}
 use Rattle.semantics.specs.Stamped.{Stamped}
 use Rattle.semantics.specs.Vectors.{Vector}
-use Rattle.wire.specs.Bundles.{base_after, bundle_form, bundle_text}
-use Rattle.wire.specs.Profiles.{line_form, op2_line}
-use Rattle.wire.specs.Sent.{CanBeSent}
-use Rattle.wire.proofs.BundleBack.{AreBackIfSent, sent_bundle_back}
+use Rattle.records.specs.wire.Bundles.{base_after, bundle_form, bundle_text}
+use Rattle.records.specs.wire.Profiles.{line_form, op2_line}
+use Rattle.records.specs.wire.Sent.{CanBeSent}
+use Rattle.records.proofs.wire.BundleBack.{AreBackIfSent, sent_bundle_back}
 use Rattle.session.specs.Answers.{IsCutAt}
 
 taken : (ss : List Stamped) (i : ℕ) (s : Stamped) → slice_get ss i ≡ Some s → take (suc i) ss ≡ take i ss ++ s ∷ []

@@ -12,10 +12,10 @@ use Rattle.semantics.specs.Replica.{Replica}
 use Rattle.semantics.specs.Delivery.{answer_to, deliver}
 use Rattle.semantics.specs.Drain.{counted, drain, drain_for}
 use Rattle.semantics.specs.Handling.{DrainsTo}
-use Rattle.wire.specs.Bundles.{Readable, readable}
-use Rattle.wire.specs.Lines.{HasNoEnd, IsFirstLine}
-use Rattle.wire.specs.Profiles.{line_form}
-use Rattle.wire.proofs.BundleLines.{after, after-bad, after-cut, after-none, after-op}
+use Rattle.records.specs.wire.Bundles.{Readable, readable}
+use Rattle.records.specs.wire.Lines.{HasNoEnd, IsFirstLine}
+use Rattle.records.specs.wire.Profiles.{line_form}
+use Rattle.records.proofs.wire.BundleLines.{after, after-bad, after-cut, after-none, after-op}
 use Rattle.session.specs.declared.session.receiving.Refused.{Refused}
 use Rattle.session.specs.Receipts.{EndsBehind, StopsBehind, delivered, refusal_of, refusals, refused_lines, settled, summary}
 use Rattle.session.specs.Receipts.{with_refusal}

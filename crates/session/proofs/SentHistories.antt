@@ -23,7 +23,7 @@ use Rattle.semantics.proofs.Replies.{before}
 use Rattle.replica.specs.operation.declared.op.Op.{Op}
 use Rattle.replica.specs.operation.Ops.{stamped_of}
 use Rattle.replica.proofs.oplog.KnownMembers.{attained_all}
-use Rattle.wire.specs.Sent.{CanBeSent, are_counters, is_counter, key_counted}
+use Rattle.records.specs.wire.Sent.{CanBeSent, are_counters, is_counter, key_counted}
 
 counter_from : (c : ℕ) → 0 < c → c ≤ most_counter → is_counter c ≡ true
 counter_from c low high = and_from (nat_le 1 c) (nat_le c most_counter) (le-leb 1 c (omega (arith, low))) (le-leb c most_counter high)

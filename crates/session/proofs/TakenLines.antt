@@ -2,8 +2,8 @@
 use Rattle.std.proofs.Common.{◌≡◌, ℕ, ◌+◌, Bool, true, false, ◌==◌, List, [], ◌∷◌, ◌++◌, length, take, refl, sym, ap, ◌∙◌}
 use Rattle.std.proofs.Common.{append_assoc, arith, if◌then◌else◌}
 use Rattle.std.proofs.lemmas.List.{length-append, take_at}
-use Rattle.wire.specs.Lines.{Cut, IsFirstLine, cut, lengthened}
-use Rattle.wire.proofs.CutLines.{cut-first_line}
+use Rattle.records.specs.wire.Lines.{Cut, IsFirstLine, cut, lengthened}
+use Rattle.records.proofs.wire.CutLines.{cut-first_line}
 use Rattle.session.specs.Replays.{AreFirstLines}
 
 -- lines, and then others

@@ -4,7 +4,7 @@ use Rattle.semantics.specs.Stamped.{Stamped}
 use Rattle.semantics.specs.Entries.{first_entries, lacked_of}
 use Rattle.semantics.specs.Replica.{Replica}
 use Rattle.semantics.specs.Vectors.{Vector}
-use Rattle.wire.specs.Bundles.{bundle_form, bundle_text}
+use Rattle.records.specs.wire.Bundles.{bundle_form, bundle_text}
 use Rattle.records.specs.Lost.{is_beyond}
 use Rattle.session.specs.declared.session.answering.Answered.{Answered}
 

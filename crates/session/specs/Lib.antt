@@ -5,3 +5,5 @@ pub mod Answers
 pub mod Replays
 -- Handed on from the crates below, for users of this one.
 pub use Rattle.replica.specs as replica
+pub use Rattle.records.specs as records
+pub use Rattle.records.specs.wire

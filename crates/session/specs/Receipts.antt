@@ -6,7 +6,7 @@ use Rattle.semantics.specs.Stamped.{Stamped}
 use Rattle.semantics.specs.Replica.{Replica}
 use Rattle.semantics.specs.Delivery.{Delivered, NotKept, answer_to, deliver}
 use Rattle.semantics.specs.Drain.{counted, drain}
-use Rattle.wire.specs.Bundles.{Readable}
+use Rattle.records.specs.wire.Bundles.{Readable}
 use Rattle.session.specs.declared.session.receiving.Refused.{Refused}
 
 -- ---- the replica

@@ -6,7 +6,7 @@ use Rattle.semantics.specs.Journals.{Recorded, entries_from, recorded}
 use Rattle.semantics.specs.WorldHistory.{BeginsWith}
 use Rattle.records.specs.declared.replaying.Unfit.{Unfit}
 use Rattle.records.specs.declared.replaying.Unfit.TheVariants.{Refused, NotAlone}
-use Rattle.wire.specs.Lines.{cut}
+use Rattle.records.specs.wire.Lines.{cut}
 
 -- whether the entry of a line that wasn't taken may stand all the same
 abbrev pub may_stand : Unfit → Bool

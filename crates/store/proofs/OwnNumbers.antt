@@ -1,8 +1,8 @@
 -- The first own command of a journal, line by line.
 use Rattle.std.proofs.Common.{◌≡◌, ◌∙◌, ℕ, List, Option, None, Some, true, false, refl, sym, ap}
 use Rattle.std.specs.Option.{is_some, option_or}
-use Rattle.wire.specs.Lines.{Cut, HasNoEnd, IsFirstLine, cut}
-use Rattle.wire.proofs.CutLines.{cut-first_line, cut-no_end}
+use Rattle.records.specs.wire.Lines.{Cut, HasNoEnd, IsFirstLine, cut}
+use Rattle.records.proofs.wire.CutLines.{cut-first_line, cut-no_end}
 use Rattle.records.specs.Lines.{record_form}
 use Rattle.store.specs.WholeLines.{first_own, own_on}
 

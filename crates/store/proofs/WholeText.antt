@@ -7,8 +7,8 @@ use Rattle.std.proofs.lemmas.Bool.{eqb-true}
 use Rattle.std.proofs.lemmas.List.{drop_more, get_or-drop, length-drop, take-append-drop}
 use Rattle.std.proofs.lemmas.List.Elements.{All-from_get_or, All-nil}
 use Rattle.memchr.specs.Find.{Passes, Nowhere, NoneAfter, is_byte}
-use Rattle.wire.specs.Lines.{Cut, HasNoEnd, cut}
-use Rattle.wire.proofs.CutLines.{cut-no_end}
+use Rattle.records.specs.wire.Lines.{Cut, HasNoEnd, cut}
+use Rattle.records.proofs.wire.CutLines.{cut-no_end}
 use Rattle.store.specs.WholeLines.{AreWhole}
 
 -- the lines of a text that ends in a line feed: the same whatever without one is behind it

@@ -3,7 +3,7 @@ use Rattle.std.specs.Prelude.{◌≡◌, ◌≤◌, ℕ, List, [], ◌∷◌, le
 use Rattle.std.specs.Option.{option_or}
 use Rattle.semantics.specs.Journals.{Recorded, Commanded}
 use Rattle.ids.specs.declared.refusal.Refusal.{Refusal}
-use Rattle.wire.specs.Lines.{cut}
+use Rattle.records.specs.wire.Lines.{cut}
 use Rattle.records.specs.Lines.{record_form}
 
 -- the first n bytes are the lines of the text, and what is behind them is no line

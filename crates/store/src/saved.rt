@@ -2,7 +2,7 @@
 
 ghost use Rattle.std.specs.Prelude.{◌≡◌, IfOk, MatchResult};
 ghost use Rattle.std.specs.Coded.{codes};
-ghost use Rattle.wire.specs.Lines.{cut};
+ghost use Rattle.records.specs.wire.Lines.{cut};
 ghost use Rattle.records.specs.Lines.{record_form};
 ghost use Rattle.store.specs.Shelves.{AreKnown};
 ghost use Rattle.store.specs.WholeLines.{AreWhole, first_own, own_on};
@@ -11,9 +11,8 @@ use crate::fault::{Fault, Unopened};
 use crate::store::Store;
 use ids::{Refusal, ReplicaId};
 use memchr::memrchr;
-use records::{Recorded, Unfit, read_record};
+use records::{Lines, Recorded, Unfit, read_record};
 use std::alloc::Global;
-use wire::Lines;
 
 /// How each line of a journal begins.
 const START: &[u8] = b"[\"o";

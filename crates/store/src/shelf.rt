@@ -14,6 +14,7 @@ use std::marker::Model;
 
 /// A store that lines are put into. Contracts see the bytes that it has and those that survive a loss of power, where the store says so,
 /// and whether they are lost from sight: a sync or a cut failed, so that nobody knows what would survive. Else all that it has survives.
+#[derive(Drop)]
 pub struct Shelf<S: Store> {
     store: S,
     /// How many bytes it has, unless they are lost from sight.

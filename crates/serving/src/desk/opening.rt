@@ -1,8 +1,8 @@
 //! A desk that goes on from a journal.
 
 ghost use Rattle.std.specs.Prelude.{◌≡◌, ℕ, [], length, false, IfOk};
-ghost use Rattle.wire.specs.Lines.{cut};
-ghost use Rattle.records.specs.Replays.{BringsBackLines};
+ghost use Rattle.session.specs.wire.Lines.{cut};
+ghost use Rattle.session.specs.records.Replays.{BringsBackLines};
 ghost use Rattle.store.specs.Shelves.{first_known};
 ghost use Rattle.store.specs.WholeLines.{AreWhole};
 

@@ -8,19 +8,18 @@ ghost use Rattle.semantics.specs.Journals.{entries_from};
 ghost use Rattle.semantics.specs.NamedIds.{vector_of};
 ghost use Rattle.semantics.specs.Vectors.{Vector};
 ghost use Rattle.replica.specs.operation.Ops.{stamped_of};
-ghost use Rattle.wire.specs.Bundles.{bundle_form};
-ghost use Rattle.wire.specs.Messages.{hello_form};
-ghost use Rattle.wire.specs.Sent.{CanBeSent};
+ghost use Rattle.records.specs.wire.Bundles.{bundle_form};
+ghost use Rattle.records.specs.wire.Messages.{hello_form};
+ghost use Rattle.records.specs.wire.Sent.{CanBeSent};
 ghost use Rattle.records.specs.Lines.{journal_text};
 ghost use Rattle.records.specs.Lost.{is_beyond};
 ghost use Rattle.session.specs.Answers.{IsAnswer, IsCutAt};
 
 use super::Session;
 use ids::{NamedVector, Refusal, ReplicaId, counter_of};
-use records::lines_of;
+use records::{BundleWriter, LINE_END, lines_of, read_vector};
 use replica::{Document, Op, Shared};
 use std::alloc::{AllocError, Global};
-use wire::{BundleWriter, LINE_END, read_vector};
 
 /// How many bytes an answer has at most, unless its first line alone has more.
 const MOST_BYTES: usize = 4_194_304;

@@ -5,15 +5,15 @@ ghost use Rattle.ids.specs.declared.refusal.Refusal.TheVariants.{BadLine, NoMemo
 ghost use Rattle.semantics.specs.Delivery.{answer_to, deliver};
 ghost use Rattle.semantics.specs.Handling.{DrainsTo};
 ghost use Rattle.semantics.specs.Stamped.{Stamped};
-ghost use Rattle.wire.specs.Bundles.{readable};
-ghost use Rattle.wire.specs.Profiles.{line_form};
+ghost use Rattle.records.specs.wire.Bundles.{readable};
+ghost use Rattle.records.specs.wire.Profiles.{line_form};
 ghost use Rattle.session.specs.Receipts.{EndsBehind, StopsBehind, delivered, is_short, refusal_of, refusals, refused_lines, summary};
 ghost use Rattle.session.specs.Receipts.{with_refusal};
 
 use super::Session;
 use ids::Refusal;
+use records::{BundleReader, Lines};
 use std::alloc::Global;
-use wire::{BundleReader, Lines};
 
 /// The operations of a receipt that the rules refused.
 #[derive(Clone, Copy, Debug, PartialEq, Eq)]

@@ -5,16 +5,15 @@ ghost use Rattle.semantics.specs.Entries.{Entry as TheEntry};
 ghost use Rattle.semantics.specs.Journals.{Commanded, Received, entries_from, recorded};
 ghost use Rattle.semantics.specs.WorldHistory.{BeginsWith};
 ghost use Rattle.replica.specs.operation.Ops.{command_of, stamped_of};
-ghost use Rattle.wire.specs.Lines.{cut};
+ghost use Rattle.records.specs.wire.Lines.{cut};
 ghost use Rattle.records.specs.Replays.{BringsBackLines, record_meant};
 ghost use Rattle.session.specs.Replays.{AreFirstLines, HasRecord, may_stand};
 
 use super::{Session, append};
 use ids::{OpId, Refusal};
-use records::{Recorded, Replayed, Unfit, check_recorded, read_record};
+use records::{Lines, Recorded, Replayed, Unfit, check_recorded, read_record};
 use replica::{Command, Op, Shared};
 use std::alloc::Global;
-use wire::Lines;
 
 impl Session {
     /// Takes the lines of a journal, one after the other, and stops at the first that doesn't fit: each own command is made anew, and must

@@ -1,7 +1,7 @@
 use Rattle.std.proofs.Common.{◌≡◌, ◌++◌, List, [], ◌∷◌, codes, decimal, rules, ap, append_assoc, ◌∙◌}
 use Rattle.std.proofs.lemmas.Result.{on_ok_weaker}
 use Rattle.json.specs.Token.{Token, begin_array, end_array, number, string}
-use Rattle.wire.specs.Writing.{tokens_of}
+use Rattle.requests.specs.wire.Writing.{tokens_of}
 use Rattle.requests.proofs.Tokens.{after}
 use Rattle.calls.specs.Responses.{refused_json, stopped_json}
 use Rattle.calls.proofs.writing.put_received.Goals as goal

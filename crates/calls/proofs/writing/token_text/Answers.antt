@@ -3,7 +3,7 @@ use Rattle.json.specs.Print.{print}
 use Rattle.json.specs.Token.{Token}
 use Rattle.serde_json.proofs.Texts.{print-outline}
 use Rattle.serde_json.specs.Data.{null}
-use Rattle.wire.specs.Writing.{tokens_of}
+use Rattle.requests.specs.wire.Writing.{tokens_of}
 use Rattle.calls.specs.Responses.{response_json}
 use Rattle.calls.proofs.writing.token_text.Goals as goal
 

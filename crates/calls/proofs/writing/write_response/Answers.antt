@@ -1,7 +1,7 @@
 use Rattle.std.proofs.Common.{◌++◌, ◌∷◌, [], ℕ, List, IsUtf8, ap, sym, ◌∙◌, subst, arith}
 use Rattle.std.proofs.lemmas.Str.{IsUtf8-append, IsUtf8-from_ascii}
 use Rattle.std.proofs.lemmas.Str.Ascii.{IsAscii-cons, IsAscii-nil}
-use Rattle.wire.proofs.LineEnds.{compact_no_end}
+use Rattle.requests.proofs.wire.LineEnds.{compact_no_end}
 use Rattle.calls.specs.Responses.{response_json}
 use Rattle.calls.proofs.writing.write_response.Goals as goal
 

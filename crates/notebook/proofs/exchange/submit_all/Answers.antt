@@ -2,7 +2,7 @@ use Rattle.std.proofs.Common.{◌≡◌, ◌∙◌, List, ap}
 use Rattle.engine.specs.Clients.{Client}
 use Rattle.engine.specs.operation.declared.op.Op.{Op}
 use Rattle.semantics.specs.Entries.{Entry}
-use Rattle.peer_sync.specs.Receiving.{all_submitted}
+use Rattle.journal.specs.peer_sync.Receiving.{all_submitted}
 use Rattle.notebook.proofs.ClientSteps.{all_seen}
 use Rattle.notebook.proofs.exchange.submit_all.Goals.{in-None, in-Some+in_default}
 use Rattle.notebook.proofs.exchange.submit_all.Goals as goal

@@ -1,6 +1,6 @@
 use Rattle.std.proofs.Common.{List, subst}
 use Rattle.semantics.specs.Entries.{Entry}
-use Rattle.wire.specs.Lines.{cut}
+use Rattle.journal.specs.wire.Lines.{cut}
 use Rattle.journal.specs.records.Replays.{BringsBackLines}
 use Rattle.notebook.proofs.ClientSteps.{new_seen}
 use Rattle.notebook.proofs.opening.begin.Goals as goal

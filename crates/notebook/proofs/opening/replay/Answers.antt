@@ -1,5 +1,5 @@
 use Rattle.std.proofs.Common.{◌≡◌, ◌∙◌, List, ℕ, take, sym, ap, subst}
-use Rattle.wire.specs.Lines.{Cut, cut}
+use Rattle.journal.specs.wire.Lines.{Cut, cut}
 use Rattle.journal.specs.records.Replays.{BringsBackLines}
 use Rattle.notebook.proofs.TakenLines.{all_taken}
 use Rattle.notebook.proofs.opening.replay.Goals as goal

@@ -1,9 +1,9 @@
 use Rattle.std.proofs.Common.{◌≡◌, ◌==◌, sym, ap, ◌∙◌}
 use Rattle.semantics.specs.Journals.{Commanded, Received, recorded}
 use Rattle.std.proofs.lemmas.Bool.{and_parts, eqb-true}
-use Rattle.document.specs.operation.declared.op.Op.{Op}
-use Rattle.document.specs.operation.Ops.{command_of, entry_of, stamped_of}
-use Rattle.document.specs.operation.SameOps.{command_decides, operation_decides}
+use Rattle.requests.specs.operation.declared.op.Op.{Op}
+use Rattle.requests.specs.operation.Ops.{command_of, entry_of, stamped_of}
+use Rattle.requests.specs.operation.SameOps.{command_decides, operation_decides}
 use Rattle.records.specs.Replays.{record_meant}
 use Rattle.records.proofs.replaying.is_recorded.Goals as goal
 

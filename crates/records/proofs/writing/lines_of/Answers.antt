@@ -1,6 +1,6 @@
 use Rattle.std.proofs.Common.{◌≡◌, ◌+◌, ◌++◌, ◌∷◌, [], ℕ, List, map, drop, drop-cons, add-one, sym, ap, ◌∙◌, append_assoc}
-use Rattle.document.specs.operation.declared.command.Entry.{Entry}
-use Rattle.document.specs.operation.Ops.{entry_of}
+use Rattle.requests.specs.operation.declared.command.Entry.{Entry}
+use Rattle.requests.specs.operation.Ops.{entry_of}
 use Rattle.semantics.specs.Journals.{recorded}
 use Rattle.records.specs.Lines.{journal_text, record_line}
 use Rattle.records.proofs.writing.lines_of.Goals as goal

@@ -1,6 +1,6 @@
 -- The lines so far and those of what is left are all.
 use Rattle.std.proofs.Common.{◌≡◌, ◌++◌, drop, map}
-use Rattle.document.specs.operation.Ops.{entry_of}
+use Rattle.requests.specs.operation.Ops.{entry_of}
 use Rattle.records.specs.Lines.{journal_text}
 use Rattle.records.proofs.writing.lines_of.Given as goal
 

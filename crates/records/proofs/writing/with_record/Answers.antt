@@ -2,9 +2,9 @@ use Rattle.std.proofs.Common.{◌≡◌, ◌++◌, List, ap, ◌∙◌}
 use Rattle.json.specs.Print.{print}
 use Rattle.json.specs.Token.{Token}
 use Rattle.serde_json.proofs.Texts.{print-outline}
-use Rattle.document.specs.operation.Ops.{entry_of}
+use Rattle.requests.specs.operation.Ops.{entry_of}
 use Rattle.semantics.specs.Journals.{recorded}
-use Rattle.wire.specs.Writing.{tokens_of}
+use Rattle.requests.specs.wire.Writing.{tokens_of}
 use Rattle.records.specs.Lines.{record_json}
 use Rattle.records.proofs.writing.with_record.Goals as goal
 

@@ -3,10 +3,10 @@ use Rattle.semantics.specs.Entries.{Entry, lacked_of}
 use Rattle.semantics.specs.Vectors.{Vector, at}
 use Rattle.semantics.specs.WorldHistory.{BeginsWith}
 use Rattle.semantics.proofs.GrownEngines.{begins_trans}
-use Rattle.engine.specs.operation.declared.op.Op.{Op}
-use Rattle.engine.specs.operation.Ops.{stamped_of}
-use Rattle.engine.specs.published.Beginnings.{IsHistoryOfEngine}
-use Rattle.wire.specs.Bundles.{bundle_text}
+use Rattle.peer_sync.specs.operation.declared.op.Op.{Op}
+use Rattle.peer_sync.specs.operation.Ops.{stamped_of}
+use Rattle.peer_sync.specs.engine.published.Beginnings.{IsHistoryOfEngine}
+use Rattle.records.specs.wire.Bundles.{bundle_text}
 use Rattle.peer_sync.specs.Sending.{without_end}
 use Rattle.peer_sync.proofs.SentBack.{answer_back, same_vector}
 use Rattle.peer_sync.proofs.SentHistories.{lacked_sent}

@@ -1,7 +1,7 @@
 use Rattle.std.proofs.Common.{◌≡◌, ℕ, ◌+◌, [], List, length, take, refl, sym, ap, ◌∙◌, subst, arith}
 use Rattle.semantics.specs.Entries.{Entry}
 use Rattle.semantics.proofs.EntryBeginnings.{begins_self}
-use Rattle.wire.specs.Lines.{cut}
+use Rattle.records.specs.wire.Lines.{cut}
 use Rattle.peer_sync.proofs.TakenLines.{HasTaken, taken-bytes, taken-more, taken-none}
 use Rattle.records.specs.declared.replaying.Replayed.{Replayed}
 use Rattle.records.specs.Replays.{BringsBackLines}

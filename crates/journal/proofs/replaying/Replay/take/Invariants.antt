@@ -1,6 +1,6 @@
 -- What was taken is brought back.
 use Rattle.std.proofs.Common.{◌≡◌, length, take}
-use Rattle.wire.specs.Lines.{cut}
+use Rattle.records.specs.wire.Lines.{cut}
 use Rattle.peer_sync.proofs.TakenLines.{HasTaken}
 use Rattle.records.specs.Replays.{BringsBackLines}
 use Rattle.journal.proofs.replaying.Replay.take.Given as goal

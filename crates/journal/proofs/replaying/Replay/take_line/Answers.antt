@@ -1,7 +1,7 @@
 use Rattle.std.proofs.Common.{◌≡◌, ◌∷◌, [], List, Ok, map, sym, ap, ◌∙◌, subst}
 use Rattle.semantics.specs.Entries.{Entry}
-use Rattle.engine.specs.operation.declared.command.Entry.{Entry as AnEntry}
-use Rattle.engine.specs.operation.Ops.{entry_of}
+use Rattle.peer_sync.specs.operation.declared.command.Entry.{Entry as AnEntry}
+use Rattle.peer_sync.specs.operation.Ops.{entry_of}
 use Rattle.semantics.specs.Journals.{entries_from, recorded}
 use Rattle.semantics.specs.WorldHistory.{BeginsWith}
 use Rattle.semantics.proofs.GrownEngines.{begins_trans}

@@ -1,6 +1,6 @@
 use Rattle.std.proofs.Common.{◌≡◌, Ok, List, ℕ, [], subst, sym}
 use Rattle.semantics.specs.Vectors.{Vector}
-use Rattle.wire.specs.Messages.{hello_form}
+use Rattle.session.specs.wire.Messages.{hello_form}
 use Rattle.session.specs.Answers.{IsAnswer}
 use Rattle.session.specs.declared.session.answering.Answered.{Answered}
 use Rattle.calls.specs.declared.response.Response.{Response}

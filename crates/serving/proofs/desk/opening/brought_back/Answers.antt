@@ -1,8 +1,8 @@
 use Rattle.std.proofs.Common.{◌≡◌, ◌∙◌, List, ℕ, [], length, take, sym, ap, subst}
 use Rattle.std.proofs.Math.Seq.{take-length}
 use Rattle.semantics.specs.Replica.{Replica}
-use Rattle.wire.specs.Lines.{Cut, cut}
-use Rattle.records.specs.Replays.{BringsBackLines}
+use Rattle.session.specs.wire.Lines.{Cut, cut}
+use Rattle.session.specs.records.Replays.{BringsBackLines}
 use Rattle.serving.proofs.desk.opening.brought_back.Goals as goal
 
 pub returns-clause-brought : goal.returns-clause-brought

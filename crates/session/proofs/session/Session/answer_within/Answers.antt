@@ -8,7 +8,7 @@ use Rattle.semantics.specs.Stamped.{Stamped}
 use Rattle.semantics.specs.Vectors.{Vector}
 use Rattle.replica.specs.operation.declared.op.Op.{Op}
 use Rattle.replica.specs.operation.Ops.{stamped_of}
-use Rattle.wire.specs.Sent.{CanBeSent}
+use Rattle.records.specs.wire.Sent.{CanBeSent}
 use Rattle.records.specs.Lost.{is_beyond}
 use Rattle.session.specs.Answers.{IsCutAt}
 use Rattle.session.proofs.Answering.{stored_sent}

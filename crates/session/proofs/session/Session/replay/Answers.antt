@@ -1,7 +1,7 @@
 use Rattle.std.proofs.Common.{◌≡◌, ◌+◌, ◌∙◌, ℕ, List, Option, length, take, sym, ap, subst, arith}
 use Rattle.std.specs.Prelude.{IfSome}
 use Rattle.semantics.specs.Entries.{Entry}
-use Rattle.wire.specs.Lines.{cut}
+use Rattle.records.specs.wire.Lines.{cut}
 use Rattle.records.specs.declared.replaying.Replayed.{Replayed}
 use Rattle.records.specs.declared.replaying.Unfit.{Unfit}
 use Rattle.records.specs.Replays.{BringsBackLines}

@@ -1,6 +1,6 @@
 -- What was taken is brought back.
 use Rattle.std.proofs.Common.{◌≡◌, None, length, take}
-use Rattle.wire.specs.Lines.{cut}
+use Rattle.records.specs.wire.Lines.{cut}
 use Rattle.records.specs.Replays.{BringsBackLines}
 use Rattle.session.proofs.TakenLines.{HasTaken}
 use Rattle.session.proofs.session.Session.replay.Given as goal

@@ -7,7 +7,7 @@ use Rattle.std.proofs.lemmas.List.Elements.{All-map}
 use Rattle.std.proofs.lemmas.Option.{slice_get-map, slice_get_read}
 use Rattle.replica.specs.operation.declared.op.Op.{Op}
 use Rattle.replica.specs.operation.Ops.{stamped_of}
-use Rattle.wire.specs.Sent.{CanBeSent}
+use Rattle.records.specs.wire.Sent.{CanBeSent}
 use Rattle.session.proofs.FirstLines.{cut_here, written-more, written_back}
 use Rattle.session.proofs.session.answering.first_lines.Goals as goal
 

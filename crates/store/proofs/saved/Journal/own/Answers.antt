@@ -1,5 +1,5 @@
 use Rattle.std.proofs.Common.{◌∙◌, sym}
-use Rattle.wire.specs.Lines.{cut}
+use Rattle.records.specs.wire.Lines.{cut}
 use Rattle.store.specs.WholeLines.{first_own}
 use Rattle.store.proofs.OwnNumbers.{found_first, found_later, own_next, own_none}
 use Rattle.store.proofs.saved.Journal.own.Goals as goal

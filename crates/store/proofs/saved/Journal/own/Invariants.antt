@@ -1,5 +1,5 @@
 use Rattle.std.proofs.Common.{◌≡◌, length}
-use Rattle.wire.specs.Lines.{cut}
+use Rattle.records.specs.wire.Lines.{cut}
 use Rattle.store.specs.WholeLines.{first_own}
 use Rattle.store.proofs.saved.Journal.own.Given as goal
 

@@ -1,0 +1,54 @@
+//! What a document and its readers are asked alike.
+
+use crate::Error;
+use crate::replies::answer_of;
+
+/// Questions, which a document answers and, from what it has taken in, a reader.
+///
+/// An expression is a list of steps as JSON: `[]` is the root, `["list",1]` the first item of the list at `list`, and `["list",[3,1]]` the
+/// one with that id. Answers are JSON too.
+pub trait Questions {
+    /// The reply to a question or a glance, without its line feed.
+    fn ask(&mut self, line: &str) -> Result<String, Error>;
+
+    /// What stands at the element, as JSON for people: down to so many elements beneath it, and so many in all.
+    fn glance(&mut self, expression: &str, depth: u64, elements: u64) -> Result<String, Error> {
+        let reply = self.ask(&format!(r#"["glance",{expression},{depth},{elements}]"#))?;
+        answer_of(&reply, "glance")
+    }
+
+    /// The same, as deep as a document can be.
+    fn get(&mut self, expression: &str) -> Result<String, Error> {
+        self.glance(expression, 32, 100_000)
+    }
+
+    /// The values of the register, each behind the id of its write, `[[ID,VALUE],..]`. More than one are a conflict.
+    fn values(&mut self, expression: &str) -> Result<String, Error> {
+        reading(self, "values", expression)
+    }
+
+    /// The keys of the map, rising by their bytes.
+    fn keys(&mut self, expression: &str) -> Result<String, Error> {
+        reading(self, "keys", expression)
+    }
+
+    /// The ids of the items of the list, in its order.
+    fn items(&mut self, expression: &str) -> Result<String, Error> {
+        reading(self, "items", expression)
+    }
+
+    /// What keeps the element visible, `[[ID,TAG],..]`: each live write at it or beneath, and whether it makes a `"map"`, a `"list"` or a
+    /// register, `"reg"`.
+    fn conflicts(&mut self, expression: &str) -> Result<String, Error> {
+        reading(self, "conflicts", expression)
+    }
+}
+
+fn reading<Q: Questions + ?Sized>(
+    of: &mut Q,
+    word: &str,
+    expression: &str,
+) -> Result<String, Error> {
+    let reply = of.ask(&format!(r#"["{word}",{expression}]"#))?;
+    answer_of(&reply, "reading")
+}

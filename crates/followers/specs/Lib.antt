@@ -1,0 +1,2 @@
+-- What a follower takes in, and what a feed has sent.
+pub mod Feeds

@@ -1,0 +1,5 @@
+pub mod AsBox
+pub mod Growing
+pub mod Feeding
+pub mod Opening
+pub mod Handing

@@ -1,0 +1,19 @@
+//! What readers are promised.
+
+ghost use Rattle.semantics.specs.WorldHistory.{BeginsWith};
+ghost use Rattle.followers.specs.Feeds.{HasEnd};
+
+use crate::reader::Reader;
+use crate::writer::Writer;
+use followers::each_follower_shows_a_beginning;
+
+/// What a reader shows is the beginning of its document's history, whenever whoever has both looks. Whose reader it is, one of the
+/// document's feeds says, which has the other end of its ring.
+pub fn reader_shows_a_beginning(writer: Writer, at: usize, reader: Reader)
+    requires { HasEnd writer.feeds.feeds.items at reader.follower }
+    ensures { BeginsWith writer.desk.replica.entries reader.follower.document.entries }
+{
+    let Writer { mut feeds, .. } = writer;
+    let Reader { mut follower, .. } = reader;
+    each_follower_shows_a_beginning(&mut feeds, at, &mut follower);
+}

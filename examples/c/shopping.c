@@ -1,0 +1,280 @@
+/* A shopping list on two devices, with two readers.
+ *
+ *     shopping FOLDER
+ *
+ * The phone's document is written by this thread, and two other threads follow it and show it, without a lock. The laptop's document is
+ * written beside it, and the two exchange what the other lacks, as they would over a network. Each keeps its journal in a file of the
+ * folder, which is there beforehand and empty. At the end the phone's document is opened again from its file.
+ */
+/* fsync, ftruncate and threads. */
+#define _POSIX_C_SOURCE 200809L
+
+#include "jdoc.h"
+
+#include <pthread.h>
+#include <sched.h>
+#include <stdatomic.h>
+#include <stdio.h>
+#include <stdlib.h>
+#include <string.h>
+#include <unistd.h>
+
+#define COUNTS 200
+
+/* Ends the program: an example has nobody to tell. */
+static void fail(const char *what, uint32_t status)
+{
+    fprintf(stderr, "shopping: %s: status %u\n", what, (unsigned)status);
+    exit(1);
+}
+
+/* Bytes that were allocated, with a 0 behind them. */
+struct text {
+    char *bytes;
+    size_t length;
+};
+
+static struct text text_of_length(size_t length)
+{
+    struct text text = {malloc(length + 1), length};
+    if (text.bytes == NULL)
+        fail("malloc", JDOC_NO_MEMORY);
+    text.bytes[length] = '\0';
+    return text;
+}
+
+/* A function that copies bytes to the caller, and says how long they are where there is no room for them. */
+typedef uint32_t copies(jdoc_handle *handle, char *out, size_t room, size_t *length);
+
+/* All that it copies. */
+static struct text copy_of(jdoc_handle *handle, copies *copy, const char *what)
+{
+    struct text text = text_of_length(255);
+    uint32_t status = copy(handle, text.bytes, text.length, &text.length);
+    if (status == JDOC_TOO_SHORT) {
+        size_t length = text.length;
+        free(text.bytes);
+        text = text_of_length(length);
+        status = copy(handle, text.bytes, text.length, &text.length);
+    }
+    if (status != JDOC_DONE)
+        fail(what, status);
+    text.bytes[text.length] = '\0';
+    return text;
+}
+
+/* A document, and the file that keeps its journal. */
+struct device {
+    const char *name;
+    jdoc_handle document;
+    FILE *journal;
+};
+
+/* Opens a document that goes on from its file, which may be empty. */
+static void open_device(struct device *device, const char *folder, const char *name, uint32_t number)
+{
+    char path[4096];
+    snprintf(path, sizeof path, "%s/%s.journal", folder, name);
+    device->name = name;
+    device->document = (jdoc_handle)JDOC_CLOSED_HANDLE;
+    device->journal = fopen(path, "a+");
+    if (device->journal == NULL || fseek(device->journal, 0, SEEK_END) != 0)
+        fail(path, 0);
+    struct text lines = text_of_length((size_t)ftell(device->journal));
+    rewind(device->journal);
+    if (fread(lines.bytes, 1, lines.length, device->journal) != lines.length)
+        fail(path, 0);
+
+    size_t taken;
+    uint32_t status = jdoc_open(&device->document, number, lines.bytes, lines.length, &taken);
+    if (status != JDOC_DONE)
+        fail("jdoc_open", status);
+    /* A line that was cut off goes. */
+    if (ftruncate(fileno(device->journal), (off_t)taken) != 0)
+        fail(path, 0);
+    free(lines.bytes);
+}
+
+static void close_device(struct device *device)
+{
+    jdoc_close(&device->document);
+    fclose(device->journal);
+}
+
+/* Stores what came of the calls. */
+static void store(struct device *device)
+{
+    struct text lines = copy_of(&device->document, jdoc_lines, "jdoc_lines");
+    if (fwrite(lines.bytes, 1, lines.length, device->journal) != lines.length || fflush(device->journal) != 0
+        || fsync(fileno(device->journal)) != 0)
+        fail(device->name, 0);
+    free(lines.bytes);
+    uint32_t status = jdoc_lines_stored(&device->document);
+    if (status != JDOC_DONE)
+        fail("jdoc_lines_stored", status);
+}
+
+/* The reply to a request, which may be used at once: what it speaks of is stored. */
+static struct text call(struct device *device, const char *request)
+{
+    uint32_t status = jdoc_call(&device->document, request, strlen(request));
+    if (status != JDOC_DONE)
+        fail("jdoc_call", status);
+    store(device);
+    return copy_of(&device->document, jdoc_reply, "jdoc_reply");
+}
+
+/* Shows a request and its reply. */
+static void show(struct device *device, const char *request)
+{
+    struct text reply = call(device, request);
+    printf("%s: %s -> %s", device->name, request, reply.bytes);
+    free(reply.bytes);
+}
+
+/* The request `[WORD,TEXT]`, where the text is a line that is to be quoted. */
+static struct text request_of_line(const char *word, const char *line)
+{
+    struct text request = text_of_length(strlen(word) + 2 * strlen(line) + 7);
+    char *at = request.bytes + sprintf(request.bytes, "[\"%s\",\"", word);
+    for (; *line != '\0' && *line != '\n'; line++) {
+        if (*line == '"' || *line == '\\')
+            *at++ = '\\';
+        *at++ = *line;
+    }
+    strcpy(at, "\"]");
+    return request;
+}
+
+/* The request `["receive",TEXT]`, of a reply `["bundle",TEXT,MORE,BEYOND]`: its text is quoted already. */
+static struct text request_of_bundle(const char *reply)
+{
+    static const char begin[] = "[\"bundle\",";
+    if (strncmp(reply, begin, sizeof begin - 1) != 0)
+        fail(reply, 0);
+    const char *quoted = reply + sizeof begin - 1;
+    const char *end = quoted + 1;
+    while (*end != '"')
+        end += *end == '\\' ? 2 : 1;
+    int length = (int)(end + 1 - quoted);
+    struct text request = text_of_length((size_t)length + 12);
+    sprintf(request.bytes, "[\"receive\",%.*s]", length, quoted);
+    return request;
+}
+
+/* Hands one device what it lacks of the other one's. All fits into one bundle here; else MORE is true, and it says hello again. */
+static void bring_up_to_date(struct device *device, struct device *peer)
+{
+    struct text hello = call(device, "[\"hello\"]");
+    struct text question = request_of_line("answer", hello.bytes);
+    struct text bundle = call(peer, question.bytes);
+    struct text receipt = request_of_bundle(bundle.bytes);
+    struct text received = call(device, receipt.bytes);
+    printf("%s received from %s: %s", device->name, peer->name, received.bytes);
+    free(hello.bytes);
+    free(question.bytes);
+    free(bundle.bytes);
+    free(receipt.bytes);
+    free(received.bytes);
+}
+
+/* How long the phone's history is in the end; 0 while nobody knows. */
+static atomic_size_t end_length;
+
+/* How many readers have come to the end. */
+static atomic_int arrived;
+
+/* A reader that shows the document to the end, and the last glance of it. */
+struct reader {
+    jdoc_handle handle;
+    struct text shown;
+};
+
+static void *follow(void *argument)
+{
+    static const char glance[] = "[\"glance\",[],9,99]";
+    struct reader *reader = argument;
+    size_t length = 0;
+    size_t end;
+    do {
+        size_t before = length;
+        uint32_t status = jdoc_follow(&reader->handle, &length);
+        if (status != JDOC_DONE)
+            fail("jdoc_follow", status);
+        if (length < before)
+            fail("a reader went back", 0);
+        status = jdoc_ask(&reader->handle, glance, sizeof glance - 1);
+        if (status != JDOC_DONE)
+            fail("jdoc_ask", status);
+        free(reader->shown.bytes);
+        reader->shown = copy_of(&reader->handle, jdoc_reply, "jdoc_reply");
+        sched_yield();
+        end = atomic_load(&end_length);
+    } while (end == 0 || length < end);
+    atomic_fetch_add(&arrived, 1);
+    return NULL;
+}
+
+/* Writes the list and counts up, and exchanges what was written. */
+static void write_list(struct device *phone, struct device *laptop)
+{
+    show(phone, "[\"assign\",[\"list\"],[]]");
+    show(phone, "[\"insert\",[\"list\",0],\"milk\"]");
+    show(laptop, "[\"assign\",[\"title\"],\"Shopping\"]");
+    bring_up_to_date(laptop, phone);
+    bring_up_to_date(phone, laptop);
+    show(laptop, "[\"insert\",[\"list\",1],\"eggs\"]");
+    show(phone, "[\"insert\",[\"list\",1],\"bread\"]");
+    for (int count = 1; count <= COUNTS; count++) {
+        char request[64];
+        snprintf(request, sizeof request, "[\"assign\",[\"count\"],%d]", count);
+        struct text reply = call(phone, request);
+        free(reply.bytes);
+    }
+    bring_up_to_date(laptop, phone);
+    bring_up_to_date(phone, laptop);
+}
+
+int main(int argc, char **argv)
+{
+    if (argc != 2)
+        fail("the folder is missing", 0);
+    struct device phone, laptop;
+    open_device(&phone, argv[1], "phone", 1);
+    open_device(&laptop, argv[1], "laptop", 2);
+
+    struct reader readers[2];
+    pthread_t threads[2];
+    for (int index = 0; index < 2; index++) {
+        readers[index] = (struct reader){JDOC_CLOSED_HANDLE, {NULL, 0}};
+        uint32_t status = jdoc_reader(&phone.document, &readers[index].handle, 16);
+        if (status != JDOC_DONE)
+            fail("jdoc_reader", status);
+        if (pthread_create(&threads[index], NULL, follow, &readers[index]) != 0)
+            fail("pthread_create", 0);
+    }
+
+    write_list(&phone, &laptop);
+    atomic_store(&end_length, (size_t)(COUNTS + 5));
+    while (atomic_load(&arrived) < 2) {
+        uint32_t status = jdoc_feed(&phone.document);
+        if (status != JDOC_DONE)
+            fail("jdoc_feed", status);
+        sched_yield();
+    }
+    for (int index = 0; index < 2; index++) {
+        pthread_join(threads[index], NULL);
+        printf("reader %d: %s", index + 1, readers[index].shown.bytes);
+        free(readers[index].shown.bytes);
+        jdoc_close(&readers[index].handle);
+    }
+    show(&laptop, "[\"glance\",[],9,99]");
+    close_device(&laptop);
+    close_device(&phone);
+
+    open_device(&phone, argv[1], "phone", 0);
+    show(&phone, "[\"status\"]");
+    show(&phone, "[\"glance\",[],9,99]");
+    close_device(&phone);
+    return 0;
+}

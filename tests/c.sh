@@ -1,0 +1,83 @@
+#!/usr/bin/env bash
+# c.sh: builds the library for C, and runs the example in examples/c over it: as it is, with memory checked by valgrind, and by what
+# the compiler puts in. Each run must print what tests/c/shopping.stdout has, and nothing else. Then it runs tests/c/refused.c once for
+# each allocation that it makes, with that one refused. Leaves out what the machine lacks, and says so.
+set -euo pipefail
+top=$(cd "$(dirname "$0")/.." && pwd)
+kit=$(dirname "$(rt doc)")
+library=$top/crates/jdoc_c/out/libjdoc_c.a
+room=$(mktemp -d)
+trap 'rm -rf "$room"' EXIT
+passed=0
+failed=0
+
+"$top/tools/library"
+
+# compiled NAME FILE [FLAG..]: a program of that name.
+compiled() {
+    local name=$1 file=$2
+    shift 2
+    cc -std=c11 -Wall -Wextra -Wpedantic -Werror -O1 -g "$@" -I"$top/include" -o "$room/$name" \
+        "$top/$file" "$library" "$kit/c/liblibc_c.a" -pthread
+}
+
+# played NAME WORD..: runs a program, by these words, in a folder of its own, and compares what it prints.
+played() {
+    local name=$1
+    shift
+    mkdir "$room/of_$name"
+    if timeout 120 "$@" "$room/of_$name" > "$room/printed" 2> "$room/said" && [ ! -s "$room/said" ] \
+        && diff "$top/tests/c/shopping.stdout" "$room/printed"; then
+        passed=$((passed + 1))
+    else
+        cat "$room/said"
+        echo "c: FAILED: $name"
+        failed=$((failed + 1))
+    fi
+}
+
+# Runs a program with each of its allocations refused in turn, until one run makes no more than were tried.
+refused() {
+    local program=$1 nth=1
+    while :; do
+        rm -f "$room/refused"
+        if ! REFUSE=$nth REFUSED=$room/refused LD_PRELOAD=$room/refuse.so "$program" > "$room/said" 2>&1; then
+            cat "$room/said"
+            echo "c: FAILED with allocation $nth refused"
+            failed=$((failed + 1))
+            return
+        fi
+        [ -e "$room/refused" ] || break
+        nth=$((nth + 1))
+    done
+    passed=$((passed + 1))
+    echo "c: passed with each of $((nth - 1)) allocations refused"
+}
+
+compiled plain examples/c/shopping.c
+played plain "$room/plain"
+if command -v valgrind > "$room/said"; then
+    played memory valgrind --quiet --leak-check=full --show-leak-kinds=all --error-exitcode=9 "$room/plain"
+else
+    echo "c: no valgrind here"
+fi
+# Not by -fsanitize=thread: the library isn't compiled by it, so it sees what the library allocates and copies, and not the atomics that
+# order them.
+if echo 'int main(void) { return 0; }' > "$room/empty.c" && cc -fsanitize=address -o "$room/empty" "$room/empty.c" 2> "$room/said"; then
+    compiled address examples/c/shopping.c -fsanitize=address
+    played address "$room/address"
+else
+    echo "c: no -fsanitize=address here"
+fi
+compiled first examples/c/first.c
+if [ "$("$room/first")" = '["made",[1,1],0]' ]; then
+    passed=$((passed + 1))
+else
+    echo "c: FAILED: first"
+    failed=$((failed + 1))
+fi
+compiled memory_is_short tests/c/refused.c
+cc -shared -fPIC -O1 -fno-builtin -o "$room/refuse.so" "$top/tests/refuse.c"
+refused "$room/memory_is_short"
+echo "c: $passed runs passed, $failed failed"
+[ "$failed" = 0 ]

@@ -1,0 +1,108 @@
+/* A document, its reader and a peer, to be run with each allocation refused in turn (tests/c.sh): what is refused is called again, and in
+ * the end all is as ever. It allocates nothing itself, and prints only what went wrong.
+ */
+#include "jdoc.h"
+
+#include <stdio.h>
+#include <stdlib.h>
+#include <string.h>
+
+#define ROOM 4096
+
+static char reply[ROOM], lines[ROOM];
+
+static void expect(int is_so, const char *what)
+{
+    if (!is_so) {
+        fprintf(stderr, "refused: %s, and the last reply was %s\n", what, reply);
+        exit(1);
+    }
+}
+
+/* Calls again what had no memory: one allocation of a run is refused. */
+#define AGAIN(call) \
+    do { \
+        uint32_t status = (call); \
+        if (status == JDOC_NO_MEMORY) \
+            status = (call); \
+        expect(status == JDOC_DONE, #call); \
+    } while (0)
+
+static void take_reply(jdoc_handle *handle)
+{
+    size_t length;
+    expect(jdoc_reply(handle, reply, ROOM - 1, &length) == JDOC_DONE, "jdoc_reply");
+    reply[length] = '\0';
+}
+
+/* Leaves the reply to a question, of a document or of a reader. */
+static void ask(jdoc_handle *handle, uint32_t (*call)(jdoc_handle *, const char *, size_t), const char *question)
+{
+    AGAIN(call(handle, question, strlen(question)));
+    take_reply(handle);
+    if (strstr(reply, "\"E1\"") != NULL) {
+        AGAIN(call(handle, question, strlen(question)));
+        take_reply(handle);
+    }
+}
+
+/* Asks for a change until the document has so many operations, and for a save until all count as saved. */
+static void change(jdoc_handle *document, const char *request, int wanted)
+{
+    int number, length = -1, saved = -1;
+    for (int turn = 0; turn < 4 && saved < wanted; turn++) {
+        ask(document, jdoc_call, "[\"status\"]");
+        expect(sscanf(reply, "[\"status\",%d,%d,%d]", &number, &length, &saved) == 3, "status");
+        const char *next = length < wanted ? request : "[\"save\"]";
+        if (saved < wanted)
+            jdoc_call(document, next, strlen(next));
+    }
+    expect(length == wanted && saved == wanted, request);
+}
+
+/* The request `["receive",TEXT]`, of what the document has for a peer that knows nothing. */
+static void bundle(jdoc_handle *document, char *request)
+{
+    ask(document, jdoc_call, "[\"answer\",\"[\\\"hello\\\",[]]\"]");
+    char *end = strrchr(reply, '"');
+    expect(strncmp(reply, "[\"bundle\",", 10) == 0 && strcmp(end, "\",false,false]\n") == 0, "answer");
+    snprintf(request, ROOM, "[\"receive\",%.*s]", (int)(end + 1 - (reply + 10)), reply + 10);
+}
+
+int main(void)
+{
+    static const char glance[] = "[\"glance\",[],9,99]";
+    static const char shown[] = "[\"glance\",3,{\"list\":[\"milk\"],\"title\":\"Shopping\"}]\n";
+    static char received[ROOM];
+    jdoc_handle document = JDOC_CLOSED_HANDLE, peer = JDOC_CLOSED_HANDLE, reader = JDOC_CLOSED_HANDLE;
+    size_t taken, count = 0, length;
+
+    AGAIN(jdoc_open(&document, 1, "", 0, &taken));
+    AGAIN(jdoc_open(&peer, 2, "", 0, &taken));
+    AGAIN(jdoc_reader(&document, &reader, 2));
+    change(&document, "[\"assign\",[\"list\"],[]]", 1);
+    change(&document, "[\"insert\",[\"list\",0],\"milk\"]", 2);
+    change(&peer, "[\"assign\",[\"title\"],\"Shopping\"]", 1);
+    bundle(&peer, received);
+    change(&document, received, 3);
+
+    for (int turn = 0; turn < 2; turn++) {
+        AGAIN(jdoc_feed(&document));
+        AGAIN(jdoc_follow(&reader, &count));
+    }
+    expect(count == 3, "the reader has followed");
+    ask(&reader, jdoc_ask, glance);
+    expect(strcmp(reply, shown) == 0, shown);
+    jdoc_close(&reader);
+
+    AGAIN(jdoc_lines(&document, lines, ROOM, &length));
+    expect(jdoc_lines_stored(&document) == JDOC_DONE, "jdoc_lines_stored");
+    jdoc_close(&document);
+    AGAIN(jdoc_open(&document, 0, lines, length, &taken));
+    expect(taken == length, "all lines are taken");
+    ask(&document, jdoc_call, glance);
+    expect(strcmp(reply, shown) == 0, shown);
+    jdoc_close(&document);
+    jdoc_close(&peer);
+    return 0;
+}
