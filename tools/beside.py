@@ -1,13 +1,13 @@
 #!/usr/bin/env python3
-"""The table 'Beside others' of docs/SPEED.md, with the program `jdoc` at a path:
+"""The table 'Beside others' of docs/PERF.md, with the program `jdoc` at a path:
 
     tools/beside.py crates/jdoc/out/jdoc            names the rows
     tools/beside.py crates/jdoc/out/jdoc time       measures them all
 
-Each row prints for each number of commands the seconds of the processor and the bytes a command that jdoc, plain maps (floor.rs), Yjs
-(in_yjs.js) and SQLite (in_sqlite.py) take for the same script. The plain maps are compiled twice: with a parser of their own, by `rustc`,
-and with serde_json, by `cargo`. Tests that both print the same lines as jdoc, and that Yjs and SQLite end with the same keys, or with
-as many items. It wants Debian's packages librust-serde-json-dev and node-yjs."""
+Each row has the seconds of the processor, the smallest of three runs (of one where that took over three seconds), and the bytes a command
+that jdoc, plain maps (floor.rs), Yjs (in_yjs.js) and SQLite (in_sqlite.py) take for the same script. The plain maps are compiled twice:
+with a parser of their own, by `rustc`, and with serde_json, by `cargo`. Tests that both print the same lines as jdoc, and that Yjs and
+SQLite end with the same keys, or with as many items. It wants Debian's packages librust-serde-json-dev and node-yjs."""
 import json
 import os
 import shutil
@@ -16,7 +16,9 @@ import sys
 import tempfile
 
 from measure import LIST, after_last, apart, asked, assign, heads, in_turn, keys, measured, mixed, one, own_heads, own_keys, paths
+from where import where
 
+WHO = ("jdoc", "plain maps with serde_json", "plain maps", "Yjs", "SQLite")
 KEYS = asked('["keys",[]]', 1)
 ITEMS = asked('["items",["l"]]', 1)
 # Each with up to how many commands SQLite and Yjs are tried.
@@ -76,15 +78,28 @@ def main():
         rustc = ["rustc", "-O", "--edition", "2024", "-A", "unexpected_cfgs"]
         subprocess.run([*rustc, f"{TOOLS}/floor.rs", "-o", f"{folder}/floor"], check=True)
         floors = {"plain maps": [f"{folder}/floor", script], "plain maps with serde_json": [by_cargo(folder), script]}
+        print(where())
+        print()
+        print(f"| | commands | {' | '.join(WHO)} |")
+        print("|---|---|" + "---|" * len(WHO))
         for name, (lines, sizes, in_sqlite, in_yjs) in BESIDE.items():
-            print(name)
             for size in sizes:
                 with open(script, "w", encoding="utf-8") as file:
                     file.writelines(line + "\n" for line in lines(size))
-                row(words[0], floors, script, size, size <= in_sqlite, size <= in_yjs)
+                cells = cells_of(words[0], floors, script, size, size <= in_sqlite, size <= in_yjs)
+                print(f"| {name} | {size:,} | " + " | ".join(cells.get(it, "-") for it in WHO) + " |", flush=True)
 
 
-def row(jdoc, floors, path, size, with_sqlite, with_yjs):
+def timed(command):
+    """The smallest seconds, and the most bytes, of up to three runs."""
+    told = [measured(command)]
+    while len(told) < 3 and told[0][0] <= 3:
+        told.append(measured(command))
+    return min(seconds for seconds, _ in told), max(taken for _, taken in told)
+
+
+def cells_of(jdoc, floors, path, size, with_sqlite, with_yjs):
+    """The cells of a row by whose they are, once all have been seen to end alike."""
     replies = printed([jdoc, "run", path])
     last = json.loads(replies.splitlines()[-1])
     asks = last[0] == "reading"
@@ -100,9 +115,8 @@ def row(jdoc, floors, path, size, with_sqlite, with_yjs):
         commands["SQLite"] = [sys.executable, f"{TOOLS}/in_sqlite.py", path]
         if shown(json.loads(printed(commands["SQLite"]))) != told(last):
             sys.exit(f"SQLite ends differently: {path}")
-    told_of = {who: measured(command) for who, command in commands.items()}
-    said = (f"{who} {seconds:.2f}, {room / size:,.0f} B" for who, (seconds, room) in told_of.items())
-    print(f"  {size:,}: " + "; ".join(said), flush=True)
+    taken = {who: timed(command) for who, command in commands.items()}
+    return {who: f"{seconds:.2f}; {room / size:,.0f}" for who, (seconds, room) in taken.items()}
 
 
 if __name__ == "__main__":

@@ -1,23 +1,28 @@
 #!/usr/bin/env python3
-"""The rows of docs/SPEED.md about scripts, with the program `jdoc` at a path:
+"""The table 'Scripts' of docs/PERF.md, with the program `jdoc` at a path:
 
     tools/measure.py crates/jdoc/out/jdoc            names the rows
     tools/measure.py crates/jdoc/out/jdoc time       measures them all
     tools/measure.py crates/jdoc/out/jdoc time WORD  measures those whose name has the word
 
-A row prints for each number of operations the seconds of the processor from the program's start to its end, and the bytes that it
-took at most for each operation."""
+A row has for each number of operations the seconds of the processor from the program's start to its end, the smallest of three runs, and
+then the bytes that it took at most for each operation of the longest script. With the word `million` behind `time` each row goes on to a
+million operations, in a single run."""
 import resource
 import subprocess
 import sys
 import tempfile
 
+from where import where
+
 BATCH = 256
 # How many submissions wait at most. A bundle of more is taken so far, and the rest comes with the next one.
 QUEUE = 65_536
-SIZES = (1_000, 10_000, 100_000, 1_000_000)
-# What takes longer than this isn't tried at the next size.
-LONGEST = 60.0
+SIZES = (1_000, 10_000, 100_000)
+MILLION = 1_000_000
+RUNS = 3
+# What takes longer than this isn't tried at the next size, in seconds.
+LONGEST = 6.0
 
 
 def world(engines):
@@ -192,25 +197,43 @@ def measured(command):
     return float(told[0]), int(told[1])
 
 
-def main():
-    words = sys.argv[1:]
-    if not words:
-        sys.exit(__doc__)
-    wanted = words[2] if len(words) > 2 else ""
-    for name, lines in ROWS.items():
-        if wanted not in name:
+def timed(jdoc, lines, size, runs):
+    """The smallest seconds, and the most bytes, of so many runs of a script of this size."""
+    with tempfile.NamedTemporaryFile("w", suffix=".jsonl") as file:
+        file.writelines(f"{line}\n" for line in lines(size))
+        file.flush()
+        told = [measured([jdoc, "run", file.name]) for _ in range(runs)]
+    return min(seconds for seconds, _ in told), max(taken for _, taken in told)
+
+
+def row(jdoc, name, lines, sizes):
+    """Prints a row as it is measured."""
+    print(f"| {name} |", end="", flush=True)
+    each = seconds = 0
+    for size in sizes:
+        if seconds > LONGEST:
+            print(" - |", end="")
             continue
-        print(name, end="", flush=True)
-        for size in SIZES if "time" in words[1:2] else ():
-            with tempfile.NamedTemporaryFile("w", suffix=".jsonl") as file:
-                for line in lines(size):
-                    file.write(line + "\n")
-                file.flush()
-                seconds, bytes_taken = measured([words[0], "run", file.name])
-            print(f" | {size:,}: {seconds:.2f} s, {bytes_taken / size:,.0f} bytes", end="", flush=True)
-            if seconds > LONGEST / 10:
-                break
-        print()
+        seconds, taken = timed(jdoc, lines, size, 1 if size == MILLION else RUNS)
+        each = taken / size
+        print(f" {seconds:.2f} |", end="", flush=True)
+    print(f" {each:,.0f} |")
+
+
+def main():
+    jdoc, *words = sys.argv[1:] or sys.exit(__doc__)
+    if not words:
+        print("\n".join(ROWS))
+        return
+    sizes = (*SIZES, MILLION) if "million" in words else SIZES
+    wanted = " ".join(it for it in words if it not in ("time", "million"))
+    print(where())
+    print()
+    print("| operations | " + " | ".join(f"{it:,}" for it in sizes) + " | bytes each |")
+    print("|---|" + "---|" * (len(sizes) + 1))
+    for name, lines in ROWS.items():
+        if wanted in name:
+            row(jdoc, name, lines, sizes)
 
 
 if __name__ == "__main__":
