@@ -3,9 +3,11 @@
 
 - laws and functions as `file::function` or `crate::function`, methods and fields as `Type::name`, definitions as `Module.word` or
   `crate.Module.word`;
-- clauses as `function.clause`, and in the tables of docs/PROVED.md and docs/PROMISES.md those that stand behind their function;
+- clauses as `function.clause`, and files and folders by their paths from the top;
 - every other name of one word, which must be a word of some source, script or edit, or one of `ELSEWHERE`;
-- in docs/BEHAVIOURS.md and docs/RULES.md tests and wrong edits, each with its crate.
+- in docs/RULES.md the tests, each with its crate;
+- in docs/GUARANTEES.md all columns of its tables of claims: functions with the clauses behind them, laws, and tests and wrong edits, each
+  with a crate that has it. A cell that has none of what it is for has a dash.
 
 CHANGELOG.md isn't read: it names what was there once. Says how many names are missing, and fails if any is.
 """
@@ -17,15 +19,19 @@ from pathlib import Path
 TOP = Path(__file__).resolve().parent.parent
 READMES = [it for part in ("crates", "clients", "examples") for it in sorted(TOP.glob(f"{part}/*/README.md"))]
 PAGES = [TOP / "README.md", *sorted(TOP.glob("docs/*.md")), *READMES]
-CONTRACT_COLUMNS = {"Contract", "Clauses that carry it", "Where"}
+CLAIMS = ["Claim", "Contract", "Law", "Tests", "Wrong edits"]
+NAMES_WITH_CRATES = re.compile(r"((?:`\w+`(?:, )?)+) \(((?:`\w+`(?:, )?)+)\)")
+# The head of a function, with its contract.
+HEAD = re.compile(r'^( *)(?:pub(?:\(\w+\))? )?(?:const )?(?:extern "C" )?fn (\w+)(.*?)^\1(?:\{|\}|[^\n]*;$)', re.MULTILINE | re.DOTALL)
 # What is no definition and no clause though it looks like one.
 FILE_ENDINGS = {"md", "antt", "rt", "py", "txt", "sh"}
 # Names that are no words of this repository, by page: those of the toolchain, of the system, and of what isn't there, or not any more.
 ELSEWHERE = {
-    "BEHAVIOURS": {"CRATE_tests", "of_CRATE"},
     "DECISIONS": {"IsAllowed", "Vec::insert", "arrayvec::ArrayString", "dyn"},
+    "GUARANTEES": {"NAME_tests", "of_NAME"},
     "EMBEDDING": {"HANDLES", "a.parts", "engines.run_engine", "received.stopped", "sleep", "spawn", "std::thread::Parker"},
     "NEXT": {"Closed", "flat_map", "set_as"},
+    "PROGRESS": {"FEW", "Homes", "TagColumns"},
     "PERF": {"AreEntries", "Vec::insert", "is_on_the_way", "malloc_consolidate", "memmove", "nm", "show_below", "unlink_chunk"},
     "PROVING": {
         "Cmp.decided", "Cmp.on_equiv", "Crate.words", "FiltersInPlace", "Lts", "Vec::get", "Vec::insert", "Vec::retain", "as_chunks_mut",
@@ -53,7 +59,7 @@ def clauses():
     """For each function's name the names of the clauses of all contracts under it."""
     found = {}
     for text in code_files():
-        for it in re.finditer(r"^( *)(?:pub(?:\(\w+\))? )?(?:const )?fn (\w+)(.*?)^\1(?:\{|\}|[^\n]*;$)", text, re.MULTILINE | re.DOTALL):
+        for it in HEAD.finditer(text):
             found.setdefault(it[2], set()).update(re.findall(r"\b(?:ensures|requires) (\w+) \{", it[3]))
     return found
 
@@ -99,26 +105,30 @@ def faults_of(name):
     elif (it := re.fullmatch(r"([a-z_0-9]+)\.([a-z_0-9]+)", name)) and it[2] not in FILE_ENDINGS and it[1] != "crates":
         if it[2] not in clauses().get(it[1], ()):
             yield "no such clause"
+    elif re.fullmatch(r"(crates|docs|tests|examples|clients|tools|bench|include)/[a-z0-9_./]+(\.\w+)?", name) and not (TOP / name).exists():
+        yield "no such file"
     elif re.fullmatch(r"[A-Za-z_]\w*(::\w+)*", name) and not words().issuperset(name.split("::")):
         yield "no such word"
 
 
-def missing_clauses(text):
-    """Yields what stands behind a function in a table's column of contracts, and is no clause of it. A part of a cell that names no
-    function speaks of that before it, and a cell that begins so of the first one of the row above."""
-    named = first = set()
+def claims_in(text):
+    """Yields the cells of each row of a table of claims."""
     for table in re.findall(r"(?:^\|.*\|\n)+", text, re.MULTILINE):
-        head, _, *rows = (it.rstrip(" |").split(" | ")[-1] for it in table.splitlines())
-        for parts in (it.split(";") for it in rows if head in CONTRACT_COLUMNS):
-            named = first
-            for part in parts:
-                names = {it.split("::")[-1] for it in re.findall(r"`((?:\w+::)?[a-z_0-9]+)`", part)}
-                functions = names & clauses().keys()
-                named = functions or named
-                first = first if part is not parts[0] else named
-                for name in names - functions:
-                    if not any(name in clauses()[it] for it in named) and not (TOP / "crates" / name).is_dir():
-                        yield name, f"no such clause of {', '.join(sorted(named))}"
+        head, _, *rows = ([it.strip() for it in line.strip("|").split(" | ")] for line in table.splitlines())
+        if [it.strip("| ") for it in head] == CLAIMS:
+            yield from ([it.strip("| ") for it in row] for row in rows)
+
+
+def missing_clauses(contracts):
+    """Yields what stands behind a function among contracts, and is no clause of it. A part that names no function speaks of that before
+    it."""
+    named = set()
+    for part in contracts.split(";"):
+        names = {it.split("::")[-1] for it in re.findall(r"`((?:\w+::)?[a-z_0-9]+)`", part)}
+        named = names & clauses().keys() or named
+        for name in names - clauses().keys():
+            if not any(name in clauses()[it] for it in named) and not (TOP / "crates" / name).is_dir():
+                yield name, f"no such clause of {', '.join(sorted(named))}"
 
 
 def files_of(crate):
@@ -130,28 +140,46 @@ def files_of(crate):
     return [it for pattern in patterns for it in sorted((TOP / "crates").glob(pattern))] + sessions
 
 
-def missing_tests(text):
-    """Yields what a text names with a crate, where the crate and its tests have no such test, file, function or edit."""
-    for names, crates in re.findall(r"((?:`\w+`(?:, )?)+) \(((?:`\w+`(?:, )?)+)\)", text):
+def missing_of(text, kind, has):
+    """Yields each name of a text that stands before crates of which one hasn't got it."""
+    for names, crates in NAMES_WITH_CRATES.findall(text):
         for crate in re.findall(r"`(\w+)`", crates):
-            files = files_of(crate)
-            tests = "\n".join(it.read_text(encoding="utf-8") for it in files)
-            stems = {it.stem for it in [*files, *(TOP / "crates" / crate / "must-fail").glob("*.edit")]}
             for name in re.findall(r"`(\w+)`", names):
-                if name not in stems and not has_function(tests, name):
-                    yield f"{name} ({crate})", "no such test or edit"
+                if not has(crate, name):
+                    yield f"{name} ({crate})", f"no such {kind}"
+
+
+def has_test(crate, name):
+    """Whether the crate or its tests have a test, or a file of tests, of this name."""
+    files = files_of(crate)
+    return name in {it.stem for it in files} or any(has_function(it.read_text(encoding="utf-8"), name) for it in files)
+
+
+def has_edit(crate, name):
+    return (TOP / "crates" / crate / "must-fail" / f"{name}.edit").is_file()
+
+
+def faults_in_claims(text):
+    """Yields what is missing in the tables of claims, column by column."""
+    for claim, contracts, laws, tests, edits in claims_in(text):
+        yield from missing_clauses(contracts)
+        yield from missing_of(tests, "test", has_test)
+        yield from missing_of(edits, "wrong edit", has_edit)
+        for cell, pattern in ((laws, re.compile(r"`[a-z_]+::[a-z_0-9]+`")), (tests, NAMES_WITH_CRATES), (edits, NAMES_WITH_CRATES)):
+            if cell != "-" and (rest := re.search(r"`[^`]*`", pattern.sub("", cell))):
+                yield rest[0].strip("`"), f"not as its column names such ({claim[:40]})"
+            if cell != "-" and not pattern.search(cell):
+                yield cell, f"names nothing, and is no dash ({claim[:40]})"
 
 
 def faults_in(page, text, names):
     """Yields each name of a page that isn't there, and why."""
     for name in sorted(names - ELSEWHERE.get(page, set())):
         yield from ((name, why) for why in faults_of(name))
-    if page in ("PROVED", "PROMISES"):
-        yield from missing_clauses(text)
-    if page == "BEHAVIOURS":
-        yield from missing_tests(text)
+    if page == "GUARANTEES":
+        yield from faults_in_claims(text)
     if page == "RULES":
-        yield from missing_tests("\n".join(re.findall(r" Tests: (.*)", text)))
+        yield from missing_of("\n".join(re.findall(r" Tests: (.*)", text)), "test", has_test)
 
 
 def main():
