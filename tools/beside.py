@@ -15,7 +15,7 @@ import subprocess
 import sys
 import tempfile
 
-from measure import LIST, after_last, apart, asked, assign, heads, in_turn, keys, measured, mixed, one, own_heads, own_keys, paths
+from measure import LIST, after_last, apart, asked, assign, heads, in_turn, keys, mixed, one, own_heads, own_keys, paths, timed
 from where import where
 
 WHO = ("jdoc", "plain maps with serde_json", "plain maps", "Yjs", "SQLite")
@@ -88,14 +88,6 @@ def main():
                     file.writelines(line + "\n" for line in lines(size))
                 cells = cells_of(words[0], floors, script, size, size <= in_sqlite, size <= in_yjs)
                 print(f"| {name} | {size:,} | " + " | ".join(cells.get(it, "-") for it in WHO) + " |", flush=True)
-
-
-def timed(command):
-    """The smallest seconds, and the most bytes, of up to three runs."""
-    told = [measured(command)]
-    while len(told) < 3 and told[0][0] <= 3:
-        told.append(measured(command))
-    return min(seconds for seconds, _ in told), max(taken for _, taken in told)
 
 
 def cells_of(jdoc, floors, path, size, with_sqlite, with_yjs):

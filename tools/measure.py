@@ -5,9 +5,9 @@
     tools/measure.py crates/jdoc/out/jdoc time       measures them all
     tools/measure.py crates/jdoc/out/jdoc time WORD  measures those whose name has the word
 
-A row has for each number of operations the seconds of the processor from the program's start to its end, the smallest of three runs, and
-then the bytes that it took at most for each operation of the longest script. With the word `million` behind `time` each row goes on to a
-million operations, in a single run."""
+A row has for each number of operations the seconds of the processor from the program's start to its end, the smallest of three runs (of
+one where that took over three seconds), and then the bytes that it took at most for each operation of the longest script. With the word
+`million` behind `time` each row goes on to a million operations."""
 import resource
 import subprocess
 import sys
@@ -21,7 +21,8 @@ QUEUE = 65_536
 SIZES = (1_000, 10_000, 100_000)
 MILLION = 1_000_000
 RUNS = 3
-# What takes longer than this isn't tried at the next size, in seconds.
+# In seconds: what takes longer runs once; and what takes longer isn't tried at the next size.
+LONG = 3.0
 LONGEST = 6.0
 
 
@@ -197,12 +198,11 @@ def measured(command):
     return float(told[0]), int(told[1])
 
 
-def timed(jdoc, lines, size, runs):
-    """The smallest seconds, and the most bytes, of so many runs of a script of this size."""
-    with tempfile.NamedTemporaryFile("w", suffix=".jsonl") as file:
-        file.writelines(f"{line}\n" for line in lines(size))
-        file.flush()
-        told = [measured([jdoc, "run", file.name]) for _ in range(runs)]
+def timed(command):
+    """The smallest seconds, and the most bytes, of the runs of a command."""
+    told = [measured(command)]
+    while len(told) < RUNS and told[0][0] <= LONG:
+        told.append(measured(command))
     return min(seconds for seconds, _ in told), max(taken for _, taken in told)
 
 
@@ -214,7 +214,10 @@ def row(jdoc, name, lines, sizes):
         if seconds > LONGEST:
             print(" - |", end="")
             continue
-        seconds, taken = timed(jdoc, lines, size, 1 if size == MILLION else RUNS)
+        with tempfile.NamedTemporaryFile("w", suffix=".jsonl") as file:
+            file.writelines(f"{line}\n" for line in lines(size))
+            file.flush()
+            seconds, taken = timed([jdoc, "run", file.name])
         each = taken / size
         print(f" {seconds:.2f} |", end="", flush=True)
     print(f" {each:,.0f} |")
