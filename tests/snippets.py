@@ -1,13 +1,14 @@
 #!/usr/bin/env python3
 """Tests that the code which README.md and docs/EMBEDDING.md show is code that the gate builds: the line in front of a block of Rattle,
-Rust or C names the file that it is from, and the block's lines are there in their order. Spaces at both ends of a line, comments, and what
-`{ .. }` leaves out aren't compared. Blocks of Python without a file are run by the tests of clients/python."""
+Rust or C, or of one that begins with `py`, names the file that it is from, and the block's lines are there in their order. Spaces at both
+ends of a line, comments, and what `{ .. }` leaves out aren't compared. Blocks that begin with `python` are whole programs, which the tests
+of clients/python run."""
 import re
 import sys
 from pathlib import Path
 
 TOP = Path(__file__).resolve().parent.parent
-BLOCK = re.compile(r"^(?P<before>[^\n]*)\n(?:\n)?^```(?P<language>rust|c|python)\n(?P<code>.*?)^```$", re.MULTILINE | re.DOTALL)
+BLOCK = re.compile(r"^(?P<before>[^\n]*)\n(?:\n)?^```(?P<language>rust|c|py|python)\n(?P<code>.*?)^```$", re.MULTILINE | re.DOTALL)
 FILE = re.compile(r"((?:crates|clients|examples)/[\w./]+\.(?:rt|rs|c|py))")
 COMMENT = re.compile(r"\s*(//|/\*|#).*$")
 
