@@ -32,12 +32,11 @@ ELSEWHERE = {
     "EMBEDDING": {"HANDLES", "a.parts", "engines.run_engine", "received.stopped", "sleep", "spawn", "std::thread::Parker"},
     "NEXT": {"Closed", "flat_map", "set_as"},
     "PROGRESS": {"FEW", "Homes", "TagColumns"},
-    "PERF": {"AreEntries", "Vec::insert", "is_on_the_way", "malloc_consolidate", "memmove", "nm", "show_below", "unlink_chunk"},
+    "PERF": {"malloc_consolidate"},
     "PROVING": {
         "Cmp.decided", "Cmp.on_equiv", "Crate.words", "FiltersInPlace", "Lts", "Vec::get", "Vec::insert", "Vec::retain", "as_chunks_mut",
         "c.from_residual", "callgrind", "l.x", "memmove", "offers", "op.id", "reduce_max", "with_items",
     },
-    "SPEED": {"Vec::insert"},
 }
 
 
