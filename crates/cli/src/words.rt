@@ -20,13 +20,13 @@ use std::io::Write;
 /// What the program is asked to do.
 #[derive(Clone, Copy, Debug, PartialEq, Eq)]
 pub enum Job<'a> {
-    /// Run the script in the file of this name, or on standard input where none is given.
+    /// Run the script in the file of this name, by default on standard input.
     Run {
         script: Option<&'a str>,
     },
     /// Let threads write into engines, as the plan says.
     Bench(Plan),
-    /// Serve the document in the file of this name, or one in memory where none is given, as the replica of this number.
+    /// Serve the document in the file of this name, by default one in memory, as the replica of this number.
     Serve {
         file: Option<&'a str>,
         number: Option<u32>,
@@ -137,7 +137,7 @@ fn run_command<'a>(alloc: Global) -> Result<Command<'a>, AllocError>
     ensures local { IfOk result (λ c. (fields_of c).has_globals ≡ false) }
 {
     let script = Arg::new(alloc, "SCRIPT").help(
-        "The file with the script; standard input where none is given",
+        "The file with the script; default: standard input",
     );
     Command::new(alloc, "run")
         .about("Runs a script and prints what each step replies")
@@ -150,7 +150,7 @@ fn bench_command<'a>(alloc: Global) -> Result<Command<'a>, AllocError>
 {
     Command::new(alloc, "bench")
         .about(
-            "Lets threads write into engines at once, and checks that each reads back what it wrote and that all engines then agree",
+            "Runs concurrent writers against each engine, and checks that each reads back what it wrote and that all engines then agree",
         )
         .arg(number(alloc, "replicas", 16).help("How many engines, from 1 to 16"))?
         .arg(number(alloc, "writers", 16).help("How many threads write into each, from 1 to 16"))?
@@ -164,9 +164,7 @@ fn serve_command<'a>(alloc: Global) -> Result<Command<'a>, AllocError>
     ensures words { IfOk result (λ c. app_of c ≡ serve_app) }
     ensures local { IfOk result (λ c. (fields_of c).has_globals ≡ false) }
 {
-    let file = Arg::new(alloc, "FILE").help(
-        "The file that keeps the document; it lives in memory where none is given",
-    );
+    let file = Arg::new(alloc, "FILE").help("The file that keeps the document; default: in memory");
     Command::new(alloc, "serve")
         .about(
             "Serves a document: a request a line on standard input, a reply a line on standard output",
