@@ -8,6 +8,6 @@ fn main() -> Result<(), jdoc::Error> {
     phone.set(r#"["title"]"#, r#""Shopping""#)?;
     let bundle = phone.answer(&laptop.hello()?)?;
     laptop.receive(&bundle)?;
-    println!("{}", laptop.get("[]")?);
+    println!("{}", laptop.to_json()?);
     Ok(())
 }

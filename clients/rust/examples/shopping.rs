@@ -15,9 +15,9 @@ fn main() -> Result<(), Error> {
     });
 
     phone.set(r#"["list"]"#, "[]")?;
-    phone.insert(r#"["list",0]"#, r#""milk""#)?;
+    phone.insert_after(r#"["list",0]"#, r#""milk""#)?;
     phone.sync(&mut laptop)?;
-    let eggs = laptop.insert(r#"["list",1]"#, r#""eggs""#)?;
+    let eggs = laptop.insert_after(r#"["list",1]"#, r#""eggs""#)?;
     laptop.set(r#"["title"]"#, r#""Sunday""#)?;
     phone.set(r#"["title"]"#, r#""Saturday""#)?;
     phone.sync(&mut laptop)?;

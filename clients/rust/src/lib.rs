@@ -18,6 +18,7 @@ mod quoting;
 mod replies;
 
 pub use questions::Questions;
+use questions::stepped;
 use quoting::{bundle_text, quoted};
 pub use replies::{Id, Status};
 use replies::{id_of, rest_of, status_of};
@@ -99,8 +100,18 @@ impl Document {
     }
 
     /// Inserts an item right behind the one that the expression leads to, or at the head of the list where its last step is 0.
-    pub fn insert(&mut self, expression: &str, value: &str) -> Result<Id, Error> {
+    pub fn insert_after(&mut self, expression: &str, value: &str) -> Result<Id, Error> {
         id_of(&self.request(&format!(r#"["insert",{expression},{value}]"#))?)
+    }
+
+    /// Inserts an item behind the last one of the list that the expression leads to, or as its first one.
+    pub fn append(&mut self, expression: &str, value: &str) -> Result<Id, Error> {
+        let items = self.items(expression)?;
+        let last = match items.rfind('[') {
+            Some(0) | None => "0",
+            Some(at) => &items[at..items.len() - 1],
+        };
+        self.insert_after(&stepped(expression, last), value)
     }
 
     /// Deletes what stands at the element. What others write there at the same time stays.

@@ -22,6 +22,11 @@ pub trait Questions {
         self.glance(expression, 32, 100_000)
     }
 
+    /// The whole document, as JSON for people.
+    fn to_json(&mut self) -> Result<String, Error> {
+        self.get("[]")
+    }
+
     /// The values of the register, each behind the id of its write, `[[ID,VALUE],..]`. More than one are a conflict.
     fn values(&mut self, expression: &str) -> Result<String, Error> {
         reading(self, "values", expression)
@@ -42,6 +47,17 @@ pub trait Questions {
     fn conflicts(&mut self, expression: &str) -> Result<String, Error> {
         reading(self, "conflicts", expression)
     }
+}
+
+/// An expression with one more step.
+pub(crate) fn stepped(expression: &str, step: &str) -> String {
+    let expression = expression.trim();
+    let steps = expression
+        .strip_suffix(']')
+        .unwrap_or(expression)
+        .trim_end();
+    let comma = if steps == "[" { "" } else { "," };
+    format!("{steps}{comma}{step}]")
 }
 
 fn reading<Q: Questions + ?Sized>(

@@ -56,7 +56,7 @@ fn what_is_no_journal_of_this_number_is_not_opened() -> Result<(), Error> {
 fn a_refusal_has_its_code() -> Result<(), Error> {
     let mut document = Document::new(1)?;
     assert_eq!(
-        document.insert(r#"["list",1]"#, "1").err(),
+        document.insert_after(r#"["list",1]"#, "1").err(),
         Some(Error::Refused(3))
     );
     assert_eq!(
@@ -90,5 +90,17 @@ fn a_reader_shows_as_much_as_it_has_taken_in() -> Result<(), Error> {
         (2, r#"{"a":2}"#.to_owned())
     );
     assert_eq!(reader.ask(r#"["status"]"#)?, r#"["refused","E22"]"#);
+    Ok(())
+}
+
+#[test]
+fn items_are_appended() -> Result<(), Error> {
+    let mut document = Document::new(1)?;
+    document.append(r#"["list"]"#, r#""eggs""#)?;
+    document.append(r#"["list"]"#, r#""milk""#)?;
+    document.insert_after(r#"["list",[1,1]]"#, r#""ham""#)?;
+    document.append(r#"["list"]"#, "[]")?;
+    document.append(r#"["list",4]"#, "7")?;
+    assert_eq!(document.to_json()?, r#"{"list":["eggs","ham","milk",[7]]}"#);
     Ok(())
 }
